@@ -1,0 +1,22 @@
+//! The entries of a test case's history: who called, which operation, and the reply.
+#![tactic(auto)]
+
+mod args;
+mod comp;
+mod entry;
+mod name;
+mod op;
+mod phase;
+mod reply;
+
+pub use args::Args;
+pub use comp::Comp;
+pub use entry::Entry;
+pub use name::Name;
+pub use op::{Group, Op, Target};
+pub use phase::Phase;
+pub use reply::{Fault, Reply};
+pub use tc_verdict::{NoMemory, Run, UserVerdict, Verdict};
+
+#[cfg(test)]
+mod tests;

@@ -1,0 +1,77 @@
+ghost use Rattle.std.specs.Prelude.{◌≡◌, ◌↔◌, IsSome, IfSome, IsTrue};
+ghost use Rattle.tc_entry.specs.Name.{IsName, is_name_byte as is_allowed};
+
+use arrayvec::ArrayVec;
+use std::marker::Model;
+
+/// A name of a test case or a behaviour: 1 to 32 bytes, held in place.
+#[derive(PartialEq, Eq, Hash, Debug, Drop)]
+pub struct Name {
+    bytes: ArrayVec<u8, 32>,
+}
+
+impl Model for Name {
+    ghost use Rattle.std.specs.Prelude.{List, ℕ};
+    ghost use Rattle.tc_entry.specs.Name.{IsName};
+
+    ghost Value = { List ℕ };
+
+    ghost view = { λ n. n.bytes.items };
+
+    ghost invariant = { λ n. IsName n.bytes.items };
+
+    ghost inverse = { λ bs. record { bytes = record { items = bs } } };
+}
+
+fn is_name_byte(byte: u8) -> bool
+    ensures { result ≡ is_allowed byte }
+{
+    byte.is_ascii_alphanumeric() || byte == b'_'
+}
+
+impl Name {
+    /// The name that is spelled so, if there is one.
+    pub fn read(text: &str) -> Option<Name>
+        ensures valid { IsSome result ↔ IsName text.now }
+        ensures spelled { IfSome result (λ n. n ≡ text.now) }
+    {
+        let bytes = text.as_bytes();
+        let first = bytes.first()?;
+        if !first.is_ascii_alphabetic() || !bytes.iter().all(|byte| is_name_byte(*byte)) {
+            return None;
+        }
+        if bytes == b"all".as_slice()
+            || bytes == b"any".as_slice()
+            || bytes == b"mtc".as_slice()
+            || bytes == b"self".as_slice()
+        {
+            return None;
+        }
+        let bytes = ArrayVec::try_from(bytes).ok()?;
+        Some(Name { bytes })
+    }
+
+    /// The name's spelling.
+    pub fn bytes(&self) -> &[u8]
+        ensures bytes { result.now ≡ self.now }
+        ensures name { IsName self.now }
+    {
+        self.bytes.as_slice()
+    }
+
+    /// An equal value.
+    pub fn copy(&self) -> Name
+        ensures { result ≡ self.now }
+    {
+        Name {
+            bytes: self.bytes.clone().unwrap(),
+        }
+    }
+
+    /// Whether both are the same name.
+    pub fn same(&self, other: &Name) -> bool
+        ensures { IsTrue result ↔ (self.now ≡ other.now) }
+    {
+        self.bytes.as_slice() == other.bytes.as_slice()
+    }
+}

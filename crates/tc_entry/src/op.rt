@@ -1,0 +1,143 @@
+ghost use Rattle.std.specs.Prelude.{◌≡◌, IsTrue, ◌↔◌};
+
+use crate::args::Args;
+use crate::comp::Comp;
+use tc_verdict::{Run, UserVerdict};
+
+/// Which components a status operation or a wait is about: one, any parallel one, all parallel ones.
+#[derive(Clone, Copy, PartialEq, Eq, Debug)]
+pub enum Target {
+    One(Comp),
+    Any,
+    All,
+}
+
+/// Which components are stopped or killed: one, or all parallel ones.
+#[derive(Clone, Copy, PartialEq, Eq, Debug)]
+pub enum Group {
+    One(Comp),
+    All,
+}
+
+/// An operation of a behaviour (ES 201 873-1, test component operations and verdict operations).
+///
+/// `Wait` and `Wake` are this project's own: a wait on done or killed is a `Wait`, and, where that is
+/// parked, a later `Wake`. `Finish` is the end of a behaviour.
+#[derive(PartialEq, Eq, Debug, Drop)]
+pub enum Op {
+    Create { alive: bool },
+    Start { comp: Comp, run: Run, args: Args },
+    Stop(Group),
+    Kill(Group),
+    Running(Target),
+    Alive(Target),
+    Done(Target),
+    Killed(Target),
+    Wait { killed: bool, target: Target },
+    Wake { killed: bool, target: Target },
+    SetVerdict(UserVerdict),
+    GetVerdict,
+    Finish,
+}
+
+fn same_group(a: Group, b: Group) -> bool
+    ensures { IsTrue result ↔ (a ≡ b) }
+{
+    a == b
+}
+
+fn same_target(a: Target, b: Target) -> bool
+    ensures { IsTrue result ↔ (a ≡ b) }
+{
+    a == b
+}
+
+fn same_setting(a: UserVerdict, b: UserVerdict) -> bool
+    ensures { IsTrue result ↔ (a ≡ b) }
+{
+    a == b
+}
+
+impl Op {
+    /// An equal value.
+    pub fn copy(&self) -> Op
+        ensures { result ≡ self.now }
+    {
+        match self {
+            Op::Create { alive } => Op::Create { alive: *alive },
+            Op::Start { comp, run, args } => Op::Start {
+                comp: *comp,
+                run: *run,
+                args: args.copy(),
+            },
+            Op::Stop(group) => Op::Stop(*group),
+            Op::Kill(group) => Op::Kill(*group),
+            Op::Running(target) => Op::Running(*target),
+            Op::Alive(target) => Op::Alive(*target),
+            Op::Done(target) => Op::Done(*target),
+            Op::Killed(target) => Op::Killed(*target),
+            Op::Wait { killed, target } => Op::Wait {
+                killed: *killed,
+                target: *target,
+            },
+            Op::Wake { killed, target } => Op::Wake {
+                killed: *killed,
+                target: *target,
+            },
+            Op::SetVerdict(setting) => Op::SetVerdict(*setting),
+            Op::GetVerdict => Op::GetVerdict,
+            Op::Finish => Op::Finish,
+        }
+    }
+
+    /// Whether both are the same operation.
+    pub fn same(&self, other: &Op) -> bool
+        ensures { IsTrue result ↔ (self.now ≡ other.now) }
+    {
+        match (self, other) {
+            (Op::Create { alive: a }, Op::Create { alive: b }) => *a == *b,
+            (
+                Op::Start {
+                    comp: c,
+                    run: r,
+                    args: x,
+                },
+                Op::Start {
+                    comp: d,
+                    run: s,
+                    args: y,
+                },
+            ) => *c == *d && *r == *s && x.same(y),
+            (Op::Stop(a), Op::Stop(b)) => same_group(*a, *b),
+            (Op::Kill(a), Op::Kill(b)) => same_group(*a, *b),
+            (Op::Running(a), Op::Running(b)) => same_target(*a, *b),
+            (Op::Alive(a), Op::Alive(b)) => same_target(*a, *b),
+            (Op::Done(a), Op::Done(b)) => same_target(*a, *b),
+            (Op::Killed(a), Op::Killed(b)) => same_target(*a, *b),
+            (
+                Op::Wait {
+                    killed: k,
+                    target: a,
+                },
+                Op::Wait {
+                    killed: l,
+                    target: b,
+                },
+            ) => { *k == *l && same_target(*a, *b) }
+            (
+                Op::Wake {
+                    killed: k,
+                    target: a,
+                },
+                Op::Wake {
+                    killed: l,
+                    target: b,
+                },
+            ) => { *k == *l && same_target(*a, *b) }
+            (Op::SetVerdict(a), Op::SetVerdict(b)) => same_setting(*a, *b),
+            (Op::GetVerdict, Op::GetVerdict) => true,
+            (Op::Finish, Op::Finish) => true,
+            _ => false,
+        }
+    }
+}

@@ -1,0 +1,70 @@
+use super::*;
+
+#[test]
+fn arguments_are_at_most_four(rt: HostRuntime) {
+    let mut args = Args::new();
+    for number in 0..4 {
+        assert!(rt; args.push(Comp(number)));
+    }
+    assert!(rt; !args.push(Comp(4)));
+    assert_eq!(rt;
+        args.as_slice(),
+        [Comp(0), Comp(1), Comp(2), Comp(3)].as_slice()
+    );
+}
+
+#[test]
+fn names(rt: HostRuntime) {
+    for text in ["t_1", "abcdefghijklmnopqrstuvwxyz_ABC12"] {
+        let read = Name::read(text);
+        assert!(rt; read.is_some(), "{text}");
+        if let Some(name) = read {
+            assert_eq!(rt; name.bytes(), text.as_bytes());
+            assert!(rt; name.same(&name.copy()));
+        }
+    }
+    for text in [
+        "mtc",
+        "all",
+        "any",
+        "self",
+        "_a",
+        "",
+        "1a",
+        "a-b",
+        "abcdefghijklmnopqrstuvwxyz_ABC123",
+    ] {
+        assert!(rt; Name::read(text).is_none(), "{text}");
+    }
+}
+
+#[test]
+fn copies_are_the_same(rt: HostRuntime) {
+    let mut args = Args::new();
+    assert!(rt; args.push(Comp(3)));
+    let entry = Entry {
+        caller: Run(1),
+        op: Op::Start {
+            comp: Comp(1),
+            run: Run(2),
+            args,
+        },
+        reply: Reply::Ok,
+    };
+    let copy = entry.copy();
+    assert!(rt; entry.same(&copy));
+    assert!(rt; entry == copy);
+    let other = Entry {
+        caller: Run(1),
+        op: Op::Start {
+            comp: Comp(1),
+            run: Run(2),
+            args: Args::new(),
+        },
+        reply: Reply::Ok,
+    };
+    assert!(rt; !entry.same(&other));
+    assert!(rt; !Op::GetVerdict.same(&Op::Finish));
+    assert_eq!(rt; Comp(5).copy(), Comp(5));
+    assert!(rt; Reply::Parked.copy().same(&Reply::Parked));
+}
