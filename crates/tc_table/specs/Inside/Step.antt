@@ -1,0 +1,92 @@
+-- What one more entry does to what the table keeps.
+use Rattle.std.specs.Prelude.{ℕ, ◌≡◌, ◌<◌, length, slice_index_or, ◌==◌, ◌||◌, if◌then◌else◌, Bool, true, false, Option, Some, None, is_some, List, [], ◌∷◌}
+use Rattle.tc_verdict.specs.declared.verdict.Verdict.{Verdict}
+use Rattle.tc_verdict.specs.declared.run.Run.{Run}
+use Rattle.tc_verdict.specs.Verdict.{worse}
+use Rattle.tc_entry.specs.declared.comp.Comp.{Comp}
+use Rattle.tc_entry.specs.declared.entry.Entry.{Entry}
+use Rattle.tc_entry.specs.declared.phase.Phase.{Phase}
+use Rattle.tc_entry.specs.declared.phase.Phase.TheVariants as P
+use Rattle.tc_table.specs.declared.component_state.ComponentState.{ComponentState}
+use Rattle.tc_table.specs.declared.run_state.RunState.{RunState}
+use Rattle.tc_entry.specs.declared.op.Group.{Group}
+use Rattle.tc_entry.specs.declared.op.Group.TheVariants as G
+use Rattle.tc_entry.specs.declared.op.Op.{Op}
+use Rattle.tc_entry.specs.declared.op.Op.TheVariants as O
+use Rattle.tc_table.specs.declared.step.Scope.{Scope}
+use Rattle.tc_table.specs.declared.step.Scope.TheVariants as T
+use Rattle.tc_table.specs.History.{is_ok, is_ended, ends_case, is_comp, halts, kills, starts_run, first_some}
+use Rattle.tc_table.specs.Phases.{start_in, halts_from_outside}
+use Rattle.tc_table.specs.Status.{is_running}
+use Rattle.tc_table.specs.Local.{gives}
+use Rattle.tc_table.specs.Waiting.{parks}
+
+abbrev pub halted : Bool → Phase → Phase
+halted alive_type (P.Running run) = if alive_type then P.Stopped else P.Killed
+halted alive_type phase = phase
+
+abbrev pub next_if_not_killed : Option Run → Bool → Bool → Phase → Phase
+next_if_not_killed (Some run) halt alive_type phase = P.Running run
+next_if_not_killed None halt alive_type phase = if halt then halted alive_type phase else phase
+
+abbrev pub next_phase : Bool → Option Run → Bool → Bool → Phase → Phase
+next_phase kill start halt alive_type phase = if kill then P.Killed else next_if_not_killed start halt alive_type phase
+
+abbrev pub next_excused : Option Run → Bool → Phase → Bool → Bool
+next_excused (Some run) outside phase excused = false
+next_excused None outside phase excused = if is_running phase then outside else excused
+
+abbrev pub next_local : List Verdict → Verdict → Verdict
+next_local [] local = local
+next_local (v ∷ vs) local = worse (next_local vs local) v
+
+-- the state of component c after the entry, whose caller is on component own
+unfoldable pub next_state : Option Comp → Entry → ℕ → ComponentState → ComponentState
+next_state own e c state = record {
+  phase = next_phase (kills e c) (start_in e c) (halts own e c) state.alive_type state.phase;
+  alive_type = state.alive_type;
+  started = is_some (start_in e c) || state.started;
+  excused = next_excused (start_in e c) (halts_from_outside own e c) state.phase state.excused;
+  local = next_local (if is_comp own c then gives e.op e.reply else []) state.local;
+}
+
+-- the state of run b after the entry
+unfoldable pub next_run : Entry → ℕ → RunState → RunState
+next_run e b state = record {
+  comp = first_some state.comp (if is_ok e.reply then starts_run e.op b else None);
+  waiting = if e.caller.0 == b then parks e.op e.reply else state.waiting;
+}
+
+-- which states an entry may change
+abbrev pub touched_own : Option Comp → Scope
+touched_own None = T.Nothing
+touched_own (Some c) = T.One c
+
+abbrev pub touched_group : Group → Scope
+touched_group (G.One c) = T.One c
+touched_group G.All = T.All
+
+abbrev pub touched_by : Option Comp → Op → Scope
+touched_by own (O.Start c run args) = T.One c
+touched_by own (O.Stop group) = touched_group group
+touched_by own (O.Kill group) = touched_group group
+touched_by own (O.SetVerdict v) = touched_own own
+touched_by own O.Finish = touched_own own
+touched_by own _ = T.Nothing
+
+abbrev pub touched : Option Comp → Entry → Scope
+touched own e = if ends_case e then T.All else if is_ended e.reply then T.Nothing else touched_by own e.op
+
+abbrev pub touches : Scope → ℕ → Bool
+touches T.Nothing c = false
+touches (T.One d) c = d.0 == c
+touches T.All c = true
+
+-- a component that is running is not excused
+pub record IsSettled (states : List ComponentState) : Type 0 where
+  pub not_excused : (c : ℕ) (d : ComponentState) → c < length states → is_running (slice_index_or states c d).phase ≡ true → (slice_index_or states c d).excused ≡ false
+
+-- the run that this operation starts
+abbrev pub started_run : Op → Option Run
+started_run (O.Start c run args) = Some run
+started_run _ = None

@@ -1,0 +1,45 @@
+-- What holds of every legal history, and the definitions leave unsaid.
+use Rattle.std.specs.Prelude.{ℕ, ◌≡◌, if◌then◌else◌, true, false, Some, List, [], ◌∷◌, ◌++◌}
+use Rattle.tc_verdict.specs.declared.verdict.Verdict.{Verdict}
+use Rattle.tc_verdict.specs.Verdict.{worst}
+use Rattle.tc_entry.specs.declared.comp.Comp.{Comp}
+use Rattle.tc_entry.specs.declared.entry.Entry.{Entry}
+use Rattle.tc_entry.specs.declared.phase.Phase.TheVariants as P
+use Rattle.tc_table.specs.History.{comp_of, is_comp, is_ended, is_over}
+use Rattle.tc_table.specs.Phases.{phase, was_killed, was_halted}
+use Rattle.tc_table.specs.Local.{gives, local}
+use Rattle.tc_table.specs.Legal.{IsLegal, IsAllOver}
+
+-- after an entry that ends the case no component is alive, and every call is answered Ended
+abbrev pub OverForAll : Type 0
+OverForAll = (n : ℕ) (past : List Entry) → IsLegal n past → is_over past ≡ true → IsAllOver n past
+
+-- a component that was killed was halted
+abbrev pub KilledWasHalted : Type 0
+KilledWasHalted =
+    (n : ℕ) (past : List Entry) (c : ℕ) → IsLegal n past → was_killed past c ≡ true → was_halted past c ≡ true
+
+-- the caller's component, and that it was running this very run
+abbrev pub RunsNow : List Entry → Entry → Comp → Type 0
+RunsNow past e c = (comp_of past e.caller.0 ≡ Some c) × (phase past c.0 ≡ P.Running (record { 0 = e.caller.0 }))
+
+-- who is not answered Ended is the running run of its component
+abbrev pub AnsweredIsRunning : Type 0
+AnsweredIsRunning =
+    (n : ℕ) (past : List Entry) (e : Entry) → IsLegal n (e ∷ past) → is_ended e.reply ≡ false → (c : Comp) × RunsNow past e c
+
+-- the component of a run is the same at its entries and over the whole history
+abbrev pub SameComponentLater : Type 0
+SameComponentLater =
+    (n : ℕ) (past later : List Entry) (e : Entry) → IsLegal n (e ∷ past) → is_ended e.reply ≡ false → comp_of (later ++ e ∷ past) e.caller.0 ≡ comp_of past e.caller.0
+
+-- the verdicts given to component c by runs that are on it in the whole history
+abbrev pub verdicts_in : List Entry → List Entry → ℕ → List Verdict
+verdicts_in whole [] c = []
+verdicts_in whole (e ∷ past) c =
+    if is_comp (comp_of whole e.caller.0) c then gives e.op e.reply ++ verdicts_in whole past c else verdicts_in whole past c
+
+-- the local verdict is the worst of what the runs on the component were given, over the whole history
+abbrev pub LocalOfWhole : Type 0
+LocalOfWhole =
+    (n : ℕ) (past : List Entry) (c : ℕ) → IsLegal n past → worst (verdicts_in past past c) ≡ local past c

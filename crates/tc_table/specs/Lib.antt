@@ -1,0 +1,12 @@
+pub mod History
+pub mod Phases
+pub mod Status
+pub mod Local
+pub mod Waiting
+pub mod Faults
+pub mod Answers
+pub mod Legal
+pub mod Laws
+pub mod Check
+pub mod Case
+pub mod Inside

@@ -1,0 +1,8 @@
+use tc_entry::Target;
+
+/// What a wait is for: that its target is done, or that it is killed.
+#[derive(Clone, Copy, PartialEq, Eq, Debug)]
+pub struct Awaited {
+    pub killed: bool,
+    pub target: Target,
+}

@@ -1,0 +1,52 @@
+//! Whether a list of entries is one that the table makes.
+ghost use Rattle.std.specs.Prelude.{◌≡◌, ◌≤◌, ◌↔◌, IsTrue, IfOk, IfErr, reverse};
+ghost use Rattle.tc_table.specs.Legal.{IsLegal};
+ghost use Rattle.tc_table.specs.Check.{IsFaultOf};
+ghost use Rattle.tc_table.specs.Local as verdicts;
+
+use crate::table::Table;
+use std::alloc::Global;
+use tc_entry::{Entry, Reply};
+use tc_verdict::{NoMemory, Verdict};
+
+/// Why a list was not found legal.
+#[derive(Debug, Drop)]
+pub enum CheckFault {
+    /// The entry at this place has another reply than the table's.
+    Differs { at: usize, reply: Reply },
+    NoMemory,
+}
+
+impl From<NoMemory> for CheckFault {
+    ghost use Rattle.std.specs.Prelude.{◌≡◌};
+    ghost use Rattle.tc_table.specs.declared.check.CheckFault.TheVariants as faults;
+
+    ghost from_gives = { λ _ f. f ≡ faults.NoMemory };
+
+    fn from(_: NoMemory) -> Self {
+        CheckFault::NoMemory
+    }
+}
+
+fn is_same(a: Reply, b: Reply) -> bool
+    ensures { IsTrue result ↔ (a ≡ b) }
+{
+    a == b
+}
+
+/// The verdict of a list in which each reply is the table's; else the first place where it is not.
+pub fn replay_check(alloc: Global, behaviours: u16, list: &[Entry]) -> Result<Verdict, CheckFault>
+    requires some { 1 ≤ behaviours }
+    requires few { behaviours ≤ 64 }
+    ensures legal { IfOk result (λ v. IsLegal behaviours (reverse list.now) × (v ≡ verdicts.overall (reverse list.now))) }
+    ensures fault { IfErr result (λ f. IsFaultOf behaviours list.now f) }
+{
+    let mut table = Table::new(alloc, behaviours)?;
+    for (at, entry) in list.iter().enumerate() {
+        let reply = table.play(entry.caller, entry.op.copy())?;
+        if !is_same(reply, entry.reply) {
+            return Err(CheckFault::Differs { at, reply });
+        }
+    }
+    Ok(table.overall())
+}

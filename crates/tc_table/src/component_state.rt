@@ -1,0 +1,42 @@
+//! What is kept of one component.
+ghost use Rattle.std.specs.Prelude.{◌≡◌};
+ghost use Rattle.tc_table.specs.Status as status;
+ghost use Rattle.tc_table.specs.Inside.States as tests;
+
+use tc_entry::{Comp, Phase};
+use tc_verdict::Verdict;
+
+/// What is known of a component.
+#[derive(Clone, Copy, Debug)]
+pub struct ComponentState {
+    pub phase: Phase,
+    pub alive_type: bool,
+    pub started: bool,
+    pub excused: bool,
+    pub local: Verdict,
+}
+
+pub fn is_running(phase: Phase) -> bool
+    ensures { result ≡ status.is_running phase }
+{
+    matches!(phase, Phase::Running(_))
+}
+
+pub fn is_killed(phase: Phase) -> bool
+    ensures { result ≡ status.is_killed phase }
+{
+    matches!(phase, Phase::Killed)
+}
+
+pub fn is_done(phase: Phase) -> bool
+    ensures { result ≡ status.is_done phase }
+{
+    matches!(phase, Phase::Stopped | Phase::Killed)
+}
+
+#[tactic(auto, unfolding(crate::specs::Inside::States::all_below))]
+pub fn all_below(comps: &[Comp], count: usize) -> bool
+    ensures { result ≡ tests.all_below comps.now count }
+{
+    comps.iter().all(|c| (c.0 as usize) < count)
+}

@@ -1,0 +1,188 @@
+//! What one entry says of the case, of a component and of a run.
+ghost use Rattle.std.specs.Prelude.{◌≡◌, if◌then◌else◌, None};
+ghost use Rattle.tc_table.specs.History as history;
+ghost use Rattle.tc_table.specs.Phases as phases;
+ghost use Rattle.tc_table.specs.Waiting as waits;
+ghost use Rattle.tc_table.specs.Inside.Step as step;
+
+use crate::awaited::Awaited;
+use tc_entry::{Comp, Entry, Group, Op, Reply};
+use tc_verdict::Run;
+
+pub fn is_ok(reply: Reply) -> bool
+    ensures { result ≡ history.is_ok reply }
+{
+    matches!(reply, Reply::Ok)
+}
+
+pub fn is_ended(reply: Reply) -> bool
+    ensures { result ≡ history.is_ended reply }
+{
+    matches!(reply, Reply::Ended)
+}
+
+pub fn is_fault(reply: Reply) -> bool
+    ensures { result ≡ history.is_fault reply }
+{
+    matches!(reply, Reply::Fault(_))
+}
+
+pub fn is_finish(op: &Op) -> bool
+    ensures { result ≡ history.is_finish op.now }
+{
+    matches!(op, Op::Finish)
+}
+
+pub fn is_of(group: Group, comp: u32) -> bool
+    ensures { result ≡ history.is_of group comp }
+{
+    match group {
+        Group::One(c) => c.0 == comp,
+        Group::All => comp != 0,
+    }
+}
+
+pub fn is_stop_of(op: &Op, comp: u32) -> bool
+    ensures { result ≡ history.is_stop_of op.now comp }
+{
+    match op {
+        Op::Stop(group) => is_of(*group, comp),
+        _ => false,
+    }
+}
+
+pub fn is_kill_of(op: &Op, comp: u32) -> bool
+    ensures { result ≡ history.is_kill_of op.now comp }
+{
+    match op {
+        Op::Kill(group) => is_of(*group, comp),
+        _ => false,
+    }
+}
+
+pub fn is_comp(own: Option<Comp>, comp: u32) -> bool
+    ensures { result ≡ history.is_comp own comp }
+{
+    match own {
+        Some(c) => c.0 == comp,
+        None => false,
+    }
+}
+
+pub fn ends_case(entry: &Entry) -> bool
+    ensures { result ≡ history.ends_case entry.now }
+{
+    !is_ended(entry.reply)
+        && (is_fault(entry.reply)
+            || (is_finish(&entry.op) && entry.caller.0 == 0)
+            || is_stop_of(&entry.op, 0)
+            || is_kill_of(&entry.op, 0))
+}
+
+pub fn kills(entry: &Entry, comp: u32) -> bool
+    ensures { result ≡ history.kills entry.now comp }
+{
+    ends_case(entry) || (!is_ended(entry.reply) && is_kill_of(&entry.op, comp))
+}
+
+pub fn halts(own: Option<Comp>, entry: &Entry, comp: u32) -> bool
+    ensures { result ≡ history.halts own entry.now comp }
+{
+    ends_case(entry)
+        || (!is_ended(entry.reply)
+            && ((is_finish(&entry.op) && is_comp(own, comp))
+                || is_stop_of(&entry.op, comp)
+                || is_kill_of(&entry.op, comp)))
+}
+
+pub fn halts_from_outside(own: Option<Comp>, entry: &Entry, comp: u32) -> bool
+    ensures { result ≡ phases.halts_from_outside own entry.now comp }
+{
+    halts(own, entry, comp)
+        && (is_stop_of(&entry.op, comp) || is_kill_of(&entry.op, comp))
+        && !is_comp(own, comp)
+}
+
+pub fn start_in(entry: &Entry, comp: u32) -> Option<Run>
+    ensures { result ≡ phases.start_in entry.now comp }
+{
+    if is_ok(entry.reply) {
+        match &entry.op {
+            Op::Start { comp: c, run, .. } => { if c.0 == comp { Some(*run) } else { None } }
+            _ => None,
+        }
+    } else {
+        None
+    }
+}
+
+pub fn awaited(op: &Op) -> Option<Awaited>
+    ensures { result ≡ waits.awaited op.now }
+{
+    match op {
+        Op::Wait { killed, target } => Some(Awaited {
+            killed: *killed,
+            target: *target,
+        }),
+        Op::Wake { killed, target } => Some(Awaited {
+            killed: *killed,
+            target: *target,
+        }),
+        _ => None,
+    }
+}
+
+pub fn parks(op: &Op, reply: Reply) -> Option<Awaited>
+    ensures { result ≡ waits.parks op.now reply }
+{
+    match reply {
+        Reply::Parked => awaited(op),
+        _ => None,
+    }
+}
+
+pub fn starts_run(entry: &Entry, run: u16) -> Option<Comp>
+    ensures { result ≡ (if history.is_ok entry.now.reply then history.starts_run entry.now.op run else None) }
+{
+    if is_ok(entry.reply) {
+        match &entry.op {
+            Op::Start { comp, run: b, .. } => { if b.0 == run { Some(*comp) } else { None } }
+            _ => None,
+        }
+    } else {
+        None
+    }
+}
+
+/// The run that an operation starts.
+pub fn started_run(op: &Op) -> Option<Run>
+    ensures { result ≡ step.started_run op.now }
+{
+    match op {
+        Op::Start { run, .. } => Some(*run),
+        _ => None,
+    }
+}
+
+/// The component that a Create made.
+pub fn created(op: &Op, reply: Reply) -> Option<Comp>
+    ensures { result ≡ history.created op.now reply }
+{
+    match op {
+        Op::Create { .. } => match reply {
+            Reply::Made(comp) => Some(comp),
+            _ => None,
+        },
+        _ => None,
+    }
+}
+
+/// Whether a Create makes an alive-type component.
+pub fn is_alive_create(op: &Op) -> bool
+    ensures { result ≡ history.is_alive_create op.now }
+{
+    match op {
+        Op::Create { alive } => *alive,
+        _ => false,
+    }
+}

@@ -1,0 +1,32 @@
+//! Laws of legal histories: each function does nothing, and its contract is the law.
+ghost use Rattle.tc_table.specs.Laws as laws;
+
+/// After an entry that ends the case no component is alive, and every further call is answered Ended.
+#[tactic(auto, using(crate::proofs::LawsOfHistories::over_for_all))]
+pub fn over_for_all()
+    ensures { laws.OverForAll }
+{}
+
+/// A component that was killed was halted.
+#[tactic(auto, using(crate::proofs::LawsOfHistories::killed_was_halted))]
+pub fn killed_was_halted()
+    ensures { laws.KilledWasHalted }
+{}
+
+/// A caller that is not answered Ended is the running run of its component.
+#[tactic(auto, using(crate::proofs::LawsOfHistories::answered_is_running))]
+pub fn answered_is_running()
+    ensures { laws.AnsweredIsRunning }
+{}
+
+/// A run is on the same component at each of its entries and over the whole history.
+#[tactic(auto, using(crate::proofs::LawsOfHistories::same_component_later))]
+pub fn same_component_later()
+    ensures { laws.SameComponentLater }
+{}
+
+/// Local verdicts are the same where the runs on a component are those of the whole history.
+#[tactic(auto, using(crate::proofs::LawsOfHistories::local_of_whole))]
+pub fn local_of_whole()
+    ensures { laws.LocalOfWhole }
+{}

@@ -1,0 +1,23 @@
+//! The component table of one test case: the reply to each call, and the history of all calls.
+#![tactic(auto)]
+
+mod awaited;
+mod check;
+mod component_state;
+mod component_states;
+mod entries;
+pub mod laws;
+mod run_state;
+mod step;
+mod table;
+
+pub use awaited::Awaited;
+pub use check::{CheckFault, replay_check};
+pub use table::Table;
+pub use tc_entry::{
+    Args, Comp, Entry, Fault, Group, Name, NoMemory, Op, Phase, Reply, Run, Target, UserVerdict,
+    Verdict,
+};
+
+#[cfg(test)]
+mod tests;

@@ -1,0 +1,181 @@
+//! The component table.
+ghost use Rattle.std.specs.Prelude.{◌≡◌, ◌<◌, ◌≤◌, ◌+◌, ◌++◌, ◌∷◌, [], false, IfOk, OnErr, OnOk};
+ghost use Rattle.std.specs.Bool.{OnTrue};
+ghost use Rattle.std.specs.Result.{IsOk};
+ghost use Rattle.tc_table.specs.Case.{past_of};
+ghost use Rattle.tc_table.specs.History as history;
+ghost use Rattle.tc_table.specs.Phases as phases;
+ghost use Rattle.tc_table.specs.Local as verdicts;
+ghost use Rattle.tc_table.specs.Faults as faults;
+ghost use Rattle.tc_table.specs.Answers as answers;
+ghost use Rattle.tc_table.specs.Legal as legal;
+
+mod adding;
+mod answers;
+mod faults;
+mod status;
+mod waiting;
+
+use crate::component_states::ComponentStates;
+use crate::entries::created;
+use crate::run_state::{RunState, opening_runs};
+use std::alloc::Global;
+use std::marker::Model;
+use tc_entry::{Comp, Entry, Fault, Op, Phase, Reply};
+use tc_verdict::{NoMemory, Run, Verdict};
+
+/// The components of one test case, and all that was asked of them (ES 201 873-1, test component operations).
+///
+/// Contracts see the number of behaviours, the history, and how many more entries have their place.
+#[derive(Drop)]
+pub struct Table {
+    behaviours: u16,
+    history: Vec<Entry>,
+    states: ComponentStates,
+    runs: Vec<RunState>,
+    over: bool,
+}
+
+impl Model for Table {
+    ghost use Rattle.std.specs.Prelude.{reverse, ◌-◌};
+    ghost use Rattle.std.specs.Vec.{vec_len, vec_capacity};
+    ghost use Rattle.tc_table.specs.Case.{Case};
+    ghost use Rattle.tc_table.specs.Inside.Kept.{IsKept};
+
+    ghost Value = { Case };
+
+    ghost view = { λ t. record { behaviours = t.behaviours; history = t.history.items; room = vec_capacity t.history - vec_len t.history } };
+
+    ghost invariant = { λ t. IsKept t.behaviours (reverse t.history.items) t.states t.runs.items t.over };
+}
+
+#[tactic(auto, using(crate::proofs::KeptLemmas::kept_rules, crate::proofs::KeptLemmas::group_rules))]
+impl Table {
+    /// A case of so many behaviours, at its opening.
+    pub fn new(alloc: Global, behaviours: u16) -> Result<Table, NoMemory>
+        requires some { 1 ≤ behaviours }
+        requires few { behaviours ≤ 64 }
+        ensures behaviours { IfOk result (λ t. t.behaviours ≡ behaviours) }
+        ensures opening { IfOk result (λ t. t.history ≡ []) }
+    {
+        let states = ComponentStates::new(alloc)?;
+        let runs = opening_runs(alloc, behaviours)?;
+        Ok(Table {
+            behaviours,
+            history: Vec::new(alloc),
+            states,
+            runs,
+            over: false,
+        })
+    }
+
+    /// Makes a call, and answers its reply.
+    pub fn play(&mut self, caller: Run, op: Op) -> Result<Reply, NoMemory>
+        ensures reply { IfOk result (λ r. r ≡ answers.answer self.old.behaviours (past_of self.old) caller.0 op) }
+        ensures behaviours { self.new.behaviours ≡ self.old.behaviours }
+        ensures added { IfOk result (λ r. self.new.history ≡ self.old.history ++ record { caller = caller; op = op; reply = r } ∷ []) }
+        ensures room { OnOk result (self.old.room ≤ self.new.room + 1) }
+        ensures refused { OnErr result (self.new.history ≡ self.old.history) }
+        ensures refused_room { OnErr result (self.old.room ≤ self.new.room) }
+        ensures sure { 0 < self.old.room → history.is_create op ≡ false → IsOk result }
+    {
+        let reply = self.would(caller, &op);
+        let own = self.comp_of(caller);
+        let made = created(&op, reply);
+        let entry = Entry { caller, op, reply };
+        match made {
+            None => self.add(own, entry)?,
+            Some(comp) => self.make(entry, comp)?,
+        }
+        Ok(reply)
+    }
+
+    /// The reply that `play` would give now.
+    #[tactic(auto, using(crate::proofs::KeptLemmas::kept_rules, crate::proofs::KeptLemmas::wait_rules), unfolding(crate::specs::Answers::answer, crate::specs::Faults::fault))]
+    pub fn would(&self, caller: Run, op: &Op) -> Reply
+        ensures { result ≡ answers.answer self.now.behaviours (past_of self.now) caller.0 op.now }
+    {
+        match self.active_on(caller) {
+            None => Reply::Ended,
+            Some(own) => match self.fault(caller, op) {
+                Some(fault) => Reply::Fault(fault),
+                None => self.plain_answer(caller, own, op),
+            },
+        }
+    }
+
+    /// Makes room for so many more calls.
+    pub fn make_room(&mut self, more: usize) -> Result<(), NoMemory>
+        ensures behaviours { self.new.behaviours ≡ self.old.behaviours }
+        ensures history { self.new.history ≡ self.old.history }
+        ensures room { OnOk result (more ≤ self.new.room) }
+        ensures no_less { self.old.room ≤ self.new.room }
+        ensures sure { more ≤ self.old.room → IsOk result }
+    {
+        self.history.reserve(more)?;
+        Ok(())
+    }
+
+    /// So many more calls take no memory, if none of them is a Create.
+    pub fn room(&self) -> usize
+        ensures { result ≡ self.now.room }
+    {
+        self.history.capacity() - self.history.len()
+    }
+
+    /// The entries, the oldest first; each reply in them is the component table's.
+    pub fn history(&self) -> &[Entry]
+        ensures entries { result.now ≡ self.now.history }
+        ensures legal { legal.IsLegal self.now.behaviours (past_of self.now) }
+    {
+        self.history.as_slice()
+    }
+
+    /// What a component is doing.
+    pub fn phase_of(&self, comp: Comp) -> Option<Phase>
+        ensures { result ≡ phases.phase_if_any (past_of self.now) comp.0 }
+    {
+        let states = self.states.as_slice();
+        if (comp.0 as usize) < states.len() {
+            Some(states[comp.0 as usize].phase)
+        } else {
+            None
+        }
+    }
+
+    /// The local verdict of a component.
+    pub fn local(&self, comp: Comp) -> Option<Verdict>
+        ensures { result ≡ verdicts.local_if_any (past_of self.now) comp.0 }
+    {
+        let states = self.states.as_slice();
+        if (comp.0 as usize) < states.len() {
+            Some(states[comp.0 as usize].local)
+        } else {
+            None
+        }
+    }
+
+    /// The worst of the local verdicts.
+    #[tactic(auto, using(crate::proofs::KeptLemmas::overall_rules))]
+    pub fn overall(&self) -> Verdict
+        ensures { result ≡ verdicts.overall (past_of self.now) }
+    {
+        self.states.worst()
+    }
+
+    /// Whether the case is over.
+    #[tactic(auto, using(crate::proofs::Over::over_rules))]
+    pub fn is_over(&self) -> bool
+        ensures is { result ≡ history.is_over (past_of self.now) }
+        ensures after { OnTrue result (legal.IsAllOver self.now.behaviours (past_of self.now)) }
+    {
+        self.over
+    }
+
+    /// How many components exist.
+    pub fn components(&self) -> u32
+        ensures { result ≡ faults.components (past_of self.now) }
+    {
+        self.states.as_slice().len() as u32
+    }
+}

@@ -1,0 +1,72 @@
+//! The reply to a call that is no dynamic error.
+ghost use Rattle.std.specs.Prelude.{◌≡◌, true, Some};
+ghost use Rattle.tc_table.specs.Case.{past_of};
+ghost use Rattle.tc_table.specs.History as history;
+ghost use Rattle.tc_table.specs.Faults as faults;
+ghost use Rattle.tc_table.specs.Answers as answers;
+
+use crate::awaited::Awaited;
+use crate::table::Table;
+use tc_entry::{Comp, Fault, Op, Reply};
+use tc_verdict::Run;
+
+#[tactic(auto, using(crate::proofs::KeptLemmas::kept_rules))]
+impl Table {
+    /// The reply to a wake.
+    #[tactic(auto, using(crate::proofs::KeptLemmas::kept_rules, crate::proofs::KeptLemmas::wait_rules))]
+    pub(crate) fn wake_reply(&self, caller: Run, awaited: Awaited) -> Reply
+        requires { faults.all_exist (past_of self.now) (faults.target_names awaited.target) ≡ true }
+        ensures { result ≡ answers.wake_reply (past_of self.now) caller.0 awaited }
+    {
+        if self.holds(awaited) {
+            Reply::Matched
+        } else if caller.0 == 0 && self.is_stuck() {
+            Reply::Fault(Fault::Stuck)
+        } else {
+            Reply::Parked
+        }
+    }
+
+    /// The reply to a call that is no error, by a run on component own.
+    #[tactic(auto, using(crate::proofs::KeptLemmas::kept_rules, crate::proofs::KeptLemmas::wait_rules))]
+    pub(crate) fn plain_answer(&self, caller: Run, own: Comp, op: &Op) -> Reply
+        requires on { history.comp_of (past_of self.now) caller.0 ≡ Some own }
+        requires known { faults.all_exist (past_of self.now) (faults.names op.now) ≡ true }
+        ensures { result ≡ answers.plain_answer (past_of self.now) caller.0 op.now }
+    {
+        match op {
+            Op::Create { .. } => Reply::Made(Comp(self.components())),
+            Op::Running(target) => Reply::Answer(self.running(*target)),
+            Op::Alive(target) => Reply::Answer(self.alive(*target)),
+            Op::Done(target) => Reply::Answer(self.done(*target)),
+            Op::Killed(target) => Reply::Answer(self.killed(*target)),
+            Op::Wait { killed, target } => {
+                let awaited = Awaited {
+                    killed: *killed,
+                    target: *target,
+                };
+                if self.holds(awaited) {
+                    Reply::Matched
+                } else {
+                    Reply::Parked
+                }
+            }
+            Op::Wake { killed, target } => {
+                let awaited = Awaited {
+                    killed: *killed,
+                    target: *target,
+                };
+                self.wake_reply(caller, awaited)
+            }
+            Op::GetVerdict => {
+                let states = self.states.as_slice();
+                Reply::Local(states[own.0 as usize].local)
+            }
+            Op::Start { .. } => Reply::Ok,
+            Op::Stop(_) => Reply::Ok,
+            Op::Kill(_) => Reply::Ok,
+            Op::SetVerdict(_) => Reply::Ok,
+            Op::Finish => Reply::Ok,
+        }
+    }
+}

@@ -1,0 +1,135 @@
+//! The dynamic errors of a call.
+ghost use Rattle.std.specs.Prelude.{◌≡◌, true};
+ghost use Rattle.tc_table.specs.Case.{past_of};
+ghost use Rattle.tc_table.specs.History as history;
+ghost use Rattle.tc_table.specs.Faults as faults;
+
+use crate::component_state::{all_below, is_killed, is_running};
+use crate::table::Table;
+use tc_entry::{Comp, Fault, Group, Op, Target};
+use tc_verdict::Run;
+
+#[tactic(auto, using(crate::proofs::KeptLemmas::kept_rules))]
+impl Table {
+    /// Whether all these components exist.
+    pub(crate) fn all_exist(&self, comps: &[Comp]) -> bool
+        ensures { result ≡ faults.all_exist (past_of self.now) comps.now }
+    {
+        all_below(comps, self.states.as_slice().len())
+    }
+
+    /// Whether all components that the call names exist.
+    pub(crate) fn names_exist(&self, op: &Op) -> bool
+        ensures { result ≡ faults.all_exist (past_of self.now) (faults.names op.now) }
+    {
+        match op {
+            Op::Start { comp, args, .. } => self.exists(*comp) && self.all_exist(args.as_slice()),
+            Op::Stop(group) => self.group_exists(*group),
+            Op::Kill(group) => self.group_exists(*group),
+            Op::Running(target) => self.target_exists(*target),
+            Op::Alive(target) => self.target_exists(*target),
+            Op::Done(target) => self.target_exists(*target),
+            Op::Killed(target) => self.target_exists(*target),
+            Op::Wait { target, .. } => self.target_exists(*target),
+            Op::Wake { target, .. } => self.target_exists(*target),
+            Op::Create { .. } => true,
+            Op::SetVerdict(_) => true,
+            Op::GetVerdict => true,
+            Op::Finish => true,
+        }
+    }
+
+    pub(crate) fn target_exists(&self, target: Target) -> bool
+        ensures { result ≡ faults.all_exist (past_of self.now) (faults.target_names target) }
+    {
+        match target {
+            Target::One(comp) => self.exists(comp),
+            Target::Any => true,
+            Target::All => true,
+        }
+    }
+
+    pub(crate) fn group_exists(&self, group: Group) -> bool
+        ensures { result ≡ faults.all_exist (past_of self.now) (faults.group_names group) }
+    {
+        match group {
+            Group::One(comp) => self.exists(comp),
+            Group::All => true,
+        }
+    }
+
+    /// The error of a Start of this component with this run.
+    #[tactic(auto, using(crate::proofs::KeptLemmas::kept_rules), unfolding(crate::specs::Faults::start_fault))]
+    pub(crate) fn start_fault(&self, comp: Comp, run: Run) -> Option<Fault>
+        requires { history.exists (past_of self.now) comp.0 ≡ true }
+        ensures { result ≡ faults.start_fault self.now.behaviours (past_of self.now) comp.0 run.0 }
+    {
+        if comp.0 == 0 {
+            return Some(Fault::StartMain);
+        }
+        let states = self.states.as_slice();
+        let phase = states[comp.0 as usize].phase;
+        if is_running(phase) {
+            return Some(Fault::AlreadyRunning);
+        }
+        if is_killed(phase) {
+            return Some(Fault::NotStartable);
+        }
+        if run.0 == 0 || self.behaviours <= run.0 || self.comp_of(run).is_some() {
+            return Some(Fault::NoBehaviour);
+        }
+        None
+    }
+
+    /// The dynamic error of a call, if it is one.
+    #[tactic(auto, using(crate::proofs::KeptLemmas::kept_rules), unfolding(crate::specs::Faults::fault))]
+    pub(crate) fn fault(&self, caller: Run, op: &Op) -> Option<Fault>
+        ensures { result ≡ faults.fault self.now.behaviours (past_of self.now) caller.0 op.now }
+    {
+        if !self.names_exist(op) {
+            return Some(Fault::NoComponent);
+        }
+        if asks_many(op) && caller.0 != 0 {
+            return Some(Fault::NotMain);
+        }
+        match op {
+            Op::Create { .. } => {
+                if 1000 <= self.components() {
+                    Some(Fault::TooMany)
+                } else {
+                    None
+                }
+            }
+            Op::Start { comp, run, .. } => self.start_fault(*comp, *run),
+            _ => None,
+        }
+    }
+}
+
+fn is_many(target: Target) -> bool
+    ensures { result ≡ faults.is_many target }
+{
+    !matches!(target, Target::One(_))
+}
+
+fn is_group(group: Group) -> bool
+    ensures { result ≡ faults.is_group group }
+{
+    matches!(group, Group::All)
+}
+
+fn asks_many(op: &Op) -> bool
+    ensures { result ≡ faults.asks_many op.now }
+{
+    match op {
+        Op::Stop(group) => is_group(*group),
+        Op::Kill(group) => is_group(*group),
+        Op::Running(target) => is_many(*target),
+        Op::Alive(target) => is_many(*target),
+        Op::Done(target) => is_many(*target),
+        Op::Killed(target) => is_many(*target),
+        Op::Wait { target, .. } => is_many(*target),
+        Op::Wake { target, .. } => is_many(*target),
+        _ => false,
+    }
+}

@@ -1,0 +1,91 @@
+//! Which runs go on, which wait, and whether the case is stuck.
+ghost use Rattle.std.specs.Prelude.{◌≡◌, true, false, Some, MatchOption, IfSome};
+ghost use Rattle.tc_table.specs.Case.{past_of};
+ghost use Rattle.tc_table.specs.History as history;
+ghost use Rattle.tc_table.specs.Waiting as waits;
+ghost use Rattle.tc_table.specs.Faults as faults;
+ghost use Rattle.tc_table.specs.Answers as answers;
+ghost use Rattle.tc_table.specs.Inside.States as tests;
+
+use crate::awaited::Awaited;
+use crate::table::Table;
+use tc_entry::{Comp, Phase};
+use tc_verdict::Run;
+
+#[tactic(auto, using(crate::proofs::KeptLemmas::kept_rules))]
+impl Table {
+    /// The component of a run that is going on.
+    pub(crate) fn active_on(&self, caller: Run) -> Option<Comp>
+        ensures active { MatchOption result (answers.is_active (past_of self.now) caller.0 ≡ false) (λ c. answers.is_active (past_of self.now) caller.0 ≡ true) }
+        ensures on { IfSome result (λ c. history.comp_of (past_of self.now) caller.0 ≡ Some c) }
+    {
+        let comp = self.comp_of(caller)?;
+        let states = self.states.as_slice();
+        if is_run_of(caller, states[comp.0 as usize].phase) {
+            Some(comp)
+        } else {
+            None
+        }
+    }
+
+    /// Whether what is awaited has come.
+    #[tactic(auto, using(crate::proofs::KeptLemmas::kept_rules, crate::proofs::KeptLemmas::wait_rules), unfolding(crate::specs::Waiting::holds))]
+    pub(crate) fn holds(&self, awaited: Awaited) -> bool
+        requires { faults.all_exist (past_of self.now) (faults.target_names awaited.target) ≡ true }
+        ensures { result ≡ waits.holds (past_of self.now) awaited }
+    {
+        if awaited.killed {
+            self.killed(awaited.target)
+        } else {
+            self.done(awaited.target)
+        }
+    }
+
+    /// Whether a run waits for what has not come.
+    #[tactic(auto, using(crate::proofs::KeptLemmas::kept_rules, crate::proofs::KeptLemmas::wait_rules))]
+    pub(crate) fn waits_in_vain(&self, run: Run) -> bool
+        ensures { result ≡ waits.waits_in_vain (past_of self.now) (waits.waiting (past_of self.now) run.0) }
+    {
+        let runs = self.runs.as_slice();
+        if (run.0 as usize) < runs.len() {
+            match runs[run.0 as usize].waiting {
+                Some(awaited) => !self.holds(awaited),
+                None => false,
+            }
+        } else {
+            false
+        }
+    }
+
+    /// Whether a run is going on, and does not wait in vain.
+    #[tactic(auto, using(crate::proofs::KeptLemmas::kept_rules, crate::proofs::KeptLemmas::wait_rules), unfolding(crate::specs::Inside::States::goes_on))]
+    pub(crate) fn goes_on(&self, run: Run) -> bool
+        ensures { result ≡ tests.goes_on (past_of self.now) run.0 }
+    {
+        match self.active_on(run) {
+            Some(_) => !self.waits_in_vain(run),
+            None => false,
+        }
+    }
+
+    /// Whether every run that is going on waits in vain.
+    pub(crate) fn is_stuck(&self) -> bool
+        ensures { result ≡ waits.is_stuck (past_of self.now) }
+    {
+        for b in 0..self.behaviours {
+            if self.goes_on(Run(b)) {
+                return false;
+            }
+        }
+        true
+    }
+}
+
+fn is_run_of(run: Run, phase: Phase) -> bool
+    ensures { result ≡ answers.is_run_of run.0 phase }
+{
+    match phase {
+        Phase::Running(b) => b.0 == run.0,
+        _ => false,
+    }
+}

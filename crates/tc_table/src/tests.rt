@@ -1,0 +1,92 @@
+use super::*;
+use std::test::Fail;
+
+fn start(comp: u32, run: u16) -> Op {
+    Op::Start {
+        comp: Comp(comp),
+        run: Run(run),
+        args: Args::new(),
+    }
+}
+
+fn entry(op: Op, reply: Reply) -> Entry {
+    Entry {
+        caller: Run(0),
+        op,
+        reply,
+    }
+}
+
+#[test]
+fn calls_on_a_table(rt: HostRuntime) -> Result<(), Fail> {
+    let mut table = Table::new(rt.alloc(), 2)?;
+    assert_eq!(rt;
+        table.would(Run(0), &Op::Create { alive: true }),
+        Reply::Made(Comp(1))
+    );
+    let moves = [
+        (0, Op::Create { alive: true }, Reply::Made(Comp(1))),
+        (0, start(1, 1), Reply::Ok),
+        (1, Op::SetVerdict(UserVerdict::Fail), Reply::Ok),
+        (1, Op::GetVerdict, Reply::Local(Verdict::Fail)),
+        (0, Op::Stop(Group::All), Reply::Ok),
+    ];
+    for (caller, op, reply) in moves {
+        assert_eq!(rt; table.play(Run(caller), op)?, reply);
+    }
+    assert_eq!(rt; table.components(), 2);
+    assert_eq!(rt; table.phase_of(Comp(0)), Some(Phase::Running(Run(0))));
+    assert_eq!(rt; table.phase_of(Comp(1)), Some(Phase::Stopped));
+    assert_eq!(rt; table.phase_of(Comp(2)), None);
+    assert_eq!(rt; table.local(Comp(1)), Some(Verdict::Fail));
+    assert_eq!(rt; table.local(Comp(2)), None);
+    assert_eq!(rt; table.overall(), Verdict::Fail);
+    assert_eq!(rt; table.history().len(), 5);
+    assert!(rt; !table.is_over());
+    assert_eq!(rt; table.play(Run(0), Op::Finish)?, Reply::Ok);
+    assert!(rt; table.is_over());
+    assert_eq!(rt; table.phase_of(Comp(1)), Some(Phase::Killed));
+    assert_eq!(rt; table.play(Run(0), Op::Finish)?, Reply::Ended);
+    Ok(())
+}
+
+#[test]
+fn quiet_calls(rt: HostRuntime) -> Result<(), Fail> {
+    let mut table = Table::new(rt.alloc(), 1)?;
+    table.make_room(2)?;
+    assert!(rt; 2 <= table.room());
+    let before = table.room();
+    assert_eq!(rt;
+        table.play(Run(0), Op::GetVerdict)?,
+        Reply::Local(Verdict::None)
+    );
+    assert!(rt; before <= table.room() + 1);
+    Ok(())
+}
+
+#[test]
+fn replay_check_of_a_list(rt: HostRuntime) -> Result<(), Fail> {
+    let wait = Op::Wait {
+        killed: false,
+        target: Target::One(Comp(1)),
+    };
+    let mut list = [
+        entry(Op::Create { alive: false }, Reply::Made(Comp(1))),
+        entry(Op::Stop(Group::One(Comp(1))), Reply::Ok),
+        entry(Op::Alive(Target::One(Comp(1))), Reply::Answer(true)),
+        entry(wait, Reply::Matched),
+    ];
+    match replay_check(rt.alloc(), 1, &list) {
+        Err(CheckFault::Differs { at, reply }) => {
+            assert_eq!(rt; at, 3);
+            assert_eq!(rt; reply, Reply::Parked);
+        }
+        _ => panic!(rt; "a matched wait was found legal"),
+    }
+    list[3].reply = Reply::Parked;
+    match replay_check(rt.alloc(), 1, &list) {
+        Ok(verdict) => assert_eq!(rt; verdict, Verdict::None),
+        Err(_) => panic!(rt; "a parked wait was not found legal"),
+    }
+    Ok(())
+}
