@@ -6,6 +6,7 @@ use Rattle.std.proofs.lemmas.Bool.Decides.{nat_tests}
 use Rattle.tc_verdict.specs.declared.verdict.Verdict.{Verdict}
 use Rattle.tc_verdict.specs.declared.verdict.Verdict.TheVariants as V
 use Rattle.tc_verdict.specs.Verdict.{worse, level_of}
+use Rattle.tc_verdict.proofs.Order.{worse_later, worse_swap}
 use Rattle.tc_table.specs.declared.component_state.ComponentState.{ComponentState}
 use Rattle.tc_table.specs.Status.{is_running, is_killed, is_done}
 use Rattle.tc_table.specs.Inside.States.{any_running, none_running, any_killed, all_killed, any_alive, all_alive, any_done, none_lapsed, worst_local}
@@ -143,58 +144,12 @@ few_counted p (x ∷ xs) n h e = omega (arith, count_le p xs)
 
 -- the worst verdict
 
-abbrev larger : ℕ → ℕ → ℕ
-larger m n = if nat_lt m n then n else m
-
-level-worse : (a b : Verdict) → level_of (worse a b) ≡ larger (level_of a) (level_of b)
-level-worse a b = by_test (nat_lt (level_of a) (level_of b)) a b
-  where
-    by_test : (t : Bool) (a b : Verdict) → level_of (if t then b else a) ≡ (if t then level_of b else level_of a)
-    by_test true a b = refl
-    by_test false a b = refl
-
-same_level : (a b : Verdict) → level_of a ≡ level_of b → a ≡ b
-same_level V.None V.None e = refl
-same_level V.None _ e = absurd cc
-same_level V.Pass V.Pass e = refl
-same_level V.Pass _ e = absurd cc
-same_level V.Inconc V.Inconc e = refl
-same_level V.Inconc _ e = absurd cc
-same_level V.Fail V.Fail e = refl
-same_level V.Fail _ e = absurd cc
-same_level V.Error V.Error e = refl
-same_level V.Error _ e = absurd cc
-
-larger_later : (w x y : ℕ) → x ≤ y → larger w y ≡ larger (larger w x) y
-larger_later w x y h = grind (arith, nat_tests)
-
-larger_swap : (w x y : ℕ) → larger (larger w y) x ≡ larger (larger w x) y
-larger_swap w x y = grind (arith, nat_tests)
-
-worse_later : (w x y : Verdict) → level_of x ≤ level_of y → worse w y ≡ worse (worse w x) y
-worse_later w x y h =
-    same_level (worse w y) (worse (worse w x) y)
-    (level-worse w y ∙ (larger_later (level_of w) (level_of x) (level_of y) h ∙ sym (level-worse (worse w x) y ∙ ap (λ n. larger n (level_of y)) (level-worse w x))))
-
-worse_swap : (w x y : Verdict) → worse (worse w y) x ≡ worse (worse w x) y
-worse_swap w x y =
-    same_level (worse (worse w y) x) (worse (worse w x) y)
-    ((level-worse (worse w y) x ∙ ap (λ n. larger n (level_of x)) (level-worse w y))
-    ∙ (larger_swap (level_of w) (level_of x) (level_of y) ∙ sym (level-worse (worse w x) y ∙ ap (λ n. larger n (level_of y)) (level-worse w x))))
-
 pub worst-set : (xs : List ComponentState) (i : ℕ) (y d : ComponentState) → i < length xs → level_of (get_or xs i d).local ≤ level_of y.local → worst_local (set xs i y) ≡ worse (worst_local xs) y.local
 unfolding worst_local
 worst-set [] i y d h k = absurd (omega arith)
 worst-set (x ∷ xs) zero y d h k = worse_later (worst_local xs) x.local y.local k
 worst-set (x ∷ xs) (suc i) y d h k =
     ap (λ w. worse w x.local) (worst-set xs i y d (omega arith) k) ∙ worse_swap (worst_local xs) x.local y.local
-
-none_no_worse : (w : Verdict) → worse w V.None ≡ w
-none_no_worse V.None = refl
-none_no_worse V.Pass = refl
-none_no_worse V.Inconc = refl
-none_no_worse V.Fail = refl
-none_no_worse V.Error = refl
 
 pub worst-more : (xs : List ComponentState) (alive : Bool) → worst_local (xs ++ made_state alive ∷ []) ≡ worst_local xs
 unfolding worst_local

@@ -6,6 +6,7 @@ use Rattle.std.proofs.lemmas.Bool.Decides.{nat_tests}
 use Rattle.tc_verdict.specs.declared.verdict.Verdict.{Verdict}
 use Rattle.tc_verdict.specs.declared.run.Run.{Run}
 use Rattle.tc_verdict.specs.Verdict.{worse, level_of}
+use Rattle.tc_verdict.proofs.Order.{worse_left}
 use Rattle.tc_entry.specs.declared.comp.Comp.{Comp}
 use Rattle.tc_entry.specs.declared.entry.Entry.{Entry}
 use Rattle.tc_entry.specs.declared.op.Group.TheVariants as G
@@ -102,16 +103,9 @@ elsewhere own e c s h settled =
 
 -- a local verdict gets no better
 
-level_le : (a b : Verdict) → level_of a ≤ level_of (worse a b)
-level_le a b = by_test (nat_lt (level_of a) (level_of b)) a b refl
-  where
-    by_test : (t : Bool) (a b : Verdict) → nat_lt (level_of a) (level_of b) ≡ t → level_of a ≤ level_of (if t then b else a)
-    by_test true a b e = grind (arith, nat_tests)
-    by_test false a b e = omega arith
-
 local_le : (vs : List Verdict) (l : Verdict) → level_of l ≤ level_of (next_local vs l)
 local_le [] l = omega arith
-local_le (v ∷ vs) l = let a = local_le vs l in let b = level_le (next_local vs l) v in omega arith
+local_le (v ∷ vs) l = let a = local_le vs l in let b = worse_left (next_local vs l) v in omega arith
 
 pub no_better : (own : Option Comp) (e : Entry) (c : ℕ) (s : ComponentState) → level_of s.local ≤ level_of (next_state own e c s).local
 unfolding next_state

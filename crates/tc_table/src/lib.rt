@@ -18,6 +18,10 @@ pub use tc_entry::{
     Args, Comp, Entry, Fault, Group, Name, NoMemory, Op, Phase, Reply, Run, Target, UserVerdict,
     Verdict,
 };
+pub use tc_stream::{InputFault, read_input};
+pub use tc_text::{
+    MoveList, TextFault, TextKind, read_move, read_moves, read_reply, write_move, write_reply,
+};
 
 #[cfg(test)]
 mod tests;

@@ -1,0 +1,7 @@
+pub mod Lookup
+pub mod Numbers
+pub mod Answers
+pub mod Rows
+pub mod HandSteps
+pub mod KeeperSteps
+pub mod NewBoard

@@ -1,0 +1,11 @@
+use Rattle.std.proofs.Common.{◌≡◌, ◌-◌, []}
+use Rattle.tc_board.specs.Board.{first_records, new_hands}
+use Rattle.tc_board.specs.Inside.Seats.{keeper_view, first_lists}
+use Rattle.tc_board.proofs.board.Board.new.Given as goal
+
+abbrev pub invariant-loop-run : goal.invariant-loop-run
+invariant-loop-run l =
+    (l.seat.table_id ≡ l.table.shared.table_id)
+    × (l.seat.me ≡ (keeper_view (first_records 0 l.n) (first_lists l.run (l.n - l.run)), []))
+    × (l.hands.items ≡ new_hands l.table.shared.table_id 0 l.run)
+    × (l.table.shared.table_id.words ≡ l.n)

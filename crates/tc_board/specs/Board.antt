@@ -1,0 +1,38 @@
+-- A new board: the word of run 0 is open with none and its hand has met it, every other word is unbegun.
+use Rattle.std.specs.Prelude.{ℕ, zero, suc, List, [], ◌∷◌}
+use Rattle.atomic_table.specs.Seated.{TableId}
+use Rattle.tc_verdict.specs.declared.user_verdict.UserVerdict.TheVariants as verdict
+use Rattle.tc_board.specs.declared.answer.Answer.{Answer}
+use Rattle.tc_board.specs.declared.answer.Answer.TheVariants.{Met}
+use Rattle.tc_board.specs.declared.record.Record.{Record}
+use Rattle.tc_board.specs.declared.record.Record.TheVariants.{Unbegun, Open}
+use Rattle.tc_board.specs.Hand.{HandView}
+use Rattle.tc_board.specs.Keeper.{KeeperView}
+
+-- the first answers of the hand of a run
+abbrev pub first_answers : ℕ → List Answer
+first_answers zero = Met ∷ []
+first_answers (suc run) = []
+
+-- the first record of the word of a run
+abbrev pub first_record : ℕ → Record
+first_record zero = Open verdict.None
+first_record (suc run) = Unbegun
+
+-- the records of n words, from this run on
+abbrev pub first_records : ℕ → ℕ → List Record
+first_records run zero = []
+first_records run (suc n) = first_record run ∷ first_records (suc run) n
+
+-- the hand of a run
+abbrev pub new_hand : TableId → ℕ → HandView
+new_hand board run = record { board = board; run = run; answers = first_answers run }
+
+-- the hands of n runs, from this run on
+abbrev pub new_hands : TableId → ℕ → ℕ → List HandView
+new_hands board run zero = []
+new_hands board run (suc n) = new_hand board run ∷ new_hands board (suc run) n
+
+-- the keeper of n words
+abbrev pub new_keeper : TableId → ℕ → KeeperView
+new_keeper board n = record { board = board; records = first_records 0 n; gathered = [] }

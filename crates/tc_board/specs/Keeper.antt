@@ -1,0 +1,42 @@
+-- What contracts see of the keeper, and what its calls change.
+use Rattle.std.specs.Prelude.{◌≡◌, ℕ, Option, Some, slice_get, slice_set, List, [], ◌∷◌, ◌++◌}
+use Rattle.std.specs.Prelude as prelude
+use Rattle.atomic_table.specs.Seated.{TableId}
+use Rattle.tc_verdict.specs.declared.user_verdict.UserVerdict.{UserVerdict}
+use Rattle.tc_verdict.specs.declared.user_verdict.UserVerdict.TheVariants.{None}
+use Rattle.tc_board.specs.declared.answer.AnswerList.{AnswerList}
+use Rattle.tc_board.specs.declared.record.Record.{Record}
+use Rattle.tc_board.specs.declared.record.Record.TheVariants.{Unbegun, Open, Closed}
+use Rattle.tc_board.specs.Hand.{HandView}
+
+-- its board, what it did with each word, and the answers of the hands that it took back
+pub record KeeperView : Type 0 where
+  pub board : TableId
+  pub records : List Record
+  pub gathered : List AnswerList
+
+-- the word of this run was begun and not closed
+abbrev pub IsOpen : List Record → ℕ → Type 0
+IsOpen records run = (carried : UserVerdict) × (slice_get records run ≡ Some (Open carried))
+
+abbrev pub carried_in : Option Record → UserVerdict
+carried_in (Some (Open carried)) = carried
+carried_in (Some (Closed carried counted)) = carried
+carried_in (Some Unbegun) = None
+carried_in prelude.None = None
+
+-- the verdict that the word of this run was begun with
+abbrev pub carried_by : List Record → ℕ → UserVerdict
+carried_by records run = carried_in (slice_get records run)
+
+-- the keeper with another record of one word
+abbrev pub recorded : KeeperView → ℕ → Record → KeeperView
+recorded k run r = record k { records = slice_set k.records run r }
+
+-- the answers of a hand, with its run
+abbrev pub list_of : HandView → AnswerList
+list_of h = record { run = h.run; answers = h.answers }
+
+-- the keeper with the answers of one more hand
+abbrev pub gathered : KeeperView → HandView → KeeperView
+gathered k h = record k { gathered = k.gathered ++ list_of h ∷ [] }

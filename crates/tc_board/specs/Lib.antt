@@ -1,0 +1,6 @@
+pub mod Answers
+pub mod Rule
+pub mod Hand
+pub mod Keeper
+pub mod Board
+pub mod Inside

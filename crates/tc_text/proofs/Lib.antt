@@ -1,0 +1,8 @@
+pub mod Digits
+pub mod Operands
+pub mod Verbs
+pub mod Filling
+pub mod LinesOf
+pub mod Plain
+pub mod MoveLines
+pub mod SoFar

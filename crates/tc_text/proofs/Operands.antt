@@ -1,0 +1,101 @@
+-- What operations are about, read from the text behind their first words.
+use Rattle.std.proofs.Common.{◌≡◌, ◌≢◌, ◌∙◌, ◌<◌, ◌≤◌, ◌+◌, ◌^◌, ℕ, List, [], ◌∷◌, ◌++◌, length, codes, sym, ap, refl, arith, append_assoc}
+use Rattle.std.specs.Fmt.{decimal}
+use Rattle.std.proofs.lemmas.Grind.{common_steps}
+use Rattle.tc_verdict.specs.declared.run.Run.{Run}
+use Rattle.tc_entry.specs.declared.comp.Comp.{Comp}
+use Rattle.tc_entry.specs.declared.op.Group.{Group}
+use Rattle.tc_entry.specs.declared.op.Group.TheVariants as G
+use Rattle.tc_entry.specs.declared.op.Target.{Target}
+use Rattle.tc_entry.specs.declared.op.Target.TheVariants as T
+use Rattle.tc_entry.specs.declared.op.Op.TheVariants as O
+use Rattle.tc_text.specs.Spelling.{group_text, target_text, args_text, IsComp, IsGroup, IsTarget, AreComps}
+use Rattle.tc_text.specs.Reading.{EndsNumber, EndsMove, start_text}
+use Rattle.tc_text.proofs.Digits.{digit_first, no_letter}
+
+-- what reading a number tells: it is the number of each spelling that the text begins with
+abbrev pub IsThatNumber : List ℕ → ℕ → List ℕ → Type 0
+IsThatNumber text number behind = (n : ℕ) (rest : List ℕ) → n < 2 ^ 32 → EndsNumber rest → text ≡ decimal n ++ rest → (number ≡ n) × (behind ≡ rest)
+
+pub group_only : (number : ℕ) (text behind : List ℕ) (g : Group) (rest : List ℕ) → number < 2 ^ 32 → text ≡ decimal number ++ behind → IsThatNumber text number behind → IsGroup g → EndsNumber rest → text ≡ group_text g ++ rest → (G.One (record { 0 = number }) ≡ g) × (behind ≡ rest)
+group_only number text behind (G.One c) rest low spelled only fits ends e = let two = only c.0 rest fits ends e in (ap (λ k. G.One (record { 0 = k })) two.0, two.1)
+group_only number text behind G.All rest low spelled only fits ends e = absurd (no_letter number 97 behind (codes "ll" ++ rest) low (omega arith) (sym spelled ∙ e))
+
+pub target_only : (number : ℕ) (text behind : List ℕ) (t : Target) (rest : List ℕ) → number < 2 ^ 32 → text ≡ decimal number ++ behind → IsThatNumber text number behind → IsTarget t → EndsNumber rest → text ≡ target_text t ++ rest → (T.One (record { 0 = number }) ≡ t) × (behind ≡ rest)
+target_only number text behind (T.One c) rest low spelled only fits ends e = let two = only c.0 rest fits ends e in (ap (λ k. T.One (record { 0 = k })) two.0, two.1)
+target_only number text behind T.All rest low spelled only fits ends e = absurd (no_letter number 97 behind (codes "ll" ++ rest) low (omega arith) (sym spelled ∙ e))
+target_only number text behind T.Any rest low spelled only fits ends e = absurd (no_letter number 97 behind (codes "ny" ++ rest) low (omega arith) (sym spelled ∙ e))
+
+-- ---- what may stand behind
+
+first_is : (x y : ℕ) (xs ys : List ℕ) → x ∷ xs ≡ y ∷ ys → x ≡ y
+first_is x y xs ys e = cc
+
+pub ends_space : (rest : List ℕ) → EndsNumber (32 ∷ rest)
+ends_space rest b after e = let same : 32 ≡ b = first_is 32 b rest after e in omega (arith, same)
+
+pub ends_args : (cs : List Comp) (rest : List ℕ) → EndsMove rest → EndsNumber (args_text cs ++ rest)
+ends_args [] rest ends = ends.number
+ends_args (c ∷ cs) rest ends = ends_space ((decimal c.0 ++ args_text cs) ++ rest)
+
+pub ends_nothing : EndsMove []
+ends_nothing = record { number = λ b rest e. absurd cc; word = λ b rest e. absurd cc }
+
+-- ---- arguments
+
+args_assoc : (c : Comp) (cs : List Comp) (rest : List ℕ) → args_text (c ∷ cs) ++ rest ≡ 32 ∷ (decimal c.0 ++ (args_text cs ++ rest))
+args_assoc c cs rest = ap (λ l. 32 ∷ l) (append_assoc (decimal c.0) (args_text cs) rest)
+
+args_nil : (old : List Comp) → old ≡ old ++ []
+args_nil old = grind (arith, common_steps)
+
+behind_space : (xs ys : List ℕ) → 32 ∷ xs ≡ 32 ∷ ys → xs ≡ ys
+behind_space xs ys e = cc
+
+-- no space comes first
+pub no_args : (text : List ℕ) (old cs : List Comp) (rest : List ℕ) → ((after : List ℕ) → text ≢ 32 ∷ after) → text ≡ args_text cs ++ rest → (old ≡ old ++ cs) × (text ≡ rest)
+no_args text old [] rest none e = (args_nil old, e)
+no_args text old (c ∷ cs) rest none e = absurd (none _ (e ∙ args_assoc c cs rest))
+
+-- no number stands behind the space
+pub no_number : (text after : List ℕ) (old cs : List Comp) (rest : List ℕ) → text ≡ 32 ∷ after → ((n : ℕ) (rest : List ℕ) → n < 2 ^ 32 → EndsNumber rest → after ≡ decimal n ++ rest → ⊥) → AreComps cs → EndsMove rest → text ≡ args_text cs ++ rest → (old ≡ old ++ cs) × (text ≡ rest)
+no_number text after old [] rest space none fits ends e = (args_nil old, e)
+no_number text after old (c ∷ cs) rest space none fits ends e =
+    absurd (none c.0 (args_text cs ++ rest) fits.0 (ends_args cs rest ends) (behind_space after _ (sym space ∙ e ∙ args_assoc c cs rest)))
+
+-- what is found behind an argument, with that argument
+pub args_spelled : (text after behind result : List ℕ) (number : ℕ) (old mid new : List Comp) → text ≡ 32 ∷ after → after ≡ decimal number ++ behind → number < 2 ^ 32 → mid ≡ old ++ record { 0 = number } ∷ []
+    → (cs : List Comp) × (new ≡ mid ++ cs) × AreComps cs × (behind ≡ args_text cs ++ result) → (cs : List Comp) × (new ≡ old ++ cs) × AreComps cs × (text ≡ args_text cs ++ result)
+args_spelled text after behind result number old mid new space spelled low added found =
+    let c : Comp = record { 0 = number } in
+    let cs : List Comp = found.0 in
+    (c ∷ cs, found.1 ∙ ap (λ l. l ++ cs) added ∙ append_assoc old (c ∷ []) cs, (low, found.2), space ∙ ap (λ l. 32 ∷ l) (spelled ∙ ap (λ l. decimal number ++ l) found.3) ∙ sym (args_assoc c cs result))
+
+pub args_only : (text after behind result : List ℕ) (number : ℕ) (old mid new : List Comp) → text ≡ 32 ∷ after → after ≡ decimal number ++ behind → number < 2 ^ 32 → mid ≡ old ++ record { 0 = number } ∷ [] → IsThatNumber after number behind
+    → ((cs : List Comp) (rest : List ℕ) → AreComps cs → length mid + length cs ≤ 4 → EndsMove rest → behind ≡ args_text cs ++ rest → (new ≡ mid ++ cs) × (result ≡ rest))
+    → (cs : List Comp) (rest : List ℕ) → AreComps cs → length old + length cs ≤ 4 → EndsMove rest → text ≡ args_text cs ++ rest → (new ≡ old ++ cs) × (result ≡ rest)
+args_only text after behind result number old mid new space spelled low added only more [] rest fits room ends e =
+    let first = digit_first number low in
+    let is : rest ≡ 32 ∷ first.0 ∷ (first.1.0 ++ behind) = sym e ∙ space ∙ ap (λ l. 32 ∷ l) (spelled ∙ ap (λ l. l ++ behind) first.1.1) in
+    let below : first.0 < 48 = ends.word first.0 (first.1.0 ++ behind) is in
+    absurd (omega (arith, below, first.1.2))
+args_only text after behind result number old mid new space spelled low added only more (c ∷ cs) rest fits room ends e =
+    let two = only c.0 (args_text cs ++ rest) fits.0 (ends_args cs rest ends) (behind_space after _ (sym space ∙ e ∙ args_assoc c cs rest)) in
+    let longer : length mid ≡ length old + 1 = grind (arith, common_steps, added) in
+    let then = more cs rest fits.1 (omega (arith, longer, room)) ends two.1 in
+    (then.0 ∙ ap (λ l. l ++ cs) added ∙ append_assoc old (record { 0 = number } ∷ []) cs ∙ ap (λ k. old ++ (record { 0 = k } ∷ cs)) two.0, then.1)
+
+-- ---- a start
+
+pub start_assoc : (c : Comp) (run : Run) (args : List Comp) (rest : List ℕ) → start_text c run args ++ rest ≡ decimal c.0 ++ (32 ∷ (decimal run.0 ++ (args_text args ++ rest)))
+start_assoc c run args rest = append_assoc (decimal c.0) (32 ∷ (decimal run.0 ++ args_text args)) rest ∙ ap (λ l. decimal c.0 ++ (32 ∷ l)) (append_assoc (decimal run.0) (args_text args) rest)
+
+-- what stands behind the component, and behind the space after it
+pub behind_comp : (text behind after : List ℕ) (comp : ℕ) (c : Comp) (run : Run) (args : List Comp) (rest : List ℕ) → IsThatNumber text comp behind → behind ≡ 32 ∷ after → IsComp c → text ≡ start_text c run args ++ rest → (comp ≡ c.0) × (after ≡ decimal run.0 ++ (args_text args ++ rest))
+behind_comp text behind after comp c run args rest only space fits e =
+    let two = only c.0 (32 ∷ (decimal run.0 ++ (args_text args ++ rest))) fits (ends_space (decimal run.0 ++ (args_text args ++ rest))) (e ∙ start_assoc c run args rest) in
+    (two.0, behind_space after (decimal run.0 ++ (args_text args ++ rest)) (sym space ∙ two.1))
+
+pub same_start : (n : ℕ) (r : Run) (bs : List Comp) (c : Comp) (run : Run) (cs : List Comp) → n ≡ c.0 → r.0 ≡ run.0 → bs ≡ cs → O.Start (record { 0 = n }) r bs ≡ O.Start c run cs
+same_start n r bs c run cs one two three =
+    ap (λ k. O.Start (record { 0 = k }) r bs) one ∙ ap (λ k. O.Start c (record { 0 = k }) bs) two ∙ ap (λ l. O.Start c run l) three

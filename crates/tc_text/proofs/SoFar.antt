@@ -1,0 +1,116 @@
+-- How far a list of moves is read.
+use Rattle.std.proofs.Common.{◌≡◌, ◌≢◌, ◌∙◌, ◌+◌, ℕ, List, [], ◌∷◌, ◌++◌, length, map, sym, ap, refl, append_assoc}
+use Rattle.std.proofs.lemmas.List.{append-nil}
+use Rattle.tc_text.specs.Lines.{lines_of}
+use Rattle.tc_text.specs.MoveList.{Move, behaviours_line, move_line, list_lines, IsBehaviours, IsMove, AreMoves, IsMoveList, IsBadFirstLine, IsBadMove}
+use Rattle.tc_text.proofs.LinesOf.{some_line}
+
+-- the moves are the ones read, and those that the rest spells
+pub record Remains (moves : List Move) (rest : List ℕ) (all : List Move) : Type 0 where
+  pub tail : List Move
+  pub parts : all ≡ moves ++ tail
+  pub spelled : lines_of rest ≡ map move_line tail
+  pub fits : AreMoves tail
+
+-- these moves are read, and every list of moves that the text spells begins with them
+pub record SoFar (text : List ℕ) (n : ℕ) (moves : List Move) (rest : List ℕ) : Type 0 where
+  pub right : IsBehaviours n
+  pub fits : AreMoves moves
+  pub lines : lines_of text ≡ list_lines n moves ++ lines_of rest
+  pub only : (k : ℕ) (ms : List Move) → IsMoveList text k ms → (n ≡ k) × Remains moves rest ms
+
+-- what reading a first line of a list tells
+abbrev pub IsThatNumberOfBehaviours : List ℕ → ℕ → List ℕ → Type 0
+IsThatNumberOfBehaviours text number rest = (n : ℕ) (others : List (List ℕ)) → IsBehaviours n → lines_of text ≡ behaviours_line n ∷ others → (number ≡ n) × (lines_of rest ≡ others)
+
+-- what reading a line as a move tells
+abbrev pub IsThatMove : List ℕ → Move → List ℕ → Type 0
+IsThatMove text one rest = (m : Move) (others : List (List ℕ)) → IsMove m → lines_of text ≡ move_line m ∷ others → (one ≡ m) × (lines_of rest ≡ others)
+
+-- what it tells that there is no move
+abbrev pub IsNoMove : List ℕ → Type 0
+IsNoMove text = (m : Move) (others : List (List ℕ)) → IsMove m → lines_of text ≡ move_line m ∷ others → ⊥
+
+map-append : (xs ys : List Move) → map move_line (xs ++ ys) ≡ map move_line xs ++ map move_line ys
+map-append [] ys = refl
+map-append (x ∷ xs) ys = ap (λ l. move_line x ∷ l) (map-append xs ys)
+
+moves_more : (ms : List Move) (m : Move) → AreMoves ms → IsMove m → AreMoves (ms ++ m ∷ [])
+moves_more [] m all one = (one, tt)
+moves_more (x ∷ xs) m all one = (all.0, moves_more xs m all.1 one)
+
+pub begins : (text rest : List ℕ) (n : ℕ) → IsBehaviours n → lines_of text ≡ behaviours_line n ∷ lines_of rest → IsThatNumberOfBehaviours text n rest → SoFar text n [] rest
+begins text rest n right lines only = record {
+  right = right;
+  fits = tt;
+  lines = lines;
+  only = λ k ms list. let two = only k (map move_line ms) list.behaviours list.lines in (two.0, record { tail = ms; parts = refl; spelled = two.1; fits = list.fits });
+}
+
+one_more : (rest after : List ℕ) (m : Move) (moves new all : List Move) → IsThatMove rest m after → new ≡ moves ++ m ∷ [] → lines_of rest ≢ [] → Remains moves rest all → Remains new after all
+one_more rest after m moves new all only added some r = by_tail r.tail r.parts r.spelled r.fits
+  where
+    by_tail : (tail : List Move) → all ≡ moves ++ tail → lines_of rest ≡ map move_line tail → AreMoves tail → Remains new after all
+    by_tail [] parts spelled fits = absurd (some spelled)
+    by_tail (t ∷ ts) parts spelled fits =
+        let two = only t (map move_line ts) fits.0 spelled in
+        record {
+          tail = ts;
+          parts = parts ∙ ap (λ x. moves ++ (x ∷ ts)) (sym two.0) ∙ sym (append_assoc moves (m ∷ []) ts) ∙ ap (λ l. l ++ ts) (sym added);
+          spelled = two.1;
+          fits = fits.1;
+        }
+
+some_lines : (x : List ℕ) (xs lines : List (List ℕ)) → lines ≡ x ∷ xs → lines ≢ []
+some_lines x xs lines e = λ none. let no = sym e ∙ none in cc
+
+pub goes_on : (text : List ℕ) (n : ℕ) (moves new : List Move) (rest after : List ℕ) (m : Move) → SoFar text n moves rest → lines_of rest ≡ move_line m ∷ lines_of after → IsMove m → IsThatMove rest m after → new ≡ moves ++ m ∷ [] → SoFar text n new after
+goes_on text n moves new rest after m so spelled fits only added = record {
+  right = so.right;
+  fits = rw added (moves_more moves m so.fits fits);
+  lines =
+      so.lines ∙ ap (λ l. list_lines n moves ++ l) spelled
+      ∙ ap (λ l. behaviours_line n ∷ l) (sym (append_assoc (map move_line moves) (move_line m ∷ []) (lines_of after)) ∙ ap (λ l. l ++ lines_of after) (sym (map-append moves (m ∷ [])) ∙ ap (map move_line) (sym added)));
+  only = λ k ms list. let so_far = so.only k ms list in (so_far.0, one_more rest after m moves new ms only added (some_lines (move_line m) (lines_of after) (lines_of rest) spelled) so_far.1);
+}
+
+pub bad_first : (text : List ℕ) → text ≢ [] → ((n : ℕ) (others : List (List ℕ)) → IsBehaviours n → lines_of text ≡ behaviours_line n ∷ others → ⊥) → IsBadFirstLine text × (◌≡◌ {A = ℕ} 1 1)
+bad_first text some never =
+    let line = some_line text some in
+    (record { first = line.0; others = line.1.0; lines = line.1.1; bad = λ n good e. never n line.1.0 good (line.1.1 ∙ ap (λ l. l ∷ line.1.0) e) }, refl)
+
+pub bad_move : (text : List ℕ) (n count : ℕ) (moves : List Move) (rest : List ℕ) → count ≡ length moves → rest ≢ [] → SoFar text n moves rest → IsNoMove rest → IsBadMove text (count + 2)
+bad_move text n count moves rest counted some so never =
+    let line = some_line rest some in
+    record {
+      behaviours = n;
+      moves = moves;
+      bad_line = line.0;
+      others = line.1.0;
+      right = so.right;
+      fits = so.fits;
+      lines = so.lines ∙ ap (λ l. list_lines n moves ++ l) line.1.1;
+      number = ap (λ k. k + 2) counted;
+      bad = λ m fits e. never m line.1.0 fits (line.1.1 ∙ ap (λ l. l ∷ line.1.0) e);
+    }
+
+pub no_list : (text : List ℕ) (n : ℕ) (moves : List Move) (rest : List ℕ) → rest ≢ [] → SoFar text n moves rest → IsNoMove rest → (k : ℕ) (ms : List Move) → IsMoveList text k ms → ⊥
+no_list text n moves rest some so never k ms list = by_tail r.tail r.spelled r.fits
+  where
+    r : Remains moves rest ms
+    r = (so.only k ms list).1
+
+    by_tail : (tail : List Move) → lines_of rest ≡ map move_line tail → AreMoves tail → ⊥
+    by_tail [] spelled inside = let line = some_line rest some in let e = sym line.1.1 ∙ spelled in cc
+    by_tail (t ∷ ts) spelled inside = never t (map move_line ts) inside.0 spelled
+
+pub is_done : (text : List ℕ) (n : ℕ) (moves : List Move) (rest : List ℕ) → SoFar text n moves rest → rest ≡ [] → IsMoveList text n moves
+is_done text n moves rest so none = record { behaviours = so.right; fits = so.fits; lines = so.lines ∙ ap (λ r. list_lines n moves ++ lines_of r) none ∙ append-nil (list_lines n moves) }
+
+pub is_all : (text : List ℕ) (n : ℕ) (moves : List Move) (rest : List ℕ) → SoFar text n moves rest → rest ≡ [] → (k : ℕ) (ms : List Move) → IsMoveList text k ms → (n ≡ k) × (moves ≡ ms)
+is_all text n moves rest so none k ms list =
+    let both = so.only k ms list in (both.0, by_tail both.1.tail both.1.parts both.1.spelled)
+  where
+    by_tail : (tail : List Move) → ms ≡ moves ++ tail → lines_of rest ≡ map move_line tail → moves ≡ ms
+    by_tail [] parts spelled = sym (parts ∙ append-nil moves)
+    by_tail (t ∷ ts) parts spelled = absurd (let e = sym (ap lines_of none) ∙ spelled in cc)

@@ -1,0 +1,13 @@
+use Rattle.std.proofs.Common.{◌∙◌, [], sym, arith}
+use Rattle.std.proofs.lemmas.List.{append-nil}
+use Rattle.std.proofs.lemmas.Grind.{common_steps}
+use Rattle.tc_text.proofs.Operands.{ends_nothing}
+use Rattle.tc_text.proofs.moves.read_move.Goals as goal
+
+pub returns-in_err-one-clause-only : goal.returns-in_err-one-clause-only
+returns-in_err-one-clause-only c run op low fits e = absurd (c.in_err-one.ensures.only run op [] low fits ends_nothing (e ∙ sym (append-nil _)))
+
+pub returns-else-is_empty-clause-only : goal.returns-else-is_empty-clause-only
+returns-else-is_empty-clause-only c run op low fits e =
+    let two = c.in_ok-one.ensures.only run op [] low fits ends_nothing (e ∙ sym (append-nil _)) in
+    absurd (grind (arith, common_steps, two.1))

@@ -1,0 +1,9 @@
+use Rattle.std.proofs.Common.{length, ◌-◌}
+use Rattle.tc_text.proofs.Digits.{Counted}
+use Rattle.tc_text.proofs.number.take_number.Given as goal
+
+abbrev pub invariant-loop-digit : goal.invariant-loop-digit
+invariant-loop-digit l = Counted l.text l.end l.number
+
+abbrev pub decreases-loop-digit : goal.decreases-loop-digit
+decreases-loop-digit l = length l.text - l.end

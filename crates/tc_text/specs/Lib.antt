@@ -1,0 +1,5 @@
+pub mod Spelling
+pub mod Lines
+pub mod TextKind
+pub mod MoveList
+pub mod Reading

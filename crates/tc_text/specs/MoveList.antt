@@ -1,0 +1,77 @@
+-- Lists of moves as texts, and what is wrong with other texts.
+use Rattle.std.specs.Prelude.{ℕ, ◌≡◌, ◌<◌, ◌≤◌, ◌+◌, ◌^◌, List, [], ◌∷◌, ◌++◌, length, map, codes}
+use Rattle.std.specs.Fmt.{decimal}
+use Rattle.tc_verdict.specs.declared.run.Run.{Run}
+use Rattle.tc_entry.specs.declared.op.Op.{Op}
+use Rattle.tc_text.specs.declared.fault.TextKind.{TextKind}
+use Rattle.tc_text.specs.declared.fault.TextKind.TheVariants as K
+use Rattle.tc_text.specs.declared.fault.TextFault.{TextFault}
+use Rattle.tc_text.specs.declared.fault.TextFault.TheVariants as F
+use Rattle.tc_text.specs.Spelling.{move_text, IsOp}
+use Rattle.tc_text.specs.Lines.{lines_of}
+
+-- a move: the caller's run, and its operation
+abbrev pub Move : Type 0
+Move = Run × Op
+
+-- the line of a move
+abbrev pub move_line : Move → List ℕ
+move_line m = move_text m.0.0 m.1
+
+-- the first line of a list of moves of n behaviours
+abbrev pub behaviours_line : ℕ → List ℕ
+behaviours_line n = codes "behaviours " ++ decimal n
+
+-- the lines of a list of moves
+abbrev pub list_lines : ℕ → List Move → List (List ℕ)
+list_lines n moves = behaviours_line n ∷ map move_line moves
+
+-- a case has 1 to 64 behaviours
+abbrev pub IsBehaviours : ℕ → Type 0
+IsBehaviours n = (1 ≤ n) × (n ≤ 64)
+
+-- a move whose numbers are those of their types
+abbrev pub IsMove : Move → Type 0
+IsMove m = (m.0.0 < 2 ^ 16) × IsOp m.1
+
+-- moves whose numbers are those of their types
+abbrev pub AreMoves : List Move → Type 0
+AreMoves [] = Unit {0}
+AreMoves (m ∷ ms) = IsMove m × AreMoves ms
+
+-- the text is that of n behaviours and these moves
+pub record IsMoveList (text : List ℕ) (n : ℕ) (moves : List Move) : Type 0 where
+  pub behaviours : IsBehaviours n
+  pub fits : AreMoves moves
+  pub lines : lines_of text ≡ list_lines n moves
+
+-- there is a first line, and it gives no number of behaviours
+pub record IsBadFirstLine (text : List ℕ) : Type 0 where
+  pub first : List ℕ
+  pub others : List (List ℕ)
+  pub lines : lines_of text ≡ first ∷ others
+  pub bad : (n : ℕ) → IsBehaviours n → first ≡ behaviours_line n → ⊥
+
+-- a right first line and some moves, and then, in the line of this number, no move
+pub record IsBadMove (text : List ℕ) (line : ℕ) : Type 0 where
+  pub behaviours : ℕ
+  pub moves : List Move
+  pub bad_line : List ℕ
+  pub others : List (List ℕ)
+  pub right : IsBehaviours behaviours
+  pub fits : AreMoves moves
+  pub lines : lines_of text ≡ list_lines behaviours moves ++ bad_line ∷ others
+  pub number : line ≡ length moves + 2
+  pub bad : (m : Move) → IsMove m → bad_line ≡ move_line m → ⊥
+
+-- the first fault of the text, read as a list of moves, is of this kind and in this line
+abbrev pub IsListFaultAt : List ℕ → ℕ → TextKind → Type 0
+IsListFaultAt text line K.Early = (lines_of text ≡ []) × (line ≡ 1)
+IsListFaultAt text line K.FirstLine = IsBadFirstLine text × (line ≡ 1)
+IsListFaultAt text line K.Move = IsBadMove text line
+IsListFaultAt text line K.Entry = ⊥
+
+-- what a fault says of the text; want of memory says nothing
+abbrev pub IsListFault : List ℕ → TextFault → Type 0
+IsListFault text (F.At line kind) = IsListFaultAt text line kind
+IsListFault text F.NoMemory = Unit {0}

@@ -1,0 +1,118 @@
+-- The one spelling of each move and each reply; it is this project's own.
+use Rattle.std.specs.Prelude.{ℕ, ◌<◌, ◌≤◌, ◌^◌, Bool, true, false, List, [], ◌∷◌, ◌++◌, length, codes}
+use Rattle.std.specs.Fmt.{decimal}
+use Rattle.tc_verdict.specs.UserVerdict.{given}
+use Rattle.tc_verdict.specs.Verdict.{name_of}
+use Rattle.tc_entry.specs.declared.comp.Comp.{Comp}
+use Rattle.tc_entry.specs.declared.op.Group.{Group}
+use Rattle.tc_entry.specs.declared.op.Group.TheVariants as G
+use Rattle.tc_entry.specs.declared.op.Target.{Target}
+use Rattle.tc_entry.specs.declared.op.Target.TheVariants as T
+use Rattle.tc_entry.specs.declared.op.Op.{Op}
+use Rattle.tc_entry.specs.declared.op.Op.TheVariants as O
+use Rattle.tc_entry.specs.declared.reply.Fault.{Fault}
+use Rattle.tc_entry.specs.declared.reply.Fault.TheVariants as F
+use Rattle.tc_entry.specs.declared.reply.Reply.{Reply}
+use Rattle.tc_entry.specs.declared.reply.Reply.TheVariants as R
+
+-- a component by its number, or all of them
+abbrev pub group_text : Group → List ℕ
+group_text (G.One c) = decimal c.0
+group_text G.All = codes "all"
+
+-- a component by its number, any or all of them
+abbrev pub target_text : Target → List ℕ
+target_text (T.One c) = decimal c.0
+target_text T.Any = codes "any"
+target_text T.All = codes "all"
+
+-- each argument with a space in front
+abbrev pub args_text : List Comp → List ℕ
+args_text [] = []
+args_text (c ∷ cs) = codes " " ++ (decimal c.0 ++ args_text cs)
+
+-- what a wait is for: killed or done
+abbrev pub awaited_text : Bool → List ℕ
+awaited_text false = codes "done "
+awaited_text true = codes "killed "
+
+-- an operation, without its caller
+abbrev pub op_text : Op → List ℕ
+op_text (O.Create false) = codes "create"
+op_text (O.Create true) = codes "create alive"
+op_text (O.Start c run args) = codes "start " ++ (decimal c.0 ++ (codes " " ++ (decimal run.0 ++ args_text args)))
+op_text (O.Stop g) = codes "stop " ++ group_text g
+op_text (O.Kill g) = codes "kill " ++ group_text g
+op_text (O.Running t) = codes "running " ++ target_text t
+op_text (O.Alive t) = codes "alive " ++ target_text t
+op_text (O.Done t) = codes "done " ++ target_text t
+op_text (O.Killed t) = codes "killed " ++ target_text t
+op_text (O.Wait k t) = codes "wait " ++ (awaited_text k ++ target_text t)
+op_text (O.Wake k t) = codes "wake " ++ (awaited_text k ++ target_text t)
+op_text (O.SetVerdict v) = codes "setverdict " ++ name_of (given v)
+op_text O.GetVerdict = codes "getverdict"
+op_text O.Finish = codes "finish"
+
+-- a move: the number of the caller's run, a space, and the operation
+abbrev pub move_text : ℕ → Op → List ℕ
+move_text run op = decimal run ++ (codes " " ++ op_text op)
+
+-- the name of a dynamic error
+abbrev pub fault_name : Fault → List ℕ
+fault_name F.NoComponent = codes "no-component"
+fault_name F.NotMain = codes "not-main"
+fault_name F.StartMain = codes "start-main"
+fault_name F.AlreadyRunning = codes "already-running"
+fault_name F.NotStartable = codes "not-startable"
+fault_name F.NoBehaviour = codes "no-behaviour"
+fault_name F.TooMany = codes "too-many"
+fault_name F.Stuck = codes "stuck"
+
+-- a reply
+abbrev pub reply_text : Reply → List ℕ
+reply_text (R.Made c) = codes "made " ++ decimal c.0
+reply_text R.Ok = codes "ok"
+reply_text (R.Answer true) = codes "true"
+reply_text (R.Answer false) = codes "false"
+reply_text (R.Local v) = name_of v
+reply_text R.Matched = codes "matched"
+reply_text R.Parked = codes "parked"
+reply_text R.Ended = codes "ended"
+reply_text (R.Fault f) = codes "error " ++ fault_name f
+
+-- the number of a component has 32 bits
+abbrev pub IsComp : Comp → Type 0
+IsComp c = c.0 < 2 ^ 32
+
+-- a group whose component's number has 32 bits
+abbrev pub IsGroup : Group → Type 0
+IsGroup (G.One c) = IsComp c
+IsGroup G.All = Unit {0}
+
+-- a target whose component's number has 32 bits
+abbrev pub IsTarget : Target → Type 0
+IsTarget (T.One c) = IsComp c
+IsTarget _ = Unit {0}
+
+-- components, each with a number of 32 bits
+abbrev pub AreComps : List Comp → Type 0
+AreComps [] = Unit {0}
+AreComps (c ∷ cs) = IsComp c × AreComps cs
+
+-- an operation whose numbers are those of their types, with at most four arguments
+abbrev pub IsOp : Op → Type 0
+IsOp (O.Start c run args) = IsComp c × (run.0 < 2 ^ 16) × (length args ≤ 4) × AreComps args
+IsOp (O.Stop g) = IsGroup g
+IsOp (O.Kill g) = IsGroup g
+IsOp (O.Running t) = IsTarget t
+IsOp (O.Alive t) = IsTarget t
+IsOp (O.Done t) = IsTarget t
+IsOp (O.Killed t) = IsTarget t
+IsOp (O.Wait k t) = IsTarget t
+IsOp (O.Wake k t) = IsTarget t
+IsOp _ = Unit {0}
+
+-- a reply whose component's number has 32 bits
+abbrev pub IsReply : Reply → Type 0
+IsReply (R.Made c) = IsComp c
+IsReply _ = Unit {0}

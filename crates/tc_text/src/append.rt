@@ -1,0 +1,34 @@
+//! Appending to a text.
+ghost use Rattle.std.specs.Prelude.{◌≡◌, ◌<◌, ◌++◌, OnOk, OnErr};
+ghost use Rattle.std.specs.Fmt.{decimal};
+
+use tc_entry::NoMemory;
+
+/// Appends the text. Where memory is refused, nothing is appended.
+pub fn append_text(out: &mut Vec<u8>, text: &str) -> Result<(), NoMemory>
+    ensures ok { OnOk result (out.new.items ≡ out.old.items ++ text.now) }
+    ensures err { OnErr result (out.new.items ≡ out.old.items) }
+{
+    out.extend_from_slice(text.as_bytes())?;
+    Ok(())
+}
+
+/// Appends the decimal digits of the number. Where memory is refused, nothing is appended.
+pub fn append_number(out: &mut Vec<u8>, number: u64) -> Result<(), NoMemory>
+    ensures ok { OnOk result (out.new.items ≡ out.old.items ++ decimal number) }
+    ensures err { OnErr result (out.new.items ≡ out.old.items) }
+{
+    let mut digits = [0u8; 20];
+    let mut start = 20;
+    let mut left = number;
+    while left >= 10 {
+        start -= 1;
+        digits[start] = b'0' + (left % 10) as u8;
+        left /= 10;
+    }
+    start -= 1;
+    digits[start] = b'0' + left as u8;
+    let (_, written) = digits.split_at(start);
+    out.extend_from_slice(written)?;
+    Ok(())
+}

@@ -1,0 +1,23 @@
+//! The texts of moves, replies and lists of moves, read and written exactly.
+#![tactic(auto)]
+
+mod append;
+mod cursor;
+mod fault;
+mod move_list;
+mod moves;
+mod number;
+mod operand;
+mod reply;
+mod verb;
+mod writing;
+
+pub use append::{append_number, append_text};
+pub use fault::{TextFault, TextKind};
+pub use move_list::{MoveList, read_moves};
+pub use moves::read_move;
+pub use reply::{read_reply, write_reply};
+pub use writing::write_move;
+
+#[cfg(test)]
+mod tests;

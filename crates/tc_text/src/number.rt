@@ -1,0 +1,64 @@
+//! Numbers in their one spelling: decimal digits with no leading zero.
+ghost use Rattle.std.specs.Prelude.{◌≡◌, ◌<◌, ◌≤◌, ◌+◌, ◌^◌, ◌++◌, ◌⊎◌, ℕ, List, true, false, length, drop, slice_index, Some, IfSome, IfNone, MatchOption};
+ghost use Rattle.std.specs.Fmt.{decimal};
+ghost use Rattle.tc_text.specs.Reading.{NoDigitFirst, EndsNumber};
+
+// The value of the digit at a place of the text, where there is one.
+#[inline(always)]
+fn digit_at(text: &[u8], place: usize) -> Option<u8>
+    ensures some { IfSome result (λ d. (place < length text.now) × (slice_index text.now place ≡ 48 + d) × (d ≤ 9)) }
+    ensures none { IfNone result (NoDigitFirst (drop place text.now)) }
+{
+    match text.get(place) {
+        Some(byte) if byte.is_ascii_digit() => Some(*byte - b'0'),
+        _ => None,
+    }
+}
+
+// Whether the digits are the spelling of a number: there are some, and nothing stands behind a leading zero.
+#[inline(always)]
+fn is_spelling(digits: &[u8]) -> bool
+    ensures some { result ≡ true → 0 < length digits.now }
+    ensures short { result ≡ true → slice_index digits.now 0 ≡ 48 → length digits.now ≤ 1 }
+    ensures wrong { result ≡ false → (length digits.now ≡ 0) ⊎ ((slice_index digits.now 0 ≡ 48) × (1 < length digits.now)) }
+{
+    match digits {
+        [] => false,
+        [b'0', _, ..] => false,
+        _ => true,
+    }
+}
+
+/// The number that the text begins with, and what stands behind it.
+#[inline(always)]
+pub(crate) fn take_number(text: &[u8]) -> Option<(u32, &[u8])>
+    ensures spelled { IfSome result (λ r. text.now ≡ decimal r.0 ++ r.1.now) }
+    ensures fits { IfSome result (λ r. r.0 < 2 ^ 32) }
+    ensures only { (n : ℕ) (rest : List ℕ) → n < 2 ^ 32 → EndsNumber rest → text.now ≡ decimal n ++ rest → MatchOption result ⊥ (λ r. (r.0 ≡ n) × (r.1.now ≡ rest)) }
+{
+    let mut number = 0u64;
+    let mut end = 0;
+    while let Some(digit) = digit_at(text, end) {
+        number = number * 10 + digit as u64;
+        if number > 4294967295 {
+            return None;
+        }
+        end += 1;
+    }
+    let (digits, rest) = text.split_at(end);
+    if is_spelling(digits) {
+        Some((number as u32, rest))
+    } else {
+        None
+    }
+}
+
+/// The number that the text spells. None where it spells none below 2^32.
+pub(crate) fn read_number(text: &[u8]) -> Option<u32>
+    ensures spelled { IfSome result (λ n. text.now ≡ decimal n) }
+    ensures fits { IfSome result (λ n. n < 2 ^ 32) }
+    ensures only { (n : ℕ) → n < 2 ^ 32 → text.now ≡ decimal n → result ≡ Some n }
+{
+    let (number, rest) = take_number(text)?;
+    if rest.is_empty() { Some(number) } else { None }
+}

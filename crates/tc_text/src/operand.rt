@@ -1,0 +1,166 @@
+//! What operations are about.
+ghost use Rattle.std.specs.Prelude.{◌≡◌, ◌<◌, ◌≤◌, ◌+◌, ◌^◌, ◌++◌, ℕ, Bool, List, length, IfSome, MatchOption};
+ghost use Rattle.tc_verdict.specs.UserVerdict.{given};
+ghost use Rattle.tc_verdict.specs.Verdict.{name_of};
+ghost use Rattle.tc_text.specs.Spelling.{group_text, target_text, args_text, IsGroup, IsTarget, IsOp, AreComps};
+ghost use Rattle.tc_text.specs.Reading.{EndsNumber, EndsMove, kind_text, start_text, verb_of, operand_text};
+ghost use Rattle.std.specs.Fmt.{decimal};
+ghost use Rattle.tc_verdict.specs.declared.user_verdict.UserVerdict.{UserVerdict as AnySetting};
+ghost use Rattle.tc_entry.specs.declared.op.Group.{Group as AnyGroup};
+ghost use Rattle.tc_entry.specs.declared.op.Target.{Target as AnyTarget};
+ghost use Rattle.tc_entry.specs.declared.op.Op.{Op as AnyOp};
+ghost use Rattle.tc_entry.specs.declared.op.Op.TheVariants.{Start as AnyStart};
+ghost use Rattle.tc_entry.specs.declared.comp.Comp.{Comp as AnyComp};
+ghost use Rattle.tc_verdict.specs.declared.run.Run.{Run as AnyRun};
+
+use crate::cursor::after;
+use crate::number::take_number;
+use crate::verb::{Verb, about};
+use tc_entry::{Args, Comp, Group, Op, Run, Target, UserVerdict};
+
+#[inline(always)]
+fn take_group(text: &[u8]) -> Option<(Group, &[u8])>
+    ensures spelled { IfSome result (λ r. text.now ≡ group_text r.0 ++ r.1.now) }
+    ensures fits { IfSome result (λ r. IsGroup r.0) }
+    ensures only { (g : AnyGroup) (rest : List ℕ) → IsGroup g → EndsNumber rest → text.now ≡ group_text g ++ rest → MatchOption result ⊥ (λ r. (r.0 ≡ g) × (r.1.now ≡ rest)) }
+{
+    if let Some((number, rest)) = take_number(text) {
+        return Some((Group::One(Comp(number)), rest));
+    }
+    let rest = after(text, b"all")?;
+    Some((Group::All, rest))
+}
+
+#[inline(always)]
+fn take_target(text: &[u8]) -> Option<(Target, &[u8])>
+    ensures spelled { IfSome result (λ r. text.now ≡ target_text r.0 ++ r.1.now) }
+    ensures fits { IfSome result (λ r. IsTarget r.0) }
+    ensures only { (t : AnyTarget) (rest : List ℕ) → IsTarget t → EndsNumber rest → text.now ≡ target_text t ++ rest → MatchOption result ⊥ (λ r. (r.0 ≡ t) × (r.1.now ≡ rest)) }
+{
+    if let Some((number, rest)) = take_number(text) {
+        return Some((Target::One(Comp(number)), rest));
+    }
+    if let Some(rest) = after(text, b"all") {
+        return Some((Target::All, rest));
+    }
+    let rest = after(text, b"any")?;
+    Some((Target::Any, rest))
+}
+
+#[inline(always)]
+fn take_setting(text: &[u8]) -> Option<(UserVerdict, &[u8])>
+    ensures spelled { IfSome result (λ r. text.now ≡ name_of (given r.0) ++ r.1.now) }
+    ensures only { (v : AnySetting) (rest : List ℕ) → text.now ≡ name_of (given v) ++ rest → MatchOption result ⊥ (λ r. (r.0 ≡ v) × (r.1.now ≡ rest)) }
+{
+    if let Some(rest) = after(text, b"none") {
+        Some((UserVerdict::None, rest))
+    } else if let Some(rest) = after(text, b"pass") {
+        Some((UserVerdict::Pass, rest))
+    } else if let Some(rest) = after(text, b"inconc") {
+        Some((UserVerdict::Inconc, rest))
+    } else if let Some(rest) = after(text, b"fail") {
+        Some((UserVerdict::Fail, rest))
+    } else {
+        None
+    }
+}
+
+/// The number of a run that the text begins with, and what stands behind it.
+#[inline(always)]
+pub(crate) fn take_run(text: &[u8]) -> Option<(Run, &[u8])>
+    ensures spelled { IfSome result (λ r. text.now ≡ decimal r.0.0 ++ r.1.now) }
+    ensures fits { IfSome result (λ r. r.0.0 < 2 ^ 16) }
+    ensures only { (n : ℕ) (rest : List ℕ) → n < 2 ^ 16 → EndsNumber rest → text.now ≡ decimal n ++ rest → MatchOption result ⊥ (λ r. (r.0.0 ≡ n) × (r.1.now ≡ rest)) }
+{
+    let (number, rest) = take_number(text)?;
+    match u16::try_from(number) {
+        Ok(number) => Some((Run(number), rest)),
+        Err(_) => None,
+    }
+}
+
+// Whether the component that is created is alive-type.
+#[inline(always)]
+fn take_kind(text: &[u8]) -> (bool, &[u8])
+    ensures spelled { text.now ≡ kind_text result.0 ++ result.1.now }
+    ensures only { (alive : Bool) (rest : List ℕ) → EndsMove rest → text.now ≡ kind_text alive ++ rest → (result.0 ≡ alive) × (result.1.now ≡ rest) }
+{
+    match after(text, b" alive") {
+        Some(rest) => (true, rest),
+        None => (false, text),
+    }
+}
+
+// Appends the components that the text begins with, each with a space in front, as far as there is room; gives what
+// stands behind them.
+fn take_args<'a>(args: &mut Args, text: &'a [u8]) -> &'a [u8]
+    ensures spelled { (cs : List AnyComp) × (args.new ≡ args.old ++ cs) × AreComps cs × (text.now ≡ args_text cs ++ result.now) }
+    ensures few { length args.old ≤ 4 → length args.new ≤ 4 }
+    ensures only { (cs : List AnyComp) (rest : List ℕ) → AreComps cs → length args.old + length cs ≤ 4 → EndsMove rest → text.now ≡ args_text cs ++ rest → (args.new ≡ args.old ++ cs) × (result.now ≡ rest) }
+{
+    let Some(rest) = after(text, b" ") else {
+        return text;
+    };
+    let Some((number, rest)) = take_number(rest) else {
+        return text;
+    };
+    if !args.push(Comp(number)) {
+        return text;
+    }
+    take_args(args, rest)
+}
+
+#[inline(always)]
+fn take_start(text: &[u8]) -> Option<(Op, &[u8])>
+    ensures spelled { IfSome result (λ r. (verb_of r.0 ≡ Verb.Start) × (text.now ≡ operand_text r.0 ++ r.1.now)) }
+    ensures fits { IfSome result (λ r. IsOp r.0) }
+    ensures only { (c : AnyComp) (run : AnyRun) (args : List AnyComp) (rest : List ℕ) → IsOp (AnyStart c run args) → EndsMove rest → text.now ≡ start_text c run args ++ rest → MatchOption result ⊥ (λ r. (r.0 ≡ AnyStart c run args) × (r.1.now ≡ rest)) }
+{
+    let (comp, rest) = take_number(text)?;
+    let rest = after(rest, b" ")?;
+    let (run, rest) = take_run(rest)?;
+    let mut args = Args::new();
+    let rest = take_args(&mut args, rest);
+    Some((
+        Op::Start {
+            comp: Comp(comp),
+            run,
+            args,
+        },
+        rest,
+    ))
+}
+
+/// The operation that begins with these words and goes on as the text begins, and what stands behind it.
+#[inline(always)]
+pub(crate) fn take_operand(verb: Verb, text: &[u8]) -> Option<(Op, &[u8])>
+    ensures spelled { IfSome result (λ r. (verb_of r.0 ≡ verb) × (text.now ≡ operand_text r.0 ++ r.1.now)) }
+    ensures fits { IfSome result (λ r. IsOp r.0) }
+    ensures only { (op : AnyOp) (rest : List ℕ) → verb_of op ≡ verb → IsOp op → EndsMove rest → text.now ≡ operand_text op ++ rest → MatchOption result ⊥ (λ r. (r.0 ≡ op) × (r.1.now ≡ rest)) }
+{
+    match verb {
+        Verb::Create => {
+            let (alive, rest) = take_kind(text);
+            Some((Op::Create { alive }, rest))
+        }
+        Verb::Start => take_start(text),
+        Verb::Stop => {
+            let (group, rest) = take_group(text)?;
+            Some((Op::Stop(group), rest))
+        }
+        Verb::Kill => {
+            let (group, rest) = take_group(text)?;
+            Some((Op::Kill(group), rest))
+        }
+        Verb::Status(status) => {
+            let (target, rest) = take_target(text)?;
+            Some((about(status, target), rest))
+        }
+        Verb::SetVerdict => {
+            let (setting, rest) = take_setting(text)?;
+            Some((Op::SetVerdict(setting), rest))
+        }
+        Verb::GetVerdict => Some((Op::GetVerdict, text)),
+        Verb::Finish => Some((Op::Finish, text)),
+    }
+}

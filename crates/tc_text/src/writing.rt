@@ -1,0 +1,115 @@
+//! Writing moves.
+ghost use Rattle.std.specs.Prelude.{◌≡◌, ◌++◌, codes, OnOk, OnErr};
+ghost use Rattle.std.specs.Io.{StartsWith};
+ghost use Rattle.tc_text.specs.Spelling.{move_text, op_text, group_text, target_text, args_text};
+
+use crate::append::{append_number, append_text};
+use tc_entry::{Comp, Group, NoMemory, Op, Run, Target};
+use tc_verdict::{from_user, name};
+
+// Appends the words, and then what the operation is about.
+fn append_group(out: &mut Vec<u8>, words: &str, group: Group) -> Result<(), NoMemory>
+    ensures ok { OnOk result (out.new.items ≡ out.old.items ++ (words.now ++ group_text group)) }
+    ensures err { OnErr result (StartsWith out.new.items out.old.items) }
+{
+    append_text(out, words)?;
+    match group {
+        Group::One(comp) => append_number(out, u64::from(comp.0)),
+        Group::All => append_text(out, "all"),
+    }
+}
+
+// Appends the words, and then what the operation is about.
+fn append_target(out: &mut Vec<u8>, words: &str, target: Target) -> Result<(), NoMemory>
+    ensures ok { OnOk result (out.new.items ≡ out.old.items ++ (words.now ++ target_text target)) }
+    ensures err { OnErr result (StartsWith out.new.items out.old.items) }
+{
+    append_text(out, words)?;
+    match target {
+        Target::One(comp) => append_number(out, u64::from(comp.0)),
+        Target::Any => append_text(out, "any"),
+        Target::All => append_text(out, "all"),
+    }
+}
+
+fn append_args(out: &mut Vec<u8>, args: &[Comp]) -> Result<(), NoMemory>
+    ensures ok { OnOk result (out.new.items ≡ out.old.items ++ args_text args.now) }
+    ensures err { OnErr result (StartsWith out.new.items out.old.items) }
+{
+    let Some((first, rest)) = args.split_first() else {
+        return Ok(());
+    };
+    append_text(out, " ")?;
+    append_number(out, u64::from(first.0))?;
+    append_args(out, rest)
+}
+
+// Appends a space and the operation; where memory is refused, a part of them.
+fn append_op(out: &mut Vec<u8>, op: &Op) -> Result<(), NoMemory>
+    ensures ok { OnOk result (out.new.items ≡ out.old.items ++ (codes " " ++ op_text op.now)) }
+    ensures err { OnErr result (StartsWith out.new.items out.old.items) }
+{
+    match op {
+        Op::Create { alive: false } => append_text(out, " create"),
+        Op::Create { alive: true } => append_text(out, " create alive"),
+        Op::Start { comp, run, args } => {
+            append_text(out, " start ")?;
+            append_number(out, u64::from(comp.0))?;
+            append_text(out, " ")?;
+            append_number(out, u64::from(run.0))?;
+            append_args(out, args.as_slice())
+        }
+        Op::Stop(group) => append_group(out, " stop ", *group),
+        Op::Kill(group) => append_group(out, " kill ", *group),
+        Op::Running(target) => append_target(out, " running ", *target),
+        Op::Alive(target) => append_target(out, " alive ", *target),
+        Op::Done(target) => append_target(out, " done ", *target),
+        Op::Killed(target) => append_target(out, " killed ", *target),
+        Op::Wait {
+            killed: false,
+            target,
+        } => append_target(out, " wait done ", *target),
+        Op::Wait {
+            killed: true,
+            target,
+        } => append_target(out, " wait killed ", *target),
+        Op::Wake {
+            killed: false,
+            target,
+        } => append_target(out, " wake done ", *target),
+        Op::Wake {
+            killed: true,
+            target,
+        } => append_target(out, " wake killed ", *target),
+        Op::SetVerdict(verdict) => {
+            append_text(out, " setverdict ")?;
+            append_text(out, name(from_user(*verdict)))
+        }
+        Op::GetVerdict => append_text(out, " getverdict"),
+        Op::Finish => append_text(out, " finish"),
+    }
+}
+
+// Appends the spelling of the move; where memory is refused, a part of it.
+fn append_move(out: &mut Vec<u8>, caller: Run, op: &Op) -> Result<(), NoMemory>
+    ensures ok { OnOk result (out.new.items ≡ out.old.items ++ move_text caller.0 op.now) }
+    ensures err { OnErr result (StartsWith out.new.items out.old.items) }
+{
+    append_number(out, u64::from(caller.0))?;
+    append_op(out, op)
+}
+
+/// Appends the spelling of the move. Where memory is refused, nothing is appended.
+pub fn write_move(out: &mut Vec<u8>, caller: Run, op: &Op) -> Result<(), NoMemory>
+    ensures ok { OnOk result (out.new.items ≡ out.old.items ++ move_text caller.0 op.now) }
+    ensures err { OnErr result (out.new.items ≡ out.old.items) }
+{
+    let start = out.len();
+    match append_move(out, caller, op) {
+        Ok(()) => Ok(()),
+        Err(error) => {
+            out.truncate(start);
+            Err(error)
+        }
+    }
+}

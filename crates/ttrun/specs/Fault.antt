@@ -1,0 +1,44 @@
+-- The faults of the program: what each says of the input and the output, and its line on standard error.
+use Rattle.std.specs.Prelude.{ℕ, ◌<◌, List, [], ◌∷◌, ◌++◌, Option, IfSome, length, codes}
+use Rattle.std.specs.Fmt.{decimal}
+use Rattle.std.specs.Io.KnownBytes.{Keeps}
+use Rattle.tc_stream.specs.declared.input.InputFault.{InputFault}
+use Rattle.tc_stream.specs.declared.input.InputFault.TheVariants as I
+use Rattle.tc_text.specs.declared.fault.TextFault.{TextFault}
+use Rattle.tc_text.specs.declared.fault.TextFault.TheVariants as T
+use Rattle.tc_text.specs.MoveList.{IsListFault}
+use Rattle.tc_text.specs.TextKind.{kind_text}
+use Rattle.ttrun.specs.declared.fault.RunFault.{RunFault}
+use Rattle.ttrun.specs.declared.fault.RunFault.TheVariants as F
+use Rattle.ttrun.specs.Output.{WritesPrefix}
+
+-- the fault for an input that could not be read whole
+abbrev pub of_input : InputFault → RunFault
+of_input I.TooLong = F.TooLong
+of_input I.Read = F.Read
+of_input I.NoMemory = F.NoMemory
+
+-- what a fault of a command says: of an input of at most so many bytes, and of the output
+abbrev pub Refuses : (List ℕ → List ℕ → ℕ → Type 0) → ℕ → Option (List ℕ) → Option (List ℕ) → Option (List ℕ) → RunFault → Type 0
+Refuses Gives limit input before after F.TooLong = Keeps before after × IfSome input (λ text. limit < length text)
+Refuses Gives limit input before after F.Read = Keeps before after
+Refuses Gives limit input before after F.Write = WritesPrefix Gives input before after
+Refuses Gives limit input before after F.NoMemory = Keeps before after
+Refuses Gives limit input before after (F.Text fault) = Keeps before after × IfSome input (λ text. IsListFault text fault)
+
+-- the text of a fault that a text has
+abbrev pub text_fault_text : TextFault → List ℕ
+text_fault_text (T.At line kind) = codes "line " ++ (decimal line ++ (codes ": " ++ kind_text kind))
+text_fault_text T.NoMemory = codes "no memory"
+
+-- the text of a fault
+abbrev pub fault_text : RunFault → List ℕ
+fault_text F.TooLong = codes "input too long"
+fault_text F.Read = codes "read fault"
+fault_text F.Write = codes "write fault"
+fault_text F.NoMemory = codes "no memory"
+fault_text (F.Text fault) = text_fault_text fault
+
+-- the line on standard error
+abbrev pub line_of : RunFault → List ℕ
+line_of fault = codes "ttrun: " ++ (fault_text fault ++ (10 ∷ []))

@@ -1,0 +1,4 @@
+pub mod Status
+pub mod Replay
+pub mod Fault
+pub mod Output
