@@ -1,8 +1,6 @@
 -- What one more answer does to the answers of a hand.
-use Rattle.std.proofs.Common.{◌≡◌, ◌≢◌, ◌⊎◌, ℕ, ◌+◌, ◌<◌, Bool, true, false, if◌then◌else◌, nat_lt, List, [], ◌∷◌, ◌++◌, length, map, take, inl, inr, refl, sym, ap, ◌∙◌, subst, ⊎_elim, arith, Some}
-use Rattle.std.specs.Prelude.{slice_get}
+use Rattle.std.proofs.Common.{◌≡◌, ◌≢◌, ◌⊎◌, ℕ, Bool, true, false, if◌then◌else◌, nat_lt, List, [], ◌∷◌, ◌++◌, map, refl, sym, ap, ◌∙◌, subst, ⊎_elim, arith}
 use Rattle.std.proofs.lemmas.List.{take-append-le, take_at, append-nil}
-use Rattle.tc_verdict.specs.declared.verdict.Verdict.{Verdict}
 use Rattle.tc_verdict.specs.declared.user_verdict.UserVerdict.{UserVerdict}
 use Rattle.tc_verdict.specs.declared.user_verdict.UserVerdict.TheVariants as U
 use Rattle.tc_verdict.specs.Verdict.{level_of, worse, worst}

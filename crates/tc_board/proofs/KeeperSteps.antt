@@ -1,5 +1,5 @@
 -- The steps of the keeper keep the rule: open, close, the look at a word, and taking back a hand.
-use Rattle.std.proofs.Common.{◌≡◌, ◌≢◌, ℕ, ◌+◌, ◌<◌, true, List, [], ◌∷◌, ◌++◌, map, length, set, get_or, refl, sym, ap, ◌∙◌, subst, ⊎_elim, arith, bit_or, length-set, Contains}
+use Rattle.std.proofs.Common.{◌≡◌, ℕ, ◌+◌, ◌<◌, true, List, [], ◌∷◌, ◌++◌, length, set, get_or, refl, sym, ap, ◌∙◌, subst, ⊎_elim, bit_or, length-set, Contains}
 use Rattle.std.specs.Prelude.{slice_get, Some}
 use Rattle.std.proofs.lemmas.List.{map-set, set-get_or}
 use mathlib.Core.Option.{none, some, some-injective, some-ne-none}
@@ -12,7 +12,6 @@ use Rattle.tc_verdict.specs.UserVerdict.{given, rank_of}
 use Rattle.atomic_table.specs.Table.{step, keeps, stepped, Allows, Joins}
 use Rattle.atomic_table.proofs.Lists.{at_longer, at_set, set_here, set_else, set_again, at_map, at_last}
 use Rattle.tc_board.specs.declared.answer.Answer.{Answer}
-use Rattle.tc_board.specs.declared.answer.Answer.TheVariants.{Found, Shut}
 use Rattle.tc_board.specs.declared.answer.AnswerList.{AnswerList}
 use Rattle.tc_board.specs.declared.record.Record.{Record}
 use Rattle.tc_board.specs.declared.record.Record.TheVariants.{Unbegun, Open, Closed}

@@ -1,15 +1,13 @@
 -- The numbers in the words.
-use Rattle.std.proofs.Common.{◌≡◌, ℕ, zero, suc, ◌+◌, ◌<◌, ◌==◌, if◌then◌else◌, nat_lt, true, false, List, [], ◌∷◌, map, Some, IfSome, refl, sym, ap, ◌∙◌, arith, max, bit_or}
+use Rattle.std.proofs.Common.{◌≡◌, ℕ, zero, suc, ◌+◌, ◌<◌, ◌==◌, if◌then◌else◌, nat_lt, true, false, Some, IfSome, refl, sym, ap, ◌∙◌, arith, max, bit_or}
 use Rattle.std.specs.Prelude.{Option, None as nothing}
 use Rattle.std.proofs.lemmas.Bool.Decides.{nat_tests}
 use Rattle.tc_verdict.specs.declared.verdict.Verdict.{Verdict}
-use Rattle.tc_verdict.specs.declared.verdict.Verdict.TheVariants as V
 use Rattle.tc_verdict.specs.declared.user_verdict.UserVerdict.{UserVerdict}
 use Rattle.tc_verdict.specs.declared.user_verdict.UserVerdict.TheVariants.{None, Pass, Inconc, Fail}
-use Rattle.tc_verdict.specs.Verdict.{level_of, worse, worst}
+use Rattle.tc_verdict.specs.Verdict.{level_of, worse}
 use Rattle.tc_verdict.specs.UserVerdict.{given, rank_of}
 use Rattle.tc_verdict.proofs.Order.{level-worse}
-use Rattle.tc_board.specs.declared.answer.Answer.{Answer}
 use Rattle.tc_board.specs.declared.answer.Answer.TheVariants.{Taken, Found, Shut}
 use Rattle.tc_board.specs.Hand.{answer_to_get}
 use Rattle.tc_board.specs.Inside.Steps.{verdict_of, set_answer, get_answer}

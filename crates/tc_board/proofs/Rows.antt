@@ -1,5 +1,5 @@
 -- The rule of the table where one row changes: what the other rows, words and seats keep.
-use Rattle.std.proofs.Common.{◌≡◌, ◌≢◌, ℕ, zero, suc, ◌+◌, ◌<◌, true, false, true≢false, List, [], ◌∷◌, ◌++◌, map, length, set, get_or, refl, sym, ap, ◌∙◌, subst, ⊎_elim, arith, get_or-set_same, get_or-set_other}
+use Rattle.std.proofs.Common.{◌≡◌, ◌≢◌, ℕ, zero, suc, ◌<◌, true, false, true≢false, List, [], ◌∷◌, map, length, set, get_or, refl, sym, ap, ◌∙◌, subst, ⊎_elim, arith, get_or-set_same, get_or-set_other}
 use Rattle.std.proofs.lemmas.List.{map-set}
 use mathlib.Core.Option.{some, some-injective, some-ne-none}
 use native.Mathlib.Decide.{ℕ_discrete}
@@ -15,6 +15,7 @@ use Rattle.tc_board.specs.Inside.Seats.{list, hand_view}
 use Rattle.tc_board.specs.Inside.Table.{Row, row, record_of, IsAt, Knows, Stands, Holds}
 use Rattle.tc_board.proofs.Lookup.{at_length}
 
+-- a board's table as plain data
 abbrev pub Board : Type 0
 Board = State (Unit {0}) View
 

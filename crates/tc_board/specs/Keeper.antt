@@ -19,6 +19,7 @@ pub record KeeperView : Type 0 where
 abbrev pub IsOpen : List Record → ℕ → Type 0
 IsOpen records run = (carried : UserVerdict) × (slice_get records run ≡ Some (Open carried))
 
+-- the verdict that a word was begun with, by its record: none where it was not begun
 abbrev pub carried_in : Option Record → UserVerdict
 carried_in (Some (Open carried)) = carried
 carried_in (Some (Closed carried counted)) = carried

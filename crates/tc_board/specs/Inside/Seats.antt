@@ -6,6 +6,7 @@ use Rattle.tc_board.specs.declared.record.Record.{Record}
 use Rattle.tc_board.specs.declared.rule.View.{View}
 use Rattle.tc_board.specs.Board.{first_answers, first_records}
 
+-- the answers of the hand of a run
 abbrev pub list : ℕ → List Answer → AnswerList
 list run answers = record { run = run; answers = answers }
 
@@ -35,21 +36,24 @@ first_lists run (suc n) = list run (first_answers run) ∷ first_lists (suc run)
 abbrev pub opening_view : ℕ → View
 opening_view n = keeper_view (first_records 0 n) (first_lists 0 n)
 
--- a hand is split off: it has the first list, and the keeper the others
+-- the first of these lists, alone
 abbrev pub first_list : List AnswerList → List AnswerList
 first_list [] = []
 first_list (l ∷ ls) = l ∷ []
 
+-- and the others
 abbrev pub other_lists : List AnswerList → List AnswerList
 other_lists [] = []
 other_lists (l ∷ ls) = ls
 
+-- the view of a hand that is split off: the first list
 abbrev pub split_off : View → View
 split_off v = record { lists = first_list v.lists; is_keeper = false; records = [] }
 
+-- and what the keeper's seat is left with
 abbrev pub left_over : View → View
 left_over v = record v { lists = other_lists v.lists }
 
--- a hand is taken back
+-- the keeper's view once it took back a hand
 abbrev pub taken_back : View → View → View
 taken_back v w = record v { lists = v.lists ++ w.lists }

@@ -21,6 +21,7 @@ use Rattle.tc_board.specs.Inside.Seats.{answers_of}
 abbrev pub Seated : Type 0
 Seated = Me (Unit {0}) View
 
+-- the step: its word and its operand
 abbrev At : Type 0
 At = Step (Unit {0})
 
@@ -28,6 +29,7 @@ At = Step (Unit {0})
 abbrev pub verdict_of : ℕ → UserVerdict
 verdict_of n = if n == 0 then None else (if n == 1 then Pass else (if n == 2 then Inconc else Fail))
 
+-- the first list with one more answer
 abbrev pub add_answer : List AnswerList → Answer → List AnswerList
 add_answer [] x = []
 add_answer (l ∷ ls) x = record l { answers = l.answers ++ x ∷ [] } ∷ ls
@@ -48,9 +50,11 @@ set_answer v found = if nat_lt found 8 then Taken v else Shut
 abbrev pub get_answer : ℕ → Answer
 get_answer found = if nat_lt found 4 then Found (verdict_of found) else Shut
 
+-- a setting adds its answer
 abbrev pub was_set : At → Seated → ℕ → Seated → Type 0
 was_set st m found m' = m' ≡ (with_answer m.0 (set_answer (verdict_of st.first) found), m.1)
 
+-- so does a get
 abbrev pub was_got : At → Seated → ℕ → Seated → Type 0
 was_got st m found m' = m' ≡ (with_answer m.0 (get_answer found), m.1)
 
@@ -58,6 +62,7 @@ was_got st m found m' = m' ≡ (with_answer m.0 (get_answer found), m.1)
 abbrev pub was_met : At → Seated → ℕ → Seated → Type 0
 was_met st m found m' = (m' ≡ ((if found == 16 then m.0 else with_answer m.0 Met), m.1)) × (found ≡ 16 → answers_of m.0.lists ≡ [])
 
+-- the record becomes open, with the verdict that was stored
 abbrev pub was_opened : At → Seated → ℕ → Seated → Type 0
 was_opened st m found m' = m' ≡ (with_record m.0 st.word (Open (verdict_of st.first)), m.1)
 
@@ -65,6 +70,7 @@ was_opened st m found m' = m' ≡ (with_record m.0 st.word (Open (verdict_of st.
 abbrev pub Counts : At → Seated → ℕ → Type 0
 Counts st m found = (p : ℕ) (l : AnswerList) → get_elem? m.0.lists p ≡ some l → l.run ≡ st.word → given (verdict_of found) ≡ worst_of (carried_by m.0.records st.word) l.answers
 
+-- the record becomes closed, with the verdict that was found
 abbrev pub was_closed : At → Seated → ℕ → Seated → Type 0
 was_closed st m found m' = (m' ≡ (with_record m.0 st.word (Closed (carried_by m.0.records st.word) (verdict_of found)), m.1)) × (found < 4) × Counts st m found
 

@@ -16,9 +16,11 @@ pub record Row : Type 0 where
   pub answers : List Answer
   pub seat : ℕ
 
+-- the row of these three
 abbrev pub row : Record → List Answer → ℕ → Row
 row r answers seat = record { record_is = r; answers = answers; seat = seat }
 
+-- the record of a row
 abbrev pub record_of : Row → Record
 record_of r = r.record_is
 

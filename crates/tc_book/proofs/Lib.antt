@@ -1,0 +1,8 @@
+pub mod Totals
+pub mod Keeping
+pub mod Suits
+pub mod Starting
+pub mod Parts
+pub mod Numbered
+pub mod Sums
+pub mod Reporting

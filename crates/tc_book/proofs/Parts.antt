@@ -1,0 +1,47 @@
+-- The part of a history by a run, and what a run left.
+use Rattle.std.proofs.Common.{◌≡◌, ◌↔◌, ℕ, ◌==◌, if◌then◌else◌, option_map, Bool, true, false, Option, Some, None, List, [], ◌∷◌, eq-eqb, refl, sym, ap, ◌∙◌}
+use Rattle.tc_entry.specs.declared.comp.Comp.{Comp}
+use Rattle.tc_entry.specs.declared.entry.Entry.{Entry}
+use Rattle.tc_entry.specs.declared.op.Op.{Op}
+use Rattle.tc_entry.specs.declared.op.Op.TheVariants as O
+use Rattle.tc_table.specs.History.{comp_of, first_some, is_ok, starts_run}
+use Rattle.tc_book.specs.Starts.{starts_with, start_of}
+use Rattle.tc_book.specs.Inside.{comp_by}
+use Rattle.tc_book.specs.Parts.{part}
+use Rattle.tc_book.specs.Inside.{start_at, KnowsStarts}
+
+pub part_hit : (h more : List Entry) (e f : Entry) (b : ℕ) → e.caller.0 ≡ b → f ≡ e → (f ∷ more ≡ part (e ∷ h) b) ↔ (more ≡ part h b)
+unfolding part
+part_hit h more e f b mine same =
+    let test : (e.caller.0 == b) ≡ true = eq-eqb e.caller.0 b mine in
+    rw test ((λ q. cc), (λ q. cc))
+
+with_comp : (op : Op) (b : ℕ) → starts_run op b ≡ option_map (λ s. s.0) (starts_with op b)
+with_comp (O.Start c run args) b = by_test (run.0 == b)
+  where
+    by_test : (t : Bool) → (if t then Some c else None) ≡ option_map (λ s. s.0) (if t then Some (let s : Comp × List Comp = (c, args) in s) else None)
+    by_test true = refl
+    by_test false = refl
+with_comp _ b = refl
+
+-- the component of a run is that of its start
+pub comp_is : (past : List Entry) (b : ℕ) → comp_of past b ≡ comp_by b (start_of past b)
+comp_is [] b = by_test (b == 0)
+  where
+    by_test : (t : Bool) → (if t then Some (let z : Comp = record { 0 = 0 } in z) else None) ≡ (if t then Some (record { 0 = 0 }) else None)
+    by_test true = refl
+    by_test false = refl
+comp_is (e ∷ past) b =
+    ap (λ o. first_some o (if is_ok e.reply then starts_run e.op b else None)) (comp_is past b)
+    ∙ by_test (b == 0) (is_ok e.reply) (start_of past b) (starts_with e.op b) (starts_run e.op b) (with_comp e.op b)
+  where
+    by_test : (t ok : Bool) (before now : Option (Comp × List Comp)) (comp : Option Comp) → comp ≡ option_map (λ s. s.0) now →
+        first_some (if t then Some (record { 0 = 0 }) else option_map (λ s. s.0) before) (if ok then comp else None)
+        ≡ (if t then Some (record { 0 = 0 }) else option_map (λ s. s.0) (first_some before (if ok then now else None)))
+    by_test true ok before now comp h = refl
+    by_test false ok (Some x) now comp h = refl
+    by_test false true None now comp h = h
+    by_test false false None now comp h = refl
+
+pub comp_known : (starts : List (Option (Comp × List Comp))) (past : List Entry) (b : ℕ) → KnowsStarts starts past → comp_by b (start_at starts b) ≡ comp_of past b
+comp_known starts past b known = ap (comp_by b) (known b) ∙ sym (comp_is past b)

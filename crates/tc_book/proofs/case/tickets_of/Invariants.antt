@@ -1,0 +1,7 @@
+use Rattle.std.proofs.Common.{◌≡◌, ℕ, ◌<◌, ◌+◌, length, get_or}
+use Rattle.tc_verdict.specs.declared.run.Run.{Run}
+use Rattle.tc_book.proofs.case.tickets_of.Given as goal
+
+-- the tickets so far are those of the runs below k
+abbrev pub invariant-loop-k : goal.invariant-loop-k
+invariant-loop-k l = (length l.tickets.items + 1 ≡ l.k) × ((j : ℕ) (d : Run) → j + 1 < l.k → (get_or l.tickets.items j d).0 ≡ j + 1)

@@ -1,0 +1,50 @@
+-- What only the way a book is kept needs: no public clause names a word of this file.
+use Rattle.std.specs.Prelude.{ℕ, ◌≡◌, ◌+◌, ◌≤◌, ◌<◌, ◌==◌, Bool, if◌then◌else◌, option_map, Option, Some, None, List, length, sum_by, slice_index_or}
+use Rattle.tc_entry.specs.declared.comp.Comp.{Comp}
+use Rattle.tc_entry.specs.declared.entry.Entry.{Entry}
+use Rattle.tc_entry.specs.declared.op.Op.{Op}
+use Rattle.tc_entry.specs.declared.op.Op.TheVariants as O
+use Rattle.tc_entry.specs.declared.reply.Reply.{Reply}
+use Rattle.tc_entry.specs.declared.reply.Reply.TheVariants as R
+use Rattle.tc_book.specs.declared.places.Places.{Places}
+use Rattle.tc_table.specs.Legal.{IsLegal}
+use Rattle.tc_book.specs.Starts.{start_of}
+
+abbrev pub one_if : Bool → ℕ
+one_if b = if b then 1 else 0
+
+-- how many places are kept for one run
+abbrev pub size_of : Places → ℕ
+size_of p = one_if p.leave + one_if p.wake
+
+-- how many places are kept
+abbrev pub total : List Places → ℕ
+total ps = sum_by size_of ps
+
+-- what a list of starts has for run b
+abbrev pub start_at : List (Option (Comp × List Comp)) → ℕ → Option (Comp × List Comp)
+start_at starts b = slice_index_or starts b None
+
+-- the list has what each run was started with
+abbrev pub KnowsStarts : List (Option (Comp × List Comp)) → List Entry → Type 0
+KnowsStarts starts past = (b : ℕ) → start_at starts b ≡ start_of past b
+
+-- a run that is started by this call is one of the first n
+abbrev pub StartsBelow : Op → Reply → ℕ → Type 0
+StartsBelow (O.Start c run args) R.Ok n = run.0 < n
+StartsBelow _ _ n = Unit {0}
+
+-- the component of run b, by what it was started with: the main component runs run 0 from the opening
+abbrev pub comp_by : ℕ → Option (Comp × List Comp) → Option Comp
+comp_by b start = if b == 0 then Some (record { 0 = 0 }) else option_map (λ s. s.0) start
+
+-- what a book keeps: its history is legal, what it knows of starts is the history's, and there is room for every place
+pub record IsKept (n : ℕ) (past : List Entry) (starts : List (Option (Comp × List Comp))) (places : List Places) (count room : ℕ) : Type 0 where
+  pub some : 1 ≤ n
+  pub few : n ≤ 64
+  pub legal : IsLegal n past
+  pub as_many_starts : length starts ≡ n
+  pub each_start : KnowsStarts starts past
+  pub few_places : length places ≤ 64
+  pub counted : count ≡ total places
+  pub covered : count ≤ room

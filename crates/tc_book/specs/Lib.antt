@@ -1,0 +1,8 @@
+pub mod Replies
+pub mod Starts
+pub mod OpenCase
+pub mod Passes
+pub mod Parts
+pub mod Report
+pub mod Closing
+pub mod Inside

@@ -1,0 +1,56 @@
+-- Which replies an operation can get.
+use Rattle.std.specs.Prelude.{Bool, true, false}
+use Rattle.tc_entry.specs.declared.op.Op.{Op}
+use Rattle.tc_entry.specs.declared.op.Op.TheVariants as O
+use Rattle.tc_entry.specs.declared.reply.Reply.{Reply}
+use Rattle.tc_entry.specs.declared.reply.Reply.TheVariants as R
+
+-- the reply is Ended, or a dynamic error
+abbrev pub is_halt : Reply → Bool
+is_halt R.Ended = true
+is_halt (R.Fault f) = true
+is_halt _ = false
+
+abbrev pub is_parked : Reply → Bool
+is_parked R.Parked = true
+is_parked _ = false
+
+abbrev pub is_made : Reply → Bool
+is_made (R.Made c) = true
+is_made _ = false
+
+abbrev pub is_answer : Reply → Bool
+is_answer (R.Answer b) = true
+is_answer _ = false
+
+abbrev pub is_local : Reply → Bool
+is_local (R.Local v) = true
+is_local _ = false
+
+abbrev pub is_plain_ok : Reply → Bool
+is_plain_ok R.Ok = true
+is_plain_ok _ = false
+
+-- the target of a wait holds, or not yet
+abbrev pub is_of_wait : Reply → Bool
+is_of_wait R.Matched = true
+is_of_wait R.Parked = true
+is_of_wait _ = false
+
+-- the reply is of the kind that the operation gets where it is neither Ended nor an error
+abbrev pub suits_plainly : Op → Reply → Bool
+suits_plainly (O.Create a) r = is_made r
+suits_plainly (O.Running t) r = is_answer r
+suits_plainly (O.Alive t) r = is_answer r
+suits_plainly (O.Done t) r = is_answer r
+suits_plainly (O.Killed t) r = is_answer r
+suits_plainly (O.Wait k t) r = is_of_wait r
+suits_plainly (O.Wake k t) r = is_of_wait r
+suits_plainly O.GetVerdict r = is_local r
+suits_plainly _ r = is_plain_ok r
+
+-- the operation can get this reply
+abbrev pub suits : Op → Reply → Bool
+suits op R.Ended = true
+suits op (R.Fault f) = true
+suits op r = suits_plainly op r

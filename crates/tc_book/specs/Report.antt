@@ -1,0 +1,38 @@
+-- What a closed case reports: one history of one thread.
+use Rattle.std.specs.Prelude.{ℕ, ◌≡◌, ◌++◌, [], true, None, List, length, reverse, map}
+use Rattle.std.specs.List.{range_with_len}
+use Rattle.tc_verdict.specs.Verdict.{worst}
+use Rattle.tc_entry.specs.declared.entry.Entry.{Entry}
+use Rattle.tc_table.specs.History.{comps, comp_of, is_over}
+use Rattle.tc_table.specs.Local.{local, overall}
+use Rattle.tc_table.specs.Legal.{IsLegal, IsAllOver}
+use Rattle.tc_book.specs.declared.closed.Closed.{Closed}
+use Rattle.tc_book.specs.Parts.{part, logs_below, logged}
+
+-- the entries of a closed case, the newest first
+abbrev pub past_of_closed : Closed → List Entry
+past_of_closed c = reverse c.history
+
+-- The report is one history of one thread. It holds every call that the runs made, each once and in its caller's order,
+-- with the reply that the component table gives at that point; once an entry has ended the case no component is alive;
+-- and the verdict is the worst of the local verdicts.
+pub record IsOneHistory (c : Closed) : Type 0 where
+  -- each reply is the component table's, by the calls before it
+  pub legal : IsLegal c.behaviours (past_of_closed c)
+  -- there is a log of each run that was started, in the order of the runs, with its component, and it is the run's part of the history
+  pub logs : c.logs ≡ logs_below c.history c.behaviours
+  -- the history is as long as these logs together
+  pub as_long : length c.history ≡ logged c.logs
+  -- a run that was never started made no call
+  pub no_others : (b : ℕ) → comp_of (past_of_closed c) b ≡ None → part c.history b ≡ []
+  -- some entry ended the case
+  pub over : is_over (past_of_closed c) ≡ true
+  -- from the first such entry on every component is killed, and every call is answered Ended
+  pub none_alive : (later earlier : List Entry) → past_of_closed c ≡ later ++ earlier → is_over earlier ≡ true → IsAllOver c.behaviours earlier
+  -- the components are numbered from 0 on
+  pub numbered : comps (past_of_closed c) ≡ range_with_len 0 (length c.locals)
+  -- the local verdict of each component
+  pub locals : c.locals ≡ map (local (past_of_closed c)) (comps (past_of_closed c))
+  -- the overall verdict, which is the worst of them
+  pub verdict : c.verdict ≡ overall (past_of_closed c)
+  pub worst_of_locals : c.verdict ≡ worst c.locals

@@ -1,0 +1,161 @@
+//! What the lock of a case holds.
+ghost use Rattle.std.specs.Prelude.{◌≡◌, ◌≤◌, ◌≢◌, [], Some, None, if◌then◌else◌, IfOk, OnErr, OnOk, IfSome, IfNone, OnSome, IsTrue, IsFalse, MatchOption, true, replicate, set};
+ghost use Rattle.tc_entry.specs.declared.op.Op.TheVariants as ops;
+ghost use Rattle.tc_entry.specs.declared.reply.Reply.TheVariants as replies;
+ghost use Rattle.tc_table.specs.History as history;
+ghost use Rattle.tc_book.specs.OpenCase.{past_of, reply_to, with_entry, places_at, with_wake, without_wake, without_leave, opening_place};
+ghost use Rattle.tc_book.specs.Replies.{suits, is_parked};
+ghost use Rattle.tc_book.specs.Starts as starts;
+
+mod closing;
+
+use crate::places::{Places, places_of, put};
+use crate::starts::{no_starts, note_start, start_of};
+use std::alloc::Global;
+use std::marker::Model;
+use tc_entry::{Args, Comp, Op, Reply, Target};
+use tc_table::Table;
+use tc_verdict::{NoMemory, Run};
+
+/// What the lock of a case holds: the component table with its history, what each run was started with,
+/// and the places in the history that are kept for each run.
+///
+/// Contracts see the number of behaviours, the history and the places.
+#[derive(Drop)]
+pub struct Book {
+    table: Table,
+    starts: Vec<Option<(Comp, Args)>>,
+    places: Vec<Places>,
+    count: usize,
+}
+
+impl Model for Book {
+    ghost use Rattle.std.specs.Prelude.{reverse};
+    ghost use Rattle.tc_book.specs.OpenCase.{OpenCase};
+    ghost use Rattle.tc_book.specs.Inside.{IsKept};
+
+    ghost Value = { OpenCase };
+
+    ghost view = { λ b. record { behaviours = b.table.behaviours; history = b.table.history; places = b.places.items } };
+
+    ghost invariant = { λ b. IsKept b.table.behaviours (reverse b.table.history) b.starts.items b.places.items b.count b.table.room };
+}
+
+#[tactic(auto, using(crate::proofs::Keeping::book_rules))]
+impl Book {
+    /// The book of a case at its opening, which keeps a place for each run.
+    pub fn new(alloc: Global, behaviours: u16) -> Result<Book, NoMemory>
+        requires some { 1 ≤ behaviours }
+        requires few { behaviours ≤ 64 }
+        ensures behaviours { IfOk result (λ b. b.behaviours ≡ behaviours) }
+        ensures opening { IfOk result (λ b. b.history ≡ []) }
+        ensures places { IfOk result (λ b. b.places ≡ replicate behaviours opening_place) }
+    {
+        let mut table = Table::new(alloc, behaviours)?;
+        let count = usize::from(behaviours);
+        table.make_room(count)?;
+        let starts = no_starts(alloc, behaviours)?;
+        let opening = Places {
+            leave: true,
+            wake: false,
+        };
+        let places = vec![in alloc; opening; count]?;
+        Ok(Book {
+            table,
+            starts,
+            places,
+            count,
+        })
+    }
+
+    /// Adds a call to the history, and answers its reply.
+    pub fn record(&mut self, run: Run, op: Op) -> Result<Reply, NoMemory>
+        ensures behaviours { self.new.behaviours ≡ self.old.behaviours }
+        ensures reply { IfOk result (λ r. r ≡ reply_to self.old run op) }
+        ensures suits { IfOk result (λ r. suits op r ≡ true) }
+        ensures history { IfOk result (λ r. self.new.history ≡ with_entry self.old run op r) }
+        ensures places { IfOk result (λ r. self.new.places ≡ (if is_parked r then set self.old.places run.0 (with_wake (places_at self.old.places run)) else self.old.places)) }
+        ensures refused { OnErr result (self.new ≡ self.old) }
+    {
+        self.table.make_room(self.count + 2)?;
+        let reply = self.table.play(run, op.copy())?;
+        note_start(&mut self.starts, op, reply);
+        if matches!(reply, Reply::Parked) {
+            let now = Places {
+                leave: places_of(&self.places, run).leave,
+                wake: true,
+            };
+            self.count = put(&mut self.places, self.count, run, now);
+        }
+        Ok(reply)
+    }
+
+    /// Adds the Wake of a parked wait, unless it would be parked again or no place is kept for it.
+    pub fn wake(&mut self, run: Run, killed: bool, target: Target) -> Option<Reply>
+        ensures behaviours { self.new.behaviours ≡ self.old.behaviours }
+        ensures none { IfNone result (self.new ≡ self.old) }
+        ensures asleep { IfNone result (IsTrue (places_at self.old.places run).wake → reply_to self.old run (ops.Wake killed target) ≡ replies.Parked) }
+        ensures awake { IfSome result (λ r. IsTrue (places_at self.old.places run).wake × (r ≢ replies.Parked)) }
+        ensures reply { IfSome result (λ r. r ≡ reply_to self.old run (ops.Wake killed target)) }
+        ensures suits { IfSome result (λ r. suits (ops.Wake killed target) r ≡ true) }
+        ensures history { IfSome result (λ r. self.new.history ≡ with_entry self.old run (ops.Wake killed target) r) }
+        ensures places { OnSome result (self.new.places ≡ set self.old.places run.0 (without_wake (places_at self.old.places run))) }
+    {
+        let was = places_of(&self.places, run);
+        let op = Op::Wake { killed, target };
+        if !was.wake || matches!(self.table.would(run, &op), Reply::Parked) {
+            return None;
+        }
+        let Ok(reply) = self.table.play(run, op) else {
+            unreachable!()
+        };
+        let now = Places {
+            leave: was.leave,
+            wake: false,
+        };
+        self.count = put(&mut self.places, self.count, run, now);
+        Some(reply)
+    }
+
+    /// Gives up a run's place for its leaving, and where its pass has not ended adds its Finish.
+    pub fn leave(&mut self, run: Run, ended: bool) -> Option<Option<Reply>>
+        ensures behaviours { self.new.behaviours ≡ self.old.behaviours }
+        ensures none { IfNone result ((self.new ≡ self.old) × IsFalse (places_at self.old.places run).leave) }
+        ensures places { OnSome result (IsTrue (places_at self.old.places run).leave × (self.new.places ≡ set self.old.places run.0 (without_leave (places_at self.old.places run)))) }
+        ensures quiet { IfSome result (λ r. IfNone r (IsTrue ended × (self.new.history ≡ self.old.history))) }
+        ensures finish { IfSome result (λ f. IfSome f (λ r. IsFalse ended × (r ≡ reply_to self.old run ops.Finish) × (self.new.history ≡ with_entry self.old run ops.Finish r))) }
+    {
+        let was = places_of(&self.places, run);
+        if !was.leave {
+            return None;
+        }
+        let reply = if ended {
+            None
+        } else {
+            let Ok(reply) = self.table.play(run, Op::Finish) else {
+                unreachable!()
+            };
+            Some(reply)
+        };
+        let now = Places {
+            leave: false,
+            wake: was.wake,
+        };
+        self.count = put(&mut self.places, self.count, run, now);
+        Some(reply)
+    }
+
+    /// The component and the arguments with which a run was started.
+    pub fn start_of(&self, run: Run) -> Option<(Comp, Args)>
+        ensures { result ≡ starts.start_of (past_of self.now) run.0 }
+    {
+        start_of(&self.starts, run)
+    }
+
+    /// Whether the case is over.
+    pub(crate) fn is_over(&self) -> bool
+        ensures { result ≡ history.is_over (past_of self.now) }
+    {
+        self.table.is_over()
+    }
+}

@@ -1,0 +1,38 @@
+//! The report of a closed case.
+use crate::sequence::Sequence;
+use tc_entry::{Comp, Entry, Run, Verdict};
+
+/// The entries of one run.
+#[derive(Drop)]
+pub struct RunLog {
+    /// The run.
+    pub run: Run,
+    /// The component that the run was started on.
+    pub comp: Comp,
+    /// The entries, the oldest first.
+    pub entries: Sequence<Entry>,
+}
+
+/// The report of a closed case.
+#[derive(Drop)]
+pub struct Closed {
+    /// How many behaviours the case had.
+    pub behaviours: u16,
+    /// All entries, the oldest first.
+    pub history: Sequence<Entry>,
+    /// The log of each run that was started, in the order of the runs' numbers.
+    pub logs: Sequence<RunLog>,
+    /// The local verdict of each component, from component 0 on.
+    pub locals: Sequence<Verdict>,
+    /// The overall verdict.
+    pub verdict: Verdict,
+}
+
+/// Why a case was not closed.
+#[derive(Clone, Copy, PartialEq, Eq, Debug)]
+pub enum CloseFault {
+    /// What came back is not whole: not one of each run, the case not over, or a log that is not its run's part.
+    Torn,
+    /// Memory was refused.
+    NoMemory,
+}

@@ -1,0 +1,65 @@
+//! What a run leaves.
+ghost use Rattle.std.specs.Prelude.{◌≡◌, ◌↔◌, IsTrue, MatchOption, Some, None};
+
+use std::marker::Model;
+use tc_entry::{Args, Comp, Entry};
+use tc_verdict::Run;
+
+/// What a run leaves: its log, and what it was started with.
+#[derive(Drop)]
+pub struct Left {
+    run: Run,
+    log: Vec<Entry>,
+    started: Option<(Comp, Args)>,
+}
+
+impl Model for Left {
+    ghost use Rattle.tc_book.specs.Passes.{LeftState};
+
+    ghost Value = { LeftState };
+
+    ghost view = { λ l. record { run = l.run; log = l.log.items; started = l.started } };
+}
+
+impl Left {
+    pub(crate) fn new(run: Run, log: Vec<Entry>, started: Option<(Comp, Args)>) -> Left
+        ensures { result ≡ record { run = run; log = log.items; started = started } }
+    {
+        Left { run, log, started }
+    }
+
+    /// The run.
+    pub fn run(&self) -> Run
+        ensures { result ≡ self.now.run }
+    {
+        self.run
+    }
+
+    /// The entries of the run, the oldest first.
+    pub fn log(&self) -> &[Entry]
+        ensures { result.now ≡ self.now.log }
+    {
+        &self.log
+    }
+
+    /// The component and the arguments of the pass that left; none where the run was never started.
+    pub fn started(&self) -> Option<(Comp, &[Comp])>
+        ensures { MatchOption result (self.now.started ≡ None) (λ s. self.now.started ≡ Some (s.0, s.1.now)) }
+    {
+        match &self.started {
+            Some((comp, args)) => Some((*comp, args.as_slice())),
+            None => None,
+        }
+    }
+
+    /// Whether the run was started so.
+    pub(crate) fn was_started_so(&self, start: &Option<(Comp, Args)>) -> bool
+        ensures { IsTrue result ↔ (self.now.started ≡ start.now) }
+    {
+        match (&self.started, start) {
+            (None, None) => true,
+            (Some((comp, args)), Some((other, others))) => *comp == *other && args.same(others),
+            _ => false,
+        }
+    }
+}

@@ -1,0 +1,30 @@
+//! The book of a test case behind its lock: passes, their logs, and the close that compares them.
+#![tactic(auto)]
+
+mod book;
+mod case;
+mod close;
+mod closed;
+mod ending;
+mod halt;
+pub mod laws;
+mod left;
+mod pass;
+mod places;
+mod report;
+mod sequence;
+mod shared;
+mod starts;
+mod ticket;
+
+pub use case::{close_case, open_case};
+pub use closed::{CloseFault, Closed, RunLog};
+pub use halt::Halt;
+pub use left::Left;
+pub use pass::Pass;
+pub use sequence::Sequence;
+pub use shared::Shared;
+pub use ticket::Ticket;
+
+#[cfg(test)]
+mod tests;

@@ -1,0 +1,308 @@
+//! The pass of a started run: what its behaviour calls the case by.
+ghost use Rattle.std.specs.Prelude.{◌≡◌, ◌≢◌, ◌<◌, [], true, false, IfOk, Some, None, if◌then◌else◌};
+ghost use Rattle.std.specs.Vec.{vec_len, vec_capacity};
+ghost use Rattle.tc_entry.specs.declared.op.Op.TheVariants as ops;
+ghost use Rattle.tc_entry.specs.declared.reply.Reply.{Reply};
+ghost use Rattle.tc_entry.specs.declared.reply.Reply.TheVariants as replies;
+ghost use Rattle.tc_book.specs.Passes.{has_ended, added, By, IsCall, IsWait};
+ghost use Rattle.tc_book.specs.Replies.{suits, is_halt};
+
+use crate::ending::add;
+use crate::halt::Halt;
+use crate::left::Left;
+use crate::shared::Shared;
+use std::marker::Model;
+use std::sync::Wait;
+use tc_entry::{Args, Comp, Entry, Group, Op, Reply, Target};
+use tc_verdict::{Run, UserVerdict, Verdict};
+
+/// What the behaviour of a started run calls the case by, with the log of its calls.
+#[derive(Drop)]
+pub struct Pass {
+    shared: Shared,
+    run: Run,
+    me: Comp,
+    args: Args,
+    log: Vec<Entry>,
+    ended: bool,
+}
+
+impl Model for Pass {
+    ghost use Rattle.std.specs.Prelude.{◌≡◌, ◌<◌};
+    ghost use Rattle.std.specs.Vec.{vec_len, vec_capacity};
+    ghost use Rattle.tc_book.specs.Passes.{PassState, ended_by};
+
+    ghost Value = { PassState };
+
+    ghost view = { λ p. record { run = p.run; me = p.me; args = p.args; log = p.log.items } };
+
+    ghost invariant = { λ p. (vec_len p.log < vec_capacity p.log) × (p.ended ≡ ended_by p.me p.log.items) };
+}
+
+/// The answer by a reply.
+fn heard(reply: Reply) -> Result<Reply, Halt>
+    ensures by { By (λ r. r) (λ r. r ≡ reply) ⊥ result }
+    ensures plain { IfOk result (λ r. is_halt r ≡ false) }
+{
+    match reply {
+        Reply::Ended => Err(Halt::Ended),
+        Reply::Fault(fault) => Err(Halt::Fault(fault)),
+        _ => Ok(reply),
+    }
+}
+
+impl Pass {
+    pub(crate) fn new(shared: Shared, run: Run, me: Comp, args: Args, log: Vec<Entry>) -> Pass
+        requires empty { log.items ≡ [] }
+        requires room { vec_len log < vec_capacity log }
+        ensures { result ≡ record { run = run; me = me; args = args; log = [] } }
+    {
+        Pass {
+            shared,
+            run,
+            me,
+            args,
+            log,
+            ended: false,
+        }
+    }
+
+    /// The run.
+    pub fn run(&self) -> Run
+        ensures { result ≡ self.now.run }
+    {
+        self.run
+    }
+
+    /// The component that the run was started on.
+    pub fn me(&self) -> Comp
+        ensures { result ≡ self.now.me }
+    {
+        self.me
+    }
+
+    /// The arguments that the run was started with.
+    pub fn args(&self) -> &[Comp]
+        ensures { result.now ≡ self.now.args }
+    {
+        self.args.as_slice()
+    }
+
+    /// The entries of the run so far, the oldest first.
+    pub fn log(&self) -> &[Entry]
+        ensures { result.now ≡ self.now.log }
+    {
+        &self.log
+    }
+
+    /// Whether the run has ended: then each call is answered Ended, and nothing is recorded.
+    pub fn is_ended(&self) -> bool
+        ensures { result ≡ has_ended self.now }
+    {
+        self.ended
+    }
+
+    /// Records a call and logs its entry.
+    fn call<R: Wait>(&mut self, rt: &R, op: Op) -> Result<Reply, Halt>
+        ensures call { IsCall (λ r. r) op self.old self.new result }
+        ensures plain { IfOk result (λ r. (is_halt r ≡ false) × (suits op r ≡ true)) }
+    {
+        if self.ended {
+            return Err(Halt::Ended);
+        }
+        if self.log.reserve(2).is_err() {
+            return Err(Halt::NoMemory);
+        }
+        let Ok(reply) = self.shared.record(rt, self.run, op.copy()) else {
+            return Err(Halt::NoMemory);
+        };
+        let entry = Entry {
+            caller: self.run,
+            op,
+            reply,
+        };
+        self.ended = add(&mut self.log, self.me, self.ended, entry);
+        heard(reply)
+    }
+
+    /// Creates a component, ordinary or alive-type (ES 201 873-1, the create operation).
+    pub fn create<R: Wait>(&mut self, rt: &R, alive: bool) -> Result<Comp, Halt>
+        ensures { IsCall replies.Made (ops.Create alive) self.old self.new result }
+    {
+        match self.call(rt, Op::Create { alive })? {
+            Reply::Made(comp) => Ok(comp),
+            _ => unreachable!(),
+        }
+    }
+
+    /// Starts a run on a component (ES 201 873-1, the start test component operation).
+    pub fn start<R: Wait>(&mut self, rt: &R, comp: Comp, run: Run, args: &Args) -> Result<(), Halt>
+        ensures { IsCall (λ _. replies.Ok) (ops.Start comp run args.now) self.old self.new result }
+    {
+        let op = Op::Start {
+            comp,
+            run,
+            args: args.copy(),
+        };
+        match self.call(rt, op)? {
+            Reply::Ok => Ok(()),
+            _ => unreachable!(),
+        }
+    }
+
+    /// Stops a component, or all parallel ones (ES 201 873-1, the stop test component operation).
+    pub fn stop<R: Wait>(&mut self, rt: &R, group: Group) -> Result<(), Halt>
+        ensures { IsCall (λ _. replies.Ok) (ops.Stop group) self.old self.new result }
+    {
+        match self.call(rt, Op::Stop(group))? {
+            Reply::Ok => Ok(()),
+            _ => unreachable!(),
+        }
+    }
+
+    /// Kills a component, or all parallel ones (ES 201 873-1, the kill test component operation).
+    pub fn kill<R: Wait>(&mut self, rt: &R, group: Group) -> Result<(), Halt>
+        ensures { IsCall (λ _. replies.Ok) (ops.Kill group) self.old self.new result }
+    {
+        match self.call(rt, Op::Kill(group))? {
+            Reply::Ok => Ok(()),
+            _ => unreachable!(),
+        }
+    }
+
+    /// Whether components are running (ES 201 873-1, the running operation).
+    pub fn running<R: Wait>(&mut self, rt: &R, target: Target) -> Result<bool, Halt>
+        ensures { IsCall replies.Answer (ops.Running target) self.old self.new result }
+    {
+        match self.call(rt, Op::Running(target))? {
+            Reply::Answer(answer) => Ok(answer),
+            _ => unreachable!(),
+        }
+    }
+
+    /// Whether components are alive (ES 201 873-1, the alive operation).
+    pub fn alive<R: Wait>(&mut self, rt: &R, target: Target) -> Result<bool, Halt>
+        ensures { IsCall replies.Answer (ops.Alive target) self.old self.new result }
+    {
+        match self.call(rt, Op::Alive(target))? {
+            Reply::Answer(answer) => Ok(answer),
+            _ => unreachable!(),
+        }
+    }
+
+    /// Whether components are done (ES 201 873-1, the done operation as a boolean).
+    pub fn done<R: Wait>(&mut self, rt: &R, target: Target) -> Result<bool, Halt>
+        ensures { IsCall replies.Answer (ops.Done target) self.old self.new result }
+    {
+        match self.call(rt, Op::Done(target))? {
+            Reply::Answer(answer) => Ok(answer),
+            _ => unreachable!(),
+        }
+    }
+
+    /// Whether components are killed (ES 201 873-1, the killed operation as a boolean).
+    pub fn killed<R: Wait>(&mut self, rt: &R, target: Target) -> Result<bool, Halt>
+        ensures { IsCall replies.Answer (ops.Killed target) self.old self.new result }
+    {
+        match self.call(rt, Op::Killed(target))? {
+            Reply::Answer(answer) => Ok(answer),
+            _ => unreachable!(),
+        }
+    }
+
+    /// Makes the caller's local verdict no better than this (ES 201 873-1, verdict operations).
+    pub fn set_verdict<R: Wait>(&mut self, rt: &R, value: UserVerdict) -> Result<(), Halt>
+        ensures { IsCall (λ _. replies.Ok) (ops.SetVerdict value) self.old self.new result }
+    {
+        match self.call(rt, Op::SetVerdict(value))? {
+            Reply::Ok => Ok(()),
+            _ => unreachable!(),
+        }
+    }
+
+    /// The caller's local verdict (ES 201 873-1, verdict operations).
+    pub fn get_verdict<R: Wait>(&mut self, rt: &R) -> Result<Verdict, Halt>
+        ensures { IsCall replies.Local ops.GetVerdict self.old self.new result }
+    {
+        match self.call(rt, Op::GetVerdict)? {
+            Reply::Local(verdict) => Ok(verdict),
+            _ => unreachable!(),
+        }
+    }
+
+    /// Waits until components are done (ES 201 873-1, the done operation).
+    pub fn wait_done<R: Wait>(&mut self, rt: &R, target: Target) -> Result<(), Halt>
+        ensures { IsWait false target self.old self.new result }
+    {
+        self.wait(rt, false, target)
+    }
+
+    /// Waits until components are killed (ES 201 873-1, the killed operation).
+    pub fn wait_killed<R: Wait>(&mut self, rt: &R, target: Target) -> Result<(), Halt>
+        ensures { IsWait true target self.old self.new result }
+    {
+        self.wait(rt, true, target)
+    }
+
+    /// Records a Wait, and where that is parked a Wake. The room for both is made first.
+    fn wait<R: Wait>(&mut self, rt: &R, killed: bool, target: Target) -> Result<(), Halt>
+        ensures { IsWait killed target self.old self.new result }
+    {
+        if self.ended {
+            return Err(Halt::Ended);
+        }
+        if self.log.reserve(3).is_err() {
+            return Err(Halt::NoMemory);
+        }
+        let Ok(mut reply) = self
+            .shared
+            .record(rt, self.run, Op::Wait { killed, target })
+        else {
+            return Err(Halt::NoMemory);
+        };
+        let wait = Entry {
+            caller: self.run,
+            op: Op::Wait { killed, target },
+            reply,
+        };
+        self.ended = add(&mut self.log, self.me, self.ended, wait);
+        if matches!(reply, Reply::Parked) {
+            reply = self.shared.wake(rt, self.run, killed, target);
+            let wake = Entry {
+                caller: self.run,
+                op: Op::Wake { killed, target },
+                reply,
+            };
+            self.ended = add(&mut self.log, self.me, self.ended, wake);
+        }
+        match heard(reply)? {
+            Reply::Matched => Ok(()),
+            _ => unreachable!(),
+        }
+    }
+
+    /// Leaves the case, with a Finish where the run has not ended.
+    pub fn leave<R: Wait>(self, rt: &R) -> Left
+        ensures run { result.run ≡ self.run }
+        ensures started { result.started ≡ Some (self.me, self.args) }
+        ensures ended { has_ended self ≡ true → result.log ≡ self.log }
+        ensures finished { has_ended self ≡ false → (r : Reply) × (result.log ≡ (added self ops.Finish r).log) }
+    {
+        let Pass {
+            shared,
+            run,
+            me,
+            args,
+            mut log,
+            ended,
+        } = self;
+        if let Some(reply) = shared.leave(rt, run, ended) {
+            log.push_reserved(Entry {
+                caller: run,
+                op: Op::Finish,
+                reply,
+            });
+        }
+        Left::new(run, log, Some((me, args)))
+    }
+}

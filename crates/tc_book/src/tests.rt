@@ -1,0 +1,217 @@
+mod soak;
+
+use crate::laws::Book;
+use crate::*;
+use std::sync::Wait;
+use std::test::Fail;
+use std::thread;
+use tc_entry::{Args, Comp, Entry, Fault, Group, Op, Reply, Run, Target, UserVerdict, Verdict};
+use tc_table::{Table, replay_check};
+
+fn one(comp: u32) -> Target {
+    Target::One(Comp(comp))
+}
+
+#[test]
+fn torn_closes(rt: HostRuntime) -> Result<(), Fail> {
+    let alloc = rt.alloc();
+    let (first, first_pass, _) = open_case(alloc, 1)?;
+    let (_, second_pass, _) = open_case(alloc, 1)?;
+    let mut second_pass = second_pass;
+    assert_eq!(rt; second_pass.create(&rt, false), Ok(Comp(1)));
+    first_pass.leave(&rt);
+    let lefts = vec![in alloc; second_pass.leave(&rt)]?;
+    assert!(rt; matches!(close_case(&rt, alloc, first, lefts), Err(CloseFault::Torn)));
+
+    let (shared, pass, _) = open_case(alloc, 2)?;
+    let lefts = vec![in alloc; pass.leave(&rt)]?;
+    assert!(rt; matches!(close_case(&rt, alloc, shared, lefts), Err(CloseFault::Torn)));
+
+    let (shared, pass, tickets) = open_case(alloc, 2)?;
+    let mut lefts = vec![in alloc; pass.leave(&rt)]?;
+    for ticket in tickets {
+        assert_eq!(rt; ticket.run(), Run(1));
+        let Err(left) = ticket.await_start(&rt) else {
+            panic!(rt; "the run was never started")
+        };
+        assert!(rt; left.started().is_none());
+        lefts.push(left)?;
+    }
+    let closed = close_case(&rt, alloc, shared, lefts)?;
+    assert_eq!(rt; closed.history.as_slice().len(), 1);
+    assert_eq!(rt; closed.logs.as_slice().len(), 1);
+    Ok(())
+}
+
+#[test]
+fn quiet_calls(rt: HostRuntime) -> Result<(), Fail> {
+    let alloc = rt.alloc();
+    let mut table = Table::new(alloc, 1)?;
+    table.make_room(2)?;
+    assert!(rt; table.room() >= 2);
+
+    let (_, pass, tickets) = open_case(alloc, 1)?;
+    let mut pass = pass;
+    assert_eq!(rt; tickets.len(), 0);
+    assert_eq!(rt; pass.create(&rt, false)?, Comp(1));
+    assert_eq!(rt; pass.done(&rt, one(1))?, false);
+    pass.kill(&rt, Group::One(Comp(1)))?;
+    pass.wait_killed(&rt, one(1))?;
+    assert_eq!(rt; pass.log().len(), 4);
+    assert!(rt;
+        matches!(
+            pass.log()[3],
+            Entry {
+                op: Op::Wait { .. },
+                reply: Reply::Matched,
+                ..
+            }
+        )
+    );
+    Ok(())
+}
+
+#[test]
+fn book_on_one_thread(rt: HostRuntime) -> Result<(), Fail> {
+    let alloc = rt.alloc();
+    let (shared, pass, tickets) = open_case(alloc, 2)?;
+    let mut p = pass;
+    let mut tickets = tickets;
+    assert_eq!(rt; p.run(), Run(0));
+    assert_eq!(rt; p.me(), Comp(0));
+    assert_eq!(rt; p.create(&rt, true)?, Comp(1));
+    let mut args = Args::new();
+    assert!(rt; args.push(Comp(0)));
+    p.start(&rt, Comp(1), Run(1), &args)?;
+    let ticket = tickets.remove(0);
+    let Ok(pass) = ticket.await_start(&rt) else {
+        panic!(rt; "the run was started")
+    };
+    let mut q = pass;
+    assert_eq!(rt; q.run(), Run(1));
+    assert_eq!(rt; q.me(), Comp(1));
+    assert_eq!(rt; q.args(), [Comp(0)].as_slice());
+    assert!(rt; p.running(&rt, one(1))?);
+    assert!(rt; p.alive(&rt, one(1))?);
+    q.set_verdict(&rt, UserVerdict::Inconc)?;
+    assert_eq!(rt; q.get_verdict(&rt)?, Verdict::Inconc);
+    p.stop(&rt, Group::One(Comp(1)))?;
+    assert_eq!(rt; p.killed(&rt, one(1))?, false);
+    assert!(rt; !q.is_ended());
+    assert_eq!(rt; q.get_verdict(&rt), Err(Halt::Ended));
+    assert!(rt; q.is_ended());
+    p.wait_done(&rt, one(1))?;
+    let mut lefts = vec![in alloc; p.leave(&rt)]?;
+    let left = q.leave(&rt);
+    assert_eq!(rt; left.run(), Run(1));
+    assert_eq!(rt; left.log().len(), 3);
+    let Some((comp, args)) = left.started() else {
+        panic!(rt; "the run was started")
+    };
+    assert_eq!(rt; comp, Comp(1));
+    assert_eq!(rt; args, [Comp(0)].as_slice());
+    lefts.push(left)?;
+    let closed = close_case(&rt, alloc, shared, lefts)?;
+    assert_eq!(rt; closed.behaviours, 2);
+    assert_eq!(rt; closed.history.as_slice().len(), 11);
+    assert_eq!(rt;
+        closed.locals.as_slice(),
+        [Verdict::None, Verdict::Inconc].as_slice()
+    );
+    assert_eq!(rt; closed.verdict, Verdict::Inconc);
+    Ok(())
+}
+
+#[test]
+fn a_fault_ends_the_pass(rt: HostRuntime) -> Result<(), Fail> {
+    let alloc = rt.alloc();
+    let (shared, pass, _) = open_case(alloc, 1)?;
+    let mut pass = pass;
+    let fault = pass.stop(&rt, Group::One(Comp(7)));
+    assert_eq!(rt; fault, Err(Halt::Fault(Fault::NoComponent)));
+    assert_eq!(rt; pass.log().len(), 1);
+    assert!(rt; pass.is_ended());
+    assert_eq!(rt; pass.create(&rt, false), Err(Halt::Ended));
+    assert_eq!(rt; pass.log().len(), 1);
+    let lefts = vec![in alloc; pass.leave(&rt)]?;
+    let closed = close_case(&rt, alloc, shared, lefts)?;
+    assert_eq!(rt; closed.verdict, Verdict::Error);
+    assert_eq!(rt; closed.history.as_slice().len(), 1);
+    Ok(())
+}
+
+/// The behaviour of run 1: it sets pass.
+fn sets_pass<R: Wait>(rt: &R, ticket: Ticket) -> Left {
+    match ticket.await_start(rt) {
+        Ok(mut pass) => {
+            let _ = pass.set_verdict(rt, UserVerdict::Pass);
+            pass.leave(rt)
+        }
+        Err(left) => left,
+    }
+}
+
+#[test]
+fn book_on_two_threads(rt: HostRuntime) -> Result<(), Fail> {
+    let alloc = rt.alloc();
+    let (shared, pass, tickets) = open_case(alloc, 2)?;
+    let mut pass = pass;
+    let mut tickets = tickets;
+    let ticket = tickets.remove(0);
+    let Ok(worker) = thread::spawn(&rt, move || sets_pass(&rt, ticket)) else {
+        panic!(rt; "no thread")
+    };
+    let comp = pass.create(&rt, false)?;
+    pass.start(&rt, comp, Run(1), &Args::new())?;
+    pass.wait_done(&rt, Target::One(comp))?;
+    let mut lefts = vec![in alloc; pass.leave(&rt)]?;
+    lefts.push(worker.join(&rt))?;
+    let closed = close_case(&rt, alloc, shared, lefts)?;
+    assert_eq!(rt;
+        closed.locals.as_slice(),
+        [Verdict::None, Verdict::Pass].as_slice()
+    );
+    assert_eq!(rt;
+        replay_check(alloc, 2, closed.history.as_slice())?,
+        Verdict::Pass
+    );
+    Ok(())
+}
+
+/// The calls on the value behind the lock.
+#[test]
+fn calls_on_a_book(rt: HostRuntime) -> Result<(), Fail> {
+    let alloc = rt.alloc();
+    let mut book = Book::new(alloc, 2)?;
+    assert_eq!(rt;
+        book.record(Run(0), Op::Create { alive: false })?,
+        Reply::Made(Comp(1))
+    );
+    let start = Op::Start {
+        comp: Comp(1),
+        run: Run(1),
+        args: Args::new(),
+    };
+    assert!(rt; book.start_of(Run(1)).is_none());
+    assert_eq!(rt; book.record(Run(0), start)?, Reply::Ok);
+    let Some((comp, args)) = book.start_of(Run(1)) else {
+        panic!(rt; "the run was started")
+    };
+    assert_eq!(rt; comp, Comp(1));
+    assert_eq!(rt; args.as_slice().len(), 0);
+    let wait = Op::Wait {
+        killed: false,
+        target: one(1),
+    };
+    assert_eq!(rt; book.wake(Run(0), false, one(1)), None);
+    assert_eq!(rt; book.record(Run(0), wait)?, Reply::Parked);
+    assert_eq!(rt; book.wake(Run(0), false, one(1)), None);
+    assert_eq!(rt; book.leave(Run(1), false), Some(Some(Reply::Ok)));
+    assert_eq!(rt; book.leave(Run(1), false), None);
+    assert_eq!(rt; book.wake(Run(0), false, one(1)), Some(Reply::Matched));
+    assert!(rt; !book.is_over());
+    assert_eq!(rt; book.leave(Run(0), false), Some(Some(Reply::Ok)));
+    assert!(rt; book.is_over());
+    assert!(rt; matches!(book.close(alloc, Vec::new(alloc)), Err(CloseFault::Torn)));
+    Ok(())
+}

@@ -1,0 +1,63 @@
+//! The ticket of a run that is not yet started.
+ghost use Rattle.std.specs.Prelude.{◌≡◌, ◌<◌, [], None, IfOk, IfErr};
+ghost use Rattle.std.specs.Vec.{vec_len, vec_capacity};
+
+use crate::left::Left;
+use crate::pass::Pass;
+use crate::shared::Shared;
+use std::marker::Model;
+use std::sync::Wait;
+use tc_entry::Entry;
+use tc_verdict::Run;
+
+/// The right of one run to be started. Contracts see the run.
+#[derive(Drop)]
+pub struct Ticket {
+    shared: Shared,
+    run: Run,
+    log: Vec<Entry>,
+}
+
+impl Model for Ticket {
+    ghost use Rattle.std.specs.Prelude.{◌≡◌, ◌<◌, []};
+    ghost use Rattle.std.specs.Vec.{vec_len, vec_capacity};
+    ghost use Rattle.tc_verdict.specs.declared.run.Run.{Run};
+
+    ghost Value = { Run };
+
+    ghost view = { λ t. t.run };
+
+    ghost invariant = { λ t. (t.log.items ≡ []) × (vec_len t.log < vec_capacity t.log) };
+}
+
+impl Ticket {
+    pub(crate) fn new(shared: Shared, run: Run, log: Vec<Entry>) -> Ticket
+        requires empty { log.items ≡ [] }
+        requires room { vec_len log < vec_capacity log }
+        ensures { result ≡ run }
+    {
+        Ticket { shared, run, log }
+    }
+
+    /// The run.
+    pub fn run(&self) -> Run
+        ensures { result ≡ self.now }
+    {
+        self.run
+    }
+
+    /// The pass of the run once it was started, or what it leaves once the case is over without.
+    pub fn await_start<R: Wait>(self, rt: &R) -> Result<Pass, Left>
+        ensures pass { IfOk result (λ p. (p.run ≡ self) × (p.log ≡ [])) }
+        ensures left { IfErr result (λ l. l ≡ record { run = self; log = []; started = None }) }
+    {
+        let Ticket { shared, run, log } = self;
+        match shared.await_start(rt, run) {
+            Some((comp, args)) => Ok(Pass::new(shared, run, comp, args, log)),
+            None => {
+                shared.leave(rt, run, true);
+                Err(Left::new(run, log, None))
+            }
+        }
+    }
+}
