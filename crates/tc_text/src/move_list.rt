@@ -32,8 +32,8 @@ pub(crate) fn as_behaviours(number: u32) -> Option<u16>
     }
 }
 
-// The number of behaviours that the first line gives, and what stands behind that line.
-fn take_first_line(text: &[u8]) -> Option<(u16, &[u8])>
+/// The number of behaviours that the first line gives, and what stands behind that line.
+pub fn take_first_line(text: &[u8]) -> Option<(u16, &[u8])>
     ensures spelled { IfSome result (λ r. lines_of text.now ≡ behaviours_line r.0 ∷ lines_of r.1.now) }
     ensures few { IfSome result (λ r. IsBehaviours r.0) }
     ensures only { (n : ℕ) (others : List (List ℕ)) → IsBehaviours n → lines_of text.now ≡ behaviours_line n ∷ others → MatchOption result ⊥ (λ r. (r.0 ≡ n) × (lines_of r.1.now ≡ others)) }
@@ -44,9 +44,9 @@ fn take_first_line(text: &[u8]) -> Option<(u16, &[u8])>
     Some((as_behaviours(number)?, rest))
 }
 
-// The move that the first line spells, and what stands behind that line.
-#[inline(always)]
-fn take_move_line(text: &[u8]) -> Option<((Run, Op), &[u8])>
+/// The move that the first line spells, and what stands behind that line.
+#[inline(never)]
+pub fn take_move_line(text: &[u8]) -> Option<((Run, Op), &[u8])>
     ensures spelled { IfSome result (λ r. lines_of text.now ≡ move_line r.0 ∷ lines_of r.1.now) }
     ensures fits { IfSome result (λ r. IsMove r.0) }
     ensures less { IfSome result (λ r. length r.1.now < length text.now) }

@@ -18,6 +18,12 @@ of_input I.TooLong = F.TooLong
 of_input I.Read = F.Read
 of_input I.NoMemory = F.NoMemory
 
+-- what a fault says of a text that was read and is refused; want of memory says nothing
+abbrev pub RefusesText : List ℕ → RunFault → Type 0
+RefusesText text (F.Text fault) = IsListFault text fault
+RefusesText text F.NoMemory = Unit {0}
+RefusesText text fault = ⊥
+
 -- what a fault of a command says: of an input of at most so many bytes, and of the output
 abbrev pub Refuses : (List ℕ → List ℕ → ℕ → Type 0) → ℕ → Option (List ℕ) → Option (List ℕ) → Option (List ℕ) → RunFault → Type 0
 Refuses Gives limit input before after F.TooLong = Keeps before after × IfSome input (λ text. limit < length text)

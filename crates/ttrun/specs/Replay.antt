@@ -6,6 +6,8 @@ use Rattle.tc_verdict.specs.Verdict.{name_of}
 use Rattle.tc_entry.specs.declared.entry.Entry.{Entry}
 use Rattle.tc_text.specs.Spelling.{reply_text}
 use Rattle.tc_text.specs.MoveList.{Move, IsMoveList}
+use Rattle.tc_table.specs.Answers.{answer}
+use Rattle.tc_table.specs.Case.{Case, past_of}
 use Rattle.tc_table.specs.Legal.{IsLegal}
 use Rattle.tc_table.specs.Local.{overall}
 use Rattle.ttrun.specs.Status.{status_of}
@@ -13,6 +15,10 @@ use Rattle.ttrun.specs.Status.{status_of}
 -- who called, and what
 abbrev pub move_of : Entry → Move
 move_of e = (e.caller, e.op)
+
+-- the entry that the move adds
+abbrev pub next_entry : Case → Move → Entry
+next_entry t m = record { caller = m.0; op = m.1; reply = answer t.behaviours (past_of t) m.0.0 m.1 }
 
 -- the line of a reply
 abbrev pub reply_line : Entry → List ℕ
@@ -34,11 +40,15 @@ pub record IsReplayed (n : ℕ) (moves : List Move) (out : List ℕ) (verdict : 
   pub out_is : out ≡ replay_text history
   pub verdict_is : verdict ≡ overall (reverse history)
 
--- the text is a move list, this output its replies, and the status goes by the overall verdict
-pub record Replays (text out : List ℕ) (status : ℕ) : Type 0 where
+-- the text is a move list, this output its replies, and this the overall verdict
+pub record IsReplayOf (text out : List ℕ) (verdict : Verdict) : Type 0 where
   pub behaviours : ℕ
   pub moves : List Move
-  pub verdict : Verdict
   pub list : IsMoveList text behaviours moves
   pub replayed : IsReplayed behaviours moves out verdict
+
+-- the output is the text's replay, and the status goes by the overall verdict
+pub record Replays (text out : List ℕ) (status : ℕ) : Type 0 where
+  pub verdict : Verdict
+  pub replay : IsReplayOf text out verdict
   pub status_is : status ≡ status_of verdict

@@ -1,17 +1,19 @@
 //! The subcommand `replay`.
 ghost use Rattle.std.specs.Prelude.{◌≡◌, ◌≤◌, ◌<◌, ◌++◌, ◌∷◌, [], length, IfOk, IfErr, IfSome, OnOk};
 ghost use Rattle.tc_text.specs.Spelling.{reply_text};
-ghost use Rattle.ttrun.specs.Replay.{IsReplayed, Replays, verdict_line};
+ghost use Rattle.ttrun.specs.Replay.{IsReplayOf, Replays, next_entry, reply_line, verdict_line};
 ghost use Rattle.ttrun.specs.Output.{Writes};
-ghost use Rattle.ttrun.specs.Fault.{Refuses};
+ghost use Rattle.ttrun.specs.Fault.{Refuses, RefusesText};
 
 use crate::fault::RunFault;
 use crate::status::status_of;
 use std::alloc::Global;
 use std::io::{Read, Write};
 use tc_stream::write_whole;
-use tc_table::{MoveList, NoMemory, Reply, Table, Verdict, read_input, read_moves, write_reply};
-use tc_text::append_text;
+use tc_table::{
+    NoMemory, Op, Reply, Run, Table, TextFault, TextKind, Verdict, read_input, write_reply,
+};
+use tc_text::{append_text, take_first_line, take_move_line};
 use tc_verdict::name;
 
 /// How many bytes a move list may have.
@@ -36,19 +38,57 @@ fn append_verdict(out: &mut Vec<u8>, verdict: Verdict) -> Result<(), NoMemory>
     Ok(())
 }
 
-// What is printed for the moves, and the overall verdict.
-fn replay_moves(alloc: Global, list: MoveList) -> Result<(Vec<u8>, Verdict), NoMemory>
-    requires some { 1 ≤ list.behaviours }
-    requires few { list.behaviours ≤ 64 }
-    ensures { IfOk result (λ r. IsReplayed list.behaviours list.moves.items r.0.items r.1) }
+fn fault_at(line: usize, kind: TextKind) -> RunFault
+    ensures { result ≡ RunFault.Text (TextFault.At line kind) }
 {
-    let MoveList { behaviours, moves } = list;
+    RunFault::Text(TextFault::At { line, kind })
+}
+
+// How many bytes the shortest line of a move has.
+const SHORTEST: usize = 9;
+
+// A table with room for as many moves as so many bytes can hold.
+fn table_for(alloc: Global, behaviours: u16, bytes: usize) -> Result<Table, NoMemory>
+    requires some { 1 ≤ behaviours }
+    requires few { behaviours ≤ 64 }
+    ensures { IfOk result (λ t. (t.behaviours ≡ behaviours) × (t.history ≡ [])) }
+{
     let mut table = Table::new(alloc, behaviours)?;
-    table.make_room(moves.len())?;
+    table.make_room(bytes / SHORTEST + 1)?;
+    Ok(table)
+}
+
+// Plays a move, and appends its reply's line.
+fn play_move(table: &mut Table, out: &mut Vec<u8>, one: (Run, Op)) -> Result<(), NoMemory>
+    ensures same { OnOk result (table.new.behaviours ≡ table.old.behaviours) }
+    ensures added { OnOk result (table.new.history ≡ table.old.history ++ next_entry table.old one ∷ []) }
+    ensures line { OnOk result (out.new.items ≡ out.old.items ++ reply_line (next_entry table.old one)) }
+{
+    let (caller, op) = one;
+    let reply = table.play(caller, op)?;
+    append_reply(out, reply)?;
+    Ok(())
+}
+
+// What is printed for the moves that the text spells, and the overall verdict; else the text's first fault, or NoMemory.
+fn replay_text(alloc: Global, text: &[u8]) -> Result<(Vec<u8>, Verdict), RunFault>
+    ensures done { IfOk result (λ r. IsReplayOf text.now r.0.items r.1) }
+    ensures refused { IfErr result (λ fault. RefusesText text.now fault) }
+{
+    if text.is_empty() {
+        return Err(fault_at(1, TextKind::Early));
+    }
+    let Some((behaviours, mut rest)) = take_first_line(text) else {
+        return Err(fault_at(1, TextKind::FirstLine));
+    };
+    let mut table = table_for(alloc, behaviours, rest.len())?;
     let mut out = Vec::new(alloc);
-    for (caller, op) in moves {
-        let reply = table.play(caller, op)?;
-        append_reply(&mut out, reply)?;
+    while !rest.is_empty() {
+        let Some((one, after)) = take_move_line(rest) else {
+            return Err(fault_at(table.history().len() + 2, TextKind::Move));
+        };
+        play_move(&mut table, &mut out, one)?;
+        rest = after;
     }
     let verdict = table.overall();
     append_verdict(&mut out, verdict)?;
@@ -68,8 +108,7 @@ pub fn replay<R: Read, W: Write>(
     ensures refused { IfErr result (λ fault. Refuses Replays LIMIT (R.remaining reader.old) (W.contents writer.old) (W.contents writer.new) fault) }
 {
     let text = read_input(alloc, reader, LIMIT)?;
-    let list = read_moves(alloc, text.as_slice())?;
-    let (out, verdict) = replay_moves(alloc, list)?;
+    let (out, verdict) = replay_text(alloc, text.as_slice())?;
     let status = status_of(verdict);
     let Ok(()) = write_whole(writer, out.as_slice()) else {
         return Err(RunFault::Write);
