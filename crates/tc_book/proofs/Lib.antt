@@ -2,7 +2,7 @@ pub mod Totals
 pub mod Keeping
 pub mod Suits
 pub mod Starting
-pub mod Parts
+pub mod PartOf
 pub mod Numbered
 pub mod Sums
 pub mod Reporting

@@ -14,9 +14,12 @@ use Rattle.tc_book.specs.declared.closed.Closed.{Closed}
 use Rattle.tc_book.specs.declared.closed.RunLog.{RunLog}
 use Rattle.tc_book.specs.Passes.{LeftState}
 use Rattle.tc_book.specs.Closing.{is_of_run, IsFitting, IsWhole}
-use Rattle.tc_book.specs.Parts.{part, log_if, logs_below, logged}
+use Rattle.tc_book.specs.Parts.{part, log_of, log_if, logs_below, logged}
+use Rattle.tc_book.specs.Inside.{start_at, comp_by, logs_from, KnowsStarts, KnowsParts}
+use Rattle.tc_book.proofs.PartOf.{comp_known}
 use Rattle.tc_book.specs.Report.{IsOneHistory}
-use Rattle.std.proofs.lemmas.List.{length-map}
+use Rattle.std.proofs.lemmas.List.{length-map, get_or_append_left}
+use Rattle.std.proofs.Math.Seq.{get_or-append_seam}
 use Rattle.tc_book.proofs.Numbered.{numbered}
 use Rattle.tc_book.proofs.Sums.{sum_below, only, sum_below-same, sum_below-add, sum_below-zero, sum_below-only, sum_below-at_most}
 
@@ -175,5 +178,22 @@ one_history n h c legal over as_long n_is h_is logs_is locals_is verdict_is =
       worst_of_locals = verdict_is ∙ (sym (overall_is past) ∙ ap worst (sym locals_is));
     }
 
-pub logs_more : (h : List Entry) (b : ℕ) → logs_below h (b + 1) ≡ logs_below h b ++ log_if (comp_of (reverse h) b) h b
-logs_more h b = rw add-one
+logs_from_prefix : (starts : List (Option (Comp × List Comp))) (parts more : List (List Entry)) (n : ℕ) → n ≤ length parts → logs_from starts (parts ++ more) n ≡ logs_from starts parts n
+logs_from_prefix starts parts more zero all = refl
+logs_from_prefix starts parts more (suc n) all =
+    let before : logs_from starts (parts ++ more) n ≡ logs_from starts parts n = logs_from_prefix starts parts more n (omega arith) in
+    rw (before, get_or_append_left parts more [] n (omega arith)) refl
+
+-- the log of one run more
+pub logs_from_more : (starts : List (Option (Comp × List Comp))) (parts : List (List Entry)) (entries : List Entry) →
+    logs_from starts (parts ++ entries ∷ []) (length parts + 1) ≡ logs_from starts parts (length parts) ++ log_of (comp_by (length parts) (start_at starts (length parts))) (length parts) entries
+logs_from_more starts parts entries =
+    rw (add-one, logs_from_prefix starts parts (entries ∷ []) (length parts) (omega arith), get_or-append_seam parts entries [] []) refl
+
+-- by what is known of starts and parts, the logs are those of the history
+pub logs_known : (starts : List (Option (Comp × List Comp))) (parts : List (List Entry)) (h : List Entry) (n : ℕ) → KnowsStarts starts (reverse h) → KnowsParts parts h → n ≤ length parts →
+    logs_from starts parts n ≡ logs_below h n
+logs_known starts parts h zero known parts_known all = refl
+logs_known starts parts h (suc n) known parts_known all =
+    let before : logs_from starts parts n ≡ logs_below h n = logs_known starts parts h n known parts_known (omega arith) in
+    rw (before, comp_known starts (reverse h) n known, parts_known n (omega arith)) refl

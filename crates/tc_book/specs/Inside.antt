@@ -1,13 +1,16 @@
 -- What only the way a book is kept needs: no public clause names a word of this file.
-use Rattle.std.specs.Prelude.{ℕ, ◌≡◌, ◌+◌, ◌≤◌, ◌<◌, ◌==◌, Bool, if◌then◌else◌, option_map, Option, Some, None, List, length, sum_by, slice_index_or}
+use Rattle.std.specs.Prelude.{ℕ, zero, suc, ◌++◌, ◌≡◌, ◌+◌, ◌≤◌, ◌<◌, ◌==◌, Bool, if◌then◌else◌, option_map, Option, Some, None, List, [], length, sum_by, slice_index_or}
 use Rattle.tc_entry.specs.declared.comp.Comp.{Comp}
 use Rattle.tc_entry.specs.declared.entry.Entry.{Entry}
 use Rattle.tc_entry.specs.declared.op.Op.{Op}
 use Rattle.tc_entry.specs.declared.op.Op.TheVariants as O
 use Rattle.tc_entry.specs.declared.reply.Reply.{Reply}
 use Rattle.tc_entry.specs.declared.reply.Reply.TheVariants as R
+use Rattle.tc_book.specs.declared.closed.RunLog.{RunLog}
 use Rattle.tc_book.specs.declared.places.Places.{Places}
 use Rattle.tc_table.specs.Legal.{IsLegal}
+use Rattle.tc_book.specs.Parts.{part, log_of}
+use Rattle.tc_book.specs.Passes.{LeftState}
 use Rattle.tc_book.specs.Starts.{start_of}
 
 abbrev pub one_if : Bool → ℕ
@@ -29,14 +32,29 @@ start_at starts b = slice_index_or starts b None
 abbrev pub KnowsStarts : List (Option (Comp × List Comp)) → List Entry → Type 0
 KnowsStarts starts past = (b : ℕ) → start_at starts b ≡ start_of past b
 
+-- the component of run b, by what it was started with: the main component runs run 0 from the opening
+abbrev pub comp_by : ℕ → Option (Comp × List Comp) → Option Comp
+comp_by b start = if b == 0 then Some (record { 0 = 0 }) else option_map (λ s. s.0) start
+
+-- the lists are the parts of the history by the first runs
+abbrev pub KnowsParts : List (List Entry) → List Entry → Type 0
+KnowsParts parts history = (b : ℕ) → b < length parts → slice_index_or parts b [] ≡ part history b
+
+-- the logs of the first n runs, by what each was started with and by these parts
+abbrev pub logs_from : List (Option (Comp × List Comp)) → List (List Entry) → ℕ → List RunLog
+logs_from starts parts zero = []
+logs_from starts parts (suc b) = logs_from starts parts b ++ log_of (comp_by b (start_at starts b)) b (slice_index_or parts b [])
+
+-- what a run left is what these starts and these parts have of it
+pub record IsKnown (starts : List (Option (Comp × List Comp))) (parts : List (List Entry)) (l : LeftState) : Type 0 where
+  pub part : l.log ≡ slice_index_or parts l.run.0 []
+  pub started : 0 < l.run.0 → l.started ≡ start_at starts l.run.0
+  pub unstarted : comp_by l.run.0 (start_at starts l.run.0) ≡ None → l.log ≡ []
+
 -- a run that is started by this call is one of the first n
 abbrev pub StartsBelow : Op → Reply → ℕ → Type 0
 StartsBelow (O.Start c run args) R.Ok n = run.0 < n
 StartsBelow _ _ n = Unit {0}
-
--- the component of run b, by what it was started with: the main component runs run 0 from the opening
-abbrev pub comp_by : ℕ → Option (Comp × List Comp) → Option Comp
-comp_by b start = if b == 0 then Some (record { 0 = 0 }) else option_map (λ s. s.0) start
 
 -- what a book keeps: its history is legal, what it knows of starts is the history's, and there is room for every place
 pub record IsKept (n : ℕ) (past : List Entry) (starts : List (Option (Comp × List Comp))) (places : List Places) (count room : ℕ) : Type 0 where

@@ -12,10 +12,14 @@ is_by b e = e.caller.0 == b
 unfoldable pub part : List Entry → ℕ → List Entry
 part history b = filter (is_by b) history
 
+-- the log of run b with these entries, if it is on a component
+abbrev pub log_of : Option Comp → ℕ → List Entry → List RunLog
+log_of (Some c) b entries = record { run = record { 0 = b }; comp = c; entries = entries } ∷ []
+log_of None b entries = []
+
 -- the log of run b, if it was started: its component, and its part of the history
 abbrev pub log_if : Option Comp → List Entry → ℕ → List RunLog
-log_if (Some c) history b = record { run = record { 0 = b }; comp = c; entries = part history b } ∷ []
-log_if None history b = []
+log_if comp history b = log_of comp b (part history b)
 
 -- the logs of the runs below n that were started, in the order of their numbers
 abbrev pub logs_below : List Entry → ℕ → List RunLog

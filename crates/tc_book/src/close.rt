@@ -1,11 +1,11 @@
 //! Whether what came back of a case is whole.
-ghost use Rattle.std.specs.Prelude.{◌≡◌, ◌↔◌, ℕ, ◌<◌, ◌≤◌, [], None, true, All, IsTrue, count_by, sum_by, length, reverse};
+ghost use Rattle.std.specs.Prelude.{◌≡◌, ◌↔◌, ℕ, ◌<◌, ◌≤◌, [], None, true, All, IsTrue, count_by, sum_by, length, reverse, slice_index_or};
 ghost use Rattle.tc_table.specs.History as table;
-ghost use Rattle.tc_book.specs.Inside.{KnowsStarts};
-ghost use Rattle.tc_book.specs.Closing.{is_of_run, IsOneEach, IsFitting, IsWhole};
-ghost use Rattle.tc_book.specs.Parts.{part};
+ghost use Rattle.tc_book.specs.Inside.{IsKnown, KnowsStarts, KnowsParts};
+ghost use Rattle.tc_book.specs.Closing.{is_of_run, IsOneEach, IsWhole};
 
 use crate::left::Left;
+use crate::sequence::Sequence;
 use crate::starts::{comp_of, start_of};
 use tc_entry::{Args, Comp, Entry};
 use tc_verdict::Run;
@@ -45,26 +45,31 @@ fn is_one_each(lefts: &[Left], behaviours: u16) -> bool
     has_one_each(lefts, behaviours)
 }
 
-/// Whether a log is its run's part of the history.
-#[tactic(auto, using(crate::proofs::Parts::part_hit), unfolding(crate::specs::Parts::part))]
-fn is_part(history: &[Entry], run: Run, log: &[Entry]) -> bool
-    ensures { IsTrue result ↔ (log.now ≡ part history.now run.0) }
+/// Whether two lists of entries are the same.
+fn are_same(entries: &[Entry], others: &[Entry]) -> bool
+    ensures { IsTrue result ↔ (entries.now ≡ others.now) }
 {
-    let mut rest = history;
-    let mut mine = log;
-    while let Some((entry, others)) = rest.split_first() {
-        rest = others;
-        if entry.caller.0 == run.0 {
-            let Some((first, more)) = mine.split_first() else {
-                return false;
-            };
-            if !first.same(entry) {
-                return false;
-            }
-            mine = more;
+    let mut rest = entries;
+    let mut more = others;
+    while let Some((entry, behind)) = rest.split_first() {
+        let Some((other, left)) = more.split_first() else {
+            return false;
+        };
+        if !entry.same(other) {
+            return false;
         }
+        rest = behind;
+        more = left;
     }
-    mine.is_empty()
+    more.is_empty()
+}
+
+/// Whether a log is its run's part of the history.
+fn is_part(parts: &[Sequence<Entry>], run: Run, log: &[Entry]) -> bool
+    requires within { run.0 < length parts.now }
+    ensures { IsTrue result ↔ (log.now ≡ slice_index_or parts.now run.0 []) }
+{
+    are_same(log, parts[usize::from(run.0)].as_slice())
 }
 
 /// Whether the component and the arguments of a run above 0 are those of its start.
@@ -81,11 +86,10 @@ fn is_silent_unstarted(left: &Left, comp: Option<Comp>) -> bool
     comp.is_some() || left.log().is_empty()
 }
 
-/// Whether what a run left fits the history.
-#[tactic(auto, using(crate::proofs::Parts::comp_known))]
-fn is_fitting(history: &[Entry], starts: &[Option<(Comp, Args)>], left: &Left) -> bool
-    requires known { KnowsStarts starts.now (reverse history.now) }
-    ensures { IsTrue result ↔ IsFitting history.now left.now }
+/// Whether what a run left fits what is known of starts and parts.
+fn is_fitting(starts: &[Option<(Comp, Args)>], parts: &[Sequence<Entry>], left: &Left) -> bool
+    requires within { left.now.run.0 < length parts.now }
+    ensures { IsTrue result ↔ IsKnown starts.now parts.now left.now }
 {
     if !is_started_so(left, &start_of(starts, left.run())) {
         return false;
@@ -93,15 +97,15 @@ fn is_fitting(history: &[Entry], starts: &[Option<(Comp, Args)>], left: &Left) -
     if !is_silent_unstarted(left, comp_of(starts, left.run())) {
         return false;
     }
-    is_part(history, left.run(), left.log())
+    is_part(parts, left.run(), left.log())
 }
 
-fn all_fitting(history: &[Entry], starts: &[Option<(Comp, Args)>], lefts: &[Left]) -> bool
-    requires known { KnowsStarts starts.now (reverse history.now) }
-    ensures { IsTrue result ↔ All (IsFitting history.now) lefts.now }
+fn all_fitting(starts: &[Option<(Comp, Args)>], parts: &[Sequence<Entry>], lefts: &[Left]) -> bool
+    requires within { All (λ l. l.run.0 < length parts.now) lefts.now }
+    ensures { IsTrue result ↔ All (IsKnown starts.now parts.now) lefts.now }
 {
     for left in lefts {
-        if !is_fitting(history, starts, left) {
+        if !is_fitting(starts, parts, left) {
             return false;
         }
     }
@@ -122,22 +126,26 @@ fn have_together(lefts: &[Left], count: usize) -> bool
     rest == 0
 }
 
-/// Whether what came back is whole, by the history and what each run was started with.
+/// Whether what came back is whole, by the history, what each run was started with, and each run's part.
+#[tactic(auto, using(crate::proofs::PartOf::known_fitting))]
 pub(crate) fn is_whole(
-    behaviours: u16,
     history: &[Entry],
     over: bool,
     starts: &[Option<(Comp, Args)>],
+    parts: &[Sequence<Entry>],
     lefts: &[Left],
 ) -> bool
     requires over { over ≡ table.is_over (reverse history.now) }
-    requires known { KnowsStarts starts.now (reverse history.now) }
-    ensures { IsTrue result ↔ IsWhole behaviours history.now lefts.now }
+    requires starts { KnowsStarts starts.now (reverse history.now) }
+    requires parts { KnowsParts parts.now history.now }
+    requires few { length parts.now ≤ 64 }
+    ensures { IsTrue result ↔ IsWhole (length parts.now) history.now lefts.now }
 {
+    let behaviours = parts.len() as u16;
     if !over || !is_one_each(lefts, behaviours) {
         return false;
     }
-    if !all_fitting(history, starts, lefts) {
+    if !all_fitting(starts, parts, lefts) {
         return false;
     }
     have_together(lefts, history.len())

@@ -9,6 +9,7 @@ mod ending;
 mod halt;
 pub mod laws;
 mod left;
+mod parts;
 mod pass;
 mod places;
 mod report;

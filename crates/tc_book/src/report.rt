@@ -1,11 +1,11 @@
 //! The report of a case whose runs came back whole.
-ghost use Rattle.std.specs.Prelude.{◌≡◌, ◌≤◌, ℕ, ◌++◌, true, IfOk, OnOk, length, map, filter, reverse};
+ghost use Rattle.std.specs.Prelude.{◌≡◌, ◌≤◌, ℕ, ◌++◌, true, IfOk, OnOk, length, map};
 ghost use Rattle.tc_table.specs.History.{comps, is_over};
 ghost use Rattle.tc_table.specs.Case.{past_of};
 ghost use Rattle.tc_table.specs.Legal.{IsLegal};
 ghost use Rattle.tc_table.specs.Local as verdicts;
-ghost use Rattle.tc_book.specs.Inside.{KnowsStarts};
-ghost use Rattle.tc_book.specs.Parts.{part, is_by, log_if, logs_below, logged};
+ghost use Rattle.tc_book.specs.Inside.{KnowsStarts, KnowsParts, logs_from};
+ghost use Rattle.tc_book.specs.Parts.{log_of, logs_below, logged};
 ghost use Rattle.tc_book.specs.Report.{IsOneHistory};
 
 use crate::closed::{Closed, RunLog};
@@ -16,59 +16,36 @@ use tc_entry::{Args, Comp, Entry, Verdict};
 use tc_table::Table;
 use tc_verdict::{NoMemory, Run};
 
-fn entries_of(alloc: Global, history: &[Entry], run: u16) -> Result<Vec<Entry>, AllocError>
-    ensures { IfOk result (λ v. v.items ≡ filter (is_by run) history.now) }
-{
-    history
-        .iter()
-        .filter(|entry| entry.caller.0 == run)
-        .map(|entry| entry.copy())
-        .collect(alloc)
-}
-
-/// The part of a history by one run.
-#[tactic(auto, unfolding(crate::specs::Parts::part))]
-fn part_of(alloc: Global, history: &[Entry], run: u16) -> Result<Sequence<Entry>, NoMemory>
-    ensures { IfOk result (λ s. s ≡ part history.now run) }
-{
-    Ok(Sequence::new(entries_of(alloc, history, run)?))
-}
-
 /// Adds the log of a run, if it was started.
 fn add_log(
-    alloc: Global,
     logs: &mut Vec<RunLog>,
-    history: &[Entry],
-    run: u16,
+    run: Run,
     comp: Option<Comp>,
+    entries: Sequence<Entry>,
 ) -> Result<(), NoMemory>
-    ensures { OnOk result (logs.new.items ≡ logs.old.items ++ log_if comp history.now run) }
+    ensures { OnOk result (logs.new.items ≡ logs.old.items ++ log_of comp run.0 entries) }
 {
     if let Some(comp) = comp {
-        let entries = part_of(alloc, history, run)?;
-        logs.push(RunLog {
-            run: Run(run),
-            comp,
-            entries,
-        })?;
+        logs.push(RunLog { run, comp, entries })?;
     }
     Ok(())
 }
 
-/// The logs of the runs that were started.
-#[tactic(auto, using(crate::proofs::Parts::comp_known, crate::proofs::Reporting::logs_more))]
+/// The logs of the runs that were started, by the entries of each run.
+#[tactic(auto, using(crate::proofs::Reporting::logs_from_more))]
 fn logs_of(
     alloc: Global,
-    behaviours: u16,
-    history: &[Entry],
     starts: &[Option<(Comp, Args)>],
+    parts: Vec<Sequence<Entry>>,
 ) -> Result<Vec<RunLog>, NoMemory>
-    requires known { KnowsStarts starts.now (reverse history.now) }
-    ensures { IfOk result (λ v. v.items ≡ logs_below history.now behaviours) }
+    requires few { length parts.items ≤ 64 }
+    ensures { IfOk result (λ v. v.items ≡ logs_from starts.now parts.items (length parts.items)) }
 {
     let mut logs = Vec::new(alloc);
-    for run in 0..behaviours {
-        add_log(alloc, &mut logs, history, run, comp_of(starts, Run(run)))?;
+    let mut run = Run(0);
+    for entries in parts {
+        add_log(&mut logs, run, comp_of(starts, run), entries)?;
+        run.0 += 1;
     }
     Ok(logs)
 }
@@ -96,29 +73,31 @@ fn copies(alloc: Global, history: &[Entry]) -> Result<Vec<Entry>, AllocError>
 }
 
 /// The report of a case that is over, where its logs have all its entries.
-#[tactic(auto, using(crate::proofs::Reporting::one_history))]
+#[tactic(auto, using(crate::proofs::Reporting::one_history, crate::proofs::Reporting::logs_known))]
 pub(crate) fn report(
     alloc: Global,
-    behaviours: u16,
     table: &Table,
     starts: &[Option<(Comp, Args)>],
+    parts: Vec<Sequence<Entry>>,
 ) -> Result<Closed, NoMemory>
-    requires behaviours { behaviours ≡ table.now.behaviours }
+    requires behaviours { length parts.items ≡ table.now.behaviours }
+    requires few { length parts.items ≤ 64 }
     requires legal { IsLegal table.now.behaviours (past_of table.now) }
-    requires known { KnowsStarts starts.now (past_of table.now) }
+    requires starts { KnowsStarts starts.now (past_of table.now) }
+    requires parts { KnowsParts parts.items table.now.history }
     requires over { is_over (past_of table.now) ≡ true }
-    requires as_long { length table.now.history ≡ logged (logs_below table.now.history behaviours) }
+    requires as_long { length table.now.history ≡ logged (logs_below table.now.history (length parts.items)) }
     ensures behaviours { IfOk result (λ c. c.behaviours ≡ table.now.behaviours) }
     ensures history { IfOk result (λ c. c.history ≡ table.now.history) }
     ensures report { IfOk result (λ c. IsOneHistory c) }
 {
-    let history = table.history();
-    let logs = logs_of(alloc, behaviours, history, starts)?;
+    let behaviours = parts.len() as u16;
+    let logs = logs_of(alloc, starts, parts)?;
     let locals = locals_of(alloc, table)?;
-    let entries = copies(alloc, history)?;
+    let history = copies(alloc, table.history())?;
     Ok(Closed {
         behaviours,
-        history: Sequence::new(entries),
+        history: Sequence::new(history),
         logs: Sequence::new(logs),
         locals: Sequence::new(locals),
         verdict: table.overall(),

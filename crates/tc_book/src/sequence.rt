@@ -1,7 +1,8 @@
 //! A list that is read.
-ghost use Rattle.std.specs.Prelude.{◌≡◌};
+ghost use Rattle.std.specs.Prelude.{◌≡◌, ◌++◌, ◌∷◌, [], OnOk};
 
 use std::marker::Model;
+use tc_verdict::NoMemory;
 
 /// A list that is read. Contracts see its items.
 #[derive(Drop)]
@@ -23,6 +24,14 @@ impl<T: Drop> Sequence<T> {
         ensures { result ≡ items.items }
     {
         Sequence { items }
+    }
+
+    /// Adds an item at the end.
+    pub(crate) fn push(&mut self, item: T) -> Result<(), NoMemory>
+        ensures added { OnOk result (self.new ≡ self.old ++ item ∷ []) }
+    {
+        self.items.push(item)?;
+        Ok(())
     }
 
     /// The items, in their order.

@@ -1,4 +1,9 @@
 //! The behaviour of a run, as a job that is called once.
+ghost use Rattle.std.specs.Prelude.{◌↔◌};
+ghost use Rattle.tc_book.specs.Passes.{PassState};
+ghost use Rattle.tc_exec.specs.declared.job.Back.{Back};
+
+use crate::behaviour::Behaviour;
 use tc_book::Pass;
 
 /// Why a behaviour came back.
@@ -30,12 +35,18 @@ impl Job {
     /// The job of this behaviour. It takes no memory.
     pub fn new(run: Box<dyn FnOnce(Pass) -> Back + Send>) -> Job
         requires { IsAlwaysCallable run }
+        ensures outcome { (p : PassState) (b : Back) → ⟦<Job as Behaviour>⟧.outcome result p b ↔ post run p b }
     {
         Job { run }
     }
+}
 
-    /// Calls the behaviour.
-    pub(crate) fn call(self, pass: Pass) -> Back {
+type Call = Box<dyn FnOnce(Pass) -> Back + Send>;
+
+impl Behaviour for Job {
+    ghost outcome = { λ j p b. Call.post j.run p b };
+
+    fn call(self, pass: Pass) -> Back {
         let Job { run } = self;
         run(pass)
     }

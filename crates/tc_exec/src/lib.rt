@@ -1,9 +1,21 @@
 //! Runs the behaviours of a test case, each on a thread of its own.
 #![tactic(auto)]
 
+mod behaviour;
+mod case;
+mod gate;
+mod gathered;
+mod handed;
 mod job;
 mod refusal;
+mod worker;
 
+pub use behaviour::Behaviour;
+pub use case::{run_case, run_case_with};
+pub use gate::Gate;
 pub use job::{Back, Ending, Job};
 pub use refusal::CaseError;
 pub use tc_book::Closed as CaseReport;
+
+#[cfg(test)]
+mod tests;

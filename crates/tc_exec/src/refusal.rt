@@ -1,4 +1,11 @@
 //! Why a case has no report.
+ghost use Rattle.std.specs.Prelude.{◌≡◌};
+ghost use Rattle.tc_exec.specs.declared.refusal.CaseError.TheVariants as refusals;
+ghost use Rattle.tc_exec.specs.Refusals.{of_close};
+
+use std::alloc::AllocError;
+use tc_book::CloseFault;
+use tc_verdict::NoMemory;
 
 /// Why a case has no report.
 #[derive(Clone, Copy, PartialEq, Eq, Debug)]
@@ -13,4 +20,31 @@ pub enum CaseError {
     NoThread,
     /// What the behaviours handed back is not whole.
     Torn,
+}
+
+impl From<NoMemory> for CaseError {
+    ghost from_gives = { λ _ e. e ≡ refusals.NoMemory };
+
+    fn from(_: NoMemory) -> CaseError {
+        CaseError::NoMemory
+    }
+}
+
+impl From<AllocError> for CaseError {
+    ghost from_gives = { λ _ e. e ≡ refusals.NoMemory };
+
+    fn from(_: AllocError) -> CaseError {
+        CaseError::NoMemory
+    }
+}
+
+impl From<CloseFault> for CaseError {
+    ghost from_gives = { λ fault e. e ≡ of_close fault };
+
+    fn from(fault: CloseFault) -> CaseError {
+        match fault {
+            CloseFault::Torn => CaseError::Torn,
+            CloseFault::NoMemory => CaseError::NoMemory,
+        }
+    }
 }

@@ -8,6 +8,7 @@ use crate::book::Book;
 use crate::close::is_whole;
 use crate::closed::{CloseFault, Closed};
 use crate::left::Left;
+use crate::parts::parts_of;
 use crate::report::report;
 use std::alloc::Global;
 
@@ -21,13 +22,15 @@ impl Book {
         ensures history { IfOk result (λ c. c.history ≡ self.now.history) }
         ensures report { IfOk result (λ c. IsOneHistory c) }
     {
-        let behaviours = self.starts.len() as u16;
         let history = self.table.history();
-        let over = self.table.is_over();
-        if !is_whole(behaviours, history, over, &self.starts, &lefts) {
+        let behaviours = self.starts.len() as u16;
+        let Ok(parts) = parts_of(alloc, history, behaviours) else {
+            return Err(CloseFault::NoMemory);
+        };
+        if !is_whole(history, self.table.is_over(), &self.starts, &parts, &lefts) {
             return Err(CloseFault::Torn);
         }
-        match report(alloc, behaviours, &self.table, &self.starts) {
+        match report(alloc, &self.table, &self.starts, parts) {
             Ok(closed) => Ok(closed),
             Err(_) => Err(CloseFault::NoMemory),
         }

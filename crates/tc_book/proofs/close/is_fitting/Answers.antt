@@ -1,5 +1,5 @@
 use Rattle.std.proofs.Common.{rules}
-use Rattle.tc_book.proofs.Parts.{comp_known}
+use Rattle.tc_book.proofs.PartOf.{comp_known}
 use Rattle.tc_book.proofs.close.is_fitting.Goals as goal
 
 pub returns : goal.returns

@@ -1,6 +1,7 @@
-use Rattle.std.proofs.Common.{◌≡◌}
-use Rattle.tc_book.specs.Parts.{logs_below}
+use Rattle.std.proofs.Common.{◌≡◌, length}
+use Rattle.tc_book.specs.Inside.{logs_from}
 use Rattle.tc_book.proofs.report.logs_of.Given as goal
 
-abbrev pub invariant-loop-run : goal.invariant-loop-run
-invariant-loop-run l = l.logs.items ≡ logs_below l.history l.run
+-- the logs of the runs so far
+abbrev pub invariant-loop-entries : goal.invariant-loop-entries
+invariant-loop-entries l = (l.run.0 ≡ length l.yielded) × (l.logs.items ≡ logs_from l.starts l.yielded (length l.yielded))

@@ -1,0 +1,96 @@
+-- The part of a history by a run, and what a run left.
+use Rattle.std.proofs.Common.{reverse, add-one, ◌+◌, length, take, get_or, ◌<◌, arith, zero, suc, ◌++◌, slice_index_or, ◌≡◌, ◌↔◌, ℕ, ◌==◌, if◌then◌else◌, option_map, Bool, true, false, Option, Some, None, List, [], ◌∷◌, refl, sym, ap, ◌∙◌}
+use Rattle.tc_entry.specs.declared.comp.Comp.{Comp}
+use Rattle.tc_entry.specs.declared.entry.Entry.{Entry}
+use Rattle.tc_entry.specs.declared.op.Op.{Op}
+use Rattle.tc_entry.specs.declared.op.Op.TheVariants as O
+use Rattle.tc_table.specs.History.{comp_of, first_some, is_ok, starts_run}
+use Rattle.tc_book.specs.Starts.{starts_with, start_of}
+use Rattle.tc_book.specs.Inside.{comp_by}
+use Rattle.std.specs.List.{All}
+use Rattle.tc_book.specs.Closing.{IsFitting}
+use Rattle.tc_book.specs.Passes.{LeftState}
+use Rattle.tc_book.specs.Parts.{part, is_by}
+use Rattle.std.proofs.Math.Seq.{take-suc}
+use Rattle.tc_book.specs.Inside.{start_at, IsKnown, KnowsStarts, KnowsParts}
+
+with_comp : (op : Op) (b : ℕ) → starts_run op b ≡ option_map (λ s. s.0) (starts_with op b)
+with_comp (O.Start c run args) b = by_test (run.0 == b)
+  where
+    by_test : (t : Bool) → (if t then Some c else None) ≡ option_map (λ s. s.0) (if t then Some (let s : Comp × List Comp = (c, args) in s) else None)
+    by_test true = refl
+    by_test false = refl
+with_comp _ b = refl
+
+-- the component of a run is that of its start
+pub comp_is : (past : List Entry) (b : ℕ) → comp_of past b ≡ comp_by b (start_of past b)
+comp_is [] b = by_test (b == 0)
+  where
+    by_test : (t : Bool) → (if t then Some (let z : Comp = record { 0 = 0 } in z) else None) ≡ (if t then Some (record { 0 = 0 }) else None)
+    by_test true = refl
+    by_test false = refl
+comp_is (e ∷ past) b =
+    ap (λ o. first_some o (if is_ok e.reply then starts_run e.op b else None)) (comp_is past b)
+    ∙ by_test (b == 0) (is_ok e.reply) (start_of past b) (starts_with e.op b) (starts_run e.op b) (with_comp e.op b)
+  where
+    by_test : (t ok : Bool) (before now : Option (Comp × List Comp)) (comp : Option Comp) → comp ≡ option_map (λ s. s.0) now →
+        first_some (if t then Some (record { 0 = 0 }) else option_map (λ s. s.0) before) (if ok then comp else None)
+        ≡ (if t then Some (record { 0 = 0 }) else option_map (λ s. s.0) (first_some before (if ok then now else None)))
+    by_test true ok before now comp h = refl
+    by_test false ok (Some x) now comp h = refl
+    by_test false true None now comp h = h
+    by_test false false None now comp h = refl
+
+pub comp_known : (starts : List (Option (Comp × List Comp))) (past : List Entry) (b : ℕ) → KnowsStarts starts past → comp_by b (start_at starts b) ≡ comp_of past b
+comp_known starts past b known = ap (comp_by b) (known b) ∙ sym (comp_is past b)
+
+pub none_more : (xs : List (List Entry)) (b : ℕ) → ((k : ℕ) → slice_index_or xs k [] ≡ []) → slice_index_or (xs ++ [] ∷ []) b [] ≡ []
+none_more [] zero h = refl
+none_more [] (suc b) h = refl
+none_more (x ∷ xs) zero h = h 0
+none_more (x ∷ xs) (suc b) h = none_more xs b (λ k. h (suc k))
+
+-- one entry more at the end
+pub part_end : (h : List Entry) (e : Entry) (b : ℕ) → part (h ++ e ∷ []) b ≡ part h b ++ (if is_by b e then e ∷ [] else [])
+unfolding part
+part_end [] e b = by_test (e.caller.0 == b)
+  where
+    by_test : (t : Bool) → (if t then e ∷ [] else []) ≡ [] ++ (if t then e ∷ [] else [])
+    by_test true = refl
+    by_test false = refl
+part_end (x ∷ h) e b = by_test (x.caller.0 == b) (part_end h e b)
+  where
+    by_test : (t : Bool) → part (h ++ e ∷ []) b ≡ part h b ++ (if is_by b e then e ∷ [] else []) →
+        (if t then x ∷ part (h ++ e ∷ []) b else part (h ++ e ∷ []) b) ≡ (if t then x ∷ part h b else part h b) ++ (if is_by b e then e ∷ [] else [])
+    by_test true more = ap (λ l. x ∷ l) more
+    by_test false more = more
+
+pub no_part : (parts : List (List Entry)) (b : ℕ) → slice_index_or parts b [] ≡ [] → slice_index_or parts b [] ≡ part [] b
+unfolding part
+no_part parts b none = none
+
+-- the parts of one entry more
+pub parts_more : (parts more : List (List Entry)) (h : List Entry) (i : ℕ) (e : Entry) → i < length h → e ≡ get_or h i e → length more ≡ length parts →
+    ((b : ℕ) → b < length parts → slice_index_or more b [] ≡ slice_index_or parts b [] ++ (if is_by b e then e ∷ [] else [])) →
+    KnowsParts parts (take i h) → KnowsParts more (take (i + 1) h)
+parts_more parts more h i e inside here as_many added known b below =
+    let before : b < length parts = omega (arith, as_many) in
+    let next : take (i + 1) h ≡ take i h ++ (e ∷ []) = rw add-one (take-suc h i e inside) ∙ ap (λ x. take i h ++ (x ∷ [])) (sym here) in
+    added b before ∙ ap (λ l. l ++ (if is_by b e then e ∷ [] else [])) (known b before) ∙ sym (part_end (take i h) e b) ∙ ap (λ l. part l b) (sym next)
+
+fits : (starts : List (Option (Comp × List Comp))) (parts : List (List Entry)) (h : List Entry) (l : LeftState) → KnowsStarts starts (reverse h) → KnowsParts parts h →
+    l.run.0 < length parts → IsKnown starts parts l ↔ IsFitting h l
+fits starts parts h l known parts_known within =
+    let part_is = parts_known l.run.0 within in
+    let comp = comp_known starts (reverse h) l.run.0 known in (
+      (λ w. record { part = w.part ∙ part_is; started = λ some. w.started some ∙ known l.run.0; unstarted = λ none. w.unstarted (comp ∙ none) }),
+      (λ w. record { part = w.part ∙ sym part_is; started = λ some. w.started some ∙ sym (known l.run.0); unstarted = λ none. w.unstarted (sym comp ∙ none) }),
+    )
+
+-- what fits the starts and the parts of a history fits the history
+pub known_fitting : (starts : List (Option (Comp × List Comp))) (parts : List (List Entry)) (h : List Entry) (lefts : List LeftState) → KnowsStarts starts (reverse h) → KnowsParts parts h →
+    All (λ l. l.run.0 < length parts) lefts → All (IsKnown starts parts) lefts ↔ All (IsFitting h) lefts
+known_fitting starts parts h lefts known parts_known within = (
+  (λ w k d q. (fits starts parts h (get_or lefts k d) known parts_known (within k d q)).0 (w k d q)),
+  (λ w k d q. (fits starts parts h (get_or lefts k d) known parts_known (within k d q)).1 (w k d q)),
+)

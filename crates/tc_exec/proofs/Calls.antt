@@ -1,0 +1,102 @@
+-- What workers left, one after another.
+use Rattle.std.proofs.Common.{ℕ, zero, suc, ◌≡◌, ◌≢◌, ◌<◌, ◌+◌, ◌==◌, inl, inr, false, None, Result, Ok, Err, IfOk, List, [], ◌∷◌, ◌++◌, All, length, get_or, map, reverse, refl, sym, ap, ◌∙◌, arith}
+use Rattle.std.proofs.lemmas.Bool.Decides.{nat_tests}
+use Rattle.std.proofs.lemmas.List.Elements.{All-get_or}
+use Rattle.tc_entry.specs.declared.entry.Entry.{Entry}
+use Rattle.tc_table.specs.History.{comp_of}
+use Rattle.tc_book.specs.declared.closed.Closed.{Closed}
+use Rattle.tc_book.specs.Closing.{IsFitting, IsWhole}
+use Rattle.tc_book.specs.Starts.{start_of}
+use Rattle.tc_book.specs.Inside.{comp_by}
+use Rattle.tc_book.proofs.Parts.{comp_is}
+use Rattle.tc_verdict.specs.declared.run.Run.{Run}
+use Rattle.tc_book.specs.Passes.{PassState, LeftState}
+use Rattle.tc_exec.specs.declared.handed.Handed.{Handed}
+use Rattle.tc_exec.specs.declared.job.Back.{Back}
+use Rattle.tc_exec.specs.declared.refusal.CaseError.{CaseError}
+use Rattle.tc_exec.specs.Case.{AreCalled}
+use Rattle.tc_exec.specs.Workers.{IsWorked, WasCalled, WasCalledFor, IsLeftBy, AreLeftBy}
+
+module _ {B : Type 0} (outcome : B → PassState → Back → Type 0) where
+  pushed : (runs : List Run) (bs : List B) (ls : List LeftState) (run : Run) (b : B) (l : LeftState) →
+      AreLeftBy outcome runs bs ls → IsLeftBy outcome run b l → AreLeftBy outcome (runs ++ run ∷ []) (bs ++ b ∷ []) (ls ++ l ∷ [])
+  pushed [] [] [] run b l all one = (one, tt)
+  pushed (_ ∷ runs) (_ ∷ bs) (_ ∷ ls) run b l all one = (all.0, pushed runs bs ls run b l all.1 one)
+  pushed [] [] (_ ∷ ls) run b l all one = absurd all
+  pushed [] (_ ∷ bs) ls run b l all one = absurd all
+  pushed (_ ∷ runs) [] ls run b l all one = absurd all
+  pushed (_ ∷ runs) (_ ∷ bs) [] run b l all one = absurd all
+
+  over : {A W : Type 0} (f : W → A) (xs : List A) (ws : List W) (w : W) → (xs ++ map f ws) ++ f w ∷ [] ≡ xs ++ map f (ws ++ w ∷ [])
+  over f [] [] w = refl
+  over f [] (v ∷ ws) w = ap (λ q. f v ∷ q) (over f [] ws w)
+  over f (x ∷ xs) ws w = ap (λ q. x ∷ q) (over f xs ws w)
+
+  -- one worker more was joined
+  pub joined : {W : Type 0} (run : W → Run) (behaviour : W → B) (runs : List Run) (bs : List B) (ls : List LeftState) (ws : List W) (w : W) (h : Handed) (after : List LeftState) →
+      AreLeftBy outcome (runs ++ map run ws) (bs ++ map behaviour ws) ls → IsWorked (run w) (outcome (behaviour w)) h → after ≡ ls ++ h.left ∷ [] →
+      AreLeftBy outcome (runs ++ map run (ws ++ w ∷ [])) (bs ++ map behaviour (ws ++ w ∷ [])) after
+  joined run behaviour runs bs ls ws w h after all one is =
+      rw (is, ← over run runs ws w, ← over behaviour bs ws w)
+      (pushed (runs ++ map run ws) (bs ++ map behaviour ws) ls (run w) (behaviour w) h.left all (h.ending, one))
+
+  -- what run k left
+  at : (runs : List Run) (bs : List B) (ls : List LeftState) → AreLeftBy outcome runs bs ls → (k : ℕ) (run : Run) (b : B) (l : LeftState) → k < length bs →
+      IsLeftBy outcome (get_or runs k run) (get_or bs k b) (get_or ls k l) × (k < length runs) × (k < length ls)
+  at [] [] [] all k run b l below = absurd (omega arith)
+  at (_ ∷ runs) (_ ∷ bs) (_ ∷ ls) all zero run b l below = (all.0, omega arith, omega arith)
+  at (_ ∷ runs) (_ ∷ bs) (_ ∷ ls) all (suc k) run b l below = let h = at runs bs ls all.1 k run b l (omega arith) in (h.0, omega (arith, h.1), omega (arith, h.2))
+  at [] [] (_ ∷ ls) all k run b l below = absurd all
+  at [] (_ ∷ bs) ls all k run b l below = absurd all
+  at (_ ∷ runs) [] ls all k run b l below = absurd all
+  at (_ ∷ runs) (_ ∷ bs) [] all k run b l below = absurd all
+
+  unstarted_comp : (b : ℕ) → 0 < b → comp_by b None ≡ None
+  unstarted_comp b above = let k : (b == 0) ≡ false = grind (arith, nat_tests) in rw k refl
+
+  -- a started run above 0 was not left unstarted
+  of_one : (history : List Entry) (run : Run) (b : B) (l : LeftState) → IsLeftBy outcome run b l → 0 < run.0 → IsFitting history l → comp_of (reverse history) run.0 ≢ None →
+      WasCalledFor run (outcome b)
+  of_one history run b l (ending, inr w) above fits started =
+      record { pass = w.pass; own = w.own; new = w.new; back = w.called.back; outcome_of = w.called.outcome_of }
+  of_one history run b l (ending, inl e) above fits started =
+      let left : l ≡ record { run = run; log = []; started = None } = ap (λ h. h.left) e in
+      let own : l.run ≡ run = ap (λ m. m.run) left in
+      let none : l.started ≡ None = ap (λ m. m.started) left in
+      let known : l.started ≡ start_of (reverse history) l.run.0 = fits.started (rw own above) in
+      let start : start_of (reverse history) run.0 ≡ None = rw (← own) (sym known ∙ none) in
+      absurd (started (comp_is (reverse history) run.0 ∙ (rw start (unstarted_comp run.0 above))))
+
+  pub all_called : (history : List Entry) (runs : List Run) (bs : List B) (ls : List LeftState) →
+      AreLeftBy outcome runs bs ls → ((k : ℕ) (run : Run) → k < length runs → (get_or runs k run).0 ≡ k) → All (IsFitting history) ls →
+      ((b : B) → WasCalledFor (record { 0 = 0 }) (outcome (get_or bs 0 b))) →
+      (k : ℕ) (b : B) → k < length bs → comp_of (reverse history) k ≢ None → WasCalledFor (record { 0 = k }) (outcome (get_or bs k b))
+  all_called history runs bs ls all numbered fits main zero b below started = main b
+  all_called history runs bs ls all numbered fits main (suc k) b below started =
+      let l : LeftState = record { run = record { 0 = 0 }; log = []; started = None } in
+      let h = at runs bs ls all (suc k) (record { 0 = 0 }) b l below in
+      let number = numbered (suc k) (record { 0 = 0 }) h.1 in
+      let same : get_or runs (suc k) (record { 0 = 0 }) ≡ record { 0 = suc k } = ap (λ m. let r : Run = record { 0 = m } in r) number in
+      let c = of_one history (get_or runs (suc k) (record { 0 = 0 })) (get_or bs (suc k) b) (get_or ls (suc k) l) h.0 (rw number (omega arith)) (All-get_or (IsFitting history) ls (suc k) l h.2 fits) (rw number started) in
+      rw (← same) c
+
+  -- what the main behaviour left, as the first of all
+  pub main_left : (p : PassState) (b : B) (h : Handed) → p.run ≡ record { 0 = 0 } → p.log ≡ [] → WasCalled (outcome b p) h →
+      AreLeftBy outcome (record { 0 = 0 } ∷ []) (b ∷ []) (h.left ∷ [])
+  main_left p b h own new called = ((h.ending, inr (record { pass = p; own = own; new = new; called = called })), tt)
+
+  pub main_called : (p : PassState) (b : B) (h : Handed) → p.run ≡ record { 0 = 0 } → p.log ≡ [] → WasCalled (outcome b p) h → WasCalledFor (record { 0 = 0 }) (outcome b)
+  main_called p b h own new called = record { pass = p; own = own; new = new; back = called.back; outcome_of = called.outcome_of }
+
+  -- run 0, and then the others from 1 on
+  pub numbered : (runs : List Run) → ((k : ℕ) (run : Run) → k < length runs → (get_or runs k run).0 ≡ k + 1) →
+      (k : ℕ) (run : Run) → k < length (let r : List Run = record { 0 = 0 } ∷ runs in r) → (get_or (let r : List Run = record { 0 = 0 } ∷ runs in r) k run).0 ≡ k
+  numbered runs h zero run below = refl
+  numbered runs h (suc k) run below = h k run (omega arith) ∙ omega arith
+
+  pub report_called : (result : Result Closed CaseError) (runs : List Run) (bs : List B) (ls : List LeftState) →
+      AreLeftBy outcome runs bs ls → ((k : ℕ) (run : Run) → k < length runs → (get_or runs k run).0 ≡ k) →
+      ((b : B) → WasCalledFor (record { 0 = 0 }) (outcome (get_or bs 0 b))) →
+      IfOk result (λ c. IsWhole c.behaviours c.history ls) → IfOk result (AreCalled outcome bs)
+  report_called (Ok c) runs bs ls all number main whole = all_called c.history runs bs ls all number whole.fitting main
+  report_called (Err e) runs bs ls all number main whole = tt

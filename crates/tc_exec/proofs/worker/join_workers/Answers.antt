@@ -1,0 +1,15 @@
+use Rattle.std.proofs.Common.{arith}
+use Rattle.tc_exec.proofs.Lists.{passed}
+use Rattle.tc_exec.proofs.Calls.{joined}
+use Rattle.tc_exec.proofs.worker.join_workers.Goals as goal
+
+pub loop-worker-preserved : goal.loop-worker-preserved
+loop-worker-preserved g c =
+    let was = c.loop-worker.invariant in (
+      rw c.take.ensures.room (omega (arith, was.0, c.in-Some.ensures.steps.1, c.take.ensures.count)),
+      omega (arith, was.1, c.in-Some.ensures.steps.1, c.take.ensures.count),
+      passed c.loop-worker.yielded c.in-Some.worker _ _ _ was.2 c.in-Some.ensures.steps.0,
+      (λ runs bs before.
+          joined g.B.Behaviour.outcome (λ w. w.promise.run) (λ w. w.promise.behaviour.value) runs bs _ c.loop-worker.yielded c.in-Some.worker c.join.result _
+          (was.3 runs bs before) c.join.ensures c.take.ensures.left),
+    )

@@ -1,0 +1,33 @@
+-- What the report of a case says.
+use Rattle.std.specs.Prelude.{ℕ, ◌≡◌, ◌≢◌, ◌<◌, Some, None, List, length, reverse, All, slice_index_or}
+use Rattle.tc_entry.specs.declared.comp.Comp.{Comp}
+use Rattle.tc_entry.specs.declared.entry.Entry.{Entry}
+use Rattle.tc_book.specs.declared.closed.Closed.{Closed}
+use Rattle.tc_book.specs.declared.closed.RunLog.{RunLog}
+use Rattle.tc_table.specs.History.{comp_of}
+use Rattle.tc_book.specs.Passes.{PassState}
+use Rattle.tc_book.specs.Report.{IsOneHistory}
+use Rattle.tc_exec.specs.declared.job.Back.{Back}
+use Rattle.tc_exec.specs.Workers.{WasCalledFor}
+use Rattle.tc_book.specs.Starts.{start_of}
+
+-- a Start of this log's run, on the log's component, was replied Ok in the history
+abbrev pub WasStartedIn : List Entry → RunLog → Type 0
+WasStartedIn history log = 0 < log.run.0 → (args : List Comp) × (start_of (reverse history) log.run.0 ≡ Some (log.comp, args))
+
+-- The report of a case of n behaviours. It has one history of one thread, which holds every call that the behaviours
+-- made on their passes, each once and in its caller's order, with the reply that the component table gives at that
+-- point; once an entry has ended the case no component is alive; the verdict is the worst of the local verdicts.
+-- A behaviour other than that of run 0 has a log only where a Start of its run was replied Ok.
+pub record IsCaseReport (n : ℕ) (c : Closed) : Type 0 where
+  -- the history, the logs, the local verdicts and the overall verdict
+  pub one_history : IsOneHistory c
+  -- as many behaviours as jobs
+  pub behaviours : c.behaviours ≡ n
+  -- each log is of a run that was started
+  pub started : All (WasStartedIn c.history) c.logs
+
+-- The behaviours are those of the runs, in the order of the runs' numbers: each of which the run was started was called,
+-- with a new pass of that run.
+abbrev pub AreCalled : {B : Type 0} → (B → PassState → Back → Type 0) → List B → Closed → Type 0
+AreCalled outcome jobs c = (k : ℕ) (b : _) → k < length jobs → comp_of (reverse c.history) k ≢ None → WasCalledFor (record { 0 = k }) (outcome (slice_index_or jobs k b))

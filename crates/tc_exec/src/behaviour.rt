@@ -1,0 +1,15 @@
+//! What a run calls.
+ghost use Rattle.tc_book.specs.Passes.{PassState};
+ghost use Rattle.tc_exec.specs.declared.job.Back.{Back};
+
+use crate::job::Back;
+use tc_book::Pass;
+
+/// What a run calls once, with its pass. Contracts see what each pass may come back as.
+pub trait Behaviour: Send + Drop + 'static {
+    ghost outcome: { Self → PassState → Back → Type 0 };
+
+    /// Calls the behaviour.
+    fn call(self, pass: Pass) -> Back
+        ensures { outcome self pass result };
+}

@@ -1,0 +1,161 @@
+//! The run of a case.
+ghost use Rattle.std.specs.Prelude.{ℕ, ◌≡◌, ◌≢◌, ◌↔◌, ◌<◌, ◌≤◌, ◌+◌, ◌-◌, ◌∷◌, [], true, IfOk, IfErr, Err, length, map, slice_index_or};
+ghost use Rattle.std.specs.Vec.{vec_len, vec_capacity};
+ghost use Rattle.tc_verdict.specs.declared.run.Run.{Run};
+ghost use Rattle.tc_book.specs.Closing.{IsWhole};
+ghost use Rattle.tc_exec.specs.Case.{IsCaseReport, AreCalled};
+ghost use Rattle.tc_exec.specs.declared.refusal.CaseError.TheVariants.{NoBehaviours, TooManyBehaviours, NoMemory, NoThread};
+
+use crate::behaviour::Behaviour;
+use crate::gate::{Everyone, Gate};
+use crate::gathered::Gathered;
+use crate::handed::{Handed, act};
+use crate::job::Job;
+use crate::refusal::CaseError;
+use crate::worker::{Task, join_workers, make_workers};
+use std::alloc::Global;
+use std::sync::Wait;
+use std::thread::{PromisedHandle, Threads};
+use tc_book::{Closed, Pass, Shared, close_case, open_case};
+
+/// The most behaviours of a case.
+const MOST: usize = 64;
+
+/// The number of behaviours, where so many jobs can be run on so many threads.
+fn behaviours_of(jobs: usize, threads: u16) -> Result<u16, CaseError>
+    ensures none { (jobs ≡ 0) ↔ (result ≡ Err NoBehaviours) }
+    ensures many { (64 < jobs) ↔ (result ≡ Err TooManyBehaviours) }
+    ensures threads { ((0 < jobs) × (jobs ≤ 64) × (threads < jobs - 1)) ↔ (result ≡ Err NoThread) }
+    ensures count { IfOk result (λ n. n ≡ jobs) }
+{
+    if jobs == 0 {
+        return Err(CaseError::NoBehaviours);
+    }
+    if jobs > MOST {
+        return Err(CaseError::TooManyBehaviours);
+    }
+    if jobs - 1 > usize::from(threads) {
+        return Err(CaseError::NoThread);
+    }
+    Ok(jobs as u16)
+}
+
+/// Closes a case of which all runs have left. Where memory was refused to a behaviour, nothing else is judged.
+#[tactic(auto, using(crate::proofs::Reporting::case_report))]
+fn close<R: Wait>(
+    rt: &R,
+    alloc: Global,
+    shared: Shared,
+    gathered: Gathered,
+) -> Result<Closed, CaseError>
+    ensures starved { gathered.starved ≡ true → result ≡ Err NoMemory }
+    ensures kind { (result ≢ Err NoBehaviours) × (result ≢ Err TooManyBehaviours) × (result ≢ Err NoThread) }
+    ensures whole { IfOk result (λ c. IsWhole c.behaviours c.history gathered.lefts.items) }
+    ensures report { IfOk result (IsCaseReport (vec_len gathered.lefts)) }
+{
+    if gathered.starved {
+        return Err(CaseError::NoMemory);
+    }
+    Ok(close_case(rt, alloc, shared, gathered.lefts)?)
+}
+
+/// Calls the behaviour of run 0, joins the workers, and closes the case.
+fn run_made<R: Threads + Wait, B: Behaviour>(
+    rt: &R,
+    alloc: Global,
+    shared: Shared,
+    pass: Pass,
+    first: B,
+    workers: Vec<PromisedHandle<Handed, Task<B>>>,
+    gathered: Gathered,
+) -> Result<Closed, CaseError>
+    requires main { (pass.run ≡ record { 0 = 0 }) × (pass.log ≡ []) }
+    requires empty { gathered.lefts.items ≡ [] }
+    requires room { vec_len workers < vec_capacity gathered.lefts }
+    requires runs { (k : ℕ) (run : Run) → k < length (map (λ w. w.promise.run) workers.items) → (slice_index_or (map (λ w. w.promise.run) workers.items) k run).0 ≡ k + 1 }
+    ensures kind { (result ≢ Err NoBehaviours) × (result ≢ Err TooManyBehaviours) × (result ≢ Err NoThread) }
+    ensures report { IfOk result (IsCaseReport (vec_len workers + 1)) }
+    ensures called { IfOk result (AreCalled B.outcome (first ∷ map (λ w. w.promise.behaviour.value) workers.items)) }
+{
+    let mut gathered = gathered;
+    gathered.take(act(rt, first, pass));
+    join_workers(rt, workers, &mut gathered);
+    close(rt, alloc, shared, gathered)
+}
+
+/// Runs the behaviours of a case, behaviour k as that of run k.
+fn run_jobs<R: Threads + Wait + Copy + Send + 'static, B: Behaviour, G: Gate>(
+    rt: &R,
+    alloc: Global,
+    behaviours: u16,
+    jobs: Vec<B>,
+    gate: &mut G,
+) -> Result<Closed, CaseError>
+    requires some { 1 ≤ behaviours }
+    requires few { behaviours ≤ 64 }
+    requires each { vec_len jobs ≡ behaviours }
+    ensures kind { (result ≢ Err NoBehaviours) × (result ≢ Err TooManyBehaviours) }
+    ensures alone { behaviours ≡ 1 → result ≢ Err NoThread }
+    ensures report { IfOk result (IsCaseReport behaviours) }
+    ensures called { IfOk result (AreCalled B.outcome jobs.items) }
+{
+    let count = usize::from(behaviours);
+    let (shared, pass, tickets) = open_case(alloc, behaviours)?;
+    let mut workers = Vec::with_capacity(alloc, count)?;
+    let gathered = Gathered::new(alloc, count)?;
+    let mut jobs = jobs;
+    let first = jobs.remove(0);
+    if !make_workers(rt, gate, tickets, jobs, &mut workers) {
+        let mut gathered = gathered;
+        pass.leave(rt);
+        join_workers(rt, workers, &mut gathered);
+        return Err(CaseError::NoThread);
+    }
+    run_made(rt, alloc, shared, pass, first, workers, gathered)
+}
+
+/// Runs a test case: job k is the behaviour of run k (ES 201 873-1, the execute statement).
+///
+/// Every job but job 0 has a worker, a thread that waits for the start of its run and then calls the job with the pass
+/// of the run; the job of a run that is never started is dropped. All workers are made before job 0 is called, on the
+/// calling thread, and all are joined before the call is answered.
+///
+/// The report is one history of one thread, and each job of which the run was started was called with a new pass of that
+/// run. Refused are a case without jobs, one of more than 64, and one that needs
+/// more workers than `threads`; then a worker that could not be made, where no job is called; then memory, refused here
+/// or to a job; and then what the jobs handed back, if it is not whole. Jobs and workers are this project's own.
+pub fn run_case<R: Threads + Wait + Copy + Send + 'static>(
+    rt: &R,
+    alloc: Global,
+    jobs: Vec<Job>,
+    threads: u16,
+) -> Result<Closed, CaseError>
+    ensures none { (vec_len jobs ≡ 0) ↔ (result ≡ Err NoBehaviours) }
+    ensures many { (64 < vec_len jobs) ↔ (result ≡ Err TooManyBehaviours) }
+    ensures threads { (0 < vec_len jobs) × (vec_len jobs ≤ 64) × (threads < vec_len jobs - 1) → result ≡ Err NoThread }
+    ensures alone { vec_len jobs ≡ 1 → result ≢ Err NoThread }
+    ensures report { IfOk result (IsCaseReport (vec_len jobs)) }
+    ensures called { IfOk result (AreCalled ⟦<Job as Behaviour>⟧.outcome jobs.items) }
+{
+    run_case_with(rt, alloc, jobs, threads, &mut Everyone)
+}
+
+/// Runs a test case as `run_case` does. The gate is asked for each worker, in the order of the runs, right before its
+/// thread is made; where it refuses one, no later run is asked about.
+pub fn run_case_with<R: Threads + Wait + Copy + Send + 'static, G: Gate>(
+    rt: &R,
+    alloc: Global,
+    jobs: Vec<Job>,
+    threads: u16,
+    gate: &mut G,
+) -> Result<Closed, CaseError>
+    ensures none { (vec_len jobs ≡ 0) ↔ (result ≡ Err NoBehaviours) }
+    ensures many { (64 < vec_len jobs) ↔ (result ≡ Err TooManyBehaviours) }
+    ensures threads { (0 < vec_len jobs) × (vec_len jobs ≤ 64) × (threads < vec_len jobs - 1) → result ≡ Err NoThread }
+    ensures alone { vec_len jobs ≡ 1 → result ≢ Err NoThread }
+    ensures report { IfOk result (IsCaseReport (vec_len jobs)) }
+    ensures called { IfOk result (AreCalled ⟦<Job as Behaviour>⟧.outcome jobs.items) }
+{
+    let behaviours = behaviours_of(jobs.len(), threads)?;
+    run_jobs(rt, alloc, behaviours, jobs, gate)
+}

@@ -1,0 +1,49 @@
+//! What a run hands back to the executor.
+ghost use Rattle.std.specs.Prelude.{◌≡◌};
+ghost use Rattle.tc_exec.specs.Workers.{WasCalled, IsWorked};
+
+use crate::behaviour::Behaviour;
+use crate::job::{Back, Ending};
+use std::sync::Wait;
+use tc_book::{Left, Pass, Ticket};
+
+/// What a run left, and why its behaviour came back. Only `act` and `work` make one.
+#[derive(Drop)]
+pub(crate) struct Handed {
+    left: Left,
+    ending: Ending,
+}
+
+impl Handed {
+    /// What the run left, and why its behaviour came back.
+    pub(crate) fn into_parts(self) -> (Left, Ending)
+        ensures { (result.0 ≡ self.left) × (result.1 ≡ self.ending) }
+    {
+        (self.left, self.ending)
+    }
+}
+
+/// Calls a behaviour with this pass, and leaves the pass that it hands back.
+pub(crate) fn act<R: Wait, B: Behaviour>(rt: &R, behaviour: B, pass: Pass) -> Handed
+    ensures { WasCalled (B.outcome behaviour pass) result }
+{
+    let Back { pass, ending } = behaviour.call(pass);
+    Handed {
+        left: pass.leave(rt),
+        ending,
+    }
+}
+
+/// Waits for the start of the run, and calls the behaviour once with its pass. Where the run is never started the behaviour
+/// is dropped.
+pub(crate) fn work<R: Wait, B: Behaviour>(rt: &R, behaviour: B, ticket: Ticket) -> Handed
+    ensures { IsWorked ticket (B.outcome behaviour) result }
+{
+    match ticket.await_start(rt) {
+        Ok(pass) => act(rt, behaviour, pass),
+        Err(left) => Handed {
+            left,
+            ending: Ending::Returned,
+        },
+    }
+}

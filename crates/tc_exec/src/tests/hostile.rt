@@ -1,0 +1,124 @@
+//! Behaviours that do what they should not, and threads that are refused.
+use crate::tests::{Behaviour, back};
+use crate::*;
+use std::sync::atomic::{AtomicU64, Ordering};
+use std::sync::{Arc, Wait};
+use std::test::Fail;
+use tc_book::{Halt, Pass, open_case};
+use tc_entry::{Args, Comp, Group, Reply, Run, UserVerdict};
+use tc_table::replay_check;
+
+/// Allows no worker of one run, and keeps the runs that it was asked for.
+#[derive(Drop)]
+struct Refuses {
+    run: Run,
+    asked: Vec<Run>,
+}
+
+impl Gate for Refuses {
+    fn allow(&mut self, run: Run) -> bool {
+        self.asked.push(run).is_ok() && run != self.run
+    }
+}
+
+#[test]
+fn gate_refuses_a_thread(rt: HostRuntime) -> Result<(), Fail> {
+    let alloc = rt.alloc();
+    let called = Arc::new(alloc, AtomicU64::new(0))?;
+    let mut jobs = Vec::new(alloc);
+    for _ in 0..4 {
+        let theirs = Arc::try_clone(&called)?;
+        let run: Behaviour = Box::new(alloc, move |pass: Pass| {
+            theirs.store(1, Ordering::SeqCst);
+            back(pass, Ok(()))
+        })?;
+        jobs.push(Job::new(run))?;
+    }
+    let mut gate = Refuses {
+        run: Run(2),
+        asked: Vec::new(alloc),
+    };
+    let refused = run_case_with(&rt, alloc, jobs, 3, &mut gate);
+    assert!(rt; matches!(refused, Err(CaseError::NoThread)));
+    assert_eq!(rt; called.load(Ordering::SeqCst), 0);
+    assert_eq!(rt; gate.asked.as_slice(), [Run(1), Run(2)].as_slice());
+    Ok(())
+}
+
+#[test]
+fn pass_of_another_case(rt: HostRuntime) -> Result<(), Fail> {
+    let alloc = rt.alloc();
+    for (ending, refusal) in [
+        (Ending::Returned, CaseError::Torn),
+        (Ending::Starved, CaseError::NoMemory),
+    ] {
+        let (_, other, _) = open_case(alloc, 1)?;
+        let run: Behaviour = Box::new(alloc, move |pass: Pass| {
+            let mut pass = pass;
+            let _ = pass.kill(&rt, Group::One(Comp(0)));
+            Back {
+                pass: other,
+                ending,
+            }
+        })?;
+        let jobs = vec![in alloc; Job::new(run)]?;
+        let Err(error) = run_case(&rt, alloc, jobs, 64) else {
+            panic!(rt; "what came back is not whole")
+        };
+        assert_eq!(rt; error, refusal);
+    }
+    Ok(())
+}
+
+/// Starts run 1 on component 1 with component 2 as its argument, and kills all.
+fn kills_all<R: Wait>(rt: &R, pass: &mut Pass) -> Result<(), Halt> {
+    let comp = pass.create(rt, true)?;
+    let other = pass.create(rt, true)?;
+    let mut args = Args::new();
+    args.push(other);
+    pass.start(rt, comp, Run(1), &args)?;
+    pass.kill(rt, Group::All)
+}
+
+/// Starts run 2 on the component that is the argument.
+fn starts_argument<R: Wait>(rt: &R, pass: Pass) -> Back {
+    let mut pass = pass;
+    let made = match pass.args().first().copied() {
+        Some(comp) => pass.start(rt, comp, Run(2), &Args::new()),
+        None => Ok(()),
+    };
+    back(pass, made)
+}
+
+#[test]
+fn start_against_kill(rt: HostRuntime) -> Result<(), Fail> {
+    let alloc = rt.alloc();
+    for _ in 0..200 {
+        let flag = Arc::new(alloc, AtomicU64::new(0))?;
+        let theirs = Arc::try_clone(&flag)?;
+        let first: Behaviour = Box::new(alloc, move |pass: Pass| {
+            let mut pass = pass;
+            let made = kills_all(&rt, &mut pass);
+            back(pass, made)
+        })?;
+        let second: Behaviour = Box::new(alloc, move |pass: Pass| starts_argument(&rt, pass))?;
+        let third: Behaviour = Box::new(alloc, move |pass: Pass| {
+            let mut pass = pass;
+            theirs.store(1, Ordering::SeqCst);
+            let made = pass.set_verdict(&rt, UserVerdict::Fail);
+            back(pass, made)
+        })?;
+        let jobs = vec![in alloc; Job::new(first), Job::new(second), Job::new(third)]?;
+        let report = run_case(&rt, alloc, jobs, 64)?;
+        let logs = report.logs.as_slice();
+        assert!(rt; logs.len() >= 2);
+        let start = logs[1].entries.as_slice();
+        assert!(rt; start.len() >= 1);
+        assert!(rt; matches!(start[0].reply, Reply::Ok | Reply::Ended));
+        let ran = flag.load(Ordering::SeqCst) == 1;
+        assert_eq!(rt; ran, logs.iter().any(|log| log.run == Run(2)));
+        let verdict = replay_check(alloc, 3, report.history.as_slice())?;
+        assert_eq!(rt; verdict, report.verdict);
+    }
+    Ok(())
+}

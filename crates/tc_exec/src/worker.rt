@@ -1,0 +1,80 @@
+//! The threads of a case.
+ghost use Rattle.std.specs.Prelude.{◌≡◌, ◌≤◌, ◌+◌, ◌++◌, [], IsTrue, List, length, map};
+ghost use Rattle.std.specs.Vec.{vec_len, vec_capacity};
+ghost use Rattle.tc_verdict.specs.declared.run.Run.{Run};
+ghost use Rattle.tc_exec.specs.Workers.{IsWorked, AreLeftBy};
+
+use crate::behaviour::Behaviour;
+use crate::gate::Gate;
+use crate::gathered::Gathered;
+use crate::handed::{Handed, work};
+use std::snapshot::Snapshot;
+use std::sync::Wait;
+use std::thread;
+use std::thread::{Promise, PromisedHandle, Threads};
+use tc_book::Ticket;
+use tc_verdict::Run;
+
+/// What a worker promises: to hand back what its behaviour made of its run.
+#[derive(Drop)]
+pub(crate) struct Task<B: Behaviour> {
+    run: Run,
+    behaviour: Snapshot<B>,
+}
+
+impl<B: Behaviour> Promise<Handed> for Task<B> {
+    ghost kept_by = { λ t h. IsWorked t.run (B.outcome t.behaviour.value) h };
+}
+
+/// Makes the worker of each ticket, in their order, and says whether all were made.
+pub(crate) fn make_workers<R: Threads + Wait + Copy + Send + 'static, B: Behaviour, G: Gate>(
+    rt: &R,
+    gate: &mut G,
+    tickets: Vec<Ticket>,
+    behaviours: Vec<B>,
+    workers: &mut Vec<PromisedHandle<Handed, Task<B>>>,
+) -> bool
+    requires empty { workers.old.items ≡ [] }
+    requires room { vec_len tickets ≤ vec_capacity workers.old }
+    requires pairs { vec_len tickets ≡ vec_len behaviours }
+    ensures most { vec_len workers.new ≤ vec_len tickets }
+    ensures all { IsTrue result → vec_len workers.new ≡ vec_len tickets }
+    ensures runs { IsTrue result → map (λ w. w.promise.run) workers.new.items ≡ tickets.items }
+    ensures behaviours { IsTrue result → map (λ w. w.promise.behaviour.value) workers.new.items ≡ behaviours.items }
+    ensures none { vec_len tickets ≡ 0 → IsTrue result }
+{
+    let rt = *rt;
+    let mut tickets = tickets.into_iter();
+    for behaviour in behaviours {
+        let Some(ticket) = tickets.next() else {
+            return false;
+        };
+        if !gate.allow(ticket.run()) {
+            return false;
+        }
+        let task = Task {
+            run: ticket.run(),
+            behaviour: Snapshot::of(&behaviour),
+        };
+        let Ok(worker) = thread::spawn_with(&rt, task, move || work(&rt, behaviour, ticket)) else {
+            return false;
+        };
+        workers.push_reserved(worker);
+    }
+    true
+}
+
+/// Joins all workers, and takes what they hand back.
+pub(crate) fn join_workers<R: Threads, B: Behaviour>(
+    rt: &R,
+    workers: Vec<PromisedHandle<Handed, Task<B>>>,
+    gathered: &mut Gathered,
+)
+    requires room { vec_len gathered.old.lefts + vec_len workers ≤ vec_capacity gathered.old.lefts }
+    ensures all { vec_len gathered.new.lefts ≡ vec_len gathered.old.lefts + vec_len workers }
+    ensures lefts { (runs : List Run) (bs : _) → AreLeftBy B.outcome runs bs gathered.old.lefts.items → AreLeftBy B.outcome (runs ++ map (λ w. w.promise.run) workers.items) (bs ++ map (λ w. w.promise.behaviour.value) workers.items) gathered.new.lefts.items }
+{
+    for worker in workers {
+        gathered.take(worker.join(rt));
+    }
+}

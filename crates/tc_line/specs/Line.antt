@@ -1,0 +1,112 @@
+-- What a line says.
+use Rattle.std.specs.Prelude.{ℕ, ◌≡◌, ◌==◌, ◌&&◌, nat_le, not, Bool, true, false, if◌then◌else◌, Option, Some, None, Result, Ok, Err, List, [], ◌∷◌, codes}
+use Rattle.std.specs.List.{list_all}
+use Rattle.tc_line.specs.declared.kind.ScriptKind.{ScriptKind}
+use Rattle.tc_line.specs.declared.kind.ScriptKind.TheVariants as F
+use Rattle.tc_line.specs.declared.kind.LineFault.{LineFault}
+use Rattle.tc_line.specs.declared.kind.LineFault.TheVariants as E
+use Rattle.tc_line.specs.declared.line.Keyword.{Keyword}
+use Rattle.tc_line.specs.declared.line.Keyword.TheVariants as K
+use Rattle.tc_line.specs.declared.line.Reference.{Reference}
+use Rattle.tc_line.specs.declared.line.Reference.TheVariants as R
+use Rattle.tc_line.specs.declared.line.GroupWord.{GroupWord}
+use Rattle.tc_line.specs.declared.line.GroupWord.TheVariants as G
+use Rattle.tc_line.specs.declared.line.TargetWord.{TargetWord}
+use Rattle.tc_line.specs.declared.line.TargetWord.TheVariants as T
+use Rattle.tc_line.specs.declared.line.Call.TheVariants as C
+use Rattle.tc_line.specs.declared.line.Line.{Line}
+use Rattle.tc_line.specs.declared.line.Line.TheVariants as L
+use Rattle.tc_line.specs.Text.{words}
+use Rattle.tc_line.specs.Words.{is_text, name, keyword, verdict}
+
+infixl 10 ◌>>=◌
+abbrev pub ◌>>=◌ : {A B E : Type 0} → Result A E → (A → Result B E) → Result B E
+(Ok x) >>= f = f x
+(Err e) >>= f = Err e
+
+-- all of them, or the first fault
+abbrev pub each : {A B E : Type 0} → (A → Result B E) → List A → Result (List B) E
+each f [] = Ok []
+each f (x ∷ xs) = do
+  y ← f x
+  ys ← each f xs
+  Ok (y ∷ ys)
+
+abbrev pub or_fault : {A : Type 0} → Option A → ScriptKind → Result A ScriptKind
+or_fault (Some x) kind = Ok x
+or_fault None kind = Err kind
+
+unfoldable pub named : List ℕ → Result (List ℕ) ScriptKind
+named word = or_fault (name word) F.BadName
+
+unfoldable pub reference : List ℕ → Result Reference ScriptKind
+reference word =
+    if is_text word (codes "mtc") then Ok R.Main
+    else if is_text word (codes "self") then Ok R.Own
+    else named word >>= λ n. Ok (R.Bound n)
+
+unfoldable pub group : List ℕ → Result GroupWord ScriptKind
+group word = if is_text word (codes "all") then Ok G.All else reference word >>= λ r. Ok (G.One r)
+
+unfoldable pub target : List ℕ → Result TargetWord ScriptKind
+target word =
+    if is_text word (codes "any") then Ok T.Any
+    else if is_text word (codes "all") then Ok T.All
+    else reference word >>= λ r. Ok (T.One r)
+
+abbrev pub create : List ℕ → Bool → Result Line ScriptKind
+create r alive = named r >>= λ n. Ok (L.Step (C.Create n alive))
+
+abbrev pub wait : List ℕ → Bool → Result Line ScriptKind
+wait t killed = target t >>= λ u. Ok (L.Step (C.Wait killed u))
+
+-- the line that a keyword and the words after it make
+unfoldable pub form : Keyword → List (List ℕ) → Result Line ScriptKind
+form K.TestCase (n ∷ []) = named n >>= λ m. Ok (L.TestCase m)
+form K.Behaviour (n ∷ ps) = do
+  m ← named n
+  qs ← each named ps
+  Ok (L.Behaviour m qs)
+form K.End [] = Ok L.End
+form K.Create (r ∷ []) = create r false
+form K.Create (r ∷ w ∷ []) = if is_text w (codes "alive") then create r true else Err F.BadLine
+form K.Start (x ∷ b ∷ as_given) = do
+  on ← reference x
+  m ← named b
+  args ← each reference as_given
+  Ok (L.Step (C.Start on m args))
+form K.Stop (g ∷ []) = group g >>= λ h. Ok (L.Step (C.Stop h))
+form K.Kill (g ∷ []) = group g >>= λ h. Ok (L.Step (C.Kill h))
+form (K.Ask s) (t ∷ []) = target t >>= λ u. Ok (L.Step (C.Ask s u))
+form K.Wait (w ∷ t ∷ []) =
+    if is_text w (codes "done") then wait t false
+    else if is_text w (codes "killed") then wait t true
+    else Err F.BadLine
+form K.SetVerdict (v ∷ []) = or_fault (verdict v) F.BadLine >>= λ u. Ok (L.Step (C.SetVerdict u))
+form K.GetVerdict [] = Ok (L.Step C.GetVerdict)
+form _ _ = Err F.BadLine
+
+unfoldable pub printable : List ℕ → Bool
+printable bytes = list_all (λ b. nat_le 32 b && nat_le b 126) bytes
+
+abbrev pub is_comment : List ℕ → Bool
+is_comment [] = false
+is_comment (b ∷ bs) = b == 35
+
+-- the line with these bytes and these words
+abbrev pub line_with : List ℕ → List (List ℕ) → Result Line ScriptKind
+line_with bytes [] = Ok L.Skipped
+line_with bytes (w ∷ ws) =
+    if is_comment w then Ok L.Skipped
+    else if not (printable bytes) then Err F.BadByte
+    else or_fault (keyword w) F.BadLine >>= λ k. form k ws
+
+-- what a line says, or the first fault of kinds 1 to 3
+unfoldable pub line_of : List ℕ → Result Line ScriptKind
+line_of bytes = line_with bytes (words bytes)
+
+-- what a function returned is what the line gives, unless memory ran out
+abbrev pub Gives : {A : Type 0} → Result A LineFault → Result A ScriptKind → Type 0
+Gives (Ok x) said = said ≡ Ok x
+Gives (Err E.NoMemory) said = Unit {0}
+Gives (Err (E.Kind kind)) said = said ≡ Err kind

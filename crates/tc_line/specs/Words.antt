@@ -1,0 +1,61 @@
+-- Single words of a script.
+use Rattle.std.specs.Prelude.{ℕ, ◌&&◌, ◌||◌, not, nat_eq, nat_le, Bool, false, if◌then◌else◌, Option, Some, None, List, [], ◌∷◌, length, codes}
+use Rattle.std.specs.List.{list_all}
+use Rattle.std.specs.Char.{is_ascii_alphabetic}
+use Rattle.std.specs.Cmp.Lexicographic.{pointwise}
+use Rattle.tc_line.specs.declared.line.Keyword.{Keyword}
+use Rattle.tc_line.specs.declared.line.Keyword.TheVariants as K
+use Rattle.tc_step.specs.declared.step.Status.TheVariants as S
+use Rattle.tc_entry.specs.Name.{is_name_byte}
+use Rattle.tc_verdict.specs.declared.user_verdict.UserVerdict.{UserVerdict}
+use Rattle.tc_verdict.specs.declared.user_verdict.UserVerdict.TheVariants as V
+
+-- two texts are one
+unfoldable pub is_text : List ℕ → List ℕ → Bool
+is_text word text = pointwise nat_eq word text
+
+-- the words that the grammar keeps for itself
+unfoldable pub is_reserved : List ℕ → Bool
+is_reserved word =
+    is_text word (codes "all") || is_text word (codes "any") || is_text word (codes "mtc") || is_text word (codes "self")
+
+unfoldable pub begins_with_letter : List ℕ → Bool
+begins_with_letter [] = false
+begins_with_letter (b ∷ bs) = is_ascii_alphabetic b
+
+unfoldable pub has_name_bytes : List ℕ → Bool
+has_name_bytes text = list_all is_name_byte text
+
+-- the test for a name: a letter, and then letters, digits or `_`, 1 to 32 bytes, and no reserved word
+unfoldable pub is_name : List ℕ → Bool
+is_name text =
+    begins_with_letter text && has_name_bytes text && nat_le (length text) 32 && not (is_reserved text)
+
+abbrev pub name : List ℕ → Option (List ℕ)
+name word = if is_name word then Some word else None
+
+unfoldable pub keyword : List ℕ → Option Keyword
+keyword word =
+    if is_text word (codes "testcase") then Some K.TestCase
+    else if is_text word (codes "behaviour") then Some K.Behaviour
+    else if is_text word (codes "end") then Some K.End
+    else if is_text word (codes "create") then Some K.Create
+    else if is_text word (codes "start") then Some K.Start
+    else if is_text word (codes "stop") then Some K.Stop
+    else if is_text word (codes "kill") then Some K.Kill
+    else if is_text word (codes "running") then Some (K.Ask S.Running)
+    else if is_text word (codes "alive") then Some (K.Ask S.Alive)
+    else if is_text word (codes "done") then Some (K.Ask S.Done)
+    else if is_text word (codes "killed") then Some (K.Ask S.Killed)
+    else if is_text word (codes "wait") then Some K.Wait
+    else if is_text word (codes "setverdict") then Some K.SetVerdict
+    else if is_text word (codes "getverdict") then Some K.GetVerdict
+    else None
+
+unfoldable pub verdict : List ℕ → Option UserVerdict
+verdict word =
+    if is_text word (codes "none") then Some V.None
+    else if is_text word (codes "pass") then Some V.Pass
+    else if is_text word (codes "inconc") then Some V.Inconc
+    else if is_text word (codes "fail") then Some V.Fail
+    else None

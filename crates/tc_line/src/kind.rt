@@ -1,0 +1,94 @@
+ghost use Rattle.std.specs.Prelude.{◌≡◌};
+ghost use Rattle.tc_line.specs.ScriptKind.{kind_text};
+
+use std::alloc::{AllocError, AllocFailed};
+
+/// What is wrong with a line of a script, in the order in which a line is judged.
+#[derive(Clone, Copy, Debug, PartialEq, Eq)]
+pub enum ScriptKind {
+    /// A byte outside 32 to 126.
+    BadByte,
+    /// The words are of no form.
+    BadLine,
+    /// A word in the place of a name or of a component is not allowed there.
+    BadName,
+    /// The line may not stand where it stands.
+    BadPlace,
+    /// The line passes a limit.
+    TooMany,
+    /// There is no test case, or the text ends inside one.
+    Cut,
+    /// A name that is used for its kind already, or bound already.
+    Twice,
+    /// A name of a component that is not bound.
+    NoReference,
+    /// A name of no behaviour of the test case.
+    UnknownBehaviour,
+    /// The main component's behaviour has a parameter.
+    MainParameters,
+    /// Another number of arguments than the behaviour has parameters.
+    Arguments,
+}
+
+impl ScriptKind {
+    /// The text of a fault line.
+    pub fn text(self) -> &'static str
+        ensures { result.now ≡ kind_text self }
+    {
+        match self {
+            ScriptKind::BadByte => "byte not allowed",
+            ScriptKind::BadLine => "line not understood",
+            ScriptKind::BadName => "bad name",
+            ScriptKind::BadPlace => "not allowed here",
+            ScriptKind::TooMany => "too many",
+            ScriptKind::Cut => "text ends too early",
+            ScriptKind::Twice => "name already used",
+            ScriptKind::NoReference => "unbound reference",
+            ScriptKind::UnknownBehaviour => "unknown behaviour",
+            ScriptKind::MainParameters => "main behaviour takes no parameters",
+            ScriptKind::Arguments => "wrong number of arguments",
+        }
+    }
+}
+
+/// Why a line could not be read.
+#[derive(Debug, Drop)]
+pub enum LineFault {
+    /// What is wrong with the line.
+    Kind(ScriptKind),
+    /// Memory was refused.
+    NoMemory,
+}
+
+impl From<ScriptKind> for LineFault {
+    ghost use Rattle.std.specs.Prelude.{◌≡◌};
+    ghost use Rattle.tc_line.specs.declared.kind.LineFault.TheVariants as faults;
+
+    ghost from_gives = { λ kind f. f ≡ faults.Kind kind };
+
+    fn from(kind: ScriptKind) -> LineFault {
+        LineFault::Kind(kind)
+    }
+}
+
+impl From<AllocError> for LineFault {
+    ghost use Rattle.std.specs.Prelude.{◌≡◌};
+    ghost use Rattle.tc_line.specs.declared.kind.LineFault.TheVariants as faults;
+
+    ghost from_gives = { λ _ f. f ≡ faults.NoMemory };
+
+    fn from(_error: AllocError) -> LineFault {
+        LineFault::NoMemory
+    }
+}
+
+impl<T: Drop> From<AllocFailed<T>> for LineFault {
+    ghost use Rattle.std.specs.Prelude.{◌≡◌};
+    ghost use Rattle.tc_line.specs.declared.kind.LineFault.TheVariants as faults;
+
+    ghost from_gives = { λ _ f. f ≡ faults.NoMemory };
+
+    fn from(_error: AllocFailed<T>) -> LineFault {
+        LineFault::NoMemory
+    }
+}

@@ -1,0 +1,299 @@
+ghost use Rattle.std.specs.Prelude.{◌≡◌, map};
+ghost use Rattle.tc_line.specs.Line.{named, reference, group, target, form, line_of, printable, is_comment as comment, each, Gives};
+ghost use Rattle.tc_line.specs.declared.line.Keyword.TheVariants as K;
+
+use crate::items::Items;
+use crate::kind::{LineFault, ScriptKind};
+use crate::line::{Call, GroupWord, Keyword, Line, Reference, TargetWord};
+use crate::spelling::{is_word, read_keyword, read_verdict};
+use crate::text::words_of;
+use crate::word::read_name;
+use std::alloc::Global;
+use tc_entry::Name;
+use tc_step::Status;
+
+#[tactic(auto, unfolding(crate::specs::Line::named))]
+fn read_named(word: &[u8]) -> Result<Name, ScriptKind>
+    ensures { result ≡ named word.now }
+{
+    match read_name(word) {
+        Some(name) => Ok(name),
+        None => Err(ScriptKind::BadName),
+    }
+}
+
+#[tactic(auto, unfolding(crate::specs::Line::reference))]
+fn read_reference(word: &[u8]) -> Result<Reference, ScriptKind>
+    ensures { result ≡ reference word.now }
+{
+    if is_word(word, b"mtc") {
+        return Ok(Reference::Main);
+    }
+    if is_word(word, b"self") {
+        return Ok(Reference::Own);
+    }
+    let name = read_named(word)?;
+    Ok(Reference::Bound(name))
+}
+
+#[tactic(auto, unfolding(crate::specs::Line::group))]
+fn read_group(word: &[u8]) -> Result<GroupWord, ScriptKind>
+    ensures { result ≡ group word.now }
+{
+    if is_word(word, b"all") {
+        return Ok(GroupWord::All);
+    }
+    let one = read_reference(word)?;
+    Ok(GroupWord::One(one))
+}
+
+#[tactic(auto, unfolding(crate::specs::Line::target))]
+fn read_target(word: &[u8]) -> Result<TargetWord, ScriptKind>
+    ensures { result ≡ target word.now }
+{
+    if is_word(word, b"any") {
+        return Ok(TargetWord::Any);
+    }
+    if is_word(word, b"all") {
+        return Ok(TargetWord::All);
+    }
+    let one = read_reference(word)?;
+    Ok(TargetWord::One(one))
+}
+
+#[tactic(auto, unfolding(crate::specs::Line::form))]
+fn read_test_case(words: &[&[u8]]) -> Result<Line, ScriptKind>
+    ensures { result ≡ form K.TestCase (map (λ w. w.now) words.now) }
+{
+    match words {
+        [word] => {
+            let name = read_named(word)?;
+            Ok(Line::TestCase(name))
+        }
+        _ => Err(ScriptKind::BadLine),
+    }
+}
+
+#[tactic(auto, unfolding(crate::specs::Line::form))]
+fn read_create(words: &[&[u8]]) -> Result<Line, ScriptKind>
+    ensures { result ≡ form K.Create (map (λ w. w.now) words.now) }
+{
+    match words {
+        [word] => {
+            let name = read_named(word)?;
+            Ok(Line::Step(Call::Create { name, alive: false }))
+        }
+        [word, second] => {
+            if !is_word(second, b"alive") {
+                return Err(ScriptKind::BadLine);
+            }
+            let name = read_named(word)?;
+            Ok(Line::Step(Call::Create { name, alive: true }))
+        }
+        _ => Err(ScriptKind::BadLine),
+    }
+}
+
+fn read_names(alloc: Global, words: &[&[u8]]) -> Result<Items<Name>, LineFault>
+    ensures { Gives result (each named (map (λ w. w.now) words.now)) }
+{
+    let mut names = Vec::new(alloc);
+    for word in words {
+        let name = read_named(word)?;
+        names.push(name)?;
+    }
+    Ok(Items::new(names))
+}
+
+fn read_references(alloc: Global, words: &[&[u8]]) -> Result<Items<Reference>, LineFault>
+    ensures { Gives result (each reference (map (λ w. w.now) words.now)) }
+{
+    let mut references = Vec::new(alloc);
+    for word in words {
+        let one = read_reference(word)?;
+        references.push(one)?;
+    }
+    Ok(Items::new(references))
+}
+
+#[tactic(auto, unfolding(crate::specs::Line::form))]
+fn read_behaviour(alloc: Global, words: &[&[u8]]) -> Result<Line, LineFault>
+    ensures { Gives result (form K.Behaviour (map (λ w. w.now) words.now)) }
+{
+    match words {
+        [word, parameters @ ..] => {
+            let name = read_named(word)?;
+            let parameters = read_names(alloc, parameters)?;
+            Ok(Line::Behaviour(name, parameters))
+        }
+        [] => Err(LineFault::Kind(ScriptKind::BadLine)),
+    }
+}
+
+#[tactic(auto, unfolding(crate::specs::Line::form))]
+fn read_start(alloc: Global, words: &[&[u8]]) -> Result<Line, LineFault>
+    ensures { Gives result (form K.Start (map (λ w. w.now) words.now)) }
+{
+    match words {
+        [on, behaviour, args @ ..] => {
+            let on = read_reference(on)?;
+            let behaviour = read_named(behaviour)?;
+            let args = read_references(alloc, args)?;
+            Ok(Line::Step(Call::Start {
+                on,
+                behaviour,
+                args,
+            }))
+        }
+        _ => Err(LineFault::Kind(ScriptKind::BadLine)),
+    }
+}
+
+#[tactic(auto, unfolding(crate::specs::Line::form))]
+fn read_wait(words: &[&[u8]]) -> Result<Line, ScriptKind>
+    ensures { result ≡ form K.Wait (map (λ w. w.now) words.now) }
+{
+    match words {
+        [status, target] => {
+            let killed = if is_word(status, b"done") {
+                false
+            } else if is_word(status, b"killed") {
+                true
+            } else {
+                return Err(ScriptKind::BadLine);
+            };
+            let target = read_target(target)?;
+            Ok(Line::Step(Call::Wait { killed, target }))
+        }
+        _ => Err(ScriptKind::BadLine),
+    }
+}
+
+#[tactic(auto, unfolding(crate::specs::Line::form))]
+fn read_stop(words: &[&[u8]]) -> Result<Line, ScriptKind>
+    ensures { result ≡ form K.Stop (map (λ w. w.now) words.now) }
+{
+    match words {
+        [word] => {
+            let group = read_group(word)?;
+            Ok(Line::Step(Call::Stop(group)))
+        }
+        _ => Err(ScriptKind::BadLine),
+    }
+}
+
+#[tactic(auto, unfolding(crate::specs::Line::form))]
+fn read_kill(words: &[&[u8]]) -> Result<Line, ScriptKind>
+    ensures { result ≡ form K.Kill (map (λ w. w.now) words.now) }
+{
+    match words {
+        [word] => {
+            let group = read_group(word)?;
+            Ok(Line::Step(Call::Kill(group)))
+        }
+        _ => Err(ScriptKind::BadLine),
+    }
+}
+
+#[tactic(auto, unfolding(crate::specs::Line::form))]
+fn read_ask(status: Status, words: &[&[u8]]) -> Result<Line, ScriptKind>
+    ensures { result ≡ form (K.Ask status) (map (λ w. w.now) words.now) }
+{
+    match words {
+        [word] => {
+            let target = read_target(word)?;
+            Ok(Line::Step(Call::Ask(status, target)))
+        }
+        _ => Err(ScriptKind::BadLine),
+    }
+}
+
+#[tactic(auto, unfolding(crate::specs::Line::form))]
+fn read_set_verdict(words: &[&[u8]]) -> Result<Line, ScriptKind>
+    ensures { result ≡ form K.SetVerdict (map (λ w. w.now) words.now) }
+{
+    match words {
+        [word] => match read_verdict(word) {
+            Some(verdict) => Ok(Line::Step(Call::SetVerdict(verdict))),
+            None => Err(ScriptKind::BadLine),
+        },
+        _ => Err(ScriptKind::BadLine),
+    }
+}
+
+#[tactic(auto, unfolding(crate::specs::Line::form))]
+fn read_end(words: &[&[u8]]) -> Result<Line, ScriptKind>
+    ensures { result ≡ form K.End (map (λ w. w.now) words.now) }
+{
+    if words.is_empty() {
+        Ok(Line::End)
+    } else {
+        Err(ScriptKind::BadLine)
+    }
+}
+
+#[tactic(auto, unfolding(crate::specs::Line::form))]
+fn read_get_verdict(words: &[&[u8]]) -> Result<Line, ScriptKind>
+    ensures { result ≡ form K.GetVerdict (map (λ w. w.now) words.now) }
+{
+    match words {
+        [] => Ok(Line::Step(Call::GetVerdict)),
+        _ => Err(ScriptKind::BadLine),
+    }
+}
+
+fn read_form(alloc: Global, keyword: Keyword, words: &[&[u8]]) -> Result<Line, LineFault>
+    ensures { Gives result (form keyword (map (λ w. w.now) words.now)) }
+{
+    let line = match keyword {
+        Keyword::TestCase => read_test_case(words)?,
+        Keyword::Behaviour => read_behaviour(alloc, words)?,
+        Keyword::End => read_end(words)?,
+        Keyword::Create => read_create(words)?,
+        Keyword::Start => read_start(alloc, words)?,
+        Keyword::Stop => read_stop(words)?,
+        Keyword::Kill => read_kill(words)?,
+        Keyword::Ask(status) => read_ask(status, words)?,
+        Keyword::Wait => read_wait(words)?,
+        Keyword::SetVerdict => read_set_verdict(words)?,
+        Keyword::GetVerdict => read_get_verdict(words)?,
+    };
+    Ok(line)
+}
+
+#[tactic(auto, unfolding(crate::specs::Line::printable))]
+fn is_printable(line: &[u8]) -> bool
+    ensures { result ≡ printable line.now }
+{
+    line.iter().all(|byte| 32 <= *byte && *byte <= 126)
+}
+
+fn is_comment(word: &[u8]) -> bool
+    ensures { result ≡ comment word.now }
+{
+    match word {
+        [b'#', ..] => true,
+        _ => false,
+    }
+}
+
+/// What a line says.
+#[tactic(auto, unfolding(crate::specs::Line::line_of))]
+pub fn read_line(alloc: Global, line: &[u8]) -> Result<Line, LineFault>
+    ensures { Gives result (line_of line.now) }
+{
+    let words = words_of(alloc, line)?;
+    let Some((first, rest)) = words.as_slice().split_first() else {
+        return Ok(Line::Skipped);
+    };
+    if is_comment(first) {
+        return Ok(Line::Skipped);
+    }
+    if !is_printable(line) {
+        return Err(LineFault::Kind(ScriptKind::BadByte));
+    }
+    match read_keyword(first) {
+        Some(keyword) => read_form(alloc, keyword, rest),
+        None => Err(LineFault::Kind(ScriptKind::BadLine)),
+    }
+}

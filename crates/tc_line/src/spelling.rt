@@ -1,0 +1,68 @@
+ghost use Rattle.std.specs.Prelude.{◌≡◌};
+ghost use Rattle.tc_line.specs.Words.{is_text, keyword, verdict};
+
+use crate::line::Keyword;
+use tc_entry::UserVerdict;
+use tc_step::Status;
+
+/// Whether the word is spelled so.
+#[tactic(auto, unfolding(crate::specs::Words::is_text))]
+pub fn is_word(word: &[u8], spelling: &[u8]) -> bool
+    ensures { result ≡ is_text word.now spelling.now }
+{
+    word == spelling
+}
+
+#[tactic(auto, unfolding(crate::specs::Words::keyword))]
+pub fn read_keyword(word: &[u8]) -> Option<Keyword>
+    ensures { result ≡ keyword word.now }
+{
+    if is_word(word, b"testcase") {
+        Some(Keyword::TestCase)
+    } else if is_word(word, b"behaviour") {
+        Some(Keyword::Behaviour)
+    } else if is_word(word, b"end") {
+        Some(Keyword::End)
+    } else if is_word(word, b"create") {
+        Some(Keyword::Create)
+    } else if is_word(word, b"start") {
+        Some(Keyword::Start)
+    } else if is_word(word, b"stop") {
+        Some(Keyword::Stop)
+    } else if is_word(word, b"kill") {
+        Some(Keyword::Kill)
+    } else if is_word(word, b"running") {
+        Some(Keyword::Ask(Status::Running))
+    } else if is_word(word, b"alive") {
+        Some(Keyword::Ask(Status::Alive))
+    } else if is_word(word, b"done") {
+        Some(Keyword::Ask(Status::Done))
+    } else if is_word(word, b"killed") {
+        Some(Keyword::Ask(Status::Killed))
+    } else if is_word(word, b"wait") {
+        Some(Keyword::Wait)
+    } else if is_word(word, b"setverdict") {
+        Some(Keyword::SetVerdict)
+    } else if is_word(word, b"getverdict") {
+        Some(Keyword::GetVerdict)
+    } else {
+        None
+    }
+}
+
+#[tactic(auto, unfolding(crate::specs::Words::verdict))]
+pub fn read_verdict(word: &[u8]) -> Option<UserVerdict>
+    ensures { result ≡ verdict word.now }
+{
+    if is_word(word, b"none") {
+        Some(UserVerdict::None)
+    } else if is_word(word, b"pass") {
+        Some(UserVerdict::Pass)
+    } else if is_word(word, b"inconc") {
+        Some(UserVerdict::Inconc)
+    } else if is_word(word, b"fail") {
+        Some(UserVerdict::Fail)
+    } else {
+        None
+    }
+}

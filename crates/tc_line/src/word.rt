@@ -1,0 +1,15 @@
+ghost use Rattle.std.specs.Prelude.{◌≡◌};
+ghost use Rattle.tc_line.specs.Words.{name};
+
+use tc_entry::Name;
+
+/// The name that is spelled so, if there is one.
+#[tactic(auto, using(crate::proofs::Naming::naming_rules))]
+pub fn read_name(word: &[u8]) -> Option<Name>
+    ensures { result ≡ name word.now }
+{
+    match str::from_utf8(word) {
+        Ok(text) => Name::read(text),
+        Err(_) => None,
+    }
+}

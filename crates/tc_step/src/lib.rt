@@ -1,0 +1,16 @@
+//! The steps of a scripted behaviour, and the components that they name.
+#![tactic(auto)]
+
+mod place;
+mod places;
+mod script;
+mod step;
+
+pub use place::{GroupPlace, Place, TargetPlace};
+pub use places::Places;
+pub use script::Script;
+pub use step::{Status, Step};
+pub use tc_verdict::{Run, UserVerdict};
+
+#[cfg(test)]
+mod tests;

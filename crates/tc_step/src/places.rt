@@ -1,0 +1,53 @@
+ghost use Rattle.std.specs.Prelude.{◌≡◌, ◌<◌, ◌≤◌, [], ◌∷◌, ◌++◌, length, IsTrue, ◌↔◌};
+ghost use Rattle.std.specs.Bool.{OnTrue, OnFalse};
+
+use crate::place::Place;
+use arrayvec::ArrayVec;
+use std::marker::Model;
+
+/// The arguments of a start step: at most four places, held in place.
+#[derive(PartialEq, Eq, Debug, Drop)]
+pub struct Places {
+    places: ArrayVec<Place, 4>,
+}
+
+impl Model for Places {
+    ghost use Rattle.std.specs.Prelude.{List, length, ◌≤◌};
+    ghost use Rattle.tc_step.specs.declared.place.Place.{Place};
+
+    ghost Value = { List Place };
+
+    ghost view = { λ p. p.places.items };
+
+    ghost invariant = { λ p. length p.places.items ≤ 4 };
+
+    ghost inverse = { λ xs. record { places = record { items = xs } } };
+}
+
+impl Places {
+    /// No place.
+    pub fn new() -> Places
+        ensures { result ≡ [] }
+    {
+        Places {
+            places: ArrayVec::new(),
+        }
+    }
+
+    /// Adds a place, unless there are four: then it answers false and nothing is changed.
+    pub fn push(&mut self, place: Place) -> bool
+        ensures pushed { OnTrue result (self.new ≡ self.old ++ place ∷ []) }
+        ensures full { OnFalse result (self.new ≡ self.old) }
+        ensures answer { IsTrue result ↔ (length self.old < 4) }
+    {
+        self.places.try_push(place).is_ok()
+    }
+
+    /// The places, in their order.
+    pub fn as_slice(&self) -> &[Place]
+        ensures same { result.now ≡ self.now }
+        ensures few { length self.now ≤ 4 }
+    {
+        self.places.as_slice()
+    }
+}

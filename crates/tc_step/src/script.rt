@@ -1,0 +1,80 @@
+ghost use Rattle.std.specs.Prelude.{◌≡◌, ◌≤◌, ◌↔◌, IsTrue, length};
+ghost use Rattle.tc_step.specs.Steps.{AreBound, IsScript};
+
+use crate::step::Step;
+use std::marker::Model;
+
+/// A scripted behaviour: the number of its parameters, and its steps in their order.
+///
+/// It has at most 4 parameters and 1,000 steps, and each place of a step is bound where the step stands; these limits
+/// are this project's own.
+#[derive(Drop)]
+pub struct Script {
+    parameters: usize,
+    steps: Vec<Step>,
+}
+
+impl Model for Script {
+    ghost use Rattle.tc_step.specs.Steps.{ScriptView, IsScript};
+
+    ghost Value = { ScriptView };
+
+    ghost view = { λ s. record { parameters = s.parameters; steps = s.steps.items } };
+
+    ghost invariant = { λ s. IsScript s.parameters s.steps.items };
+}
+
+/// Whether each place of each step is bound where so many components are bound before the first step.
+fn are_bound(parameters: usize, steps: &[Step]) -> bool
+    requires few_parameters { parameters ≤ 4 }
+    requires few_steps { length steps.now ≤ 1000 }
+    ensures { IsTrue result ↔ AreBound parameters steps.now }
+{
+    let mut count = parameters;
+    let mut rest = steps;
+    while let Some((step, others)) = rest.split_first() {
+        if !step.is_bound(count) {
+            return false;
+        }
+        if matches!(step, Step::Create { .. }) {
+            count += 1;
+        }
+        rest = others;
+    }
+    true
+}
+
+impl Script {
+    /// Whether these steps make a script of so many parameters.
+    pub fn is_script(parameters: usize, steps: &[Step]) -> bool
+        ensures { IsTrue result ↔ IsScript parameters steps.now }
+    {
+        if parameters > 4 || steps.len() > 1000 {
+            return false;
+        }
+        are_bound(parameters, steps)
+    }
+
+    /// The script of these steps. It takes no memory.
+    pub fn new(parameters: usize, steps: Vec<Step>) -> Script
+        requires { IsScript parameters steps.items }
+        ensures { result ≡ record { parameters = parameters; steps = steps.items } }
+    {
+        Script { parameters, steps }
+    }
+
+    /// How many arguments the behaviour takes.
+    pub fn parameters(&self) -> usize
+        ensures { result ≡ self.now.parameters }
+    {
+        self.parameters
+    }
+
+    /// The steps, in their order.
+    pub fn steps(&self) -> &[Step]
+        ensures steps { result.now ≡ self.now.steps }
+        ensures script { IsScript self.now.parameters self.now.steps }
+    {
+        &self.steps
+    }
+}

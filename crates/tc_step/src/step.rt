@@ -1,0 +1,76 @@
+ghost use Rattle.std.specs.Prelude.{◌↔◌, ◌∷◌, IsTrue, All};
+ghost use Rattle.tc_step.specs.Steps.{IsBound, of_group, of_target, places};
+
+use crate::place::{GroupPlace, Place, TargetPlace};
+use crate::places::Places;
+use tc_verdict::{Run, UserVerdict};
+
+/// What is asked of components (ES 201 873-1, test component operations).
+#[derive(Clone, Copy, PartialEq, Eq, Debug)]
+pub enum Status {
+    Running,
+    Alive,
+    Done,
+    Killed,
+}
+
+/// A step of a scripted behaviour: the call of an operation, with places for its components.
+#[derive(PartialEq, Eq, Debug, Drop)]
+pub enum Step {
+    /// Creates a component, which is bound from here on.
+    Create { alive: bool },
+    /// Starts a run on a component.
+    Start { on: Place, run: Run, args: Places },
+    /// Stops components.
+    Stop(GroupPlace),
+    /// Kills components.
+    Kill(GroupPlace),
+    /// Asks whether components are running, alive, done or killed.
+    Ask(Status, TargetPlace),
+    /// Waits until components are done, or killed.
+    Wait { killed: bool, target: TargetPlace },
+    /// Sets the local verdict.
+    SetVerdict(UserVerdict),
+    /// Asks for the local verdict.
+    GetVerdict,
+}
+
+fn is_group_bound(group: GroupPlace, count: usize) -> bool
+    ensures { IsTrue result ↔ All (IsBound count) (of_group group) }
+{
+    match group {
+        GroupPlace::One(place) => place.is_bound(count),
+        GroupPlace::All => true,
+    }
+}
+
+fn is_target_bound(target: TargetPlace, count: usize) -> bool
+    ensures { IsTrue result ↔ All (IsBound count) (of_target target) }
+{
+    match target {
+        TargetPlace::One(place) => place.is_bound(count),
+        _ => true,
+    }
+}
+
+#[tactic(auto, using(crate::proofs::Binding::cons_rules))]
+fn is_start_bound(on: Place, args: &Places, count: usize) -> bool
+    ensures { IsTrue result ↔ All (IsBound count) (on ∷ args.now) }
+{
+    on.is_bound(count) && args.as_slice().iter().all(|place| place.is_bound(count))
+}
+
+impl Step {
+    /// Whether each place of the step is one of a behaviour that has so many components bound.
+    pub fn is_bound(&self, count: usize) -> bool
+        ensures { IsTrue result ↔ All (IsBound count) (places self.now) }
+    {
+        match self {
+            Step::Start { on, args, .. } => is_start_bound(*on, args, count),
+            Step::Stop(group) | Step::Kill(group) => is_group_bound(*group, count),
+            Step::Ask(_, target) => is_target_bound(*target, count),
+            Step::Wait { target, .. } => is_target_bound(*target, count),
+            _ => true,
+        }
+    }
+}

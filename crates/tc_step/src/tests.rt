@@ -1,0 +1,84 @@
+use super::*;
+use std::test::Fail;
+
+fn start(on: Place, args: &[Place]) -> Step {
+    let mut places = Places::new();
+    for place in args {
+        let _ = places.push(*place);
+    }
+    Step::Start {
+        on,
+        run: Run(1),
+        args: places,
+    }
+}
+
+#[test]
+fn a_script_of_bound_places(rt: HostRuntime) -> Result<(), Fail> {
+    let alloc = rt.alloc();
+    let steps = vec![in alloc;
+        Step::Create { alive: true },
+        start(Place::Bound(1), &[Place::Bound(0), Place::Main, Place::Own]),
+        Step::Wait {
+            killed: false,
+            target: TargetPlace::One(Place::Bound(1))
+        },
+        Step::Kill(GroupPlace::All),
+        Step::Ask(Status::Killed, TargetPlace::Any),
+        Step::SetVerdict(UserVerdict::Pass),
+        Step::GetVerdict,
+    ]?;
+    assert!(rt; !Script::is_script(0, steps.as_slice()));
+    assert!(rt; !Script::is_script(5, steps.as_slice()));
+    assert!(rt; Script::is_script(1, steps.as_slice()));
+    let script = Script::new(1, steps);
+    assert_eq!(rt; script.parameters(), 1);
+    assert_eq!(rt; script.steps().len(), 7);
+    assert_eq!(rt; script.steps()[3], Step::Kill(GroupPlace::All));
+    Ok(())
+}
+
+#[test]
+fn places_are_bound_before_they_are_named(rt: HostRuntime) -> Result<(), Fail> {
+    let alloc = rt.alloc();
+    let before = vec![in alloc;
+        Step::Stop(GroupPlace::One(Place::Bound(0))),
+        Step::Create { alive: false },
+    ]?;
+    assert!(rt; !Script::is_script(0, before.as_slice()));
+    let after = vec![in alloc;
+        Step::Create { alive: false },
+        Step::Stop(GroupPlace::One(Place::Bound(0))),
+    ]?;
+    assert!(rt; Script::is_script(0, after.as_slice()));
+    let args = vec![in alloc; start(Place::Main, &[Place::Own, Place::Bound(2)])]?;
+    assert!(rt; !Script::is_script(2, args.as_slice()));
+    assert!(rt; Script::is_script(3, args.as_slice()));
+    assert!(rt; Place::Bound(2).is_bound(3));
+    assert!(rt; !args[0].is_bound(2));
+    Ok(())
+}
+
+#[test]
+fn at_most_a_thousand_steps(rt: HostRuntime) -> Result<(), Fail> {
+    let alloc = rt.alloc();
+    let mut steps = Vec::new(alloc);
+    for _ in 0..1000 {
+        steps.push(Step::GetVerdict)?;
+    }
+    assert!(rt; Script::is_script(4, steps.as_slice()));
+    steps.push(Step::GetVerdict)?;
+    assert!(rt; !Script::is_script(4, steps.as_slice()));
+    Ok(())
+}
+
+#[test]
+fn places_are_at_most_four(rt: HostRuntime) {
+    let mut places = Places::new();
+    for index in 0..4 {
+        assert!(rt; places.push(Place::Bound(index)));
+    }
+    assert!(rt; !places.push(Place::Own));
+    assert_eq!(rt; places.as_slice().len(), 4);
+    assert_eq!(rt; places.as_slice()[3], Place::Bound(3));
+}
