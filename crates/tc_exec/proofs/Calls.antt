@@ -8,7 +8,7 @@ use Rattle.tc_book.specs.declared.closed.Closed.{Closed}
 use Rattle.tc_book.specs.Closing.{IsFitting, IsWhole}
 use Rattle.tc_book.specs.Starts.{start_of}
 use Rattle.tc_book.specs.Inside.{comp_by}
-use Rattle.tc_book.proofs.Parts.{comp_is}
+use Rattle.tc_book.proofs.PartOf.{comp_is}
 use Rattle.tc_verdict.specs.declared.run.Run.{Run}
 use Rattle.tc_book.specs.Passes.{PassState, LeftState}
 use Rattle.tc_exec.specs.declared.handed.Handed.{Handed}
