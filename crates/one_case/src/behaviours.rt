@@ -14,7 +14,7 @@ fn hand_back(pass: Pass, made: Result<(), Halt>) -> Back {
 }
 
 /// The behaviour of run 0: it creates a component, starts run 1 on it, and sets pass once that is done.
-pub fn lead<R: Wait>(rt: &R, pass: Pass) -> Back {
+pub(crate) fn lead<R: Wait>(rt: &R, pass: Pass) -> Back {
     let mut pass = pass;
     let made = lead_calls(rt, &mut pass);
     hand_back(pass, made)
@@ -30,7 +30,7 @@ fn lead_calls<R: Wait>(rt: &R, pass: &mut Pass) -> Result<(), Halt> {
 }
 
 /// The behaviour of run 1: it sets inconc if the component that is its argument is running.
-pub fn probe<R: Wait>(rt: &R, pass: Pass) -> Back {
+pub(crate) fn probe<R: Wait>(rt: &R, pass: Pass) -> Back {
     let mut pass = pass;
     let made = probe_calls(rt, &mut pass);
     hand_back(pass, made)

@@ -6,7 +6,7 @@ ghost use Rattle.tc_book.specs.Closing.{IsWhole};
 ghost use Rattle.tc_exec.specs.Case.{IsCaseReport, AreCalled};
 ghost use Rattle.tc_exec.specs.declared.refusal.CaseError.TheVariants.{NoBehaviours, TooManyBehaviours, NoMemory, NoThread};
 
-use crate::behaviour::Behaviour;
+use crate::callable::Callable;
 use crate::gate::{Everyone, Gate};
 use crate::gathered::Gathered;
 use crate::handed::{Handed, act};
@@ -60,7 +60,7 @@ fn close<R: Wait>(
 }
 
 /// Calls the behaviour of run 0, joins the workers, and closes the case.
-fn run_made<R: Threads + Wait, B: Behaviour>(
+fn run_made<R: Threads + Wait, B: Callable>(
     rt: &R,
     alloc: Global,
     shared: Shared,
@@ -84,7 +84,7 @@ fn run_made<R: Threads + Wait, B: Behaviour>(
 }
 
 /// Runs the behaviours of a case, behaviour k as that of run k.
-fn run_jobs<R: Threads + Wait + Copy + Send + 'static, B: Behaviour, G: Gate>(
+fn run_jobs<R: Threads + Wait + Copy + Send + 'static, B: Callable, G: Gate>(
     rt: &R,
     alloc: Global,
     behaviours: u16,
@@ -135,7 +135,7 @@ pub fn run_case<R: Threads + Wait + Copy + Send + 'static>(
     ensures threads { (0 < vec_len jobs) × (vec_len jobs ≤ 64) × (threads < vec_len jobs - 1) → result ≡ Err NoThread }
     ensures alone { vec_len jobs ≡ 1 → result ≢ Err NoThread }
     ensures report { IfOk result (IsCaseReport (vec_len jobs)) }
-    ensures called { IfOk result (AreCalled ⟦<Job as Behaviour>⟧.outcome jobs.items) }
+    ensures called { IfOk result (AreCalled ⟦<Job as Callable>⟧.outcome jobs.items) }
 {
     run_case_with(rt, alloc, jobs, threads, &mut Everyone)
 }
@@ -154,7 +154,7 @@ pub fn run_case_with<R: Threads + Wait + Copy + Send + 'static, G: Gate>(
     ensures threads { (0 < vec_len jobs) × (vec_len jobs ≤ 64) × (threads < vec_len jobs - 1) → result ≡ Err NoThread }
     ensures alone { vec_len jobs ≡ 1 → result ≢ Err NoThread }
     ensures report { IfOk result (IsCaseReport (vec_len jobs)) }
-    ensures called { IfOk result (AreCalled ⟦<Job as Behaviour>⟧.outcome jobs.items) }
+    ensures called { IfOk result (AreCalled ⟦<Job as Callable>⟧.outcome jobs.items) }
 {
     let behaviours = behaviours_of(jobs.len(), threads)?;
     run_jobs(rt, alloc, behaviours, jobs, gate)

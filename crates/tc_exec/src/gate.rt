@@ -1,4 +1,6 @@
 //! Who is asked before a worker is made.
+ghost use Rattle.std.specs.Prelude.{IsTrue};
+
 use tc_verdict::Run;
 
 /// Is asked before the worker of a run is made.
@@ -12,7 +14,9 @@ pub trait Gate {
 pub(crate) struct Everyone;
 
 impl Gate for Everyone {
-    fn allow(&mut self, _run: Run) -> bool {
+    fn allow(&mut self, _run: Run) -> bool
+        ensures { IsTrue result }
+    {
         true
     }
 }

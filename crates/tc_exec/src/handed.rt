@@ -2,7 +2,7 @@
 ghost use Rattle.std.specs.Prelude.{◌≡◌};
 ghost use Rattle.tc_exec.specs.Workers.{WasCalled, IsWorked};
 
-use crate::behaviour::Behaviour;
+use crate::callable::Callable;
 use crate::job::{Back, Ending};
 use std::sync::Wait;
 use tc_book::{Left, Pass, Ticket};
@@ -24,7 +24,7 @@ impl Handed {
 }
 
 /// Calls a behaviour with this pass, and leaves the pass that it hands back.
-pub(crate) fn act<R: Wait, B: Behaviour>(rt: &R, behaviour: B, pass: Pass) -> Handed
+pub(crate) fn act<R: Wait, B: Callable>(rt: &R, behaviour: B, pass: Pass) -> Handed
     ensures { WasCalled (B.outcome behaviour pass) result }
 {
     let Back { pass, ending } = behaviour.call(pass);
@@ -36,7 +36,7 @@ pub(crate) fn act<R: Wait, B: Behaviour>(rt: &R, behaviour: B, pass: Pass) -> Ha
 
 /// Waits for the start of the run, and calls the behaviour once with its pass. Where the run is never started the behaviour
 /// is dropped.
-pub(crate) fn work<R: Wait, B: Behaviour>(rt: &R, behaviour: B, ticket: Ticket) -> Handed
+pub(crate) fn work<R: Wait, B: Callable>(rt: &R, behaviour: B, ticket: Ticket) -> Handed
     ensures { IsWorked ticket (B.outcome behaviour) result }
 {
     match ticket.await_start(rt) {

@@ -3,7 +3,7 @@ ghost use Rattle.std.specs.Prelude.{◌↔◌};
 ghost use Rattle.tc_book.specs.Passes.{PassState};
 ghost use Rattle.tc_exec.specs.declared.job.Back.{Back};
 
-use crate::behaviour::Behaviour;
+use crate::callable::Callable;
 use tc_book::Pass;
 
 /// Why a behaviour came back.
@@ -35,7 +35,7 @@ impl Job {
     /// The job of this behaviour. It takes no memory.
     pub fn new(run: Box<dyn FnOnce(Pass) -> Back + Send>) -> Job
         requires { IsAlwaysCallable run }
-        ensures outcome { (p : PassState) (b : Back) → ⟦<Job as Behaviour>⟧.outcome result p b ↔ post run p b }
+        ensures outcome { (p : PassState) (b : Back) → ⟦<Job as Callable>⟧.outcome result p b ↔ post run p b }
     {
         Job { run }
     }
@@ -43,7 +43,7 @@ impl Job {
 
 type Call = Box<dyn FnOnce(Pass) -> Back + Send>;
 
-impl Behaviour for Job {
+impl Callable for Job {
     ghost outcome = { λ j p b. Call.post j.run p b };
 
     fn call(self, pass: Pass) -> Back {

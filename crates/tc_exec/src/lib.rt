@@ -1,7 +1,7 @@
 //! Runs the behaviours of a test case, each on a thread of its own.
 #![tactic(auto)]
 
-mod behaviour;
+mod callable;
 mod case;
 mod gate;
 mod gathered;
@@ -10,7 +10,7 @@ mod job;
 mod refusal;
 mod worker;
 
-pub use behaviour::Behaviour;
+pub use callable::Callable;
 pub use case::{run_case, run_case_with};
 pub use gate::Gate;
 pub use job::{Back, Ending, Job};

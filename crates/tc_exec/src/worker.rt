@@ -4,7 +4,7 @@ ghost use Rattle.std.specs.Vec.{vec_len, vec_capacity};
 ghost use Rattle.tc_verdict.specs.declared.run.Run.{Run};
 ghost use Rattle.tc_exec.specs.Workers.{IsWorked, AreLeftBy};
 
-use crate::behaviour::Behaviour;
+use crate::callable::Callable;
 use crate::gate::Gate;
 use crate::gathered::Gathered;
 use crate::handed::{Handed, work};
@@ -17,17 +17,17 @@ use tc_verdict::Run;
 
 /// What a worker promises: to hand back what its behaviour made of its run.
 #[derive(Drop)]
-pub(crate) struct Task<B: Behaviour> {
+pub(crate) struct Task<B: Callable> {
     run: Run,
     behaviour: Snapshot<B>,
 }
 
-impl<B: Behaviour> Promise<Handed> for Task<B> {
+impl<B: Callable> Promise<Handed> for Task<B> {
     ghost kept_by = { λ t h. IsWorked t.run (B.outcome t.behaviour.value) h };
 }
 
 /// Makes the worker of each ticket, in their order, and says whether all were made.
-pub(crate) fn make_workers<R: Threads + Wait + Copy + Send + 'static, B: Behaviour, G: Gate>(
+pub(crate) fn make_workers<R: Threads + Wait + Copy + Send + 'static, B: Callable, G: Gate>(
     rt: &R,
     gate: &mut G,
     tickets: Vec<Ticket>,
@@ -65,7 +65,7 @@ pub(crate) fn make_workers<R: Threads + Wait + Copy + Send + 'static, B: Behavio
 }
 
 /// Joins all workers, and takes what they hand back.
-pub(crate) fn join_workers<R: Threads, B: Behaviour>(
+pub(crate) fn join_workers<R: Threads, B: Callable>(
     rt: &R,
     workers: Vec<PromisedHandle<Handed, Task<B>>>,
     gathered: &mut Gathered,

@@ -17,7 +17,7 @@ pub use fault::{TextFault, TextKind};
 pub use move_list::{MoveList, read_moves, take_first_line, take_move_line};
 pub use moves::read_move;
 pub use reply::{read_reply, write_reply};
-pub use writing::write_move;
+pub use writing::{write_move, write_op};
 
 #[cfg(test)]
 mod tests;

@@ -52,6 +52,9 @@ fn single_texts(rt: HostRuntime) -> Result<(), NoMemory> {
     write_move(&mut out, Run(0), &start(1, 2, &[3]))?;
     assert_eq!(rt; out.as_slice(), b"0 start 1 2 3".as_slice());
     let mut out = Vec::new(rt.alloc());
+    write_op(&mut out, &start(1, 2, &[3]))?;
+    assert_eq!(rt; out.as_slice(), b"start 1 2 3".as_slice());
+    let mut out = Vec::new(rt.alloc());
     write_reply(&mut out, &Reply::Fault(Fault::Stuck))?;
     assert_eq!(rt; out.as_slice(), b"error stuck".as_slice());
     assert_eq!(rt; read_reply(b"made 7"), Some(Reply::Made(Comp(7))));

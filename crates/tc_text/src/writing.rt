@@ -1,5 +1,5 @@
 //! Writing moves.
-ghost use Rattle.std.specs.Prelude.{◌≡◌, ◌++◌, codes, OnOk, OnErr};
+ghost use Rattle.std.specs.Prelude.{◌≡◌, ◌++◌, OnOk, OnErr};
 ghost use Rattle.std.specs.Io.{StartsWith};
 ghost use Rattle.tc_text.specs.Spelling.{move_text, op_text, group_text, target_text, args_text};
 
@@ -44,49 +44,49 @@ fn append_args(out: &mut Vec<u8>, args: &[Comp]) -> Result<(), NoMemory>
     append_args(out, rest)
 }
 
-// Appends a space and the operation; where memory is refused, a part of them.
+// Appends the spelling of the operation; where memory is refused, a part of it.
 fn append_op(out: &mut Vec<u8>, op: &Op) -> Result<(), NoMemory>
-    ensures ok { OnOk result (out.new.items ≡ out.old.items ++ (codes " " ++ op_text op.now)) }
+    ensures ok { OnOk result (out.new.items ≡ out.old.items ++ op_text op.now) }
     ensures err { OnErr result (StartsWith out.new.items out.old.items) }
 {
     match op {
-        Op::Create { alive: false } => append_text(out, " create"),
-        Op::Create { alive: true } => append_text(out, " create alive"),
+        Op::Create { alive: false } => append_text(out, "create"),
+        Op::Create { alive: true } => append_text(out, "create alive"),
         Op::Start { comp, run, args } => {
-            append_text(out, " start ")?;
+            append_text(out, "start ")?;
             append_number(out, u64::from(comp.0))?;
             append_text(out, " ")?;
             append_number(out, u64::from(run.0))?;
             append_args(out, args.as_slice())
         }
-        Op::Stop(group) => append_group(out, " stop ", *group),
-        Op::Kill(group) => append_group(out, " kill ", *group),
-        Op::Running(target) => append_target(out, " running ", *target),
-        Op::Alive(target) => append_target(out, " alive ", *target),
-        Op::Done(target) => append_target(out, " done ", *target),
-        Op::Killed(target) => append_target(out, " killed ", *target),
+        Op::Stop(group) => append_group(out, "stop ", *group),
+        Op::Kill(group) => append_group(out, "kill ", *group),
+        Op::Running(target) => append_target(out, "running ", *target),
+        Op::Alive(target) => append_target(out, "alive ", *target),
+        Op::Done(target) => append_target(out, "done ", *target),
+        Op::Killed(target) => append_target(out, "killed ", *target),
         Op::Wait {
             killed: false,
             target,
-        } => append_target(out, " wait done ", *target),
+        } => append_target(out, "wait done ", *target),
         Op::Wait {
             killed: true,
             target,
-        } => append_target(out, " wait killed ", *target),
+        } => append_target(out, "wait killed ", *target),
         Op::Wake {
             killed: false,
             target,
-        } => append_target(out, " wake done ", *target),
+        } => append_target(out, "wake done ", *target),
         Op::Wake {
             killed: true,
             target,
-        } => append_target(out, " wake killed ", *target),
+        } => append_target(out, "wake killed ", *target),
         Op::SetVerdict(verdict) => {
-            append_text(out, " setverdict ")?;
+            append_text(out, "setverdict ")?;
             append_text(out, name(from_user(*verdict)))
         }
-        Op::GetVerdict => append_text(out, " getverdict"),
-        Op::Finish => append_text(out, " finish"),
+        Op::GetVerdict => append_text(out, "getverdict"),
+        Op::Finish => append_text(out, "finish"),
     }
 }
 
@@ -96,7 +96,24 @@ fn append_move(out: &mut Vec<u8>, caller: Run, op: &Op) -> Result<(), NoMemory>
     ensures err { OnErr result (StartsWith out.new.items out.old.items) }
 {
     append_number(out, u64::from(caller.0))?;
+    append_text(out, " ")?;
     append_op(out, op)
+}
+
+/// Appends the spelling of the operation, which is that of a move without its caller. Where memory is refused, nothing
+/// is appended.
+pub fn write_op(out: &mut Vec<u8>, op: &Op) -> Result<(), NoMemory>
+    ensures ok { OnOk result (out.new.items ≡ out.old.items ++ op_text op.now) }
+    ensures err { OnErr result (out.new.items ≡ out.old.items) }
+{
+    let start = out.len();
+    match append_op(out, op) {
+        Ok(()) => Ok(()),
+        Err(error) => {
+            out.truncate(start);
+            Err(error)
+        }
+    }
 }
 
 /// Appends the spelling of the move. Where memory is refused, nothing is appended.

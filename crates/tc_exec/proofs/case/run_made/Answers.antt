@@ -4,7 +4,7 @@ use Rattle.tc_exec.proofs.case.run_made.Goals as goal
 
 pub returns-clause-called : goal.returns-clause-called
 returns-clause-called g c =
-    let outcome = g.B.Behaviour.outcome in
+    let outcome = g.B.Callable.outcome in
     let own = c.requires.main.0 in
     let new = c.requires.main.1 in
     let main = main_left outcome c.args.pass c.args.first c.act.result own new c.act.ensures in

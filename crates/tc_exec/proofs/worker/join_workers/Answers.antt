@@ -10,6 +10,6 @@ loop-worker-preserved g c =
       omega (arith, was.1, c.in-Some.ensures.steps.1, c.take.ensures.count),
       passed c.loop-worker.yielded c.in-Some.worker _ _ _ was.2 c.in-Some.ensures.steps.0,
       (λ runs bs before.
-          joined g.B.Behaviour.outcome (λ w. w.promise.run) (λ w. w.promise.behaviour.value) runs bs _ c.loop-worker.yielded c.in-Some.worker c.join.result _
+          joined g.B.Callable.outcome (λ w. w.promise.run) (λ w. w.promise.behaviour.value) runs bs _ c.loop-worker.yielded c.in-Some.worker c.join.result _
           (was.3 runs bs before) c.join.ensures c.take.ensures.left),
     )

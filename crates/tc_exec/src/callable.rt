@@ -6,7 +6,7 @@ use crate::job::Back;
 use tc_book::Pass;
 
 /// What a run calls once, with its pass. Contracts see what each pass may come back as.
-pub trait Behaviour: Send + Drop + 'static {
+pub trait Callable: Send + Drop + 'static {
     ghost outcome: { Self → PassState → Back → Type 0 };
 
     /// Calls the behaviour.

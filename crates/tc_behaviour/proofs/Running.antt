@@ -1,0 +1,79 @@
+-- The pass as the steps of a script are called.
+use Rattle.std.proofs.Common.{ℕ, suc, ◌≡◌, ◌∙◌, ◌+◌, ◌<◌, inl, inr, ◌++◌, Bool, true, false, List, [], ◌∷◌, length, drop, get_or, drop-cons, arith, refl, sym, ap, subst, append_assoc}
+use Rattle.std.proofs.lemmas.List.{append-nil}
+use Rattle.tc_entry.specs.declared.comp.Comp.{Comp}
+use Rattle.tc_entry.specs.declared.entry.Entry.{Entry}
+use Rattle.tc_entry.specs.declared.op.Op.TheVariants as O
+use Rattle.tc_entry.specs.declared.reply.Reply.{Reply}
+use Rattle.tc_entry.specs.declared.reply.Reply.TheVariants as R
+use Rattle.tc_step.specs.declared.step.Step.{Step}
+use Rattle.tc_step.specs.declared.step.Step.TheVariants as S
+use Rattle.tc_step.specs.Steps.{AreBound}
+use Rattle.tc_book.specs.Passes.{PassState, has_ended, entry_of}
+use Rattle.tc_exec.specs.declared.job.Ending.TheVariants as E
+use Rattle.tc_behaviour.specs.Calls.{Calls, HasCalled, HasGrown, IsRun, operation, target, ending}
+use Rattle.tc_behaviour.specs.Calls.HasCalled.{none, one_more}
+use Rattle.tc_behaviour.specs.Inside.{IsStepped, IsSoFar}
+
+abbrev with_log : PassState → List Entry → PassState
+with_log p log = record p { log = log }
+
+grown_more : (p q z : PassState) → HasGrown p q → HasGrown q z → HasGrown p z
+grown_more p q z one two =
+    (one.0 ++ two.0, two.1 ∙ ap (λ x. with_log x (x.log ++ two.0)) one.1 ∙ ap (with_log p) (append_assoc p.log one.0 two.0))
+
+calls_grow : (s : Step) (bound : List Comp) (p q : PassState) (r : Reply) → Calls bound s p q r → HasGrown p q
+calls_grow (S.Create alive) bound p q r is = (entry_of p.run (O.Create alive) r ∷ [], is)
+calls_grow (S.Start on run args) bound p q r is = (entry_of p.run (operation p.me bound (S.Start on run args)) r ∷ [], is)
+calls_grow (S.Stop g) bound p q r is = (entry_of p.run (operation p.me bound (S.Stop g)) r ∷ [], is)
+calls_grow (S.Kill g) bound p q r is = (entry_of p.run (operation p.me bound (S.Kill g)) r ∷ [], is)
+calls_grow (S.Ask status t) bound p q r is = (entry_of p.run (operation p.me bound (S.Ask status t)) r ∷ [], is)
+calls_grow (S.Wait killed t) bound p q r (inl is) = (entry_of p.run (O.Wait killed (target p.me bound t)) r ∷ [], is)
+calls_grow (S.Wait killed t) bound p q r (inr is) =
+    let wait = entry_of p.run (O.Wait killed (target p.me bound t)) R.Parked in
+    let wake = entry_of p.run (O.Wake killed (target p.me bound t)) r in
+    (wait ∷ wake ∷ [], is ∙ ap (with_log p) (append_assoc p.log (wait ∷ []) (wake ∷ [])))
+calls_grow (S.SetVerdict v) bound p q r is = (entry_of p.run (O.SetVerdict v) r ∷ [], is)
+calls_grow S.GetVerdict bound p q r is = (entry_of p.run O.GetVerdict r ∷ [], is)
+
+pub grown_none : (p : PassState) → HasGrown p p
+grown_none p = ([], ap (with_log p) (sym (append-nil p.log)))
+
+grown : (steps : List Step) (start : PassState) (left : List Step) (bound : List Comp) (now : PassState) → HasCalled steps start left bound now → HasGrown start now
+grown steps start _ _ _ none = grown_none start
+grown steps start _ _ _ (one_more s left bound before after reply called on calls) =
+    grown_more start before after (grown steps start (s ∷ left) bound before called) (calls_grow s bound before after reply calls)
+
+pub run_grown : (steps : List Step) (start now : PassState) (how : _) → IsRun steps start now how → HasGrown start now
+run_grown steps start now how run = grown steps start run.0 run.1 now run.2
+
+pub so_far_none : (steps : List Step) (start : PassState) (bound : List Comp) → bound ≡ start.args → AreBound (length start.args) steps → IsSoFar steps start steps bound start
+so_far_none steps start bound is are = rw is (record { called = none; bound = λ on. are })
+
+pub so_far_more : (steps : List Step) (start : PassState) (now left : List Step) (s : Step) (comps comps-new : List Comp) (mid new : PassState) (r : Reply)
+    → IsSoFar steps start now comps mid → now ≡ s ∷ left → has_ended mid ≡ false → IsStepped s comps mid comps-new new r → IsSoFar steps start left comps-new new
+so_far_more steps start now left s comps comps-new mid new r so at on did =
+    let called : HasCalled steps start (s ∷ left) comps mid = subst (λ l. HasCalled steps start l comps mid) at so.called in
+    let are : AreBound (length comps) (s ∷ left) = subst (AreBound (length comps)) at (so.bound on) in
+    record {
+      called = subst (λ b. HasCalled steps start left b new) (sym did.binds) (one_more s left comps mid new r called on did.called);
+      bound = λ on-new. subst (λ n. AreBound n left) (sym (did.counts on-new)) are.1;
+    }
+
+ends_returned : (b : Bool) → ending b [] ≡ E.Returned
+ends_returned true = refl
+ends_returned false = refl
+
+pub run_ended : (steps : List Step) (start : PassState) (left : List Step) (comps : List Comp) (now : PassState) → IsSoFar steps start left comps now → has_ended now ≡ true → IsRun steps start now E.Returned
+run_ended steps start left comps now so is = (left, comps, so.called, sym (ap (λ b. ending b left) is))
+
+pub run_whole : (steps : List Step) (start : PassState) (left : List Step) (comps : List Comp) (now : PassState) → IsSoFar steps start left comps now → left ≡ [] → IsRun steps start now E.Returned
+run_whole steps start left comps now so is = (left, comps, so.called, sym (ap (ending (has_ended now)) is ∙ ends_returned (has_ended now)))
+
+pub run_starved : (steps : List Step) (start : PassState) (now left : List Step) (s : Step) (comps : List Comp) (mid new : PassState)
+    → IsSoFar steps start now comps mid → now ≡ s ∷ left → has_ended mid ≡ false → new ≡ mid → IsRun steps start new E.Starved
+run_starved steps start now left s comps mid new so at on same =
+    (now, comps, subst (HasCalled steps start now comps) (sym same) so.called, sym (ap (λ b. ending b now) (ap has_ended same ∙ on) ∙ ap (ending false) at))
+
+pub step_at : (steps : List Step) (i : ℕ) (d : Step) → i < length steps → drop i steps ≡ get_or steps i d ∷ drop (i + 1) steps
+step_at steps i d lt = let e : i + 1 ≡ suc i = omega arith in rw e (drop-cons steps i d lt)

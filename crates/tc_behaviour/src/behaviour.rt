@@ -1,0 +1,67 @@
+//! The run of a script.
+ghost use Rattle.std.specs.Prelude.{◌≡◌, ◌≢◌, length};
+ghost use Rattle.tc_step.specs.Steps.{ScriptView};
+ghost use Rattle.tc_exec.specs.declared.job.Ending.TheVariants as endings;
+ghost use Rattle.tc_behaviour.specs.Calls.{IsRun, HasGrown};
+ghost use Rattle.tc_behaviour.specs.Inside.{ending_of};
+
+use crate::call::call;
+use std::alloc::Global;
+use std::sync::Wait;
+use tc_book::Pass;
+use tc_exec::{Back, Ending};
+use tc_step::Script;
+use tc_verdict::NoMemory;
+
+/// What a run of a test case does with its pass, by a script.
+pub trait Behaviour {
+    ghost script: { Self → ScriptView };
+
+    /// Makes the call of each step in order, and hands back the pass: Returned after the last step and once the pass has
+    /// ended (a call was answered Ended or by a dynamic error, or the run stopped itself), Starved where memory was refused.
+    ///
+    /// Where the pass has another number of arguments than the script has parameters, it makes no call and comes back Returned.
+    fn run<R: Wait>(self, rt: &R, alloc: Global, pass: Pass) -> Back
+        ensures other_count { length pass.args ≢ (script self).parameters → (result.pass ≡ pass) × (result.ending ≡ endings.Returned) }
+        ensures calls { length pass.args ≡ (script self).parameters → IsRun (script self).steps pass result.pass result.ending }
+        ensures grown { HasGrown pass result.pass };
+}
+
+/// Makes the calls of the steps in order, until the pass has ended.
+fn make_calls<R: Wait>(
+    rt: &R,
+    alloc: Global,
+    script: &Script,
+    pass: &mut Pass,
+) -> Result<(), NoMemory>
+    requires { length pass.old.args ≡ script.now.parameters }
+    ensures { IsRun script.now.steps pass.old pass.new (ending_of result) }
+{
+    let mut made = Vec::new(alloc);
+    for step in script.steps() {
+        if pass.is_ended() {
+            break;
+        }
+        call(rt, pass, &mut made, step)?;
+    }
+    Ok(())
+}
+
+impl Behaviour for Script {
+    ghost script = { λ s. s };
+
+    fn run<R: Wait>(self, rt: &R, alloc: Global, pass: Pass) -> Back {
+        let mut pass = pass;
+        if pass.args().len() != self.parameters() {
+            return Back {
+                pass,
+                ending: Ending::Returned,
+            };
+        }
+        let ending = match make_calls(rt, alloc, &self, &mut pass) {
+            Ok(()) => Ending::Returned,
+            Err(NoMemory) => Ending::Starved,
+        };
+        Back { pass, ending }
+    }
+}

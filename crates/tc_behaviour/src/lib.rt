@@ -1,0 +1,13 @@
+//! Scripted behaviours: a script makes the calls of its steps on the pass of its run.
+#![tactic(auto)]
+
+mod behaviour;
+mod bound;
+mod call;
+
+pub use behaviour::Behaviour;
+pub use tc_exec::{Back, Ending};
+pub use tc_step::Script;
+
+#[cfg(test)]
+mod tests;

@@ -1,0 +1,28 @@
+-- The text of a test case's history; it is this project's own.
+use Rattle.std.specs.Prelude.{ℕ, List, [], ◌∷◌, ◌++◌, codes}
+use Rattle.std.specs.List.{flat_map}
+use Rattle.std.specs.Fmt.{decimal}
+use Rattle.tc_verdict.specs.declared.verdict.Verdict.{Verdict}
+use Rattle.tc_verdict.specs.Verdict.{name_of}
+use Rattle.tc_entry.specs.declared.entry.Entry.{Entry}
+use Rattle.tc_text.specs.Spelling.{move_text, reply_text}
+
+-- the first line, without its LF: the name of the case, and how many behaviours it has
+abbrev pub header_text : List ℕ → ℕ → List ℕ
+header_text name n = codes "history 1 " ++ (name ++ (codes " " ++ decimal n))
+
+-- an entry, without its LF
+abbrev pub entry_text : Entry → List ℕ
+entry_text e = move_text e.caller.0 e.op ++ (codes " -> " ++ reply_text e.reply)
+
+-- the last line, without its LF
+abbrev pub end_text : Verdict → List ℕ
+end_text v = codes "end " ++ name_of v
+
+-- the line of an entry
+abbrev pub entry_line : Entry → List ℕ
+entry_line e = entry_text e ++ (10 ∷ [])
+
+-- a first line, a line for each entry, and a last line
+abbrev pub block_text : List ℕ → ℕ → List Entry → Verdict → List ℕ
+block_text name n entries v = header_text name n ++ (10 ∷ (flat_map entry_line entries ++ (end_text v ++ (10 ∷ []))))

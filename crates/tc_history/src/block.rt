@@ -1,0 +1,94 @@
+//! Writing the history of a test case.
+ghost use Rattle.std.specs.Prelude.{◌≡◌, ◌++◌, ◌∷◌, [], OnOk, OnErr};
+ghost use Rattle.std.specs.List.{flat_map};
+ghost use Rattle.std.specs.Io.{StartsWith};
+ghost use Rattle.tc_history.specs.Block.{block_text, end_text, entry_line, header_text};
+
+use tc_entry::{Entry, Name, NoMemory, Verdict};
+use tc_text::{append_number, append_text, write_move, write_reply};
+use tc_verdict::name as name_of;
+
+// Appends the first line; where memory is refused, a part of it.
+fn append_header(out: &mut Vec<u8>, name: &Name, behaviours: u16) -> Result<(), NoMemory>
+    ensures ok { OnOk result (out.new.items ≡ out.old.items ++ (header_text name.now behaviours ++ (10 ∷ []))) }
+    ensures err { OnErr result (StartsWith out.new.items out.old.items) }
+{
+    append_text(out, "history 1 ")?;
+    out.extend_from_slice(name.bytes())?;
+    append_text(out, " ")?;
+    append_number(out, u64::from(behaviours))?;
+    out.push(b'\n')?;
+    Ok(())
+}
+
+// Appends the line of the entry; where memory is refused, a part of it.
+fn append_entry(out: &mut Vec<u8>, entry: &Entry) -> Result<(), NoMemory>
+    ensures ok { OnOk result (out.new.items ≡ out.old.items ++ entry_line entry.now) }
+    ensures err { OnErr result (StartsWith out.new.items out.old.items) }
+{
+    write_move(out, entry.caller, &entry.op)?;
+    append_text(out, " -> ")?;
+    write_reply(out, &entry.reply)?;
+    out.push(b'\n')?;
+    Ok(())
+}
+
+// Appends the line of each entry; where memory is refused, a part of them.
+fn append_entries(out: &mut Vec<u8>, entries: &[Entry]) -> Result<(), NoMemory>
+    ensures ok { OnOk result (out.new.items ≡ out.old.items ++ flat_map entry_line entries.now) }
+    ensures err { OnErr result (StartsWith out.new.items out.old.items) }
+{
+    for entry in entries {
+        append_entry(out, entry)?;
+    }
+    Ok(())
+}
+
+// Appends the last line; where memory is refused, a part of it.
+fn append_end(out: &mut Vec<u8>, verdict: Verdict) -> Result<(), NoMemory>
+    ensures ok { OnOk result (out.new.items ≡ out.old.items ++ (end_text verdict ++ (10 ∷ []))) }
+    ensures err { OnErr result (StartsWith out.new.items out.old.items) }
+{
+    append_text(out, "end ")?;
+    append_text(out, name_of(verdict))?;
+    out.push(b'\n')?;
+    Ok(())
+}
+
+// Appends the history; where memory is refused, a part of it.
+fn append_block(
+    out: &mut Vec<u8>,
+    name: &Name,
+    behaviours: u16,
+    entries: &[Entry],
+    verdict: Verdict,
+) -> Result<(), NoMemory>
+    ensures ok { OnOk result (out.new.items ≡ out.old.items ++ block_text name.now behaviours entries.now verdict) }
+    ensures err { OnErr result (StartsWith out.new.items out.old.items) }
+{
+    append_header(out, name, behaviours)?;
+    append_entries(out, entries)?;
+    append_end(out, verdict)
+}
+
+/// Appends the history of a test case: its name, the number of its behaviours, its entries and its overall verdict.
+/// Where memory is refused, nothing is appended.
+pub fn write_block(
+    out: &mut Vec<u8>,
+    name: &Name,
+    behaviours: u16,
+    entries: &[Entry],
+    verdict: Verdict,
+) -> Result<(), NoMemory>
+    ensures ok { OnOk result (out.new.items ≡ out.old.items ++ block_text name.now behaviours entries.now verdict) }
+    ensures err { OnErr result (out.new.items ≡ out.old.items) }
+{
+    let start = out.len();
+    match append_block(out, name, behaviours, entries, verdict) {
+        Ok(()) => Ok(()),
+        Err(error) => {
+            out.truncate(start);
+            Err(error)
+        }
+    }
+}

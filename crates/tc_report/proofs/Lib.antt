@@ -1,0 +1,5 @@
+pub mod Counting
+pub mod Locals
+pub mod Overalls
+pub mod Plain
+mod WorkedTexts

@@ -1,0 +1,40 @@
+-- How a campaign ended, as texts say it.
+use Rattle.std.specs.Prelude.{ℕ, Bool, true, false, List, [], ◌∷◌, ◌++◌, codes}
+use Rattle.tc_exec.specs.declared.refusal.CaseError.{CaseError}
+use Rattle.tc_exec.specs.declared.refusal.CaseError.TheVariants as C
+use Rattle.tc_report.specs.declared.results.CampaignEnd.{CampaignEnd}
+use Rattle.tc_report.specs.declared.results.CampaignEnd.TheVariants as E
+
+-- why a case has no report
+abbrev pub refusal_text : CaseError → List ℕ
+refusal_text C.NoBehaviours = codes "no behaviours"
+refusal_text C.TooManyBehaviours = codes "too many behaviours"
+refusal_text C.NoMemory = codes "no memory"
+refusal_text C.NoThread = codes "no thread"
+refusal_text C.Torn = codes "torn"
+
+-- the case that was refused, and why
+abbrev pub aborted_text : List ℕ → CaseError → List ℕ
+aborted_text name why = codes "aborted at " ++ (name ++ (codes ": " ++ refusal_text why))
+
+-- the ending, without its LF
+abbrev pub ending_text : CampaignEnd → List ℕ
+ending_text E.Complete = codes "complete"
+ending_text (E.StoppedAfter name) = codes "stopped after " ++ name
+ending_text (E.Aborted name why) = aborted_text name why
+
+-- the last line of the text report
+abbrev pub ending_line : CampaignEnd → List ℕ
+ending_line ending = ending_text ending ++ (10 ∷ [])
+
+-- whether a case was refused
+abbrev pub is_aborted : CampaignEnd → Bool
+is_aborted E.Complete = false
+is_aborted (E.StoppedAfter name) = false
+is_aborted (E.Aborted name why) = true
+
+-- the line on standard error, where a case was refused
+abbrev pub abort_text : CampaignEnd → List ℕ
+abort_text E.Complete = []
+abort_text (E.StoppedAfter name) = []
+abort_text (E.Aborted name why) = codes "ttrun: " ++ (aborted_text name why ++ (10 ∷ []))

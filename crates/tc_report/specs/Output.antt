@@ -1,0 +1,11 @@
+-- What a fault of an output says.
+use Rattle.std.specs.Prelude.{ℕ, List, Option}
+use Rattle.std.specs.Io.KnownBytes.{Keeps}
+use Rattle.tc_stream.specs.Output.{AppendsPrefix}
+use Rattle.tc_report.specs.declared.fault.OutFault.{OutFault}
+use Rattle.tc_report.specs.declared.fault.OutFault.TheVariants as F
+
+-- without memory nothing was written, else a prefix of the text
+abbrev pub LeavesPrefix : Option (List ℕ) → Option (List ℕ) → List ℕ → OutFault → Type 0
+LeavesPrefix before after text F.NoMemory = Keeps before after
+LeavesPrefix before after text F.Write = AppendsPrefix before after text

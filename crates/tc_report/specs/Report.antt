@@ -1,0 +1,75 @@
+-- The text report of a campaign.
+use Rattle.std.specs.Prelude.{ℕ, ◌+◌, Option, Some, None, List, [], ◌∷◌, ◌++◌, codes, slice_get}
+use Rattle.std.specs.List.{flat_map}
+use Rattle.std.specs.Fmt.{decimal}
+use Rattle.tc_verdict.specs.declared.verdict.Verdict.{Verdict}
+use Rattle.tc_verdict.specs.Verdict.{name_of}
+use Rattle.tc_entry.specs.declared.entry.Entry.{Entry}
+use Rattle.tc_entry.specs.declared.op.Op.{Op}
+use Rattle.tc_entry.specs.declared.op.Op.TheVariants as O
+use Rattle.tc_entry.specs.declared.reply.Reply.{Reply}
+use Rattle.tc_entry.specs.declared.reply.Reply.TheVariants as R
+use Rattle.tc_text.specs.Spelling.{op_text, reply_text}
+use Rattle.tc_book.specs.declared.closed.RunLog.{RunLog}
+use Rattle.tc_report.specs.declared.results.Results.{Results}
+use Rattle.tc_report.specs.declared.results.Finished.{Finished}
+use Rattle.tc_report.specs.Tally.{tally_of, tally_line}
+use Rattle.tc_report.specs.Ending.{ending_line}
+
+-- a Wake is shown as the Wait with the same target
+abbrev pub shown_op : Op → Op
+shown_op (O.Wake killed target) = O.Wait killed target
+shown_op op = op
+
+-- the line of an operation and its reply
+abbrev pub call_line : Op → Reply → List ℕ
+call_line op reply = codes "  " ++ (op_text (shown_op op) ++ (codes " -> " ++ (reply_text reply ++ (10 ∷ []))))
+
+-- what is shown of a call: nothing where it was parked
+abbrev pub shown_call : Op → Reply → List ℕ
+shown_call op R.Parked = []
+shown_call op reply = call_line op reply
+
+-- what is shown of an entry
+abbrev pub shown_entry : Entry → List ℕ
+shown_entry e = shown_call e.op e.reply
+
+-- the name, no byte where there is none
+abbrev pub name_text : Option (List ℕ) → List ℕ
+name_text None = []
+name_text (Some name) = name
+
+-- the line of a run: its number, its behaviour's name, and its component
+abbrev pub run_line : List (List ℕ) → RunLog → List ℕ
+run_line names log =
+    codes "run " ++ (decimal log.run.0 ++ (codes " " ++ (name_text (slice_get names log.run.0) ++ (codes " on " ++ (decimal log.comp.0 ++ (10 ∷ []))))))
+
+-- a run that was started, and its log
+abbrev pub run_text : List (List ℕ) → RunLog → List ℕ
+run_text names log = run_line names log ++ flat_map shown_entry log.entries
+
+-- the line of a component's local verdict
+abbrev pub local_line : ℕ → Verdict → List ℕ
+local_line comp v = codes "local " ++ (decimal comp ++ (codes " " ++ (name_of v ++ (10 ∷ []))))
+
+-- the lines of local verdicts, from that of this component on
+abbrev pub local_lines : ℕ → List Verdict → List ℕ
+local_lines comp [] = []
+local_lines comp (v ∷ vs) = local_line comp v ++ local_lines (comp + 1) vs
+
+-- the line of an overall verdict
+abbrev pub verdict_line : Verdict → List ℕ
+verdict_line v = codes "verdict " ++ (name_of v ++ (10 ∷ []))
+
+-- the line that names a test case
+abbrev pub case_line : List ℕ → List ℕ
+case_line name = codes "testcase " ++ (name ++ (10 ∷ []))
+
+-- a finished test case: its runs by their numbers, the local verdicts, and the overall verdict
+abbrev pub case_text : Finished → List ℕ
+case_text f =
+    case_line f.name ++ (flat_map (run_text f.names) f.report.logs ++ (local_lines 0 f.report.locals ++ verdict_line f.report.verdict))
+
+-- each finished test case, the tally and the ending
+abbrev pub report_text : Results → List ℕ
+report_text r = flat_map case_text r.finished ++ (tally_line (tally_of r) ++ ending_line r.ending)

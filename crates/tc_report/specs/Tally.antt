@@ -1,0 +1,34 @@
+-- How many test cases, or components, have each verdict.
+use Rattle.std.specs.Prelude.{ℕ, ◌==◌, List, [], ◌∷◌, ◌++◌, length, filter, codes}
+use Rattle.std.specs.Fmt.{decimal}
+use Rattle.tc_verdict.specs.declared.verdict.Verdict.{Verdict}
+use Rattle.tc_verdict.specs.declared.verdict.Verdict.TheVariants as V
+use Rattle.tc_verdict.specs.Verdict.{level_of}
+use Rattle.tc_report.specs.declared.results.Results.{Results}
+use Rattle.tc_report.specs.declared.results.Finished.{Finished}
+use Rattle.tc_report.specs.declared.results.Tally.{Tally}
+
+-- how many of the verdicts are v
+abbrev pub count_of : Verdict → List Verdict → ℕ
+count_of v verdicts = length (filter (λ w. level_of w == level_of v) verdicts)
+
+-- how many of the test cases have the overall verdict v
+abbrev pub cases_of : Verdict → List Finished → ℕ
+cases_of v cases = length (filter (λ f. level_of f.report.verdict == level_of v) cases)
+
+-- the finished test cases by their overall verdicts
+abbrev pub tally_of : Results → Tally
+tally_of r = record {
+  cases = length r.finished;
+  none = cases_of V.None r.finished;
+  pass = cases_of V.Pass r.finished;
+  inconc = cases_of V.Inconc r.finished;
+  fail = cases_of V.Fail r.finished;
+  error = cases_of V.Error r.finished;
+}
+
+-- the line of a tally
+abbrev pub tally_line : Tally → List ℕ
+tally_line t =
+    codes "cases " ++ (decimal t.cases ++ (codes " none " ++ (decimal t.none ++ (codes " pass " ++ (decimal t.pass ++
+    (codes " inconc " ++ (decimal t.inconc ++ (codes " fail " ++ (decimal t.fail ++ (codes " error " ++ (decimal t.error ++ (10 ∷ []))))))))))))

@@ -1,0 +1,21 @@
+-- What a CSV writer over memory has written.
+use Rattle.std.specs.Prelude.{ℕ, ◌≡◌, false, List, ◌++◌}
+use Rattle.std.specs.Global.{Vec}
+use Rattle.csv.specs.declared.writer.Writer.{Writer}
+use Rattle.csv.specs.Writing.{default_writer, writer_setup, fields_written, has_written, writer_under, writer_pending}
+use Rattle.tc_report.specs.Csv.{header_text}
+
+-- the bytes in memory, and then those that the writer holds back
+abbrev pub written_by : Writer (Vec ℕ) → List ℕ
+written_by w = (writer_under w).items ++ writer_pending w
+
+-- with the default settings, and in no record
+pub record IsBetweenRecords (w : Writer (Vec ℕ)) : Type 0 where
+  pub setup : writer_setup w ≡ default_writer
+  pub fields : fields_written w ≡ 0
+  pub wrote : has_written w ≡ false
+
+-- the header was written, and nothing else
+pub record IsStarted (w : Writer (Vec ℕ)) : Type 0 where
+  pub between : IsBetweenRecords w
+  pub header : written_by w ≡ header_text

@@ -1,0 +1,23 @@
+//! The results of a campaign, and their texts.
+#![tactic(auto)]
+
+mod counts;
+mod ending;
+mod fault;
+mod histories;
+mod records;
+mod report;
+mod results;
+mod status;
+
+pub use counts::tally;
+pub use ending::abort_line;
+pub use fault::OutFault;
+pub use histories::write_history;
+pub use records::write_csv;
+pub use report::write_text;
+pub use results::{CampaignEnd, Finished, Results, Tally};
+pub use status::status_of;
+
+#[cfg(test)]
+mod tests;

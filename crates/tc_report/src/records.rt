@@ -1,0 +1,113 @@
+//! The CSV report.
+ghost use Rattle.std.specs.Prelude.{◌≡◌, ◌++◌, ◌∷◌, [], OnOk, IfOk, IfErr, All};
+ghost use Rattle.std.specs.Fmt.{IsBoundedDecimal, decimal};
+ghost use Rattle.std.specs.Io.KnownBytes.{Appends};
+ghost use Rattle.csv.specs.Records.{fields_of, partial_of};
+ghost use Rattle.tc_entry.specs.Name.{IsName};
+ghost use Rattle.tc_report.specs.Csv.{counts_of, csv_text, record_fields, record_line};
+ghost use Rattle.tc_report.specs.Output.{LeavesPrefix};
+ghost use Rattle.tc_report.specs.Writing.{IsBetweenRecords, IsStarted, written_by};
+
+use crate::counts::count_of;
+use crate::fault::OutFault;
+use crate::results::{Finished, Results};
+use csv::{ByteRecord, Writer, WriterBuilder};
+use std::alloc::Global;
+use std::io::Write;
+use tc_entry::{NoMemory, Verdict};
+use tc_stream::write_whole;
+use tc_verdict::name as name_of;
+
+// Adds a field, the number.
+fn push_count(alloc: Global, row: &mut ByteRecord, count: usize) -> Result<(), NoMemory>
+    requires { partial_of row.old ≡ [] }
+    ensures fields { OnOk result (fields_of row.new ≡ fields_of row.old ++ decimal count ∷ []) }
+    ensures partial { OnOk result (partial_of row.new ≡ []) }
+    ensures digits { OnOk result (IsBoundedDecimal count) }
+{
+    let digits = count.to_string(alloc)?;
+    row.push_field(digits.as_bytes())?;
+    Ok(())
+}
+
+// The fields of a finished test case.
+fn row_of(alloc: Global, case: &Finished) -> Result<ByteRecord, NoMemory>
+    ensures fields { IfOk result (λ r. fields_of r ≡ record_fields case.now) }
+    ensures name { OnOk result (IsName case.now.name) }
+    ensures digits { OnOk result (All IsBoundedDecimal (counts_of case.now)) }
+{
+    let locals = case.report.locals.as_slice();
+    let mut row = ByteRecord::new(alloc);
+    row.push_field(case.name.bytes())?;
+    push_count(alloc, &mut row, locals.len())?;
+    push_count(alloc, &mut row, count_of(locals, Verdict::None))?;
+    push_count(alloc, &mut row, count_of(locals, Verdict::Pass))?;
+    push_count(alloc, &mut row, count_of(locals, Verdict::Inconc))?;
+    push_count(alloc, &mut row, count_of(locals, Verdict::Fail))?;
+    push_count(alloc, &mut row, count_of(locals, Verdict::Error))?;
+    row.push_field(name_of(case.report.verdict).as_bytes())?;
+    Ok(row)
+}
+
+// Writes the record of a finished test case.
+fn write_record(
+    alloc: Global,
+    writer: &mut Writer<Vec<u8>>,
+    case: &Finished,
+) -> Result<(), NoMemory>
+    requires { IsBetweenRecords writer.old }
+    ensures between { OnOk result (IsBetweenRecords writer.new) }
+    ensures written { OnOk result (written_by writer.new ≡ written_by writer.old ++ record_line case.now) }
+{
+    let row = row_of(alloc, case)?;
+    match writer.write_byte_record(&row) {
+        Ok(()) => Ok(()),
+        Err(_) => Err(NoMemory),
+    }
+}
+
+// A writer that has written the header.
+fn started(alloc: Global) -> Result<Writer<Vec<u8>>, NoMemory>
+    ensures { IfOk result IsStarted }
+{
+    let mut writer = WriterBuilder::new().from_writer(Vec::new(alloc));
+    let header: [&[u8]; 8] = [
+        b"testcase",
+        b"components",
+        b"none",
+        b"pass",
+        b"inconc",
+        b"fail",
+        b"error",
+        b"verdict",
+    ];
+    match writer.write_fields(&header) {
+        Ok(()) => Ok(writer),
+        Err(_) => Err(NoMemory),
+    }
+}
+
+// The CSV report.
+fn records(alloc: Global, results: &Results) -> Result<Vec<u8>, NoMemory>
+    ensures { IfOk result (λ v. v.items ≡ csv_text results.now) }
+{
+    let mut writer = started(alloc)?;
+    for case in results.finished.as_slice() {
+        write_record(alloc, &mut writer, case)?;
+    }
+    match writer.into_inner() {
+        Ok(text) => Ok(text),
+        Err(_) => Err(NoMemory),
+    }
+}
+
+/// Writes the CSV report: a header, and a record for each finished test case in order, with how many components it has,
+/// how many of them have each local verdict, and its overall verdict. The text is made whole before anything is written.
+pub fn write_csv<W: Write>(alloc: Global, results: &Results, writer: &mut W) -> Result<(), OutFault>
+    ensures all { OnOk result (Appends (W.contents writer.old) (W.contents writer.new) (csv_text results.now)) }
+    ensures part { IfErr result (λ fault. LeavesPrefix (W.contents writer.old) (W.contents writer.new) (csv_text results.now) fault) }
+{
+    let text = records(alloc, results)?;
+    write_whole(writer, text.as_slice())?;
+    Ok(())
+}

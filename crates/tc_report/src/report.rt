@@ -1,0 +1,210 @@
+//! The text report.
+ghost use Rattle.std.specs.Prelude.{◌≡◌, ◌++◌, OnOk, IfErr, slice_get};
+ghost use Rattle.std.specs.List.{flat_map};
+ghost use Rattle.std.specs.Io.KnownBytes.{Appends};
+ghost use Rattle.tc_report.specs.Output.{LeavesPrefix};
+ghost use Rattle.tc_report.specs.Report.{call_line, case_line, case_text, local_line, local_lines, name_text, report_text, run_line, run_text, shown_entry, shown_op, verdict_line};
+ghost use Rattle.tc_report.specs.Tally.{tally_line};
+ghost use Rattle.tc_text.specs.Spelling.{op_text};
+ghost use Rattle.std.specs.Fmt.{decimal};
+
+use crate::counts::tally;
+use crate::ending::append_ending;
+use crate::fault::OutFault;
+use crate::results::{Finished, Results, Tally};
+use std::alloc::Global;
+use std::io::Write;
+use tc_book::RunLog;
+use tc_entry::{Entry, Name, NoMemory, Op, Reply, Run, Verdict};
+use tc_stream::write_whole;
+use tc_text::{append_number, append_text, write_op, write_reply};
+use tc_verdict::name as name_of;
+
+// A Wake is shown as the Wait with the same target.
+fn append_op(out: &mut Vec<u8>, op: &Op) -> Result<(), NoMemory>
+    ensures { OnOk result (out.new.items ≡ out.old.items ++ op_text (shown_op op.now)) }
+{
+    match op {
+        Op::Wake { killed, target } => write_op(
+            out,
+            &Op::Wait {
+                killed: *killed,
+                target: *target,
+            },
+        ),
+        _ => write_op(out, op),
+    }
+}
+
+// Appends what is shown of an entry: nothing where it was parked.
+fn append_entry(out: &mut Vec<u8>, entry: &Entry) -> Result<(), NoMemory>
+    ensures { OnOk result (out.new.items ≡ out.old.items ++ shown_entry entry.now) }
+{
+    if matches!(entry.reply, Reply::Parked) {
+        return Ok(());
+    }
+    append_text(out, "  ")?;
+    append_op(out, &entry.op)?;
+    append_text(out, " -> ")?;
+    write_reply(out, &entry.reply)?;
+    out.push(b'\n')?;
+    Ok(())
+}
+
+// Appends what is shown of each entry.
+fn append_entries(out: &mut Vec<u8>, entries: &[Entry]) -> Result<(), NoMemory>
+    ensures { OnOk result (out.new.items ≡ out.old.items ++ flat_map shown_entry entries.now) }
+{
+    for entry in entries {
+        append_entry(out, entry)?;
+    }
+    Ok(())
+}
+
+// Appends the name of the run's behaviour, if it has one.
+fn append_behaviour(out: &mut Vec<u8>, names: &[Name], run: Run) -> Result<(), NoMemory>
+    ensures { OnOk result (out.new.items ≡ out.old.items ++ name_text (slice_get names.now run.0)) }
+{
+    match names.get(usize::from(run.0)) {
+        Some(name) => {
+            out.extend_from_slice(name.bytes())?;
+            Ok(())
+        }
+        None => Ok(()),
+    }
+}
+
+// Appends the line of the run.
+fn append_run_line(out: &mut Vec<u8>, names: &[Name], log: &RunLog) -> Result<(), NoMemory>
+    ensures { OnOk result (out.new.items ≡ out.old.items ++ run_line names.now log.now) }
+{
+    append_text(out, "run ")?;
+    append_number(out, u64::from(log.run.0))?;
+    append_text(out, " ")?;
+    append_behaviour(out, names, log.run)?;
+    append_text(out, " on ")?;
+    append_number(out, u64::from(log.comp.0))?;
+    out.push(b'\n')?;
+    Ok(())
+}
+
+// Appends each run that was started, and its log.
+fn append_runs(out: &mut Vec<u8>, names: &[Name], logs: &[RunLog]) -> Result<(), NoMemory>
+    ensures { OnOk result (out.new.items ≡ out.old.items ++ flat_map (run_text names.now) logs.now) }
+{
+    for log in logs {
+        append_run_line(out, names, log)?;
+        append_entries(out, log.entries.as_slice())?;
+    }
+    Ok(())
+}
+
+// Appends the line of a component's local verdict.
+fn append_local(out: &mut Vec<u8>, comp: usize, verdict: Verdict) -> Result<(), NoMemory>
+    ensures { OnOk result (out.new.items ≡ out.old.items ++ local_line comp verdict) }
+{
+    append_text(out, "local ")?;
+    append_number(out, comp as u64)?;
+    append_text(out, " ")?;
+    append_text(out, name_of(verdict))?;
+    out.push(b'\n')?;
+    Ok(())
+}
+
+// Appends the line of each component's local verdict.
+fn append_locals(out: &mut Vec<u8>, locals: &[Verdict]) -> Result<(), NoMemory>
+    ensures { OnOk result (out.new.items ≡ out.old.items ++ local_lines 0 locals.now) }
+{
+    for (comp, verdict) in locals.iter().enumerate() {
+        append_local(out, comp, *verdict)?;
+    }
+    Ok(())
+}
+
+// Appends the line that names a test case.
+fn append_name(out: &mut Vec<u8>, name: &Name) -> Result<(), NoMemory>
+    ensures { OnOk result (out.new.items ≡ out.old.items ++ case_line name.now) }
+{
+    append_text(out, "testcase ")?;
+    out.extend_from_slice(name.bytes())?;
+    out.push(b'\n')?;
+    Ok(())
+}
+
+// Appends the line of an overall verdict.
+fn append_verdict(out: &mut Vec<u8>, verdict: Verdict) -> Result<(), NoMemory>
+    ensures { OnOk result (out.new.items ≡ out.old.items ++ verdict_line verdict) }
+{
+    append_text(out, "verdict ")?;
+    append_text(out, name_of(verdict))?;
+    out.push(b'\n')?;
+    Ok(())
+}
+
+// Appends a finished test case.
+fn append_case(out: &mut Vec<u8>, case: &Finished) -> Result<(), NoMemory>
+    ensures { OnOk result (out.new.items ≡ out.old.items ++ case_text case.now) }
+{
+    let report = &case.report;
+    append_name(out, &case.name)?;
+    append_runs(out, case.names.as_slice(), report.logs.as_slice())?;
+    append_locals(out, report.locals.as_slice())?;
+    append_verdict(out, report.verdict)
+}
+
+// Appends each finished test case.
+fn append_cases(out: &mut Vec<u8>, cases: &[Finished]) -> Result<(), NoMemory>
+    ensures { OnOk result (out.new.items ≡ out.old.items ++ flat_map case_text cases.now) }
+{
+    for case in cases {
+        append_case(out, case)?;
+    }
+    Ok(())
+}
+
+// Appends the words, and then the number.
+fn append_count(out: &mut Vec<u8>, words: &str, count: usize) -> Result<(), NoMemory>
+    ensures { OnOk result (out.new.items ≡ out.old.items ++ (words.now ++ decimal count)) }
+{
+    append_text(out, words)?;
+    append_number(out, count as u64)
+}
+
+// Appends the line of the tally.
+fn append_tally(out: &mut Vec<u8>, tally: &Tally) -> Result<(), NoMemory>
+    ensures { OnOk result (out.new.items ≡ out.old.items ++ tally_line tally.now) }
+{
+    append_count(out, "cases ", tally.cases)?;
+    append_count(out, " none ", tally.none)?;
+    append_count(out, " pass ", tally.pass)?;
+    append_count(out, " inconc ", tally.inconc)?;
+    append_count(out, " fail ", tally.fail)?;
+    append_count(out, " error ", tally.error)?;
+    out.push(b'\n')?;
+    Ok(())
+}
+
+// Appends the report; where memory is refused, a part of it.
+fn append_report(out: &mut Vec<u8>, results: &Results) -> Result<(), NoMemory>
+    ensures { OnOk result (out.new.items ≡ out.old.items ++ report_text results.now) }
+{
+    append_cases(out, results.finished.as_slice())?;
+    append_tally(out, &tally(results))?;
+    append_ending(out, &results.ending)
+}
+
+/// Writes the text report: each finished test case in order, the tally and the ending. The text is made whole before
+/// anything is written.
+pub fn write_text<W: Write>(
+    alloc: Global,
+    results: &Results,
+    writer: &mut W,
+) -> Result<(), OutFault>
+    ensures all { OnOk result (Appends (W.contents writer.old) (W.contents writer.new) (report_text results.now)) }
+    ensures part { IfErr result (λ fault. LeavesPrefix (W.contents writer.old) (W.contents writer.new) (report_text results.now) fault) }
+{
+    let mut text = Vec::new(alloc);
+    append_report(&mut text, results)?;
+    write_whole(writer, text.as_slice())?;
+    Ok(())
+}

@@ -1,0 +1,46 @@
+//! What a campaign hands back.
+use tc_book::Sequence;
+use tc_entry::Name;
+use tc_exec::{CaseError, CaseReport};
+
+/// A test case that was run to its end.
+#[derive(Drop)]
+pub struct Finished {
+    /// The name of the test case.
+    pub name: Name,
+    /// The names of its behaviours, that of run 0 first.
+    pub names: Sequence<Name>,
+    /// Its report.
+    pub report: CaseReport,
+}
+
+/// How a campaign ended.
+#[derive(Drop)]
+pub enum CampaignEnd {
+    /// All test cases were run.
+    Complete,
+    /// The stopping rule held after the test case of this name.
+    StoppedAfter(Name),
+    /// The test case of this name has no report.
+    Aborted { name: Name, why: CaseError },
+}
+
+/// The results of a campaign.
+#[derive(Drop)]
+pub struct Results {
+    /// The finished test cases, in their order.
+    pub finished: Sequence<Finished>,
+    /// How the campaign ended.
+    pub ending: CampaignEnd,
+}
+
+/// How many test cases finished, and how many of them with each overall verdict.
+#[derive(Clone, Copy, PartialEq, Eq, Debug)]
+pub struct Tally {
+    pub cases: usize,
+    pub none: usize,
+    pub pass: usize,
+    pub inconc: usize,
+    pub fail: usize,
+    pub error: usize,
+}

@@ -1,0 +1,92 @@
+use super::*;
+use std::io;
+use std::io::{Error, ErrorKind, Write};
+
+/// Takes one byte at each write, and fails at the write of this number, or takes no byte there.
+#[derive(Drop)]
+struct Narrow {
+    taken: Vec<u8>,
+    writes: usize,
+    fails_at: usize,
+    takes_none: bool,
+}
+
+impl Write for Narrow {
+    fn write(&mut self, buf: &[u8]) -> io::Result<usize> {
+        let writes = self.writes;
+        self.writes = writes.saturating_add(1);
+        if writes == self.fails_at {
+            return if self.takes_none {
+                Ok(0)
+            } else {
+                Err(Error::from(ErrorKind::BrokenPipe))
+            };
+        }
+        match buf.first() {
+            Some(byte) => {
+                self.taken.push(*byte)?;
+                Ok(1)
+            }
+            None => Ok(0),
+        }
+    }
+
+    fn flush(&mut self) -> io::Result<()> {
+        Ok(())
+    }
+}
+
+/// Which text is written.
+#[derive(Clone, Copy, PartialEq, Eq, Debug)]
+enum Form {
+    Text,
+    Csv,
+    History,
+}
+
+fn give<W: Write>(
+    alloc: Global,
+    form: Form,
+    results: &Results,
+    writer: &mut W,
+) -> Result<(), OutFault> {
+    match form {
+        Form::Text => write_text(alloc, results, writer),
+        Form::Csv => write_csv(alloc, results, writer),
+        Form::History => write_history(alloc, results, writer),
+    }
+}
+
+#[test]
+fn each_write_fails_in_turn(rt: HostRuntime) -> Result<(), Fail> {
+    let mut finished = Vec::new(rt.alloc());
+    finished.push(stuck_case(rt.alloc())?)?;
+    let results = Results {
+        finished: Sequence::new(finished),
+        ending: CampaignEnd::Complete,
+    };
+    for form in [Form::Text, Form::Csv, Form::History] {
+        let mut whole = Vec::new(rt.alloc());
+        assert_eq!(rt; give(rt.alloc(), form, &results, &mut whole), Ok(()));
+        for fails_at in 0..=whole.len() {
+            for takes_none in [false, true] {
+                let mut writer = Narrow {
+                    taken: Vec::new(rt.alloc()),
+                    writes: 0,
+                    fails_at,
+                    takes_none,
+                };
+                let answer = give(rt.alloc(), form, &results, &mut writer);
+                let wanted = if fails_at == whole.len() {
+                    Ok(())
+                } else {
+                    Err(OutFault::Write)
+                };
+                assert_eq!(rt; answer, wanted);
+                let part = whole.as_slice().get(..fails_at).ok_or("a prefix")?;
+                assert_eq!(rt; writer.taken.as_slice(), part);
+            }
+        }
+    }
+    Ok(())
+}

@@ -1,0 +1,10 @@
+use Rattle.std.proofs.Common.{◌∙◌, sym}
+use Rattle.std.proofs.lemmas.List.Sums.{prefix_len-le-length}
+use Rattle.tc_script.proofs.Places.{absent_at_end}
+use Rattle.tc_line.specs.Words.{is_text}
+use Rattle.tc_script.specs.Names.{index_of}
+use Rattle.tc_script.proofs.names.Names.place_of.Goals as goal
+
+pub returns-in-None : goal.returns-in-None
+unfolding is_text index_of
+returns-in-None c = rw (← c.self.view_is) (c.len.ensures.len ∙ sym (absent_at_end _ _ (prefix_len-le-length _ _) (sym c.in-None.ensures.index)))

@@ -1,0 +1,11 @@
+use Rattle.std.proofs.Common.{◌≡◌, ◌++◌, [], length}
+use Rattle.tc_script.specs.Names.{all_of}
+use Rattle.tc_script.specs.Building.{HaveFewArguments}
+use Rattle.tc_script.specs.Campaign.{steps}
+use Rattle.tc_script.proofs.steps.steps_of.Given as goal
+
+abbrev pub invariant-loop-line : goal.invariant-loop-line
+invariant-loop-line l = (l.found.items ++ steps l.heads l.bound l.rest ≡ steps l.heads (all_of [] l.parameters) l.lines) × HaveFewArguments l.rest
+
+abbrev pub decreases-loop-line : goal.decreases-loop-line
+decreases-loop-line l = length l.rest

@@ -1,0 +1,93 @@
+-- The campaign that a text spells, or its first fault.
+use Rattle.std.specs.Prelude.{ℕ, Option, Some, None, Result, Ok, Err, List, [], ◌∷◌, length, map}
+use Rattle.tc_line.specs.declared.line.Reference.{Reference}
+use Rattle.tc_line.specs.declared.line.Reference.TheVariants as R
+use Rattle.tc_line.specs.declared.line.GroupWord.{GroupWord}
+use Rattle.tc_line.specs.declared.line.GroupWord.TheVariants as G
+use Rattle.tc_line.specs.declared.line.TargetWord.{TargetWord}
+use Rattle.tc_line.specs.declared.line.TargetWord.TheVariants as T
+use Rattle.tc_line.specs.declared.line.Call.{Call}
+use Rattle.tc_line.specs.declared.line.Call.TheVariants as C
+use Rattle.tc_line.specs.declared.line.Line.{Line}
+use Rattle.tc_line.specs.declared.line.Line.TheVariants as L
+use Rattle.tc_line.specs.Line.{◌>>=◌}
+use Rattle.tc_line.specs.Text.{lines}
+use Rattle.tc_step.specs.declared.place.Place.{Place}
+use Rattle.tc_step.specs.declared.place.Place.TheVariants as P
+use Rattle.tc_step.specs.declared.place.GroupPlace.{GroupPlace}
+use Rattle.tc_step.specs.declared.place.GroupPlace.TheVariants as H
+use Rattle.tc_step.specs.declared.place.TargetPlace.{TargetPlace}
+use Rattle.tc_step.specs.declared.place.TargetPlace.TheVariants as U
+use Rattle.tc_step.specs.declared.step.Step.{Step}
+use Rattle.tc_step.specs.declared.step.Step.TheVariants as S
+use Rattle.tc_step.specs.Steps.{ScriptView}
+use Rattle.tc_script.specs.declared.fault.ScriptFault.{ScriptFault}
+use Rattle.tc_script.specs.Names.{Word, index_of, all_of}
+use Rattle.tc_script.specs.Scope.{Head, heads, names_of, with_bound}
+use Rattle.tc_script.specs.Open.{parsed}
+use Rattle.tc_script.specs.Meaning.{misnamed}
+
+-- ---- steps
+
+-- the component that a reference names, where these names are bound
+abbrev pub place : List Word → Reference → Place
+place ns R.Main = P.Main
+place ns R.Own = P.Own
+place ns (R.Bound n) = P.Bound (index_of n ns)
+
+abbrev pub group_at : List Word → GroupWord → GroupPlace
+group_at ns (G.One r) = H.One (place ns r)
+group_at ns G.All = H.All
+
+abbrev pub target_at : List Word → TargetWord → TargetPlace
+target_at ns (T.One r) = U.One (place ns r)
+target_at ns T.Any = U.Any
+target_at ns T.All = U.All
+
+-- a call where the names ns are bound, in a test case with the behaviours hs: the run of a behaviour is its place among them
+unfoldable pub step_of : List Head → List Word → Call → Step
+step_of hs ns (C.Create n alive) = S.Create alive
+step_of hs ns (C.Start on b args) = S.Start (place ns on) (record { 0 = index_of b (names_of hs) }) (map (place ns) args)
+step_of hs ns (C.Stop g) = S.Stop (group_at ns g)
+step_of hs ns (C.Kill g) = S.Kill (group_at ns g)
+step_of hs ns (C.Ask s t) = S.Ask s (target_at ns t)
+step_of hs ns (C.Wait killed t) = S.Wait killed (target_at ns t)
+step_of hs ns (C.SetVerdict v) = S.SetVerdict v
+step_of hs ns C.GetVerdict = S.GetVerdict
+
+-- the steps up to the end of the behaviour
+abbrev pub steps : List Head → List Word → List Line → List Step
+steps hs ns (L.Step call ∷ rest) = step_of hs ns call ∷ steps hs (with_bound call ns) rest
+steps hs ns (L.Skipped ∷ rest) = steps hs ns rest
+steps hs ns _ = []
+
+-- ---- test cases
+
+-- the behaviours up to the next test case, in the order of the text
+abbrev pub behaviours : List Head → List Line → List (Word × ScriptView)
+behaviours hs [] = []
+behaviours hs (L.TestCase n ∷ rest) = []
+behaviours hs (L.Behaviour n ps ∷ rest) = (n, record { parameters = length ps; steps = steps hs (all_of [] ps) rest }) ∷ behaviours hs rest
+behaviours hs (_ ∷ rest) = behaviours hs rest
+
+-- the test cases, in the order of the text
+abbrev pub cases : List Line → List (Word × List (Word × ScriptView))
+cases [] = []
+cases (L.TestCase n ∷ rest) = (n, behaviours (heads rest) rest) ∷ cases rest
+cases (_ ∷ rest) = cases rest
+
+-- ---- a whole text
+
+-- a campaign: its test cases by name, each with its behaviours by name
+abbrev pub CampaignView : Type 0
+CampaignView = List (Word × List (Word × ScriptView))
+
+abbrev pub or_else : {A : Type 0} → Option ScriptFault → A → Result A ScriptFault
+or_else (Some fault) x = Err fault
+or_else None x = Ok x
+
+-- the lines are judged by the first six kinds; only if there is no such fault, by the others
+unfoldable pub campaign : List ℕ → Result CampaignView ScriptFault
+campaign text = do
+  ls ← parsed [] (lines text)
+  or_else (misnamed [] ls) (cases ls)

@@ -1,0 +1,131 @@
+ghost use Rattle.std.specs.Prelude.{◌≡◌, ◌≤◌, [], ◌∷◌, ◌++◌, length, OnOk, OnErr, IfOk, MatchOption};
+ghost use Rattle.tc_script.specs.Building.{HaveFewArguments, AreScripts, AreCases};
+ghost use Rattle.tc_script.specs.Campaign.{behaviours, cases};
+
+use crate::heads::{Heads, heads_of};
+use crate::steps::steps_of;
+use std::alloc::{AllocError, Global};
+use std::collections::VecDeque;
+use std::marker::Model;
+use tc_line::{Line, Name};
+use tc_step::Script;
+
+/// The behaviours of a test case by name, in the order of the text: those of its runs 0, 1, 2 and on. The first is
+/// the main component's.
+#[derive(Drop)]
+pub struct CaseScript {
+    scripts: VecDeque<(Name, Script)>,
+}
+
+impl Model for CaseScript {
+    ghost use Rattle.std.specs.Prelude.{List, ℕ};
+    ghost use Rattle.tc_step.specs.Steps.{ScriptView};
+
+    ghost Value = { List (List ℕ × ScriptView) };
+
+    ghost view = { λ c. c.scripts.items };
+}
+
+impl CaseScript {
+    fn new(alloc: Global) -> CaseScript
+        ensures { result ≡ [] }
+    {
+        CaseScript {
+            scripts: VecDeque::new(alloc),
+        }
+    }
+
+    fn add(&mut self, name: Name, script: Script) -> Result<(), AllocError>
+        ensures { OnOk result (self.new ≡ self.old ++ (name, script) ∷ []) }
+    {
+        self.scripts.push_back((name, script))?;
+        Ok(())
+    }
+
+    /// Takes the first behaviour out. It takes no memory.
+    pub fn take_first(&mut self) -> Option<(Name, Script)>
+        ensures { MatchOption result ((self.old ≡ []) × (self.new ≡ [])) (λ first. self.old ≡ first ∷ self.new) }
+    {
+        self.scripts.pop_front()
+    }
+}
+
+/// The test cases of a script by name, in the order of the text.
+#[derive(Drop)]
+pub struct Campaign {
+    cases: VecDeque<(Name, CaseScript)>,
+}
+
+impl Model for Campaign {
+    ghost use Rattle.tc_script.specs.Campaign.{CampaignView};
+
+    ghost Value = { CampaignView };
+
+    ghost view = { λ c. c.cases.items };
+}
+
+impl Campaign {
+    fn new(alloc: Global) -> Campaign
+        ensures { result ≡ [] }
+    {
+        Campaign {
+            cases: VecDeque::new(alloc),
+        }
+    }
+
+    fn add(&mut self, name: Name, case: CaseScript) -> Result<(), AllocError>
+        ensures { OnOk result (self.new ≡ self.old ++ (name, case) ∷ []) }
+    {
+        self.cases.push_back((name, case))?;
+        Ok(())
+    }
+
+    /// Takes the first test case out. It takes no memory.
+    pub fn take_first(&mut self) -> Option<(Name, CaseScript)>
+        ensures { MatchOption result ((self.old ≡ []) × (self.new ≡ [])) (λ first. self.old ≡ first ∷ self.new) }
+    {
+        self.cases.pop_front()
+    }
+}
+
+/// The behaviours up to the next test case.
+fn case_of(alloc: Global, heads: &Heads, lines: &[Line]) -> Result<CaseScript, AllocError>
+    requires few_heads { length heads.now ≤ 64 }
+    requires few_arguments { HaveFewArguments lines.now }
+    requires scripts { AreScripts heads.now lines.now }
+    ensures { IfOk result (λ c. c ≡ behaviours heads.now lines.now) }
+{
+    let mut found = CaseScript::new(alloc);
+    let mut rest = lines;
+    while let Some((line, others)) = rest.split_first() {
+        match line {
+            Line::TestCase(_) => return Ok(found),
+            Line::Behaviour(name, parameters) => {
+                let parameters = parameters.as_slice();
+                let steps = steps_of(alloc, heads, parameters, others)?;
+                found.add(name.copy(), Script::new(parameters.len(), steps))?;
+            }
+            _ => {}
+        }
+        rest = others;
+    }
+    Ok(found)
+}
+
+/// The campaign of lines without a fault.
+pub fn campaign_of(alloc: Global, lines: &[Line]) -> Result<Campaign, AllocError>
+    requires few_arguments { HaveFewArguments lines.now }
+    requires cases { AreCases lines.now }
+    ensures { IfOk result (λ c. c ≡ cases lines.now) }
+{
+    let mut found = Campaign::new(alloc);
+    let mut rest = lines;
+    while let Some((line, others)) = rest.split_first() {
+        if let Line::TestCase(name) = line {
+            let heads = heads_of(alloc, others)?;
+            found.add(name.copy(), case_of(alloc, &heads, others)?)?;
+        }
+        rest = others;
+    }
+    Ok(found)
+}

@@ -1,0 +1,80 @@
+ghost use Rattle.std.specs.Prelude.{◌≡◌, ◌≤◌, [], length, OnOk, IfOk};
+ghost use Rattle.tc_script.specs.Names.{index_of};
+ghost use Rattle.tc_script.specs.Scope.{names_of, add_head, parameters_of, heads};
+
+use indexmap::IndexMap;
+use std::alloc::{AllocError, Global};
+use std::marker::Model;
+use tc_line::{Line, Name};
+
+/// The behaviours of a test case, each with the number of its parameters, in the order of the text.
+#[derive(Drop)]
+pub struct Heads {
+    map: IndexMap<Name, usize>,
+}
+
+impl Model for Heads {
+    ghost use Rattle.std.specs.Prelude.{List, ℕ};
+
+    ghost Value = { List (List ℕ × ℕ) };
+
+    ghost view = { λ h. h.map.entries };
+}
+
+impl Heads {
+    /// No behaviour.
+    pub fn new(alloc: Global) -> Heads
+        ensures { result ≡ [] }
+    {
+        Heads {
+            map: IndexMap::new(alloc),
+        }
+    }
+
+    /// How many parameters the behaviour of that name has, if there is one.
+    #[tactic(auto, unfolding(tc_line::specs::Words::is_text, crate::specs::Scope::parameters_of))]
+    pub fn parameters_of(&self, name: &Name) -> Option<usize>
+        ensures { result ≡ parameters_of name.now self.now }
+    {
+        self.map.get(name).copied()
+    }
+
+    /// The place of the behaviour of that name; the number of behaviours where there is none.
+    #[tactic(auto, unfolding(tc_line::specs::Words::is_text, crate::specs::Names::index_of))]
+    pub fn place_of(&self, name: &Name) -> usize
+        ensures place { result ≡ index_of name.now (names_of self.now) }
+        ensures within { result ≤ length self.now }
+    {
+        match self.map.get_index_of(name) {
+            Some(index) => index,
+            None => self.map.len(),
+        }
+    }
+
+    /// Adds a behaviour behind the others, if none of them has its name.
+    pub fn add(&mut self, name: &Name, parameters: usize) -> Result<(), AllocError>
+        ensures { OnOk result (self.new ≡ add_head name.now parameters self.old) }
+    {
+        if self.parameters_of(name).is_some() {
+            return Ok(());
+        }
+        self.map.insert(name.copy(), parameters)?;
+        Ok(())
+    }
+}
+
+/// The behaviours of the test case whose lines these begin with.
+#[tactic(auto, unfolding(crate::specs::Scope::heads))]
+pub fn heads_of(alloc: Global, lines: &[Line]) -> Result<Heads, AllocError>
+    ensures { IfOk result (λ h. h ≡ heads lines.now) }
+{
+    let mut found = Heads::new(alloc);
+    for line in lines {
+        match line {
+            Line::TestCase(_) => return Ok(found),
+            Line::Behaviour(name, parameters) => found.add(name, parameters.as_slice().len())?,
+            _ => {}
+        }
+    }
+    Ok(found)
+}

@@ -1,0 +1,24 @@
+ghost use Rattle.std.specs.Prelude.{◌≡◌};
+ghost use Rattle.tc_script.specs.Campaign.{campaign};
+ghost use Rattle.tc_script.specs.Counts.{Reads};
+
+use crate::campaign::{Campaign, campaign_of};
+use crate::fault::ReadFault;
+use crate::naming::first_misnamed;
+use crate::parsing::parse;
+use std::alloc::Global;
+
+/// The campaign that a text spells; else its first fault. Only want of memory may stand in place of either.
+#[tactic(auto, unfolding(crate::specs::Campaign::campaign), using(crate::proofs::Sound::sound_rules))]
+pub fn read_campaign(alloc: Global, bytes: &[u8]) -> Result<Campaign, ReadFault>
+    ensures { Reads (λ c. c) result (campaign bytes.now) }
+{
+    let lines = match parse(alloc, bytes) {
+        Ok(lines) => lines,
+        Err(fault) => return Err(fault),
+    };
+    match first_misnamed(alloc, lines.as_slice())? {
+        Some(fault) => Err(ReadFault::Script(fault)),
+        None => Ok(campaign_of(alloc, lines.as_slice())?),
+    }
+}

@@ -1,0 +1,202 @@
+ghost use Rattle.std.specs.Prelude.{◌≡◌, [], ◌∷◌, length, IfOk, OnOk};
+ghost use Rattle.tc_script.specs.Names.{all_of, has_twice};
+ghost use Rattle.tc_script.specs.Scope.{with_bound, parameters_of};
+ghost use Rattle.tc_script.specs.Meaning.{is_unbound, one_of_group, one_of_target};
+ghost use Rattle.tc_script.specs.Passing.{scope_after, line_fault, call_fault, start_fault, behaviour_fault, any_unbound, fault_where as the_fault_where};
+
+use crate::heads::{Heads, heads_of};
+use crate::names::{Names, is_one_of};
+use std::alloc::{AllocError, Global};
+use std::marker::Model;
+use tc_line::{Call, GroupWord, Items, Line, Name, Reference, ScriptKind, TargetWord};
+
+/// The names that a line may not use again, and those that it may refer to.
+#[derive(Drop)]
+pub struct Scope {
+    cases: Names,
+    behaviours: Names,
+    bound: Names,
+    heads: Heads,
+}
+
+impl Model for Scope {
+    ghost use Rattle.tc_script.specs.Scope.{ScopeView};
+
+    ghost Value = { ScopeView };
+
+    ghost view = { λ s. record { cases = s.cases; behaviours = s.behaviours; bound = s.bound; heads = s.heads } };
+}
+
+fn fault_where(is_fault: bool, kind: ScriptKind) -> Option<ScriptKind>
+    ensures { result ≡ the_fault_where is_fault kind }
+{
+    if is_fault { Some(kind) } else { None }
+}
+
+/// Whether one of the names stands there twice.
+fn any_twice(names: &[Name]) -> bool
+    ensures { result ≡ has_twice names.now }
+{
+    let mut rest = names;
+    while let Some((name, others)) = rest.split_first() {
+        if is_one_of(name, others) {
+            return true;
+        }
+        rest = others;
+    }
+    false
+}
+
+/// The names that are bound where a behaviour with these parameters begins.
+pub fn bound_by(alloc: Global, parameters: &[Name]) -> Result<Names, AllocError>
+    ensures { IfOk result (λ n. n ≡ all_of [] parameters.now) }
+{
+    let mut names = Names::new(alloc);
+    for parameter in parameters {
+        names.add(parameter.copy())?;
+    }
+    Ok(names)
+}
+
+/// Binds the name of a create.
+pub fn bind(bound: &mut Names, call: &Call) -> Result<(), AllocError>
+    ensures { OnOk result (bound.new ≡ with_bound call.now bound.old) }
+{
+    match call {
+        Call::Create { name, .. } => {
+            bound.add(name.copy())?;
+            Ok(())
+        }
+        _ => Ok(()),
+    }
+}
+
+impl Scope {
+    /// The names before the first line.
+    pub fn new(alloc: Global) -> Scope
+        ensures { result ≡ record { cases = []; behaviours = []; bound = []; heads = [] } }
+    {
+        Scope {
+            cases: Names::new(alloc),
+            behaviours: Names::new(alloc),
+            bound: Names::new(alloc),
+            heads: Heads::new(alloc),
+        }
+    }
+
+    fn is_unbound(&self, reference: &Reference) -> bool
+        ensures { result ≡ is_unbound self.now.bound reference.now }
+    {
+        match reference {
+            Reference::Bound(name) => !self.bound.contains(name),
+            _ => false,
+        }
+    }
+
+    fn is_group_unbound(&self, group: &GroupWord) -> bool
+        ensures { result ≡ any_unbound self.now (one_of_group group.now) }
+    {
+        match group {
+            GroupWord::One(reference) => self.is_unbound(reference),
+            GroupWord::All => false,
+        }
+    }
+
+    fn is_target_unbound(&self, target: &TargetWord) -> bool
+        ensures { result ≡ any_unbound self.now (one_of_target target.now) }
+    {
+        match target {
+            TargetWord::One(reference) => self.is_unbound(reference),
+            _ => false,
+        }
+    }
+
+    fn is_any_unbound(&self, references: &[Reference]) -> bool
+        ensures { result ≡ any_unbound self.now references.now }
+    {
+        references
+            .iter()
+            .any(|reference| self.is_unbound(reference))
+    }
+
+    fn fault_of_behaviour(&self, name: &Name, parameters: &[Name]) -> Option<ScriptKind>
+        ensures { result ≡ behaviour_fault self.now name.now parameters.now }
+    {
+        if self.behaviours.contains(name) || any_twice(parameters) {
+            return Some(ScriptKind::Twice);
+        }
+        let has_parameters = !parameters.is_empty();
+        fault_where(
+            self.behaviours.is_empty() && has_parameters,
+            ScriptKind::MainParameters,
+        )
+    }
+
+    fn fault_of_start(&self, on: &Reference, name: &Name, args: &[Reference]) -> Option<ScriptKind>
+        ensures { result ≡ start_fault (any_unbound self.now (on.now ∷ args.now)) (parameters_of name.now self.now.heads) (length args.now) }
+    {
+        if self.is_unbound(on) || self.is_any_unbound(args) {
+            return Some(ScriptKind::NoReference);
+        }
+        match self.heads.parameters_of(name) {
+            None => Some(ScriptKind::UnknownBehaviour),
+            Some(parameters) => fault_where(args.len() != parameters, ScriptKind::Arguments),
+        }
+    }
+
+    fn fault_of_call(&self, call: &Call) -> Option<ScriptKind>
+        ensures { result ≡ call_fault self.now call.now }
+    {
+        match call {
+            Call::Create { name, .. } => {
+                fault_where(self.bound.contains(name), ScriptKind::Twice)
+            }
+            Call::Start {
+                on,
+                behaviour,
+                args,
+            } => self.fault_of_start(on, behaviour, args.as_slice()),
+            Call::Stop(group) | Call::Kill(group) => {
+                fault_where(self.is_group_unbound(group), ScriptKind::NoReference)
+            }
+            Call::Ask(_, target) | Call::Wait { target, .. } => {
+                fault_where(self.is_target_unbound(target), ScriptKind::NoReference)
+            }
+            Call::SetVerdict(_) | Call::GetVerdict => None,
+        }
+    }
+
+    /// The first fault of a line among these names.
+    pub fn fault_of(&self, line: &Line) -> Option<ScriptKind>
+        ensures { result ≡ line_fault self.now line.now }
+    {
+        match line {
+            Line::TestCase(name) => fault_where(self.cases.contains(name), ScriptKind::Twice),
+            Line::Behaviour(name, parameters) => {
+                self.fault_of_behaviour(name, parameters.as_slice())
+            }
+            Line::Step(call) => self.fault_of_call(call),
+            Line::Skipped | Line::End => None,
+        }
+    }
+
+    /// Goes on behind a line, with the lines after it.
+    pub fn take(&mut self, alloc: Global, line: &Line, rest: &[Line]) -> Result<(), AllocError>
+        ensures { OnOk result (self.new ≡ scope_after self.old line.now rest.now) }
+    {
+        match line {
+            Line::TestCase(name) => {
+                self.cases.add(name.copy())?;
+                self.behaviours = Names::new(alloc);
+                self.heads = heads_of(alloc, rest)?;
+            }
+            Line::Behaviour(name, parameters) => {
+                self.behaviours.add(name.copy())?;
+                self.bound = bound_by(alloc, parameters.as_slice())?;
+            }
+            Line::Step(call) => bind(&mut self.bound, call)?,
+            _ => {}
+        }
+        Ok(())
+    }
+}
