@@ -5,9 +5,8 @@ ghost use Rattle.tc_book.specs.Inside.{IsKnown, KnowsStarts, KnowsParts};
 ghost use Rattle.tc_book.specs.Closing.{is_of_run, IsOneEach, IsWhole};
 
 use crate::left::Left;
-use crate::sequence::Sequence;
 use crate::starts::{comp_of, start_of};
-use tc_entry::{Args, Comp, Entry};
+use tc_entry::{Args, Comp, Entry, Sequence};
 use tc_verdict::Run;
 
 fn count_of(lefts: &[Left], run: u16) -> usize

@@ -1,6 +1,5 @@
 //! The report of a closed case.
-use crate::sequence::Sequence;
-use tc_entry::{Comp, Entry, Run, Verdict};
+use tc_entry::{Comp, Entry, Run, Sequence, Verdict};
 
 /// The entries of one run.
 #[derive(Drop)]

@@ -13,7 +13,6 @@ mod parts;
 mod pass;
 mod places;
 mod report;
-mod sequence;
 mod shared;
 mod starts;
 mod ticket;
@@ -23,8 +22,8 @@ pub use closed::{CloseFault, Closed, RunLog};
 pub use halt::Halt;
 pub use left::Left;
 pub use pass::Pass;
-pub use sequence::Sequence;
 pub use shared::Shared;
+pub use tc_entry::Sequence;
 pub use ticket::Ticket;
 
 #[cfg(test)]

@@ -3,9 +3,8 @@ ghost use Rattle.std.specs.Prelude.{◌≡◌, ◌<◌, ◌++◌, ◌∷◌, ℕ
 ghost use Rattle.tc_book.specs.Inside.{KnowsParts};
 ghost use Rattle.tc_book.specs.Parts.{is_by};
 
-use crate::sequence::Sequence;
 use std::alloc::Global;
-use tc_entry::Entry;
+use tc_entry::{Entry, Sequence};
 use tc_verdict::NoMemory;
 
 // So many empty parts.

@@ -9,10 +9,9 @@ ghost use Rattle.tc_book.specs.Parts.{log_of, logs_below, logged};
 ghost use Rattle.tc_book.specs.Report.{IsOneHistory};
 
 use crate::closed::{Closed, RunLog};
-use crate::sequence::Sequence;
 use crate::starts::comp_of;
 use std::alloc::{AllocError, Global};
-use tc_entry::{Args, Comp, Entry, Verdict};
+use tc_entry::{Args, Comp, Entry, Sequence, Verdict};
 use tc_table::Table;
 use tc_verdict::{NoMemory, Run};
 

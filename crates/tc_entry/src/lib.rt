@@ -8,6 +8,7 @@ mod name;
 mod op;
 mod phase;
 mod reply;
+mod sequence;
 
 pub use args::Args;
 pub use comp::Comp;
@@ -16,6 +17,7 @@ pub use name::Name;
 pub use op::{Group, Op, Target};
 pub use phase::Phase;
 pub use reply::{Fault, Reply};
+pub use sequence::Sequence;
 pub use tc_verdict::{NoMemory, Run, UserVerdict, Verdict};
 
 #[cfg(test)]

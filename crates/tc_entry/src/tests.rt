@@ -1,4 +1,5 @@
 use super::*;
+use std::test::Fail;
 
 #[test]
 fn arguments_are_at_most_four(rt: HostRuntime) {
@@ -67,4 +68,13 @@ fn copies_are_the_same(rt: HostRuntime) {
     assert!(rt; !Op::GetVerdict.same(&Op::Finish));
     assert_eq!(rt; Comp(5).copy(), Comp(5));
     assert!(rt; Reply::Parked.copy().same(&Reply::Parked));
+}
+
+#[test]
+fn sequences(rt: HostRuntime) -> Result<(), Fail> {
+    let mut comps = Sequence::new(Vec::new(rt.alloc()));
+    comps.push(Comp(1))?;
+    comps.push(Comp(2))?;
+    assert_eq!(rt; comps.as_slice(), [Comp(1), Comp(2)].as_slice());
+    Ok(())
 }

@@ -1,1 +1,5 @@
+pub mod Blocks
+pub mod Cutting
+pub mod Names
 pub mod Prefixes
+pub mod Texts

@@ -1,9 +1,14 @@
-//! The texts of histories.
+//! The texts of histories, read and written exactly.
 #![tactic(auto)]
 
 mod block;
+mod cut;
+mod header;
+mod line;
+mod read;
 
 pub use block::write_block;
+pub use read::{Block, read_history};
 
 #[cfg(test)]
 mod tests;

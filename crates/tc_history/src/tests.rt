@@ -1,6 +1,9 @@
 use super::*;
+use std::alloc::AllocGlobal;
+use std::process::Abort;
 use std::test::Fail;
-use tc_entry::{Comp, Entry, Fault, Name, NoMemory, Op, Reply, Run, Target, UserVerdict, Verdict};
+use tc_entry::{Comp, Entry, Fault, Name, Op, Reply, Run, Target, UserVerdict, Verdict};
+use tc_text::{TextFault, TextKind};
 
 fn entry(op: Op, reply: Reply) -> Entry {
     Entry {
@@ -39,4 +42,85 @@ fn history_of_a_stuck_case(rt: HostRuntime) -> Result<(), Fail> {
         b"history 1 solo 1\n0 create -> made 1\n0 setverdict pass -> ok\n0 wait done 1 -> parked\n0 wake done 1 -> error stuck\nend error\n".as_slice()
     );
     Ok(())
+}
+
+/// The text is refused so.
+fn is_refused<R: Abort + AllocGlobal>(rt: &R, text: &str, line: usize, kind: TextKind) {
+    let found = read_history(rt.alloc(), text.as_bytes()).err();
+    assert_eq!(rt; found, Some(TextFault::At { line, kind }), "{text}");
+}
+
+#[test]
+fn histories_are_read(rt: HostRuntime) -> Result<(), Fail> {
+    let text = "history 1 t 1
+0 create -> made 1
+0 stop 1 -> ok
+0 alive 1 -> true
+0 wait done 1 -> matched
+end none
+history 1 again 64
+end error";
+    let blocks = read_history(rt.alloc(), text.as_bytes()).map_err(|_| "histories")?;
+    assert_eq!(rt; blocks.len(), 2);
+    let first = blocks.first().ok_or("a block")?;
+    assert_eq!(rt; first.name.bytes(), b"t".as_slice());
+    assert_eq!(rt; first.behaviours, 1);
+    assert_eq!(rt; first.first_line, 1);
+    assert_eq!(rt; first.entries.as_slice().len(), 4);
+    let waited = entry(
+        Op::Wait {
+            killed: false,
+            target: Target::One(Comp(1)),
+        },
+        Reply::Matched,
+    );
+    let last = first.entries.as_slice().get(3).ok_or("an entry")?;
+    assert!(rt; last.same(&waited));
+    assert_eq!(rt; first.verdict, Verdict::None);
+    let second = blocks.get(1).ok_or("a block")?;
+    assert_eq!(rt; second.name.bytes(), b"again".as_slice());
+    assert_eq!(rt; second.behaviours, 64);
+    assert_eq!(rt; second.first_line, 7);
+    assert!(rt; second.entries.as_slice().is_empty());
+    assert_eq!(rt; second.verdict, Verdict::Error);
+    Ok(())
+}
+
+#[test]
+fn histories_are_refused(rt: HostRuntime) {
+    is_refused(&rt, "", 1, TextKind::Early);
+    for header in [
+        "history 1 t 0\n",
+        "history 1 t 65\n",
+        "history 2 t 1\nend none\n",
+        "history 1 mtc 1\nend none\n",
+        "history 1 t 01\nend none\n",
+        "history 1 t  1\nend none\n",
+        "history 1 t\nend none\n",
+        "\nhistory 1 t 1\nend none\n",
+    ] {
+        is_refused(&rt, header, 1, TextKind::FirstLine);
+    }
+    for inside in [
+        "history 1 t 1\n0 create -> made 01\nend none\n",
+        "history 1 t 1\n0 create-> made 1\nend none\n",
+        "history 1 t 1\nend maybe\n",
+        "history 1 t 1\n\nend none\n",
+    ] {
+        is_refused(&rt, inside, 2, TextKind::Entry);
+    }
+    is_refused(&rt, "history 1 t 1\n0 create -> made 1", 3, TextKind::Early);
+    is_refused(&rt, "history 1 t 1\n", 2, TextKind::Early);
+    is_refused(
+        &rt,
+        "history 1 t 1\nend none\nhistory 1 t\n",
+        3,
+        TextKind::FirstLine,
+    );
+    is_refused(
+        &rt,
+        "history 1 t 1\nend none\nhistory 1 b 1\n0 finish -> ok\n0 finish\n",
+        5,
+        TextKind::Entry,
+    );
 }

@@ -35,7 +35,7 @@ named_next past l rest is =
     by (Some kind) e = absurd cc
     by None e = (refl, e)
 
-neither : (a b : Bool) → (a || b) ≡ false → (a ≡ false) × (b ≡ false)
+pub neither : (a b : Bool) → (a || b) ≡ false → (a ≡ false) × (b ≡ false)
 neither false false e = (refl, refl)
 neither false true e = absurd cc
 neither true b e = absurd cc
@@ -77,7 +77,7 @@ target_bound ns T.All e = search rules
 
 -- ---- what the lack of a fault says
 
-no_fault : (b : Bool) (kind : ScriptKind) → fault_where b kind ≡ None → b ≡ false
+pub no_fault : (b : Bool) (kind : ScriptKind) → fault_where b kind ≡ None → b ≡ false
 no_fault true kind e = absurd cc
 no_fault false kind e = refl
 
@@ -91,7 +91,7 @@ none_twice false main e = refl
 
 -- ---- names that are bound once each
 
-add_new : (n : List ℕ) (ns : List (List ℕ)) → among n ns ≡ false → add n ns ≡ ns ++ n ∷ []
+pub add_new : (n : List ℕ) (ns : List (List ℕ)) → among n ns ≡ false → add n ns ≡ ns ++ n ∷ []
 add_new n ns e = rw e refl
 
 one_longer : (n : List ℕ) (ns : List (List ℕ)) → length (ns ++ n ∷ []) ≡ length ns + 1
@@ -102,7 +102,7 @@ abbrev AreNew : List (List ℕ) → List (List ℕ) → Type 0
 AreNew ns [] = Unit {0}
 AreNew ns (m ∷ ms) = (among m ns ≡ false) × AreNew ns ms
 
-differ : (n m : List ℕ) → is_text n m ≡ false → is_text m n ≡ false
+pub differ : (n m : List ℕ) → is_text n m ≡ false → is_text m n ≡ false
 unfolding is_text
 differ n m e = by (pointwise nat_eq m n) (bytes_decides m n).0
   where
@@ -110,7 +110,7 @@ differ n m e = by (pointwise nat_eq m n) (bytes_decides m n).0
     by true f = let yes : pointwise nat_eq n m ≡ true = (bytes_decides n m).1 (sym (f refl)) in absurd cc
     by false f = refl
 
-either : (a b : Bool) → a ≡ false → b ≡ false → (a || b) ≡ false
+pub either : (a b : Bool) → a ≡ false → b ≡ false → (a || b) ≡ false
 either a b p q = rw (p, q) refl
 
 new_behind : (ns : List (List ℕ)) (n : List ℕ) (ms : List (List ℕ)) → AreNew ns ms → among n ms ≡ false → AreNew (ns ++ n ∷ []) ms

@@ -5,4 +5,5 @@ pub mod Adding
 pub mod Judging
 pub mod SecondPass
 pub mod Binding
+pub mod Lawful
 pub mod Sound

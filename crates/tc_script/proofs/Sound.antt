@@ -1,5 +1,5 @@
 -- Lines without a fault make scripts.
-use Rattle.std.proofs.Common.{ℕ, ◌≡◌, ◌∙◌, ◌+◌, ◌<◌, ◌≤◌, Bool, true, false, Result, Ok, Err, None, List, [], ◌∷◌, ◌++◌, length, refl, sym, ap, arith, append_assoc}
+use Rattle.std.proofs.Common.{All, map, ℕ, ◌≡◌, ◌∙◌, ◌+◌, ◌<◌, ◌≤◌, Bool, true, false, Result, Ok, Err, None, List, [], ◌∷◌, ◌++◌, length, refl, sym, ap, arith, append_assoc}
 use Rattle.std.specs.Prelude.{reverse, not, if◌then◌else◌, is_some}
 use Rattle.std.proofs.lemmas.List.{reverse-append, length-append, append-nil}
 use Rattle.std.proofs.lemmas.Bool.Decides.{nat_tests}
@@ -11,9 +11,11 @@ use Rattle.tc_line.specs.declared.line.Line.TheVariants as L
 use Rattle.tc_line.specs.Line.{line_of, ◌>>=◌}
 use Rattle.tc_script.specs.Open.{parsed, placed, fits, passes_limit, opened, or_at, at_next, ends_well, given, steps_in, behaviours_in}
 use Rattle.tc_script.specs.Scope.{Head, heads, heads_behind, add_head, with_bound, parameters_of}
-use Rattle.tc_script.specs.Campaign.{steps}
+use Rattle.tc_script.specs.Campaign.{steps, cases, CampaignView}
+use Rattle.tc_script.specs.Law.{IsCase}
+use Rattle.tc_script.proofs.Lawful.{cases_are, case_names}
 use Rattle.tc_script.specs.Meaning.{misnamed}
-use Rattle.tc_script.specs.Names.{all_of}
+use Rattle.tc_script.specs.Names.{all_of, has_twice}
 use Rattle.tc_script.proofs.Binding.{named_next, places_bound}
 use Rattle.tc_script.specs.Building.{HasFewArguments, HaveFewArguments, AreScripts, AreCases}
 
@@ -166,5 +168,11 @@ sound_cases texts ls is named =
     let rest = parsed_rest [] texts ls is in
     let same : rest.0 ≡ ls = sym rest.1 in
     rw (← same) (are_cases [] rest.0 rest.2 (ap (misnamed []) same ∙ sym named))
+
+pub sound_law : (texts : List (List ℕ)) (ls : List Line) (found : CampaignView) → parsed [] texts ≡ Ok ls → None ≡ misnamed [] ls → found ≡ cases ls → All (λ t. IsCase t.1) found
+sound_law texts ls found is named same = rw same (cases_are [] ls (sound_cases texts ls is named) (sym named))
+
+pub sound_names : (texts : List (List ℕ)) (ls : List Line) (found : CampaignView) → parsed [] texts ≡ Ok ls → None ≡ misnamed [] ls → found ≡ cases ls → has_twice (map (λ t. t.0) found) ≡ false
+sound_names texts ls found is named same = rw same (case_names [] ls (sym named) refl)
 
 pub ruleset sound_rules = (sound_arguments, sound_cases)

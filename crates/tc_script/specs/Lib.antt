@@ -6,3 +6,4 @@ pub mod Campaign
 pub mod Counts
 pub mod Passing
 pub mod Building
+pub mod Law

@@ -1,6 +1,8 @@
-ghost use Rattle.std.specs.Prelude.{◌≡◌};
+ghost use Rattle.std.specs.Prelude.{◌≡◌, false, IfOk, All, map};
 ghost use Rattle.tc_script.specs.Campaign.{campaign};
 ghost use Rattle.tc_script.specs.Counts.{Reads};
+ghost use Rattle.tc_script.specs.Law.{IsCase};
+ghost use Rattle.tc_script.specs.Names.{has_twice};
 
 use crate::campaign::{Campaign, campaign_of};
 use crate::fault::ReadFault;
@@ -11,7 +13,9 @@ use std::alloc::Global;
 /// The campaign that a text spells; else its first fault. Only want of memory may stand in place of either.
 #[tactic(auto, unfolding(crate::specs::Campaign::campaign), using(crate::proofs::Sound::sound_rules))]
 pub fn read_campaign(alloc: Global, bytes: &[u8]) -> Result<Campaign, ReadFault>
-    ensures { Reads (λ c. c) result (campaign bytes.now) }
+    ensures answer { Reads (λ c. c) result (campaign bytes.now) }
+    ensures names { IfOk result (λ c. has_twice (map (λ t. t.0) c) ≡ false) }
+    ensures cases { IfOk result (λ c. All (λ t. IsCase t.1) c) }
 {
     let lines = match parse(alloc, bytes) {
         Ok(lines) => lines,

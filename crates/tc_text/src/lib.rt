@@ -15,7 +15,8 @@ mod writing;
 pub use append::{append_number, append_text};
 pub use fault::{TextFault, TextKind};
 pub use move_list::{MoveList, read_moves, take_first_line, take_move_line};
-pub use moves::read_move;
+pub use moves::{read_move, take_move};
+pub use number::read_number;
 pub use reply::{read_reply, write_reply};
 pub use writing::{write_move, write_op};
 

@@ -21,7 +21,7 @@ fn take_op(text: &[u8]) -> Option<(Op, &[u8])>
 
 /// The move that the text begins with, and what stands behind it.
 #[inline(always)]
-pub(crate) fn take_move(text: &[u8]) -> Option<((Run, Op), &[u8])>
+pub fn take_move(text: &[u8]) -> Option<((Run, Op), &[u8])>
     ensures spelled { IfSome result (λ r. text.now ≡ move_text r.0.0.0 r.0.1 ++ r.1.now) }
     ensures fits { IfSome result (λ r. (r.0.0.0 < 2 ^ 16) × IsOp r.0.1) }
     ensures only { (run : ℕ) (op : AnyOp) (rest : List ℕ) → run < 2 ^ 16 → IsOp op → EndsMove rest → text.now ≡ move_text run op ++ rest → MatchOption result ⊥ (λ r. (r.0 ≡ (record { 0 = run }, op)) × (r.1.now ≡ rest)) }

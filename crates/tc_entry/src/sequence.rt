@@ -27,7 +27,7 @@ impl<T: Drop> Sequence<T> {
     }
 
     /// Adds an item at the end.
-    pub(crate) fn push(&mut self, item: T) -> Result<(), NoMemory>
+    pub fn push(&mut self, item: T) -> Result<(), NoMemory>
         ensures added { OnOk result (self.new ≡ self.old ++ item ∷ []) }
     {
         self.items.push(item)?;

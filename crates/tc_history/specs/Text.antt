@@ -1,0 +1,156 @@
+-- Histories as texts, and what is wrong with other texts.
+use Rattle.std.specs.Prelude.{ℕ, ◌≡◌, ◌≢◌, ◌<◌, ◌+◌, ◌^◌, ◌⊎◌, List, [], ◌∷◌, ◌++◌, length, map}
+use Rattle.tc_verdict.specs.declared.verdict.Verdict.{Verdict}
+use Rattle.tc_entry.specs.Name.{IsName}
+use Rattle.tc_entry.specs.declared.entry.Entry.{Entry}
+use Rattle.tc_text.specs.declared.fault.TextFault.{TextFault}
+use Rattle.tc_text.specs.declared.fault.TextFault.TheVariants as F
+use Rattle.tc_text.specs.declared.fault.TextKind.{TextKind}
+use Rattle.tc_text.specs.declared.fault.TextKind.TheVariants as K
+use Rattle.tc_text.specs.Lines.{lines_of}
+use Rattle.tc_text.specs.MoveList.{IsBehaviours}
+use Rattle.tc_text.specs.Spelling.{IsOp, IsReply}
+use Rattle.tc_history.specs.declared.read.Block.{Block}
+use Rattle.tc_history.specs.Block.{header_text, entry_text, end_text}
+
+-- an entry whose numbers are those of their types
+pub record IsEntry (e : Entry) : Type 0 where
+  pub caller : e.caller.0 < 2 ^ 16
+  pub op : IsOp e.op
+  pub reply : IsReply e.reply
+
+-- entries whose numbers are those of their types
+abbrev pub AreEntries : List Entry → Type 0
+AreEntries [] = Unit {0}
+AreEntries (e ∷ es) = IsEntry e × AreEntries es
+
+-- a first line and entries, which no line ends yet
+abbrev pub open_lines : List ℕ → ℕ → List Entry → List (List ℕ)
+open_lines name n entries = header_text name n ∷ map entry_text entries
+
+-- the lines of a block
+abbrev pub block_lines : Block → List (List ℕ)
+block_lines b = open_lines b.name b.behaviours b.entries ++ end_text b.verdict ∷ []
+
+-- the lines of blocks, one block after the other
+abbrev pub all_lines : List Block → List (List ℕ)
+all_lines [] = []
+all_lines (b ∷ bs) = block_lines b ++ all_lines bs
+
+-- a name, and a number of behaviours that a case may have
+pub record IsHeader (name : List ℕ) (n : ℕ) : Type 0 where
+  pub name_is : IsName name
+  pub few : IsBehaviours n
+
+-- a block whose first line is the line of this number
+pub record IsBlock (line : ℕ) (b : Block) : Type 0 where
+  pub header : IsHeader b.name b.behaviours
+  pub entries : AreEntries b.entries
+  pub first : b.first_line ≡ line
+
+-- blocks whose first one begins in the line of this number
+abbrev pub AreBlocks : ℕ → List Block → Type 0
+AreBlocks line [] = Unit {0}
+AreBlocks line (b ∷ bs) = IsBlock line b × AreBlocks (line + length (block_lines b)) bs
+
+-- the text is that of these blocks, and there is one
+pub record AreHistories (text : List ℕ) (blocks : List Block) : Type 0 where
+  pub some : blocks ≢ []
+  pub fits : AreBlocks 1 blocks
+  pub lines : lines_of text ≡ all_lines blocks
+
+-- some blocks, and then, in the line of this number, no first line of a block
+pub record IsBadHeader (text : List ℕ) (line : ℕ) : Type 0 where
+  pub blocks : List Block
+  pub bad_line : List ℕ
+  pub others : List (List ℕ)
+  pub fits : AreBlocks 1 blocks
+  pub lines : lines_of text ≡ all_lines blocks ++ bad_line ∷ others
+  pub number : line ≡ length (all_lines blocks) + 1
+  pub bad : (name : List ℕ) (n : ℕ) → IsHeader name n → bad_line ≢ header_text name n
+
+-- some blocks, a first line and some entries, and then, in the line of this number, neither an entry nor the end of the block
+pub record IsBadEntry (text : List ℕ) (line : ℕ) : Type 0 where
+  pub blocks : List Block
+  pub name : List ℕ
+  pub behaviours : ℕ
+  pub entries : List Entry
+  pub bad_line : List ℕ
+  pub others : List (List ℕ)
+  pub fits : AreBlocks 1 blocks
+  pub header : IsHeader name behaviours
+  pub right : AreEntries entries
+  pub lines : lines_of text ≡ all_lines blocks ++ (open_lines name behaviours entries ++ bad_line ∷ others)
+  pub number : line ≡ length (all_lines blocks) + (length entries + 2)
+  pub no_entry : (e : Entry) → IsEntry e → bad_line ≢ entry_text e
+  pub no_end : (v : Verdict) → bad_line ≢ end_text v
+
+-- some blocks, a first line and some entries, and nothing more
+pub record IsOpen (text : List ℕ) : Type 0 where
+  pub blocks : List Block
+  pub name : List ℕ
+  pub behaviours : ℕ
+  pub entries : List Entry
+  pub fits : AreBlocks 1 blocks
+  pub header : IsHeader name behaviours
+  pub right : AreEntries entries
+  pub lines : lines_of text ≡ all_lines blocks ++ open_lines name behaviours entries
+
+-- the first fault of the text is of this kind and in this line
+abbrev pub IsHistoryFaultAt : List ℕ → ℕ → TextKind → Type 0
+IsHistoryFaultAt text line K.Early = ((lines_of text ≡ []) ⊎ IsOpen text) × (line ≡ length (lines_of text) + 1)
+IsHistoryFaultAt text line K.FirstLine = IsBadHeader text line
+IsHistoryFaultAt text line K.Entry = IsBadEntry text line
+IsHistoryFaultAt text line K.Move = ⊥
+
+-- what a fault says of the text; want of memory says nothing
+abbrev pub IsHistoryFault : List ℕ → TextFault → Type 0
+IsHistoryFault text (F.At line kind) = IsHistoryFaultAt text line kind
+IsHistoryFault text F.NoMemory = Unit {0}
+
+-- ---- one block
+
+-- the line is no first line of a block
+abbrev pub IsNoHeader : List ℕ → Type 0
+IsNoHeader line = (name : List ℕ) (n : ℕ) → IsHeader name n → line ≢ header_text name n
+
+-- a first line and entries, and then these lines
+pub record Opens (text : List ℕ) (name : List ℕ) (n : ℕ) (entries : List Entry) (others : List (List ℕ)) : Type 0 where
+  pub header : IsHeader name n
+  pub right : AreEntries entries
+  pub lines : lines_of text ≡ open_lines name n entries ++ others
+
+-- the first line of the text is no first line of a block
+pub record IsBadStart (text : List ℕ) : Type 0 where
+  pub bad_line : List ℕ
+  pub others : List (List ℕ)
+  pub lines : lines_of text ≡ bad_line ∷ others
+  pub bad : IsNoHeader bad_line
+
+-- a first line and some entries, and then, in the line of this number, neither an entry nor the end of the block
+pub record IsBadInside (text : List ℕ) (first_line line : ℕ) : Type 0 where
+  pub name : List ℕ
+  pub behaviours : ℕ
+  pub entries : List Entry
+  pub bad_line : List ℕ
+  pub others : List (List ℕ)
+  pub opens : Opens text name behaviours entries (bad_line ∷ others)
+  pub number : line ≡ first_line + length entries + 1
+  pub no_entry : (e : Entry) → IsEntry e → bad_line ≢ entry_text e
+  pub no_end : (v : Verdict) → bad_line ≢ end_text v
+
+-- a first line and some entries, and nothing more
+pub record IsCutInside (text : List ℕ) (first_line line : ℕ) : Type 0 where
+  pub name : List ℕ
+  pub behaviours : ℕ
+  pub entries : List Entry
+  pub opens : Opens text name behaviours entries []
+  pub number : line ≡ first_line + length entries + 1
+
+-- the first fault of a text that should begin with a block
+abbrev pub IsBlockFault : List ℕ → ℕ → TextFault → Type 0
+IsBlockFault text first_line (F.At line K.Early) = IsCutInside text first_line line
+IsBlockFault text first_line (F.At line K.FirstLine) = IsBadStart text × (line ≡ first_line)
+IsBlockFault text first_line (F.At line K.Entry) = IsBadInside text first_line line
+IsBlockFault text first_line (F.At line K.Move) = ⊥
+IsBlockFault text first_line F.NoMemory = Unit {0}
