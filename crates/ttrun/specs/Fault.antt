@@ -8,6 +8,8 @@ use Rattle.tc_text.specs.declared.fault.TextFault.{TextFault}
 use Rattle.tc_text.specs.declared.fault.TextFault.TheVariants as T
 use Rattle.tc_text.specs.MoveList.{IsListFault}
 use Rattle.tc_text.specs.TextKind.{kind_text}
+use Rattle.tc_script.specs.declared.fault.ScriptFault.{ScriptFault}
+use Rattle.tc_line.specs.ScriptKind.{kind_text as script_kind_text}
 use Rattle.ttrun.specs.declared.fault.RunFault.{RunFault}
 use Rattle.ttrun.specs.declared.fault.RunFault.TheVariants as F
 use Rattle.ttrun.specs.Output.{WritesPrefix}
@@ -25,17 +27,23 @@ RefusesText text F.NoMemory = Unit {0}
 RefusesText text fault = ⊥
 
 -- what a fault of a command says: of an input of at most so many bytes, and of the output
-abbrev pub Refuses : (List ℕ → List ℕ → ℕ → Type 0) → ℕ → Option (List ℕ) → Option (List ℕ) → Option (List ℕ) → RunFault → Type 0
-Refuses Gives limit input before after F.TooLong = Keeps before after × IfSome input (λ text. limit < length text)
-Refuses Gives limit input before after F.Read = Keeps before after
-Refuses Gives limit input before after F.Write = WritesPrefix Gives input before after
-Refuses Gives limit input before after F.NoMemory = Keeps before after
-Refuses Gives limit input before after (F.Text fault) = Keeps before after × IfSome input (λ text. IsListFault text fault)
+abbrev pub Refuses : (List ℕ → TextFault → Type 0) → (List ℕ → List ℕ → ℕ → Type 0) → ℕ → Option (List ℕ) → Option (List ℕ) → Option (List ℕ) → RunFault → Type 0
+Refuses HasFault Gives limit input before after F.TooLong = Keeps before after × IfSome input (λ text. limit < length text)
+Refuses HasFault Gives limit input before after F.Read = Keeps before after
+Refuses HasFault Gives limit input before after F.Write = WritesPrefix Gives input before after
+Refuses HasFault Gives limit input before after F.NoMemory = Keeps before after
+Refuses HasFault Gives limit input before after (F.Script fault) = ⊥
+Refuses HasFault Gives limit input before after F.StopOn = ⊥
+Refuses HasFault Gives limit input before after (F.Text fault) = Keeps before after × IfSome input (λ text. HasFault text fault)
 
 -- the text of a fault that a text has
 abbrev pub text_fault_text : TextFault → List ℕ
 text_fault_text (T.At line kind) = codes "line " ++ (decimal line ++ (codes ": " ++ kind_text kind))
 text_fault_text T.NoMemory = codes "no memory"
+
+-- the text of a fault that a script has
+abbrev pub script_fault_text : ScriptFault → List ℕ
+script_fault_text fault = codes "line " ++ (decimal fault.line ++ (codes ": " ++ script_kind_text fault.kind))
 
 -- the text of a fault
 abbrev pub fault_text : RunFault → List ℕ
@@ -44,6 +52,8 @@ fault_text F.Read = codes "read fault"
 fault_text F.Write = codes "write fault"
 fault_text F.NoMemory = codes "no memory"
 fault_text (F.Text fault) = text_fault_text fault
+fault_text (F.Script fault) = script_fault_text fault
+fault_text F.StopOn = codes "--stop-on takes none, pass, inconc, fail or error"
 
 -- the line on standard error
 abbrev pub line_of : RunFault → List ℕ

@@ -2,3 +2,6 @@ pub mod Status
 pub mod Replay
 pub mod Fault
 pub mod Output
+pub mod Give
+pub mod Script
+pub mod Check

@@ -1,8 +1,10 @@
 //! The faults of the program, and their lines on standard error.
 ghost use Rattle.std.specs.Prelude.{◌≡◌, ◌++◌, OnOk, OnErr};
 ghost use Rattle.std.specs.Io.{StartsWith};
-ghost use Rattle.ttrun.specs.Fault.{fault_text, line_of, text_fault_text};
+ghost use Rattle.ttrun.specs.Fault.{fault_text, line_of, script_fault_text, text_fault_text};
 
+use std::alloc::{AllocError, AllocFailed};
+use tc_script::ScriptFault;
 use tc_stream::WriteFault;
 use tc_table::{InputFault, NoMemory, TextFault};
 use tc_text::{append_number, append_text};
@@ -20,6 +22,10 @@ pub enum RunFault {
     NoMemory,
     /// The text of the input is none that the command takes.
     Text(TextFault),
+    /// The input spells no campaign.
+    Script(ScriptFault),
+    /// The word of `--stop-on` is the name of no verdict.
+    StopOn,
 }
 
 impl From<InputFault> for RunFault {
@@ -59,6 +65,28 @@ impl From<NoMemory> for RunFault {
     }
 }
 
+impl From<AllocError> for RunFault {
+    ghost use Rattle.std.specs.Prelude.{◌≡◌};
+    ghost use Rattle.ttrun.specs.declared.fault.RunFault.TheVariants as faults;
+
+    ghost from_gives = { λ _ r. r ≡ faults.NoMemory };
+
+    fn from(_: AllocError) -> RunFault {
+        RunFault::NoMemory
+    }
+}
+
+impl<T: Drop> From<AllocFailed<T>> for RunFault {
+    ghost use Rattle.std.specs.Prelude.{◌≡◌};
+    ghost use Rattle.ttrun.specs.declared.fault.RunFault.TheVariants as faults;
+
+    ghost from_gives = { λ _ r. r ≡ faults.NoMemory };
+
+    fn from(_: AllocFailed<T>) -> RunFault {
+        RunFault::NoMemory
+    }
+}
+
 impl From<TextFault> for RunFault {
     ghost use Rattle.std.specs.Prelude.{◌≡◌};
     ghost use Rattle.ttrun.specs.declared.fault.RunFault.TheVariants as faults;
@@ -88,6 +116,17 @@ fn append_text_fault(out: &mut Vec<u8>, fault: &TextFault) -> Result<(), NoMemor
 }
 
 // Appends the text of the fault; where memory is refused, a part of it.
+fn append_script_fault(out: &mut Vec<u8>, fault: ScriptFault) -> Result<(), NoMemory>
+    ensures ok { OnOk result (out.new.items ≡ out.old.items ++ script_fault_text fault) }
+    ensures err { OnErr result (StartsWith out.new.items out.old.items) }
+{
+    append_text(out, "line ")?;
+    append_number(out, fault.line as u64)?;
+    append_text(out, ": ")?;
+    append_text(out, fault.kind.text())
+}
+
+// Appends the text of the fault; where memory is refused, a part of it.
 fn append_fault(out: &mut Vec<u8>, fault: &RunFault) -> Result<(), NoMemory>
     ensures ok { OnOk result (out.new.items ≡ out.old.items ++ fault_text fault.now) }
     ensures err { OnErr result (StartsWith out.new.items out.old.items) }
@@ -98,6 +137,8 @@ fn append_fault(out: &mut Vec<u8>, fault: &RunFault) -> Result<(), NoMemory>
         RunFault::Write => append_text(out, "write fault")?,
         RunFault::NoMemory => append_text(out, "no memory")?,
         RunFault::Text(fault) => append_text_fault(out, fault)?,
+        RunFault::Script(fault) => append_script_fault(out, *fault)?,
+        RunFault::StopOn => append_text(out, "--stop-on takes none, pass, inconc, fail or error")?,
     }
     Ok(())
 }

@@ -1,5 +1,6 @@
 //! The subcommand `replay`.
 ghost use Rattle.std.specs.Prelude.{◌≡◌, ◌≤◌, ◌<◌, ◌++◌, ◌∷◌, [], length, IfOk, IfErr, IfSome, OnOk};
+ghost use Rattle.tc_text.specs.MoveList.{IsListFault};
 ghost use Rattle.tc_text.specs.Spelling.{reply_text};
 ghost use Rattle.ttrun.specs.Replay.{IsReplayOf, Replays, next_entry, reply_line, verdict_line};
 ghost use Rattle.ttrun.specs.Output.{Writes};
@@ -105,7 +106,7 @@ pub fn replay<R: Read, W: Write>(
 ) -> Result<u8, RunFault>
     ensures done { IfOk result (λ status. Writes Replays (R.remaining reader.old) (W.contents writer.old) (W.contents writer.new) status) }
     ensures fits { OnOk result (IfSome (R.remaining reader.old) (λ text. length text ≤ LIMIT)) }
-    ensures refused { IfErr result (λ fault. Refuses Replays LIMIT (R.remaining reader.old) (W.contents writer.old) (W.contents writer.new) fault) }
+    ensures refused { IfErr result (λ fault. Refuses IsListFault Replays LIMIT (R.remaining reader.old) (W.contents writer.old) (W.contents writer.new) fault) }
 {
     let text = read_input(alloc, reader, LIMIT)?;
     let (out, verdict) = replay_text(alloc, text.as_slice())?;

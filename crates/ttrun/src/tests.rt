@@ -5,7 +5,9 @@ use std::alloc::{AllocError, Global};
 use std::process::Abort;
 use std::test::Fail;
 
+mod campaigns;
 mod devices;
+mod histories;
 mod refused;
 mod worked;
 

@@ -1,0 +1,86 @@
+-- The results of a run are right.
+use Rattle.std.proofs.Common.{◌≡◌, ◌∙◌, ◌-◌, ◌++◌, ◌∷◌, [], Option, List, All, length, map, take, arith, refl, sym, ap, subst, append_assoc, slice_index_or}
+use Rattle.std.specs.Prelude.{IfSome, IsNone, IsSomeAnd, slice_get}
+use Rattle.std.specs.List.{AllZip}
+use Rattle.std.proofs.lemmas.List.Elements.{All-map, All-nil, All-cons, All-head, All-tail, All-take}
+use Rattle.tc_verdict.specs.declared.verdict.Verdict.{Verdict}
+use Rattle.tc_report.specs.declared.results.CampaignEnd.{CampaignEnd}
+use Rattle.tc_report.specs.declared.results.Finished.{Finished}
+use Rattle.tc_campaign.specs.declared.case.Case.{Case}
+use Rattle.tc_campaign.specs.Stopping.{IsBetter, IsMet}
+use Rattle.tc_campaign.specs.Outline.{Outline, HasNames, outline_of}
+use Rattle.tc_campaign.specs.Campaign.{IsNamed, IsOfCase, IsReported, IsEnding, IsRight, IsRefusal, IsWhy}
+use Rattle.tc_campaign.specs.Inside.{IsOf, IsSoFar, IsRun}
+use Rattle.tc_campaign.specs.Inside.IsRun.{complete, aborted, stopped}
+use Rattle.tc_campaign.proofs.Places.{AllZip-pushed, AllZip-weaker, AllZip-begin, slice_get-behind, take-front, slice_get-last, All-slice_get}
+
+-- the finished cases are of a beginning of the list
+each_of : (cases : List Outline) (stop_on : Option Verdict) (finished : List Finished) (ending : CampaignEnd) → IsRun cases stop_on finished ending → AllZip IsOf (take (length finished) cases) finished
+each_of cases stop_on finished _ (complete _ so) = AllZip-begin IsOf cases so.done [] finished so.prefix so.each
+each_of cases stop_on finished ending (aborted _ c left _ so refused) = AllZip-begin IsOf cases so.done (c ∷ left) finished so.prefix so.each
+each_of cases stop_on _ _ (stopped finished f c left so is met) =
+    AllZip-begin IsOf cases (so.done ++ c ∷ []) left (finished ++ f ∷ []) (simp append_assoc so.prefix) (AllZip-pushed IsOf so.done finished c f so.each is)
+
+-- all but the last are better than stop_on
+each_better : (cases : List Outline) (stop_on : Option Verdict) (finished : List Finished) (ending : CampaignEnd) → IsRun cases stop_on finished ending
+    → All (λ f. IsBetter stop_on f.report.verdict) (take (length finished - 1) finished)
+each_better cases stop_on finished _ (complete _ so) = All-take (λ f. IsBetter stop_on f.report.verdict) (length finished - 1) finished so.better
+each_better cases stop_on finished ending (aborted _ c left _ so refused) = All-take (λ f. IsBetter stop_on f.report.verdict) (length finished - 1) finished so.better
+each_better cases stop_on _ _ (stopped finished f c left so is met) = subst (All (λ g. IsBetter stop_on g.report.verdict)) (sym (take-front finished f)) so.better
+
+last_better : (cases : List Outline) (stop_on : Option Verdict) (left : List Outline) (finished : List Finished) → IsSoFar cases stop_on left finished
+    → IfSome (slice_get finished (length finished - 1)) (λ f. IsBetter stop_on f.report.verdict)
+last_better cases stop_on left finished so = All-slice_get (λ f. IsBetter stop_on f.report.verdict) finished (length finished - 1) so.better
+
+next_is : (cases : List Outline) (stop_on : Option Verdict) (left : List Outline) (finished : List Finished) → IsSoFar cases stop_on left finished
+    → slice_get left 0 ≡ slice_get cases (length finished)
+next_is cases stop_on left finished so = sym (slice_get-behind IsOf cases so.done left finished so.prefix so.each)
+
+ends_so : (cases : List Outline) (stop_on : Option Verdict) (finished : List Finished) (ending : CampaignEnd) → IsRun cases stop_on finished ending
+    → IsEnding stop_on (slice_get finished (length finished - 1)) (slice_get cases (length finished)) ending
+ends_so cases stop_on finished _ (complete _ so) = (last_better cases stop_on [] finished so, subst IsNone (next_is cases stop_on [] finished so) refl)
+ends_so cases stop_on finished ending (aborted _ c left _ so refused) =
+    rw refused.aborted (last_better cases stop_on (c ∷ left) finished so, subst (λ o. IsSomeAnd o (λ d. c.name ≡ d.name)) (next_is cases stop_on (c ∷ left) finished so) refl)
+ends_so cases stop_on _ _ (stopped finished f c left so is met) =
+    subst (λ o. IsSomeAnd o (λ g. (f.name ≡ g.name) × IsMet stop_on g.report.verdict)) (sym (slice_get-last finished f)) (refl, met)
+
+pub right : (cases : List Outline) (stop_on : Option Verdict) (finished : List Finished) (ending : CampaignEnd) → IsRun cases stop_on finished ending
+    → IsRight cases stop_on (record { finished = finished; ending = ending })
+right cases stop_on finished ending run = record {
+  names = AllZip-weaker IsOf IsOfCase (λ c f of. of.names) (take (length finished) cases) finished (each_of cases stop_on finished ending run);
+  better = each_better cases stop_on finished ending run;
+  ending = ends_so cases stop_on finished ending run;
+}
+
+pub reported : (cases : List Outline) (stop_on : Option Verdict) (finished : List Finished) (ending : CampaignEnd) → IsRun cases stop_on finished ending
+    → AllZip IsReported (take (length finished) cases) finished
+reported cases stop_on finished ending run = AllZip-weaker IsOf IsReported (λ c f of. of.report) (take (length finished) cases) finished (each_of cases stop_on finished ending run)
+
+pub why : (cases : List Outline) (stop_on : Option Verdict) (finished : List Finished) (ending : CampaignEnd) → IsRun cases stop_on finished ending → IsWhy (slice_get cases (length finished)) ending
+why cases stop_on finished _ (complete _ so) = tt
+why cases stop_on finished ending (aborted _ c left _ so refused) = rw refused.aborted (subst (λ o. IfSome o (IsRefusal refused.why)) (next_is cases stop_on (c ∷ left) finished so) refused.cause)
+why cases stop_on _ _ (stopped finished f c left so is met) = tt
+
+-- as many names as jobs
+abbrev AreEven : Outline → Type 0
+AreEven o = length o.names ≡ o.jobs
+
+all_named : (cases : List Outline) (finished : List Finished) → All AreEven cases → AllZip IsOf cases finished → All IsNamed finished
+all_named [] [] even each = All-nil IsNamed
+all_named [] (f ∷ finished) even each = absurd each
+all_named (c ∷ cases) [] even each = absurd each
+all_named (c ∷ cases) (f ∷ finished) even each =
+    All-cons IsNamed f finished (named c f (All-head AreEven c cases even) each.0) (all_named cases finished (All-tail AreEven c cases even) each.1)
+  where
+    named : (c : Outline) (f : Finished) → AreEven c → IsOf c f → IsNamed f
+    named c f e of = ap length of.names.names ∙ e ∙ sym of.report.behaviours
+
+even : {X : Type 0} {F : X → Type 0} {M : _} (c : Case X F M) → HasNames c → AreEven (outline_of c)
+even c e = omega arith
+
+pub names : {X : Type 0} {F : X → Type 0} {M : _} (cases : List (Case X F M)) (stop_on : Option Verdict) (finished : List Finished) (ending : CampaignEnd)
+    → All HasNames cases → IsRun (map outline_of cases) stop_on finished ending → All IsNamed finished
+names cases stop_on finished ending all run =
+    all_named (take (length finished) (map outline_of cases)) finished
+    (All-take AreEven (length finished) (map outline_of cases) (All-map AreEven outline_of cases (λ k d lt. even (slice_index_or cases k d) (all k d lt))))
+    (each_of (map outline_of cases) stop_on finished ending run)

@@ -1,0 +1,61 @@
+-- Right results of a campaign.
+use Rattle.std.specs.Prelude.{◌≡◌, ◌<◌, ◌-◌, ⊤, Option, List, All, IfSome, IsNone, IsSomeAnd, length, take, slice_get}
+use Rattle.std.specs.List.{AllZip}
+use Rattle.tc_verdict.specs.declared.verdict.Verdict.{Verdict}
+use Rattle.tc_book.specs.Passes.{PassState}
+use Rattle.tc_exec.specs.declared.refusal.CaseError.{CaseError}
+use Rattle.tc_exec.specs.declared.refusal.CaseError.TheVariants as C
+use Rattle.tc_exec.specs.declared.job.Job.{Job}
+use Rattle.tc_exec.specs.declared.job.Back.{Back}
+use Rattle.tc_exec.specs.Case.{IsCaseReport, AreCalled}
+use Rattle.tc_report.specs.declared.results.CampaignEnd.{CampaignEnd}
+use Rattle.tc_report.specs.declared.results.CampaignEnd.TheVariants as E
+use Rattle.tc_report.specs.declared.results.Finished.{Finished}
+use Rattle.tc_report.specs.declared.results.Results.{Results}
+use Rattle.tc_campaign.specs.declared.case.Case.{Case}
+use Rattle.tc_campaign.specs.Outline.{Outline}
+use Rattle.tc_campaign.specs.Stopping.{IsBetter, IsMet}
+
+-- a finished case has a name for each behaviour
+abbrev pub IsNamed : Finished → Type 0
+IsNamed f = length f.names ≡ f.report.behaviours
+
+-- a finished case has the name and the behaviour names of this case
+pub record IsOfCase (c : Outline) (f : Finished) : Type 0 where
+  pub name : f.name ≡ c.name
+  pub names : f.names ≡ c.names
+
+-- the report of a finished case is one of a case with as many behaviours as this case has jobs
+abbrev pub IsReported : Outline → Finished → Type 0
+IsReported c f = IsCaseReport (c.jobs) f.report
+
+-- the jobs of a finished case are those of this case: each of which the run was started was called, with a new pass of that run
+abbrev pub IsCalled : {X : Type 0} {F : X → Type 0} {M : _} → (Job X F M → PassState → Back → Type 0) → Case X F M → Finished → Type 0
+IsCalled outcome c f = AreCalled outcome c.jobs.items f.report
+
+-- the last finished case, and the first that is not finished, agree with the ending: the campaign stopped after the last
+-- finished case exactly where that one is stop_on or worse; else it was aborted at the next case, or no case is left
+abbrev pub IsEnding : Option Verdict → Option Finished → Option Outline → CampaignEnd → Type 0
+IsEnding stop_on last next (E.StoppedAfter name) = IsSomeAnd last (λ f. (name ≡ f.name) × IsMet stop_on f.report.verdict)
+IsEnding stop_on last next (E.Aborted name why) = IfSome last (λ f. IsBetter stop_on f.report.verdict) × IsSomeAnd next (λ c. name ≡ c.name)
+IsEnding stop_on last next E.Complete = IfSome last (λ f. IsBetter stop_on f.report.verdict) × IsNone next
+
+-- The results are right for this list of cases and this stopping rule.
+pub record IsRight (cases : List Outline) (stop_on : Option Verdict) (r : Results) : Type 0 where
+  -- the finished cases have the names and behaviour names of a prefix of the list, in order
+  pub names : AllZip IsOfCase (take (length r.finished) cases) r.finished
+  -- each finished case but the last is better than stop_on
+  pub better : All (λ f. IsBetter stop_on f.report.verdict) (take (length r.finished - 1) r.finished)
+  -- how the campaign ended
+  pub ending : IsEnding stop_on (slice_get r.finished (length r.finished - 1)) (slice_get cases (length r.finished)) r.ending
+
+-- this case can be refused so
+abbrev pub IsRefusal : CaseError → Outline → Type 0
+IsRefusal C.NoBehaviours c = c.jobs ≡ 0
+IsRefusal C.TooManyBehaviours c = 64 < c.jobs
+IsRefusal why c = ⊤
+
+-- where the campaign was aborted, the next case can be refused so
+abbrev pub IsWhy : Option Outline → CampaignEnd → Type 0
+IsWhy next (E.Aborted name why) = IfSome next (IsRefusal why)
+IsWhy next ending = ⊤

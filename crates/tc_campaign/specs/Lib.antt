@@ -1,0 +1,4 @@
+pub mod Stopping
+pub mod Outline
+pub mod Campaign
+pub mod Inside

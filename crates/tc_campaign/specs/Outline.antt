@@ -1,0 +1,17 @@
+-- Test cases but for what their jobs do.
+use Rattle.std.specs.Prelude.{ℕ, ◌≡◌, List}
+use Rattle.std.specs.Vec.{vec_len}
+use Rattle.tc_campaign.specs.declared.case.Case.{Case}
+
+-- a case has as many names of behaviours as jobs
+abbrev pub HasNames : {X : Type 0} {F : X → Type 0} {M : _} → Case X F M → Type 0
+HasNames c = vec_len c.names ≡ vec_len c.jobs
+
+-- the names of a case, and how many jobs it has
+pub record Outline : Type 0 where
+  pub name : List ℕ
+  pub names : List (List ℕ)
+  pub jobs : ℕ
+
+abbrev pub outline_of : {X : Type 0} {F : X → Type 0} {M : _} → Case X F M → Outline
+outline_of c = record { name = c.name; names = c.names.items; jobs = vec_len c.jobs }

@@ -1,0 +1,14 @@
+//! What a campaign is made of.
+use tc_entry::Name;
+use tc_exec::Job;
+
+/// A test case of a campaign.
+#[derive(Drop)]
+pub struct Case {
+    /// The name of the test case.
+    pub name: Name,
+    /// The names of its behaviours, that of run 0 first.
+    pub names: Vec<Name>,
+    /// Its behaviours, that of run 0 first.
+    pub jobs: Vec<Job>,
+}

@@ -1,0 +1,56 @@
+//! The results of a campaign, as the program writes them.
+ghost use Rattle.std.specs.Prelude.{◌≡◌, IfOk, IfErr, OnOk};
+ghost use Rattle.std.specs.Io.KnownBytes.{Appends};
+ghost use Rattle.tc_report.specs.Status.{results_status};
+ghost use Rattle.tc_report.specs.Output.{LeavesPrefix};
+ghost use Rattle.ttrun.specs.Give.{text_of, LeavesUnwritten};
+
+use crate::fault::RunFault;
+use std::alloc::Global;
+use std::io::Write;
+use tc_campaign::{OutFault, Results, status_of, write_csv, write_history, write_text};
+
+/// In which form the results are written.
+#[derive(Clone, Copy, Debug, PartialEq, Eq)]
+pub enum Form {
+    /// The text report.
+    Text,
+    /// A table, as CSV.
+    Csv,
+    /// The history of each test case.
+    History,
+}
+
+fn write<W: Write>(
+    alloc: Global,
+    results: &Results,
+    form: Form,
+    writer: &mut W,
+) -> Result<(), OutFault>
+    ensures done { OnOk result (Appends (W.contents writer.old) (W.contents writer.new) (text_of form results.now)) }
+    ensures refused { IfErr result (LeavesPrefix (W.contents writer.old) (W.contents writer.new) (text_of form results.now)) }
+{
+    match form {
+        Form::Text => write_text(alloc, results, writer),
+        Form::Csv => write_csv(alloc, results, writer),
+        Form::History => write_history(alloc, results, writer),
+    }
+}
+
+/// Writes the results in this form, and answers the exit status for them. The text is made whole before anything is written.
+pub fn give<W: Write>(
+    alloc: Global,
+    results: &Results,
+    form: Form,
+    writer: &mut W,
+) -> Result<u8, RunFault>
+    ensures status { IfOk result (λ status. status ≡ results_status results.now) }
+    ensures done { OnOk result (Appends (W.contents writer.old) (W.contents writer.new) (text_of form results.now)) }
+    ensures refused { IfErr result (LeavesUnwritten (W.contents writer.old) (W.contents writer.new) (text_of form results.now)) }
+{
+    match write(alloc, results, form, writer) {
+        Ok(()) => Ok(status_of(results)),
+        Err(OutFault::NoMemory) => Err(RunFault::NoMemory),
+        Err(OutFault::Write) => Err(RunFault::Write),
+    }
+}

@@ -1,0 +1,38 @@
+//! The script of a campaign, and the word of `--stop-on`.
+ghost use Rattle.std.specs.Prelude.{◌≡◌, ◌≤◌, IfOk, IfErr, IfSome, OnOk, Ok, length};
+ghost use Rattle.tc_script.specs.Campaign.{campaign};
+ghost use Rattle.ttrun.specs.Script.{RefusesScript, IsStopWord};
+
+use crate::fault::RunFault;
+use std::alloc::Global;
+use std::io::Read;
+use tc_script::{Campaign, ReadFault, read_campaign};
+use tc_stream::read_input;
+use tc_verdict::{Verdict, read_name};
+
+/// How many bytes a script may have.
+pub const LIMIT: usize = 1_048_576;
+
+/// The campaign that the input spells.
+pub fn take_script<R: Read>(alloc: Global, reader: &mut R) -> Result<Campaign, RunFault>
+    ensures spelled { IfOk result (λ c. IfSome (R.remaining reader.old) (λ text. campaign text ≡ Ok c)) }
+    ensures fits { OnOk result (IfSome (R.remaining reader.old) (λ text. length text ≤ LIMIT)) }
+    ensures refused { IfErr result (RefusesScript LIMIT (R.remaining reader.old)) }
+{
+    let text = read_input(alloc, reader, LIMIT)?;
+    match read_campaign(alloc, text.as_slice()) {
+        Ok(campaign) => Ok(campaign),
+        Err(ReadFault::Script(fault)) => Err(RunFault::Script(fault)),
+        Err(ReadFault::NoMemory) => Err(RunFault::NoMemory),
+    }
+}
+
+/// The verdict of this name. It takes no memory.
+pub fn stop_word(word: &str) -> Result<Verdict, RunFault>
+    ensures { IsStopWord word.now result }
+{
+    match read_name(word) {
+        Some(verdict) => Ok(verdict),
+        None => Err(RunFault::StopOn),
+    }
+}

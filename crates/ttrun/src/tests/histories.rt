@@ -1,0 +1,99 @@
+//! Histories that are checked.
+use super::*;
+use crate::check::check;
+
+// Checks the text, and compares the output and the status.
+fn checks<R: Abort + AllocGlobal>(
+    rt: &R,
+    input: &str,
+    output: &str,
+    status: u8,
+) -> Result<(), Fail> {
+    let given = lines(rt.alloc(), input)?;
+    let wanted = lines(rt.alloc(), output)?;
+    let mut reader = given.as_slice();
+    let mut written = Vec::new(rt.alloc());
+    assert_eq!(rt;
+        check(rt.alloc(), &mut reader, &mut written)?,
+        status,
+        "{input}"
+    );
+    assert_eq!(rt; written.as_slice(), wanted.as_slice(), "{input}");
+    Ok(())
+}
+
+// Gives the text to `check`, and compares the fault's line; nothing may be written.
+fn refuses_history<R: Abort + AllocGlobal>(rt: &R, input: &[u8], line: &str) -> Result<(), Fail> {
+    let mut reader = input;
+    let mut written = Vec::new(rt.alloc());
+    let mut told = Vec::new(rt.alloc());
+    match check(rt.alloc(), &mut reader, &mut written) {
+        Ok(_) => panic!(rt; "{line}: the text was taken"),
+        Err(fault) => fault_line(&fault, &mut told)?,
+    }
+    let wanted = lines(rt.alloc(), line)?;
+    assert_eq!(rt; told.as_slice(), wanted.as_slice());
+    assert!(rt; written.is_empty(), "{line}");
+    Ok(())
+}
+
+#[test]
+fn check_of_histories(rt: HostRuntime) -> Result<(), Fail> {
+    checks(
+        &rt,
+        "history 1 t 1;0 create -> made 1;0 stop 1 -> ok;0 alive 1 -> true;0 wait done 1 -> matched;end none",
+        "line 5: matched, table gives parked",
+        3,
+    )?;
+    checks(
+        &rt,
+        "history 1 t 1;0 create -> made 1;0 stop 1 -> ok;0 alive 1 -> true;0 wait done 1 -> parked;end none",
+        "legal t 4 none",
+        0,
+    )?;
+    checks(
+        &rt,
+        "history 1 t 1;0 create -> made 1;0 stop 1 -> ok;0 alive 1 -> true;0 wait done 1 -> parked;end pass",
+        "line 6: pass, table gives none",
+        3,
+    )?;
+    checks(
+        &rt,
+        "history 1 solo 1;0 create -> made 1;0 setverdict pass -> ok;0 wait done 1 -> parked;0 wake done 1 -> error stuck;end error",
+        "legal solo 4 error",
+        0,
+    )
+}
+
+#[test]
+fn histories_refused_and_checked(rt: HostRuntime) -> Result<(), Fail> {
+    refuses_history(&rt, b"history 1 t 0\n", "ttrun: line 1: bad first line")?;
+    refuses_history(
+        &rt,
+        b"history 2 t 1\nend none\n",
+        "ttrun: line 1: bad first line",
+    )?;
+    refuses_history(
+        &rt,
+        b"history 1 t 1\n0 create -> made 01\nend none\n",
+        "ttrun: line 2: bad entry",
+    )?;
+    refuses_history(
+        &rt,
+        b"history 1 t 1\n0 create -> made 1\n",
+        "ttrun: line 3: text ends too early",
+    )?;
+    refuses_history(&rt, b"", "ttrun: line 1: text ends too early")?;
+    checks(
+        &rt,
+        "history 1 a 1;0 setverdict pass -> ok;0 finish -> ok;end pass;history 1 b 2;0 finish -> ok;1 getverdict -> ended;end none",
+        "legal a 2 pass;legal b 2 none",
+        0,
+    )?;
+    checks(
+        &rt,
+        "history 1 a 1;0 finish -> ok;end none;history 1 b 1;0 finish -> ended;end none;history 1 c 1;end none",
+        "legal a 1 none;line 5: ended, table gives ok",
+        3,
+    )
+}
