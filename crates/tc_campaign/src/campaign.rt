@@ -1,5 +1,5 @@
 //! The run of a campaign.
-ghost use Rattle.std.specs.Prelude.{◌≡◌, ◌≤◌, ◌+◌, [], All, IfOk, IfErr, length, map, take, slice_get};
+ghost use Rattle.std.specs.Prelude.{◌≡◌, ◌≤◌, [], All, IfOk, IfErr, length, map, take, slice_get};
 ghost use Rattle.std.specs.Vec.{vec_len, vec_capacity};
 ghost use Rattle.std.specs.List.{AllZip};
 ghost use Rattle.tc_campaign.specs.Outline.{HasNames, outline_of};
@@ -81,10 +81,11 @@ fn without_room(cases: Vec<Case>) -> CampaignEnd
 
 /// Runs the test cases of a campaign one after the other (ES 201 873-1, the execute statement).
 ///
-/// A test case whose verdict is `stop_on` or worse is the last. A test case that is refused ends the campaign, and the
-/// finished test cases stay. The room for all reports is made first; where it is refused the campaign is aborted at the
-/// first test case, with NoMemory. A campaign of no test cases is complete, and takes no memory. Each test case may have
-/// so many worker threads. Campaigns and their stopping rule are this project's own.
+/// Each finished test case has the report of its own jobs. A test case whose verdict is `stop_on` or worse is the last. A
+/// test case that is refused ends the campaign, and the finished test cases stay. The room for all reports is made first;
+/// where it is refused the campaign is aborted at the first test case, with NoMemory. A campaign of no test cases is
+/// complete, and takes no memory. Each test case may have so many worker threads. Campaigns and their stopping rule are
+/// this project's own.
 pub fn run_campaign<R: Threads + Wait + Copy + Send + 'static>(
     rt: &R,
     alloc: Global,

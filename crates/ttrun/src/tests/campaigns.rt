@@ -1,5 +1,5 @@
 //! Campaigns: scripts that are refused, and scripts that are run.
-ghost use Rattle.std.specs.Prelude.{IfOk};
+ghost use Rattle.std.specs.Prelude.{All, IfOk, OnOk};
 ghost use Rattle.tc_campaign.specs.Outline.{HasNames};
 
 use super::*;
@@ -12,6 +12,7 @@ use tc_book::Pass;
 use tc_campaign::{Case, run_campaign};
 use tc_entry::{Name, Verdict};
 use tc_exec::{Back, Job};
+use tc_verdict::NoMemory;
 
 const RESTART: &str =
     "testcase t_fail;behaviour main;create p alive;start p first;wait done p;start p second;wait done p;setverdict pass;end;behaviour first;setverdict fail;end;behaviour second;getverdict;setverdict pass;end;end";
@@ -33,6 +34,20 @@ fn single(alloc: Global, name: Name, behaviour: Name, job: Job) -> Result<Case, 
         names: vec![in alloc; behaviour]?,
         jobs: vec![in alloc; job]?,
     })
+}
+
+// Adds a test case of one behaviour.
+fn add_single(
+    alloc: Global,
+    cases: &mut Vec<Case>,
+    name: Name,
+    behaviour: Name,
+    job: Job,
+) -> Result<(), NoMemory>
+    ensures { OnOk result (All HasNames cases.old.items → All HasNames cases.new.items) }
+{
+    cases.push(single(alloc, name, behaviour, job)?)?;
+    Ok(())
 }
 
 // Gives the text to `take_script`, and compares the fault's line.
@@ -102,7 +117,7 @@ fn campaign_stops_on_fail(rt: HostRuntime) -> Result<(), Fail> {
             alloc,
             move |pass: Pass| script.run(&rt, alloc, pass),
         )?;
-        cases.push(single(alloc, name, behaviour, Job::new(run))?)?;
+        add_single(alloc, &mut cases, name, behaviour, Job::new(run))?;
     }
     let results = run_campaign(&rt, alloc, cases, Some(stop_word("fail")?), 64);
     let mut written = Vec::new(alloc);

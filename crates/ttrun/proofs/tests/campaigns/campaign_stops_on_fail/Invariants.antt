@@ -3,4 +3,4 @@ use Rattle.tc_campaign.specs.Outline.{HasNames}
 use Rattle.ttrun.proofs.tests.campaigns.campaign_stops_on_fail.Given as goal
 
 abbrev pub invariant-loop : goal.invariant-loop
-invariant-loop l = All HasNames l.cases.items
+invariant-loop g l = All HasNames l.cases.items
