@@ -9,6 +9,7 @@ mod campaigns;
 mod devices;
 mod histories;
 mod refused;
+mod words;
 mod worked;
 
 // The text with a line feed for each `;`, and one at the end.
