@@ -1,0 +1,101 @@
+//! The job of `ttrun run` in plain Rust, written for speed, to be measured beside it.
+mod entry;
+mod run;
+mod script;
+mod table;
+
+use crate::entry::{Verdict, put, put_number, put_op, put_reply};
+use crate::run::{Report, run_case};
+use crate::script::{Case, read_script};
+use std::io::{Read, Write};
+use std::process::ExitCode;
+
+const VERDICTS: [Verdict; 5] = [Verdict::None, Verdict::Pass, Verdict::Inconc, Verdict::Fail, Verdict::Error];
+
+fn put_case(out: &mut Vec<u8>, case: &Case, report: &Report) {
+    put(out, "testcase ");
+    put(out, case.name);
+    for log in &report.logs {
+        put(out, "\nrun ");
+        put_number(out, u32::from(log.run));
+        put(out, " ");
+        put(out, case.behaviours[usize::from(log.run)].name);
+        put(out, " on ");
+        put_number(out, log.comp);
+        for entry in &log.entries {
+            put(out, "\n  ");
+            put_op(out, &entry.op);
+            put(out, " -> ");
+            put_reply(out, entry.reply);
+        }
+    }
+    for (comp, verdict) in (0..).zip(&report.locals) {
+        put(out, "\nlocal ");
+        put_number(out, comp);
+        put(out, " ");
+        put(out, verdict.name());
+    }
+    put(out, "\nverdict ");
+    put(out, report.verdict.name());
+    put(out, "\n");
+}
+
+/// The history of a case, as `run --history` writes it.
+fn put_history(out: &mut Vec<u8>, case: &Case, report: &Report) {
+    put(out, "history 1 ");
+    put(out, case.name);
+    put(out, " ");
+    put_number(out, case.behaviours.len() as u32);
+    for entry in &report.history {
+        put(out, "\n");
+        put_number(out, u32::from(entry.run));
+        put(out, " ");
+        put_op(out, &entry.op);
+        put(out, " -> ");
+        put_reply(out, entry.reply);
+    }
+    put(out, "\nend ");
+    put(out, report.verdict.name());
+    put(out, "\n");
+}
+
+fn put_tally(out: &mut Vec<u8>, verdicts: &[Verdict]) {
+    put(out, "cases ");
+    put_number(out, verdicts.len() as u32);
+    for verdict in VERDICTS {
+        put(out, " ");
+        put(out, verdict.name());
+        put(out, " ");
+        put_number(out, verdicts.iter().filter(|other| **other == verdict).count() as u32);
+    }
+    put(out, "\ncomplete\n");
+}
+
+fn main() -> ExitCode {
+    let is_history = std::env::args().any(|word| word == "--history");
+    let mut text = String::new();
+    std::io::stdin().read_to_string(&mut text).expect("standard input is read");
+    let Some(cases) = read_script(&text) else {
+        return ExitCode::from(3);
+    };
+    let mut out = Vec::new();
+    let mut verdicts = Vec::with_capacity(cases.len());
+    for case in &cases {
+        let report = run_case(&case.behaviours);
+        if is_history {
+            put_history(&mut out, case, &report);
+        } else {
+            put_case(&mut out, case, &report);
+        }
+        verdicts.push(report.verdict);
+    }
+    if !is_history {
+        put_tally(&mut out, &verdicts);
+    }
+    std::io::stdout().write_all(&out).expect("standard output is written");
+    ExitCode::from(match verdicts.iter().max() {
+        None | Some(Verdict::None | Verdict::Pass) => 0,
+        Some(Verdict::Inconc | Verdict::Fail) => 1,
+        Some(Verdict::Error) => 2,
+    })
+}
