@@ -2,7 +2,7 @@ use super::*;
 use std::alloc::AllocGlobal;
 use std::process::Abort;
 use std::test::Fail;
-use tc_entry::{Comp, Entry, Fault, Name, Op, Reply, Run, Target, UserVerdict, Verdict};
+use tc_entry::{Args, Comp, Entry, Fault, Name, Op, Reply, Run, Target, UserVerdict, Verdict};
 use tc_text::{TextFault, TextKind};
 
 fn entry(op: Op, reply: Reply) -> Entry {
@@ -123,4 +123,41 @@ fn histories_are_refused(rt: HostRuntime) {
         5,
         TextKind::Entry,
     );
+}
+
+#[test]
+fn a_written_history_is_read(rt: HostRuntime) -> Result<(), Fail> {
+    let first = [
+        entry(Op::Create { alive: true }, Reply::Made(Comp(1))),
+        entry(
+            Op::Start {
+                comp: Comp(1),
+                run: Run(1),
+                args: Args::new(),
+            },
+            Reply::Ok,
+        ),
+        entry(Op::GetVerdict, Reply::Local(Verdict::Inconc)),
+    ];
+    let one = Name::read("first").ok_or("a name")?;
+    let other = Name::read("t_2").ok_or("a name")?;
+    let mut out = Vec::new(rt.alloc());
+    write_block(&mut out, &one, 64, &first, Verdict::Inconc)?;
+    write_block(&mut out, &other, 1, &[], Verdict::None)?;
+    let blocks = read_history(rt.alloc(), out.as_slice()).map_err(|_| "histories")?;
+    assert_eq!(rt; blocks.len(), 2);
+    let block = blocks.get(0).ok_or("a block")?;
+    assert!(rt; block.name.same(&one));
+    assert_eq!(rt; block.behaviours, 64);
+    assert_eq!(rt; block.first_line, 1);
+    assert_eq!(rt; block.entries.as_slice().len(), 3);
+    for (read, written) in block.entries.as_slice().iter().zip(first.iter()) {
+        assert!(rt; read.same(written));
+    }
+    assert_eq!(rt; block.verdict, Verdict::Inconc);
+    let block = blocks.get(1).ok_or("a block")?;
+    assert!(rt; block.name.same(&other));
+    assert_eq!(rt; block.first_line, 6);
+    assert!(rt; block.entries.as_slice().is_empty());
+    Ok(())
 }

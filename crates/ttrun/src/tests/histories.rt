@@ -86,6 +86,12 @@ fn histories_refused_and_checked(rt: HostRuntime) -> Result<(), Fail> {
     refuses_history(&rt, b"", "ttrun: line 1: text ends too early")?;
     checks(
         &rt,
+        "history 1 t_pass 2;0 create -> made 1;0 start 1 1 0 -> ok;0 wait done 1 -> parked;1 alive 0 -> true;1 setverdict pass -> ok;1 finish -> ok;0 wake done 1 -> matched;0 getverdict -> none;0 finish -> ok;end pass;history 1 t_again 3;0 create alive -> made 1;0 start 1 1 -> ok;1 setverdict pass -> ok;1 finish -> ok;0 wait done 1 -> matched;0 start 1 2 1 -> ok;2 getverdict -> pass;2 setverdict none -> ok;2 running 1 -> true;2 finish -> ok;0 wait done 1 -> matched;0 kill all -> ok;0 killed all -> true;0 finish -> ok;end pass",
+        "legal t_pass 9 pass;legal t_again 14 pass",
+        0,
+    )?;
+    checks(
+        &rt,
         "history 1 a 1;0 setverdict pass -> ok;0 finish -> ok;end pass;history 1 b 2;0 finish -> ok;1 getverdict -> ended;end none",
         "legal a 2 pass;legal b 2 none",
         0,
