@@ -1,5 +1,5 @@
 -- Right results of a campaign.
-use Rattle.std.specs.Prelude.{◌≡◌, ◌<◌, ◌-◌, ⊤, Option, List, All, IfSome, IsNone, IsSomeAnd, length, take, slice_get}
+use Rattle.std.specs.Prelude.{◌≡◌, ◌≢◌, ◌<◌, ◌-◌, ⊤, Option, List, All, IfSome, IsNone, IsSomeAnd, length, take, slice_get}
 use Rattle.std.specs.List.{AllZip}
 use Rattle.tc_verdict.specs.declared.verdict.Verdict.{Verdict}
 use Rattle.tc_book.specs.Passes.{PassState}
@@ -7,7 +7,7 @@ use Rattle.tc_exec.specs.declared.refusal.CaseError.{CaseError}
 use Rattle.tc_exec.specs.declared.refusal.CaseError.TheVariants as C
 use Rattle.tc_exec.specs.declared.job.Job.{Job}
 use Rattle.tc_exec.specs.declared.job.Back.{Back}
-use Rattle.tc_exec.specs.Case.{IsCaseReport, AreCalled}
+use Rattle.tc_exec.specs.Case.{IsCaseReport, AreCalled, IsMadeOf}
 use Rattle.tc_report.specs.declared.results.CampaignEnd.{CampaignEnd}
 use Rattle.tc_report.specs.declared.results.CampaignEnd.TheVariants as E
 use Rattle.tc_report.specs.declared.results.Finished.{Finished}
@@ -29,9 +29,10 @@ pub record IsOfCase (c : Outline) (f : Finished) : Type 0 where
 abbrev pub IsReported : Outline → Finished → Type 0
 IsReported c f = IsCaseReport (c.jobs) f.report
 
--- the jobs of a finished case are those of this case: each of which the run was started was called, with a new pass of that run
+-- the jobs of a finished case are those of this case: each of which the run was started was called, with a new pass of that run, and the report is
+-- made of what the passes that they handed back have logged
 abbrev pub IsCalled : {X : Type 0} {F : X → Type 0} {M : _} → (Job X F M → PassState → Back → Type 0) → Case X F M → Finished → Type 0
-IsCalled outcome c f = AreCalled outcome c.jobs.items f.report
+IsCalled outcome c f = AreCalled outcome c.jobs.items f.report × IsMadeOf outcome c.jobs.items f.report
 
 -- the last finished case, and the first that is not finished, agree with the ending: the campaign stopped after the last
 -- finished case exactly where that one is stop_on or worse; else it was aborted at the next case, or no case is left
@@ -53,6 +54,7 @@ pub record IsRight (cases : List Outline) (stop_on : Option Verdict) (r : Result
 abbrev pub IsRefusal : CaseError → Outline → Type 0
 IsRefusal C.NoBehaviours c = c.jobs ≡ 0
 IsRefusal C.TooManyBehaviours c = 64 < c.jobs
+IsRefusal C.NoThread c = c.jobs ≢ 1
 IsRefusal why c = ⊤
 
 -- where the campaign was aborted, the next case can be refused so

@@ -14,7 +14,7 @@ use Rattle.tc_book.specs.Passes.{PassState, LeftState}
 use Rattle.tc_exec.specs.declared.handed.Handed.{Handed}
 use Rattle.tc_exec.specs.declared.job.Back.{Back}
 use Rattle.tc_exec.specs.declared.refusal.CaseError.{CaseError}
-use Rattle.tc_exec.specs.Case.{AreCalled}
+use Rattle.tc_exec.specs.Case.{AreCalled, IsMadeOf}
 use Rattle.tc_exec.specs.Workers.{IsWorked, WasCalled, WasCalledFor, IsLeftBy, AreLeftBy}
 
 module _ {B : Type 0} (outcome : B → PassState → Back → Type 0) where
@@ -100,3 +100,9 @@ module _ {B : Type 0} (outcome : B → PassState → Back → Type 0) where
       IfOk result (λ c. IsWhole c.behaviours c.history ls) → IfOk result (AreCalled outcome bs)
   report_called (Ok c) runs bs ls all number main whole = all_called c.history runs bs ls all number whole.fitting main
   report_called (Err e) runs bs ls all number main whole = tt
+
+  pub report_made : (result : Result Closed CaseError) (runs : List Run) (bs : List B) (ls : List LeftState) →
+      AreLeftBy outcome runs bs ls → ((k : ℕ) (run : Run) → k < length runs → (get_or runs k run).0 ≡ k) →
+      IfOk result (λ c. IsWhole c.behaviours c.history ls) → IfOk result (IsMadeOf outcome bs)
+  report_made (Ok c) runs bs ls all number whole = record { runs = runs; lefts = ls; numbered = number; left = all; whole = whole }
+  report_made (Err e) runs bs ls all number whole = tt

@@ -5,10 +5,12 @@ use Rattle.tc_entry.specs.declared.entry.Entry.{Entry}
 use Rattle.tc_book.specs.declared.closed.Closed.{Closed}
 use Rattle.tc_book.specs.declared.closed.RunLog.{RunLog}
 use Rattle.tc_table.specs.History.{comp_of}
-use Rattle.tc_book.specs.Passes.{PassState}
+use Rattle.tc_verdict.specs.declared.run.Run.{Run}
+use Rattle.tc_book.specs.Closing.{IsWhole}
+use Rattle.tc_book.specs.Passes.{PassState, LeftState}
 use Rattle.tc_book.specs.Report.{IsOneHistory}
 use Rattle.tc_exec.specs.declared.job.Back.{Back}
-use Rattle.tc_exec.specs.Workers.{WasCalledFor}
+use Rattle.tc_exec.specs.Workers.{WasCalledFor, AreLeftBy}
 use Rattle.tc_book.specs.Starts.{start_of}
 
 -- a Start of this log's run, on the log's component, was replied Ok in the history
@@ -31,3 +33,13 @@ pub record IsCaseReport (n : ℕ) (c : Closed) : Type 0 where
 -- with a new pass of that run.
 abbrev pub AreCalled : {B : Type 0} → (B → PassState → Back → Type 0) → List B → Closed → Type 0
 AreCalled outcome jobs c = (k : ℕ) (b : _) → k < length jobs → comp_of (reverse c.history) k ≢ None → WasCalledFor (record { 0 = k }) (outcome (slice_index_or jobs k b))
+
+-- What a report was made of: each behaviour was called with a new pass of its run, and the pass that it handed back has left, or its run was
+-- never started; and what they left is whole, so that the logs of the report are the logs of these passes.
+pub record IsMadeOf {B : Type 0} (outcome : B → PassState → Back → Type 0) (jobs : List B) (c : Closed) : Type 0 where
+  pub runs : List Run
+  pub lefts : List LeftState
+  -- behaviour k is that of run k
+  pub numbered : (k : ℕ) (run : Run) → k < length runs → (slice_index_or runs k run).0 ≡ k
+  pub left : AreLeftBy outcome runs jobs lefts
+  pub whole : IsWhole c.behaviours c.history lefts

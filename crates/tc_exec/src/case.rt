@@ -3,7 +3,7 @@ ghost use Rattle.std.specs.Prelude.{ℕ, ◌≡◌, ◌≢◌, ◌↔◌, ◌<�
 ghost use Rattle.std.specs.Vec.{vec_len, vec_capacity};
 ghost use Rattle.tc_verdict.specs.declared.run.Run.{Run};
 ghost use Rattle.tc_book.specs.Closing.{IsWhole};
-ghost use Rattle.tc_exec.specs.Case.{IsCaseReport, AreCalled};
+ghost use Rattle.tc_exec.specs.Case.{IsCaseReport, AreCalled, IsMadeOf};
 ghost use Rattle.tc_exec.specs.declared.refusal.CaseError.TheVariants.{NoBehaviours, TooManyBehaviours, NoMemory, NoThread};
 
 use crate::callable::Callable;
@@ -76,6 +76,7 @@ fn run_made<R: Threads + Wait, B: Callable>(
     ensures kind { (result ≢ Err NoBehaviours) × (result ≢ Err TooManyBehaviours) × (result ≢ Err NoThread) }
     ensures report { IfOk result (IsCaseReport (vec_len workers + 1)) }
     ensures called { IfOk result (AreCalled B.outcome (first ∷ map (λ w. w.promise.behaviour.value) workers.items)) }
+    ensures made { IfOk result (IsMadeOf B.outcome (first ∷ map (λ w. w.promise.behaviour.value) workers.items)) }
 {
     let mut gathered = gathered;
     gathered.take(act(rt, first, pass));
@@ -98,6 +99,7 @@ fn run_jobs<R: Threads + Wait + Copy + Send + 'static, B: Callable, G: Gate>(
     ensures alone { behaviours ≡ 1 → result ≢ Err NoThread }
     ensures report { IfOk result (IsCaseReport behaviours) }
     ensures called { IfOk result (AreCalled B.outcome jobs.items) }
+    ensures made { IfOk result (IsMadeOf B.outcome jobs.items) }
 {
     let count = usize::from(behaviours);
     let (shared, pass, tickets) = open_case(alloc, behaviours)?;
@@ -136,6 +138,7 @@ pub fn run_case<R: Threads + Wait + Copy + Send + 'static>(
     ensures alone { vec_len jobs ≡ 1 → result ≢ Err NoThread }
     ensures report { IfOk result (IsCaseReport (vec_len jobs)) }
     ensures called { IfOk result (AreCalled ⟦<Job as Callable>⟧.outcome jobs.items) }
+    ensures made { IfOk result (IsMadeOf ⟦<Job as Callable>⟧.outcome jobs.items) }
 {
     run_case_with(rt, alloc, jobs, threads, &mut Everyone)
 }
@@ -155,6 +158,7 @@ pub fn run_case_with<R: Threads + Wait + Copy + Send + 'static, G: Gate>(
     ensures alone { vec_len jobs ≡ 1 → result ≢ Err NoThread }
     ensures report { IfOk result (IsCaseReport (vec_len jobs)) }
     ensures called { IfOk result (AreCalled ⟦<Job as Callable>⟧.outcome jobs.items) }
+    ensures made { IfOk result (IsMadeOf ⟦<Job as Callable>⟧.outcome jobs.items) }
 {
     let behaviours = behaviours_of(jobs.len(), threads)?;
     run_jobs(rt, alloc, behaviours, jobs, gate)
