@@ -118,23 +118,37 @@ fn order_of_task(rt: &HostRuntime, task: Task) -> Result<Order, RunFault> {
     }
 }
 
+// The status where the words could not be had; standard error says why.
+fn settle_unread(rt: &HostRuntime, error: &io::Error) -> u8 {
+    if error.kind() == io::ErrorKind::OutOfMemory {
+        return settle(rt, Err(RunFault::NoMemory));
+    }
+    let _ = write_whole(&mut rt.stderr(), b"ttrun: an argument is not UTF-8\n");
+    REFUSED
+}
+
+// The status where the words ask for nothing that the program does, or for help, which is printed.
+fn settle_words(rt: &HostRuntime, error: &clap::Error) -> u8 {
+    let printed = error.print(rt);
+    match error.kind() {
+        ErrorKind::DisplayHelp if printed.is_ok() => 0,
+        ErrorKind::DisplayHelp => settle(rt, Err(RunFault::Write)),
+        _ => REFUSED,
+    }
+}
+
 // What the words ask for, done but for the run of a campaign.
 fn order_of(rt: &HostRuntime) -> Order {
-    let Ok(words) = words(rt) else {
-        return Order::Done(REFUSED);
+    let words = match words(rt) {
+        Ok(words) => words,
+        Err(error) => return Order::Done(settle_unread(rt, &error)),
     };
     match read_task(rt.alloc(), words.as_slice()) {
         Ok(task) => match order_of_task(rt, task) {
             Ok(order) => order,
             Err(fault) => Order::Done(settle(rt, Err(fault))),
         },
-        Err(error) => {
-            let _ = error.print(rt);
-            Order::Done(match error.kind() {
-                ErrorKind::DisplayHelp => 0,
-                _ => REFUSED,
-            })
-        }
+        Err(error) => Order::Done(settle_words(rt, &error)),
     }
 }
 
