@@ -1,7 +1,8 @@
 -- The run of a campaign, case by case.
-use Rattle.std.proofs.Common.{◌≡◌, ◌∙◌, ◌++◌, ◌∷◌, [], Option, List, map, length, take, arith, refl, sym, subst, append_assoc}
+use Rattle.std.proofs.Common.{ℕ, ◌≡◌, ◌∙◌, ◌++◌, ◌∷◌, [], Option, List, All, map, length, take, arith, refl, sym, subst, append_assoc}
 use Rattle.std.specs.List.{AllZip}
 use Rattle.std.proofs.lemmas.List.Elements.{All-nil, All-push}
+use Rattle.tc_campaign.specs.Campaign.{HasThreads}
 use Rattle.tc_verdict.specs.declared.verdict.Verdict.{Verdict}
 use Rattle.tc_exec.specs.declared.refusal.CaseError.TheVariants as C
 use Rattle.tc_report.specs.declared.results.CampaignEnd.{CampaignEnd}
@@ -26,6 +27,10 @@ done_more R all left x rest ys y now are at one added = rw added (record {
 
 pub done_begin : {A B : Type 0} (R : A → B → Type 0) (all left : List A) (ys : List B) → AreDone R all left ys → AllZip R (take (length ys) all) ys
 done_begin R all left ys are = AllZip-begin R all are.done left ys are.prefix are.each
+
+pub threads_more : (threads : ℕ) (finished : List Finished) (f : Finished) (now : List Finished)
+    → All (HasThreads threads) finished → HasThreads threads f → now ≡ finished ++ f ∷ [] → All (HasThreads threads) now
+threads_more threads finished f now all one added = rw added (All-push (HasThreads threads) finished f all one)
 
 pub so_far_none : (cases : List Outline) (stop_on : Option Verdict) → IsSoFar cases stop_on cases []
 so_far_none cases stop_on = record { done = []; prefix = refl; each = tt; better = All-nil (λ f. IsBetter stop_on f.report.verdict) }

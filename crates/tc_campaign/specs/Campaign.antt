@@ -1,5 +1,5 @@
 -- Right results of a campaign.
-use Rattle.std.specs.Prelude.{◌≡◌, ◌≢◌, ◌<◌, ◌-◌, ⊤, Option, List, All, IfSome, IsNone, IsSomeAnd, length, take, slice_get}
+use Rattle.std.specs.Prelude.{ℕ, ◌≡◌, ◌<◌, ◌≤◌, ◌+◌, ◌-◌, ⊤, Option, List, All, IfSome, IsNone, IsSomeAnd, length, take, slice_get}
 use Rattle.std.specs.List.{AllZip}
 use Rattle.tc_verdict.specs.declared.verdict.Verdict.{Verdict}
 use Rattle.tc_book.specs.Passes.{PassState}
@@ -50,12 +50,17 @@ pub record IsRight (cases : List Outline) (stop_on : Option Verdict) (r : Result
   -- how the campaign ended
   pub ending : IsEnding stop_on (slice_get r.finished (length r.finished - 1)) (slice_get cases (length r.finished)) r.ending
 
+-- a finished case has a worker thread for each behaviour but that of run 0
+abbrev pub HasThreads : ℕ → Finished → Type 0
+HasThreads threads f = f.report.behaviours ≤ threads + 1
+
 -- this case can be refused so
 abbrev pub IsRefusal : CaseError → Outline → Type 0
 IsRefusal C.NoBehaviours c = c.jobs ≡ 0
 IsRefusal C.TooManyBehaviours c = 64 < c.jobs
-IsRefusal C.NoThread c = c.jobs ≢ 1
-IsRefusal why c = ⊤
+IsRefusal C.NoThread c = (1 < c.jobs) × (c.jobs ≤ 64)
+IsRefusal C.Torn c = (1 ≤ c.jobs) × (c.jobs ≤ 64)
+IsRefusal C.NoMemory c = ⊤
 
 -- where the campaign was aborted, the next case can be refused so
 abbrev pub IsWhy : Option Outline → CampaignEnd → Type 0

@@ -3,7 +3,7 @@ ghost use Rattle.std.specs.Prelude.{◌≡◌, ◌≤◌, [], All, IfOk, IfErr, 
 ghost use Rattle.std.specs.Vec.{vec_len, vec_capacity};
 ghost use Rattle.std.specs.List.{AllZip};
 ghost use Rattle.tc_campaign.specs.Outline.{HasNames, outline_of};
-ghost use Rattle.tc_campaign.specs.Campaign.{IsCalled, IsNamed, IsReported, IsWhy, IsRight};
+ghost use Rattle.tc_campaign.specs.Campaign.{HasThreads, IsCalled, IsNamed, IsReported, IsWhy, IsRight};
 ghost use Rattle.tc_campaign.specs.Inside.{IsOf, IsRefused, IsRun, IsUnrun};
 
 use crate::case::Case;
@@ -26,6 +26,7 @@ fn finish<R: Threads + Wait + Copy + Send + 'static>(
     ensures finished { IfOk result (IsOf (outline_of case)) }
     ensures refused { IfErr result (IsRefused (outline_of case)) }
     ensures called { IfOk result (IsCalled ⟦<Job as Callable>⟧.outcome case) }
+    ensures threads { IfOk result (HasThreads threads) }
 {
     let Case { name, names, jobs } = case;
     match run_case(rt, alloc, jobs, threads) {
@@ -51,6 +52,7 @@ fn finish_all<R: Threads + Wait + Copy + Send + 'static>(
     requires room { vec_len cases ≤ vec_capacity finished.old }
     ensures run { IsRun (map outline_of cases.items) stop_on finished.new.items result }
     ensures called { AllZip (IsCalled ⟦<Job as Callable>⟧.outcome) (take (length finished.new.items) cases.items) finished.new.items }
+    ensures threads { All (HasThreads threads) finished.new.items }
 {
     for case in cases {
         let case = match finish(rt, alloc, case, threads) {
@@ -98,6 +100,7 @@ pub fn run_campaign<R: Threads + Wait + Copy + Send + 'static>(
     ensures reports { AllZip IsReported (take (length result.finished) (map outline_of cases.items)) result.finished }
     ensures called { AllZip (IsCalled ⟦<Job as Callable>⟧.outcome) (take (length result.finished) cases.items) result.finished }
     ensures names { All IsNamed result.finished }
+    ensures threads { All (HasThreads threads) result.finished }
     ensures why { IsWhy (slice_get (map outline_of cases.items) (length result.finished)) result.ending }
 {
     let Ok(mut finished) = Vec::with_capacity(alloc, cases.len()) else {

@@ -7,8 +7,11 @@ use tc_verdict::Run;
 /// One event of a test case: the run that called, the operation, and the reply.
 #[derive(PartialEq, Eq, Debug, Drop)]
 pub struct Entry {
+    /// The run that called.
     pub caller: Run,
+    /// What it called.
     pub op: Op,
+    /// What was answered.
     pub reply: Reply,
 }
 

@@ -97,46 +97,34 @@ impl Op {
         match (self, other) {
             (Op::Create { alive: a }, Op::Create { alive: b }) => *a == *b,
             (
+                Op::Start { comp, run, args },
                 Op::Start {
                     comp: c,
                     run: r,
                     args: x,
                 },
-                Op::Start {
-                    comp: d,
-                    run: s,
-                    args: y,
-                },
-            ) => *c == *d && *r == *s && x.same(y),
-            (Op::Stop(a), Op::Stop(b)) => same_group(*a, *b),
-            (Op::Kill(a), Op::Kill(b)) => same_group(*a, *b),
-            (Op::Running(a), Op::Running(b)) => same_target(*a, *b),
-            (Op::Alive(a), Op::Alive(b)) => same_target(*a, *b),
-            (Op::Done(a), Op::Done(b)) => same_target(*a, *b),
-            (Op::Killed(a), Op::Killed(b)) => same_target(*a, *b),
+            ) => *comp == *c && *run == *r && args.same(x),
+            (Op::Stop(a), Op::Stop(b)) | (Op::Kill(a), Op::Kill(b)) => same_group(*a, *b),
+            (Op::Running(a), Op::Running(b))
+            | (Op::Alive(a), Op::Alive(b))
+            | (Op::Done(a), Op::Done(b))
+            | (Op::Killed(a), Op::Killed(b)) => same_target(*a, *b),
             (
+                Op::Wait { killed, target },
                 Op::Wait {
                     killed: k,
-                    target: a,
+                    target: t,
                 },
-                Op::Wait {
-                    killed: l,
-                    target: b,
-                },
-            ) => { *k == *l && same_target(*a, *b) }
-            (
+            )
+            | (
+                Op::Wake { killed, target },
                 Op::Wake {
                     killed: k,
-                    target: a,
+                    target: t,
                 },
-                Op::Wake {
-                    killed: l,
-                    target: b,
-                },
-            ) => { *k == *l && same_target(*a, *b) }
+            ) => { *killed == *k && same_target(*target, *t) }
             (Op::SetVerdict(a), Op::SetVerdict(b)) => same_setting(*a, *b),
-            (Op::GetVerdict, Op::GetVerdict) => true,
-            (Op::Finish, Op::Finish) => true,
+            (Op::GetVerdict, Op::GetVerdict) | (Op::Finish, Op::Finish) => true,
             _ => false,
         }
     }

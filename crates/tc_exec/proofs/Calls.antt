@@ -1,5 +1,5 @@
 -- What workers left, one after another.
-use Rattle.std.proofs.Common.{ℕ, zero, suc, ◌≡◌, ◌≢◌, ◌<◌, ◌+◌, ◌==◌, inl, inr, false, None, Result, Ok, Err, IfOk, List, [], ◌∷◌, ◌++◌, All, length, get_or, map, reverse, refl, sym, ap, ◌∙◌, arith}
+use Rattle.std.proofs.Common.{ℕ, zero, suc, ◌≡◌, ◌≢◌, ◌<◌, ◌+◌, ◌==◌, ◌||◌, inl, inr, Bool, true, false, None, Result, Ok, Err, IfOk, List, [], ◌∷◌, ◌++◌, All, length, get_or, map, reverse, refl, sym, ap, ◌∙◌, arith}
 use Rattle.std.proofs.lemmas.Bool.Decides.{nat_tests}
 use Rattle.std.proofs.lemmas.List.Elements.{All-get_or}
 use Rattle.tc_entry.specs.declared.entry.Entry.{Entry}
@@ -14,10 +14,35 @@ use Rattle.tc_book.specs.Passes.{PassState, LeftState}
 use Rattle.tc_exec.specs.declared.handed.Handed.{Handed}
 use Rattle.tc_exec.specs.declared.job.Back.{Back}
 use Rattle.tc_exec.specs.declared.refusal.CaseError.{CaseError}
+use Rattle.tc_exec.specs.declared.refusal.CaseError.TheVariants.{NoMemory}
+use Rattle.tc_exec.specs.declared.job.Ending.{Ending}
+use Rattle.tc_exec.specs.declared.job.Ending.TheVariants as E
 use Rattle.tc_exec.specs.Case.{AreCalled, IsMadeOf}
-use Rattle.tc_exec.specs.Workers.{IsWorked, WasCalled, WasCalledFor, IsLeftBy, AreLeftBy}
+use Rattle.tc_exec.specs.Workers.{IsWorked, WasCalled, WasCalledFor, IsLeftBy, AreLeftBy, is_starved}
+
+-- memory was refused neither before nor now
+pub neither : (before now after : Bool) → after ≡ (before || now) → after ≡ false → (before ≡ false) × (now ≡ false)
+neither false false after is none = (refl, refl)
+neither true now after is none = absurd cc
+neither false true after is none = absurd cc
+
+came_back : (e : Ending) → is_starved e ≡ false → e ≡ E.Returned
+came_back E.Returned none = refl
+came_back E.Starved none = absurd cc
 
 module _ {B : Type 0} (outcome : B → PassState → Back → Type 0) where
+  -- what a worker handed back whose behaviour was not refused memory
+  pub left_by : (run : Run) (b : B) (h : Handed) → is_starved h.ending ≡ false → IsWorked run (outcome b) h → IsLeftBy outcome run b h.left
+  left_by run b h none (inl unstarted) = inl (ap (λ m. let x : Handed = record { left = m.left; ending = E.Returned } in x) unstarted)
+  left_by run b h none (inr w) =
+      let called = w.called in
+      inr (record {
+        pass = w.pass;
+        own = w.own;
+        new = w.new;
+        called = record { back = called.back; outcome_of = called.outcome_of; left = called.left; ending = sym (came_back h.ending none) ∙ called.ending };
+      })
+
   pushed : (runs : List Run) (bs : List B) (ls : List LeftState) (run : Run) (b : B) (l : LeftState) →
       AreLeftBy outcome runs bs ls → IsLeftBy outcome run b l → AreLeftBy outcome (runs ++ run ∷ []) (bs ++ b ∷ []) (ls ++ l ∷ [])
   pushed [] [] [] run b l all one = (one, tt)
@@ -33,12 +58,12 @@ module _ {B : Type 0} (outcome : B → PassState → Back → Type 0) where
   over f (x ∷ xs) ws w = ap (λ q. x ∷ q) (over f xs ws w)
 
   -- one worker more was joined
-  pub joined : {W : Type 0} (run : W → Run) (behaviour : W → B) (runs : List Run) (bs : List B) (ls : List LeftState) (ws : List W) (w : W) (h : Handed) (after : List LeftState) →
-      AreLeftBy outcome (runs ++ map run ws) (bs ++ map behaviour ws) ls → IsWorked (run w) (outcome (behaviour w)) h → after ≡ ls ++ h.left ∷ [] →
+  pub joined : {W : Type 0} (run : W → Run) (behaviour : W → B) (runs : List Run) (bs : List B) (ls : List LeftState) (ws : List W) (w : W) (l : LeftState) (after : List LeftState) →
+      AreLeftBy outcome (runs ++ map run ws) (bs ++ map behaviour ws) ls → IsLeftBy outcome (run w) (behaviour w) l → after ≡ ls ++ l ∷ [] →
       AreLeftBy outcome (runs ++ map run (ws ++ w ∷ [])) (bs ++ map behaviour (ws ++ w ∷ [])) after
-  joined run behaviour runs bs ls ws w h after all one is =
+  joined run behaviour runs bs ls ws w l after all one is =
       rw (is, ← over run runs ws w, ← over behaviour bs ws w)
-      (pushed (runs ++ map run ws) (bs ++ map behaviour ws) ls (run w) (behaviour w) h.left all (h.ending, one))
+      (pushed (runs ++ map run ws) (bs ++ map behaviour ws) ls (run w) (behaviour w) l all one)
 
   -- what run k left
   at : (runs : List Run) (bs : List B) (ls : List LeftState) → AreLeftBy outcome runs bs ls → (k : ℕ) (run : Run) (b : B) (l : LeftState) → k < length bs →
@@ -57,9 +82,9 @@ module _ {B : Type 0} (outcome : B → PassState → Back → Type 0) where
   -- a started run above 0 was not left unstarted
   of_one : (history : List Entry) (run : Run) (b : B) (l : LeftState) → IsLeftBy outcome run b l → 0 < run.0 → IsFitting history l → comp_of (reverse history) run.0 ≢ None →
       WasCalledFor run (outcome b)
-  of_one history run b l (ending, inr w) above fits started =
+  of_one history run b l (inr w) above fits started =
       record { pass = w.pass; own = w.own; new = w.new; back = w.called.back; outcome_of = w.called.outcome_of }
-  of_one history run b l (ending, inl e) above fits started =
+  of_one history run b l (inl e) above fits started =
       let left : l ≡ record { run = run; log = []; started = None } = ap (λ h. h.left) e in
       let own : l.run ≡ run = ap (λ m. m.run) left in
       let none : l.started ≡ None = ap (λ m. m.started) left in
@@ -82,8 +107,8 @@ module _ {B : Type 0} (outcome : B → PassState → Back → Type 0) where
 
   -- what the main behaviour left, as the first of all
   pub main_left : (p : PassState) (b : B) (h : Handed) → p.run ≡ record { 0 = 0 } → p.log ≡ [] → WasCalled (outcome b p) h →
-      AreLeftBy outcome (record { 0 = 0 } ∷ []) (b ∷ []) (h.left ∷ [])
-  main_left p b h own new called = ((h.ending, inr (record { pass = p; own = own; new = new; called = called })), tt)
+      is_starved h.ending ≡ false → AreLeftBy outcome (record { 0 = 0 } ∷ []) (b ∷ []) (h.left ∷ [])
+  main_left p b h own new called none = (left_by (record { 0 = 0 }) b h none (inr (record { pass = p; own = own; new = new; called = called })), tt)
 
   pub main_called : (p : PassState) (b : B) (h : Handed) → p.run ≡ record { 0 = 0 } → p.log ≡ [] → WasCalled (outcome b p) h → WasCalledFor (record { 0 = 0 }) (outcome b)
   main_called p b h own new called = record { pass = p; own = own; new = new; back = called.back; outcome_of = called.outcome_of }
@@ -94,15 +119,20 @@ module _ {B : Type 0} (outcome : B → PassState → Back → Type 0) where
   numbered runs h zero run below = refl
   numbered runs h (suc k) run below = h k run (omega arith) ∙ omega arith
 
-  pub report_called : (result : Result Closed CaseError) (runs : List Run) (bs : List B) (ls : List LeftState) →
-      AreLeftBy outcome runs bs ls → ((k : ℕ) (run : Run) → k < length runs → (get_or runs k run).0 ≡ k) →
+  -- a report is made only where memory was refused to no behaviour
+  pub report_called : (result : Result Closed CaseError) (starved : Bool) (runs : List Run) (bs : List B) (ls : List LeftState) →
+      (starved ≡ true → result ≡ Err NoMemory) → (starved ≡ false → AreLeftBy outcome runs bs ls) →
+      ((k : ℕ) (run : Run) → k < length runs → (get_or runs k run).0 ≡ k) →
       ((b : B) → WasCalledFor (record { 0 = 0 }) (outcome (get_or bs 0 b))) →
       IfOk result (λ c. IsWhole c.behaviours c.history ls) → IfOk result (AreCalled outcome bs)
-  report_called (Ok c) runs bs ls all number main whole = all_called c.history runs bs ls all number whole.fitting main
-  report_called (Err e) runs bs ls all number main whole = tt
+  report_called (Ok c) false runs bs ls refused all number main whole = all_called c.history runs bs ls (all refl) number whole.fitting main
+  report_called (Ok c) true runs bs ls refused all number main whole = let bad = refused refl in absurd cc
+  report_called (Err e) starved runs bs ls refused all number main whole = tt
 
-  pub report_made : (result : Result Closed CaseError) (runs : List Run) (bs : List B) (ls : List LeftState) →
-      AreLeftBy outcome runs bs ls → ((k : ℕ) (run : Run) → k < length runs → (get_or runs k run).0 ≡ k) →
+  pub report_made : (result : Result Closed CaseError) (starved : Bool) (runs : List Run) (bs : List B) (ls : List LeftState) →
+      (starved ≡ true → result ≡ Err NoMemory) → (starved ≡ false → AreLeftBy outcome runs bs ls) →
+      ((k : ℕ) (run : Run) → k < length runs → (get_or runs k run).0 ≡ k) →
       IfOk result (λ c. IsWhole c.behaviours c.history ls) → IfOk result (IsMadeOf outcome bs)
-  report_made (Ok c) runs bs ls all number whole = record { runs = runs; lefts = ls; numbered = number; left = all; whole = whole }
-  report_made (Err e) runs bs ls all number whole = tt
+  report_made (Ok c) false runs bs ls refused all number whole = record { runs = runs; lefts = ls; numbered = number; left = all refl; whole = whole }
+  report_made (Ok c) true runs bs ls refused all number whole = let bad = refused refl in absurd cc
+  report_made (Err e) starved runs bs ls refused all number whole = tt

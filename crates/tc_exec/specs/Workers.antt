@@ -52,9 +52,9 @@ pub record WasCalledFor (run : Run) (outcome : PassState → Back → Type 0) : 
   pub outcome_of : outcome pass back
 
 module _ {B : Type 0} (outcome : B → PassState → Back → Type 0) where
-  -- this is what the worker of a run left
+  -- this is what the worker of a run left, whose behaviour was not refused memory
   abbrev pub IsLeftBy : Run → B → LeftState → Type 0
-  IsLeftBy run b l = (ending : Ending) × IsWorked run (outcome b) (record { left = l; ending = ending })
+  IsLeftBy run b l = IsWorked run (outcome b) (record { left = l; ending = E.Returned })
 
   -- these are what the workers of these runs left, each with its own behaviour
   abbrev pub AreLeftBy : List Run → List B → List LeftState → Type 0

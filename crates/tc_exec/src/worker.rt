@@ -1,5 +1,5 @@
 //! The threads of a case.
-ghost use Rattle.std.specs.Prelude.{◌≡◌, ◌≤◌, ◌+◌, ◌++◌, [], IsTrue, List, length, map};
+ghost use Rattle.std.specs.Prelude.{◌≡◌, ◌≤◌, ◌+◌, ◌++◌, [], IsTrue, false, List, length, map};
 ghost use Rattle.std.specs.Vec.{vec_len, vec_capacity};
 ghost use Rattle.tc_verdict.specs.declared.run.Run.{Run};
 ghost use Rattle.tc_exec.specs.Workers.{IsWorked, AreLeftBy};
@@ -72,7 +72,7 @@ pub(crate) fn join_workers<R: Threads, B: Callable>(
 )
     requires room { vec_len gathered.old.lefts + vec_len workers ≤ vec_capacity gathered.old.lefts }
     ensures all { vec_len gathered.new.lefts ≡ vec_len gathered.old.lefts + vec_len workers }
-    ensures lefts { (runs : List Run) (bs : _) → AreLeftBy B.outcome runs bs gathered.old.lefts.items → AreLeftBy B.outcome (runs ++ map (λ w. w.promise.run) workers.items) (bs ++ map (λ w. w.promise.behaviour.value) workers.items) gathered.new.lefts.items }
+    ensures lefts { (runs : List Run) (bs : _) → (gathered.old.starved ≡ false → AreLeftBy B.outcome runs bs gathered.old.lefts.items) → gathered.new.starved ≡ false → AreLeftBy B.outcome (runs ++ map (λ w. w.promise.run) workers.items) (bs ++ map (λ w. w.promise.behaviour.value) workers.items) gathered.new.lefts.items }
 {
     for worker in workers {
         gathered.take(worker.join(rt));

@@ -101,7 +101,7 @@ line_with bytes (w ∷ ws) =
     else if not (printable bytes) then Err F.BadByte
     else or_fault (keyword w) F.BadLine >>= λ k. form k ws
 
--- what a line says, or the first fault of kinds 1 to 3
+-- what a line says, or its first fault: BadByte, BadLine or BadName
 unfoldable pub line_of : List ℕ → Result Line ScriptKind
 line_of bytes = line_with bytes (words bytes)
 

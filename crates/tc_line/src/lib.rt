@@ -1,7 +1,6 @@
 //! The lines of a script: bytes to lines, lines to words, words to what the line says.
 #![tactic(auto)]
 
-mod items;
 mod kind;
 mod line;
 mod reading;
@@ -9,11 +8,10 @@ mod spelling;
 mod text;
 mod word;
 
-pub use items::Items;
 pub use kind::{LineFault, ScriptKind};
 pub use line::{Call, GroupWord, Line, Reference, TargetWord};
 pub use reading::read_line;
-pub use tc_entry::{Name, UserVerdict};
+pub use tc_entry::{Name, Sequence, UserVerdict};
 pub use tc_step::Status;
 pub use text::lines_of;
 

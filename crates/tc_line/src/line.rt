@@ -1,5 +1,4 @@
-use crate::items::Items;
-use tc_entry::{Name, UserVerdict};
+use tc_entry::{Name, Sequence, UserVerdict};
 use tc_step::Status;
 
 /// The first word of a line that is not skipped.
@@ -54,7 +53,7 @@ pub enum Call {
     Start {
         on: Reference,
         behaviour: Name,
-        args: Items<Reference>,
+        args: Sequence<Reference>,
     },
     Stop(GroupWord),
     Kill(GroupWord),
@@ -75,7 +74,7 @@ pub enum Line {
     /// Begins a test case.
     TestCase(Name),
     /// Begins a behaviour, with the names of its parameters.
-    Behaviour(Name, Items<Name>),
+    Behaviour(Name, Sequence<Name>),
     /// Ends what is open.
     End,
     /// A step of the behaviour that is open.

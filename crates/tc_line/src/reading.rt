@@ -2,14 +2,13 @@ ghost use Rattle.std.specs.Prelude.{◌≡◌, map};
 ghost use Rattle.tc_line.specs.Line.{named, reference, group, target, form, line_of, printable, is_comment as comment, each, Gives};
 ghost use Rattle.tc_line.specs.declared.line.Keyword.TheVariants as K;
 
-use crate::items::Items;
 use crate::kind::{LineFault, ScriptKind};
 use crate::line::{Call, GroupWord, Keyword, Line, Reference, TargetWord};
 use crate::spelling::{is_word, read_keyword, read_verdict};
 use crate::text::words_of;
 use crate::word::read_name;
 use std::alloc::Global;
-use tc_entry::Name;
+use tc_entry::{Name, Sequence};
 use tc_step::Status;
 
 #[tactic(auto, unfolding(crate::specs::Line::named))]
@@ -94,7 +93,7 @@ fn read_create(words: &[&[u8]]) -> Result<Line, ScriptKind>
     }
 }
 
-fn read_names(alloc: Global, words: &[&[u8]]) -> Result<Items<Name>, LineFault>
+fn read_names(alloc: Global, words: &[&[u8]]) -> Result<Sequence<Name>, LineFault>
     ensures { Gives result (each named (map (λ w. w.now) words.now)) }
 {
     let mut names = Vec::new(alloc);
@@ -102,10 +101,10 @@ fn read_names(alloc: Global, words: &[&[u8]]) -> Result<Items<Name>, LineFault>
         let name = read_named(word)?;
         names.push(name)?;
     }
-    Ok(Items::new(names))
+    Ok(Sequence::new(names))
 }
 
-fn read_references(alloc: Global, words: &[&[u8]]) -> Result<Items<Reference>, LineFault>
+fn read_references(alloc: Global, words: &[&[u8]]) -> Result<Sequence<Reference>, LineFault>
     ensures { Gives result (each reference (map (λ w. w.now) words.now)) }
 {
     let mut references = Vec::new(alloc);
@@ -113,7 +112,7 @@ fn read_references(alloc: Global, words: &[&[u8]]) -> Result<Items<Reference>, L
         let one = read_reference(word)?;
         references.push(one)?;
     }
-    Ok(Items::new(references))
+    Ok(Sequence::new(references))
 }
 
 #[tactic(auto, unfolding(crate::specs::Line::form))]

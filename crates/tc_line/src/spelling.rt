@@ -13,6 +13,7 @@ pub fn is_word(word: &[u8], spelling: &[u8]) -> bool
     word == spelling
 }
 
+/// The keyword of this spelling.
 #[tactic(auto, unfolding(crate::specs::Words::keyword))]
 pub fn read_keyword(word: &[u8]) -> Option<Keyword>
     ensures { result ≡ keyword word.now }
@@ -50,6 +51,7 @@ pub fn read_keyword(word: &[u8]) -> Option<Keyword>
     }
 }
 
+/// What `setverdict` may set, by its name.
 #[tactic(auto, unfolding(crate::specs::Words::verdict))]
 pub fn read_verdict(word: &[u8]) -> Option<UserVerdict>
     ensures { result ≡ verdict word.now }

@@ -113,13 +113,6 @@ fn a_start_and_its_words(rt: HostRuntime) {
 }
 
 #[test]
-fn items_keep_their_order(rt: HostRuntime) -> Result<(), Fail> {
-    let items = Items::new(vec![in rt.alloc(); 3, 1, 2]?);
-    assert_eq!(rt; items.as_slice(), [3, 1, 2].as_slice());
-    Ok(())
-}
-
-#[test]
 fn texts_of_the_kinds(rt: HostRuntime) {
     let texts = [
         (ScriptKind::BadByte, "byte not allowed"),

@@ -17,7 +17,7 @@ pub use histories::write_history;
 pub use records::write_csv;
 pub use report::write_text;
 pub use results::{CampaignEnd, Finished, Results, Tally};
-pub use status::status_of;
+pub use status::{status_of, verdict_status};
 
 #[cfg(test)]
 mod tests;

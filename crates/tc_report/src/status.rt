@@ -17,7 +17,8 @@ fn worst_overall(cases: &[Finished]) -> Verdict
     worst
 }
 
-fn verdict_status(verdict: Verdict) -> u8
+/// The exit status for a verdict: 0 for none and pass, 1 for inconc and fail, 2 for error.
+pub fn verdict_status(verdict: Verdict) -> u8
     ensures { result ≡ spec_status verdict }
 {
     match verdict {

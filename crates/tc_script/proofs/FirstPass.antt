@@ -11,7 +11,8 @@ use Rattle.tc_script.specs.declared.counts.Counts.{Counts}
 use Rattle.tc_line.specs.declared.line.Line.{Line}
 use Rattle.tc_line.specs.Line.{line_of}
 use Rattle.tc_script.specs.Open.{parsed, judged, ends_well}
-use Rattle.tc_script.specs.Counts.{counts_of, counted, Takes, Reads, may_end}
+use Rattle.tc_script.specs.Counts.{counts_of, counted, Takes, may_end}
+use Rattle.tc_script.specs.Reading.{Reads}
 use Rattle.tc_script.proofs.Counting.{Agrees, counted_agrees}
 
 abbrev pub fault_at : ℕ → ScriptKind → ScriptFault

@@ -86,7 +86,7 @@ abbrev pub or_else : {A : Type 0} → Option ScriptFault → A → Result A Scri
 or_else (Some fault) x = Err fault
 or_else None x = Ok x
 
--- the lines are judged by the first six kinds; only if there is no such fault, by the others
+-- the lines are judged by the kinds from BadByte to Cut; only if there is no such fault, by the others
 unfoldable pub campaign : List ℕ → Result CampaignView ScriptFault
 campaign text = do
   ls ← parsed [] (lines text)

@@ -72,9 +72,3 @@ abbrev pub Takes : List Line → Result (Line × Counts) ReadFault → Result Li
 Takes past (Ok x) said = (said ≡ Ok x.0) × (x.1 ≡ counts_of (x.0 ∷ past))
 Takes past (Err E.NoMemory) said = Unit {0}
 Takes past (Err (E.Script fault)) said = said ≡ Err fault
-
--- what a function returned is what the text gives, unless memory ran out
-abbrev pub Reads : {A B : Type 0} → (A → B) → Result A ReadFault → Result B ScriptFault → Type 0
-Reads view (Ok x) said = said ≡ Ok (view x)
-Reads view (Err E.NoMemory) said = Unit {0}
-Reads view (Err (E.Script fault)) said = said ≡ Err fault

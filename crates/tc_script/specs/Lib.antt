@@ -3,6 +3,7 @@ pub mod Open
 pub mod Scope
 pub mod Meaning
 pub mod Campaign
+pub mod Reading
 pub mod Counts
 pub mod Passing
 pub mod Building

@@ -98,11 +98,11 @@ abbrev pub or_at : {A : Type 0} → List Line → Result A ScriptKind → Result
 or_at past (Ok x) = Ok x
 or_at past (Err kind) = Err (at_next past kind)
 
--- the next line, or its first fault of kinds 1 to 5
+-- the next line, or its first fault, BadByte to TooMany
 abbrev pub judged : List Line → List ℕ → Result Line ScriptFault
 judged past bytes = or_at past (line_of bytes >>= placed past)
 
--- the lines of a text, the first ones read already: all of them, or the first fault of kinds 1 to 6
+-- the lines of a text, the first ones read already: all of them, or the first fault, BadByte to Cut
 abbrev pub parsed : List Line → List (List ℕ) → Result (List Line) ScriptFault
 parsed past [] = if ends_well past then Ok (reverse past) else Err (at_next past F.Cut)
 parsed past (bytes ∷ more) = do

@@ -1,5 +1,6 @@
 ghost use Rattle.std.specs.Prelude.{◌≡◌, ◌+◌, ◌<◌, [], List, length, map, Ok};
-ghost use Rattle.tc_script.specs.Counts.{Takes, Reads, counts_of};
+ghost use Rattle.tc_script.specs.Counts.{Takes, counts_of};
+ghost use Rattle.tc_script.specs.Reading.{Reads};
 ghost use Rattle.tc_script.specs.Open.{parsed, judged};
 ghost use Rattle.tc_line.specs.Text.{lines};
 ghost use Rattle.tc_line.specs.declared.line.Line.{Line as TheLine};
@@ -67,7 +68,7 @@ fn parse_lines(alloc: Global, texts: &[&[u8]]) -> Result<Vec<Line>, ReadFault>
     Ok(lines)
 }
 
-/// The lines of a text, or its first fault of the first six kinds.
+/// The lines of a text, or its first fault from BadByte to Cut.
 pub fn parse(alloc: Global, text: &[u8]) -> Result<Vec<Line>, ReadFault>
     ensures { Reads (λ v. v.items) result (parsed [] (lines text.now)) }
 {

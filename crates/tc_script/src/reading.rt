@@ -1,6 +1,6 @@
 ghost use Rattle.std.specs.Prelude.{◌≡◌, false, IfOk, All, map};
 ghost use Rattle.tc_script.specs.Campaign.{campaign};
-ghost use Rattle.tc_script.specs.Counts.{Reads};
+ghost use Rattle.tc_script.specs.Reading.{Reads};
 ghost use Rattle.tc_script.specs.Law.{IsCase};
 ghost use Rattle.tc_script.specs.Names.{has_twice};
 

@@ -8,7 +8,7 @@ use crate::heads::{Heads, heads_of};
 use crate::names::{Names, is_one_of};
 use std::alloc::{AllocError, Global};
 use std::marker::Model;
-use tc_line::{Call, GroupWord, Items, Line, Name, Reference, ScriptKind, TargetWord};
+use tc_line::{Call, GroupWord, Line, Name, Reference, ScriptKind, Sequence, TargetWord};
 
 /// The names that a line may not use again, and those that it may refer to.
 #[derive(Drop)]

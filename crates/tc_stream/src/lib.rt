@@ -1,6 +1,7 @@
 //! Whole inputs and whole outputs, over any reader and any writer.
 #![tactic(auto)]
 
+pub mod devices;
 mod input;
 mod output;
 

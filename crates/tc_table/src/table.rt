@@ -69,7 +69,7 @@ impl Table {
         })
     }
 
-    /// Makes a call, and answers its reply.
+    /// Makes a call: adds its entry, and answers its reply. Where memory is refused the history stays as it was.
     pub fn play(&mut self, caller: Run, op: Op) -> Result<Reply, NoMemory>
         ensures reply { IfOk result (λ r. r ≡ answers.answer self.old.behaviours (past_of self.old) caller.0 op) }
         ensures behaviours { self.new.behaviours ≡ self.old.behaviours }
@@ -116,7 +116,7 @@ impl Table {
         Ok(())
     }
 
-    /// So many more calls take no memory, if none of them is a Create.
+    /// So many more calls are never refused memory, if none of them is a Create.
     pub fn room(&self) -> usize
         ensures { result ≡ self.now.room }
     {

@@ -19,7 +19,7 @@ use Rattle.tc_table.specs.Legal.{IsLegal}
 use Rattle.tc_table.specs.Local.{overall}
 use Rattle.ttrun.specs.Output.{WritesPrefix}
 use Rattle.ttrun.specs.Replay.{move_of, next_entry, reply_line, verdict_line, IsReplayed, IsReplayOf, Replays}
-use Rattle.ttrun.specs.Status.{status_of}
+use Rattle.tc_report.specs.Status.{verdict_status}
 
 -- the moves taken so far are the table's history, and their reply lines are the output
 pub record IsPlayed (n : ℕ) (t : Case) (taken : List Move) (out : List ℕ) : Type 0 where
@@ -100,7 +100,7 @@ all_read text rest out out' n t verdict before none is more = record {
 
 -- where the output was made and not written whole: the text is read as `read`, the output as `lent`
 pub prefix_written : (input before after : Option (List ℕ)) (text read out lent : List ℕ) (verdict : Verdict) (status : ℕ) →
-    IfSome input (λ xs. text ≡ xs) → read ≡ text → IsReplayOf read out verdict → status ≡ status_of verdict → lent ≡ out →
+    IfSome input (λ xs. text ≡ xs) → read ≡ text → IsReplayOf read out verdict → status ≡ verdict_status verdict → lent ≡ out →
     AppendsPrefix before after lent → WritesPrefix Replays input before after
 prefix_written None before after text read out lent verdict status same read_is replay is lent_is written = tt
 prefix_written (Some xs) before after text read out lent verdict status same read_is replay is lent_is written =

@@ -1,4 +1,3 @@
-pub mod Status
 pub mod Replay
 pub mod Fault
 pub mod Output

@@ -10,7 +10,7 @@ use Rattle.tc_table.specs.Answers.{answer}
 use Rattle.tc_table.specs.Case.{Case, past_of}
 use Rattle.tc_table.specs.Legal.{IsLegal}
 use Rattle.tc_table.specs.Local.{overall}
-use Rattle.ttrun.specs.Status.{status_of}
+use Rattle.tc_report.specs.Status.{verdict_status}
 
 -- who called, and what
 abbrev pub move_of : Entry → Move
@@ -51,4 +51,4 @@ pub record IsReplayOf (text out : List ℕ) (verdict : Verdict) : Type 0 where
 pub record Replays (text out : List ℕ) (status : ℕ) : Type 0 where
   pub verdict : Verdict
   pub replay : IsReplayOf text out verdict
-  pub status_is : status ≡ status_of verdict
+  pub status_is : status ≡ verdict_status verdict

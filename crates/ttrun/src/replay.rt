@@ -7,9 +7,9 @@ ghost use Rattle.ttrun.specs.Output.{Writes};
 ghost use Rattle.ttrun.specs.Fault.{Refuses, RefusesText};
 
 use crate::fault::RunFault;
-use crate::status::status_of;
 use std::alloc::Global;
 use std::io::{Read, Write};
+use tc_report::verdict_status;
 use tc_stream::write_whole;
 use tc_table::{
     NoMemory, Op, Reply, Run, Table, TextFault, TextKind, Verdict, read_input, write_reply,
@@ -110,7 +110,7 @@ pub fn replay<R: Read, W: Write>(
 {
     let text = read_input(alloc, reader, LIMIT)?;
     let (out, verdict) = replay_text(alloc, text.as_slice())?;
-    let status = status_of(verdict);
+    let status = verdict_status(verdict);
     let Ok(()) = write_whole(writer, out.as_slice()) else {
         return Err(RunFault::Write);
     };

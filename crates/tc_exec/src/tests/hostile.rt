@@ -45,6 +45,41 @@ fn gate_refuses_a_thread(rt: HostRuntime) -> Result<(), Fail> {
     Ok(())
 }
 
+/// Takes its time to be dropped, and then sets the flag.
+struct Lingers(Arc<AtomicU64>);
+
+impl Drop for Lingers {
+    fn drop(self) {
+        let Lingers(flag) = self;
+        for _ in 0..20_000_000u32 {
+            let _ = flag.load(Ordering::SeqCst);
+        }
+        flag.store(1, Ordering::SeqCst);
+    }
+}
+
+#[test]
+fn workers_end_before_a_refusal(rt: HostRuntime) -> Result<(), Fail> {
+    let alloc = rt.alloc();
+    let gone = Arc::new(alloc, AtomicU64::new(0))?;
+    let lingers = Lingers(Arc::try_clone(&gone)?);
+    let first: Behaviour = Box::new(alloc, move |pass: Pass| back(pass, Ok(())))?;
+    let second: Behaviour = Box::new(alloc, move |pass: Pass| {
+        drop(lingers);
+        back(pass, Ok(()))
+    })?;
+    let third: Behaviour = Box::new(alloc, move |pass: Pass| back(pass, Ok(())))?;
+    let jobs = vec![in alloc; Job::new(first), Job::new(second), Job::new(third)]?;
+    let mut gate = Refuses {
+        run: Run(2),
+        asked: Vec::new(alloc),
+    };
+    let refused = run_case_with(&rt, alloc, jobs, 2, &mut gate);
+    assert_eq!(rt; gone.load(Ordering::SeqCst), 1);
+    assert!(rt; matches!(refused, Err(CaseError::NoThread)));
+    Ok(())
+}
+
 #[test]
 fn pass_of_another_case(rt: HostRuntime) -> Result<(), Fail> {
     let alloc = rt.alloc();

@@ -1,40 +1,7 @@
+//! Writers that fail.
 use super::*;
-use std::io;
-use std::io::{Error, ErrorKind, Write};
-
-/// Takes one byte at each write, and fails at the write of this number, or takes no byte there.
-#[derive(Drop)]
-struct Narrow {
-    taken: Vec<u8>,
-    writes: usize,
-    fails_at: usize,
-    takes_none: bool,
-}
-
-impl Write for Narrow {
-    fn write(&mut self, buf: &[u8]) -> io::Result<usize> {
-        let writes = self.writes;
-        self.writes = writes.saturating_add(1);
-        if writes == self.fails_at {
-            return if self.takes_none {
-                Ok(0)
-            } else {
-                Err(Error::from(ErrorKind::BrokenPipe))
-            };
-        }
-        match buf.first() {
-            Some(byte) => {
-                self.taken.push(*byte)?;
-                Ok(1)
-            }
-            None => Ok(0),
-        }
-    }
-
-    fn flush(&mut self) -> io::Result<()> {
-        Ok(())
-    }
-}
+use std::io::Write;
+use tc_stream::devices::{NarrowWriter, WriteFailure};
 
 /// Which text is written.
 #[derive(Clone, Copy, PartialEq, Eq, Debug)]
@@ -69,12 +36,12 @@ fn each_write_fails_in_turn(rt: HostRuntime) -> Result<(), Fail> {
         let mut whole = Vec::new(rt.alloc());
         assert_eq!(rt; give(rt.alloc(), form, &results, &mut whole), Ok(()));
         for fails_at in 0..=whole.len() {
-            for takes_none in [false, true] {
-                let mut writer = Narrow {
+            for failure in [WriteFailure::Broken, WriteFailure::Full] {
+                let mut writer = NarrowWriter {
                     taken: Vec::new(rt.alloc()),
                     writes: 0,
                     fails_at,
-                    takes_none,
+                    failure,
                 };
                 let answer = give(rt.alloc(), form, &results, &mut writer);
                 let wanted = if fails_at == whole.len() {

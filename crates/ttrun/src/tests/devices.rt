@@ -1,65 +1,6 @@
 //! Readers and writers that fail.
 use super::*;
-use std::io;
-use std::io::{Error, ErrorKind, Read, Write};
-
-/// Gives one byte at each read, and fails at the read of this number, counted from 0.
-#[derive(Drop)]
-struct Slow<'a> {
-    rest: &'a [u8],
-    reads: usize,
-    fails_at: usize,
-}
-
-impl Read for Slow<'_> {
-    fn read(&mut self, buf: &mut [u8]) -> io::Result<usize> {
-        let reads = self.reads;
-        self.reads = reads.saturating_add(1);
-        if reads == self.fails_at {
-            return Err(Error::from(ErrorKind::Interrupted));
-        }
-        if buf.is_empty() {
-            return Ok(0);
-        }
-        match self.rest.split_first() {
-            Some((byte, rest)) => {
-                buf[0] = *byte;
-                self.rest = rest;
-                Ok(1)
-            }
-            None => Ok(0),
-        }
-    }
-}
-
-/// Takes one byte at each write, and fails at the write of this number.
-#[derive(Drop)]
-struct Narrow {
-    taken: Vec<u8>,
-    writes: usize,
-    fails_at: usize,
-}
-
-impl Write for Narrow {
-    fn write(&mut self, buf: &[u8]) -> io::Result<usize> {
-        let writes = self.writes;
-        self.writes = writes.saturating_add(1);
-        if writes == self.fails_at {
-            return Err(Error::from(ErrorKind::BrokenPipe));
-        }
-        match buf.first() {
-            Some(byte) => {
-                self.taken.push(*byte)?;
-                Ok(1)
-            }
-            None => Ok(0),
-        }
-    }
-
-    fn flush(&mut self) -> io::Result<()> {
-        Ok(())
-    }
-}
+use tc_stream::devices::{NarrowWriter, SlowReader, WriteFailure};
 
 const INPUT: &[u8] = b"behaviours 3\n0 create\n0 start 1 1\n0 start 1 2\n1 getverdict\n";
 
@@ -68,7 +9,7 @@ const OUTPUT: &[u8] = b"made 1\nok\nerror already-running\nended\nverdict error\
 #[test]
 fn failing_devices(rt: HostRuntime) -> Result<(), Fail> {
     for fails_at in 0..INPUT.len() {
-        let mut reader = Slow {
+        let mut reader = SlowReader {
             rest: INPUT,
             reads: 0,
             fails_at,
@@ -79,15 +20,16 @@ fn failing_devices(rt: HostRuntime) -> Result<(), Fail> {
         assert!(rt; written.is_empty());
     }
     for fails_at in 0..OUTPUT.len() {
-        let mut reader = Slow {
+        let mut reader = SlowReader {
             rest: INPUT,
             reads: 0,
             fails_at: usize::MAX,
         };
-        let mut writer = Narrow {
+        let mut writer = NarrowWriter {
             taken: Vec::new(rt.alloc()),
             writes: 0,
             fails_at,
+            failure: WriteFailure::Broken,
         };
         let answer = replay(rt.alloc(), &mut reader, &mut writer);
         assert_eq!(rt; answer.err(), Some(RunFault::Write), "at {fails_at}");

@@ -1,6 +1,6 @@
 use Rattle.std.proofs.Common.{ap, sym, ◌∙◌, map, length, arith}
 use Rattle.tc_campaign.specs.Outline.{outline_of}
-use Rattle.tc_campaign.proofs.Running.{done_more, done_begin, so_far_more, run_aborted, run_stopped, run_complete}
+use Rattle.tc_campaign.proofs.Running.{done_more, done_begin, threads_more, so_far_more, run_aborted, run_stopped, run_complete}
 use Rattle.tc_campaign.proofs.campaign.finish_all.Goals as goal
 
 pub returns-in-Err-clause-run : goal.returns-in-Err-clause-run
@@ -18,6 +18,7 @@ loop-case-preserved g c = (
   omega (arith, c.in-Some.ensures.steps.1, ap length c.in-Some.ensures.steps.0),
   so_far_more _ _ _ _ _ _ _ _ c.loop-case.invariant.4 (ap (map outline_of) c.in-Some.ensures.steps.0) c.in-Ok.ensures.finished c.in_default.ensures.better c.push_reserved.ensures.items,
   done_more _ _ _ _ _ _ _ _ c.loop-case.invariant.5 c.in-Some.ensures.steps.0 c.in-Ok.ensures.called c.push_reserved.ensures.items,
+  threads_more _ _ _ _ c.loop-case.invariant.6 c.in-Ok.ensures.threads c.push_reserved.ensures.items,
 )
 
 pub returns-clause-run : goal.returns-clause-run
@@ -32,3 +33,6 @@ returns-in-Some-stop-clause-called g c =
 
 pub returns-clause-called : goal.returns-clause-called
 returns-clause-called g c = done_begin _ _ _ _ c.loop-case.invariant.5
+
+pub returns-in-Some-stop-clause-threads : goal.returns-in-Some-stop-clause-threads
+returns-in-Some-stop-clause-threads g c = threads_more _ _ _ _ c.loop-case.invariant.6 c.in-Ok.ensures.threads c.push_reserved.ensures.items

@@ -1,6 +1,6 @@
 use Rattle.std.proofs.Common.{arith}
 use Rattle.tc_exec.proofs.Lists.{passed}
-use Rattle.tc_exec.proofs.Calls.{joined}
+use Rattle.tc_exec.proofs.Calls.{neither, left_by, joined}
 use Rattle.tc_exec.proofs.worker.join_workers.Goals as goal
 
 pub loop-worker-preserved : goal.loop-worker-preserved
@@ -9,7 +9,8 @@ loop-worker-preserved g c =
       rw c.take.ensures.room (omega (arith, was.0, c.in-Some.ensures.steps.1, c.take.ensures.count)),
       omega (arith, was.1, c.in-Some.ensures.steps.1, c.take.ensures.count),
       passed c.loop-worker.yielded c.in-Some.worker _ _ _ was.2 c.in-Some.ensures.steps.0,
-      (λ runs bs before.
-          joined g.B.Callable.outcome (λ w. w.promise.run) (λ w. w.promise.behaviour.value) runs bs _ c.loop-worker.yielded c.in-Some.worker c.join.result _
-          (was.3 runs bs before) c.join.ensures c.take.ensures.left),
+      (λ runs bs before none.
+          let both = neither _ _ _ c.take.ensures.starved none in
+          joined g.B.Callable.outcome (λ w. w.promise.run) (λ w. w.promise.behaviour.value) runs bs _ c.loop-worker.yielded c.in-Some.worker c.join.result.left _
+          (was.3 runs bs before both.0) (left_by g.B.Callable.outcome _ _ c.join.result both.1 c.join.ensures) c.take.ensures.left),
     )

@@ -1,4 +1,4 @@
-use Rattle.std.proofs.Common.{◌≡◌, ◌≤◌, ◌+◌, ◌++◌, List, map}
+use Rattle.std.proofs.Common.{◌≡◌, ◌≤◌, ◌+◌, ◌++◌, false, List, map}
 use Rattle.std.specs.Vec.{vec_len, vec_capacity}
 use Rattle.std.specs.Vec.Iter.{into_iter_items, into_iter_len}
 use Rattle.tc_verdict.specs.declared.run.Run.{Run}
@@ -10,5 +10,5 @@ invariant-loop-worker g l =
     (vec_len l.gathered.lefts + into_iter_len l.worker-iterator ≤ vec_capacity l.gathered.lefts)
     × (vec_len l.gathered.lefts + into_iter_len l.worker-iterator ≡ vec_len l.fn.gathered.lefts + vec_len l.fn.workers)
     × (l.yielded ++ into_iter_items l.worker-iterator ≡ l.fn.workers.items)
-    × ((runs : List Run) (bs : _) → AreLeftBy g.B.Callable.outcome runs bs l.fn.gathered.lefts.items →
+    × ((runs : List Run) (bs : _) → (l.fn.gathered.starved ≡ false → AreLeftBy g.B.Callable.outcome runs bs l.fn.gathered.lefts.items) → l.gathered.starved ≡ false →
     AreLeftBy g.B.Callable.outcome (runs ++ map (λ w. w.promise.run) l.yielded) (bs ++ map (λ w. w.promise.behaviour.value) l.yielded) l.gathered.lefts.items)
