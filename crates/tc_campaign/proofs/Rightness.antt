@@ -9,7 +9,7 @@ use Rattle.tc_report.specs.declared.results.Finished.{Finished}
 use Rattle.tc_campaign.specs.declared.case.Case.{Case}
 use Rattle.tc_campaign.specs.Stopping.{IsBetter, IsMet}
 use Rattle.tc_campaign.specs.Outline.{Outline, HasNames, outline_of}
-use Rattle.tc_campaign.specs.Campaign.{IsNamed, IsOfCase, IsReported, IsEnding, IsRight, IsRefusal, IsWhy}
+use Rattle.tc_campaign.specs.Campaign.{HasBehaviours, IsNamed, IsOfCase, IsReported, IsEnding, IsRight, IsRefusal, IsWhy}
 use Rattle.tc_campaign.specs.Inside.{IsOf, IsSoFar, IsRun}
 use Rattle.tc_campaign.specs.Inside.IsRun.{complete, aborted, stopped}
 use Rattle.tc_campaign.proofs.Places.{AllZip-pushed, AllZip-weaker, AllZip-begin, slice_get-behind, take-front, slice_get-last, All-slice_get}
@@ -84,3 +84,12 @@ names cases stop_on finished ending all run =
     all_named (take (length finished) (map outline_of cases)) finished
     (All-take AreEven (length finished) (map outline_of cases) (All-map AreEven outline_of cases (λ k d lt. even (slice_index_or cases k d) (all k d lt))))
     (each_of (map outline_of cases) stop_on finished ending run)
+
+all_few : (cases : List Outline) (finished : List Finished) → AllZip IsOf cases finished → All HasBehaviours finished
+all_few [] [] each = All-nil HasBehaviours
+all_few [] (f ∷ finished) each = absurd each
+all_few (c ∷ cases) [] each = absurd each
+all_few (c ∷ cases) (f ∷ finished) each = All-cons HasBehaviours f finished (rw each.0.report.behaviours each.0.few) (all_few cases finished each.1)
+
+pub behaviours : (cases : List Outline) (stop_on : Option Verdict) (finished : List Finished) (ending : CampaignEnd) → IsRun cases stop_on finished ending → All HasBehaviours finished
+behaviours cases stop_on finished ending run = all_few (take (length finished) cases) finished (each_of cases stop_on finished ending run)

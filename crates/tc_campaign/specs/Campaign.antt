@@ -29,6 +29,10 @@ pub record IsOfCase (c : Outline) (f : Finished) : Type 0 where
 abbrev pub IsReported : Outline → Finished → Type 0
 IsReported c f = IsCaseReport (c.jobs) f.report
 
+-- a finished case has 1 to 64 behaviours
+abbrev pub HasBehaviours : Finished → Type 0
+HasBehaviours f = (1 ≤ f.report.behaviours) × (f.report.behaviours ≤ 64)
+
 -- the jobs of a finished case are those of this case: each of which the run was started was called, with a new pass of that run, and the report is
 -- made of what the passes that they handed back have logged
 abbrev pub IsCalled : {X : Type 0} {F : X → Type 0} {M : _} → (Job X F M → PassState → Back → Type 0) → Case X F M → Finished → Type 0

@@ -1,5 +1,5 @@
 -- What the functions inside of a campaign say, which no public clause names.
-use Rattle.std.specs.Prelude.{◌≡◌, ◌++◌, ◌∷◌, [], Option, List, All}
+use Rattle.std.specs.Prelude.{◌≡◌, ◌≤◌, ◌++◌, ◌∷◌, [], Option, List, All}
 use Rattle.std.specs.List.{AllZip}
 use Rattle.tc_verdict.specs.declared.verdict.Verdict.{Verdict}
 use Rattle.tc_exec.specs.declared.refusal.CaseError.{CaseError}
@@ -16,6 +16,7 @@ use Rattle.tc_campaign.specs.Campaign.{IsOfCase, IsRefusal}
 pub record IsOf (c : Outline) (f : Finished) : Type 0 where
   pub names : IsOfCase c f
   pub report : IsCaseReport (c.jobs) f.report
+  pub few : (1 ≤ c.jobs) × (c.jobs ≤ 64)
 
 -- a case was refused so
 pub record IsRefused (c : Outline) (ending : CampaignEnd) : Type 0 where

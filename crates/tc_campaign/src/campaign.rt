@@ -3,7 +3,7 @@ ghost use Rattle.std.specs.Prelude.{◌≡◌, ◌≤◌, [], All, IfOk, IfErr, 
 ghost use Rattle.std.specs.Vec.{vec_len, vec_capacity};
 ghost use Rattle.std.specs.List.{AllZip};
 ghost use Rattle.tc_campaign.specs.Outline.{HasNames, outline_of};
-ghost use Rattle.tc_campaign.specs.Campaign.{HasThreads, IsCalled, IsNamed, IsReported, IsWhy, IsRight};
+ghost use Rattle.tc_campaign.specs.Campaign.{HasBehaviours, HasThreads, IsCalled, IsNamed, IsReported, IsWhy, IsRight};
 ghost use Rattle.tc_campaign.specs.Inside.{IsOf, IsRefused, IsRun, IsUnrun};
 
 use crate::case::Case;
@@ -101,6 +101,7 @@ pub fn run_campaign<R: Threads + Wait + Copy + Send + 'static>(
     ensures called { AllZip (IsCalled ⟦<Job as Callable>⟧.outcome) (take (length result.finished) cases.items) result.finished }
     ensures names { All IsNamed result.finished }
     ensures threads { All (HasThreads threads) result.finished }
+    ensures behaviours { All HasBehaviours result.finished }
     ensures why { IsWhy (slice_get (map outline_of cases.items) (length result.finished)) result.ending }
 {
     let Ok(mut finished) = Vec::with_capacity(alloc, cases.len()) else {

@@ -3,3 +3,4 @@ pub mod Cutting
 pub mod Names
 pub mod Prefixes
 pub mod Texts
+pub mod WrittenBlocks

@@ -1,3 +1,4 @@
 pub mod Block
 pub mod Text
 pub mod Cut
+pub mod Written

@@ -4,6 +4,7 @@
 mod block;
 mod cut;
 mod header;
+pub mod laws;
 mod line;
 mod read;
 

@@ -4,3 +4,4 @@ pub mod Output
 pub mod Give
 pub mod Script
 pub mod Check
+pub mod WrittenHistories

@@ -7,6 +7,7 @@ ghost use Rattle.ttrun.specs.declared.check.Judgement.TheVariants as judgements;
 ghost use Rattle.ttrun.specs.Check.{AllFit, Checks, Fits, IsChecked, IsJudgement, gives_text, judgement_line, legal_line, other_line, place_text};
 ghost use Rattle.ttrun.specs.Output.{Writes};
 ghost use Rattle.ttrun.specs.Fault.{Refuses};
+ghost use Rattle.ttrun.specs.WrittenHistories.{FindsWrittenLegal};
 
 use crate::fault::RunFault;
 use crate::status::REFUSED;
@@ -177,6 +178,7 @@ pub fn check<R: Read, W: Write>(
     ensures done { IfOk result (λ status. Writes IsChecked (R.remaining reader.old) (W.contents writer.old) (W.contents writer.new) status) }
     ensures fits { OnOk result (IfSome (R.remaining reader.old) (λ text. length text ≤ LIMIT)) }
     ensures refused { IfErr result (λ fault. Refuses IsHistoryFault IsChecked LIMIT (R.remaining reader.old) (W.contents writer.old) (W.contents writer.new) fault) }
+    ensures written { FindsWrittenLegal (R.remaining reader.old) (W.contents writer.old) (W.contents writer.new) result }
 {
     let text = read_input(alloc, reader, LIMIT)?;
     let blocks = read_history(alloc, text.as_slice())?;

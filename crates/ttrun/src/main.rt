@@ -8,6 +8,7 @@ mod check;
 mod command;
 mod fault;
 mod give;
+mod laws;
 mod replay;
 mod script;
 mod status;

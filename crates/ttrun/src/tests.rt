@@ -11,6 +11,7 @@ mod histories;
 mod refused;
 mod words;
 mod worked;
+mod written_histories;
 
 // The text with a line feed for each `;`, and one at the end.
 fn lines(alloc: Global, text: &str) -> Result<Vec<u8>, AllocError> {

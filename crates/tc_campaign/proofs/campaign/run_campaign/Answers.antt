@@ -1,4 +1,4 @@
-use Rattle.tc_campaign.proofs.Rightness.{right, reported, names, why}
+use Rattle.tc_campaign.proofs.Rightness.{right, reported, names, behaviours, why}
 use Rattle.tc_campaign.proofs.campaign.run_campaign.Goals as goal
 
 pub returns-clause-right : goal.returns-clause-right
@@ -15,3 +15,6 @@ returns-clause-why g c = rw c.new-2.ensures (why _ _ _ _ c.finish_all-ending.ens
 
 pub returns-clause-called : goal.returns-clause-called
 returns-clause-called g c = rw c.new-2.ensures c.finish_all-ending.ensures.called
+
+pub returns-clause-behaviours : goal.returns-clause-behaviours
+returns-clause-behaviours g c = rw c.new-2.ensures (behaviours _ _ _ _ c.finish_all-ending.ensures.run)

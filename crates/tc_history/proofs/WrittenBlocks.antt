@@ -1,0 +1,123 @@
+-- Blocks that are written are read again.
+use Rattle.std.proofs.Common.{ℕ, ◌≡◌, ◌∙◌, ◌==◌, ◌+◌, true, false, IsTrue, All, List, [], ◌∷◌, ◌++◌, codes, length, map, refl, ap, sym, append_assoc, arith, rules}
+use Rattle.std.specs.Fmt.{decimal}
+use Rattle.std.specs.List.{flat_map, AllByRecursion}
+use Rattle.std.proofs.lemmas.Bool.Decides.{nat_tests}
+use Rattle.std.proofs.lemmas.List.Elements.{All-head, All-tail}
+use Rattle.tc_verdict.specs.declared.verdict.Verdict.{Verdict}
+use Rattle.tc_verdict.specs.declared.verdict.Verdict.TheVariants as V
+use Rattle.tc_verdict.specs.Verdict.{name_of}
+use Rattle.tc_entry.specs.Name.{is_name_byte}
+use Rattle.tc_entry.specs.declared.entry.Entry.{Entry}
+use Rattle.tc_entry.specs.declared.reply.Fault.{Fault}
+use Rattle.tc_entry.specs.declared.reply.Fault.TheVariants as F
+use Rattle.tc_entry.specs.declared.reply.Reply.{Reply}
+use Rattle.tc_entry.specs.declared.reply.Reply.TheVariants as R
+use Rattle.tc_text.specs.Lines.{lines_of, ended_lines}
+use Rattle.tc_text.specs.Spelling.{move_text, reply_text, fault_name, IsReply}
+use Rattle.tc_text.proofs.LinesOf.{NoLf, no_lf-append, lines-ended_lines}
+use Rattle.tc_text.proofs.Plain.{number_plain, move_plain}
+use Rattle.tc_history.specs.declared.read.Block.{Block}
+use Rattle.tc_history.specs.Block.{header_text, entry_text, end_text, entry_line}
+use Rattle.tc_history.specs.Text.{IsEntry, AreEntries, IsHeader, AreBlocks, block_lines, all_lines}
+use Rattle.tc_history.specs.Written.{text_of_block, text_of_blocks, WrittenIsRead}
+
+-- ---- no line of a block has an LF
+
+name_byte_plain : (b : ℕ) → is_name_byte b ≡ true → (b == 10) ≡ false
+name_byte_plain b allowed = grind (arith, nat_tests)
+
+name_plain : (bs : List ℕ) → All (λ b. IsTrue (is_name_byte b)) bs → NoLf bs
+name_plain [] all = tt
+name_plain (b ∷ bs) all = (name_byte_plain b (All-head (λ x. IsTrue (is_name_byte x)) b bs all), name_plain bs (All-tail (λ x. IsTrue (is_name_byte x)) b bs all))
+
+verdict_plain : (v : Verdict) → NoLf (name_of v)
+verdict_plain V.None = search rules
+verdict_plain V.Pass = search rules
+verdict_plain V.Inconc = search rules
+verdict_plain V.Fail = search rules
+verdict_plain V.Error = search rules
+
+fault_plain : (f : Fault) → NoLf (fault_name f)
+fault_plain F.NoComponent = search rules
+fault_plain F.NotMain = search rules
+fault_plain F.StartMain = search rules
+fault_plain F.AlreadyRunning = search rules
+fault_plain F.NotStartable = search rules
+fault_plain F.NoBehaviour = search rules
+fault_plain F.TooMany = search rules
+fault_plain F.Stuck = search rules
+
+reply_plain : (r : Reply) → IsReply r → NoLf (reply_text r)
+reply_plain (R.Made c) fits = no_lf-append (codes "made ") (decimal c.0) (search rules) (number_plain c.0 fits)
+reply_plain R.Ok fits = search rules
+reply_plain (R.Answer true) fits = search rules
+reply_plain (R.Answer false) fits = search rules
+reply_plain (R.Local v) fits = verdict_plain v
+reply_plain R.Matched fits = search rules
+reply_plain R.Parked fits = search rules
+reply_plain R.Ended fits = search rules
+reply_plain (R.Fault f) fits = no_lf-append (codes "error ") (fault_name f) (search rules) (fault_plain f)
+
+header_plain : (name : List ℕ) (n : ℕ) → IsHeader name n → NoLf (header_text name n)
+header_plain name n header =
+    let most = header.few.1 in
+    no_lf-append (codes "history 1 ") _ (search rules)
+    (no_lf-append name (codes " " ++ decimal n) (name_plain name header.name_is.allowed) (refl, number_plain n (omega (arith, most))))
+
+entry_plain : (e : Entry) → IsEntry e → NoLf (entry_text e)
+entry_plain e fits =
+    no_lf-append (move_text e.caller.0 e.op) _ (move_plain e.caller.0 e.op fits.caller fits.op)
+    (no_lf-append (codes " -> ") (reply_text e.reply) (search rules) (reply_plain e.reply fits.reply))
+
+end_plain : (v : Verdict) → NoLf (end_text v)
+end_plain v = no_lf-append (codes "end ") (name_of v) (search rules) (verdict_plain v)
+
+all_plain-append : (xs ys : List (List ℕ)) → AllByRecursion NoLf xs → AllByRecursion NoLf ys → AllByRecursion NoLf (xs ++ ys)
+all_plain-append [] ys plain others = others
+all_plain-append (x ∷ xs) ys plain others = (plain.0, all_plain-append xs ys plain.1 others)
+
+entries_plain : (es : List Entry) → AreEntries es → AllByRecursion NoLf (map entry_text es)
+entries_plain [] fits = tt
+entries_plain (e ∷ es) fits = (entry_plain e fits.0, entries_plain es fits.1)
+
+block_plain : (b : Block) → IsHeader b.name b.behaviours → AreEntries b.entries → AllByRecursion NoLf (block_lines b)
+block_plain b header entries =
+    (header_plain b.name b.behaviours header, all_plain-append (map entry_text b.entries) (end_text b.verdict ∷ []) (entries_plain b.entries entries) (end_plain b.verdict, tt))
+
+blocks_plain : (line : ℕ) (bs : List Block) → AreBlocks line bs → AllByRecursion NoLf (all_lines bs)
+blocks_plain line [] are = tt
+blocks_plain line (b ∷ bs) are =
+    all_plain-append (block_lines b) (all_lines bs) (block_plain b are.0.header are.0.entries) (blocks_plain (line + length (block_lines b)) bs are.1)
+
+-- ---- a block is written as its lines, each ended with LF
+
+ended_lines-append : (xs ys : List (List ℕ)) → ended_lines (xs ++ ys) ≡ ended_lines xs ++ ended_lines ys
+ended_lines-append [] ys = refl
+ended_lines-append (x ∷ xs) ys = ap (λ l. x ++ 10 ∷ l) (ended_lines-append xs ys) ∙ sym (append_assoc x (10 ∷ ended_lines xs) (ended_lines ys))
+
+entries_ended : (es : List Entry) (rest : List ℕ) → flat_map entry_line es ++ rest ≡ ended_lines (map entry_text es) ++ rest
+entries_ended [] rest = refl
+entries_ended (e ∷ es) rest =
+    append_assoc (entry_line e) (flat_map entry_line es) rest
+    ∙ (append_assoc (entry_text e) (10 ∷ []) (flat_map entry_line es ++ rest)
+    ∙ (ap (λ l. entry_text e ++ 10 ∷ l) (entries_ended es rest) ∙ sym (append_assoc (entry_text e) (10 ∷ ended_lines (map entry_text es)) rest)))
+
+block_ended : (b : Block) → text_of_block b ≡ ended_lines (block_lines b)
+block_ended b =
+    ap (λ l. header_text b.name b.behaviours ++ 10 ∷ l)
+    (entries_ended b.entries (end_text b.verdict ++ 10 ∷ []) ∙ sym (ended_lines-append (map entry_text b.entries) (end_text b.verdict ∷ [])))
+
+blocks_ended : (bs : List Block) → text_of_blocks bs ≡ ended_lines (all_lines bs)
+blocks_ended [] = refl
+blocks_ended (b ∷ bs) =
+    ap (λ l. text_of_block b ++ l) (blocks_ended bs) ∙ (ap (λ l. l ++ ended_lines (all_lines bs)) (block_ended b) ∙ sym (ended_lines-append (block_lines b) (all_lines bs)))
+
+-- ---- written and read again
+
+pub written_lines : (line : ℕ) (bs : List Block) → AreBlocks line bs → lines_of (text_of_blocks bs) ≡ all_lines bs
+written_lines line bs are = ap lines_of (blocks_ended bs) ∙ lines-ended_lines (all_lines bs) (blocks_plain line bs are)
+
+-- the text of blocks is the text of these histories
+pub written_histories : WrittenIsRead
+written_histories bs some are = record { some = some; fits = are; lines = written_lines 1 bs are }

@@ -1,0 +1,88 @@
+//! Laws of histories and their texts: each function changes nothing, and its contract is the law.
+ghost use Rattle.tc_text.specs.Spelling.{AreComps, IsComp, IsGroup, IsOp, IsReply, IsTarget};
+ghost use Rattle.tc_history.specs.Text.{AreEntries, IsEntry};
+ghost use Rattle.tc_history.specs.Written as laws;
+
+use tc_entry::{Comp, Entry, Group, Op, Reply, Target};
+
+/// What is written of blocks is read as these blocks.
+#[tactic(auto, using(crate::proofs::WrittenBlocks::written_histories))]
+pub fn written_is_read()
+    ensures { laws.WrittenIsRead }
+{}
+
+fn comp_fits(comp: &Comp)
+    ensures { IsComp comp.now }
+{
+    let _number = comp.0;
+}
+
+fn comps_fit(comps: &[Comp])
+    ensures { AreComps comps.now }
+{
+    if let Some((comp, others)) = comps.split_first() {
+        comp_fits(comp);
+        comps_fit(others);
+    }
+}
+
+fn group_fits(group: &Group)
+    ensures { IsGroup group.now }
+{
+    if let Group::One(comp) = group {
+        comp_fits(comp);
+    }
+}
+
+fn target_fits(target: &Target)
+    ensures { IsTarget target.now }
+{
+    if let Target::One(comp) = target {
+        comp_fits(comp);
+    }
+}
+
+fn op_fits(op: &Op)
+    ensures { IsOp op.now }
+{
+    match op {
+        Op::Start { comp, run, args } => {
+            let _number = run.0;
+            comp_fits(comp);
+            comps_fit(args.as_slice());
+        }
+        Op::Stop(group) | Op::Kill(group) => group_fits(group),
+        Op::Running(target) | Op::Alive(target) | Op::Done(target) | Op::Killed(target) => {
+            target_fits(target)
+        }
+        Op::Wait { target, .. } | Op::Wake { target, .. } => target_fits(target),
+        Op::Create { .. } | Op::SetVerdict(_) | Op::GetVerdict | Op::Finish => (),
+    }
+}
+
+fn reply_fits(reply: &Reply)
+    ensures { IsReply reply.now }
+{
+    if let Reply::Made(comp) = reply {
+        comp_fits(comp);
+    }
+}
+
+fn entry_fits(entry: &Entry)
+    ensures { IsEntry entry.now }
+{
+    let _number = entry.caller.0;
+    op_fits(&entry.op);
+    reply_fits(&entry.reply);
+}
+
+/// The numbers of entries are those of their types.
+pub fn entries_fit(entries: &[Entry])
+    ensures { AreEntries entries.now }
+{
+    let mut rest = entries;
+    while let Some((entry, others)) = rest.split_first() {
+        entry_fits(entry);
+        rest = others;
+    }
+}
