@@ -11,7 +11,7 @@ use Rattle.tc_table.specs.Local.{local, overall}
 use Rattle.tc_table.specs.Legal.{IsLegal, IsAllOver}
 use Rattle.tc_table.proofs.Over.{all_over}
 use Rattle.tc_book.specs.declared.closed.Closed.{Closed}
-use Rattle.tc_book.specs.declared.closed.RunLog.{RunLog}
+use Rattle.tc_merge.specs.declared.run_log.RunLog.{RunLog}
 use Rattle.tc_book.specs.Passes.{LeftState}
 use Rattle.tc_book.specs.Closing.{is_of_run, IsFitting, IsWhole}
 use Rattle.tc_book.specs.Parts.{part, log_of, log_if, logs_below, logged}

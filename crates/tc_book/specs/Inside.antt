@@ -6,7 +6,7 @@ use Rattle.tc_entry.specs.declared.op.Op.{Op}
 use Rattle.tc_entry.specs.declared.op.Op.TheVariants as O
 use Rattle.tc_entry.specs.declared.reply.Reply.{Reply}
 use Rattle.tc_entry.specs.declared.reply.Reply.TheVariants as R
-use Rattle.tc_book.specs.declared.closed.RunLog.{RunLog}
+use Rattle.tc_merge.specs.declared.run_log.RunLog.{RunLog}
 use Rattle.tc_book.specs.declared.places.Places.{Places}
 use Rattle.tc_table.specs.Legal.{IsLegal}
 use Rattle.tc_book.specs.Parts.{part, log_of}

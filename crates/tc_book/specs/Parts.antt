@@ -1,16 +1,12 @@
 -- The part of a history by one run, and the logs of all runs.
-use Rattle.std.specs.Prelude.{ℕ, zero, suc, ◌==◌, ◌++◌, ◌∷◌, [], Bool, Option, Some, None, List, length, reverse, filter, sum_by}
+use Rattle.std.specs.Prelude.{ℕ, zero, suc, ◌++◌, ◌∷◌, [], Option, Some, None, List, reverse}
 use Rattle.tc_entry.specs.declared.comp.Comp.{Comp}
 use Rattle.tc_entry.specs.declared.entry.Entry.{Entry}
 use Rattle.tc_table.specs.History.{comp_of}
-use Rattle.tc_book.specs.declared.closed.RunLog.{RunLog}
-
-abbrev pub is_by : ℕ → Entry → Bool
-is_by b e = e.caller.0 == b
-
--- the part of a history by run b: its entries, in their order
-unfoldable pub part : List Entry → ℕ → List Entry
-part history b = filter (is_by b) history
+use Rattle.tc_merge.specs.declared.run_log.RunLog.{RunLog}
+pub use Rattle.tc_merge.specs.Merge.{logged}
+unfoldable pub use Rattle.tc_merge.specs.Parts.{part}
+pub use Rattle.tc_merge.specs.Parts.{is_by}
 
 -- the log of run b with these entries, if it is on a component
 abbrev pub log_of : Option Comp → ℕ → List Entry → List RunLog
@@ -25,7 +21,3 @@ log_if comp history b = log_of comp b (part history b)
 abbrev pub logs_below : List Entry → ℕ → List RunLog
 logs_below history zero = []
 logs_below history (suc b) = logs_below history b ++ log_if (comp_of (reverse history) b) history b
-
--- how many entries these logs have together
-abbrev pub logged : List RunLog → ℕ
-logged logs = sum_by (λ log. length log.entries) logs

@@ -1,16 +1,6 @@
 //! The report of a closed case.
-use tc_entry::{Comp, Entry, Run, Sequence, Verdict};
-
-/// The entries of one run.
-#[derive(Drop)]
-pub struct RunLog {
-    /// The run.
-    pub run: Run,
-    /// The component that the run was started on.
-    pub comp: Comp,
-    /// The entries, the oldest first.
-    pub entries: Sequence<Entry>,
-}
+use tc_entry::{Entry, Sequence, Verdict};
+use tc_merge::RunLog;
 
 /// The report of a closed case.
 #[derive(Drop)]

@@ -18,12 +18,13 @@ mod starts;
 mod ticket;
 
 pub use case::{close_case, open_case};
-pub use closed::{CloseFault, Closed, RunLog};
+pub use closed::{CloseFault, Closed};
 pub use halt::Halt;
 pub use left::Left;
 pub use pass::Pass;
 pub use shared::Shared;
 pub use tc_entry::Sequence;
+pub use tc_merge::RunLog;
 pub use ticket::Ticket;
 
 #[cfg(test)]

@@ -8,10 +8,11 @@ ghost use Rattle.tc_book.specs.Inside.{KnowsStarts, KnowsParts, logs_from};
 ghost use Rattle.tc_book.specs.Parts.{log_of, logs_below, logged};
 ghost use Rattle.tc_book.specs.Report.{IsOneHistory};
 
-use crate::closed::{Closed, RunLog};
+use crate::closed::Closed;
 use crate::starts::comp_of;
 use std::alloc::{AllocError, Global};
 use tc_entry::{Args, Comp, Entry, Sequence, Verdict};
+use tc_merge::RunLog;
 use tc_table::Table;
 use tc_verdict::{NoMemory, Run};
 

@@ -3,7 +3,7 @@ use Rattle.std.specs.Prelude.{ℕ, ◌≡◌, ◌≢◌, ◌<◌, Some, None, Li
 use Rattle.tc_entry.specs.declared.comp.Comp.{Comp}
 use Rattle.tc_entry.specs.declared.entry.Entry.{Entry}
 use Rattle.tc_book.specs.declared.closed.Closed.{Closed}
-use Rattle.tc_book.specs.declared.closed.RunLog.{RunLog}
+use Rattle.tc_merge.specs.declared.run_log.RunLog.{RunLog}
 use Rattle.tc_table.specs.History.{comp_of}
 use Rattle.tc_verdict.specs.declared.run.Run.{Run}
 use Rattle.tc_book.specs.Closing.{IsWhole}

@@ -1,0 +1,7 @@
+pub mod Table
+pub mod InPlace
+pub mod Late
+pub mod PartOfMerge
+pub mod Length
+pub mod Kept
+mod WorkedCases

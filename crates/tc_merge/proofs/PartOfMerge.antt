@@ -1,0 +1,385 @@
+-- Each log is its run's part of the merge.
+use Rattle.std.proofs.Common.{◌≡◌, ◌≢◌, ℕ, zero, suc, ◌<◌, ◌≤◌, ◌==◌, if◌then◌else◌, Bool, true, false, Option, Some, None, List, [], ◌∷◌, ◌++◌, filter, reverse, refl, sym, ap, ◌∙◌, subst, append_assoc, eq-eqb, arith, ◌⊎◌, inl, inr}
+use Rattle.std.specs.List.{All}
+use Rattle.std.proofs.lemmas.Bool.{ne_eqb, cases_eq, cases_lt}
+use Rattle.std.proofs.lemmas.List.{append-nil, reverse-append, reverse-reverse}
+use Rattle.std.proofs.lemmas.List.Elements.{filter-append}
+use Rattle.tc_verdict.specs.declared.run.Run.{Run}
+use Rattle.tc_entry.specs.declared.comp.Comp.{Comp}
+use Rattle.tc_entry.specs.declared.entry.Entry.{Entry}
+use Rattle.tc_entry.specs.declared.op.Op.{Op}
+use Rattle.tc_entry.specs.declared.op.Op.TheVariants as O
+use Rattle.tc_table.specs.History.{comp_of, first_some, is_ended, is_ok, starts_run}
+use Rattle.tc_merge.specs.declared.run_log.RunLog.{RunLog}
+use Rattle.tc_merge.specs.Merge.{is_other, is_late, is_verdict_call, head, after_other, after_others, count_of, follows, started, run_of, head_at_start, in_place, late, log_of, end_of, merge}
+use Rattle.tc_merge.specs.Parts.{is_by, part}
+use Rattle.tc_merge.specs.OneCase.{AreByStarted, AreStartedOnce, AreOfOneCase, stops_when_late}
+use Rattle.tc_merge.proofs.InPlace.{follows_same, follows_more}
+use Rattle.tc_merge.proofs.Table.{log_of-beyond}
+
+-- the part of a history by run b, as it computes
+abbrev pub entries_by : List Entry → ℕ → List Entry
+entries_by h b = filter (is_by b) h
+
+-- every entry is by run b
+abbrev AllBy : ℕ → List Entry → Type 0
+AllBy b [] = Unit {0}
+AllBy b (e ∷ es) = (e.caller.0 ≡ b) × AllBy b es
+
+all_by : (b : ℕ) (xs : List Entry) → All (λ e. e.caller.0 ≡ b) xs → AllBy b xs
+all_by b [] h = tt
+all_by b (e ∷ es) h = (h 0 e (omega arith), all_by b es (λ k d q. h (suc k) d (omega arith)))
+
+abbrev others : List Entry → List Entry
+others log = filter is_other log
+
+abbrev is_run : Option Run → ℕ → Bool
+is_run (Some run) b = run.0 == b
+is_run None b = false
+
+-- the component on which the entry starts run b
+abbrev starts_in : Entry → ℕ → Option Comp
+starts_in e b = if is_ok e.reply then starts_run e.op b else None
+
+starts_none : (ok : Bool) (op : Op) (b : ℕ) → is_run (if ok then run_of op else None) b ≡ false → (if ok then starts_run op b else None) ≡ None
+starts_none false op b h = refl
+starts_none true (O.Start c run args) b h = rw h refl
+starts_none true _ b h = refl
+
+starts_some : (ok : Bool) (op : Op) (b : ℕ) (run : Run) → (if ok then run_of op else None) ≡ Some run → run.0 ≡ b → (if ok then starts_run op b else None) ≢ None
+starts_some false op b run is same = absurd cc
+starts_some true (O.Start c r args) b run is same =
+    let k : r ≡ run = cc in
+    let test : (r.0 == b) ≡ true = eq-eqb r.0 b (ap (λ (x : Run). x.0) k ∙ same) in
+    λ h. let q : Some c ≡ None = rw test at h in cc
+starts_some true _ b run is same = absurd cc
+
+kept_some : (o p : Option Comp) → o ≢ None → first_some o p ≢ None
+kept_some (Some c) p some = some
+kept_some None p some = absurd (some refl)
+
+bool_or : (b : Bool) → (b ≡ true) ⊎ (b ≡ false)
+bool_or true = inl refl
+bool_or false = inr refl
+
+-- what is not too late
+abbrev keep : List Entry → List Entry
+keep [] = []
+keep (e ∷ es) = if is_late e then keep es else e ∷ keep es
+
+-- from the next other entry on
+abbrev from_other : List Entry → List Entry
+from_other [] = []
+from_other (e ∷ es) = if is_other e then e ∷ es else from_other es
+
+by_if : (b : ℕ) (t : Bool) (xs ys : List Entry) → AllBy b xs → AllBy b ys → AllBy b (if t then xs else ys)
+by_if b true xs ys p q = p
+by_if b false xs ys p q = q
+
+by_after_other : (b : ℕ) (xs : List Entry) → AllBy b xs → AllBy b (after_other xs)
+by_after_other b [] p = p
+by_after_other b (e ∷ es) p = by_if b (is_other e) es (after_other es) p.1 (by_after_other b es p.1)
+
+by_after_others : (b k : ℕ) (xs : List Entry) → AllBy b xs → AllBy b (after_others k xs)
+by_after_others b zero xs p = p
+by_after_others b (suc k) xs p = by_after_other b (after_others k xs) (by_after_others b k xs p)
+
+by_head : (b : ℕ) (xs : List Entry) → AllBy b xs → AllBy b (head xs)
+by_head b [] p = p
+by_head b (e ∷ es) p =
+    by_if b (is_other e) [] _ tt (by_if b (is_late e) (head es) (e ∷ head es) (by_head b es p.1) (p.0, by_head b es p.1))
+
+pub part_same : (h : List Entry) (e : Entry) (b : ℕ) → e.caller.0 ≡ b → entries_by (e ∷ h) b ≡ e ∷ entries_by h b
+part_same h e b same = let test : (e.caller.0 == b) ≡ true = eq-eqb e.caller.0 b same in rw test refl
+
+pub part_miss : (h : List Entry) (e : Entry) (b : ℕ) → e.caller.0 ≢ b → entries_by (e ∷ h) b ≡ entries_by h b
+part_miss h e b other = let test : (e.caller.0 == b) ≡ false = ne_eqb e.caller.0 b other in rw test refl
+
+part_all : (b : ℕ) (xs : List Entry) → AllBy b xs → entries_by xs b ≡ xs
+part_all b [] p = refl
+part_all b (e ∷ es) p = part_same es e b p.0 ∙ ap (λ l. e ∷ l) (part_all b es p.1)
+
+part_none : (b c : ℕ) (xs : List Entry) → AllBy c xs → c ≢ b → entries_by xs b ≡ []
+part_none b c [] p other = refl
+part_none b c (e ∷ es) p other = part_miss es e b (λ h. other (sym p.0 ∙ h)) ∙ part_none b c es p.1 other
+
+part_append : (b : ℕ) (xs ys : List Entry) → entries_by (xs ++ ys) b ≡ entries_by xs b ++ entries_by ys b
+part_append b xs ys = filter-append (is_by b) xs ys
+
+-- the head of a list and what is kept from its next other entry on
+head_and_kept : (xs : List Entry) → head xs ++ keep (from_other xs) ≡ keep xs
+head_and_kept [] = refl
+head_and_kept (e ∷ es) =
+    elim (bool_or (is_verdict_call e.op)) [
+      | inl s ↦ elim (bool_or (is_ended e.reply)) [
+        | inl n ↦ rw (s, n) (head_and_kept es)
+        | inr n ↦ rw (s, n) (ap (λ l. e ∷ l) (head_and_kept es))
+      ]
+      | inr s ↦ rw (s, s) refl
+    ]
+
+-- the next other entry of a list, where it is known
+pub record NextIs (xs : List Entry) (e : Entry) (ys : List Entry) : Type 0 where
+  pub at : from_other xs ≡ e ∷ after_other xs
+  pub rest : others (after_other xs) ≡ ys
+  pub other : is_verdict_call e.op ≡ false
+
+next_is : (xs : List Entry) (e : Entry) (ys : List Entry) → others xs ≡ e ∷ ys → NextIs xs e ys
+next_is [] e ys h = absurd cc
+next_is (x ∷ xs) e ys h =
+    elim (bool_or (is_verdict_call x.op)) [
+      | inl s ↦ let k = next_is xs e ys (rw s at h) in record { at = rw s k.at; rest = rw s k.rest; other = k.other }
+      | inr s ↦ let k : x ∷ others xs ≡ e ∷ ys = rw s at h in
+          let here : x ≡ e = cc in let there : others xs ≡ ys = cc in
+          record { at = rw s (ap (λ y. y ∷ xs) here); rest = rw s there; other = subst (λ y. is_verdict_call y.op ≡ false) here s }
+    ]
+
+none_left : (xs : List Entry) → others xs ≡ [] → from_other xs ≡ []
+none_left [] h = refl
+none_left (x ∷ xs) h =
+    elim (bool_or (is_verdict_call x.op)) [
+      | inl s ↦ rw s (none_left xs (rw s at h))
+      | inr s ↦ let k : x ∷ others xs ≡ [] = rw s at h in absurd cc
+    ]
+
+-- where nothing follows a late entry, it is the last
+keep_and_late : (xs : List Entry) → stops_when_late xs ≡ true → keep xs ++ filter is_late xs ≡ xs
+keep_and_late [] h = refl
+keep_and_late (e ∷ []) h = elim (bool_or (is_verdict_call e.op)) [
+  | inl s ↦ elim (bool_or (is_ended e.reply)) [ inl n ↦ rw (s, n) refl | inr n ↦ rw (s, n) refl ]
+  | inr s ↦ rw s refl
+]
+keep_and_late (e ∷ x ∷ xs) h = elim (bool_or (is_verdict_call e.op)) [
+  | inl s ↦ elim (bool_or (is_ended e.reply)) [
+    | inl n ↦ let q : false ≡ true = rw (s, n) at h in absurd cc
+    | inr n ↦ rw (s, n) (ap (λ l. e ∷ l) (keep_and_late (x ∷ xs) (rw (s, n) at h)))
+  ]
+  | inr s ↦ rw s (ap (λ l. e ∷ l) (keep_and_late (x ∷ xs) (rw s at h)))
+]
+
+part_of_more : (b : ℕ) (e : Entry) (past rest : List Entry) → entries_by (reverse (e ∷ past) ++ rest) b ≡ entries_by (reverse past ++ e ∷ rest) b
+part_of_more b e past rest = ap (λ l. entries_by l b) (ap (λ l. l ++ rest) (reverse-append (e ∷ []) past) ∙ append_assoc (reverse past) (e ∷ []) rest)
+
+-- the other entries that follow are those that the table is still to make
+align : (b : ℕ) (log : ℕ → List Entry) (past rest : List Entry) → others (log b) ≡ entries_by (reverse past ++ rest) b → others (follows log past b) ≡ entries_by rest b
+align b log [] rest h = h
+align b log (e ∷ past) rest h =
+    let k : others (follows log past b) ≡ entries_by (e ∷ rest) b = align b log past (e ∷ rest) (h ∙ part_of_more b e past rest) in
+    elim (cases_eq e.caller.0 b) [
+      | inl same ↦ let f : follows log (e ∷ past) b ≡ after_other (follows log past b) =
+          subst (λ c. follows log (e ∷ past) c ≡ after_other (follows log past c)) same (follows_more log past e) in
+          rw f (next_is (follows log past b) e (entries_by rest b) (k ∙ part_same rest e b same)).rest
+      | inr other ↦ rw (follows_same log past e b other) (k ∙ part_miss rest e b other)
+    ]
+
+-- the entry starts run b
+pub record Opens (b : ℕ) (log : ℕ → List Entry) (o : Option Run) : Type 0 where
+  pub run : Run
+  pub is : o ≡ Some run
+  pub same : run.0 ≡ b
+  pub said : entries_by (head_at_start log o) b ≡ head (log b)
+
+-- it does not
+pub record Skips (b : ℕ) (log : ℕ → List Entry) (o : Option Run) : Type 0 where
+  pub not : is_run o b ≡ false
+  pub said : entries_by (head_at_start log o) b ≡ []
+
+opens_or : (b : ℕ) (log : ℕ → List Entry) (o : Option Run) → ((c : ℕ) → AllBy c (log c)) → Opens b log o ⊎ Skips b log o
+opens_or b log None own = inr (record { not = refl; said = refl })
+opens_or b log (Some run) own =
+    elim (cases_eq run.0 b) [
+      | inl same ↦ inl (record {
+        run = run;
+        is = refl;
+        same = same;
+        said = subst (λ c. entries_by (head (log c)) b ≡ head (log b)) (sym same) (part_all b (head (log b)) (by_head b (log b) (own b)));
+      })
+      | inr other ↦ inr (record {
+        not = ne_eqb run.0 b other;
+        said = part_none b run.0 (head (log run.0)) (by_head run.0 (log run.0) (own run.0)) other;
+      })
+    ]
+
+-- run b after the entries of past: nothing of it is placed, or what is placed and what follows make its log
+pub record Before (log : ℕ → List Entry) (past : List Entry) (b : ℕ) : Type 0 where
+  pub closed : comp_of past b ≡ None
+  pub none : entries_by (in_place log past) b ≡ []
+  pub whole : follows log past b ≡ log b
+
+pub record After (log : ℕ → List Entry) (past : List Entry) (b : ℕ) : Type 0 where
+  pub opened : comp_of past b ≢ None
+  pub made : entries_by (in_place log past) b ++ keep (from_other (follows log past b)) ≡ keep (log b)
+
+opening : (b : ℕ) (log : ℕ → List Entry) → ((c : ℕ) → AllBy c (log c)) → Before log [] b ⊎ After log [] b
+opening b log own =
+    elim (cases_eq b 0) [
+      | inl is ↦ inr (record {
+        opened = let test : (b == 0) ≡ true = eq-eqb b 0 is in λ h. let zero_comp : Comp = record { 0 = 0 } in let q : Some zero_comp ≡ None = rw test at h in cc;
+        made = let p : entries_by (head (log 0)) b ≡ head (log b) =
+            subst (λ c. entries_by (head (log c)) b ≡ head (log b)) is (part_all b (head (log b)) (by_head b (log b) (own b))) in
+            rw p (head_and_kept (log b));
+      })
+      | inr other ↦ inl (record {
+        closed = let test : (b == 0) ≡ false = ne_eqb b 0 other in rw test refl;
+        none = part_none b 0 (head (log 0)) (by_head 0 (log 0) (own 0)) (λ h. other (sym h));
+        whole = refl;
+      })
+    ]
+
+by_follows : (log : ℕ → List Entry) (past : List Entry) (c : ℕ) → AllBy c (log c) → AllBy c (head (follows log past c))
+by_follows log past c own = by_head c (follows log past c) (by_after_others c (count_of past c) (log c) own)
+
+placed_other : (b : ℕ) (log : ℕ → List Entry) (past : List Entry) (e : Entry) → AllBy e.caller.0 (log e.caller.0) → e.caller.0 ≢ b →
+    entries_by (in_place log (e ∷ past)) b ≡ entries_by (in_place log past) b ++ entries_by (head_at_start log (started e)) b
+placed_other b log past e own other =
+    let said : List Entry = head (follows log (e ∷ past) e.caller.0) in
+    let start : List Entry = head_at_start log (started e) in
+    let p : entries_by (e ∷ said ++ start) b ≡ entries_by start b =
+    part_miss (said ++ start) e b other ∙ (part_append b said start ∙ ap (λ l. l ++ entries_by start b) (part_none b e.caller.0 said (by_follows log (e ∷ past) e.caller.0 own) other)) in
+    part_append b (in_place log past) (e ∷ said ++ start) ∙ ap (λ l. entries_by (in_place log past) b ++ l) p
+
+placed_same : (b : ℕ) (log : ℕ → List Entry) (past : List Entry) (e : Entry) → AllBy b (log b) → e.caller.0 ≡ b →
+    entries_by (head_at_start log (started e)) b ≡ [] →
+    entries_by (in_place log (e ∷ past)) b ≡ entries_by (in_place log past) b ++ (e ∷ head (follows log (e ∷ past) b))
+placed_same b log past e own same none =
+    let said : List Entry = head (follows log (e ∷ past) e.caller.0) in
+    let start : List Entry = head_at_start log (started e) in
+    let q : entries_by said b ≡ head (follows log (e ∷ past) b) =
+    subst (λ c. entries_by (head (follows log (e ∷ past) c)) b ≡ head (follows log (e ∷ past) b)) (sym same)
+    (part_all b (head (follows log (e ∷ past) b)) (by_follows log (e ∷ past) b own)) in
+    let r : entries_by (said ++ start) b ≡ head (follows log (e ∷ past) b) =
+    part_append b said start ∙ rw (q, none) (append-nil (head (follows log (e ∷ past) b))) in
+    let p : entries_by (e ∷ said ++ start) b ≡ e ∷ head (follows log (e ∷ past) b) =
+    part_same (said ++ start) e b same ∙ ap (λ l. e ∷ l) r in
+    part_append b (in_place log past) (e ∷ said ++ start) ∙ ap (λ l. entries_by (in_place log past) b ++ l) p
+
+keep_other : (e : Entry) (es : List Entry) → is_verdict_call e.op ≡ false → keep (e ∷ es) ≡ e ∷ keep es
+keep_other e es h = rw h refl
+
+grown : (p x y k l : List Entry) (e : Entry) → p ++ (e ∷ k) ≡ l → x ++ y ≡ k → (p ++ (e ∷ x)) ++ y ≡ l
+grown p x y k l e h g = append_assoc p (e ∷ x) y ∙ (ap (λ z. p ++ (e ∷ z)) g ∙ h)
+
+was_closed : (b : ℕ) (log : ℕ → List Entry) (past : List Entry) (e : Entry) → Opens b log (started e) →
+    ((run : Run) → started e ≡ Some run → comp_of past run.0 ≡ None) → comp_of past b ≡ None
+was_closed b log past e o fresh = subst (λ c. comp_of past c ≡ None) o.same (fresh o.run o.is)
+
+opened_by : (b : ℕ) (log : ℕ → List Entry) (past : List Entry) (e : Entry) → Opens b log (started e) → comp_of past b ≡ None → comp_of (e ∷ past) b ≢ None
+opened_by b log past e o closed =
+    let some : starts_in e b ≢ None = starts_some (is_ok e.reply) e.op b o.run o.is o.same in
+    λ h. some (sym (ap (λ c. first_some c (starts_in e b)) closed) ∙ h)
+
+still_closed : (b : ℕ) (log : ℕ → List Entry) (past : List Entry) (e : Entry) → Skips b log (started e) → comp_of past b ≡ None → comp_of (e ∷ past) b ≡ None
+still_closed b log past e s closed =
+    ap (λ c. first_some c (starts_in e b)) closed ∙ starts_none (is_ok e.reply) e.op b s.not
+
+step : (b : ℕ) (log : ℕ → List Entry) (past rest : List Entry) (e : Entry) → ((c : ℕ) → AllBy c (log c)) →
+    comp_of past e.caller.0 ≢ None → ((run : Run) → started e ≡ Some run → comp_of past run.0 ≡ None) →
+    others (follows log past b) ≡ entries_by (e ∷ rest) b →
+    Before log past b ⊎ After log past b → Before log (e ∷ past) b ⊎ After log (e ∷ past) b
+step b log past rest e own caller fresh next (inl before) =
+    let other : e.caller.0 ≢ b = λ same. caller (ap (comp_of past) same ∙ before.closed) in
+    let w : entries_by (in_place log (e ∷ past)) b ≡ entries_by (head_at_start log (started e)) b =
+    placed_other b log past e (own e.caller.0) other ∙ ap (λ l. l ++ entries_by (head_at_start log (started e)) b) before.none in
+    let f : follows log (e ∷ past) b ≡ log b = follows_same log past e b other ∙ before.whole in
+    elim (opens_or b log (started e) own) [
+      | inl o ↦ inr (record {
+        opened = opened_by b log past e o before.closed;
+        made = rw (w, o.said, f) (head_and_kept (log b));
+      })
+      | inr s ↦ inl (record {
+        closed = still_closed b log past e s before.closed;
+        none = w ∙ s.said;
+        whole = f;
+      })
+    ]
+step b log past rest e own caller fresh next (inr after) =
+    elim (opens_or b log (started e) own) [
+      | inl o ↦ absurd (after.opened (was_closed b log past e o fresh))
+      | inr s ↦ elim (cases_eq e.caller.0 b) [
+        | inl same ↦ inr (record {
+          opened = kept_some (comp_of past b) (starts_in e b) after.opened;
+          made =
+              let n = next_is (follows log past b) e (entries_by rest b) (next ∙ part_same rest e b same) in
+              let f : follows log (e ∷ past) b ≡ after_other (follows log past b) =
+              subst (λ c. follows log (e ∷ past) c ≡ after_other (follows log past c)) same (follows_more log past e) in
+              let k : keep (from_other (follows log past b)) ≡ e ∷ keep (follows log (e ∷ past) b) =
+              ap keep n.at ∙ (keep_other e (after_other (follows log past b)) n.other ∙ ap (λ l. e ∷ keep l) (sym f)) in
+              rw (placed_same b log past e (own b) same s.said)
+              (grown (entries_by (in_place log past) b) (head (follows log (e ∷ past) b)) (keep (from_other (follows log (e ∷ past) b)))
+              (keep (follows log (e ∷ past) b)) (keep (log b)) e (sym (ap (λ l. entries_by (in_place log past) b ++ l) k) ∙ after.made) (head_and_kept (follows log (e ∷ past) b)));
+        })
+        | inr other ↦ inr (record {
+          opened = kept_some (comp_of past b) (starts_in e b) after.opened;
+          made = rw (placed_other b log past e (own e.caller.0) other, s.said, append-nil, follows_same log past e b other) after.made;
+        })
+      ]
+    ]
+
+steps : (b : ℕ) (log : ℕ → List Entry) (past rest : List Entry) → ((c : ℕ) → AllBy c (log c)) → AreByStarted past → AreStartedOnce past →
+    others (log b) ≡ entries_by (reverse past ++ rest) b → Before log past b ⊎ After log past b
+steps b log [] rest own by_started once h = opening b log own
+steps b log (e ∷ past) rest own by_started once h =
+    let g : others (log b) ≡ entries_by (reverse past ++ e ∷ rest) b = h ∙ part_of_more b e past rest in
+    step b log past rest e own by_started.0 once.0 (align b log past (e ∷ rest) g) (steps b log past (e ∷ rest) own by_started.1 once.1 g)
+
+by_late : (b : ℕ) (xs : List Entry) → AllBy b xs → AllBy b (filter is_late xs)
+by_late b [] p = p
+by_late b (e ∷ es) p = by_if b (is_late e) (e ∷ filter is_late es) (filter is_late es) (p.0, by_late b es p.1) (by_late b es p.1)
+
+late_below : (b : ℕ) (log : ℕ → List Entry) (n : ℕ) → ((c : ℕ) → AllBy c (log c)) → n ≤ b → entries_by (late log n) b ≡ []
+unfolding late
+late_below b log zero own h = refl
+late_below b log (suc k) own h =
+    let other : k ≢ b = omega arith in
+    part_append b (late log k) (filter is_late (log k))
+    ∙ (ap (λ l. l ++ entries_by (filter is_late (log k)) b) (late_below b log k own (omega arith)) ∙ part_none b k (filter is_late (log k)) (by_late k (log k) (own k)) other)
+
+late_at : (b : ℕ) (log : ℕ → List Entry) (n : ℕ) → ((c : ℕ) → AllBy c (log c)) → b < n → entries_by (late log n) b ≡ filter is_late (log b)
+unfolding late
+late_at b log zero own h = absurd (omega arith)
+late_at b log (suc k) own h =
+    elim (cases_eq k b) [
+      | inl same ↦ part_append b (late log k) (filter is_late (log k))
+          ∙ (ap (λ l. l ++ entries_by (filter is_late (log k)) b) (late_below b log k own (omega arith))
+          ∙ subst (λ c. entries_by (filter is_late (log c)) b ≡ filter is_late (log b)) (sym same) (part_all b (filter is_late (log b)) (by_late b (log b) (own b))))
+      | inr other ↦ part_append b (late log k) (filter is_late (log k))
+          ∙ (ap (λ l. entries_by (late log k) b ++ l) (part_none b k (filter is_late (log k)) (by_late k (log k) (own k)) other)
+          ∙ (append-nil (entries_by (late log k) b) ∙ late_at b log k own (omega arith)))
+    ]
+
+late_part : (b n : ℕ) (log : ℕ → List Entry) → ((c : ℕ) → AllBy c (log c)) → ((c : ℕ) → n ≤ c → log c ≡ []) → entries_by (late log n) b ≡ filter is_late (log b)
+late_part b n log own few =
+    elim (cases_lt b n) [
+      | inl below ↦ late_at b log n own below
+      | inr above ↦ late_below b log n own above ∙ sym (ap (λ l. filter is_late l) (few b above))
+    ]
+
+as_entries_by : (h : List Entry) (b : ℕ) → part h b ≡ entries_by h b
+unfolding part
+as_entries_by h b = refl
+
+-- each log is its run's part of the merge
+pub part-merge : (history : List Entry) (logs : List RunLog) → AreOfOneCase history logs → (b : ℕ) → part (merge history logs) b ≡ log_of logs b
+unfolding merge
+part-merge history logs one b =
+    let past : List Entry = reverse history in
+    let log : ℕ → List Entry = log_of logs in
+    let n : ℕ = end_of logs in
+    let own : (c : ℕ) → AllBy c (log c) = λ c. all_by c (log c) (one.own c) in
+    let few : (c : ℕ) → n ≤ c → log c ≡ [] = λ c beyond. log_of-beyond logs c beyond in
+    let h : others (log b) ≡ entries_by (reverse past ++ []) b =
+    one.others b ∙ (as_entries_by history b ∙ sym (ap (λ l. entries_by l b) (append-nil (reverse past) ∙ reverse-reverse history))) in
+    let whole : entries_by (in_place log past ++ late log n) b ≡ entries_by (in_place log past) b ++ filter is_late (log b) =
+    part_append b (in_place log past) (late log n) ∙ ap (λ l. entries_by (in_place log past) b ++ l) (late_part b n log own few) in
+    as_entries_by (in_place log past ++ late log n) b ∙ (whole ∙ elim (steps b log past [] own one.started one.once h) [
+      | inl before ↦ let e : log b ≡ [] = one.unstarted b before.closed in rw (before.none, e) refl
+      | inr after ↦
+          let none : from_other (follows log past b) ≡ [] = none_left (follows log past b) (align b log past [] h) in
+          let k : entries_by (in_place log past) b ≡ keep (log b) =
+          sym (append-nil (entries_by (in_place log past) b)) ∙ (sym (ap (λ l. entries_by (in_place log past) b ++ keep l) none) ∙ after.made) in
+          ap (λ l. l ++ filter is_late (log b)) k ∙ keep_and_late (log b) (one.stop b)
+    ])
+
+pub merge-is : (history : List Entry) (logs : List RunLog) → merge history logs ≡ in_place (log_of logs) (reverse history) ++ late (log_of logs) (end_of logs)
+unfolding merge
+merge-is history logs = refl

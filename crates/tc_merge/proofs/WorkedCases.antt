@@ -1,0 +1,176 @@
+-- A worked case, computed from the definitions alone.
+use Rattle.std.proofs.Common.{ℕ, zero, suc, ◌<◌, ◌≡◌, ◌≢◌, ◌==◌, true, false, Option, Some, None, List, [], ◌∷◌, filter, get_or, length, reverse, refl, sym, ap, subst, arith, ◌∙◌}
+use Rattle.std.specs.List.{All, AllByRecursion}
+use Rattle.std.proofs.lemmas.Bool.{ne_eqb}
+use Rattle.tc_verdict.specs.declared.run.Run.{Run}
+use Rattle.tc_verdict.specs.declared.user_verdict.UserVerdict.{UserVerdict}
+use Rattle.tc_verdict.specs.declared.user_verdict.UserVerdict.TheVariants as U
+use Rattle.tc_verdict.specs.declared.verdict.Verdict.TheVariants as V
+use Rattle.tc_entry.specs.declared.comp.Comp.{Comp}
+use Rattle.tc_entry.specs.declared.entry.Entry.{Entry}
+use Rattle.tc_entry.specs.declared.op.Group.TheVariants as G
+use Rattle.tc_entry.specs.declared.op.Op.{Op}
+use Rattle.tc_entry.specs.declared.op.Op.TheVariants as O
+use Rattle.tc_entry.specs.declared.reply.Reply.{Reply}
+use Rattle.tc_entry.specs.declared.reply.Reply.TheVariants as R
+use Rattle.tc_table.specs.History.{comp_of, exists}
+use Rattle.tc_table.specs.Phases.{phase}
+use Rattle.tc_table.specs.Status.{running, alive, done, killed}
+use Rattle.tc_table.specs.Waiting.{holds, is_stuck}
+use Rattle.tc_table.specs.Faults.{all_exist, start_fault, components, fault}
+use Rattle.tc_table.specs.Answers.{is_active, answer}
+use Rattle.tc_table.specs.Legal.{IsLegal}
+use Rattle.tc_table.specs.Local.{local, overall}
+use Rattle.tc_merge.specs.declared.run_log.RunLog.{RunLog}
+use Rattle.tc_merge.specs.Merge.{is_other, log_of, merge, late}
+use Rattle.tc_merge.specs.Parts.{part}
+use Rattle.tc_merge.specs.OneCase.{AreOfOneCase, stops_when_late}
+
+abbrev entry : ℕ → Op → Reply → Entry
+entry b op r = record { caller = record { 0 = b }; op = op; reply = r }
+
+abbrev comp : ℕ → Comp
+comp c = record { 0 = c }
+
+abbrev run : ℕ → Run
+run b = record { 0 = b }
+
+abbrev set : ℕ → UserVerdict → Reply → Entry
+set b v r = entry b (O.SetVerdict v) r
+
+abbrev get : ℕ → Reply → Entry
+get b r = entry b O.GetVerdict r
+
+abbrev create : Entry
+create = entry 0 (O.Create true) (R.Made (comp 1))
+
+abbrev start : ℕ → Entry
+start b = entry 0 (O.Start (comp 1) (run b) []) R.Ok
+
+abbrev stop : Entry
+stop = entry 0 (O.Stop (G.One (comp 1))) R.Ok
+
+abbrev finish : Entry
+finish = entry 0 O.Finish R.Ok
+
+abbrev history : List Entry
+history = create ∷ start 1 ∷ stop ∷ start 2 ∷ finish ∷ []
+
+abbrev main_log : RunLog
+main_log = record {
+  run = run 0;
+  comp = comp 0;
+  entries = set 0 U.None R.Ok ∷ create ∷ start 1 ∷ get 0 (R.Local V.None) ∷ stop ∷ start 2 ∷ finish ∷ [];
+}
+
+abbrev first_log : RunLog
+first_log = record { run = run 1; comp = comp 1; entries = set 1 U.Inconc R.Ok ∷ set 1 U.Fail R.Ended ∷ [] }
+
+abbrev second_log : RunLog
+second_log = record { run = run 2; comp = comp 1; entries = get 2 (R.Local V.Inconc) ∷ set 2 U.Pass R.Ok ∷ get 2 R.Ended ∷ [] }
+
+abbrev merged : List Entry
+merged =
+    set 0 U.None R.Ok ∷ create ∷ start 1 ∷ get 0 (R.Local V.None) ∷ set 1 U.Inconc R.Ok ∷ stop ∷ start 2
+    ∷ get 2 (R.Local V.Inconc) ∷ set 2 U.Pass R.Ok ∷ finish ∷ set 1 U.Fail R.Ended ∷ get 2 R.Ended ∷ []
+
+merge_of_three_logs : merge history (second_log ∷ main_log ∷ first_log ∷ []) ≡ merged
+unfolding merge late
+merge_of_three_logs = refl
+
+merged_in_order : merge history (main_log ∷ first_log ∷ second_log ∷ []) ≡ merged
+unfolding merge late
+merged_in_order = refl
+
+merge_of_nothing : merge [] [] ≡ []
+unfolding merge late
+merge_of_nothing = refl
+
+merged_is_legal : IsLegal 3 (reverse merged)
+unfolding exists phase running alive done killed local overall holds is_stuck all_exist start_fault components fault is_active answer
+merged_is_legal = (refl, (refl, (refl, (refl, (refl, (refl, (refl, (refl, (refl, (refl, (refl, (refl, tt))))))))))))
+
+merged_is_inconc : overall (reverse merged) ≡ V.Inconc
+unfolding exists phase running alive done killed local overall holds is_stuck all_exist start_fault components fault is_active answer
+merged_is_inconc = refl
+
+-- The history and the logs of the worked case come from one case.
+abbrev logs : List RunLog
+logs = second_log ∷ main_log ∷ first_log ∷ []
+
+by_recursion : (b : ℕ) (xs : List Entry) → AllByRecursion (λ e. e.caller.0 ≡ b) xs → All (λ e. e.caller.0 ≡ b) xs
+by_recursion b [] h = λ k d q. absurd (omega arith)
+by_recursion b (e ∷ es) h = at (by_recursion b es h.1)
+  where
+    at : All (λ e. e.caller.0 ≡ b) es → (k : ℕ) (d : Entry) → k < length (e ∷ es) → (get_or (e ∷ es) k d).caller.0 ≡ b
+    at rest zero d q = h.0
+    at rest (suc k) d q = rest k d (omega arith)
+
+-- b is the number of a run of the case, or no log has it
+pub record IsElse (b : ℕ) : Type 0 where
+  pub main : (0 == b) ≡ false
+  pub first : (1 == b) ≡ false
+  pub second : (2 == b) ≡ false
+
+by_number : (P : ℕ → Type 0) → P 0 → P 1 → P 2 → ((b : ℕ) → IsElse b → P b) → (b : ℕ) → P b
+by_number P main first second others zero = main
+by_number P main first second others (suc zero) = first
+by_number P main first second others (suc (suc zero)) = second
+by_number P main first second others (suc (suc (suc b))) =
+    others (suc (suc (suc b))) (record {
+      main = ne_eqb 0 (suc (suc (suc b))) (omega arith);
+      first = ne_eqb 1 (suc (suc (suc b))) (omega arith);
+      second = ne_eqb 2 (suc (suc (suc b))) (omega arith);
+    })
+
+some_is : (o : Option Comp) (c : Comp) → o ≡ Some c → o ≢ None
+some_is o c is none = let q : Some c ≡ None = sym is ∙ none in absurd cc
+
+fresh : (past : List Entry) (r : Run) (run : Run) → comp_of past r.0 ≡ None → Some r ≡ Some run → comp_of past run.0 ≡ None
+fresh past r run none is = let same : r ≡ run = cc in subst (λ (x : Run). comp_of past x.0 ≡ None) same none
+
+no_log : (b : ℕ) → IsElse b → log_of logs b ≡ []
+no_log b other = rw (other.second, other.main, other.first) refl
+
+no_part : (b : ℕ) → IsElse b → part history b ≡ []
+unfolding part
+no_part b other = rw other.main refl
+
+part_of_main : filter is_other (log_of logs 0) ≡ part history 0
+unfolding part
+part_of_main = refl
+
+part_of_first : filter is_other (log_of logs 1) ≡ part history 1
+unfolding part
+part_of_first = refl
+
+part_of_second : filter is_other (log_of logs 2) ≡ part history 2
+unfolding part
+part_of_second = refl
+
+three_logs_of_one_case : AreOfOneCase history logs
+three_logs_of_one_case = record {
+  started = (some_is _ (comp 0) refl, (some_is _ (comp 0) refl, (some_is _ (comp 0) refl, (some_is _ (comp 0) refl, (some_is _ (comp 0) refl, tt)))));
+  once = (
+    (λ r is. absurd cc),
+    (
+      (λ r is. fresh (stop ∷ start 1 ∷ create ∷ []) (run 2) r refl is),
+      (
+        (λ r is. absurd cc),
+        (
+          (λ r is. fresh (create ∷ []) (run 1) r refl is),
+          ((λ r is. absurd cc), tt),
+        ),
+      ),
+    ),
+  );
+  unstarted = by_number (λ b. comp_of (reverse history) b ≡ None → log_of logs b ≡ []) (λ h. absurd cc) (λ h. absurd cc) (λ h. absurd cc) (λ b other h. no_log b other);
+  own = by_number (λ b. All (λ e. e.caller.0 ≡ b) (log_of logs b))
+      (by_recursion 0 (log_of logs 0) (refl, (refl, (refl, (refl, (refl, (refl, (refl, tt))))))))
+      (by_recursion 1 (log_of logs 1) (refl, (refl, tt)))
+      (by_recursion 2 (log_of logs 2) (refl, (refl, (refl, tt))))
+      (λ b other. rw (no_log b other) (by_recursion b [] tt));
+  others = by_number (λ b. filter is_other (log_of logs b) ≡ part history b) part_of_main part_of_first part_of_second
+      (λ b other. ap (λ l. filter is_other l) (no_log b other) ∙ sym (no_part b other));
+  stop = by_number (λ b. stops_when_late (log_of logs b) ≡ true) refl refl refl (λ b other. ap stops_when_late (no_log b other));
+}

@@ -1,0 +1,9 @@
+use Rattle.std.proofs.Common.{◌≡◌, ◌++◌, ℕ, List}
+use Rattle.tc_entry.specs.declared.entry.Entry.{Entry}
+use Rattle.tc_merge.specs.Merge.{late}
+use Rattle.tc_merge.specs.Inside.{Has}
+use Rattle.tc_merge.proofs.merging.add_all_late.Given as goal
+
+-- those of the runs passed so far
+abbrev pub invariant-loop-entries : goal.invariant-loop-entries
+invariant-loop-entries l = (log : ℕ → List Entry) → Has l.logs log → l.all.items ≡ l.initial.all.items ++ late log l.entries-index

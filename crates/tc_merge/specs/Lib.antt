@@ -1,0 +1,4 @@
+pub mod Merge
+pub mod Parts
+pub mod OneCase
+pub mod Inside

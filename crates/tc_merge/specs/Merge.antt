@@ -1,0 +1,92 @@
+-- The merge of a history without verdict entries with the logs of its runs.
+-- `past` lists entries of the history, the newest first, and `log b` is the log of run b.
+use Rattle.std.specs.Prelude.{ℕ, zero, suc, ◌+◌, ◌==◌, ◌&&◌, not, max, if◌then◌else◌, Bool, true, false, Option, Some, None, List, [], ◌∷◌, ◌++◌, filter, length, reverse, sum_by}
+use Rattle.tc_entry.specs.declared.entry.Entry.{Entry}
+use Rattle.tc_entry.specs.declared.op.Op.{Op}
+use Rattle.tc_entry.specs.declared.op.Op.TheVariants as O
+use Rattle.tc_verdict.specs.declared.run.Run.{Run}
+use Rattle.tc_table.specs.History.{is_ended, is_ok}
+use Rattle.tc_merge.specs.declared.run_log.RunLog.{RunLog}
+use Rattle.tc_merge.specs.Parts.{is_by}
+
+-- an operation on verdicts: setverdict, getverdict
+abbrev pub is_verdict_call : Op → Bool
+is_verdict_call (O.SetVerdict v) = true
+is_verdict_call O.GetVerdict = true
+is_verdict_call _ = false
+
+-- every entry but a verdict entry
+abbrev pub is_other : Entry → Bool
+is_other e = not (is_verdict_call e.op)
+
+-- a verdict entry replied Ended
+abbrev pub is_late : Entry → Bool
+is_late e = is_verdict_call e.op && is_ended e.reply
+
+-- the log of run b; a run that no log names has the empty log
+abbrev pub log_of : List RunLog → ℕ → List Entry
+log_of [] b = []
+log_of (l ∷ ls) b = if l.run.0 == b then l.entries else log_of ls b
+
+-- one more than the greatest number of a run that has a log
+abbrev pub end_of : List RunLog → ℕ
+end_of [] = 0
+end_of (l ∷ ls) = max (l.run.0 + 1) (end_of ls)
+
+-- how many entries these logs have together
+abbrev pub logged : List RunLog → ℕ
+logged logs = sum_by (λ log. length log.entries) logs
+
+-- the verdict entries at the head of a log, up to its first other entry, without those replied Ended
+abbrev pub head : List Entry → List Entry
+head [] = []
+head (e ∷ es) = if is_other e then [] else if is_late e then head es else e ∷ head es
+
+-- what follows the first other entry of a log
+abbrev pub after_other : List Entry → List Entry
+after_other [] = []
+after_other (e ∷ es) = if is_other e then es else after_other es
+
+-- what follows the k-th other entry of a log; the whole log for none
+abbrev pub after_others : ℕ → List Entry → List Entry
+after_others zero log = log
+after_others (suc k) log = after_other (after_others k log)
+
+-- how many entries run b has
+abbrev pub count_of : List Entry → ℕ → ℕ
+count_of [] b = 0
+count_of (e ∷ past) b = if is_by b e then suc (count_of past b) else count_of past b
+
+-- what follows the last entry of run b in its log
+abbrev pub follows : (ℕ → List Entry) → List Entry → ℕ → List Entry
+follows log past b = after_others (count_of past b) (log b)
+
+-- the run that an operation starts
+abbrev pub run_of : Op → Option Run
+run_of (O.Start c run args) = Some run
+run_of _ = None
+
+-- the run that an entry starts, a Start replied Ok
+abbrev pub started : Entry → Option Run
+started e = if is_ok e.reply then run_of e.op else None
+
+-- the verdict entries at the head of the log of this run, if there is one
+abbrev pub head_at_start : (ℕ → List Entry) → Option Run → List Entry
+head_at_start log (Some run) = head (log run.0)
+head_at_start log None = []
+
+-- At the opening stand the verdict entries at the head of run 0's log. After each entry stand first the verdict entries
+-- that follow it in its caller's log, and then those at the head of the log of the run that it starts.
+abbrev pub in_place : (ℕ → List Entry) → List Entry → List Entry
+in_place log [] = head (log 0)
+in_place log (e ∷ past) =
+    in_place log past ++ (e ∷ head (follows log (e ∷ past) e.caller.0) ++ head_at_start log (started e))
+
+-- the verdict entries replied Ended of the runs below n, in the order of their numbers
+unfoldable pub late : (ℕ → List Entry) → ℕ → List Entry
+late log zero = []
+late log (suc b) = late log b ++ filter is_late (log b)
+
+-- the merge: what stands in its place, and at the end what was replied Ended
+unfoldable pub merge : List Entry → List RunLog → List Entry
+merge history logs = in_place (log_of logs) (reverse history) ++ late (log_of logs) (end_of logs)

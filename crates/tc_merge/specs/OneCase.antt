@@ -1,0 +1,50 @@
+-- When a history without verdict entries and logs come from one case.
+use Rattle.std.specs.Prelude.{ℕ, ◌≡◌, ◌≢◌, ◌≤◌, ◌==◌, if◌then◌else◌, Bool, true, false, Some, None, List, [], ◌∷◌, filter, reverse, All, count_by}
+use Rattle.tc_verdict.specs.declared.run.Run.{Run}
+use Rattle.tc_entry.specs.declared.entry.Entry.{Entry}
+use Rattle.tc_table.specs.History.{comp_of}
+use Rattle.tc_merge.specs.declared.run_log.RunLog.{RunLog}
+use Rattle.tc_merge.specs.Merge.{is_other, is_late, log_of, started}
+use Rattle.tc_merge.specs.Parts.{part}
+
+-- each entry is by a run that was started before it: run 0 is from the opening
+abbrev pub AreByStarted : List Entry → Type 0
+AreByStarted [] = Unit {0}
+AreByStarted (e ∷ past) = (comp_of past e.caller.0 ≢ None) × AreByStarted past
+
+-- no entry starts a run that was started before it
+abbrev pub AreStartedOnce : List Entry → Type 0
+AreStartedOnce [] = Unit {0}
+AreStartedOnce (e ∷ past) = ((run : Run) → started e ≡ Some run → comp_of past run.0 ≡ None) × AreStartedOnce past
+
+abbrev pub is_empty : List Entry → Bool
+is_empty [] = true
+is_empty (e ∷ es) = false
+
+-- nothing follows a verdict entry replied Ended
+abbrev pub stops_when_late : List Entry → Bool
+stops_when_late [] = true
+stops_when_late (e ∷ es) = if is_late e then is_empty es else stops_when_late es
+
+-- the history and the logs come from one case
+pub record AreOfOneCase (history : List Entry) (logs : List RunLog) : Type 0 where
+  -- each entry of the history is by a run that was started before it
+  pub started : AreByStarted (reverse history)
+  -- no run is started twice
+  pub once : AreStartedOnce (reverse history)
+  -- the log of a run that was never started is empty
+  pub unstarted : (b : ℕ) → comp_of (reverse history) b ≡ None → log_of logs b ≡ []
+  -- each entry of a log is by its run
+  pub own : (b : ℕ) → All (λ e. e.caller.0 ≡ b) (log_of logs b)
+  -- the other entries of a log are its run's entries of the history, in order
+  pub others : (b : ℕ) → filter is_other (log_of logs b) ≡ part history b
+  -- nothing follows a verdict entry replied Ended in its log
+  pub stop : (b : ℕ) → stops_when_late (log_of logs b) ≡ true
+
+-- this is a log of run b
+abbrev pub is_of_run : ℕ → RunLog → Bool
+is_of_run b l = l.run.0 == b
+
+-- no run has two logs
+abbrev pub IsOneEach : List RunLog → Type 0
+IsOneEach logs = (b : ℕ) → count_by (is_of_run b) logs ≤ 1

@@ -1,0 +1,14 @@
+//! One history from the table's history and the log of each run.
+#![tactic(auto)]
+
+mod by_run;
+mod entries;
+mod heads;
+mod merging;
+mod run_log;
+
+pub use merging::merge;
+pub use run_log::RunLog;
+
+#[cfg(test)]
+mod tests;
