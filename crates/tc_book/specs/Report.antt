@@ -13,9 +13,10 @@ use Rattle.tc_book.specs.Parts.{part, logs_below, logged}
 abbrev pub past_of_closed : Closed → List Entry
 past_of_closed c = reverse c.history
 
--- The report is one history of one thread. It holds every call that the runs made, each once and in its caller's order,
--- with the reply that the component table gives at that point; once an entry has ended the case no component is alive;
--- and the verdict is the worst of the local verdicts.
+-- The report is one history of one thread. Each reply is the component table's at that point, and the logs are the runs'
+-- parts of the history, which together hold each entry once, in its caller's order; once an entry has ended the case no
+-- component is alive; and the verdict is the worst of the local verdicts. Only of the history and its own parts is this
+-- said: that the logs are those of the passes that were left is IsWhole, and at the executor IsMadeOf.
 pub record IsOneHistory (c : Closed) : Type 0 where
   -- each reply is the component table's, by the calls before it
   pub legal : IsLegal c.behaviours (past_of_closed c)

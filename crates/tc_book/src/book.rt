@@ -3,6 +3,7 @@ ghost use Rattle.std.specs.Prelude.{◌≡◌, ◌≤◌, ◌≢◌, [], Some, N
 ghost use Rattle.tc_entry.specs.declared.op.Op.TheVariants as ops;
 ghost use Rattle.tc_entry.specs.declared.reply.Reply.TheVariants as replies;
 ghost use Rattle.tc_table.specs.History as history;
+ghost use Rattle.tc_table.specs.Legal.{IsLegal};
 ghost use Rattle.tc_book.specs.OpenCase.{past_of, reply_to, with_entry, places_at, with_wake, without_wake, without_leave, opening_place};
 ghost use Rattle.tc_book.specs.Replies.{suits, is_parked};
 ghost use Rattle.tc_book.specs.Starts as starts;
@@ -124,6 +125,7 @@ impl Book {
         ensures places { OnSome result (IsTrue (places_at self.old.places run).leave × (self.new.places ≡ set self.old.places run.0 (without_leave (places_at self.old.places run)))) }
         ensures quiet { IfSome result (λ r. IfNone r (IsTrue ended × (self.new.history ≡ self.old.history))) }
         ensures finish { IfSome result (λ f. IfSome f (λ r. IsFalse ended × (r ≡ reply_to self.old run ops.Finish) × (self.new.history ≡ with_entry self.old run ops.Finish r))) }
+        ensures suits { IfSome result (λ f. IfSome f (λ r. suits ops.Finish r ≡ true)) }
     {
         let was = places_of(&self.places, run);
         if !was.leave {
@@ -147,7 +149,8 @@ impl Book {
 
     /// The component and the arguments with which a run was started.
     pub fn start_of(&self, run: Run) -> Option<(Comp, Args)>
-        ensures { result ≡ starts.start_of (past_of self.now) run.0 }
+        ensures start { result ≡ starts.start_of (past_of self.now) run.0 }
+        ensures legal { IsLegal self.now.behaviours (past_of self.now) }
     {
         start_of(&self.starts, run)
     }

@@ -25,6 +25,7 @@ fn place(alloc: Global) -> Result<Vec<Entry>, NoMemory>
 }
 
 fn ticket_of(alloc: Global, shared: &Shared, run: Run) -> Result<Ticket, NoMemory>
+    requires { 0 < run.0 }
     ensures { IfOk result (λ t. t ≡ run) }
 {
     let log = place(alloc)?;

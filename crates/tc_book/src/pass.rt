@@ -286,7 +286,7 @@ impl Pass {
         ensures run { result.run ≡ self.run }
         ensures started { result.started ≡ Some (self.me, self.args) }
         ensures ended { has_ended self ≡ true → result.log ≡ self.log }
-        ensures finished { has_ended self ≡ false → (r : Reply) × (result.log ≡ (added self ops.Finish r).log) }
+        ensures finished { has_ended self ≡ false → (r : Reply) × (result.log ≡ (added self ops.Finish r).log) × (suits ops.Finish r ≡ true) }
     {
         let Pass {
             shared,

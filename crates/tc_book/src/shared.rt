@@ -1,5 +1,5 @@
 //! The lock and the condition of a case: each entry is added in one hold.
-ghost use Rattle.std.specs.Prelude.{◌≡◌, ◌≢◌, true, IfOk, is_none};
+ghost use Rattle.std.specs.Prelude.{◌≡◌, ◌≢◌, true, IfOk, IfSome, is_none};
 ghost use Rattle.tc_entry.specs.declared.op.Op.TheVariants as ops;
 ghost use Rattle.tc_entry.specs.declared.reply.Reply.TheVariants as replies;
 ghost use Rattle.tc_book.specs.Replies.{suits};
@@ -74,7 +74,8 @@ impl Shared {
 
     /// Gives up a run's place, with its Finish where its pass has not ended.
     pub(crate) fn leave<R: Wait>(&self, rt: &R, run: Run, ended: bool) -> Option<Reply>
-        ensures { is_none result ≡ ended }
+        ensures none { is_none result ≡ ended }
+        ensures suits { IfSome result (λ r. suits ops.Finish r ≡ true) }
     {
         let mut book = self.held.book.lock(rt);
         for _ in rt.forever() {

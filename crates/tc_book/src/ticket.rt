@@ -10,7 +10,7 @@ use std::sync::Wait;
 use tc_entry::Entry;
 use tc_verdict::Run;
 
-/// The right of one run to be started. Contracts see the run.
+/// The right of one run above 0 to be started. Contracts see the run.
 #[derive(Drop)]
 pub struct Ticket {
     shared: Shared,
@@ -27,11 +27,12 @@ impl Model for Ticket {
 
     ghost view = { λ t. t.run };
 
-    ghost invariant = { λ t. (t.log.items ≡ []) × (vec_len t.log < vec_capacity t.log) };
+    ghost invariant = { λ t. (0 < t.run.0) × (t.log.items ≡ []) × (vec_len t.log < vec_capacity t.log) };
 }
 
 impl Ticket {
     pub(crate) fn new(shared: Shared, run: Run, log: Vec<Entry>) -> Ticket
+        requires above { 0 < run.0 }
         requires empty { log.items ≡ [] }
         requires room { vec_len log < vec_capacity log }
         ensures { result ≡ run }
@@ -49,6 +50,7 @@ impl Ticket {
     /// The pass of the run once it was started, or what it leaves once the case is over without.
     pub fn await_start<R: Wait>(self, rt: &R) -> Result<Pass, Left>
         ensures pass { IfOk result (λ p. (p.run ≡ self) × (p.log ≡ [])) }
+        ensures above { IfOk result (λ p. 0 < p.run.0) }
         ensures left { IfErr result (λ l. l ≡ record { run = self; log = []; started = None }) }
     {
         let Ticket { shared, run, log } = self;

@@ -1,5 +1,5 @@
 //! A list that is read.
-ghost use Rattle.std.specs.Prelude.{◌≡◌, ◌++◌, ◌∷◌, [], OnOk};
+ghost use Rattle.std.specs.Prelude.{◌≡◌, ◌++◌, ◌∷◌, [], OnOk, OnErr};
 
 use std::marker::Model;
 use tc_verdict::NoMemory;
@@ -29,6 +29,7 @@ impl<T: Drop> Sequence<T> {
     /// Adds an item at the end.
     pub fn push(&mut self, item: T) -> Result<(), NoMemory>
         ensures added { OnOk result (self.new ≡ self.old ++ item ∷ []) }
+        ensures kept { OnErr result (self.new ≡ self.old) }
     {
         self.items.push(item)?;
         Ok(())

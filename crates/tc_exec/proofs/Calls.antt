@@ -18,7 +18,7 @@ use Rattle.tc_exec.specs.declared.refusal.CaseError.TheVariants.{NoMemory}
 use Rattle.tc_exec.specs.declared.job.Ending.{Ending}
 use Rattle.tc_exec.specs.declared.job.Ending.TheVariants as E
 use Rattle.tc_exec.specs.Case.{AreCalled, IsMadeOf}
-use Rattle.tc_exec.specs.Workers.{IsWorked, WasCalled, WasCalledFor, IsLeftBy, AreLeftBy, is_starved}
+use Rattle.tc_exec.specs.Workers.{IsWorked, WasCalled, WasCalledFor, IsLeftBy, AreLeftBy, is_starved, opening}
 
 -- memory was refused neither before nor now
 pub neither : (before now after : Bool) → after ≡ (before || now) → after ≡ false → (before ≡ false) × (now ≡ false)
@@ -40,6 +40,7 @@ module _ {B : Type 0} (outcome : B → PassState → Back → Type 0) where
         pass = w.pass;
         own = w.own;
         new = w.new;
+        main = w.main;
         called = record { back = called.back; outcome_of = called.outcome_of; left = called.left; ending = sym (came_back h.ending none) ∙ called.ending };
       })
 
@@ -83,7 +84,7 @@ module _ {B : Type 0} (outcome : B → PassState → Back → Type 0) where
   of_one : (history : List Entry) (run : Run) (b : B) (l : LeftState) → IsLeftBy outcome run b l → 0 < run.0 → IsFitting history l → comp_of (reverse history) run.0 ≢ None →
       WasCalledFor run (outcome b)
   of_one history run b l (inr w) above fits started =
-      record { pass = w.pass; own = w.own; new = w.new; back = w.called.back; outcome_of = w.called.outcome_of }
+      record { pass = w.pass; own = w.own; new = w.new; main = w.main; back = w.called.back; outcome_of = w.called.outcome_of }
   of_one history run b l (inl e) above fits started =
       let left : l ≡ record { run = run; log = []; started = None } = ap (λ h. h.left) e in
       let own : l.run ≡ run = ap (λ m. m.run) left in
@@ -106,12 +107,18 @@ module _ {B : Type 0} (outcome : B → PassState → Back → Type 0) where
       rw (← same) c
 
   -- what the main behaviour left, as the first of all
-  pub main_left : (p : PassState) (b : B) (h : Handed) → p.run ≡ record { 0 = 0 } → p.log ≡ [] → WasCalled (outcome b p) h →
+  pub main_left : (p : PassState) (b : B) (h : Handed) → p ≡ opening → WasCalled (outcome b p) h →
       is_starved h.ending ≡ false → AreLeftBy outcome (record { 0 = 0 } ∷ []) (b ∷ []) (h.left ∷ [])
-  main_left p b h own new called none = (left_by (record { 0 = 0 }) b h none (inr (record { pass = p; own = own; new = new; called = called })), tt)
+  main_left p b h is called none =
+      let own : p.run ≡ record { 0 = 0 } = ap (λ q. q.run) is in
+      let new : p.log ≡ [] = ap (λ q. q.log) is in
+      (left_by (record { 0 = 0 }) b h none (inr (record { pass = p; own = own; new = new; main = λ _. is; called = called })), tt)
 
-  pub main_called : (p : PassState) (b : B) (h : Handed) → p.run ≡ record { 0 = 0 } → p.log ≡ [] → WasCalled (outcome b p) h → WasCalledFor (record { 0 = 0 }) (outcome b)
-  main_called p b h own new called = record { pass = p; own = own; new = new; back = called.back; outcome_of = called.outcome_of }
+  pub main_called : (p : PassState) (b : B) (h : Handed) → p ≡ opening → WasCalled (outcome b p) h → WasCalledFor (record { 0 = 0 }) (outcome b)
+  main_called p b h is called =
+      let own : p.run ≡ record { 0 = 0 } = ap (λ q. q.run) is in
+      let new : p.log ≡ [] = ap (λ q. q.log) is in
+      record { pass = p; own = own; new = new; main = λ _. is; back = called.back; outcome_of = called.outcome_of }
 
   -- run 0, and then the others from 1 on
   pub numbered : (runs : List Run) → ((k : ℕ) (run : Run) → k < length runs → (get_or runs k run).0 ≡ k + 1) →

@@ -17,10 +17,10 @@ use Rattle.tc_book.specs.Starts.{start_of}
 abbrev pub WasStartedIn : List Entry → RunLog → Type 0
 WasStartedIn history log = 0 < log.run.0 → (args : List Comp) × (start_of (reverse history) log.run.0 ≡ Some (log.comp, args))
 
--- The report of a case of n behaviours. It has one history of one thread, which holds every call that the behaviours
--- made on their passes, each once and in its caller's order, with the reply that the component table gives at that
--- point; once an entry has ended the case no component is alive; the verdict is the worst of the local verdicts.
--- A behaviour other than that of run 0 has a log only where a Start of its run was replied Ok.
+-- The report of a case of n behaviours. It has one history of one thread, in which each reply is the component table's
+-- at that point, and the logs are the parts of this history; once an entry has ended the case no component is alive; the
+-- verdict is the worst of the local verdicts. A behaviour other than that of run 0 has a log only where a Start of its run
+-- was replied Ok. That these logs are those of the passes that the behaviours handed back is IsMadeOf.
 pub record IsCaseReport (n : ℕ) (c : Closed) : Type 0 where
   -- the history, the logs, the local verdicts and the overall verdict
   pub one_history : IsOneHistory c

@@ -4,17 +4,22 @@ use Rattle.tc_verdict.specs.declared.run.Run.{Run}
 use Rattle.tc_entry.specs.declared.op.Op.TheVariants as O
 use Rattle.tc_entry.specs.declared.reply.Reply.{Reply}
 use Rattle.tc_book.specs.Passes.{PassState, LeftState, has_ended, added}
+use Rattle.tc_book.specs.Replies.{suits}
 use Rattle.tc_exec.specs.declared.job.Back.{Back}
 use Rattle.tc_exec.specs.declared.job.Ending.{Ending}
 use Rattle.tc_exec.specs.declared.job.Ending.TheVariants as E
 use Rattle.tc_exec.specs.declared.handed.Handed.{Handed}
 
--- this pass left so: with its log, and a Finish where it had not ended
+-- the pass that a case opens with: that of run 0, on the main component, without arguments and without a call
+abbrev pub opening : PassState
+opening = record { run = record { 0 = 0 }; me = record { 0 = 0 }; args = []; log = [] }
+
+-- this pass left so: with its log, and a Finish where it had not ended, with a reply that a Finish can get
 pub record HasLeft (p : PassState) (l : LeftState) : Type 0 where
   pub run : l.run ≡ p.run
   pub started : l.started ≡ Some (p.me, p.args)
   pub ended : has_ended p ≡ true → l.log ≡ p.log
-  pub finished : has_ended p ≡ false → (r : Reply) × (l.log ≡ (added p O.Finish r).log)
+  pub finished : has_ended p ≡ false → (r : Reply) × (l.log ≡ (added p O.Finish r).log) × (suits O.Finish r ≡ true)
 
 -- a behaviour was called, with this outcome, and the pass that it handed back has left
 pub record WasCalled (outcome : Back → Type 0) (h : Handed) : Type 0 where
@@ -27,14 +32,16 @@ pub record WasCalled (outcome : Back → Type 0) (h : Handed) : Type 0 where
 abbrev pub unstarted : Run → Handed
 unstarted run = record { left = record { run = run; log = []; started = None }; ending = E.Returned }
 
--- a behaviour was called with a pass of its run, new from the start of the run
+-- a behaviour was called with a pass of its run, new from the start of the run; run 0 was called with the opening's pass
 pub record WasStarted (run : Run) (outcome : PassState → Back → Type 0) (h : Handed) : Type 0 where
   pub pass : PassState
   pub own : pass.run ≡ run
   pub new : pass.log ≡ []
+  pub main : run.0 ≡ 0 → pass ≡ opening
   pub called : WasCalled (outcome pass) h
 
--- the run was never started, and its behaviour was not called; or it was started, and its behaviour was called with its pass
+-- what was handed back is that of a run that was never started, which is all that this case says; or the behaviour was called with a
+-- pass of the run, and what was handed back came of that call
 abbrev pub IsWorked : Run → (PassState → Back → Type 0) → Handed → Type 0
 IsWorked run outcome h = (h ≡ unstarted run) ⊎ WasStarted run outcome h
 
@@ -43,11 +50,12 @@ abbrev pub is_starved : Ending → Bool
 is_starved E.Starved = true
 is_starved E.Returned = false
 
--- a behaviour was called with a new pass of this run
+-- a behaviour was called with a new pass of this run, which of run 0 is the opening's
 pub record WasCalledFor (run : Run) (outcome : PassState → Back → Type 0) : Type 0 where
   pub pass : PassState
   pub own : pass.run ≡ run
   pub new : pass.log ≡ []
+  pub main : run.0 ≡ 0 → pass ≡ opening
   pub back : Back
   pub outcome_of : outcome pass back
 

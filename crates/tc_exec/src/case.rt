@@ -3,6 +3,7 @@ ghost use Rattle.std.specs.Prelude.{ℕ, ◌≡◌, ◌≢◌, ◌↔◌, ◌<�
 ghost use Rattle.std.specs.Vec.{vec_len, vec_capacity};
 ghost use Rattle.tc_verdict.specs.declared.run.Run.{Run};
 ghost use Rattle.tc_book.specs.Closing.{IsWhole};
+ghost use Rattle.tc_exec.specs.Workers.{opening};
 ghost use Rattle.tc_exec.specs.Case.{IsCaseReport, AreCalled, IsMadeOf};
 ghost use Rattle.tc_exec.specs.declared.refusal.CaseError.TheVariants.{NoBehaviours, TooManyBehaviours, NoMemory, NoThread};
 
@@ -69,7 +70,7 @@ fn run_made<R: Threads + Wait, B: Callable>(
     workers: Vec<PromisedHandle<Handed, Task<B>>>,
     gathered: Gathered,
 ) -> Result<Closed, CaseError>
-    requires main { (pass.run ≡ record { 0 = 0 }) × (pass.log ≡ []) }
+    requires main { pass ≡ opening }
     requires empty { gathered.lefts.items ≡ [] }
     requires room { vec_len workers < vec_capacity gathered.lefts }
     requires runs { (k : ℕ) (run : Run) → k < length (map (λ w. w.promise.run) workers.items) → (slice_index_or (map (λ w. w.promise.run) workers.items) k run).0 ≡ k + 1 }

@@ -1,5 +1,5 @@
 -- How far a block is read.
-use Rattle.std.proofs.Common.{ℕ, ◌≡◌, ◌≢◌, ◌∙◌, ◌+◌, ◌<◌, ◌≤◌, ◌^◌, Option, Some, None, List, [], ◌∷◌, ◌++◌, length, map, codes, ap, sym, refl, append_assoc, arith}
+use Rattle.std.proofs.Common.{ℕ, ◌≡◌, ◌≢◌, ◌∙◌, ◌+◌, ◌<◌, ◌≤◌, List, [], ◌∷◌, ◌++◌, length, map, codes, ap, sym, append_assoc, arith}
 use Rattle.std.specs.Fmt.{decimal}
 use Rattle.std.proofs.lemmas.List.{append-nil, map-append}
 use Rattle.tc_verdict.specs.declared.verdict.Verdict.{Verdict}
@@ -11,15 +11,29 @@ use Rattle.tc_text.proofs.Digits.{no_letter}
 use Rattle.tc_text.proofs.LinesOf.{some_line}
 use Rattle.tc_history.specs.declared.read.Block.{Block}
 use Rattle.tc_history.specs.Block.{header_text, entry_text, end_text}
-use Rattle.tc_history.specs.Text.{IsEntry, AreEntries, IsHeader, IsBlock, IsNoHeader, open_lines, block_lines, Opens, IsBadStart, IsBadInside, IsCutInside}
+use Rattle.tc_history.specs.Text.{IsEntry, AreEntries, IsHeader, IsBlock, open_lines, block_lines, Opens, IsBadStart, IsBadInside, IsCutInside}
 
--- the line is no entry
-abbrev pub IsNoEntry : List ℕ → Type 0
-IsNoEntry line = (e : Entry) → IsEntry e → line ≢ entry_text e
+-- the first line is that of no entry
+abbrev pub IsNoEntryLine : List ℕ → Type 0
+IsNoEntryLine text = (e : Entry) (others : List (List ℕ)) → IsEntry e → lines_of text ≡ entry_text e ∷ others → ⊥
 
--- the line is no last line of a block
-abbrev pub IsNoEnd : List ℕ → Type 0
-IsNoEnd line = (v : Verdict) → line ≢ end_text v
+-- the first line is no last line of a block
+abbrev pub IsNoEndLine : List ℕ → Type 0
+IsNoEndLine text = (v : Verdict) (others : List (List ℕ)) → lines_of text ≡ end_text v ∷ others → ⊥
+
+-- the first line is no first line of a block
+abbrev pub IsNoHeaderLine : List ℕ → Type 0
+IsNoHeaderLine text = (name : List ℕ) (n : ℕ) (others : List (List ℕ)) → IsHeader name n → lines_of text ≡ header_text name n ∷ others → ⊥
+
+-- what reading a first line tells: it is that of this block, entry or verdict
+abbrev pub IsThatHeader : List ℕ → List ℕ → ℕ → List ℕ → Type 0
+IsThatHeader text name n rest = (m : List ℕ) (k : ℕ) (others : List (List ℕ)) → IsHeader m k → lines_of text ≡ header_text m k ∷ others → (name ≡ m) × (n ≡ k) × (lines_of rest ≡ others)
+
+abbrev pub IsThatEntry : List ℕ → Entry → List ℕ → Type 0
+IsThatEntry text e rest = (t : Entry) (others : List (List ℕ)) → IsEntry t → lines_of text ≡ entry_text t ∷ others → (e ≡ t) × (lines_of rest ≡ others)
+
+abbrev pub IsThatEnd : List ℕ → Verdict → List ℕ → Type 0
+IsThatEnd text verdict rest = (v : Verdict) (others : List (List ℕ)) → lines_of text ≡ end_text v ∷ others → (verdict ≡ v) × (lines_of rest ≡ others)
 
 -- the entries of the block are the ones read, and those that the rest spells
 pub record Remains (entries : List Entry) (rest : List ℕ) (b : Block) (others : List (List ℕ)) : Type 0 where
@@ -43,64 +57,74 @@ pub record SoFar (text : List ℕ) (line : ℕ) (name : List ℕ) (n : ℕ) (ent
 head_is : (x y : List ℕ) (xs ys : List (List ℕ)) → x ∷ xs ≡ y ∷ ys → x ≡ y
 head_is x y xs ys e = cc
 
-tail_is : (x y : List ℕ) (xs ys : List (List ℕ)) → x ∷ xs ≡ y ∷ ys → xs ≡ ys
-tail_is x y xs ys e = cc
-
 -- the lines of a block, and others behind them
 block_and : (b : Block) (others : List (List ℕ)) → block_lines b ++ others ≡ header_text b.name b.behaviours ∷ (map entry_text b.entries ++ end_text b.verdict ∷ others)
 block_and b others = ap (λ l. header_text b.name b.behaviours ∷ l) (append_assoc (map entry_text b.entries) (end_text b.verdict ∷ []) others)
-
-pub begins : (text l rest : List ℕ) (line : ℕ) (name : List ℕ) (n : ℕ) (entries : List Entry) → lines_of text ≡ l ∷ lines_of rest → l ≡ header_text name n → IsHeader name n →
-    ((m : List ℕ) (k : ℕ) → IsHeader m k → l ≡ header_text m k → (name ≡ m) × (n ≡ k)) → length rest < length text → entries ≡ [] → SoFar text line name n entries rest
-begins text l rest line name n entries lines spelled header only less none = record {
-  opens = record { header = header; right = rw none tt; lines = lines ∙ ap (λ x. x ∷ lines_of rest) spelled ∙ ap (λ es. open_lines name n es ++ lines_of rest) (sym none) };
-  only = λ b others is whole.
-      let both = sym lines ∙ (whole ∙ block_and b others) in
-      let same = only b.name b.behaviours is.header (head_is l (header_text b.name b.behaviours) (lines_of rest) _ both) in
-      record {
-        name_is = same.0;
-        behaviours = same.1;
-        remains = record { tail = b.entries; parts = ap (λ es. es ++ b.entries) (sym none); spelled = tail_is l (header_text b.name b.behaviours) (lines_of rest) _ both; right = is.entries };
-      };
-  room = let nothing = ap length none in omega (arith, nothing);
-}
 
 entries_more : (es : List Entry) (e : Entry) → AreEntries es → IsEntry e → AreEntries (es ++ e ∷ [])
 entries_more [] e all one = (one, tt)
 entries_more (x ∷ xs) e all one = (all.0, entries_more xs e all.1 one)
 
-more_remains : (entries new : List Entry) (l rest after : List ℕ) (e : Entry) (b : Block) (others : List (List ℕ)) → lines_of rest ≡ l ∷ lines_of after → new ≡ entries ++ e ∷ [] → IsNoEnd l →
-    ((t : Entry) → IsEntry t → l ≡ entry_text t → e ≡ t) → Remains entries rest b others → Remains new after b others
-more_remains entries new l rest after e b others line added no_end only so = by_tail so.tail so.parts so.spelled so.right
-  where
-    by_tail : (tail : List Entry) → b.entries ≡ entries ++ tail → lines_of rest ≡ map entry_text tail ++ end_text b.verdict ∷ others → AreEntries tail → Remains new after b others
-    by_tail [] parts spelled right = absurd (no_end b.verdict (head_is l (end_text b.verdict) (lines_of after) others (sym line ∙ spelled)))
-    by_tail (t ∷ ts) parts spelled right =
-        let both = sym line ∙ spelled in
-        let same = only t right.0 (head_is l (entry_text t) (lines_of after) _ both) in
-        record {
-          tail = ts;
-          parts = parts ∙ (ap (λ x. entries ++ x ∷ ts) (sym same) ∙ (sym (append_assoc entries (e ∷ []) ts) ∙ ap (λ es. es ++ ts) (sym added)));
-          spelled = tail_is l (entry_text t) (lines_of after) _ both;
-          right = right.1;
-        }
-
-lines_more : (name : List ℕ) (n : ℕ) (entries new : List Entry) (l rest after : List ℕ) (e : Entry) → lines_of rest ≡ l ∷ lines_of after → l ≡ entry_text e → new ≡ entries ++ e ∷ [] →
+lines_more : (name : List ℕ) (n : ℕ) (entries new : List Entry) (rest after : List ℕ) (e : Entry) → lines_of rest ≡ entry_text e ∷ lines_of after → new ≡ entries ++ e ∷ [] →
     open_lines name n entries ++ lines_of rest ≡ open_lines name n new ++ lines_of after
-lines_more name n entries new l rest after e line spelled added =
+lines_more name n entries new rest after e line added =
     ap (λ x. header_text name n ∷ x)
-    (ap (λ x. map entry_text entries ++ x) (line ∙ ap (λ x. x ∷ lines_of after) spelled)
+    (ap (λ x. map entry_text entries ++ x) line
     ∙ (sym (append_assoc (map entry_text entries) (entry_text e ∷ []) (lines_of after))
     ∙ ap (λ x. x ++ lines_of after) (sym (map-append entry_text entries (e ∷ [])) ∙ ap (map entry_text) (sym added))))
 
-pub goes_on : (text : List ℕ) (line : ℕ) (name : List ℕ) (n : ℕ) (entries new : List Entry) (l rest after : List ℕ) (e : Entry) → SoFar text line name n entries rest →
-    lines_of rest ≡ l ∷ lines_of after → l ≡ entry_text e → IsEntry e → IsNoEnd l → ((t : Entry) → IsEntry t → l ≡ entry_text t → e ≡ t) → length after < length rest →
+-- a first line is read
+pub opens_none : (text rest name : List ℕ) (n : ℕ) (entries : List Entry) → lines_of text ≡ header_text name n ∷ lines_of rest → IsHeader name n → entries ≡ [] → Opens text name n entries (lines_of rest)
+opens_none text rest name n entries lines header none = record { header = header; right = rw none tt; lines = lines ∙ ap (λ es. open_lines name n es ++ lines_of rest) (sym none) }
+
+-- and one more entry
+pub opens_more : (text name : List ℕ) (n : ℕ) (entries new : List Entry) (rest after : List ℕ) (e : Entry) → Opens text name n entries (lines_of rest) → lines_of rest ≡ entry_text e ∷ lines_of after → IsEntry e →
+    new ≡ entries ++ e ∷ [] → Opens text name n new (lines_of after)
+opens_more text name n entries new rest after e opens line fits added =
+    record { header = opens.header; right = rw added (entries_more entries e opens.right fits); lines = opens.lines ∙ lines_more name n entries new rest after e line added }
+
+-- and a last line
+pub ended_lines : (text : List ℕ) (b : Block) (rest after : List ℕ) → Opens text b.name b.behaviours b.entries (lines_of rest) → lines_of rest ≡ end_text b.verdict ∷ lines_of after → lines_of text ≡ block_lines b ++ lines_of after
+ended_lines text b rest after opens line =
+    opens.lines ∙ (ap (λ x. open_lines b.name b.behaviours b.entries ++ x) line ∙ sym (block_and b (lines_of after)))
+
+pub begins : (text rest : List ℕ) (line : ℕ) (name : List ℕ) (n : ℕ) (entries : List Entry) → lines_of text ≡ header_text name n ∷ lines_of rest → IsHeader name n →
+    IsThatHeader text name n rest → length rest < length text → entries ≡ [] → SoFar text line name n entries rest
+begins text rest line name n entries lines header only less none = record {
+  opens = opens_none text rest name n entries lines header none;
+  only = λ b others is whole.
+      let that = only b.name b.behaviours (map entry_text b.entries ++ end_text b.verdict ∷ others) is.header (whole ∙ block_and b others) in
+      record {
+        name_is = that.0;
+        behaviours = that.1;
+        remains = record { tail = b.entries; parts = ap (λ es. es ++ b.entries) (sym none); spelled = that.2; right = is.entries };
+      };
+  room = let nothing = ap length none in omega (arith, nothing);
+}
+
+more_remains : (entries new : List Entry) (rest after : List ℕ) (e : Entry) (b : Block) (others : List (List ℕ)) → new ≡ entries ++ e ∷ [] → IsNoEndLine rest →
+    IsThatEntry rest e after → Remains entries rest b others → Remains new after b others
+more_remains entries new rest after e b others added no_end only so = by_tail so.tail so.parts so.spelled so.right
+  where
+    by_tail : (tail : List Entry) → b.entries ≡ entries ++ tail → lines_of rest ≡ map entry_text tail ++ end_text b.verdict ∷ others → AreEntries tail → Remains new after b others
+    by_tail [] parts spelled right = absurd (no_end b.verdict others spelled)
+    by_tail (t ∷ ts) parts spelled right =
+        let two = only t (map entry_text ts ++ end_text b.verdict ∷ others) right.0 spelled in
+        record {
+          tail = ts;
+          parts = parts ∙ (ap (λ x. entries ++ x ∷ ts) (sym two.0) ∙ (sym (append_assoc entries (e ∷ []) ts) ∙ ap (λ es. es ++ ts) (sym added)));
+          spelled = two.1;
+          right = right.1;
+        }
+
+pub goes_on : (text : List ℕ) (line : ℕ) (name : List ℕ) (n : ℕ) (entries new : List Entry) (rest after : List ℕ) (e : Entry) → SoFar text line name n entries rest →
+    lines_of rest ≡ entry_text e ∷ lines_of after → IsEntry e → IsNoEndLine rest → IsThatEntry rest e after → length after < length rest →
     new ≡ entries ++ e ∷ [] → length new ≡ length entries + 1 → SoFar text line name n new after
-goes_on text line name n entries new l rest after e so lines spelled fits no_end only less added longer = record {
-  opens = record { header = so.opens.header; right = rw added (entries_more entries e so.opens.right fits); lines = so.opens.lines ∙ lines_more name n entries new l rest after e lines spelled added };
+goes_on text line name n entries new rest after e so spelled fits no_end only less added longer = record {
+  opens = opens_more text name n entries new rest after e so.opens spelled fits added;
   only = λ b others is whole.
       let that = so.only b others is whole in
-      record { name_is = that.name_is; behaviours = that.behaviours; remains = more_remains entries new l rest after e b others lines added no_end only that.remains };
+      record { name_is = that.name_is; behaviours = that.behaviours; remains = more_remains entries new rest after e b others added no_end only that.remains };
   room = let room = so.room in omega (arith, room);
 }
 
@@ -122,37 +146,30 @@ same_block : (b c : Block) → b.name ≡ c.name → b.behaviours ≡ c.behaviou
 same_block b c name behaviours line entries verdict =
     same_made b.name c.name b.behaviours c.behaviours b.first_line c.first_line b.entries c.entries b.verdict c.verdict name behaviours line entries verdict
 
-pub ended_lines : (text : List ℕ) (line : ℕ) (b : Block) (l rest after : List ℕ) → SoFar text line b.name b.behaviours b.entries rest → lines_of rest ≡ l ∷ lines_of after → l ≡ end_text b.verdict →
-    lines_of text ≡ block_lines b ++ lines_of after
-ended_lines text line b l rest after so lines spelled =
-    so.opens.lines ∙ (ap (λ x. open_lines b.name b.behaviours b.entries ++ x) (lines ∙ ap (λ x. x ∷ lines_of after) spelled) ∙ sym (block_and b (lines_of after)))
-
-pub ended_only : (text : List ℕ) (line : ℕ) (b : Block) (l rest after : List ℕ) → SoFar text line b.name b.behaviours b.entries rest → lines_of rest ≡ l ∷ lines_of after → l ≡ end_text b.verdict → b.first_line ≡ line →
-    ((v : Verdict) → l ≡ end_text v → b.verdict ≡ v) → (c : Block) (others : List (List ℕ)) → IsBlock line c → lines_of text ≡ block_lines c ++ others → (b ≡ c) × (lines_of after ≡ others)
-ended_only text line b l rest after so lines spelled first only c others is whole = by_tail that.remains.tail that.remains.parts that.remains.spelled that.remains.right
+pub ended_only : (text : List ℕ) (line : ℕ) (b : Block) (rest after : List ℕ) → SoFar text line b.name b.behaviours b.entries rest → lines_of rest ≡ end_text b.verdict ∷ lines_of after → b.first_line ≡ line →
+    IsThatEnd rest b.verdict after → (c : Block) (others : List (List ℕ)) → IsBlock line c → lines_of text ≡ block_lines c ++ others → (b ≡ c) × (lines_of after ≡ others)
+ended_only text line b rest after so ends first only c others is whole = by_tail that.remains.tail that.remains.parts that.remains.spelled that.remains.right
   where
     that : IsThatBlock b.name b.behaviours b.entries rest c others
     that = so.only c others is whole
 
     by_tail : (tail : List Entry) → c.entries ≡ b.entries ++ tail → lines_of rest ≡ map entry_text tail ++ end_text c.verdict ∷ others → AreEntries tail → (b ≡ c) × (lines_of after ≡ others)
-    by_tail [] parts ends right =
-        let both = sym lines ∙ ends in (
-          same_block b c that.name_is that.behaviours (first ∙ sym is.first) (sym (parts ∙ append-nil b.entries)) (only c.verdict (head_is l (end_text c.verdict) (lines_of after) others both)),
-          tail_is l (end_text c.verdict) (lines_of after) others both,
-        )
-    by_tail (t ∷ ts) parts ends right = absurd (entry_no_end t b.verdict right.0 (sym (head_is l (entry_text t) (lines_of after) _ (sym lines ∙ ends)) ∙ spelled))
+    by_tail [] parts spelled right =
+        let two = only c.verdict others spelled in
+        (same_block b c that.name_is that.behaviours (first ∙ sym is.first) (sym (parts ∙ append-nil b.entries)) two.0, two.1)
+    by_tail (t ∷ ts) parts spelled right = absurd (entry_no_end t b.verdict right.0 (head_is (entry_text t) (end_text b.verdict) _ (lines_of after) (sym spelled ∙ ends)))
 
 -- nothing can be such a block: a line is neither an entry nor a last line
-pub never_inside : (text : List ℕ) (line : ℕ) (name : List ℕ) (n : ℕ) (entries : List Entry) (l rest after : List ℕ) → SoFar text line name n entries rest → lines_of rest ≡ l ∷ lines_of after → IsNoEntry l → IsNoEnd l →
+pub never_inside : (text : List ℕ) (line : ℕ) (name : List ℕ) (n : ℕ) (entries : List Entry) (rest : List ℕ) → SoFar text line name n entries rest → IsNoEntryLine rest → IsNoEndLine rest →
     (c : Block) (others : List (List ℕ)) → IsBlock line c → lines_of text ≡ block_lines c ++ others → ⊥
-never_inside text line name n entries l rest after so lines no_entry no_end c others is whole = by_tail that.remains.tail that.remains.spelled that.remains.right
+never_inside text line name n entries rest so no_entry no_end c others is whole = by_tail that.remains.tail that.remains.spelled that.remains.right
   where
     that : IsThatBlock name n entries rest c others
     that = so.only c others is whole
 
     by_tail : (tail : List Entry) → lines_of rest ≡ map entry_text tail ++ end_text c.verdict ∷ others → AreEntries tail → ⊥
-    by_tail [] ends right = no_end c.verdict (head_is l (end_text c.verdict) (lines_of after) others (sym lines ∙ ends))
-    by_tail (t ∷ ts) ends right = no_entry t right.0 (head_is l (entry_text t) (lines_of after) _ (sym lines ∙ ends))
+    by_tail [] ends right = no_end c.verdict others ends
+    by_tail (t ∷ ts) ends right = no_entry t (map entry_text ts ++ end_text c.verdict ∷ others) right.0 ends
 
 -- or the text ends
 pub never_cut : (text : List ℕ) (line : ℕ) (name : List ℕ) (n : ℕ) (entries : List Entry) (rest : List ℕ) → SoFar text line name n entries rest → rest ≡ [] →
@@ -168,31 +185,35 @@ never_cut text line name n entries rest so nothing c others is whole = by_tail t
 
 -- ---- faults
 
-pub bad_start : (text l rest : List ℕ) → lines_of text ≡ l ∷ lines_of rest → IsNoHeader l → IsBadStart text
-bad_start text l rest lines none = record { bad_line = l; others = lines_of rest; lines = lines; bad = none }
+pub bad_start : (text : List ℕ) → text ≢ [] → IsNoHeaderLine text → IsBadStart text
+bad_start text some none =
+    let line = some_line text some in
+    record { bad_line = line.0; others = line.1.0; lines = line.1.1; bad = λ name n header e. none name n line.1.0 header (line.1.1 ∙ ap (λ l. l ∷ line.1.0) e) }
 
-pub never_start : (text l rest : List ℕ) (line : ℕ) → lines_of text ≡ l ∷ lines_of rest → IsNoHeader l → (c : Block) (others : List (List ℕ)) → IsBlock line c → lines_of text ≡ block_lines c ++ others → ⊥
-never_start text l rest line lines none c others is whole = none c.name c.behaviours is.header (head_is l (header_text c.name c.behaviours) (lines_of rest) _ (sym lines ∙ (whole ∙ block_and c others)))
+pub never_start : (text : List ℕ) (line : ℕ) → IsNoHeaderLine text → (c : Block) (others : List (List ℕ)) → IsBlock line c → lines_of text ≡ block_lines c ++ others → ⊥
+never_start text line none c others is whole = none c.name c.behaviours (map entry_text c.entries ++ end_text c.verdict ∷ others) is.header (whole ∙ block_and c others)
 
-pub bad_inside : (text : List ℕ) (line at : ℕ) (name : List ℕ) (n : ℕ) (entries : List Entry) (l rest after : List ℕ) → SoFar text line name n entries rest → lines_of rest ≡ l ∷ lines_of after → IsNoEntry l → IsNoEnd l →
+pub bad_inside : (text : List ℕ) (line at : ℕ) (name : List ℕ) (n : ℕ) (entries : List Entry) (rest : List ℕ) → rest ≢ [] → Opens text name n entries (lines_of rest) → IsNoEntryLine rest → IsNoEndLine rest →
     at ≡ line + length entries + 1 → IsBadInside text line at
-bad_inside text line at name n entries l rest after so lines no_entry no_end number = record {
-  name = name;
-  behaviours = n;
-  entries = entries;
-  bad_line = l;
-  others = lines_of after;
-  opens = record { header = so.opens.header; right = so.opens.right; lines = so.opens.lines ∙ ap (λ x. open_lines name n entries ++ x) lines };
-  number = number;
-  no_entry = no_entry;
-  no_end = no_end;
-}
+bad_inside text line at name n entries rest some opens no_entry no_end number =
+    let bad = some_line rest some in
+    record {
+      name = name;
+      behaviours = n;
+      entries = entries;
+      bad_line = bad.0;
+      others = bad.1.0;
+      opens = record { header = opens.header; right = opens.right; lines = opens.lines ∙ ap (λ x. open_lines name n entries ++ x) bad.1.1 };
+      number = number;
+      no_entry = λ e fits same. no_entry e bad.1.0 fits (bad.1.1 ∙ ap (λ l. l ∷ bad.1.0) same);
+      no_end = λ v same. no_end v bad.1.0 (bad.1.1 ∙ ap (λ l. l ∷ bad.1.0) same);
+    }
 
-pub cut_inside : (text : List ℕ) (line at : ℕ) (name : List ℕ) (n : ℕ) (entries : List Entry) (rest : List ℕ) → SoFar text line name n entries rest → rest ≡ [] → at ≡ line + length entries + 1 → IsCutInside text line at
-cut_inside text line at name n entries rest so nothing number = record {
+pub cut_inside : (text : List ℕ) (line at : ℕ) (name : List ℕ) (n : ℕ) (entries : List Entry) (rest : List ℕ) → Opens text name n entries (lines_of rest) → rest ≡ [] → at ≡ line + length entries + 1 → IsCutInside text line at
+cut_inside text line at name n entries rest opens nothing number = record {
   name = name;
   behaviours = n;
   entries = entries;
-  opens = record { header = so.opens.header; right = so.opens.right; lines = so.opens.lines ∙ ap (λ r. open_lines name n entries ++ lines_of r) nothing };
+  opens = record { header = opens.header; right = opens.right; lines = opens.lines ∙ ap (λ r. open_lines name n entries ++ lines_of r) nothing };
   number = number;
 }

@@ -1,9 +1,8 @@
--- A text that is cut at a byte, and its first line.
-use Rattle.std.proofs.Common.{ℕ, ◌≡◌, ◌≢◌, ◌∙◌, ◌==◌, ◌+◌, ◌<◌, inl, inr, false, List, [], ◌∷◌, ◌++◌, length, take, get_or, ap, sym, refl, arith}
+-- A text that is cut at a byte.
+use Rattle.std.proofs.Common.{ℕ, ◌≡◌, ◌≢◌, ◌==◌, ◌+◌, ◌<◌, false, List, [], ◌∷◌, ◌++◌, length, take, get_or, sym, refl, arith}
 use Rattle.std.proofs.lemmas.Bool.Decides.{nat_tests}
-use Rattle.std.proofs.lemmas.List.{append-nil, take_more}
-use Rattle.tc_text.specs.Lines.{lines_of}
-use Rattle.tc_text.proofs.LinesOf.{NoLf, line_ended}
+use Rattle.std.proofs.lemmas.List.{take_more}
+use Rattle.tc_text.proofs.LinesOf.{NoLf}
 use Rattle.tc_history.specs.Cut.{Without}
 
 differs : (b byte : ℕ) → b ≢ byte → (b == byte) ≡ false
@@ -19,23 +18,9 @@ without-more byte (y ∷ ys) x none other = (none.0, without-more byte ys x none
 pub without_take : (byte : ℕ) (xs : List ℕ) (i d : ℕ) → i < length xs → Without byte (take i xs) → get_or xs i d ≢ byte → Without byte (take (i + 1) xs)
 without_take byte xs i d below none other = rw (take_more xs i d below) (without-more byte (take i xs) (get_or xs i d) none other)
 
-no_lf : (xs : List ℕ) → Without 10 xs → NoLf xs
+pub no_lf : (xs : List ℕ) → Without 10 xs → NoLf xs
 no_lf [] none = tt
 no_lf (x ∷ xs) none = (none.0, no_lf xs none.1)
-
-ended_line : (line behind : List ℕ) → Without 10 line → lines_of (line ++ 10 ∷ behind) ≡ line ∷ lines_of behind
-ended_line [] behind none = refl
-ended_line (b ∷ bs) behind none = line_ended (b ∷ bs) (10 ∷ behind) behind (λ e. cc) (no_lf (b ∷ bs) none) (inr refl)
-
-pub cut_line : (text line rest behind : List ℕ) (b : ℕ) → text ≡ line ++ rest → rest ≡ b ∷ behind → b ≡ 10 → Without 10 line → lines_of text ≡ line ∷ lines_of behind
-cut_line text line rest behind b parts begins lf none =
-    let whole : text ≡ line ++ 10 ∷ behind = parts ∙ ap (λ r. line ++ r) (begins ∙ ap (λ x. x ∷ behind) lf) in
-    ap lines_of whole ∙ ended_line line behind none
-
-pub cut_last : (text line rest : List ℕ) → text ≡ line ++ rest → rest ≡ [] → text ≢ [] → Without 10 line → lines_of text ≡ line ∷ lines_of rest
-cut_last text line rest parts nothing some none =
-    let whole : text ≡ line ++ [] = parts ∙ ap (λ r. line ++ r) nothing in
-    ap lines_of whole ∙ (line_ended line [] [] (λ e. some (whole ∙ (append-nil line ∙ e))) (no_lf line none) (inl (refl, refl)) ∙ ap (λ r. line ∷ lines_of r) (sym nothing))
 
 -- where the text is cut
 pub record IsCut (byte : ℕ) (before rest : List ℕ) : Type 0 where

@@ -1,5 +1,6 @@
 pub mod Blocks
 pub mod Cutting
+pub mod InnerLines
 pub mod Names
 pub mod Prefixes
 pub mod Texts

@@ -1,15 +1,14 @@
 -- Histories, block by block.
-use Rattle.std.proofs.Common.{ℕ, ◌≡◌, ◌≢◌, ◌∙◌, ◌+◌, ◌≤◌, inl, inr, List, [], ◌∷◌, ◌++◌, length, map, ap, sym, refl, append_assoc, arith}
+use Rattle.std.proofs.Common.{ℕ, ◌≡◌, ◌≢◌, ◌∙◌, ◌+◌, ◌≤◌, inr, List, [], ◌∷◌, ◌++◌, length, map, ap, sym, refl, append_assoc, arith}
 use Rattle.std.proofs.lemmas.List.{append-nil, length-append, length-map}
-use Rattle.tc_entry.specs.declared.entry.Entry.{Entry}
 use Rattle.tc_text.specs.declared.fault.TextFault.{TextFault}
 use Rattle.tc_text.specs.declared.fault.TextFault.TheVariants as F
 use Rattle.tc_text.specs.declared.fault.TextKind.TheVariants as K
 use Rattle.tc_text.specs.Lines.{lines_of}
 use Rattle.tc_text.proofs.LinesOf.{no_line}
 use Rattle.tc_history.specs.declared.read.Block.{Block}
-use Rattle.tc_history.specs.Block.{header_text, entry_text, end_text}
-use Rattle.tc_history.specs.Text.{IsBlock, AreBlocks, AreHistories, IsBadStart, IsBadInside, IsCutInside, IsBlockFault, IsHistoryFault, open_lines, block_lines, all_lines}
+use Rattle.tc_history.specs.Block.{entry_text, end_text}
+use Rattle.tc_history.specs.Text.{IsBlock, AreBlocks, AreHistories, IsBlockFault, IsHistoryFault, open_lines, block_lines, all_lines}
 
 -- the blocks are the ones read, and those that the rest spells
 pub record Others (blocks : List Block) (rest : List ℕ) (line : ℕ) (all : List Block) : Type 0 where
@@ -18,22 +17,23 @@ pub record Others (blocks : List Block) (rest : List ℕ) (line : ℕ) (all : Li
   pub spelled : lines_of rest ≡ all_lines tail
   pub fits : AreBlocks line tail
 
--- these blocks are read, and all histories that the text spells begin with them
-pub record Read (text : List ℕ) (blocks : List Block) (rest : List ℕ) (line : ℕ) : Type 0 where
+-- these blocks are read
+pub record AreRead (text : List ℕ) (blocks : List Block) (rest : List ℕ) (line : ℕ) : Type 0 where
   pub fits : AreBlocks 1 blocks
   pub lines : lines_of text ≡ all_lines blocks ++ lines_of rest
   pub number : line ≡ length (all_lines blocks) + 1
-  pub only : (all : List Block) → AreHistories text all → Others blocks rest line all
   pub room : line + length rest ≤ length text + 1
 
+-- these blocks are read, and all histories that the text spells begin with them
+pub record Read (text : List ℕ) (blocks : List Block) (rest : List ℕ) (line : ℕ) : Type 0 where
+  pub are : AreRead text blocks rest line
+  pub only : (all : List Block) → AreHistories text all → Others blocks rest line all
+
+pub none_are_read : (text : List ℕ) → AreRead text [] text 1
+none_are_read text = record { fits = tt; lines = refl; number = refl; room = omega arith }
+
 pub none_read : (text : List ℕ) (blocks : List Block) → blocks ≡ [] → Read text blocks text 1
-none_read text blocks none = rw none (record {
-  fits = tt;
-  lines = refl;
-  number = refl;
-  only = λ all is. record { tail = all; parts = refl; spelled = is.lines; fits = is.fits };
-  room = omega arith;
-})
+none_read text blocks none = rw none (record { are = none_are_read text; only = λ all is. record { tail = all; parts = refl; spelled = is.lines; fits = is.fits } })
 
 -- a block has two lines more than entries
 block_count : (b : Block) → length (block_lines b) ≡ length b.entries + 2
@@ -48,18 +48,24 @@ blocks_more line at [] b all here one = let same : line ≡ at = omega (arith, h
 blocks_more line at (x ∷ xs) b all here one =
     (all.0, blocks_more (line + length (block_lines x)) at xs b all.1 (omega (arith, here, length-append (block_lines x) (all_lines xs))) one)
 
-pub one_read : (text : List ℕ) (blocks new : List Block) (rest after : List ℕ) (line next : ℕ) (b : Block) → Read text blocks rest line → lines_of rest ≡ block_lines b ++ lines_of after → IsBlock line b →
-    ((c : Block) (others : List (List ℕ)) → IsBlock line c → lines_of rest ≡ block_lines c ++ others → (b ≡ c) × (lines_of after ≡ others)) → new ≡ blocks ++ b ∷ [] → next ≡ line + (length b.entries + 2) →
-    length b.entries + 2 + length after ≤ length rest → Read text new after next
-one_read text blocks new rest after line next b read lines fits only added more less = rw added (record {
+pub one_is_read : (text : List ℕ) (blocks : List Block) (rest after : List ℕ) (line next : ℕ) (b : Block) → AreRead text blocks rest line → lines_of rest ≡ block_lines b ++ lines_of after → IsBlock line b →
+    next ≡ line + (length b.entries + 2) → length b.entries + 2 + length after ≤ length rest → AreRead text (blocks ++ b ∷ []) after next
+one_is_read text blocks rest after line next b read lines fits more less = record {
   fits = let number = read.number in blocks_more 1 line blocks b read.fits (omega (arith, number)) fits;
   lines = read.lines ∙ (ap (λ l. all_lines blocks ++ l) lines ∙ (sym (append_assoc (all_lines blocks) (block_lines b) (lines_of after)) ∙ ap (λ l. l ++ lines_of after) (sym (all_lines-more blocks b))));
   number =
       let number = read.number in
       let grown = ap length (all_lines-more blocks b) in
       omega (arith, number, grown, more, length-append (all_lines blocks) (block_lines b), block_count b);
-  only = λ all is. let so = read.only all is in by_tail so.tail all so.parts so.spelled so.fits;
   room = let room = read.room in omega (arith, room, more, less);
+}
+
+pub one_read : (text : List ℕ) (blocks new : List Block) (rest after : List ℕ) (line next : ℕ) (b : Block) → Read text blocks rest line → lines_of rest ≡ block_lines b ++ lines_of after → IsBlock line b →
+    ((c : Block) (others : List (List ℕ)) → IsBlock line c → lines_of rest ≡ block_lines c ++ others → (b ≡ c) × (lines_of after ≡ others)) → new ≡ blocks ++ b ∷ [] → next ≡ line + (length b.entries + 2) →
+    length b.entries + 2 + length after ≤ length rest → Read text new after next
+one_read text blocks new rest after line next b read lines fits only added more less = rw added (record {
+  are = one_is_read text blocks rest after line next b read.are lines fits more less;
+  only = λ all is. let so = read.only all is in by_tail so.tail all so.parts so.spelled so.fits;
 })
   where
     by_tail : (tail all : List Block) → all ≡ blocks ++ tail → lines_of rest ≡ all_lines tail → AreBlocks line tail → Others (blocks ++ b ∷ []) after next all
@@ -69,7 +75,7 @@ one_read text blocks new rest after line next b read lines fits only added more 
         let same : line + length (block_lines t) ≡ next = rw (← two.0) (omega (arith, more, block_count b)) in
         record { tail = ts; parts = parts ∙ (ap (λ x. blocks ++ x ∷ ts) (sym two.0) ∙ sym (append_assoc blocks (b ∷ []) ts)); spelled = two.1; fits = rw same at right.1 }
 
-pub all_read : (text : List ℕ) (blocks : List Block) (rest : List ℕ) (line : ℕ) → Read text blocks rest line → rest ≡ [] → text ≢ [] → AreHistories text blocks
+pub all_read : (text : List ℕ) (blocks : List Block) (rest : List ℕ) (line : ℕ) → AreRead text blocks rest line → rest ≡ [] → text ≢ [] → AreHistories text blocks
 all_read text blocks rest line read nothing some =
     let whole : lines_of text ≡ all_lines blocks = read.lines ∙ (ap (λ r. all_lines blocks ++ lines_of r) nothing ∙ append-nil (all_lines blocks)) in
     record { some = λ e. some (no_line text (whole ∙ ap all_lines e)); fits = read.fits; lines = whole }
@@ -94,7 +100,7 @@ no_histories text [] nothing is = is.some refl
 no_histories text (b ∷ bs) nothing is = let e = sym (ap lines_of nothing) ∙ is.lines in cc
 
 -- a fault of the block that should come next is the first fault of the text
-pub first_fault : (text : List ℕ) (blocks : List Block) (rest : List ℕ) (line : ℕ) (fault : TextFault) → Read text blocks rest line → IsBlockFault rest line fault → IsHistoryFault text fault
+pub first_fault : (text : List ℕ) (blocks : List Block) (rest : List ℕ) (line : ℕ) (fault : TextFault) → AreRead text blocks rest line → IsBlockFault rest line fault → IsHistoryFault text fault
 first_fault text blocks rest line (F.At at K.Early) read bad =
     let whole = read.lines ∙ (ap (λ l. all_lines blocks ++ l) bad.opens.lines ∙ ap (λ l. all_lines blocks ++ l) (append-nil (open_lines bad.name bad.behaviours bad.entries))) in
     let number = read.number in

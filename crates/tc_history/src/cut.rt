@@ -1,7 +1,6 @@
 //! Cutting a text.
-ghost use Rattle.std.specs.Prelude.{◌≡◌, ◌≢◌, ◌<◌, ◌++◌, ◌∷◌, [], ℕ, List, length, MatchOption};
+ghost use Rattle.std.specs.Prelude.{◌≡◌, ◌++◌, ◌∷◌, ℕ, List};
 ghost use Rattle.tc_history.specs.Cut.{Without};
-ghost use Rattle.tc_text.specs.Lines.{lines_of};
 
 /// The bytes before the first such byte, and the others.
 pub(crate) fn cut(text: &[u8], byte: u8) -> (&[u8], &[u8])
@@ -15,24 +14,4 @@ pub(crate) fn cut(text: &[u8], byte: u8) -> (&[u8], &[u8])
         }
     }
     text.split_at(text.len())
-}
-
-/// What stands behind the word, where the text begins with it.
-pub(crate) fn after<'a>(text: &'a [u8], word: &[u8]) -> Option<&'a [u8]>
-    ensures { MatchOption result ((rest : List ℕ) → text.now ≢ word.now ++ rest) (λ rest. text.now ≡ word.now ++ rest.now) }
-{
-    text.strip_prefix(word)
-}
-
-/// The first line, without its end, and what stands behind it.
-pub(crate) fn take_line(text: &[u8]) -> (&[u8], &[u8])
-    requires { text.now ≢ [] }
-    ensures lines { lines_of text.now ≡ result.0.now ∷ lines_of result.1.now }
-    ensures less { length result.1.now < length text.now }
-{
-    let (line, rest) = cut(text, b'\n');
-    match rest.split_first() {
-        Some((_, behind)) => (line, behind),
-        None => (line, rest),
-    }
 }

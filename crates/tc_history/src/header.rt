@@ -1,15 +1,14 @@
 //! The first line of a block.
-ghost use Rattle.std.specs.Prelude.{◌≡◌, ℕ, List, IfSome, IfNone, Some, MatchOption};
-ghost use Rattle.std.specs.Fmt.{decimal};
+ghost use Rattle.std.specs.Prelude.{◌≡◌, ◌<◌, ◌∷◌, ℕ, List, length, IfSome, Some, MatchOption};
 ghost use Rattle.tc_entry.specs.Name.{IsName};
-ghost use Rattle.tc_text.specs.MoveList.{IsBehaviours};
+ghost use Rattle.tc_text.specs.Lines.{lines_of};
 ghost use Rattle.tc_history.specs.Block.{header_text};
 ghost use Rattle.tc_history.specs.Text.{IsHeader};
 
-use crate::cut::{after, cut};
+use crate::cut::cut;
 use std::str;
 use tc_entry::Name;
-use tc_text::read_number;
+use tc_text::{after, as_behaviours, take_line_end, take_number};
 
 // The name that the bytes spell.
 fn read_name(bytes: &[u8]) -> Option<Name>
@@ -23,28 +22,30 @@ fn read_name(bytes: &[u8]) -> Option<Name>
     }
 }
 
-// The number of behaviours that the bytes spell.
-fn read_behaviours(bytes: &[u8]) -> Option<u16>
-    ensures spelled { IfSome result (λ n. bytes.now ≡ decimal n) }
-    ensures few { IfSome result IsBehaviours }
-    ensures only { (n : ℕ) → IsBehaviours n → bytes.now ≡ decimal n → result ≡ Some n }
-{
-    let number = read_number(bytes)?;
-    if 1 <= number && number <= 64 {
-        Some(number as u16)
-    } else {
-        None
-    }
+/// What the first line of a block says.
+#[derive(Debug, Drop)]
+pub struct Header {
+    /// The name of the test case.
+    pub name: Name,
+    /// How many behaviours it had.
+    pub behaviours: u16,
 }
 
-/// The name of the case and the number of its behaviours, where the line is the first one of a block.
-pub(crate) fn read_header(line: &[u8]) -> Option<(Name, u16)>
-    ensures spelled { IfSome result (λ r. line.now ≡ header_text r.0 r.1) }
-    ensures fits { IfSome result (λ r. IsHeader r.0 r.1) }
-    ensures only { (name : List ℕ) (n : ℕ) → IsHeader name n → line.now ≡ header_text name n → result ≡ Some (name, n) }
+/// What the first line says, where it is the first one of a block, and what stands behind that line.
+pub fn take_header_line(text: &[u8]) -> Option<(Header, &[u8])>
+    ensures spelled { IfSome result (λ r. lines_of text.now ≡ header_text r.0.name r.0.behaviours ∷ lines_of r.1.now) }
+    ensures fits { IfSome result (λ r. IsHeader r.0.name r.0.behaviours) }
+    ensures less { IfSome result (λ r. length r.1.now < length text.now) }
+    ensures only { (name : List ℕ) (n : ℕ) (others : List (List ℕ)) → IsHeader name n → lines_of text.now ≡ header_text name n ∷ others → MatchOption result ⊥ (λ r. (r.0.name ≡ name) × (r.0.behaviours ≡ n) × (lines_of r.1.now ≡ others)) }
 {
-    let rest = after(line, b"history 1 ")?;
+    let rest = after(text, b"history 1 ")?;
     let (name, rest) = cut(rest, b' ');
-    let number = after(rest, b" ")?;
-    Some((read_name(name)?, read_behaviours(number)?))
+    let rest = after(rest, b" ")?;
+    let (number, rest) = take_number(rest)?;
+    let rest = take_line_end(rest)?;
+    let header = Header {
+        name: read_name(name)?,
+        behaviours: as_behaviours(number)?,
+    };
+    Some((header, rest))
 }

@@ -4,9 +4,8 @@ ghost use Rattle.tc_text.specs.Lines.{lines_of};
 ghost use Rattle.tc_history.specs.declared.read.Block.{Block as AnyBlock};
 ghost use Rattle.tc_history.specs.Text.{AreHistories, IsBlock, IsBlockFault, IsHistoryFault, block_lines};
 
-use crate::cut::take_line;
-use crate::header::read_header;
-use crate::line::{read_end, read_entry};
+use crate::header::take_header_line;
+use crate::line::{take_end_line, take_entry_line};
 use std::alloc::Global;
 use tc_entry::{Entry, Name, Sequence, Verdict};
 use tc_text::{TextFault, TextKind};
@@ -36,29 +35,25 @@ fn take_block(alloc: Global, text: &[u8], first_line: usize) -> Result<(Block, &
     ensures fault { IfErr result (λ e. IsBlockFault text.now first_line e) }
     ensures only { (b : AnyBlock) (others : List (List ℕ)) → IsBlock first_line b → lines_of text.now ≡ block_lines b ++ others → MatchResult result (λ r. (r.0 ≡ b) × (lines_of r.1.now ≡ others)) (λ e. e ≡ TextFault.NoMemory) }
 {
-    let (line, rest) = take_line(text);
-    let Some((name, behaviours)) = read_header(line) else {
+    let Some((header, mut rest)) = take_header_line(text) else {
         return Err(TextFault::At {
             line: first_line,
             kind: TextKind::FirstLine,
         });
     };
     let mut entries = Vec::new(alloc);
-    let mut rest = rest;
     while !rest.is_empty() {
-        let (line, behind) = take_line(rest);
-        if let Some(verdict) = read_end(line) {
-            let entries = Sequence::new(entries);
+        if let Some((verdict, behind)) = take_end_line(rest) {
             let block = Block {
-                name,
-                behaviours,
+                name: header.name,
+                behaviours: header.behaviours,
                 first_line,
-                entries,
+                entries: Sequence::new(entries),
                 verdict,
             };
             return Ok((block, behind));
         }
-        let Some(entry) = read_entry(line) else {
+        let Some((entry, behind)) = take_entry_line(rest) else {
             return Err(TextFault::At {
                 line: first_line + entries.len() + 1,
                 kind: TextKind::Entry,

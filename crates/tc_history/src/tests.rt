@@ -161,3 +161,19 @@ fn a_written_history_is_read(rt: HostRuntime) -> Result<(), Fail> {
     assert!(rt; block.entries.as_slice().is_empty());
     Ok(())
 }
+
+#[test]
+fn lines_are_taken(rt: HostRuntime) -> Result<(), Fail> {
+    let (header, rest) = take_header_line(b"history 1 t_1 64\nend none\n").ok_or("a first line")?;
+    assert_eq!(rt; header.name.bytes(), b"t_1".as_slice());
+    assert_eq!(rt; header.behaviours, 64);
+    assert_eq!(rt; take_end_line(rest), Some((Verdict::None, b"".as_slice())));
+    let (taken, rest) = take_entry_line(b"0 create -> made 1\nend").ok_or("an entry")?;
+    let created = entry(Op::Create { alive: false }, Reply::Made(Comp(1)));
+    assert!(rt; taken.same(&created));
+    assert_eq!(rt; rest, b"end".as_slice());
+    assert!(rt; take_header_line(b"history 1 t_1 65\n").is_none());
+    assert!(rt; take_end_line(b"end none \n").is_none());
+    assert!(rt; take_entry_line(b"0 create -> made 1 \n").is_none());
+    Ok(())
+}

@@ -1,11 +1,11 @@
 -- The first line of a text, read as a move.
-use Rattle.std.proofs.Common.{◌≡◌, ◌≢◌, ◌∙◌, ◌<◌, ◌^◌, ◌⊎◌, inl, inr, ℕ, List, [], ◌∷◌, ◌++◌, length, codes, sym, ap, refl, arith, append_assoc}
+use Rattle.std.proofs.Common.{◌≡◌, ◌≢◌, ◌∙◌, ◌<◌, ◌^◌, inl, inr, ℕ, List, ◌∷◌, ◌++◌, codes, sym, ap, refl, arith}
 use Rattle.std.specs.Fmt.{decimal}
 use Rattle.tc_entry.specs.declared.op.Op.{Op}
 use Rattle.tc_text.specs.Spelling.{move_text, IsOp}
 use Rattle.tc_text.specs.Lines.{lines_of}
 use Rattle.tc_text.specs.MoveList.{Move, move_line, behaviours_line, IsBehaviours, IsMove}
-use Rattle.tc_text.specs.Reading.{EndsNumber, EndsMove, EndsLine}
+use Rattle.tc_text.specs.Reading.{EndsNumber, EndsMove, EndsReply, EndsLine}
 use Rattle.tc_text.proofs.Operands.{ends_nothing, IsThatNumber}
 use Rattle.tc_text.proofs.LinesOf.{line_ended, first_line}
 use Rattle.tc_text.proofs.Plain.{move_plain, behaviours_plain, some_behaviours, some_move}
@@ -20,6 +20,11 @@ ends_line rest behind (inr more) = rw more (record {
   where
     first_is : (x y : ℕ) (xs ys : List ℕ) → x ∷ xs ≡ y ∷ ys → x ≡ y
     first_is x y xs ys e = cc
+
+-- and behind a reply
+pub ends_reply : (rest behind : List ℕ) → EndsLine rest behind → EndsReply rest
+ends_reply rest behind (inl last) = rw last.0 (record { number = λ b after e. absurd cc; no_space = λ after e. cc })
+ends_reply rest behind (inr more) = record { number = (ends_line rest behind (inr more)).number; no_space = λ after e. let same : ◌≡◌ {A = ℕ} 10 32 = let whole = sym more ∙ e in cc in omega (arith, same) }
 
 pub move_spelled : (text rest behind : List ℕ) (m : Move) → text ≡ move_text m.0.0 m.1 ++ rest → IsMove m → EndsLine rest behind → lines_of text ≡ move_line m ∷ lines_of behind
 move_spelled text rest behind m spelled fits ends = ap lines_of spelled ∙ line_ended (move_line m) rest behind (some_move m.0.0 m.1 fits.0) (move_plain m.0.0 m.1 fits.0 fits.1) ends

@@ -1,5 +1,5 @@
 -- What the readers of moves speak of among themselves.
-use Rattle.std.specs.Prelude.{ℕ, ◌≡◌, ◌<◌, ◌+◌, ◌-◌, ◌*◌, ◌⊎◌, Bool, true, false, List, [], ◌∷◌, ◌++◌, codes}
+use Rattle.std.specs.Prelude.{ℕ, ◌≡◌, ◌≢◌, ◌<◌, ◌+◌, ◌-◌, ◌*◌, ◌⊎◌, Bool, true, false, List, [], ◌∷◌, ◌++◌, codes}
 use Rattle.std.specs.Char.{is_ascii_digit}
 use Rattle.std.specs.Fmt.{decimal}
 use Rattle.tc_verdict.specs.declared.run.Run.{Run}
@@ -13,6 +13,8 @@ use Rattle.tc_text.specs.declared.verb.Verb.{Verb}
 use Rattle.tc_text.specs.declared.verb.Verb.TheVariants as V
 use Rattle.tc_text.specs.declared.verb.Status.{Status}
 use Rattle.tc_text.specs.declared.verb.Status.TheVariants as S
+use Rattle.tc_text.specs.declared.short.ShortOp.{ShortOp}
+use Rattle.tc_text.specs.declared.short.ShortOp.TheVariants as H
 use Rattle.tc_text.specs.Spelling.{group_text, target_text, args_text}
 
 -- the number that digits write behind those of n
@@ -33,6 +35,11 @@ pub record EndsMove (text : List ℕ) : Type 0 where
   pub number : EndsNumber text
   pub word : (b : ℕ) (rest : List ℕ) → text ≡ 32 ∷ b ∷ rest → b < 48
 
+-- what may stand behind a reply: neither a digit nor a letter comes first, nor a space
+pub record EndsReply (text : List ℕ) : Type 0 where
+  pub number : EndsNumber text
+  pub no_space : (rest : List ℕ) → text ≢ 32 ∷ rest
+
 -- the first words of an operation that is about a target
 abbrev pub status_text : Status → List ℕ
 status_text S.Running = codes "running "
@@ -44,6 +51,14 @@ status_text S.WaitKilled = codes "wait killed "
 status_text S.WakeDone = codes "wake done "
 status_text S.WakeKilled = codes "wake killed "
 
+-- the first words of a wait or a wake
+abbrev pub IsWait : Status → Type 0
+IsWait S.WaitDone = Unit {0}
+IsWait S.WaitKilled = Unit {0}
+IsWait S.WakeDone = Unit {0}
+IsWait S.WakeKilled = Unit {0}
+IsWait _ = ⊥
+
 -- the operation that begins so and is about the target
 abbrev pub status_op : Status → Target → Op
 status_op S.Running t = O.Running t
@@ -54,6 +69,16 @@ status_op S.WaitDone t = O.Wait false t
 status_op S.WaitKilled t = O.Wait true t
 status_op S.WakeDone t = O.Wake false t
 status_op S.WakeKilled t = O.Wake true t
+
+-- the operation that a short one is
+abbrev pub op_of : ShortOp → Op
+op_of (H.Create alive) = O.Create alive
+op_of (H.Stop g) = O.Stop g
+op_of (H.Kill g) = O.Kill g
+op_of (H.Status s t) = status_op s t
+op_of (H.SetVerdict v) = O.SetVerdict v
+op_of H.GetVerdict = O.GetVerdict
+op_of H.Finish = O.Finish
 
 -- the first words of an operation
 abbrev pub verb_text : Verb → List ℕ

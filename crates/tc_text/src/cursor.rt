@@ -4,7 +4,7 @@ ghost use Rattle.tc_text.specs.Reading.{EndsLine};
 
 /// What stands behind the word, where the text begins with it.
 #[inline(always)]
-pub(crate) fn after<'a>(text: &'a [u8], word: &[u8]) -> Option<&'a [u8]>
+pub fn after<'a>(text: &'a [u8], word: &[u8]) -> Option<&'a [u8]>
     ensures { MatchOption result ((rest : List ℕ) → text.now ≢ word.now ++ rest) (λ rest. text.now ≡ word.now ++ rest.now) }
 {
     text.strip_prefix(word)
@@ -12,7 +12,7 @@ pub(crate) fn after<'a>(text: &'a [u8], word: &[u8]) -> Option<&'a [u8]>
 
 /// What stands behind the end of a line, where the text begins with that end: an LF, or nothing.
 #[inline(always)]
-pub(crate) fn take_line_end(text: &[u8]) -> Option<&[u8]>
+pub fn take_line_end(text: &[u8]) -> Option<&[u8]>
     ensures { MatchOption result ((behind : List ℕ) → EndsLine text.now behind → ⊥) (λ behind. EndsLine text.now behind.now) }
 {
     match after(text, b"\n") {

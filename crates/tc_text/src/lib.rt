@@ -9,15 +9,21 @@ mod moves;
 mod number;
 mod operand;
 mod reply;
+mod short;
 mod verb;
+mod verdict;
 mod writing;
 
 pub use append::{append_number, append_text};
+pub use cursor::{after, take_line_end};
 pub use fault::{TextFault, TextKind};
-pub use move_list::{MoveList, read_moves, take_first_line, take_move_line};
+pub use move_list::{MoveList, as_behaviours, read_moves, take_first_line, take_move_line};
 pub use moves::{read_move, take_move};
-pub use number::read_number;
-pub use reply::{read_reply, write_reply};
+pub use number::{read_number, take_number};
+pub use reply::{read_reply, take_reply, write_reply};
+pub use short::{ShortOp, take_short_move};
+pub use verb::Status;
+pub use verdict::take_verdict;
 pub use writing::{write_move, write_op};
 
 #[cfg(test)]

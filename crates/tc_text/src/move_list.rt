@@ -21,7 +21,7 @@ pub struct MoveList {
 }
 
 /// The number, where a case may have so many behaviours.
-pub(crate) fn as_behaviours(number: u32) -> Option<u16>
+pub fn as_behaviours(number: u32) -> Option<u16>
     ensures some { IfSome result (λ n. (n ≡ number) × IsBehaviours n) }
     ensures none { IfNone result (IsBehaviours number → ⊥) }
 {

@@ -28,7 +28,9 @@ pub fn take_move(text: &[u8]) -> Option<((Run, Op), &[u8])>
 {
     let (run, rest) = take_run(text)?;
     let rest = after(rest, b" ")?;
-    let (op, rest) = take_op(rest)?;
+    let Some((op, rest)) = take_op(rest) else {
+        return None;
+    };
     Some(((run, op), rest))
 }
 

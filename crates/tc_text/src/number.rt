@@ -31,7 +31,7 @@ fn is_spelling(digits: &[u8]) -> bool
 
 /// The number that the text begins with, and what stands behind it.
 #[inline(always)]
-pub(crate) fn take_number(text: &[u8]) -> Option<(u32, &[u8])>
+pub fn take_number(text: &[u8]) -> Option<(u32, &[u8])>
     ensures spelled { IfSome result (λ r. text.now ≡ decimal r.0 ++ r.1.now) }
     ensures fits { IfSome result (λ r. r.0 < 2 ^ 32) }
     ensures only { (n : ℕ) (rest : List ℕ) → n < 2 ^ 32 → EndsNumber rest → text.now ≡ decimal n ++ rest → MatchOption result ⊥ (λ r. (r.0 ≡ n) × (r.1.now ≡ rest)) }

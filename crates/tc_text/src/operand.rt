@@ -19,7 +19,7 @@ use crate::verb::{Verb, about};
 use tc_entry::{Args, Comp, Group, Op, Run, Target, UserVerdict};
 
 #[inline(always)]
-fn take_group(text: &[u8]) -> Option<(Group, &[u8])>
+pub(crate) fn take_group(text: &[u8]) -> Option<(Group, &[u8])>
     ensures spelled { IfSome result (λ r. text.now ≡ group_text r.0 ++ r.1.now) }
     ensures fits { IfSome result (λ r. IsGroup r.0) }
     ensures only { (g : AnyGroup) (rest : List ℕ) → IsGroup g → EndsNumber rest → text.now ≡ group_text g ++ rest → MatchOption result ⊥ (λ r. (r.0 ≡ g) × (r.1.now ≡ rest)) }
@@ -32,7 +32,7 @@ fn take_group(text: &[u8]) -> Option<(Group, &[u8])>
 }
 
 #[inline(always)]
-fn take_target(text: &[u8]) -> Option<(Target, &[u8])>
+pub(crate) fn take_target(text: &[u8]) -> Option<(Target, &[u8])>
     ensures spelled { IfSome result (λ r. text.now ≡ target_text r.0 ++ r.1.now) }
     ensures fits { IfSome result (λ r. IsTarget r.0) }
     ensures only { (t : AnyTarget) (rest : List ℕ) → IsTarget t → EndsNumber rest → text.now ≡ target_text t ++ rest → MatchOption result ⊥ (λ r. (r.0 ≡ t) × (r.1.now ≡ rest)) }
@@ -48,7 +48,7 @@ fn take_target(text: &[u8]) -> Option<(Target, &[u8])>
 }
 
 #[inline(always)]
-fn take_setting(text: &[u8]) -> Option<(UserVerdict, &[u8])>
+pub(crate) fn take_setting(text: &[u8]) -> Option<(UserVerdict, &[u8])>
     ensures spelled { IfSome result (λ r. text.now ≡ name_of (given r.0) ++ r.1.now) }
     ensures only { (v : AnySetting) (rest : List ℕ) → text.now ≡ name_of (given v) ++ rest → MatchOption result ⊥ (λ r. (r.0 ≡ v) × (r.1.now ≡ rest)) }
 {
@@ -81,7 +81,7 @@ pub(crate) fn take_run(text: &[u8]) -> Option<(Run, &[u8])>
 
 // Whether the component that is created is alive-type.
 #[inline(always)]
-fn take_kind(text: &[u8]) -> (bool, &[u8])
+pub(crate) fn take_kind(text: &[u8]) -> (bool, &[u8])
     ensures spelled { text.now ≡ kind_text result.0 ++ result.1.now }
     ensures only { (alive : Bool) (rest : List ℕ) → EndsMove rest → text.now ≡ kind_text alive ++ rest → (result.0 ≡ alive) × (result.1.now ≡ rest) }
 {

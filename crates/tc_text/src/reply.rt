@@ -1,45 +1,96 @@
 //! The texts of replies.
-ghost use Rattle.std.specs.Prelude.{◌≡◌, ◌↔◌, ◌<◌, ◌^◌, ◌++◌, ℕ, codes, IsTrue, Some, IfSome, OnOk, OnErr};
+ghost use Rattle.std.specs.Prelude.{◌≡◌, ◌++◌, ℕ, List, codes, slice_get, Some, IfSome, MatchOption, OnOk, OnErr};
 ghost use Rattle.std.specs.Io.{StartsWith};
 ghost use Rattle.tc_text.specs.Spelling.{reply_text, fault_name, IsReply};
+ghost use Rattle.tc_text.specs.Reading.{EndsReply};
 ghost use Rattle.tc_entry.specs.declared.reply.Fault.{Fault as AnyFault};
 ghost use Rattle.tc_entry.specs.declared.reply.Reply.{Reply as AnyReply};
 
 use crate::append::{append_number, append_text};
 use crate::cursor::after;
-use crate::number::read_number;
+use crate::number::take_number;
 use tc_entry::{Comp, Fault, NoMemory, Reply, Verdict};
 use tc_verdict::name;
 
-#[inline(always)]
-fn is(text: &[u8], word: &[u8]) -> bool
-    ensures { IsTrue result ↔ (text.now ≡ word.now) }
+// The name of a dynamic error that the text begins with, and what stands behind it.
+fn take_fault(text: &[u8]) -> Option<(Fault, &[u8])>
+    ensures spelled { IfSome result (λ r. text.now ≡ fault_name r.0 ++ r.1.now) }
+    ensures only { (f : AnyFault) (rest : List ℕ) → text.now ≡ fault_name f ++ rest → MatchOption result ⊥ (λ r. (r.0 ≡ f) × (r.1.now ≡ rest)) }
 {
-    text == word
-}
-
-fn read_fault(text: &[u8]) -> Option<Fault>
-    ensures spelled { IfSome result (λ f. text.now ≡ fault_name f) }
-    ensures only { (f : AnyFault) → text.now ≡ fault_name f → result ≡ Some f }
-{
-    if is(text, b"no-component") {
-        Some(Fault::NoComponent)
-    } else if is(text, b"not-main") {
-        Some(Fault::NotMain)
-    } else if is(text, b"start-main") {
-        Some(Fault::StartMain)
-    } else if is(text, b"already-running") {
-        Some(Fault::AlreadyRunning)
-    } else if is(text, b"not-startable") {
-        Some(Fault::NotStartable)
-    } else if is(text, b"no-behaviour") {
-        Some(Fault::NoBehaviour)
-    } else if is(text, b"too-many") {
-        Some(Fault::TooMany)
-    } else if is(text, b"stuck") {
-        Some(Fault::Stuck)
+    if let Some(rest) = after(text, b"no-component") {
+        Some((Fault::NoComponent, rest))
+    } else if let Some(rest) = after(text, b"not-main") {
+        Some((Fault::NotMain, rest))
+    } else if let Some(rest) = after(text, b"start-main") {
+        Some((Fault::StartMain, rest))
+    } else if let Some(rest) = after(text, b"already-running") {
+        Some((Fault::AlreadyRunning, rest))
+    } else if let Some(rest) = after(text, b"not-startable") {
+        Some((Fault::NotStartable, rest))
+    } else if let Some(rest) = after(text, b"no-behaviour") {
+        Some((Fault::NoBehaviour, rest))
+    } else if let Some(rest) = after(text, b"too-many") {
+        Some((Fault::TooMany, rest))
+    } else if let Some(rest) = after(text, b"stuck") {
+        Some((Fault::Stuck, rest))
     } else {
         None
+    }
+}
+
+// The reply that the text begins with, where its first letter is an e.
+#[inline(always)]
+fn take_end_or_error(text: &[u8]) -> Option<(Reply, &[u8])>
+    ensures spelled { IfSome result (λ r. text.now ≡ reply_text r.0 ++ r.1.now) }
+    ensures fits { IfSome result (λ r. IsReply r.0) }
+    ensures only { (r : AnyReply) (rest : List ℕ) → slice_get text.now 0 ≡ Some 101 → EndsReply rest → text.now ≡ reply_text r ++ rest → MatchOption result ⊥ (λ x. (x.0 ≡ r) × (x.1.now ≡ rest)) }
+{
+    if let Some(rest) = after(text, b"ended") {
+        return Some((Reply::Ended, rest));
+    }
+    if let Some(rest) = after(text, b"error ") {
+        let (fault, rest) = take_fault(rest)?;
+        return Some((Reply::Fault(fault), rest));
+    }
+    Some((Reply::Local(Verdict::Error), after(text, b"error")?))
+}
+
+/// The reply that the text begins with, and what stands behind it.
+#[inline(always)]
+pub fn take_reply(text: &[u8]) -> Option<(Reply, &[u8])>
+    ensures spelled { IfSome result (λ r. text.now ≡ reply_text r.0 ++ r.1.now) }
+    ensures fits { IfSome result (λ r. IsReply r.0) }
+    ensures only { (r : AnyReply) (rest : List ℕ) → IsReply r → EndsReply rest → text.now ≡ reply_text r ++ rest → MatchOption result ⊥ (λ x. (x.0 ≡ r) × (x.1.now ≡ rest)) }
+{
+    match *text.first()? {
+        b'o' => Some((Reply::Ok, after(text, b"ok")?)),
+        b't' => Some((Reply::Answer(true), after(text, b"true")?)),
+        b'e' => take_end_or_error(text),
+        b'f' => {
+            if let Some(rest) = after(text, b"false") {
+                Some((Reply::Answer(false), rest))
+            } else {
+                Some((Reply::Local(Verdict::Fail), after(text, b"fail")?))
+            }
+        }
+        b'm' => {
+            if let Some(rest) = after(text, b"matched") {
+                Some((Reply::Matched, rest))
+            } else {
+                let (number, rest) = take_number(after(text, b"made ")?)?;
+                Some((Reply::Made(Comp(number)), rest))
+            }
+        }
+        b'p' => {
+            if let Some(rest) = after(text, b"parked") {
+                Some((Reply::Parked, rest))
+            } else {
+                Some((Reply::Local(Verdict::Pass), after(text, b"pass")?))
+            }
+        }
+        b'n' => Some((Reply::Local(Verdict::None), after(text, b"none")?)),
+        b'i' => Some((Reply::Local(Verdict::Inconc), after(text, b"inconc")?)),
+        _ => None,
     }
 }
 
@@ -49,33 +100,8 @@ pub fn read_reply(text: &[u8]) -> Option<Reply>
     ensures fits { IfSome result IsReply }
     ensures only { (r : AnyReply) → IsReply r → text.now ≡ reply_text r → result ≡ Some r }
 {
-    if is(text, b"ok") {
-        Some(Reply::Ok)
-    } else if is(text, b"true") {
-        Some(Reply::Answer(true))
-    } else if is(text, b"false") {
-        Some(Reply::Answer(false))
-    } else if is(text, b"matched") {
-        Some(Reply::Matched)
-    } else if is(text, b"parked") {
-        Some(Reply::Parked)
-    } else if is(text, b"none") {
-        Some(Reply::Local(Verdict::None))
-    } else if is(text, b"pass") {
-        Some(Reply::Local(Verdict::Pass))
-    } else if is(text, b"inconc") {
-        Some(Reply::Local(Verdict::Inconc))
-    } else if is(text, b"fail") {
-        Some(Reply::Local(Verdict::Fail))
-    } else if is(text, b"error") {
-        Some(Reply::Local(Verdict::Error))
-    } else if is(text, b"ended") {
-        Some(Reply::Ended)
-    } else if let Some(number) = after(text, b"made ") {
-        Some(Reply::Made(Comp(read_number(number)?)))
-    } else {
-        Some(Reply::Fault(read_fault(after(text, b"error ")?)?))
-    }
+    let (reply, rest) = take_reply(text)?;
+    if rest.is_empty() { Some(reply) } else { None }
 }
 
 fn name_of_fault(fault: Fault) -> &'static str

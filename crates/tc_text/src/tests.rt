@@ -317,3 +317,54 @@ fn words_of_faults(rt: HostRuntime) {
     assert_eq!(rt; TextKind::Entry.text(), "bad entry");
     assert_eq!(rt; TextKind::Early.text(), "text ends too early");
 }
+
+#[test]
+fn parts_are_taken(rt: HostRuntime) {
+    assert_eq!(rt; after(b"end pass", b"end "), Some(b"pass".as_slice()));
+    assert_eq!(rt; after(b"end", b"end "), None);
+    assert_eq!(rt; take_line_end(b"\nend"), Some(b"end".as_slice()));
+    assert_eq!(rt; take_line_end(b""), Some(b"".as_slice()));
+    assert_eq!(rt; take_line_end(b" \n"), None);
+    assert_eq!(rt; take_number(b"10 "), Some((10, b" ".as_slice())));
+    assert_eq!(rt; take_number(b"010"), None);
+    assert_eq!(rt; as_behaviours(64), Some(64));
+    assert_eq!(rt; as_behaviours(65), None);
+    assert_eq!(rt;
+        take_verdict(b"inconc\n"),
+        Some((Verdict::Inconc, b"\n".as_slice()))
+    );
+    assert_eq!(rt;
+        take_reply(b"error\n"),
+        Some((Reply::Local(Verdict::Error), b"\n".as_slice()))
+    );
+    assert_eq!(rt;
+        take_reply(b"error stuck\n"),
+        Some((Reply::Fault(Fault::Stuck), b"\n".as_slice()))
+    );
+    assert_eq!(rt;
+        take_reply(b"made 7\n"),
+        Some((Reply::Made(Comp(7)), b"\n".as_slice()))
+    );
+    assert_eq!(rt;
+        take_reply(b"errors"),
+        Some((Reply::Local(Verdict::Error), b"s".as_slice()))
+    );
+    assert_eq!(rt; take_reply(b"maybe"), None);
+}
+
+#[test]
+fn short_moves_are_taken(rt: HostRuntime) {
+    let short = ShortOp::Status(Status::WaitKilled, Target::Any);
+    assert_eq!(rt;
+        take_short_move(b"3 wait killed any -> ok"),
+        Some(((Run(3), short), b" -> ok".as_slice()))
+    );
+    assert!(rt;
+        short.op().same(&Op::Wait {
+            killed: true,
+            target: Target::Any
+        })
+    );
+    assert_eq!(rt; take_short_move(b"0 start 1 2 3"), None);
+    assert_eq!(rt; take_short_move(b"0 stop any"), None);
+}

@@ -1,6 +1,7 @@
 //! The first words of operations.
 ghost use Rattle.std.specs.Prelude.{◌≡◌, ◌++◌, ℕ, List, IfSome, MatchOption};
-ghost use Rattle.tc_text.specs.Reading.{status_op, verb_text};
+ghost use Rattle.tc_text.specs.Reading.{IsWait, status_op, status_text, verb_text};
+ghost use Rattle.tc_text.specs.declared.verb.Status.{Status as AnyStatus};
 ghost use Rattle.tc_text.specs.declared.verb.Verb.{Verb as AnyVerb};
 
 use crate::cursor::after;
@@ -8,7 +9,7 @@ use tc_entry::{Op, Target};
 
 /// What is asked of a target, or waited for.
 #[derive(Clone, Copy, PartialEq, Eq, Debug)]
-pub(crate) enum Status {
+pub enum Status {
     Running,
     Alive,
     Done,
@@ -61,6 +62,25 @@ pub(crate) fn about(status: Status, target: Target) -> Op
     }
 }
 
+// The first words of the wait or the wake that the text begins with, and what stands behind them.
+#[inline(always)]
+fn take_wait(text: &[u8]) -> Option<(Status, &[u8])>
+    ensures spelled { IfSome result (λ r. text.now ≡ status_text r.0 ++ r.1.now) }
+    ensures only { (s : AnyStatus) (rest : List ℕ) → IsWait s → text.now ≡ status_text s ++ rest → MatchOption result ⊥ (λ r. (r.0 ≡ s) × (r.1.now ≡ rest)) }
+{
+    if let Some(rest) = after(text, b"wait done ") {
+        Some((Status::WaitDone, rest))
+    } else if let Some(rest) = after(text, b"wait killed ") {
+        Some((Status::WaitKilled, rest))
+    } else if let Some(rest) = after(text, b"wake done ") {
+        Some((Status::WakeDone, rest))
+    } else if let Some(rest) = after(text, b"wake killed ") {
+        Some((Status::WakeKilled, rest))
+    } else {
+        None
+    }
+}
+
 /// The first words of the operation that the text begins with, and what stands behind them.
 #[inline(always)]
 pub(crate) fn take_verb(text: &[u8]) -> Option<(Verb, &[u8])>
@@ -89,17 +109,8 @@ pub(crate) fn take_verb(text: &[u8]) -> Option<(Verb, &[u8])>
             }
         }
         b'w' => {
-            if let Some(rest) = after(text, b"wait done ") {
-                Some((Verb::Status(Status::WaitDone), rest))
-            } else if let Some(rest) = after(text, b"wait killed ") {
-                Some((Verb::Status(Status::WaitKilled), rest))
-            } else if let Some(rest) = after(text, b"wake done ") {
-                Some((Verb::Status(Status::WakeDone), rest))
-            } else if let Some(rest) = after(text, b"wake killed ") {
-                Some((Verb::Status(Status::WakeKilled), rest))
-            } else {
-                None
-            }
+            let (status, rest) = take_wait(text)?;
+            Some((Verb::Status(status), rest))
         }
         b'c' => Some((Verb::Create, after(text, b"create")?)),
         b'r' => Some((Verb::Status(Status::Running), after(text, b"running ")?)),

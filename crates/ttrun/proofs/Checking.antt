@@ -1,74 +1,84 @@
 -- Histories, checked one after the other.
-use Rattle.std.proofs.Common.{ℕ, suc, ◌≡◌, ◌≢◌, ◌+◌, ◌≤◌, ◌<◌, ◌^◌, ◌==◌, Bool, true, false, if◌then◌else◌, Option, Some, None, IfSome, List, [], ◌∷◌, ◌++◌, length, map, refl, ap, sym, ◌∙◌, append_assoc, arith}
-use Rattle.std.proofs.lemmas.List.{append-nil, length-map, length-append}
-use Rattle.std.specs.List.{onto_first}
+use Rattle.std.proofs.Common.{ℕ, ◌≡◌, ◌≢◌, ◌+◌, Bool, true, false, if◌then◌else◌, Option, Some, None, IfSome, List, [], ◌∷◌, ◌++◌, length, refl, ap, sym, ◌∙◌, append_assoc}
+use Rattle.std.proofs.lemmas.List.{append-nil}
 use Rattle.tc_stream.specs.Output.{AppendsPrefix}
-use Rattle.tc_text.specs.Lines.{lines_of}
+use Rattle.tc_text.specs.declared.fault.TextFault.{TextFault}
 use Rattle.tc_history.specs.declared.read.Block.{Block}
-use Rattle.tc_history.specs.Block.{header_text, entry_text, end_text}
-use Rattle.tc_history.specs.Text.{AreBlocks, AreHistories, open_lines, block_lines, all_lines}
-use Rattle.ttrun.specs.declared.check.Judgement.{Judgement}
-use Rattle.ttrun.specs.declared.check.Judgement.TheVariants as J
+use Rattle.tc_history.specs.Text.{AreHistories, IsBlockFault, IsHistoryFault}
+use Rattle.tc_history.proofs.Texts.{AreRead, none_are_read, one_is_read, all_read, first_fault}
+use Rattle.ttrun.specs.declared.fault.RunFault.{RunFault}
+use Rattle.ttrun.specs.declared.fault.RunFault.TheVariants as F
+use Rattle.ttrun.specs.declared.judge.Judgement.{Judgement}
 use Rattle.ttrun.specs.Output.{WritesPrefix}
-use Rattle.ttrun.specs.Check.{IsJudgement, legal_line, judgement_line, Checks, IsChecked, Fits, AllFit}
+use Rattle.ttrun.specs.Check.{IsJudgement, judges_legal, judgement_line, Checks, IsCheckOf, IsChecked}
+use Rattle.ttrun.specs.Judging.{IsJudgedBlock, RefusesBlock, RefusesHistory}
 
-onto_first-length : (b : ℕ) (ls : List (List ℕ)) → length (onto_first b ls) ≤ length ls + 1
-onto_first-length b [] = omega arith
-onto_first-length b (l ∷ ls) = omega arith
+-- what is printed for these blocks: while all are legal, what is printed for those behind comes behind
+abbrev pub Feeds : List Block → List ℕ → Bool → Type 0
+Feeds blocks out true = (more : List Block) (tail : List ℕ) (legal : Bool) → Checks more tail legal → Checks (blocks ++ more) (out ++ tail) legal
+Feeds blocks out false = (more : List Block) → Checks (blocks ++ more) out false
 
--- a text has no more lines than bytes
-lines_few : (text : List ℕ) → length (lines_of text) ≤ length text
-lines_few [] = omega arith
-lines_few (b ∷ bs) = by_test (b == 10) (lines_few bs)
-  where
-    by_test : (t : Bool) → length (lines_of bs) ≤ length bs → length (if t then [] ∷ lines_of bs else onto_first b (lines_of bs)) ≤ suc (length bs)
-    by_test true before = omega (arith, before)
-    by_test false before = omega (arith, before, onto_first-length b (lines_of bs))
+-- the text is read up to this line, and this is printed for what is read
+pub record IsCheckedSoFar (text rest : List ℕ) (line : ℕ) (out : List ℕ) (legal : Bool) : Type 0 where
+  pub blocks : List Block
+  pub read : AreRead text blocks rest line
+  pub feeds : Feeds blocks out legal
 
-block_count : (b : Block) → length (block_lines b) ≡ length b.entries + 2
-block_count b = omega (arith, length-append (open_lines b.name b.behaviours b.entries) (end_text b.verdict ∷ []), length-map b.entries entry_text)
+pub none_checked : (text out : List ℕ) → out ≡ [] → IsCheckedSoFar text text 1 out true
+none_checked text out none = rw none (record { blocks = []; read = none_are_read text; feeds = λ more tail legal checks. checks })
 
-all_fit : (line bound : ℕ) (blocks : List Block) → AreBlocks line blocks → line + length (all_lines blocks) ≤ bound + 1 → bound < 2 ^ 64 → AllFit blocks
-all_fit line bound [] are within few = tt
-all_fit line bound (b ∷ bs) are within few =
-    let first : b.first_line ≡ line = are.0.first in
-    let count : length (block_lines b) ≡ length b.entries + 2 = block_count b in
-    let parts : length (all_lines (b ∷ bs)) ≡ length (block_lines b) + length (all_lines bs) = length-append (block_lines b) (all_lines bs) in
-    ((are.0.header.few, omega (arith, first, count, parts)), all_fit (line + length (block_lines b)) bound bs are.1 (omega (arith, parts)) few)
+behind : (blocks more : List Block) (b : Block) → (blocks ++ b ∷ []) ++ more ≡ blocks ++ (b ∷ more)
+behind blocks more b = append_assoc blocks (b ∷ []) more
 
-pub histories_fit : (text : List ℕ) (blocks : List Block) → AreHistories text blocks → length text < 2 ^ 64 → AllFit blocks
-histories_fit text blocks are few =
-    all_fit 1 (length text) blocks are.fits (omega (arith, lines_few text, ap length are.lines)) few
+printed_more : (blocks : List Block) (b : Block) (j : Judgement) (out out' : List ℕ) (t : Bool) → judges_legal j ≡ t → Feeds blocks out true → IsJudgement b j → out' ≡ out ++ judgement_line j → Feeds (blocks ++ b ∷ []) out' t
+printed_more blocks b j out out' true e before is added = λ more tail legal checks.
+    let lines : out' ++ tail ≡ out ++ (judgement_line j ++ tail) = ap (λ x. x ++ tail) added ∙ append_assoc out (judgement_line j) tail in
+    rw (behind blocks more b, lines) (before (b ∷ more) (judgement_line j ++ tail) legal (Checks.goes_on b more j tail legal e is checks))
+printed_more blocks b j out out' false e before is added = λ more. rw (behind blocks more b, added) (before (b ∷ more) (judgement_line j) false (Checks.stops b more j e is))
 
--- what is left fits, and its output comes behind what was printed
-pub record IsCheckedSoFar (blocks rest : List Block) (out : List ℕ) : Type 0 where
-  pub fit : AllFit rest
-  pub feeds : (tail : List ℕ) (legal : Bool) → Checks rest tail legal → Checks blocks (out ++ tail) legal
-
-pub none_checked : (blocks : List Block) (out : List ℕ) → AllFit blocks → out ≡ [] → IsCheckedSoFar blocks blocks out
-none_checked blocks out fit none = record { fit = fit; feeds = λ tail legal checks. rw none checks }
-
-pub one_checked : (blocks rest others : List Block) (b : Block) (out out' : List ℕ) → rest ≡ b ∷ others → IsJudgement b J.Legal → out' ≡ out ++ legal_line b →
-    IsCheckedSoFar blocks rest out → IsCheckedSoFar blocks others out'
-one_checked blocks rest others b out out' split is more before = record {
-  fit = (rw split at before.fit).1;
-  feeds = λ tail legal checks.
-      rw (more, append_assoc) (before.feeds (legal_line b ++ tail) legal (rw split (Checks.goes_on b others tail legal is checks)));
+-- one more block, for which something is printed
+pub one_printed : (text rest after : List ℕ) (line next : ℕ) (out out' : List ℕ) (legal : Bool) (j : Judgement) → IsCheckedSoFar text rest line out true → IsJudgedBlock rest line j next after →
+    out' ≡ out ++ judgement_line j → legal ≡ judges_legal j → IsCheckedSoFar text after next out' legal
+one_printed text rest after line next out out' legal j before one added is = record {
+  blocks = before.blocks ++ one.block ∷ [];
+  read = one_is_read text before.blocks rest after line next one.block before.read one.lines one.fits one.next_is one.room;
+  feeds = printed_more before.blocks one.block j out out' legal (sym is) before.feeds one.judged added;
 }
 
-pub one_refused : (blocks rest others : List Block) (b : Block) (j : Judgement) (out out' : List ℕ) → rest ≡ b ∷ others → j ≢ J.Legal → IsJudgement b j → out' ≡ out ++ judgement_line b j →
-    IsCheckedSoFar blocks rest out → Checks blocks out' false
-one_refused blocks rest others b j out out' split other is more before = rw more (before.feeds (judgement_line b j) false (rw split (Checks.stops b others j other is)))
+-- one more block, behind one that is not legal
+pub one_passed : (text rest after : List ℕ) (line next : ℕ) (out : List ℕ) (j : Judgement) → IsCheckedSoFar text rest line out false → IsJudgedBlock rest line j next after → IsCheckedSoFar text after next out false
+one_passed text rest after line next out j before one = record {
+  blocks = before.blocks ++ one.block ∷ [];
+  read = one_is_read text before.blocks rest after line next one.block before.read one.lines one.fits one.next_is one.room;
+  feeds = λ more. rw (behind before.blocks more one.block) (before.feeds (one.block ∷ more));
+}
 
-pub all_checked : (blocks rest : List Block) (out : List ℕ) → rest ≡ [] → IsCheckedSoFar blocks rest out → Checks blocks out true
-all_checked blocks rest out none before =
-    let whole : Checks blocks (out ++ []) true = before.feeds [] true (rw none Checks.none) in rw append-nil at whole
+whole : (blocks : List Block) (out : List ℕ) (legal : Bool) → Feeds blocks out legal → Checks blocks out legal
+whole blocks out true feeds = let all : Checks (blocks ++ []) (out ++ []) true = feeds [] [] true Checks.none in rw (append-nil blocks, append-nil out) at all
+whole blocks out false feeds = let all : Checks (blocks ++ []) out false = feeds [] in rw (append-nil blocks) at all
+
+pub all_checked : (text rest : List ℕ) (line : ℕ) (out : List ℕ) (legal : Bool) → IsCheckedSoFar text rest line out legal → rest ≡ [] → text ≢ [] → IsCheckOf text out legal
+all_checked text rest line out legal so none some = record {
+  blocks = so.blocks;
+  histories = all_read text so.blocks rest line so.read none some;
+  checks = whole so.blocks out legal so.feeds;
+}
+
+-- a fault of the block that should come next is the first fault of the text
+pub refused : (text rest : List ℕ) (line : ℕ) (out : List ℕ) (legal : Bool) (fault : RunFault) → IsCheckedSoFar text rest line out legal → RefusesBlock rest line fault → RefusesHistory text fault
+refused text rest line out legal (F.Text fault) so refuses = first_fault text so.blocks rest line fault so.read refuses
+refused text rest line out legal F.NoMemory so refuses = tt
+refused text rest line out legal F.TooLong so refuses = refuses
+refused text rest line out legal F.Read so refuses = refuses
+refused text rest line out legal F.Write so refuses = refuses
+refused text rest line out legal (F.Script fault) so refuses = refuses
+refused text rest line out legal F.StopOn so refuses = refuses
 
 -- where the output was made and not written whole: the text is read as `read`, the output as `lent`
-pub prefix_checked : (input before after : Option (List ℕ)) (text read out lent : List ℕ) (blocks : List Block) (legal : Bool) (status : ℕ) →
-    IfSome input (λ xs. text ≡ xs) → read ≡ text → AreHistories read blocks → Checks blocks out legal → status ≡ (if legal then 0 else 3) → lent ≡ out →
+pub prefix_checked : (input before after : Option (List ℕ)) (text read out lent : List ℕ) (legal : Bool) (status : ℕ) →
+    IfSome input (λ xs. text ≡ xs) → read ≡ text → IsCheckOf read out legal → status ≡ (if legal then 0 else 3) → lent ≡ out →
     AppendsPrefix before after lent → WritesPrefix IsChecked input before after
-prefix_checked None before after text read out lent blocks legal status same read_is are checks is lent_is written = tt
-prefix_checked (Some xs) before after text read out lent blocks legal status same read_is are checks is lent_is written =
-    let whole : read ≡ xs = read_is ∙ same in
-    (out, status, record { blocks = blocks; legal = legal; histories = rw whole at are; checks = checks; status_is = is }, rw lent_is at written)
+prefix_checked None before after text read out lent legal status same read_is check is lent_is written = tt
+prefix_checked (Some xs) before after text read out lent legal status same read_is check is lent_is written =
+    let entire : read ≡ xs = read_is ∙ same in
+    (out, status, record { legal = legal; check = rw entire at check; status_is = is }, rw lent_is at written)

@@ -4,4 +4,5 @@ pub mod Output
 pub mod Give
 pub mod Script
 pub mod Check
+pub mod Judging
 pub mod WrittenHistories

@@ -5,9 +5,11 @@ ghost use Rattle.std.specs.Prelude.{OnOk};
 ghost use Rattle.tc_campaign.specs.Outline.{HasNames};
 
 mod check;
+mod check_lines;
 mod command;
 mod fault;
 mod give;
+mod judge;
 mod laws;
 mod replay;
 mod script;

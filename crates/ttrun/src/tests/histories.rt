@@ -103,3 +103,24 @@ fn histories_refused_and_checked(rt: HostRuntime) -> Result<(), Fail> {
         3,
     )
 }
+
+#[test]
+fn first_difference_and_first_fault(rt: HostRuntime) -> Result<(), Fail> {
+    refuses_history(
+        &rt,
+        b"history 1 a 1\n0 finish -> ended\nend none\nhistory 1 b 1\n0 finish -> maybe\nend none\n",
+        "ttrun: line 5: bad entry",
+    )?;
+    checks(
+        &rt,
+        "history 1 a 1;0 finish -> ok;end none;history 1 b 1;0 setverdict pass -> ok;0 getverdict -> fail;end pass;history 1 c 1;end pass",
+        "legal a 1 none;line 6: fail, table gives pass",
+        3,
+    )?;
+    checks(
+        &rt,
+        "history 1 t 1;0 getverdict -> pass;0 setverdict pass -> ended;0 finish -> ok;end fail",
+        "line 2: pass, table gives none",
+        3,
+    )
+}

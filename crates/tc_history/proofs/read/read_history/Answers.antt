@@ -1,4 +1,4 @@
-use Rattle.std.proofs.Common.{◌≡◌, ◌≢◌, ◌<◌, ◌+◌, [], length, refl, arith}
+use Rattle.std.proofs.Common.{◌≡◌, ◌<◌, ◌+◌, length, refl, arith}
 use Rattle.std.proofs.lemmas.Grind.{common_steps}
 use Rattle.std.proofs.lemmas.List.{nil_from_length}
 use Rattle.tc_text.proofs.LinesOf.{not_empty}
@@ -11,7 +11,7 @@ returns-then-is_empty-clause-only c all is =
     absurd (no_histories c.args.text.now all (nil_from_length c.args.text.now none) is)
 
 pub returns-in-Err-clause-fault : goal.returns-in-Err-clause-fault
-returns-in-Err-clause-fault c = first_fault c.args.text.now c.loop-rest.blocks.items c.loop-rest.rest.now c.loop-rest.line c.in-Err.fault c.loop-rest.invariant c.in-Err.ensures.fault
+returns-in-Err-clause-fault c = first_fault c.args.text.now c.loop-rest.blocks.items c.loop-rest.rest.now c.loop-rest.line c.in-Err.fault c.loop-rest.invariant.are c.in-Err.ensures.fault
 
 pub returns-in-Err-clause-only : goal.returns-in-Err-clause-only
 returns-in-Err-clause-only c all is =
@@ -29,7 +29,7 @@ pub returns-clause-ok : goal.returns-clause-ok
 returns-clause-ok c =
     let some : 0 < length c.args.text.now = grind (arith, common_steps) in
     let none : length c.loop-rest.rest.now ≡ 0 = grind (arith, common_steps) in
-    all_read c.args.text.now c.loop-rest.blocks.items c.loop-rest.rest.now c.loop-rest.line c.loop-rest.invariant (nil_from_length c.loop-rest.rest.now none) (not_empty c.args.text.now some)
+    all_read c.args.text.now c.loop-rest.blocks.items c.loop-rest.rest.now c.loop-rest.line c.loop-rest.invariant.are (nil_from_length c.loop-rest.rest.now none) (not_empty c.args.text.now some)
 
 pub returns-clause-only : goal.returns-clause-only
 returns-clause-only c all is =

@@ -3,7 +3,7 @@ use Rattle.tc_history.proofs.Blocks.{SoFar}
 use Rattle.tc_history.proofs.read.take_block.Given as goal
 
 abbrev pub invariant-loop-rest : goal.invariant-loop-rest
-invariant-loop-rest l = SoFar l.text l.first_line l.name l.behaviours l.entries.items l.rest
+invariant-loop-rest l = SoFar l.text l.first_line l.header.name l.header.behaviours l.entries.items l.rest
 
 abbrev pub decreases-loop-rest : goal.decreases-loop-rest
 decreases-loop-rest l = length l.rest

@@ -1,4 +1,4 @@
-use Rattle.std.proofs.Common.{◌≡◌, ◌∙◌, ◌+◌, ◌-◌, ◌++◌, ap, arith}
+use Rattle.std.proofs.Common.{◌∙◌, ◌-◌, ◌++◌, ap, arith}
 use Rattle.tc_text.proofs.Filling.{filled_more, all_filled}
 use Rattle.tc_text.proofs.append.append_number.Goals as goal
 

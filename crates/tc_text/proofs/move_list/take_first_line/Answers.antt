@@ -1,6 +1,5 @@
-use Rattle.std.proofs.Common.{◌∙◌, ◌∷◌, ap, sym}
+use Rattle.std.proofs.Common.{◌∙◌, ap}
 use Rattle.tc_text.specs.Lines.{lines_of}
-use Rattle.tc_text.specs.MoveList.{behaviours_line, IsBehaviours}
 use Rattle.tc_text.proofs.LinesOf.{same_behind}
 use Rattle.tc_text.proofs.MoveLines.{behaviours_spelled, no_word, no_behaviours, that_first}
 use Rattle.tc_text.proofs.move_list.take_first_line.Goals as goal

@@ -1,4 +1,4 @@
-use Rattle.std.proofs.Common.{◌≡◌, ◌∙◌, ◌<◌, ◌≤◌, ◌+◌, ◌*◌, ◌^◌, arith}
+use Rattle.std.proofs.Common.{◌∙◌, arith}
 use Rattle.tc_text.proofs.Digits.{counted_more, never_large, all_digits, that_number, never_wrong, spelled}
 use Rattle.tc_text.proofs.number.take_number.Goals as goal
 

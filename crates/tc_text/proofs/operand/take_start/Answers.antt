@@ -1,4 +1,4 @@
-use Rattle.std.proofs.Common.{◌≡◌, ◌∙◌, ◌++◌, ap, arith}
+use Rattle.std.proofs.Common.{◌∙◌, ◌++◌, ap, arith}
 use Rattle.tc_text.specs.Spelling.{args_text}
 use Rattle.tc_text.proofs.Operands.{behind_comp, ends_args, same_start}
 use Rattle.tc_text.proofs.operand.take_start.Goals as goal

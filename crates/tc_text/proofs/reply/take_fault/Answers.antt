@@ -1,0 +1,30 @@
+use Rattle.std.proofs.Common.{◌≡◌, ◌≢◌, ℕ, List, ◌++◌, codes}
+use Rattle.tc_entry.specs.declared.reply.Fault.{Fault}
+use Rattle.tc_entry.specs.declared.reply.Fault.TheVariants as F
+use Rattle.tc_text.specs.Spelling.{fault_name}
+use Rattle.tc_text.proofs.reply.take_fault.Goals as goal
+
+-- no name of a dynamic error begins the text
+no_fault : (f : Fault) (text rest : List ℕ)
+    → ((r : List ℕ) → text ≢ codes "no-component" ++ r)
+    → ((r : List ℕ) → text ≢ codes "not-main" ++ r)
+    → ((r : List ℕ) → text ≢ codes "start-main" ++ r)
+    → ((r : List ℕ) → text ≢ codes "already-running" ++ r)
+    → ((r : List ℕ) → text ≢ codes "not-startable" ++ r)
+    → ((r : List ℕ) → text ≢ codes "no-behaviour" ++ r)
+    → ((r : List ℕ) → text ≢ codes "too-many" ++ r)
+    → ((r : List ℕ) → text ≢ codes "stuck" ++ r)
+    → text ≡ fault_name f ++ rest → ⊥
+no_fault F.NoComponent text rest a b c d g h i j e = a rest e
+no_fault F.NotMain text rest a b c d g h i j e = b rest e
+no_fault F.StartMain text rest a b c d g h i j e = c rest e
+no_fault F.AlreadyRunning text rest a b c d g h i j e = d rest e
+no_fault F.NotStartable text rest a b c d g h i j e = g rest e
+no_fault F.NoBehaviour text rest a b c d g h i j e = h rest e
+no_fault F.TooMany text rest a b c d g h i j e = i rest e
+no_fault F.Stuck text rest a b c d g h i j e = j rest e
+
+pub returns-in_default-after-7-clause-only : goal.returns-in_default-after-7-clause-only
+returns-in_default-after-7-clause-only c f rest e =
+    no_fault f c.args.text.now rest c.in_default.ensures c.in_default-after.ensures c.in_default-after-2.ensures c.in_default-after-3.ensures
+    c.in_default-after-4.ensures c.in_default-after-5.ensures c.in_default-after-6.ensures c.in_default-after-7.ensures e

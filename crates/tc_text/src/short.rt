@@ -1,0 +1,97 @@
+//! Operations without arguments, which are small.
+ghost use Rattle.std.specs.Prelude.{◌≡◌, ◌<◌, ◌^◌, ◌++◌, ℕ, List, IfSome, MatchOption};
+ghost use Rattle.tc_text.specs.Spelling.{op_text, move_text, IsOp};
+ghost use Rattle.tc_text.specs.Reading.{EndsMove, op_of, operand_text, verb_of};
+ghost use Rattle.tc_entry.specs.declared.op.Op.{Op as AnyOp};
+
+use crate::cursor::after;
+use crate::operand::{take_group, take_kind, take_run, take_setting, take_target};
+use crate::verb::{Status, Verb, about, take_verb};
+use tc_entry::{Group, Op, Run, Target, UserVerdict};
+
+/// An operation but a Start: what has no arguments is small, and quickly handed on.
+#[derive(Clone, Copy, PartialEq, Eq, Debug)]
+pub enum ShortOp {
+    Create(bool),
+    Stop(Group),
+    Kill(Group),
+    Status(Status, Target),
+    SetVerdict(UserVerdict),
+    GetVerdict,
+    Finish,
+}
+
+impl ShortOp {
+    /// The operation.
+    #[inline(always)]
+    pub fn op(self) -> Op
+        ensures { result ≡ op_of self }
+    {
+        match self {
+            ShortOp::Create(alive) => Op::Create { alive },
+            ShortOp::Stop(group) => Op::Stop(group),
+            ShortOp::Kill(group) => Op::Kill(group),
+            ShortOp::Status(status, target) => about(status, target),
+            ShortOp::SetVerdict(setting) => Op::SetVerdict(setting),
+            ShortOp::GetVerdict => Op::GetVerdict,
+            ShortOp::Finish => Op::Finish,
+        }
+    }
+}
+
+// The operation that begins with these words and goes on as the text begins, and what stands behind it; None for a Start.
+#[inline(always)]
+fn take_short_operand(verb: Verb, text: &[u8]) -> Option<(ShortOp, &[u8])>
+    ensures spelled { IfSome result (λ r. (verb_of (op_of r.0) ≡ verb) × (text.now ≡ operand_text (op_of r.0) ++ r.1.now)) }
+    ensures fits { IfSome result (λ r. IsOp (op_of r.0)) }
+    ensures only { (op : AnyOp) (rest : List ℕ) → verb_of op ≡ verb → IsOp op → EndsMove rest → text.now ≡ operand_text op ++ rest → MatchOption result (verb_of op ≡ Verb.Start) (λ r. (op_of r.0 ≡ op) × (r.1.now ≡ rest)) }
+{
+    match verb {
+        Verb::Create => {
+            let (alive, rest) = take_kind(text);
+            Some((ShortOp::Create(alive), rest))
+        }
+        Verb::Start => None,
+        Verb::Stop => {
+            let (group, rest) = take_group(text)?;
+            Some((ShortOp::Stop(group), rest))
+        }
+        Verb::Kill => {
+            let (group, rest) = take_group(text)?;
+            Some((ShortOp::Kill(group), rest))
+        }
+        Verb::Status(status) => {
+            let (target, rest) = take_target(text)?;
+            Some((ShortOp::Status(status, target), rest))
+        }
+        Verb::SetVerdict => {
+            let (setting, rest) = take_setting(text)?;
+            Some((ShortOp::SetVerdict(setting), rest))
+        }
+        Verb::GetVerdict => Some((ShortOp::GetVerdict, text)),
+        Verb::Finish => Some((ShortOp::Finish, text)),
+    }
+}
+
+#[inline(always)]
+fn take_short_op(text: &[u8]) -> Option<(ShortOp, &[u8])>
+    ensures spelled { IfSome result (λ r. text.now ≡ op_text (op_of r.0) ++ r.1.now) }
+    ensures fits { IfSome result (λ r. IsOp (op_of r.0)) }
+    ensures only { (op : AnyOp) (rest : List ℕ) → IsOp op → EndsMove rest → text.now ≡ op_text op ++ rest → MatchOption result (verb_of op ≡ Verb.Start) (λ r. (op_of r.0 ≡ op) × (r.1.now ≡ rest)) }
+{
+    let (verb, rest) = take_verb(text)?;
+    take_short_operand(verb, rest)
+}
+
+/// The move that the text begins with, and what stands behind it; None also where it is a Start.
+#[inline(always)]
+pub fn take_short_move(text: &[u8]) -> Option<((Run, ShortOp), &[u8])>
+    ensures spelled { IfSome result (λ r. text.now ≡ move_text r.0.0.0 (op_of r.0.1) ++ r.1.now) }
+    ensures fits { IfSome result (λ r. (r.0.0.0 < 2 ^ 16) × IsOp (op_of r.0.1)) }
+    ensures only { (run : ℕ) (op : AnyOp) (rest : List ℕ) → run < 2 ^ 16 → IsOp op → EndsMove rest → text.now ≡ move_text run op ++ rest → MatchOption result (verb_of op ≡ Verb.Start) (λ r. (r.0.0.0 ≡ run) × (op_of r.0.1 ≡ op) × (r.1.now ≡ rest)) }
+{
+    let (run, rest) = take_run(text)?;
+    let rest = after(rest, b" ")?;
+    let (op, rest) = take_short_op(rest)?;
+    Some(((run, op), rest))
+}
