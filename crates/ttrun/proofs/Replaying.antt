@@ -2,17 +2,13 @@
 use Rattle.std.proofs.Common.{ℕ, ◌≡◌, ◌≢◌, ◌+◌, length, Option, Some, None, IfSome, List, [], ◌∷◌, ◌++◌, map, reverse, refl, ap, sym, ◌∙◌}
 use Rattle.std.proofs.lemmas.List.{append-nil, reverse-append, map-append, length-map}
 use Rattle.std.specs.List.{flat_map}
-use Rattle.std.proofs.lemmas.List.Concat.{flat_map-append, flat_map-cons}
-use Rattle.tc_verdict.specs.declared.run.Run.{Run}
+use Rattle.std.proofs.lemmas.List.Concat.{flat_map-append}
 use Rattle.tc_verdict.specs.declared.verdict.Verdict.{Verdict}
 use Rattle.tc_entry.specs.declared.entry.Entry.{Entry}
-use Rattle.tc_entry.specs.declared.op.Op.{Op}
-use Rattle.tc_entry.specs.declared.reply.Reply.{Reply}
 use Rattle.tc_text.specs.MoveList.{Move, move_line, behaviours_line, IsBehaviours, IsMove, IsBadMove}
 use Rattle.tc_text.specs.Lines.{lines_of}
 use Rattle.tc_text.proofs.SoFar.{SoFar, IsThatNumberOfBehaviours, IsThatMove, IsNoMove, begins, goes_on, bad_move, is_done}
 use Rattle.tc_stream.specs.Output.{AppendsPrefix}
-use Rattle.tc_text.specs.Spelling.{reply_text}
 use Rattle.tc_table.specs.Answers.{answer}
 use Rattle.tc_table.specs.Case.{Case, past_of}
 use Rattle.tc_table.specs.Legal.{IsLegal}

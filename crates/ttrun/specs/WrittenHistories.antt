@@ -1,7 +1,8 @@
 -- What `check` says of the histories that `run` writes.
-use Rattle.std.specs.Prelude.{ℕ, ◌≢◌, List, [], ◌∷◌, ◌++◌, All, length, take, codes}
+use Rattle.std.specs.Prelude.{ℕ, ◌≡◌, ◌≢◌, List, [], ◌∷◌, ◌++◌, All, Option, Some, Result, MatchResult, length, take, codes}
 use Rattle.std.specs.List.{AllZip, flat_map}
 use Rattle.std.specs.Fmt.{decimal}
+use Rattle.std.specs.Io.KnownBytes.{Appends}
 use Rattle.tc_verdict.specs.Verdict.{name_of}
 use Rattle.tc_entry.specs.Name.{IsName}
 use Rattle.tc_history.specs.Text.{IsHeader, AreEntries}
@@ -12,6 +13,8 @@ use Rattle.tc_report.specs.Histories.{histories_text}
 use Rattle.tc_campaign.specs.Outline.{Outline}
 use Rattle.tc_campaign.specs.Campaign.{HasBehaviours, IsReported}
 use Rattle.ttrun.specs.Check.{IsChecked}
+use Rattle.ttrun.specs.declared.fault.RunFault.{RunFault}
+use Rattle.ttrun.specs.declared.fault.RunFault.TheVariants as F
 
 -- the name of the test case is a name, and the numbers in its history are those of their types
 abbrev pub FitsItsTypes : Finished → Type 0
@@ -48,3 +51,15 @@ legal_cases r = flat_map legal_case r.finished
 -- this is what `check` says of the histories of the results
 abbrev pub AreFoundLegal : Results → Type 0
 AreFoundLegal r = IsChecked (histories_text r) (legal_cases r) 0
+
+-- the fault is one of the input's length, of a device or of the memory, and not of the text
+abbrev pub IsOutside : RunFault → Type 0
+IsOutside (F.Text fault) = ⊥
+IsOutside (F.Script fault) = ⊥
+IsOutside F.StopOn = ⊥
+IsOutside fault = Unit {0}
+
+-- where the input is what is written of test cases that were run, the status is 0 and each is found legal, or there is a fault, and not of the text
+abbrev pub FindsWrittenLegal : Option (List ℕ) → Option (List ℕ) → Option (List ℕ) → Result ℕ RunFault → Type 0
+FindsWrittenLegal input before after result =
+    (r : Results) → WereRun r → input ≡ Some (histories_text r) → MatchResult result (λ status. (status ≡ 0) × Appends before after (legal_cases r)) IsOutside

@@ -1,10 +1,12 @@
 //! The subcommand `check`.
-ghost use Rattle.std.specs.Prelude.{◌≤◌, length, IfOk, IfErr, IfSome, OnOk};
-ghost use Rattle.tc_history.specs.Text.{IsHistoryFault};
-ghost use Rattle.ttrun.specs.Check.{IsCheckOf, IsChecked};
+ghost use Rattle.std.specs.Prelude.{◌≡◌, ◌≤◌, length, List, IfOk, IfErr, IfSome, MatchResult, OnOk};
+ghost use Rattle.tc_history.specs.declared.read.Block.{Block as AnyBlock};
+ghost use Rattle.tc_history.specs.Text.{AreHistories, IsHistoryFault};
+ghost use Rattle.ttrun.specs.Check.{Checks, IsCheckOf, IsChecked};
 ghost use Rattle.ttrun.specs.Judging.{RefusesHistory};
 ghost use Rattle.ttrun.specs.Output.{Writes};
 ghost use Rattle.ttrun.specs.Fault.{Refuses};
+ghost use Rattle.ttrun.specs.WrittenHistories.{FindsWrittenLegal};
 
 use crate::check_lines::append_judgement;
 use crate::fault::RunFault;
@@ -24,6 +26,7 @@ fn check_text(alloc: Global, text: &[u8]) -> Result<(Vec<u8>, bool), RunFault>
     requires { length text.now ≤ LIMIT }
     ensures done { IfOk result (λ r. IsCheckOf text.now r.0.items r.1) }
     ensures refused { IfErr result (RefusesHistory text.now) }
+    ensures only { (blocks : List AnyBlock) → AreHistories text.now blocks → MatchResult result (λ r. Checks blocks r.0.items r.1) (λ e. e ≡ RunFault.NoMemory) }
 {
     if text.is_empty() {
         return Err(fault_at(1, TextKind::Early));
@@ -55,6 +58,7 @@ pub fn check<R: Read, W: Write>(
     ensures done { IfOk result (λ status. Writes IsChecked (R.remaining reader.old) (W.contents writer.old) (W.contents writer.new) status) }
     ensures fits { OnOk result (IfSome (R.remaining reader.old) (λ text. length text ≤ LIMIT)) }
     ensures refused { IfErr result (λ fault. Refuses IsHistoryFault IsChecked LIMIT (R.remaining reader.old) (W.contents writer.old) (W.contents writer.new) fault) }
+    ensures written { FindsWrittenLegal (R.remaining reader.old) (W.contents writer.old) (W.contents writer.new) result }
 {
     let text = read_input(alloc, reader, LIMIT)?;
     let (out, legal) = check_text(alloc, text.as_slice())?;

@@ -1,7 +1,9 @@
 //! What the table says of a history.
-ghost use Rattle.std.specs.Prelude.{◌≡◌, ◌≢◌, ◌+◌, ◌<◌, ◌≤◌, ◌^◌, ◌++◌, ◌∷◌, [], length, List, ℕ, IfOk, IfErr, OnOk};
+ghost use Rattle.std.specs.Prelude.{◌≡◌, ◌≢◌, ◌+◌, ◌<◌, ◌≤◌, ◌^◌, ◌++◌, ◌∷◌, [], length, List, ℕ, IfOk, IfErr, OnOk, MatchResult};
 ghost use Rattle.tc_entry.specs.declared.entry.Entry.{Entry as AnyEntry};
+ghost use Rattle.tc_text.specs.Lines.{lines_of};
 ghost use Rattle.tc_history.specs.declared.read.Block.{Block as AnyBlock};
+ghost use Rattle.tc_history.specs.Text.{IsBlock, block_lines};
 ghost use Rattle.ttrun.specs.Check.{IsJudgement, judges_legal};
 ghost use Rattle.ttrun.specs.Judging.{IsJudgedBlock, IsPlayed, RefusesBlock};
 
@@ -136,6 +138,7 @@ pub(crate) fn judge_block(
     ensures done { IfOk result (λ r. IsJudgedBlock text.now first_line r.0 r.1 r.2.now) }
     ensures less { IfOk result (λ r. length r.2.now < length text.now) }
     ensures refused { IfErr result (RefusesBlock text.now first_line) }
+    ensures only { (b : AnyBlock) (others : List (List ℕ)) → IsBlock first_line b → lines_of text.now ≡ block_lines b ++ others → MatchResult result (λ r. IsJudgement b r.0 × (r.1 ≡ first_line + (length b.entries + 2)) × (lines_of r.2.now ≡ others)) (λ e. e ≡ RunFault.NoMemory) }
 {
     let Some((header, mut rest)) = take_header_line(text) else {
         return Err(fault_at(first_line, TextKind::FirstLine));

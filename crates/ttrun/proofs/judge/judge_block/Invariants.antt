@@ -1,8 +1,4 @@
-use Rattle.std.proofs.Common.{ℕ, ◌≡◌, ◌+◌, ◌≤◌, List, length}
-use Rattle.tc_entry.specs.declared.entry.Entry.{Entry}
-use Rattle.tc_text.specs.Lines.{lines_of}
-use Rattle.tc_history.specs.Text.{Opens}
-use Rattle.ttrun.specs.declared.judge.Playing.{Playing}
+use Rattle.std.proofs.Common.{length}
 use Rattle.ttrun.proofs.Judging.{IsJudgedSoFar}
 use Rattle.ttrun.proofs.judge.judge_block.Given as goal
 
