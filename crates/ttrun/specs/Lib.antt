@@ -3,6 +3,7 @@ pub mod Fault
 pub mod Output
 pub mod Give
 pub mod Script
+pub mod Run
 pub mod Check
 pub mod Judging
 pub mod WrittenHistories

@@ -1,9 +1,6 @@
 //! The program: reads standard input, answers on standard output, and names a fault on standard error.
 #![tactic(auto)]
 
-ghost use Rattle.std.specs.Prelude.{OnOk};
-ghost use Rattle.tc_campaign.specs.Outline.{HasNames};
-
 mod check;
 mod check_lines;
 mod command;
@@ -12,6 +9,7 @@ mod give;
 mod judge;
 mod laws;
 mod replay;
+mod run;
 mod script;
 mod status;
 #[cfg(test)]
@@ -19,62 +17,22 @@ mod tests;
 
 use crate::check::check;
 use crate::command::{Task, read_task};
-use crate::fault::{RunFault, fault_line};
-use crate::give::{Form, give};
+use crate::fault::RunFault;
 use crate::replay::replay;
-use crate::script::{stop_word, take_script};
+use crate::run::{Options, add_case, add_job, read_run, run_cases, tell};
 use crate::status::REFUSED;
 use clap::error::ErrorKind;
-use std::alloc::Global;
-use std::io::Write;
 use std::process::ExitCode;
 use std::{env, io};
 use tc_behaviour::Behaviour;
 use tc_book::Pass;
-use tc_campaign::{Case, Results, abort_line, run_campaign};
-use tc_entry::Name;
+use tc_campaign::Case;
 use tc_exec::{Back, Job};
 use tc_script::Campaign;
 use tc_stream::write_whole;
-use tc_verdict::{NoMemory, Verdict};
-
-/// How many workers a test case may have.
-const THREADS: u16 = 64;
 
 fn words(rt: &HostRuntime) -> io::Result<Vec<String>> {
     Ok(env::args(rt)?.collect(rt.alloc())?)
-}
-
-// The fault's line; where memory is refused for it, or the writer fails, none is printed.
-fn tell<W: Write>(alloc: Global, errors: &mut W, fault: &RunFault) {
-    let mut line = Vec::new(alloc);
-    if fault_line(fault, &mut line).is_ok() {
-        let _ = write_whole(errors, line.as_slice());
-    }
-}
-
-// The line for a campaign that was aborted; where memory is refused for it, or the writer fails, none is printed.
-fn tell_abort<W: Write>(alloc: Global, errors: &mut W, results: &Results) {
-    let mut line = Vec::new(alloc);
-    if abort_line(results, &mut line).is_ok() {
-        let _ = write_whole(errors, line.as_slice());
-    }
-}
-
-// Adds a behaviour and its job to a test case.
-fn add_job(case: &mut Case, name: Name, job: Job) -> Result<(), NoMemory>
-    ensures { OnOk result (HasNames case.old → HasNames case.new) }
-{
-    case.names.push(name)?;
-    case.jobs.push(job)?;
-    Ok(())
-}
-
-// Writes the results in this form, and tells of a campaign that was aborted.
-fn finish(rt: &HostRuntime, results: &Results, form: Form) -> Result<u8, RunFault> {
-    let status = give(rt.alloc(), results, form, &mut io::writer(rt))?;
-    tell_abort(rt.alloc(), &mut rt.stderr(), results);
-    Ok(status)
 }
 
 // What is left to do once the words are read, and the input of a campaign.
@@ -83,22 +41,8 @@ enum Order {
     Done(u8),
     Run {
         campaign: Campaign,
-        stop_on: Option<Verdict>,
-        form: Form,
+        options: Options,
     },
-}
-
-// Reads the script of a campaign, after the word of the stopping rule.
-fn order_of_run(rt: &HostRuntime, form: Form, stop_on: Option<&str>) -> Result<Order, RunFault> {
-    let stop_on = match stop_on {
-        Some(word) => Some(stop_word(word)?),
-        None => None,
-    };
-    Ok(Order::Run {
-        campaign: take_script(rt.alloc(), &mut rt.reader())?,
-        stop_on,
-        form,
-    })
 }
 
 // The status of an answer; a fault is told on standard error.
@@ -106,7 +50,7 @@ fn settle(rt: &HostRuntime, answer: Result<u8, RunFault>) -> u8 {
     match answer {
         Ok(status) => status,
         Err(fault) => {
-            tell(rt.alloc(), &mut rt.stderr(), &fault);
+            let _ = tell(rt.alloc(), &mut rt.stderr(), &fault);
             REFUSED
         }
     }
@@ -117,7 +61,10 @@ fn order_of_task(rt: &HostRuntime, task: Task) -> Result<Order, RunFault> {
     match task {
         Task::Replay => Ok(Order::Done(replay(alloc, &mut rt.reader(), &mut io::writer(rt))?)),
         Task::Check => Ok(Order::Done(check(alloc, &mut rt.reader(), &mut io::writer(rt))?)),
-        Task::Run { form, stop_on } => order_of_run(rt, form, stop_on),
+        Task::Run { form, stop_on } => {
+            let (campaign, options) = read_run(alloc, &mut rt.reader(), form, stop_on)?;
+            Ok(Order::Run { campaign, options })
+        }
     }
 }
 
@@ -157,13 +104,9 @@ fn order_of(rt: &HostRuntime) -> Order {
 
 fn main(rt: HostRuntime) -> ExitCode {
     let alloc = rt.alloc();
-    let (mut campaign, stop_on, form) = match order_of(&rt) {
+    let (mut campaign, options) = match order_of(&rt) {
         Order::Done(status) => return ExitCode::from(status),
-        Order::Run {
-            campaign,
-            stop_on,
-            form,
-        } => (campaign, stop_on, form),
+        Order::Run { campaign, options } => (campaign, options),
     };
     let mut cases = Vec::new(alloc);
     while let Some((name, scripts)) = campaign.take_first() {
@@ -182,10 +125,17 @@ fn main(rt: HostRuntime) -> ExitCode {
                 return ExitCode::from(settle(&rt, Err(RunFault::NoMemory)));
             }
         }
-        if cases.push(case).is_err() {
+        if add_case(&mut cases, case).is_err() {
             return ExitCode::from(settle(&rt, Err(RunFault::NoMemory)));
         }
     }
-    let results = run_campaign(&rt, alloc, cases, stop_on, THREADS);
-    ExitCode::from(settle(&rt, finish(&rt, &results, form)))
+    let answer = run_cases(
+        &rt,
+        alloc,
+        cases,
+        options,
+        &mut io::writer(&rt),
+        &mut rt.stderr(),
+    );
+    ExitCode::from(settle(&rt, answer))
 }

@@ -8,6 +8,7 @@ use std::test::Fail;
 mod campaigns;
 mod devices;
 mod histories;
+mod orders;
 mod refused;
 mod words;
 mod worked;

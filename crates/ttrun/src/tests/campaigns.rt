@@ -3,8 +3,8 @@ ghost use Rattle.std.specs.Prelude.{All, IfOk, OnOk};
 ghost use Rattle.tc_campaign.specs.Outline.{HasNames};
 
 use super::*;
-use crate::add_job;
 use crate::give::{Form, give};
+use crate::run::add_job;
 use crate::script::{stop_word, take_script};
 use std::alloc::AllocError;
 use tc_behaviour::Behaviour;

@@ -2,9 +2,9 @@
 ghost use Rattle.std.specs.Prelude.{All};
 
 use super::*;
-use crate::add_job;
 use crate::check::check;
 use crate::give::{Form, give};
+use crate::run::add_job;
 use crate::script::take_script;
 use std::alloc::AllocGlobal;
 use std::str;

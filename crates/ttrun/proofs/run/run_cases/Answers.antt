@@ -1,0 +1,12 @@
+use Rattle.ttrun.proofs.Running.{a_prefix_told}
+use Rattle.ttrun.proofs.run.run_cases.Goals as goal
+
+pub returns-clause-done : goal.returns-clause-done
+returns-clause-done g c =
+    let e = c.run_campaign-results.ensures in (
+      c.run_campaign-results.result,
+      record { right = e.right; reports = e.reports; calls = e.called; names = e.names; behaviours = e.behaviours; why = e.why },
+      c.in_ok-status.ensures.status,
+      c.in_ok-status.ensures.done,
+      a_prefix_told c.tell_abort.result _ _ _ c.tell_abort.ensures.told c.tell_abort.ensures.refused,
+    )

@@ -1,0 +1,71 @@
+-- The run of a campaign: the words that it is asked for with, and what is written of it.
+use Rattle.std.specs.Prelude.{ℕ, ◌≡◌, ◌⊎◌, List, All, Option, None, Some, length, map, take, slice_get}
+use Rattle.std.specs.List.{AllZip}
+use Rattle.std.specs.Io.KnownBytes.{Appends}
+use Rattle.tc_stream.specs.Output.{AppendsPrefix}
+use Rattle.tc_verdict.specs.declared.verdict.Verdict.{Verdict}
+use Rattle.tc_verdict.specs.Verdict.{name_of}
+use Rattle.tc_campaign.specs.Outline.{Outline}
+use Rattle.tc_campaign.specs.Campaign.{HasBehaviours, IsNamed, IsReported, IsRight, IsWhy}
+use Rattle.tc_report.specs.declared.results.Finished.{Finished}
+use Rattle.tc_report.specs.declared.results.Results.{Results}
+use Rattle.tc_report.specs.Ending.{abort_text}
+use Rattle.tc_report.specs.Status.{results_status}
+use Rattle.ttrun.specs.declared.run.Options.{Options}
+use Rattle.ttrun.specs.declared.fault.RunFault.{RunFault}
+use Rattle.ttrun.specs.declared.fault.RunFault.TheVariants as F
+use Rattle.ttrun.specs.Give.{text_of, LeavesUnwritten}
+use Rattle.ttrun.specs.Script.{RefusesScript}
+
+-- the bytes of a word, where there is one
+abbrev pub bytes_of : {X : Type 0} → (X → List ℕ) → Option X → Option (List ℕ)
+bytes_of bytes None = None
+bytes_of bytes (Some word) = Some (bytes word)
+
+-- the stopping rule is the verdict that the word names; without a word there is none
+abbrev pub IsRuleOf : Option (List ℕ) → Option Verdict → Type 0
+IsRuleOf None None = Unit {0}
+IsRuleOf None (Some v) = ⊥
+IsRuleOf (Some word) None = ⊥
+IsRuleOf (Some word) (Some v) = word ≡ name_of v
+
+-- there is a stopping rule for the word
+abbrev pub HasRule : Option (List ℕ) → Type 0
+HasRule word = (rule : Option Verdict) × IsRuleOf word rule
+
+-- there is a word, and it is the name of no verdict
+abbrev pub IsNoName : Option (List ℕ) → Type 0
+IsNoName None = ⊥
+IsNoName (Some word) = (v : Verdict) → word ≡ name_of v → ⊥
+
+-- the word is refused for its name
+abbrev pub RefusesWord : Option (List ℕ) → RunFault → Type 0
+RefusesWord word F.StopOn = IsNoName word
+RefusesWord word fault = ⊥
+
+-- the word of the stopping rule is refused; or it is good, and the input, of at most so many bytes, is refused
+abbrev pub RefusesRun : Option (List ℕ) → ℕ → Option (List ℕ) → RunFault → Type 0
+RefusesRun word limit input fault = RefusesWord word fault ⊎ (HasRule word × RefusesScript limit input fault)
+
+-- the results of a run of these cases under this stopping rule
+pub record AreResults {C : Type 0} (outline : C → Outline) (called : C → Finished → Type 0) (cases : List C) (stop_on : Option Verdict) (r : Results) : Type 0 where
+  pub right : IsRight (map outline cases) stop_on r
+  -- each report is of a case with as many behaviours, whose jobs were called
+  pub reports : AllZip IsReported (take (length r.finished) (map outline cases)) r.finished
+  pub calls : AllZip called (take (length r.finished) cases) r.finished
+  pub names : All IsNamed r.finished
+  pub behaviours : All HasBehaviours r.finished
+  pub why : IsWhy (slice_get (map outline cases) (length r.finished)) r.ending
+
+-- The text of the results of these cases under these options was written, and this is their status. The line for a
+-- campaign that was aborted was told, whole or a prefix of it; for another nothing was.
+abbrev pub IsRun : {C : Type 0} → (C → Outline) → (C → Finished → Type 0) → List C → Options →
+    Option (List ℕ) → Option (List ℕ) → Option (List ℕ) → Option (List ℕ) → ℕ → Type 0
+IsRun outline called cases options before after untold told status =
+    (r : Results) × AreResults outline called cases options.stop_on r × (status ≡ results_status r) × Appends before after (text_of options.form r)
+    × AppendsPrefix untold told (abort_text r.ending)
+
+-- the text of the results of these cases under these options was not written whole
+abbrev pub IsUnwritten : {C : Type 0} → (C → Outline) → (C → Finished → Type 0) → List C → Options → Option (List ℕ) → Option (List ℕ) → RunFault → Type 0
+IsUnwritten outline called cases options before after fault =
+    (r : Results) × AreResults outline called cases options.stop_on r × LeavesUnwritten before after (text_of options.form r) fault
