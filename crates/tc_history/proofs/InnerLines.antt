@@ -18,7 +18,7 @@ use Rattle.tc_text.proofs.Plain.{number_plain, move_plain, some_move}
 use Rattle.tc_history.specs.Block.{entry_text, end_text}
 use Rattle.tc_history.specs.Text.{IsEntry}
 
-verdict_plain : (v : Verdict) → NoLf (name_of v)
+pub verdict_plain : (v : Verdict) → NoLf (name_of v)
 verdict_plain V.None = search rules
 verdict_plain V.Pass = search rules
 verdict_plain V.Inconc = search rules
@@ -35,7 +35,7 @@ fault_plain F.NoBehaviour = search rules
 fault_plain F.TooMany = search rules
 fault_plain F.Stuck = search rules
 
-reply_plain : (r : Reply) → IsReply r → NoLf (reply_text r)
+pub reply_plain : (r : Reply) → IsReply r → NoLf (reply_text r)
 reply_plain (R.Made c) fits = no_lf-append (codes "made ") _ (search rules) (number_plain c.0 fits)
 reply_plain R.Ok fits = search rules
 reply_plain (R.Answer true) fits = search rules

@@ -5,22 +5,18 @@ use Rattle.std.specs.List.{flat_map, AllByRecursion}
 use Rattle.std.proofs.lemmas.Bool.Decides.{nat_tests}
 use Rattle.std.proofs.lemmas.List.Elements.{All-head, All-tail}
 use Rattle.tc_verdict.specs.declared.verdict.Verdict.{Verdict}
-use Rattle.tc_verdict.specs.declared.verdict.Verdict.TheVariants as V
 use Rattle.tc_verdict.specs.Verdict.{name_of}
 use Rattle.tc_entry.specs.Name.{is_name_byte}
 use Rattle.tc_entry.specs.declared.entry.Entry.{Entry}
-use Rattle.tc_entry.specs.declared.reply.Fault.{Fault}
-use Rattle.tc_entry.specs.declared.reply.Fault.TheVariants as F
-use Rattle.tc_entry.specs.declared.reply.Reply.{Reply}
-use Rattle.tc_entry.specs.declared.reply.Reply.TheVariants as R
 use Rattle.tc_text.specs.Lines.{lines_of, ended_lines}
-use Rattle.tc_text.specs.Spelling.{move_text, reply_text, fault_name, IsReply}
+use Rattle.tc_text.specs.Spelling.{move_text, reply_text}
 use Rattle.tc_text.proofs.LinesOf.{NoLf, no_lf-append, lines-ended_lines}
 use Rattle.tc_text.proofs.Plain.{number_plain, move_plain}
 use Rattle.tc_history.specs.declared.read.Block.{Block}
 use Rattle.tc_history.specs.Block.{header_text, entry_text, end_text, entry_line}
 use Rattle.tc_history.specs.Text.{IsEntry, AreEntries, IsHeader, AreBlocks, block_lines, all_lines}
 use Rattle.tc_history.specs.Written.{text_of_block, text_of_blocks, WrittenIsRead}
+use Rattle.tc_history.proofs.InnerLines.{verdict_plain, reply_plain}
 
 -- ---- no line of a block has an LF
 
@@ -30,34 +26,6 @@ name_byte_plain b allowed = grind (arith, nat_tests)
 name_plain : (bs : List ℕ) → All (λ b. IsTrue (is_name_byte b)) bs → NoLf bs
 name_plain [] all = tt
 name_plain (b ∷ bs) all = (name_byte_plain b (All-head (λ x. IsTrue (is_name_byte x)) b bs all), name_plain bs (All-tail (λ x. IsTrue (is_name_byte x)) b bs all))
-
-verdict_plain : (v : Verdict) → NoLf (name_of v)
-verdict_plain V.None = search rules
-verdict_plain V.Pass = search rules
-verdict_plain V.Inconc = search rules
-verdict_plain V.Fail = search rules
-verdict_plain V.Error = search rules
-
-fault_plain : (f : Fault) → NoLf (fault_name f)
-fault_plain F.NoComponent = search rules
-fault_plain F.NotMain = search rules
-fault_plain F.StartMain = search rules
-fault_plain F.AlreadyRunning = search rules
-fault_plain F.NotStartable = search rules
-fault_plain F.NoBehaviour = search rules
-fault_plain F.TooMany = search rules
-fault_plain F.Stuck = search rules
-
-reply_plain : (r : Reply) → IsReply r → NoLf (reply_text r)
-reply_plain (R.Made c) fits = no_lf-append (codes "made ") (decimal c.0) (search rules) (number_plain c.0 fits)
-reply_plain R.Ok fits = search rules
-reply_plain (R.Answer true) fits = search rules
-reply_plain (R.Answer false) fits = search rules
-reply_plain (R.Local v) fits = verdict_plain v
-reply_plain R.Matched fits = search rules
-reply_plain R.Parked fits = search rules
-reply_plain R.Ended fits = search rules
-reply_plain (R.Fault f) fits = no_lf-append (codes "error ") (fault_name f) (search rules) (fault_plain f)
 
 header_plain : (name : List ℕ) (n : ℕ) → IsHeader name n → NoLf (header_text name n)
 header_plain name n header =

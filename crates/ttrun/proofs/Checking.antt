@@ -13,7 +13,7 @@ use Rattle.ttrun.specs.declared.fault.RunFault.TheVariants as F
 use Rattle.ttrun.specs.declared.judge.Judgement.{Judgement}
 use Rattle.ttrun.specs.Output.{WritesPrefix}
 use Rattle.ttrun.specs.Check.{IsJudgement, judges_legal, judgement_line, Checks, IsCheckOf, IsChecked}
-use Rattle.ttrun.specs.Judging.{IsJudgedBlock, RefusesBlock, RefusesHistory}
+use Rattle.ttrun.specs.Inside.{IsJudgedBlock, RefusesBlock, RefusesHistory}
 
 -- what is printed for these blocks: while all are legal, what is printed for those behind comes behind
 abbrev pub Feeds : List Block → List ℕ → Bool → Type 0

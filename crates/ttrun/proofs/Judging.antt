@@ -11,7 +11,7 @@ use Rattle.tc_history.proofs.Blocks.{IsNoEntryLine, IsNoEndLine, IsThatHeader, I
 use Rattle.ttrun.specs.declared.judge.Judgement.{Judgement}
 use Rattle.ttrun.specs.declared.judge.Playing.{Playing}
 use Rattle.ttrun.specs.Check.{IsJudgement}
-use Rattle.ttrun.specs.Judging.{IsPlayed, IsJudgedBlock}
+use Rattle.ttrun.specs.Inside.{IsPlayed, IsJudgedBlock}
 
 -- a first line and some entries are read, and these are played
 pub record IsJudgedSoFar (text : List ℕ) (first_line : ℕ) (name : List ℕ) (n : ℕ) (rest : List ℕ) (line : ℕ) (playing : Playing) : Type 0 where

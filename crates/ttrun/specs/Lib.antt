@@ -5,5 +5,5 @@ pub mod Give
 pub mod Script
 pub mod Run
 pub mod Check
-pub mod Judging
+pub mod Inside
 pub mod WrittenHistories

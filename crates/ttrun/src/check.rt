@@ -3,7 +3,7 @@ ghost use Rattle.std.specs.Prelude.{◌≡◌, ◌≤◌, length, List, IfOk, If
 ghost use Rattle.tc_history.specs.declared.read.Block.{Block as AnyBlock};
 ghost use Rattle.tc_history.specs.Text.{AreHistories, IsHistoryFault};
 ghost use Rattle.ttrun.specs.Check.{Checks, IsCheckOf, IsChecked};
-ghost use Rattle.ttrun.specs.Judging.{RefusesHistory};
+ghost use Rattle.ttrun.specs.Inside.{RefusesHistory};
 ghost use Rattle.ttrun.specs.Output.{Writes};
 ghost use Rattle.ttrun.specs.Fault.{Refuses};
 ghost use Rattle.ttrun.specs.WrittenHistories.{FindsWrittenLegal};

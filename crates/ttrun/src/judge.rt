@@ -5,7 +5,7 @@ ghost use Rattle.tc_text.specs.Lines.{lines_of};
 ghost use Rattle.tc_history.specs.declared.read.Block.{Block as AnyBlock};
 ghost use Rattle.tc_history.specs.Text.{IsBlock, block_lines};
 ghost use Rattle.ttrun.specs.Check.{IsJudgement, judges_legal};
-ghost use Rattle.ttrun.specs.Judging.{IsJudgedBlock, IsPlayed, RefusesBlock};
+ghost use Rattle.ttrun.specs.Inside.{IsJudgedBlock, IsPlayed, RefusesBlock};
 
 use crate::fault::RunFault;
 use std::alloc::Global;

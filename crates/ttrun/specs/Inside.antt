@@ -1,4 +1,4 @@
--- A history that is played as it is read.
+-- What the functions inside of `check` say of a history that is played as it is read, which no public clause names.
 use Rattle.std.specs.Prelude.{ℕ, ◌≡◌, ◌+◌, ◌≤◌, Option, Some, None, List, ◌++◌, length, reverse}
 use Rattle.tc_entry.specs.declared.entry.Entry.{Entry}
 use Rattle.tc_text.specs.Lines.{lines_of}
