@@ -1,5 +1,5 @@
 //! Readers and writers for tests: each moves one byte at a time, and fails at one call.
-ghost use Rattle.std.specs.Prelude.{◌≡◌, ◌↔◌, Some, IsErr};
+ghost use Rattle.std.specs.Prelude.{◌≡◌, ◌≢◌, ◌<◌, ◌+◌, ◌^◌, ◌↔◌, [], Some, IfOk, IsErr};
 ghost use Rattle.std.specs.Io.{ReadsAtMost, WritesAtMost};
 ghost use Rattle.std.specs.Io.KnownBytes.{ReadConsumes, WriteAppends};
 
@@ -25,6 +25,8 @@ impl Read for SlowReader<'_> {
         ensures bound { ReadsAtMost result buf.new }
         ensures bytes { ReadConsumes (Some self.old.rest.now) (Some self.new.rest.now) result buf.new }
         ensures fails { IsErr result ↔ (self.old.reads ≡ self.old.fails_at) }
+        ensures counted { self.old.reads + 1 < 2 ^ 64 → self.new.reads ≡ self.old.reads + 1 }
+        ensures same { self.new.fails_at ≡ self.old.fails_at }
     {
         let reads = self.reads;
         self.reads = reads.saturating_add(1);
@@ -74,6 +76,9 @@ impl Write for NarrowWriter {
         ensures bound { WritesAtMost result buf.now }
         ensures bytes { WriteAppends (Some self.old.taken.items) (Some self.new.taken.items) result buf.now }
         ensures fails { self.old.writes ≡ self.old.fails_at → self.new.taken.items ≡ self.old.taken.items }
+        ensures takes { self.old.writes ≢ self.old.fails_at → IfOk result (λ n. n ≡ 0 → buf.now ≡ []) }
+        ensures counted { self.old.writes + 1 < 2 ^ 64 → self.new.writes ≡ self.old.writes + 1 }
+        ensures same { self.new.fails_at ≡ self.old.fails_at }
     {
         let writes = self.writes;
         self.writes = writes.saturating_add(1);
