@@ -4,8 +4,10 @@
 mod behaviour;
 mod bound;
 mod call;
+mod job;
 
 pub use behaviour::Behaviour;
+pub use job::ScriptJob;
 pub use tc_exec::{Back, Ending};
 pub use tc_step::Script;
 

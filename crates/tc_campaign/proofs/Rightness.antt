@@ -75,10 +75,10 @@ all_named (c ∷ cases) (f ∷ finished) even each =
     named : (c : Outline) (f : Finished) → AreEven c → IsOf c f → IsNamed f
     named c f e of = ap length of.names.names ∙ e ∙ sym of.report.behaviours
 
-even : {X : Type 0} {F : X → Type 0} {M : _} (c : Case X F M) → HasNames c → AreEven (outline_of c)
+even : {B : Type 0} (c : Case B) → HasNames c → AreEven (outline_of c)
 even c e = omega arith
 
-pub names : {X : Type 0} {F : X → Type 0} {M : _} (cases : List (Case X F M)) (stop_on : Option Verdict) (finished : List Finished) (ending : CampaignEnd)
+pub names : {B : Type 0} (cases : List (Case B)) (stop_on : Option Verdict) (finished : List Finished) (ending : CampaignEnd)
     → All HasNames cases → IsRun (map outline_of cases) stop_on finished ending → All IsNamed finished
 names cases stop_on finished ending all run =
     all_named (take (length finished) (map outline_of cases)) finished

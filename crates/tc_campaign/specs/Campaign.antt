@@ -5,7 +5,6 @@ use Rattle.tc_verdict.specs.declared.verdict.Verdict.{Verdict}
 use Rattle.tc_book.specs.Passes.{PassState}
 use Rattle.tc_exec.specs.declared.refusal.CaseError.{CaseError}
 use Rattle.tc_exec.specs.declared.refusal.CaseError.TheVariants as C
-use Rattle.tc_exec.specs.declared.job.Job.{Job}
 use Rattle.tc_exec.specs.declared.job.Back.{Back}
 use Rattle.tc_exec.specs.Case.{IsCaseReport, AreCalled, IsMadeOf}
 use Rattle.tc_report.specs.declared.results.CampaignEnd.{CampaignEnd}
@@ -35,7 +34,7 @@ HasBehaviours f = (1 ≤ f.report.behaviours) × (f.report.behaviours ≤ 64)
 
 -- the jobs of a finished case are those of this case: each of which the run was started was called, with a new pass of that run, and the report is
 -- made of what the passes that they handed back have logged
-abbrev pub IsCalled : {X : Type 0} {F : X → Type 0} {M : _} → (Job X F M → PassState → Back → Type 0) → Case X F M → Finished → Type 0
+abbrev pub IsCalled : {B : Type 0} → (B → PassState → Back → Type 0) → Case B → Finished → Type 0
 IsCalled outcome c f = AreCalled outcome c.jobs.items f.report × IsMadeOf outcome c.jobs.items f.report
 
 -- the last finished case, and the first that is not finished, agree with the ending: the campaign stopped after the last

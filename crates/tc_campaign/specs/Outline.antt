@@ -4,7 +4,7 @@ use Rattle.std.specs.Vec.{vec_len}
 use Rattle.tc_campaign.specs.declared.case.Case.{Case}
 
 -- a case has as many names of behaviours as jobs
-abbrev pub HasNames : {X : Type 0} {F : X → Type 0} {M : _} → Case X F M → Type 0
+abbrev pub HasNames : {B : Type 0} → Case B → Type 0
 HasNames c = vec_len c.names ≡ vec_len c.jobs
 
 -- the names of a case, and how many jobs it has
@@ -13,5 +13,5 @@ pub record Outline : Type 0 where
   pub names : List (List ℕ)
   pub jobs : ℕ
 
-abbrev pub outline_of : {X : Type 0} {F : X → Type 0} {M : _} → Case X F M → Outline
+abbrev pub outline_of : {B : Type 0} → Case B → Outline
 outline_of c = record { name = c.name; names = c.names.items; jobs = vec_len c.jobs }

@@ -13,23 +13,23 @@ use std::sync::Wait;
 use std::thread::Threads;
 use tc_book::Sequence;
 use tc_entry::Verdict;
-use tc_exec::{Callable, CaseError, Job, run_case};
+use tc_exec::{Callable, CaseError, Everyone, run_case_with};
 use tc_report::{CampaignEnd, Finished, Results};
 
 /// Runs a test case. Where it is refused, the campaign is aborted at its name.
-fn finish<R: Threads + Wait + Copy + Send + 'static>(
+fn finish<R: Threads + Wait + Copy + Send + 'static, B: Callable>(
     rt: &R,
     alloc: Global,
-    case: Case,
+    case: Case<B>,
     threads: u16,
 ) -> Result<Finished, CampaignEnd>
     ensures finished { IfOk result (IsOf (outline_of case)) }
     ensures refused { IfErr result (IsRefused (outline_of case)) }
-    ensures called { IfOk result (IsCalled ⟦<Job as Callable>⟧.outcome case) }
+    ensures called { IfOk result (IsCalled B.outcome case) }
     ensures threads { IfOk result (HasThreads threads) }
 {
     let Case { name, names, jobs } = case;
-    match run_case(rt, alloc, jobs, threads) {
+    match run_case_with(rt, alloc, jobs, threads, &mut Everyone) {
         Ok(report) => Ok(Finished {
             name,
             names: Sequence::new(names),
@@ -40,10 +40,10 @@ fn finish<R: Threads + Wait + Copy + Send + 'static>(
 }
 
 /// Runs the test cases up to the last by the stopping rule, or the first that is refused, and says how the campaign ended.
-fn finish_all<R: Threads + Wait + Copy + Send + 'static>(
+fn finish_all<R: Threads + Wait + Copy + Send + 'static, B: Callable>(
     rt: &R,
     alloc: Global,
-    cases: Vec<Case>,
+    cases: Vec<Case<B>>,
     stop_on: Option<Verdict>,
     threads: u16,
     finished: &mut Vec<Finished>,
@@ -51,7 +51,7 @@ fn finish_all<R: Threads + Wait + Copy + Send + 'static>(
     requires none { finished.old.items ≡ [] }
     requires room { vec_len cases ≤ vec_capacity finished.old }
     ensures run { IsRun (map outline_of cases.items) stop_on finished.new.items result }
-    ensures called { AllZip (IsCalled ⟦<Job as Callable>⟧.outcome) (take (length finished.new.items) cases.items) finished.new.items }
+    ensures called { AllZip (IsCalled B.outcome) (take (length finished.new.items) cases.items) finished.new.items }
     ensures threads { All (HasThreads threads) finished.new.items }
 {
     for case in cases {
@@ -69,7 +69,7 @@ fn finish_all<R: Threads + Wait + Copy + Send + 'static>(
 }
 
 /// How a campaign ends that has no room for its reports.
-fn without_room(cases: Vec<Case>) -> CampaignEnd
+fn without_room<B: Callable>(cases: Vec<Case<B>>) -> CampaignEnd
     ensures { IsUnrun (map outline_of cases.items) result }
 {
     match cases.into_iter().next() {
@@ -88,17 +88,17 @@ fn without_room(cases: Vec<Case>) -> CampaignEnd
 /// where it is refused the campaign is aborted at the first test case, with NoMemory. A campaign of no test cases is
 /// complete, and takes no memory. Each test case may have so many worker threads. Campaigns and their stopping rule are
 /// this project's own.
-pub fn run_campaign<R: Threads + Wait + Copy + Send + 'static>(
+pub fn run_campaign<R: Threads + Wait + Copy + Send + 'static, B: Callable>(
     rt: &R,
     alloc: Global,
-    cases: Vec<Case>,
+    cases: Vec<Case<B>>,
     stop_on: Option<Verdict>,
     threads: u16,
 ) -> Results
     requires names { All HasNames cases.items }
     ensures right { IsRight (map outline_of cases.items) stop_on result }
     ensures reports { AllZip IsReported (take (length result.finished) (map outline_of cases.items)) result.finished }
-    ensures called { AllZip (IsCalled ⟦<Job as Callable>⟧.outcome) (take (length result.finished) cases.items) result.finished }
+    ensures called { AllZip (IsCalled B.outcome) (take (length result.finished) cases.items) result.finished }
     ensures names { All IsNamed result.finished }
     ensures threads { All (HasThreads threads) result.finished }
     ensures behaviours { All HasBehaviours result.finished }

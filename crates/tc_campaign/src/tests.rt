@@ -150,7 +150,7 @@ aborted at b: no memory
 #[test]
 fn no_cases(rt: HostRuntime) -> Result<(), Fail> {
     let alloc = rt.alloc();
-    let results = run_campaign(&rt, alloc, Vec::new(alloc), Some(Verdict::None), 64);
+    let results = run_campaign(&rt, alloc, Vec::<Case>::new(alloc), Some(Verdict::None), 64);
     assert_eq!(rt; tally(&results).cases, 0);
     assert!(rt; matches!(results.ending, CampaignEnd::Complete));
     assert_eq!(rt; status_of(&results), 0);

@@ -1,5 +1,5 @@
 -- What workers left, one after another.
-use Rattle.std.proofs.Common.{ℕ, zero, suc, ◌≡◌, ◌≢◌, ◌<◌, ◌+◌, ◌==◌, ◌||◌, inl, inr, Bool, true, false, None, Result, Ok, Err, IfOk, List, [], ◌∷◌, ◌++◌, All, length, get_or, map, reverse, refl, sym, ap, ◌∙◌, arith}
+use Rattle.std.proofs.Common.{ℕ, zero, suc, ◌≡◌, ◌≢◌, ◌<◌, ◌+◌, ◌==◌, ◌||◌, inl, inr, Bool, true, false, Some, None, Result, Ok, Err, IfOk, List, [], ◌∷◌, ◌++◌, All, length, get_or, map, reverse, refl, sym, ap, ◌∙◌, arith}
 use Rattle.std.proofs.lemmas.Bool.Decides.{nat_tests}
 use Rattle.std.proofs.lemmas.List.Elements.{All-get_or}
 use Rattle.tc_entry.specs.declared.entry.Entry.{Entry}
@@ -29,6 +29,12 @@ neither false true after is none = absurd cc
 came_back : (e : Ending) → is_starved e ≡ false → e ≡ E.Returned
 came_back E.Returned none = refl
 came_back E.Starved none = absurd cc
+
+-- one more that was left keeps the first
+pub first_kept : (d : LeftState) (old now after : List LeftState) (x : LeftState) → (0 < length old → (0 < length now) × (get_or now 0 d ≡ get_or old 0 d)) → after ≡ now ++ x ∷ [] →
+    0 < length old → (0 < length after) × (get_or after 0 d ≡ get_or old 0 d)
+first_kept d old [] after x was is some = absurd (omega (arith, (was some).0))
+first_kept d old (n ∷ now) after x was is some = rw is (omega arith, (was some).1)
 
 module _ {B : Type 0} (outcome : B → PassState → Back → Type 0) where
   -- what a worker handed back whose behaviour was not refused memory
@@ -67,7 +73,7 @@ module _ {B : Type 0} (outcome : B → PassState → Back → Type 0) where
       (pushed (runs ++ map run ws) (bs ++ map behaviour ws) ls (run w) (behaviour w) l all one)
 
   -- what run k left
-  at : (runs : List Run) (bs : List B) (ls : List LeftState) → AreLeftBy outcome runs bs ls → (k : ℕ) (run : Run) (b : B) (l : LeftState) → k < length bs →
+  pub at : (runs : List Run) (bs : List B) (ls : List LeftState) → AreLeftBy outcome runs bs ls → (k : ℕ) (run : Run) (b : B) (l : LeftState) → k < length bs →
       IsLeftBy outcome (get_or runs k run) (get_or bs k b) (get_or ls k l) × (k < length runs) × (k < length ls)
   at [] [] [] all k run b l below = absurd (omega arith)
   at (_ ∷ runs) (_ ∷ bs) (_ ∷ ls) all zero run b l below = (all.0, omega arith, omega arith)
@@ -77,7 +83,7 @@ module _ {B : Type 0} (outcome : B → PassState → Back → Type 0) where
   at (_ ∷ runs) [] ls all k run b l below = absurd all
   at (_ ∷ runs) (_ ∷ bs) [] all k run b l below = absurd all
 
-  unstarted_comp : (b : ℕ) → 0 < b → comp_by b None ≡ None
+  pub unstarted_comp : (b : ℕ) → 0 < b → comp_by b None ≡ None
   unstarted_comp b above = let k : (b == 0) ≡ false = grind (arith, nat_tests) in rw k refl
 
   -- a started run above 0 was not left unstarted
@@ -126,6 +132,14 @@ module _ {B : Type 0} (outcome : B → PassState → Back → Type 0) where
   numbered runs h zero run below = refl
   numbered runs h (suc k) run below = h k run (omega arith) ∙ omega arith
 
+  -- what the main behaviour left is not that of a run that was never started
+  pub main_started : (p : PassState) (b : B) (h : Handed) → WasCalled (outcome b p) h → (ls taken : List LeftState) (l : LeftState) → taken ≡ h.left ∷ [] →
+      (0 < length taken → get_or ls 0 l ≡ get_or taken 0 l) → (get_or ls 0 l).started ≢ None
+  main_started p b h called ls taken l is first started =
+      let found : get_or ls 0 l ≡ h.left = first (rw is (omega arith)) ∙ (rw is refl) in
+      let bad : Some (called.back.pass.me, called.back.pass.args) ≡ None = sym called.left.started ∙ ap (λ m. m.started) (sym found) ∙ started in
+      absurd cc
+
   -- a report is made only where memory was refused to no behaviour
   pub report_called : (result : Result Closed CaseError) (starved : Bool) (runs : List Run) (bs : List B) (ls : List LeftState) →
       (starved ≡ true → result ≡ Err NoMemory) → (starved ≡ false → AreLeftBy outcome runs bs ls) →
@@ -139,7 +153,8 @@ module _ {B : Type 0} (outcome : B → PassState → Back → Type 0) where
   pub report_made : (result : Result Closed CaseError) (starved : Bool) (runs : List Run) (bs : List B) (ls : List LeftState) →
       (starved ≡ true → result ≡ Err NoMemory) → (starved ≡ false → AreLeftBy outcome runs bs ls) →
       ((k : ℕ) (run : Run) → k < length runs → (get_or runs k run).0 ≡ k) →
+      (starved ≡ false → (l : LeftState) → (get_or ls 0 l).started ≢ None) →
       IfOk result (λ c. IsWhole c.behaviours c.history ls) → IfOk result (IsMadeOf outcome bs)
-  report_made (Ok c) false runs bs ls refused all number whole = record { runs = runs; lefts = ls; numbered = number; left = all refl; whole = whole }
-  report_made (Ok c) true runs bs ls refused all number whole = let bad = refused refl in absurd cc
-  report_made (Err e) starved runs bs ls refused all number whole = tt
+  report_made (Ok c) false runs bs ls refused all number main whole = record { runs = runs; lefts = ls; numbered = number; left = all refl; main = main refl; whole = whole }
+  report_made (Ok c) true runs bs ls refused all number main whole = let bad = refused refl in absurd cc
+  report_made (Err e) starved runs bs ls refused all number main whole = tt

@@ -1,3 +1,4 @@
 pub mod Lists
 pub mod Calls
 pub mod Reporting
+pub mod Logs

@@ -42,4 +42,6 @@ pub record IsMadeOf {B : Type 0} (outcome : B → PassState → Back → Type 0)
   -- behaviour k is that of run k
   pub numbered : (k : ℕ) (run : Run) → k < length runs → (slice_index_or runs k run).0 ≡ k
   pub left : AreLeftBy outcome runs jobs lefts
+  -- that of run 0 was called
+  pub main : (l : LeftState) → (slice_index_or lefts 0 l).started ≢ None
   pub whole : IsWhole c.behaviours c.history lefts

@@ -1,3 +1,4 @@
 pub mod Refusals
 pub mod Workers
 pub mod Case
+pub mod Logs

@@ -144,12 +144,12 @@ pub fn run_case<R: Threads + Wait + Copy + Send + 'static>(
     run_case_with(rt, alloc, jobs, threads, &mut Everyone)
 }
 
-/// Runs a test case as `run_case` does. The gate is asked for each worker, in the order of the runs, right before its
+/// Runs a test case as `run_case` does, of jobs of any kind. The gate is asked for each worker, in the order of the runs, right before its
 /// thread is made; where it refuses one, no later run is asked about.
-pub fn run_case_with<R: Threads + Wait + Copy + Send + 'static, G: Gate>(
+pub fn run_case_with<R: Threads + Wait + Copy + Send + 'static, B: Callable, G: Gate>(
     rt: &R,
     alloc: Global,
-    jobs: Vec<Job>,
+    jobs: Vec<B>,
     threads: u16,
     gate: &mut G,
 ) -> Result<Closed, CaseError>
@@ -158,8 +158,8 @@ pub fn run_case_with<R: Threads + Wait + Copy + Send + 'static, G: Gate>(
     ensures threads { (0 < vec_len jobs) × (vec_len jobs ≤ 64) × (threads < vec_len jobs - 1) → result ≡ Err NoThread }
     ensures alone { vec_len jobs ≡ 1 → result ≢ Err NoThread }
     ensures report { IfOk result (IsCaseReport (vec_len jobs)) }
-    ensures called { IfOk result (AreCalled ⟦<Job as Callable>⟧.outcome jobs.items) }
-    ensures made { IfOk result (IsMadeOf ⟦<Job as Callable>⟧.outcome jobs.items) }
+    ensures called { IfOk result (AreCalled B.outcome jobs.items) }
+    ensures made { IfOk result (IsMadeOf B.outcome jobs.items) }
 {
     let behaviours = behaviours_of(jobs.len(), threads)?;
     run_jobs(rt, alloc, behaviours, jobs, gate)

@@ -11,7 +11,7 @@ pub trait Gate {
 
 /// Allows every worker.
 #[derive(Drop)]
-pub(crate) struct Everyone;
+pub struct Everyone;
 
 impl Gate for Everyone {
     fn allow(&mut self, _run: Run) -> bool

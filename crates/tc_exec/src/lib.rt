@@ -12,7 +12,7 @@ mod worker;
 
 pub use callable::Callable;
 pub use case::{run_case, run_case_with};
-pub use gate::Gate;
+pub use gate::{Everyone, Gate};
 pub use job::{Back, Ending, Job};
 pub use refusal::CaseError;
 pub use tc_book::Closed as CaseReport;

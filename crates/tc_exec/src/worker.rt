@@ -1,7 +1,8 @@
 //! The threads of a case.
-ghost use Rattle.std.specs.Prelude.{◌≡◌, ◌≤◌, ◌+◌, ◌++◌, [], IsTrue, false, List, length, map};
+ghost use Rattle.std.specs.Prelude.{◌≡◌, ◌<◌, ◌≤◌, ◌+◌, ◌++◌, [], IsTrue, false, List, length, map, slice_index_or};
 ghost use Rattle.std.specs.Vec.{vec_len, vec_capacity};
 ghost use Rattle.tc_verdict.specs.declared.run.Run.{Run};
+ghost use Rattle.tc_book.specs.Passes.{LeftState};
 ghost use Rattle.tc_exec.specs.Workers.{IsWorked, AreLeftBy};
 
 use crate::callable::Callable;
@@ -73,6 +74,7 @@ pub(crate) fn join_workers<R: Threads, B: Callable>(
     requires room { vec_len gathered.old.lefts + vec_len workers ≤ vec_capacity gathered.old.lefts }
     ensures all { vec_len gathered.new.lefts ≡ vec_len gathered.old.lefts + vec_len workers }
     ensures lefts { (runs : List Run) (bs : _) → (gathered.old.starved ≡ false → AreLeftBy B.outcome runs bs gathered.old.lefts.items) → gathered.new.starved ≡ false → AreLeftBy B.outcome (runs ++ map (λ w. w.promise.run) workers.items) (bs ++ map (λ w. w.promise.behaviour.value) workers.items) gathered.new.lefts.items }
+    ensures first { (d : LeftState) → 0 < length gathered.old.lefts.items → slice_index_or gathered.new.lefts.items 0 d ≡ slice_index_or gathered.old.lefts.items 0 d }
 {
     for worker in workers {
         gathered.take(worker.join(rt));

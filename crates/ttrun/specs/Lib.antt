@@ -4,6 +4,8 @@ pub mod Output
 pub mod Give
 pub mod Script
 pub mod Run
+pub mod Scripted
+pub mod Program
 pub mod Check
 pub mod Inside
 pub mod WrittenHistories

@@ -1,5 +1,6 @@
 //! A run of a campaign: what is read for it, how it is carried out, and what is written of it.
-ghost use Rattle.std.specs.Prelude.{◌≡◌, ◌≤◌, [], ◌∷◌, ◌++◌, All, IfOk, IfErr, IfSome, OnOk, OnErr, Ok, length};
+ghost use Rattle.std.specs.Prelude.{◌≡◌, ◌≤◌, [], ◌∷◌, ◌++◌, All, IfOk, IfErr, IfSome, OnOk, OnErr, Ok, Err, length};
+ghost use Rattle.ttrun.specs.declared.fault.RunFault.TheVariants.{StopOn};
 ghost use Rattle.std.specs.Io.KnownBytes.{Appends, Keeps};
 ghost use Rattle.tc_campaign.specs.Outline.{HasNames, outline_of};
 ghost use Rattle.tc_campaign.specs.Campaign.{IsCalled};
@@ -7,7 +8,7 @@ ghost use Rattle.tc_report.specs.Ending.{abort_text};
 ghost use Rattle.tc_script.specs.Campaign.{campaign};
 ghost use Rattle.ttrun.specs.Fault.{line_of};
 ghost use Rattle.ttrun.specs.Give.{LeavesUnwritten};
-ghost use Rattle.ttrun.specs.Run.{bytes_of, IsRuleOf, RefusesWord, RefusesRun, IsRun, IsUnwritten};
+ghost use Rattle.ttrun.specs.Run.{bytes_of, IsRuleOf, IsNoName, RefusesWord, RefusesRun, IsRun, IsUnwritten};
 
 use crate::fault::{RunFault, fault_line};
 use crate::give::{Form, give};
@@ -18,7 +19,7 @@ use std::sync::Wait;
 use std::thread::Threads;
 use tc_campaign::{Case, Results, abort_line, run_campaign};
 use tc_entry::Name;
-use tc_exec::{Callable, Job};
+use tc_exec::Callable;
 use tc_script::Campaign;
 use tc_stream::write_whole;
 use tc_verdict::{NoMemory, Verdict};
@@ -36,9 +37,11 @@ pub struct Options {
 }
 
 /// The verdict of the word of `--stop-on`, where there is one. It takes no memory.
+#[tactic(auto, using(crate::proofs::Running::refused_word))]
 fn rule_of(word: Option<&str>) -> Result<Option<Verdict>, RunFault>
     ensures taken { IfOk result (IsRuleOf (bytes_of (λ w. w.now) word.entry)) }
     ensures refused { IfErr result (RefusesWord (bytes_of (λ w. w.now) word.entry)) }
+    ensures judged { IsNoName (bytes_of (λ w. w.now) word.entry) → result ≡ Err StopOn }
 {
     match word {
         Some(word) => Ok(Some(stop_word(word)?)),
@@ -47,7 +50,7 @@ fn rule_of(word: Option<&str>) -> Result<Option<Verdict>, RunFault>
 }
 
 /// Adds a behaviour and its job to a test case, or nothing where memory is refused.
-pub fn add_job(case: &mut Case, name: Name, job: Job) -> Result<(), NoMemory>
+pub fn add_job<B: Callable>(case: &mut Case<B>, name: Name, job: B) -> Result<(), NoMemory>
     ensures names { OnOk result (case.new.names.items ≡ case.old.names.items ++ (name ∷ [])) }
     ensures jobs { OnOk result (case.new.jobs.items ≡ case.old.jobs.items ++ (job ∷ [])) }
     ensures same { case.new.name ≡ case.old.name }
@@ -62,7 +65,7 @@ pub fn add_job(case: &mut Case, name: Name, job: Job) -> Result<(), NoMemory>
 }
 
 /// Adds a test case.
-pub fn add_case(cases: &mut Vec<Case>, case: Case) -> Result<(), NoMemory>
+pub fn add_case<B: Callable>(cases: &mut Vec<Case<B>>, case: Case<B>) -> Result<(), NoMemory>
     ensures added { OnOk result (cases.new.items ≡ cases.old.items ++ (case ∷ [])) }
     ensures even { OnOk result (HasNames case → All HasNames cases.old.items → All HasNames cases.new.items) }
     ensures none { OnErr result (cases.new.items ≡ cases.old.items) }
@@ -83,6 +86,7 @@ pub fn read_run<R: Read>(
     ensures rule { IfOk result (λ r. IsRuleOf (bytes_of (λ w. w.now) word.entry) r.1.stop_on) }
     ensures form { IfOk result (λ r. r.1.form ≡ form) }
     ensures refused { IfErr result (RefusesRun (bytes_of (λ w. w.now) word.entry) LIMIT (R.remaining reader.old)) }
+    ensures unread { IsNoName (bytes_of (λ w. w.now) word.entry) → (result ≡ Err StopOn) × (reader.new ≡ reader.old) }
 {
     let stop_on = rule_of(word)?;
     let campaign = take_script(alloc, reader)?;
@@ -118,10 +122,10 @@ pub fn tell_abort<E: Write>(
 /// Runs the test cases, writes the results, and answers the exit status for them; a campaign that was aborted is told of.
 ///
 /// Where its line can't be written, the status stays.
-pub fn run_cases<R, W: Write, E: Write>(
+pub fn run_cases<R, B: Callable, W: Write, E: Write>(
     rt: &R,
     alloc: Global,
-    cases: Vec<Case>,
+    cases: Vec<Case<B>>,
     options: Options,
     writer: &mut W,
     errors: &mut E,
@@ -129,9 +133,10 @@ pub fn run_cases<R, W: Write, E: Write>(
 where
     R: Threads + Wait + Copy + Send + 'static,
     requires names { All HasNames cases.items }
-    ensures done { IfOk result (IsRun outline_of (IsCalled ⟦<Job as Callable>⟧.outcome) cases.items options (W.contents writer.old) (W.contents writer.new) (E.contents errors.old) (E.contents errors.new)) }
-    ensures refused { IfErr result (IsUnwritten outline_of (IsCalled ⟦<Job as Callable>⟧.outcome) cases.items options (W.contents writer.old) (W.contents writer.new)) }
+    ensures done { IfOk result (IsRun outline_of (IsCalled B.outcome) cases.items options (W.contents writer.old) (W.contents writer.new) (E.contents errors.old) (E.contents errors.new)) }
+    ensures refused { IfErr result (IsUnwritten outline_of (IsCalled B.outcome) cases.items options (W.contents writer.old) (W.contents writer.new)) }
     ensures quiet { OnErr result (Keeps (E.contents errors.old) (E.contents errors.new)) }
+    ensures untouched { OnErr result (errors.new ≡ errors.old) }
 {
     let results = run_campaign(rt, alloc, cases, options.stop_on, THREADS);
     let status = give(alloc, &results, options.form, writer)?;

@@ -1,6 +1,6 @@
 use Rattle.std.proofs.Common.{arith}
 use Rattle.tc_exec.proofs.Lists.{passed}
-use Rattle.tc_exec.proofs.Calls.{neither, left_by, joined}
+use Rattle.tc_exec.proofs.Calls.{neither, left_by, joined, first_kept}
 use Rattle.tc_exec.proofs.worker.join_workers.Goals as goal
 
 pub loop-worker-preserved : goal.loop-worker-preserved
@@ -13,4 +13,8 @@ loop-worker-preserved g c =
           let both = neither _ _ _ c.take.ensures.starved none in
           joined g.B.Callable.outcome (λ w. w.promise.run) (λ w. w.promise.behaviour.value) runs bs _ c.loop-worker.yielded c.in-Some.worker c.join.result.left _
           (was.3 runs bs before both.0) (left_by g.B.Callable.outcome _ _ c.join.result both.1 c.join.ensures) c.take.ensures.left),
+      (λ d some. first_kept d _ _ _ _ (was.4 d) c.take.ensures.left some),
     )
+
+pub returns-clause-first : goal.returns-clause-first
+returns-clause-first g c = λ d some. (c.loop-worker.invariant.4 d some).1

@@ -1,0 +1,23 @@
+-- The logs of a report, by the behaviours that made them.
+use Rattle.std.specs.Prelude.{◌≡◌, ◌<◌, List, All, reverse, slice_index_or}
+use Rattle.tc_entry.specs.declared.entry.Entry.{Entry}
+use Rattle.tc_book.specs.declared.closed.Closed.{Closed}
+use Rattle.tc_book.specs.Passes.{PassState, LeftState}
+use Rattle.tc_book.specs.Starts.{start_of}
+use Rattle.tc_merge.specs.declared.run_log.RunLog.{RunLog}
+use Rattle.tc_exec.specs.declared.job.Back.{Back}
+use Rattle.tc_exec.specs.declared.job.Ending.TheVariants as E
+use Rattle.tc_exec.specs.Workers.{WasStarted}
+
+-- The log is that of a pass of its run: new when the behaviour was called with it, on the component and with the arguments of the
+-- run's Start; the behaviour was not refused memory, and the log is what the pass that it handed back has logged, with a
+-- Finish behind where that pass had not ended.
+pub record IsLogBy (outcome : PassState → Back → Type 0) (history : List Entry) (l : RunLog) : Type 0 where
+  pub left : LeftState
+  pub made : WasStarted l.run outcome (record { left = left; ending = E.Returned })
+  pub entries : l.entries ≡ left.log
+  pub started : 0 < l.run.0 → left.started ≡ start_of (reverse history) l.run.0
+
+-- each log is that of the behaviour of its run
+abbrev pub AreLogsBy : {B : Type 0} → (B → PassState → Back → Type 0) → List B → Closed → Type 0
+AreLogsBy outcome behaviours c = (b : _) → All (λ l. IsLogBy (outcome (slice_index_or behaviours l.run.0 b)) c.history l) c.logs

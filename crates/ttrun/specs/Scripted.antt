@@ -1,0 +1,34 @@
+-- The test cases of a script: what is run of them, and what their reports say.
+use Rattle.std.specs.Prelude.{◌≡◌, List, length, map}
+use Rattle.tc_step.specs.Steps.{ScriptView}
+use Rattle.tc_exec.specs.Case.{AreCalled, IsMadeOf}
+use Rattle.tc_exec.specs.Logs.{AreLogsBy}
+use Rattle.tc_behaviour.specs.Acts.{Acts}
+use Rattle.tc_script.specs.Names.{Word}
+use Rattle.tc_report.specs.declared.results.Finished.{Finished}
+use Rattle.tc_campaign.specs.declared.case.Case.{Case}
+use Rattle.tc_campaign.specs.Outline.{Outline}
+
+-- a test case of a script: its name, and its behaviours by name
+abbrev pub CaseView : Type 0
+CaseView = Word × List (Word × ScriptView)
+
+abbrev pub names_of : List (Word × ScriptView) → List Word
+names_of bs = map (λ b. b.0) bs
+
+abbrev pub scripts_of : List (Word × ScriptView) → List ScriptView
+scripts_of bs = map (λ b. b.1) bs
+
+-- a test case is ready to be run: it has the names of this one, and its jobs are the scripts
+pub record IsCaseOf (c : CaseView) (ready : Case ScriptView) : Type 0 where
+  pub name : ready.name ≡ c.0
+  pub names : ready.names.items ≡ names_of c.1
+  pub jobs : ready.jobs.items ≡ scripts_of c.1
+
+abbrev pub script_outline : CaseView → Outline
+script_outline c = record { name = c.0; names = names_of c.1; jobs = length c.1 }
+
+-- each behaviour of which the run was started did what its script does with a new pass of that run, the report is made of what these
+-- passes have logged, and each of its logs is that of the script of its run
+abbrev pub IsScripted : CaseView → Finished → Type 0
+IsScripted c f = AreCalled Acts (scripts_of c.1) f.report × IsMadeOf Acts (scripts_of c.1) f.report × AreLogsBy Acts (scripts_of c.1) f.report

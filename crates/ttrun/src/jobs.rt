@@ -1,0 +1,84 @@
+//! The test cases of a campaign, ready to be run.
+ghost use Rattle.std.specs.Prelude.{◌≡◌, IfOk, IfErr, OnErr, Err};
+ghost use Rattle.std.specs.Io.KnownBytes.{Keeps};
+ghost use Rattle.std.specs.List.{AllZip};
+ghost use Rattle.ttrun.specs.Program.{RunsScript, RefusesScriptRun};
+ghost use Rattle.ttrun.specs.declared.fault.RunFault.TheVariants.{StopOn};
+ghost use Rattle.ttrun.specs.Run.{bytes_of, IsNoName};
+ghost use Rattle.ttrun.specs.Scripted.{IsCaseOf};
+
+use crate::fault::RunFault;
+use crate::give::Form;
+use crate::run::{add_case, add_job, read_run, run_cases};
+use crate::script::LIMIT;
+use std::alloc::Global;
+use std::io::{Read, Write};
+use std::sync::Wait;
+use std::thread::Threads;
+use tc_behaviour::ScriptJob;
+use tc_campaign::Case;
+use tc_entry::Name;
+use tc_script::{Campaign, CaseScript};
+use tc_verdict::NoMemory;
+
+/// The test case of these scripts.
+fn case_of<R: Wait + Copy + Send + 'static>(
+    rt: &R,
+    alloc: Global,
+    name: Name,
+    scripts: CaseScript,
+) -> Result<Case<ScriptJob<R>>, NoMemory>
+    ensures { IfOk result (IsCaseOf (name, scripts)) }
+{
+    let mut scripts = scripts;
+    let mut case = Case {
+        name,
+        names: Vec::new(alloc),
+        jobs: Vec::new(alloc),
+    };
+    while let Some((behaviour, script)) = scripts.take_first() {
+        add_job(&mut case, behaviour, ScriptJob::new(*rt, alloc, script))?;
+    }
+    Ok(case)
+}
+
+/// The test cases of a campaign.
+pub fn cases_of<R: Wait + Copy + Send + 'static>(
+    rt: &R,
+    alloc: Global,
+    campaign: Campaign,
+) -> Result<Vec<Case<ScriptJob<R>>>, NoMemory>
+    ensures { IfOk result (λ cases. AllZip IsCaseOf campaign cases.items) }
+{
+    let mut campaign = campaign;
+    let mut cases = Vec::new(alloc);
+    while let Some((name, scripts)) = campaign.take_first() {
+        let case = case_of(rt, alloc, name, scripts)?;
+        add_case(&mut cases, case)?;
+    }
+    Ok(cases)
+}
+
+/// Reads the campaign of a script, runs it, writes its results in this form, and answers the exit status for them. The
+/// word is that of the stopping rule.
+pub fn run_script<R, I: Read, W: Write, E: Write>(
+    rt: &R,
+    alloc: Global,
+    form: Form,
+    word: Option<&str>,
+    reader: &mut I,
+    writer: &mut W,
+    errors: &mut E,
+) -> Result<u8, RunFault>
+where
+    R: Threads + Wait + Copy + Send + 'static,
+    ensures done { IfOk result (λ status. RunsScript form (bytes_of (λ w. w.now) word.entry) (I.remaining reader.old) (W.contents writer.old) (W.contents writer.new) (E.contents errors.old) (E.contents errors.new) status) }
+    ensures refused { IfErr result (λ fault. RefusesScriptRun form (bytes_of (λ w. w.now) word.entry) LIMIT (I.remaining reader.old) (W.contents writer.old) (W.contents writer.new) fault) }
+    ensures quiet { OnErr result (Keeps (E.contents errors.old) (E.contents errors.new)) }
+    ensures untouched { OnErr result (errors.new ≡ errors.old) }
+    ensures unread { IsNoName (bytes_of (λ w. w.now) word.entry) → (result ≡ Err StopOn) × (reader.new ≡ reader.old) }
+{
+    let (campaign, options) = read_run(alloc, reader, form, word)?;
+    let cases = cases_of(rt, alloc, campaign)?;
+    run_cases(rt, alloc, cases, options, writer, errors)
+}
