@@ -1,5 +1,6 @@
 pub mod Totals
 pub mod Keeping
+pub mod Waking
 pub mod Suits
 pub mod Starting
 pub mod PartOf

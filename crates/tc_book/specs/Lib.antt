@@ -1,6 +1,7 @@
 pub mod Replies
 pub mod Starts
 pub mod OpenCase
+pub mod Waking
 pub mod Passes
 pub mod Parts
 pub mod Report

@@ -9,6 +9,7 @@ ghost use Rattle.tc_book.specs.Replies.{suits, is_parked};
 ghost use Rattle.tc_book.specs.Starts as starts;
 
 mod closing;
+mod waking;
 
 use crate::places::{Places, places_of, put};
 use crate::starts::{no_starts, note_start, start_of};

@@ -46,12 +46,14 @@ impl Shared {
         }
     }
 
-    /// Records a call, and tells all that wait.
+    /// Records a call, and tells all that wait where one of them may go on by it.
     pub(crate) fn record<R: Wait>(&self, rt: &R, run: Run, op: Op) -> Result<Reply, NoMemory>
         ensures { IfOk result (λ r. suits op r ≡ true) }
     {
-        let reply = self.held.book.lock(rt).record(run, op)?;
-        self.held.changed.notify_all();
+        let (reply, tells) = self.held.book.lock(rt).call(run, op)?;
+        if tells {
+            self.held.changed.notify_all();
+        }
         Ok(reply)
     }
 
@@ -62,9 +64,11 @@ impl Shared {
     {
         let mut book = self.held.book.lock(rt);
         for _ in rt.forever() {
-            if let Some(reply) = book.wake(run, killed, target) {
+            if let Some((reply, tells)) = book.call_wake(run, killed, target) {
                 drop(book);
-                self.held.changed.notify_all();
+                if tells {
+                    self.held.changed.notify_all();
+                }
                 return reply;
             }
             book = self.held.changed.wait(rt, book);

@@ -1,11 +1,11 @@
 -- An entry leaves the states that it does not touch as they are.
-use Rattle.std.proofs.Common.{ℕ, ◌≡◌, ◌≢◌, ◌<◌, ◌≤◌, ◌==◌, ◌&&◌, ◌||◌, not, if◌then◌else◌, nat_lt, Bool, true, false, Option, Some, None, is_some, List, [], ◌∷◌, length, get_or, refl, ap, sym, ◌∙◌, arith, get_or-set_other, get_or-set_same}
+use Rattle.std.proofs.Common.{ℕ, ◌≡◌, ◌≢◌, ◌<◌, ◌≤◌, ◌==◌, ◌&&◌, ◌||◌, not, if◌then◌else◌, Bool, true, false, Option, Some, None, is_some, List, [], ◌∷◌, length, get_or, refl, ap, sym, ◌∙◌, arith, get_or-set_other, get_or-set_same}
 use Rattle.std.proofs.Math.ListN.{set}
 use Rattle.std.proofs.lemmas.List.{get_or_default}
 use Rattle.std.proofs.lemmas.Bool.Decides.{nat_tests}
 use Rattle.tc_verdict.specs.declared.verdict.Verdict.{Verdict}
 use Rattle.tc_verdict.specs.declared.run.Run.{Run}
-use Rattle.tc_verdict.specs.Verdict.{worse, level_of}
+use Rattle.tc_verdict.specs.Verdict.{level_of}
 use Rattle.tc_verdict.proofs.Order.{worse_left}
 use Rattle.tc_entry.specs.declared.comp.Comp.{Comp}
 use Rattle.tc_entry.specs.declared.entry.Entry.{Entry}
@@ -30,7 +30,7 @@ record Spares (own : Option Comp) (op : Op) (c : ℕ) : Type 0 where
   finish : (is_finish op && is_comp own c) ≡ false
   sets : (if is_comp own c then setting op else []) ≡ []
 
-if_same : {A : Type 0} (t : Bool) (x : A) → (if t then x else x) ≡ x
+pub if_same : {A : Type 0} (t : Bool) (x : A) → (if t then x else x) ≡ x
 if_same true x = refl
 if_same false x = refl
 

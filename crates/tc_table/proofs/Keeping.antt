@@ -1,5 +1,5 @@
 -- What the table keeps is right after one more entry.
-use Rattle.std.proofs.Common.{ℕ, ◌≡◌, ◌<◌, ◌≤◌, ◌==◌, ◌&&◌, ◌||◌, not, if◌then◌else◌, Bool, true, false, Option, Some, None, is_some, List, [], ◌∷◌, ◌++◌, length, reverse, get_or, refl, ap, sym, ◌∙◌, arith}
+use Rattle.std.proofs.Common.{ℕ, ◌≡◌, ◌<◌, ◌≤◌, ◌==◌, ◌&&◌, ◌||◌, not, if◌then◌else◌, Bool, true, false, Option, Some, None, is_some, List, ◌∷◌, length, get_or, refl, ap, subst, sym, ◌∙◌, arith}
 use Rattle.std.specs.List.{list_all}
 use Rattle.std.proofs.lemmas.Bool.Decides.{nat_tests}
 use Rattle.tc_table.specs.declared.awaited.Awaited.{Awaited}
@@ -12,8 +12,7 @@ use Rattle.tc_table.specs.Phases.{last_run, was_killed, was_halted, start_in}
 use Rattle.tc_table.specs.Answers.{answer}
 use Rattle.tc_table.specs.Faults.{all_exist, target_names}
 use Rattle.tc_table.specs.Waiting.{waiting, parks}
-use Rattle.std.proofs.lemmas.List.{reverse-append}
-use Rattle.tc_table.specs.Case.{Case, past_of}
+use Rattle.tc_table.specs.Standing.{Kept, StandsFor}
 use Rattle.tc_table.specs.Inside.Kept.{IsKept, numbers_from}
 use Rattle.tc_table.specs.Inside.Step.{next_state, next_run}
 use Rattle.tc_table.proofs.KeptLemmas.{exists_if, exists_unless, existing}
@@ -148,21 +147,21 @@ module _ {n : ℕ} {past : List Entry} {states : List ComponentState} {runs : Li
         legal = (legal, kept.legal);
       }
 
-  -- the same, as a call has it: v is the case that the table shows, and after the history with the entry
-  pub keeps_added : (e : Entry) (states' : List ComponentState) (runs' : List RunState) (own : Option Comp) (over' : Bool) (v t : Case) (after : List Entry) → v ≡ t → past_of v ≡ past → v.behaviours ≡ n →
-      after ≡ v.history ++ e ∷ [] →
-      IsKept n past states runs over → e.reply ≡ answer t.behaviours (past_of t) e.caller.0 e.op → own ≡ comp_of (past_of t) e.caller.0 →
-      created e.op e.reply ≡ None →
-      length states' ≡ length states → ((c : ℕ) (d : ComponentState) → c < length states → get_or states' c d ≡ next_state own e c (get_or states c d)) →
-      length runs' ≡ length runs → ((b : ℕ) (d : RunState) → b < length runs → get_or runs' b d ≡ next_run e b (get_or runs b d)) →
-      over' ≡ (over || ends_case e) →
-      IsKept n (reverse after) states' runs' over'
-  keeps_added e states' runs' own over' v t after same is_past is_n added kept legal on none as_many changed as_many_runs changed_runs over_is =
-      let p : past_of t ≡ past = ap past_of (sym same) ∙ is_past in
-      let k : t.behaviours ≡ n = ap (λ w. w.behaviours) (sym same) ∙ is_n in
-      let q : reverse after ≡ e ∷ past = ap reverse added ∙ (reverse-append v.history (e ∷ []) ∙ ap (λ w. e ∷ w) is_past) in
-      let o : own ≡ comp_of past e.caller.0 = on ∙ ap (λ w. comp_of w e.caller.0) p in
-      rw (q, over_is)
-      (keeps e states' runs' kept (rw (p, k) at legal) none as_many
-      (λ c d h. changed c d h ∙ ap (λ w. next_state w e c (get_or states c d)) o)
-      as_many_runs (λ b d h. changed_runs b d (omega (arith, kept.as_many_runs))))
+pub stands_by : (v k : Kept) (past : List Entry) → v ≡ k → StandsFor v past → StandsFor k past
+stands_by v k past same kept = subst (λ (w : Kept). StandsFor w past) same kept
+
+-- the same, as a call has it: v is what is kept before the entry
+pub keeps_entry : (v k : Kept) (past : List Entry) (e : Entry) (states' : List ComponentState) (runs' : List RunState) (own : Option Comp) (over' : Bool) → v ≡ k → StandsFor k past →
+    e.reply ≡ answer k.behaviours past e.caller.0 e.op → own ≡ comp_of past e.caller.0 →
+    created e.op e.reply ≡ None →
+    length states' ≡ length v.states → ((c : ℕ) (d : ComponentState) → c < length v.states → get_or states' c d ≡ next_state own e c (get_or v.states c d)) →
+    length runs' ≡ length v.runs → ((b : ℕ) (d : RunState) → b < length v.runs → get_or runs' b d ≡ next_run e b (get_or v.runs b d)) →
+    over' ≡ (v.over || ends_case e) →
+    IsKept v.behaviours (e ∷ past) states' runs' over'
+keeps_entry v k past e states' runs' own over' same stands legal on none as_many changed as_many_runs changed_runs over_is =
+    let kept : StandsFor v past = stands_by k v past (sym same) stands in
+    let as_many_kept : length v.runs ≡ v.behaviours = kept.as_many_runs in
+    rw over_is
+    (keeps e states' runs' kept (legal ∙ ap (λ (w : Kept). answer w.behaviours past e.caller.0 e.op) (sym same)) none as_many
+    (λ c d h. changed c d h ∙ ap (λ w. next_state w e c (get_or v.states c d)) on)
+    as_many_runs (λ b d h. changed_runs b d (omega arith)))

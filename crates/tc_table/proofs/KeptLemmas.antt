@@ -13,7 +13,8 @@ use Rattle.tc_table.specs.History.{comps, comp_of, ptcs, exists, is_in}
 use Rattle.tc_table.specs.Phases.{phase_if_any, phase, last_run, is_excused}
 use Rattle.tc_table.specs.Local.{local_if_any, local, overall}
 use Rattle.tc_verdict.specs.Verdict.{worst}
-use Rattle.tc_table.specs.Faults.{components, all_exist}
+use Rattle.tc_table.specs.declared.awaited.Awaited.{Awaited}
+use Rattle.tc_table.specs.Faults.{components, all_exist, target_names}
 use Rattle.tc_table.specs.Answers.{is_active, is_run_of}
 use Rattle.tc_table.specs.Waiting.{waiting}
 use Rattle.tc_table.specs.Inside.States.{any_running, none_running, any_killed, all_killed, any_alive, all_alive, any_done, none_lapsed, all_below, worst_local}
@@ -189,6 +190,40 @@ all_exist_none past = refl
 pub all_exist_more : (past : List Entry) (c : Comp) (cs : List Comp) → all_exist past (c ∷ cs) ≡ (exists past c.0 && all_exist past cs)
 unfolding all_exist
 all_exist_more past c cs = refl
+
+pub below_one : (c : Comp) (count : ℕ) → all_below (c ∷ []) count ≡ nat_lt c.0 count
+unfolding all_below
+below_one c count = and-true (nat_lt c.0 count)
+
+pub below_none : (count : ℕ) → all_below [] count ≡ true
+unfolding all_below
+below_none count = refl
+
+pub below_more : (c : Comp) (cs : List Comp) (count : ℕ) → all_below (c ∷ cs) count ≡ (nat_lt c.0 count && all_below cs count)
+unfolding all_below
+below_more c cs count = refl
+
+pub is_below : (c : Comp) (count : ℕ) → all_below (c ∷ []) count ≡ true → c.0 < count
+unfolding all_below
+is_below c count h = let e : nat_lt c.0 count ≡ true = one-true _ h in grind (arith, nat_tests)
+
+pub first_below : (c : Comp) (cs : List Comp) (count : ℕ) → all_below (c ∷ cs) count ≡ true → c.0 < count
+unfolding all_below
+first_below c cs count h = let e : nat_lt c.0 count ≡ true = left (nat_lt c.0 count) _ h in grind (arith, nat_tests)
+  where
+    left : (a b : Bool) → (a && b) ≡ true → a ≡ true
+    left true b h = refl
+    left false b h = absurd cc
+
+module _ {n : ℕ} {past : List Entry} {states : List ComponentState} {runs : List RunState} {over : Bool} where
+  -- what a run waits for exists
+  pub awaited_below : (b : ℕ) (d : RunState) (a : Awaited) → IsKept n past states runs over → b < length runs → (get_or runs b d).waiting ≡ Some a → all_below (target_names a.target) (length states) ≡ true
+  awaited_below b d a kept h w =
+      sym (all_exist_kept (target_names a.target) kept)
+      ∙ kept.waits_for_existing b a (sym (waiting_kept b d kept h) ∙ w)
+
+-- what is known of components by their number
+pub ruleset below_rules = (below_one, below_none, below_more, is_below, first_below)
 
 -- what is known of a table
 pub ruleset kept_rules = (components_kept, exists_kept, phase_kept, no_phase, local_kept, no_local, all_exist_kept, one_exists, active_kept, inactive, existing, phase_state, all_exist_one, all_exist_none, all_exist_more)

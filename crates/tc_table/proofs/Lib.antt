@@ -14,4 +14,6 @@ pub mod Over
 pub mod Stuck
 pub mod Counting
 pub mod Elsewhere
+pub mod Unchanged
 pub mod LawsOfHistories
+pub mod Quiet

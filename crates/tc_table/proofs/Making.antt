@@ -1,7 +1,7 @@
 -- What the table keeps is right after an entry that makes a component.
-use Rattle.std.proofs.Common.{ℕ, ◌≡◌, ◌+◌, ◌<◌, ◌≤◌, ◌==◌, ◌&&◌, ◌||◌, if◌then◌else◌, Bool, true, false, Option, Some, None, List, [], ◌∷◌, ◌++◌, length, reverse, get_or, refl, ap, subst, sym, ◌∙◌, arith, length-append, below_more, suc}
+use Rattle.std.proofs.Common.{ℕ, ◌≡◌, ◌+◌, ◌<◌, ◌≤◌, ◌==◌, ◌&&◌, ◌||◌, if◌then◌else◌, Bool, true, false, Option, Some, None, List, [], ◌∷◌, ◌++◌, length, get_or, refl, ap, subst, sym, ◌∙◌, arith, length-append, below_more, suc}
 use Rattle.std.proofs.lemmas.Bool.Decides.{nat_tests}
-use Rattle.std.proofs.lemmas.List.{reverse-append, get_or_append_left}
+use Rattle.std.proofs.lemmas.List.{get_or_append_left}
 use Rattle.std.proofs.Math.Seq.{get_or-append_seam}
 use Rattle.tc_entry.specs.declared.comp.Comp.{Comp}
 use Rattle.std.specs.List.{list_all}
@@ -20,10 +20,11 @@ use Rattle.tc_table.specs.Status.{is_running}
 use Rattle.tc_table.specs.Answers.{answer}
 use Rattle.tc_table.specs.Faults.{all_exist, target_names, components}
 use Rattle.tc_table.specs.Waiting.{waiting}
-use Rattle.tc_table.specs.Case.{Case, past_of}
+use Rattle.tc_table.specs.Standing.{Kept, StandsFor}
 use Rattle.tc_table.specs.Inside.Kept.{IsKept, state_of, numbers_from}
 use Rattle.tc_table.specs.Inside.Step.{next_state, next_run, next_local}
 use Rattle.tc_table.proofs.KeptLemmas.{exists_if, exists_unless, components_kept}
+use Rattle.tc_table.proofs.Keeping.{stands_by}
 use Rattle.tc_table.proofs.Numbers.{numbers_from-more}
 use Rattle.tc_table.proofs.Steps.{state_step, run_step}
 use Rattle.tc_table.proofs.Settled.{running_not_excused}
@@ -156,23 +157,23 @@ module _ {n : ℕ} {past : List Entry} {states : List ComponentState} {runs : Li
         legal = (legal, kept.legal);
       }
 
-  -- the same, as a call has it
-  pub makes_added : (e : Entry) (d : Comp) (runs' : List RunState) (v t : Case) (after : List Entry) → v ≡ t → past_of v ≡ past → v.behaviours ≡ n →
-      after ≡ v.history ++ e ∷ [] →
-      IsKept n past states runs over → e.reply ≡ answer t.behaviours (past_of t) e.caller.0 e.op → created e.op e.reply ≡ Some d →
-      length runs' ≡ length runs → ((b : ℕ) (d : RunState) → b < length runs → get_or runs' b d ≡ next_run e b (get_or runs b d)) →
-      IsKept n (reverse after) (states ++ made_state (is_alive_create e.op) ∷ []) runs' over
-  makes_added e d runs' v t after same is_past is_n added kept legal made as_many_runs changed_runs =
-      let p : past_of t ≡ past = ap past_of (sym same) ∙ is_past in
-      let k : t.behaviours ≡ n = ap (λ w. w.behaviours) (sym same) ∙ is_n in
-      let q : reverse after ≡ e ∷ past = ap reverse added ∙ (reverse-append v.history (e ∷ []) ∙ ap (λ w. e ∷ w) is_past) in
-      let f = next n past e d (rw (p, k) at legal) made in
-      let l : e ≡ create e.caller (is_alive_create e.op) d = entry_ext e.caller f.is_create f.is_made in
-      let legal' : R.Made d ≡ answer n past e.caller.0 (O.Create (is_alive_create e.op)) = sym f.is_made ∙ (rw (p, k) at legal) ∙ ap (answer n past e.caller.0) f.is_create in
-      let size : components past ≡ length states = components_kept kept in
-      let number : d.0 ≡ length states = f.number ∙ size in
-      let few : length states < 1000 = omega (arith, f.few) in
-      rw q
-      (subst (λ (x : Entry). IsKept n (x ∷ past) (states ++ made_state (is_alive_create e.op) ∷ []) runs' over) (sym l)
-      (created_lit e.caller (is_alive_create e.op) d runs' kept legal' number few as_many_runs
-      (λ b w h. changed_runs b w (omega (arith, kept.as_many_runs)) ∙ ap (λ x. next_run x b (get_or runs b w)) l)))
+-- the same, as a call has it: v is what is kept before the entry
+pub makes_entry : (v k : Kept) (past : List Entry) (e : Entry) (d : Comp) (states' : List ComponentState) (runs' : List RunState) → v ≡ k → StandsFor k past →
+    e.reply ≡ answer k.behaviours past e.caller.0 e.op → created e.op e.reply ≡ Some d →
+    states' ≡ v.states ++ made_state (is_alive_create e.op) ∷ [] →
+    length runs' ≡ length v.runs → ((b : ℕ) (w : RunState) → b < length v.runs → get_or runs' b w ≡ next_run e b (get_or v.runs b w)) →
+    IsKept v.behaviours (e ∷ past) states' runs' v.over
+makes_entry v k past e d states' runs' same stands legal made grown as_many_runs changed_runs =
+    let kept : StandsFor v past = stands_by k v past (sym same) stands in
+    let legal' : e.reply ≡ answer v.behaviours past e.caller.0 e.op = legal ∙ ap (λ (w : Kept). answer w.behaviours past e.caller.0 e.op) (sym same) in
+    let f = next v.behaviours past e d legal' made in
+    let l : e ≡ create e.caller (is_alive_create e.op) d = entry_ext e.caller f.is_create f.is_made in
+    let made_legal : R.Made d ≡ answer v.behaviours past e.caller.0 (O.Create (is_alive_create e.op)) = sym f.is_made ∙ legal' ∙ ap (answer v.behaviours past e.caller.0) f.is_create in
+    let size : components past ≡ length v.states = components_kept kept in
+    let number : d.0 ≡ length v.states = f.number ∙ size in
+    let few : length v.states < 1000 = omega (arith, f.few) in
+    let as_many_kept : length v.runs ≡ v.behaviours = kept.as_many_runs in
+    rw grown
+    (subst (λ (x : Entry). IsKept v.behaviours (x ∷ past) (v.states ++ made_state (is_alive_create e.op) ∷ []) runs' v.over) (sym l)
+    (created_lit e.caller (is_alive_create e.op) d runs' kept made_legal number few as_many_runs
+    (λ b w h. changed_runs b w (omega arith) ∙ ap (λ x. next_run x b (get_or v.runs b w)) l)))

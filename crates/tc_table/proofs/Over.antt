@@ -14,7 +14,7 @@ use Rattle.tc_table.specs.History.{comps, exists, comp_of, created, add_new, is_
 use Rattle.tc_table.specs.Phases.{phase, was_killed}
 use Rattle.tc_table.specs.Answers.{answer, is_active}
 use Rattle.tc_table.specs.Legal.{IsLegal, IsAllOver}
-use Rattle.tc_table.specs.Case.{Case, past_of}
+use Rattle.tc_table.specs.Standing.{Kept, StandsFor}
 use Rattle.tc_table.specs.Inside.Kept.{IsKept}
 use Rattle.std.specs.Bool.{OnTrue}
 use Rattle.tc_table.proofs.Sound.{runs_on}
@@ -43,7 +43,7 @@ in_added (Some d) c ns h = by_test (is_in d.0 ns)
     by_test true = h
     by_test false = in_more c ns (d.0 ∷ []) h
 
-stays : (past : List Entry) (e : Entry) (c : ℕ) → exists past c ≡ true → exists (e ∷ past) c ≡ true
+pub stays : (past : List Entry) (e : Entry) (c : ℕ) → exists past c ≡ true → exists (e ∷ past) c ≡ true
 unfolding exists
 stays past e c h = in_added (created e.op e.reply) c (comps past) h
 
@@ -52,7 +52,7 @@ first_either (Some y) p x P f g h = f h
 first_either None p x P f g h = g h
 
 -- a run is on a component that exists
-on_existing : (n : ℕ) (past : List Entry) (b : ℕ) (c : Comp) → IsLegal n past → comp_of past b ≡ Some c → exists past c.0 ≡ true
+pub on_existing : (n : ℕ) (past : List Entry) (b : ℕ) (c : Comp) → IsLegal n past → comp_of past b ≡ Some c → exists past c.0 ≡ true
 on_existing n [] b c legal h = opening_exists b c h
 on_existing n (e ∷ past) b c legal h =
     stays past e c.0
@@ -126,8 +126,8 @@ module _ {n : ℕ} {past : List Entry} {states : List ComponentState} {runs : Li
   all_over_kept kept h = all_over n past kept.legal (sym kept.over_is ∙ h)
 
 -- the same, as a call has it
-pub on_over : {states : List ComponentState} {runs : List RunState} (over : Bool) (v t : Case) → v ≡ t → IsKept v.behaviours (past_of v) states runs over → OnTrue over (IsAllOver t.behaviours (past_of t))
-on_over true v t same kept = rw (← same) (all_over_kept kept refl)
-on_over false v t same kept = tt
+pub on_over : (over : Bool) (v k : Kept) (past : List Entry) → v ≡ k → over ≡ v.over → StandsFor k past → OnTrue over (IsAllOver k.behaviours past)
+on_over true v k past same is kept = all_over_kept kept (sym (is ∙ ap (λ (w : Kept). w.over) same))
+on_over false v k past same is kept = tt
 
 pub ruleset over_rules = (over_kept, all_over_kept)

@@ -26,7 +26,7 @@ and_no : (b : Bool) → (b && false) ≡ false
 and_no true = refl
 and_no false = refl
 
-one_false : (f : ℕ → Bool) (xs : List ℕ) (x : ℕ) → is_in x xs ≡ true → f x ≡ false → list_all f xs ≡ false
+pub one_false : (f : ℕ → Bool) (xs : List ℕ) (x : ℕ) → is_in x xs ≡ true → f x ≡ false → list_all f xs ≡ false
 one_false f [] x h k = absurd cc
 one_false f (y ∷ ys) x h k = by_test (x == y) refl (one_false f ys x)
   where
@@ -78,7 +78,7 @@ goes_on_is : (past : List Entry) (b : ℕ) → goes_on past b ≡ (is_active pas
 unfolding goes_on
 goes_on_is past b = refl
 
-self_equal : (m : ℕ) → (m == m) ≡ true
+pub self_equal : (m : ℕ) → (m == m) ≡ true
 self_equal m = grind (arith, nat_tests)
 
 none_some : (o : Option Comp) (c : Comp) → o ≡ None → o ≡ Some c → ⊥

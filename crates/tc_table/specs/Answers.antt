@@ -1,6 +1,5 @@
 -- The component table: the reply to every call, by what came before it.
 use Rattle.std.specs.Prelude.{ℕ, ◌==◌, ◌&&◌, if◌then◌else◌, Bool, false, Option, Some, None, List}
-use Rattle.tc_verdict.specs.declared.run.Run.{Run}
 use Rattle.tc_table.specs.declared.awaited.Awaited.{Awaited}
 use Rattle.tc_entry.specs.declared.comp.Comp.{Comp}
 use Rattle.tc_entry.specs.declared.entry.Entry.{Entry}

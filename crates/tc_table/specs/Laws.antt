@@ -1,13 +1,19 @@
 -- What holds of every legal history, and the definitions leave unsaid.
-use Rattle.std.specs.Prelude.{ℕ, ◌≡◌, if◌then◌else◌, true, false, Some, List, [], ◌∷◌, ◌++◌}
+use Rattle.std.specs.Prelude.{ℕ, ◌≡◌, ◌&&◌, if◌then◌else◌, Bool, true, false, Some, List, [], ◌∷◌, ◌++◌}
 use Rattle.tc_verdict.specs.declared.verdict.Verdict.{Verdict}
 use Rattle.tc_verdict.specs.Verdict.{worst}
 use Rattle.tc_entry.specs.declared.comp.Comp.{Comp}
 use Rattle.tc_entry.specs.declared.entry.Entry.{Entry}
+use Rattle.tc_entry.specs.declared.op.Op.{Op}
+use Rattle.tc_entry.specs.declared.op.Op.TheVariants as O
+use Rattle.tc_entry.specs.declared.op.Target.{Target}
 use Rattle.tc_entry.specs.declared.phase.Phase.TheVariants as P
+use Rattle.tc_entry.specs.declared.reply.Reply.{Reply}
+use Rattle.tc_entry.specs.declared.reply.Reply.TheVariants as R
 use Rattle.tc_table.specs.History.{comp_of, is_comp, is_ended, is_over}
 use Rattle.tc_table.specs.Phases.{phase, was_killed, was_halted}
 use Rattle.tc_table.specs.Local.{gives, local}
+use Rattle.tc_table.specs.Answers.{answer}
 use Rattle.tc_table.specs.Legal.{IsLegal, IsAllOver}
 
 -- after an entry that ends the case no component is alive, and every call is answered Ended
@@ -43,3 +49,33 @@ verdicts_in whole (e ∷ past) c =
 abbrev pub LocalOfWhole : Type 0
 LocalOfWhole =
     (n : ℕ) (past : List Entry) (c : ℕ) → IsLegal n past → worst (verdicts_in past past c) ≡ local past c
+
+-- the operation starts, halts and kills nothing
+abbrev pub keeps_phases : Op → Bool
+keeps_phases (O.Start c run args) = false
+keeps_phases (O.Stop group) = false
+keeps_phases (O.Kill group) = false
+keeps_phases O.Finish = false
+keeps_phases _ = true
+
+-- after this reply the caller goes on
+abbrev pub lets_go_on : Reply → Bool
+lets_go_on R.Ended = false
+lets_go_on R.Parked = false
+lets_go_on (R.Fault f) = false
+lets_go_on _ = true
+
+-- the entry changes no component's phase, and its caller goes on
+abbrev pub is_quiet : Op → Reply → Bool
+is_quiet op reply = keeps_phases op && lets_go_on reply
+
+-- who waited still waits: a wait that would be parked again still would be, no run is started, and the case is over if it was
+pub record WakesNobody (n : ℕ) (past : List Entry) (e : Entry) : Type 0 where
+  pub parked : (b : ℕ) (killed : Bool) (target : Target) → answer n past b (O.Wake killed target) ≡ R.Parked → answer n (e ∷ past) b (O.Wake killed target) ≡ R.Parked
+  pub runs : (b : ℕ) → comp_of (e ∷ past) b ≡ comp_of past b
+  pub over : is_over (e ∷ past) ≡ is_over past
+
+-- a quiet entry wakes nobody
+abbrev pub QuietWakesNobody : Type 0
+QuietWakesNobody =
+    (n : ℕ) (past : List Entry) (e : Entry) → IsLegal n (e ∷ past) → is_quiet e.op e.reply ≡ true → WakesNobody n past e

@@ -9,4 +9,5 @@ pub mod Legal
 pub mod Laws
 pub mod Check
 pub mod Case
+pub mod Standing
 pub mod Inside

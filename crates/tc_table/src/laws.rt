@@ -30,3 +30,9 @@ pub fn same_component_later()
 pub fn local_of_whole()
     ensures { laws.LocalOfWhole }
 {}
+
+/// An entry that changes no component's phase, and whose caller goes on, wakes nobody.
+#[tactic(auto, using(crate::proofs::Quiet::quiet_wakes_nobody))]
+pub fn quiet_wakes_nobody()
+    ensures { laws.QuietWakesNobody }
+{}

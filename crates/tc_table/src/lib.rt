@@ -8,11 +8,13 @@ mod component_states;
 mod entries;
 pub mod laws;
 mod run_state;
+mod state;
 mod step;
 mod table;
 
 pub use awaited::Awaited;
 pub use check::{CheckFault, replay_check};
+pub use state::CaseState;
 pub use table::Table;
 pub use tc_entry::{
     Args, Comp, Entry, Fault, Group, Name, NoMemory, Op, Phase, Reply, Run, Target, UserVerdict,

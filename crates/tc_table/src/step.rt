@@ -180,6 +180,35 @@ fn take_in_one(states: &mut ComponentStates, own: Option<Comp>, entry: &Entry, c
     }
 }
 
+/// Whether a call on all components finds none in a phase that it would change.
+fn finds_none(op: &Op, states: &ComponentStates) -> bool
+    ensures { result ≡ step.finds_none op.now states.now }
+{
+    match op {
+        Op::Stop(Group::All) => states.none_running(),
+        Op::Kill(Group::All) => states.all_killed(),
+        _ => false,
+    }
+}
+
+/// Whether the entry is a call on all components that changes none of them.
+fn changes_none(entry: &Entry, states: &ComponentStates) -> bool
+    ensures { result ≡ step.changes_none entry.now states.now }
+{
+    !ends_case(entry) && finds_none(&entry.op, states)
+}
+
+/// The same, for an entry that may touch every component: it goes over them only where it may change one.
+fn take_in_many(states: &mut ComponentStates, own: Option<Comp>, entry: &Entry)
+    requires settled { step.IsSettled states.old }
+    ensures as_many { length states.new ≡ length states.old }
+    ensures each { (c : ℕ) (d : ComponentState) → c < length states.old → slice_index_or states.new c d ≡ step.next_state own entry.now c (slice_index_or states.old c d) }
+{
+    if !changes_none(entry, states) {
+        take_in_all(states, own, entry);
+    }
+}
+
 /// Brings what is known of the components up to one more entry.
 #[tactic(auto, using(crate::proofs::Elsewhere::none_changed))]
 pub fn take_in(states: &mut ComponentStates, own: Option<Comp>, entry: &Entry)
@@ -190,7 +219,7 @@ pub fn take_in(states: &mut ComponentStates, own: Option<Comp>, entry: &Entry)
     match touched(own, entry) {
         Scope::Nothing => {}
         Scope::One(comp) => take_in_one(states, own, entry, comp),
-        Scope::All => take_in_all(states, own, entry),
+        Scope::All => take_in_many(states, own, entry),
     }
 }
 

@@ -10,18 +10,10 @@ ghost use Rattle.tc_table.specs.Faults as faults;
 ghost use Rattle.tc_table.specs.Answers as answers;
 ghost use Rattle.tc_table.specs.Legal as legal;
 
-mod adding;
-mod answers;
-mod faults;
-mod status;
-mod waiting;
-
-use crate::component_states::ComponentStates;
-use crate::entries::created;
-use crate::run_state::{RunState, opening_runs};
+use crate::state::CaseState;
 use std::alloc::Global;
 use std::marker::Model;
-use tc_entry::{Comp, Entry, Fault, Op, Phase, Reply};
+use tc_entry::{Comp, Entry, Op, Phase, Reply};
 use tc_verdict::{NoMemory, Run, Verdict};
 
 /// The components of one test case, and all that was asked of them (ES 201 873-1, test component operations).
@@ -29,27 +21,23 @@ use tc_verdict::{NoMemory, Run, Verdict};
 /// Contracts see the number of behaviours, the history, and how many more entries have their place.
 #[derive(Drop)]
 pub struct Table {
-    behaviours: u16,
+    state: CaseState,
     history: Vec<Entry>,
-    states: ComponentStates,
-    runs: Vec<RunState>,
-    over: bool,
 }
 
 impl Model for Table {
     ghost use Rattle.std.specs.Prelude.{reverse, ◌-◌};
     ghost use Rattle.std.specs.Vec.{vec_len, vec_capacity};
     ghost use Rattle.tc_table.specs.Case.{Case};
-    ghost use Rattle.tc_table.specs.Inside.Kept.{IsKept};
+    ghost use Rattle.tc_table.specs.Standing.{StandsFor};
 
     ghost Value = { Case };
 
-    ghost view = { λ t. record { behaviours = t.behaviours; history = t.history.items; room = vec_capacity t.history - vec_len t.history } };
+    ghost view = { λ t. record { behaviours = t.state.behaviours; history = t.history.items; room = vec_capacity t.history - vec_len t.history } };
 
-    ghost invariant = { λ t. IsKept t.behaviours (reverse t.history.items) t.states t.runs.items t.over };
+    ghost invariant = { λ t. StandsFor t.state (reverse t.history.items) };
 }
 
-#[tactic(auto, using(crate::proofs::KeptLemmas::kept_rules, crate::proofs::KeptLemmas::group_rules))]
 impl Table {
     /// A case of so many behaviours, at its opening.
     pub fn new(alloc: Global, behaviours: u16) -> Result<Table, NoMemory>
@@ -58,14 +46,9 @@ impl Table {
         ensures behaviours { IfOk result (λ t. t.behaviours ≡ behaviours) }
         ensures opening { IfOk result (λ t. t.history ≡ []) }
     {
-        let states = ComponentStates::new(alloc)?;
-        let runs = opening_runs(alloc, behaviours)?;
         Ok(Table {
-            behaviours,
+            state: CaseState::new(alloc, behaviours)?,
             history: Vec::new(alloc),
-            states,
-            runs,
-            over: false,
         })
     }
 
@@ -79,29 +62,19 @@ impl Table {
         ensures refused_room { OnErr result (self.old.room ≤ self.new.room) }
         ensures sure { 0 < self.old.room → history.is_create op ≡ false → IsOk result }
     {
-        let reply = self.would(caller, &op);
-        let own = self.comp_of(caller);
-        let made = created(&op, reply);
+        let reply = self.state.would(caller, &op);
         let entry = Entry { caller, op, reply };
-        match made {
-            None => self.add(own, entry)?,
-            Some(comp) => self.make(entry, comp)?,
-        }
+        self.history.reserve(1)?;
+        self.state.take(&entry)?;
+        self.history.push_reserved(entry);
         Ok(reply)
     }
 
     /// The reply that `play` would give now.
-    #[tactic(auto, using(crate::proofs::KeptLemmas::kept_rules, crate::proofs::KeptLemmas::wait_rules), unfolding(crate::specs::Answers::answer, crate::specs::Faults::fault))]
     pub fn would(&self, caller: Run, op: &Op) -> Reply
         ensures { result ≡ answers.answer self.now.behaviours (past_of self.now) caller.0 op.now }
     {
-        match self.active_on(caller) {
-            None => Reply::Ended,
-            Some(own) => match self.fault(caller, op) {
-                Some(fault) => Reply::Fault(fault),
-                None => self.plain_answer(caller, own, op),
-            },
-        }
+        self.state.would(caller, op)
     }
 
     /// Makes room for so many more calls.
@@ -135,47 +108,35 @@ impl Table {
     pub fn phase_of(&self, comp: Comp) -> Option<Phase>
         ensures { result ≡ phases.phase_if_any (past_of self.now) comp.0 }
     {
-        let states = self.states.as_slice();
-        if (comp.0 as usize) < states.len() {
-            Some(states[comp.0 as usize].phase)
-        } else {
-            None
-        }
+        self.state.phase_of(comp)
     }
 
     /// The local verdict of a component.
     pub fn local(&self, comp: Comp) -> Option<Verdict>
         ensures { result ≡ verdicts.local_if_any (past_of self.now) comp.0 }
     {
-        let states = self.states.as_slice();
-        if (comp.0 as usize) < states.len() {
-            Some(states[comp.0 as usize].local)
-        } else {
-            None
-        }
+        self.state.local(comp)
     }
 
     /// The worst of the local verdicts.
-    #[tactic(auto, using(crate::proofs::KeptLemmas::overall_rules))]
     pub fn overall(&self) -> Verdict
         ensures { result ≡ verdicts.overall (past_of self.now) }
     {
-        self.states.worst()
+        self.state.overall()
     }
 
     /// Whether the case is over.
-    #[tactic(auto, using(crate::proofs::Over::over_rules))]
     pub fn is_over(&self) -> bool
         ensures is { result ≡ history.is_over (past_of self.now) }
         ensures after { OnTrue result (legal.IsAllOver self.now.behaviours (past_of self.now)) }
     {
-        self.over
+        self.state.is_over()
     }
 
     /// How many components exist.
     pub fn components(&self) -> u32
         ensures { result ≡ faults.components (past_of self.now) }
     {
-        self.states.as_slice().len() as u32
+        self.state.components()
     }
 }

@@ -42,20 +42,20 @@ judged_more text first_line name n rest after line playing playing' e so spelled
     }
 
 -- what the judgement tells of each block whose entries these are
-abbrev pub Judges : Playing → List ℕ → ℕ → Verdict → Judgement → Type 0
-Judges playing name line v j = (b : Block) → IsPlayed b.behaviours b.first_line b.entries playing → name ≡ b.name → line ≡ b.first_line + length b.entries + 1 → v ≡ b.verdict → IsJudgement b j
+abbrev pub Judges : Playing → List ℕ → ℕ → ℕ → Verdict → Judgement → Type 0
+Judges playing name first_line line v j = (b : Block) → IsPlayed b.behaviours b.first_line b.entries playing → name ≡ b.name → first_line ≡ b.first_line → line ≡ b.first_line + length b.entries + 1 → v ≡ b.verdict → IsJudgement b j
 
 -- the block of a first line, entries and a verdict
 abbrev read_block : List ℕ → ℕ → ℕ → List Entry → Verdict → Block
 read_block name n first_line entries v = record { name = name; behaviours = n; first_line = first_line; entries = entries; verdict = v }
 
 pub judged_whole : (text : List ℕ) (first_line : ℕ) (name : List ℕ) (n : ℕ) (rest after : List ℕ) (line : ℕ) (playing : Playing) (v : Verdict) (j : Judgement) → IsJudgedSoFar text first_line name n rest line playing →
-    lines_of rest ≡ end_text v ∷ lines_of after → length after < length rest → Judges playing name line v j → IsJudgedBlock text first_line j (line + 1) after
+    lines_of rest ≡ end_text v ∷ lines_of after → length after < length rest → Judges playing name first_line line v j → IsJudgedBlock text first_line j (line + 1) after
 judged_whole text first_line name n rest after line playing v j so spelled less judges = record {
   block = block;
   fits = record { header = so.read.opens.header; entries = so.read.opens.right; first = refl };
   lines = ended_lines text block rest after so.read.opens spelled;
-  judged = judges block so.played refl so.line_is refl;
+  judged = judges block so.played refl refl so.line_is refl;
   next_is = let here = so.line_is in omega (arith, here);
   room = let room = so.read.room in omega (arith, room, less);
 }
@@ -65,12 +65,12 @@ judged_whole text first_line name n rest after line playing v j so spelled less 
 
 -- no other block can be read, so it is the judgement of each
 pub judged_only : (text : List ℕ) (first_line : ℕ) (name : List ℕ) (n : ℕ) (rest after : List ℕ) (line : ℕ) (playing : Playing) (v : Verdict) (j : Judgement) → IsJudgedSoFar text first_line name n rest line playing →
-    lines_of rest ≡ end_text v ∷ lines_of after → IsThatEnd rest v after → Judges playing name line v j →
+    lines_of rest ≡ end_text v ∷ lines_of after → IsThatEnd rest v after → Judges playing name first_line line v j →
     (b : Block) (others : List (List ℕ)) → IsBlock first_line b → lines_of text ≡ block_lines b ++ others → IsJudgement b j × (line + 1 ≡ first_line + (length b.entries + 2)) × (lines_of after ≡ others)
 judged_only text first_line name n rest after line playing v j so spelled only judges b others is lines =
     let block = read_block name n first_line so.entries v in
     let two = ended_only text first_line block rest after so.read spelled refl only b others is lines in
-    let judged : IsJudgement block j = judges block so.played refl so.line_is refl in
+    let judged : IsJudgement block j = judges block so.played refl refl so.line_is refl in
     let here = so.line_is in
     let next : line + 1 ≡ first_line + (length block.entries + 2) = omega (arith, here) in
     (rw two.0 at judged, next ∙ ap (λ (c : Block). first_line + (length c.entries + 2)) two.0, two.1)

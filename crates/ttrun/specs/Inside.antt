@@ -2,7 +2,7 @@
 use Rattle.std.specs.Prelude.{ℕ, ◌≡◌, ◌+◌, ◌≤◌, Option, Some, None, List, ◌++◌, length, reverse}
 use Rattle.tc_entry.specs.declared.entry.Entry.{Entry}
 use Rattle.tc_text.specs.Lines.{lines_of}
-use Rattle.tc_table.specs.Case.{Case}
+use Rattle.tc_table.specs.Standing.{Kept, StandsFor}
 use Rattle.tc_table.specs.Legal.{IsLegal}
 use Rattle.tc_history.specs.declared.read.Block.{Block}
 use Rattle.tc_history.specs.Text.{IsBlock, IsBlockFault, IsHistoryFault, block_lines}
@@ -13,14 +13,14 @@ use Rattle.ttrun.specs.declared.judge.Judgement.{Judgement}
 use Rattle.ttrun.specs.declared.judge.Playing.{Playing}
 use Rattle.ttrun.specs.Check.{IsJudgement, IsOtherReply}
 
--- the entries are those of the table, or this is their first difference
-abbrev pub IsPlayedTo : ℕ → ℕ → List Entry → Case → Option Difference → Type 0
-IsPlayedTo n first_line entries t None = (t.behaviours ≡ n) × (t.history ≡ entries) × IsLegal n (reverse entries)
-IsPlayedTo n first_line entries t (Some d) = IsOtherReply n first_line entries d.line d.given d.reply
+-- this state stands for the entries, each of whose replies is the table's, or this is their first difference
+abbrev pub IsPlayedTo : ℕ → ℕ → List Entry → Kept → Option Difference → Type 0
+IsPlayedTo n first_line entries k None = (k.behaviours ≡ n) × StandsFor k (reverse entries) × IsLegal n (reverse entries)
+IsPlayedTo n first_line entries k (Some d) = IsOtherReply n first_line entries d.line d.given d.reply
 
 -- these entries of a history of n behaviours, which stand below its first line, are played
 abbrev pub IsPlayed : ℕ → ℕ → List Entry → Playing → Type 0
-IsPlayed n first_line entries p = IsPlayedTo n first_line entries p.table p.difference
+IsPlayed n first_line entries p = IsPlayedTo n first_line entries p.state p.difference
 
 -- the text begins with a history whose first line has this number, this is its judgement, and this rest begins with the next line
 pub record IsJudgedBlock (text : List ℕ) (first_line : ℕ) (judgement : Judgement) (next : ℕ) (rest : List ℕ) : Type 0 where

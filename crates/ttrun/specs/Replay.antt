@@ -7,7 +7,6 @@ use Rattle.tc_entry.specs.declared.entry.Entry.{Entry}
 use Rattle.tc_text.specs.Spelling.{reply_text}
 use Rattle.tc_text.specs.MoveList.{Move, IsMoveList}
 use Rattle.tc_table.specs.Answers.{answer}
-use Rattle.tc_table.specs.Case.{Case, past_of}
 use Rattle.tc_table.specs.Legal.{IsLegal}
 use Rattle.tc_table.specs.Local.{overall}
 use Rattle.tc_report.specs.Status.{verdict_status}
@@ -16,9 +15,9 @@ use Rattle.tc_report.specs.Status.{verdict_status}
 abbrev pub move_of : Entry → Move
 move_of e = (e.caller, e.op)
 
--- the entry that the move adds
-abbrev pub next_entry : Case → Move → Entry
-next_entry t m = record { caller = m.0; op = m.1; reply = answer t.behaviours (past_of t) m.0.0 m.1 }
+-- the entry that the move adds to these, among n behaviours
+abbrev pub next_entry : ℕ → List Entry → Move → Entry
+next_entry n past m = record { caller = m.0; op = m.1; reply = answer n past m.0.0 m.1 }
 
 -- the line of a reply
 abbrev pub reply_line : Entry → List ℕ

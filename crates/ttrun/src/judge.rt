@@ -11,7 +11,7 @@ use crate::fault::RunFault;
 use std::alloc::Global;
 use tc_entry::Name;
 use tc_history::{take_end_line, take_entry_line, take_header_line};
-use tc_table::{Entry, NoMemory, Reply, Table, TextFault, TextKind, Verdict};
+use tc_table::{CaseState, Entry, NoMemory, Reply, TextFault, TextKind, Verdict};
 
 /// What the table says of a history, with all that is printed of it.
 #[derive(Debug, Drop)]
@@ -58,7 +58,7 @@ pub(crate) struct Difference {
 /// A history that is played as it is read, up to its first difference.
 #[derive(Drop)]
 pub(crate) struct Playing {
-    table: Table,
+    state: CaseState,
     difference: Option<Difference>,
 }
 
@@ -70,7 +70,7 @@ impl Playing {
         ensures { IfOk result (λ p. (first_line : ℕ) → IsPlayed behaviours first_line [] p) }
     {
         Ok(Playing {
-            table: Table::new(alloc, behaviours)?,
+            state: CaseState::new(alloc, behaviours)?,
             difference: None,
         })
     }
@@ -84,16 +84,17 @@ impl Playing {
             return Ok(());
         }
         let given = entry.reply;
-        let reply = self.table.play(entry.caller, entry.op)?;
+        let reply = self.state.play(entry.caller, entry.op)?;
         if !given.same(&reply) {
             self.difference = Some(Difference { line, given, reply });
         }
         Ok(())
     }
 
-    // What the table says of the history of this name, whose last line has this number and gives this verdict.
-    fn judge(&self, name: Name, line: usize, given: Verdict) -> Judgement
-        ensures { (b : AnyBlock) → IsPlayed b.behaviours b.first_line b.entries self.now → name ≡ b.name → line ≡ b.first_line + length b.entries + 1 → given ≡ b.verdict → IsJudgement b result }
+    // What the table says of the history of this name, whose first and last lines have these numbers, and which gives this verdict.
+    fn judge(&self, name: Name, first_line: usize, line: usize, given: Verdict) -> Judgement
+        requires { first_line < line }
+        ensures { (b : AnyBlock) → IsPlayed b.behaviours b.first_line b.entries self.now → name ≡ b.name → first_line ≡ b.first_line → line ≡ b.first_line + length b.entries + 1 → given ≡ b.verdict → IsJudgement b result }
     {
         if let Some(difference) = &self.difference {
             return Judgement::OtherReply {
@@ -102,11 +103,11 @@ impl Playing {
                 reply: difference.reply,
             };
         }
-        let verdict = self.table.overall();
+        let verdict = self.state.overall();
         if verdict == given {
             Judgement::Legal {
                 name,
-                entries: self.table.history().len(),
+                entries: line - first_line - 1,
                 verdict,
             }
         } else {
@@ -147,7 +148,11 @@ pub(crate) fn judge_block(
     let mut line = first_line + 1;
     while !rest.is_empty() {
         if let Some((verdict, behind)) = take_end_line(rest) {
-            return Ok((playing.judge(header.name, line, verdict), line + 1, behind));
+            return Ok((
+                playing.judge(header.name, first_line, line, verdict),
+                line + 1,
+                behind,
+            ));
         }
         let Some((entry, behind)) = take_entry_line(rest) else {
             return Err(fault_at(line, TextKind::Entry));

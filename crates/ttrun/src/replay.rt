@@ -1,5 +1,7 @@
 //! The subcommand `replay`.
-ghost use Rattle.std.specs.Prelude.{◌≡◌, ◌≤◌, ◌<◌, ◌++◌, ◌∷◌, [], length, IfOk, IfErr, IfSome, OnOk};
+ghost use Rattle.std.specs.Prelude.{◌≡◌, ◌≤◌, ◌++◌, ◌∷◌, [], List, length, IfOk, IfErr, IfSome, OnOk};
+ghost use Rattle.tc_entry.specs.declared.entry.Entry.{Entry};
+ghost use Rattle.tc_table.specs.Standing.{StandsFor};
 ghost use Rattle.tc_text.specs.MoveList.{IsListFault};
 ghost use Rattle.tc_text.specs.Spelling.{reply_text};
 ghost use Rattle.ttrun.specs.Replay.{IsReplayOf, Replays, next_entry, reply_line, verdict_line};
@@ -12,7 +14,7 @@ use std::io::{Read, Write};
 use tc_report::verdict_status;
 use tc_stream::write_whole;
 use tc_table::{
-    NoMemory, Op, Reply, Run, Table, TextFault, TextKind, Verdict, read_input, write_reply,
+    CaseState, NoMemory, Op, Reply, Run, TextFault, TextKind, Verdict, read_input, write_reply,
 };
 use tc_text::{append_text, take_first_line, take_move_line};
 use tc_verdict::name;
@@ -45,28 +47,14 @@ fn fault_at(line: usize, kind: TextKind) -> RunFault
     RunFault::Text(TextFault::At { line, kind })
 }
 
-// How many bytes the shortest line of a move has.
-const SHORTEST: usize = 9;
-
-// A table with room for as many moves as so many bytes can hold.
-fn table_for(alloc: Global, behaviours: u16, bytes: usize) -> Result<Table, NoMemory>
-    requires some { 1 ≤ behaviours }
-    requires few { behaviours ≤ 64 }
-    ensures { IfOk result (λ t. (t.behaviours ≡ behaviours) × (t.history ≡ [])) }
-{
-    let mut table = Table::new(alloc, behaviours)?;
-    table.make_room(bytes / SHORTEST + 1)?;
-    Ok(table)
-}
-
 // Plays a move, and appends its reply's line.
-fn play_move(table: &mut Table, out: &mut Vec<u8>, one: (Run, Op)) -> Result<(), NoMemory>
-    ensures same { OnOk result (table.new.behaviours ≡ table.old.behaviours) }
-    ensures added { OnOk result (table.new.history ≡ table.old.history ++ next_entry table.old one ∷ []) }
-    ensures line { OnOk result (out.new.items ≡ out.old.items ++ reply_line (next_entry table.old one)) }
+fn play_move(state: &mut CaseState, out: &mut Vec<u8>, one: (Run, Op)) -> Result<(), NoMemory>
+    ensures same { OnOk result (state.new.behaviours ≡ state.old.behaviours) }
+    ensures stands { OnOk result ((past : List Entry) → StandsFor state.old past → StandsFor state.new (next_entry state.old.behaviours past one ∷ past)) }
+    ensures line { OnOk result ((past : List Entry) → StandsFor state.old past → out.new.items ≡ out.old.items ++ reply_line (next_entry state.old.behaviours past one)) }
 {
     let (caller, op) = one;
-    let reply = table.play(caller, op)?;
+    let reply = state.play(caller, op)?;
     append_reply(out, reply)?;
     Ok(())
 }
@@ -82,16 +70,18 @@ fn replay_text(alloc: Global, text: &[u8]) -> Result<(Vec<u8>, Verdict), RunFaul
     let Some((behaviours, mut rest)) = take_first_line(text) else {
         return Err(fault_at(1, TextKind::FirstLine));
     };
-    let mut table = table_for(alloc, behaviours, rest.len())?;
+    let mut state = CaseState::new(alloc, behaviours)?;
     let mut out = Vec::new(alloc);
+    let mut line = 2;
     while !rest.is_empty() {
         let Some((one, after)) = take_move_line(rest) else {
-            return Err(fault_at(table.history().len() + 2, TextKind::Move));
+            return Err(fault_at(line, TextKind::Move));
         };
-        play_move(&mut table, &mut out, one)?;
+        play_move(&mut state, &mut out, one)?;
+        line += 1;
         rest = after;
     }
-    let verdict = table.overall();
+    let verdict = state.overall();
     append_verdict(&mut out, verdict)?;
     Ok((out, verdict))
 }

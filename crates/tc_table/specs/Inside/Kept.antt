@@ -1,5 +1,5 @@
 -- What the table keeps beside its history, and how that follows from the history.
-use Rattle.std.specs.Prelude.{ℕ, zero, suc, ◌≡◌, ◌+◌, ◌<◌, ◌≤◌, ◌&&◌, Bool, true, false, None, Some, is_some, List, [], ◌∷◌, length, reverse, slice_index_or}
+use Rattle.std.specs.Prelude.{ℕ, zero, suc, ◌≡◌, ◌+◌, ◌<◌, ◌≤◌, ◌&&◌, Bool, true, false, None, Some, is_some, List, [], ◌∷◌, length, slice_index_or}
 use Rattle.tc_table.specs.declared.awaited.Awaited.{Awaited}
 use Rattle.tc_entry.specs.declared.comp.Comp.{Comp}
 use Rattle.tc_verdict.specs.declared.run.Run.{Run}

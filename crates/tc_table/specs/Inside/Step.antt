@@ -1,5 +1,5 @@
 -- What one more entry does to what the table keeps.
-use Rattle.std.specs.Prelude.{ℕ, ◌≡◌, ◌<◌, length, slice_index_or, ◌==◌, ◌||◌, if◌then◌else◌, Bool, true, false, Option, Some, None, is_some, List, [], ◌∷◌}
+use Rattle.std.specs.Prelude.{ℕ, ◌≡◌, ◌<◌, length, slice_index_or, ◌==◌, ◌&&◌, ◌||◌, not, if◌then◌else◌, Bool, true, false, Option, Some, None, is_some, List, [], ◌∷◌, drop}
 use Rattle.tc_verdict.specs.declared.verdict.Verdict.{Verdict}
 use Rattle.tc_verdict.specs.declared.run.Run.{Run}
 use Rattle.tc_verdict.specs.Verdict.{worse}
@@ -20,6 +20,7 @@ use Rattle.tc_table.specs.Phases.{start_in, halts_from_outside}
 use Rattle.tc_table.specs.Status.{is_running}
 use Rattle.tc_table.specs.Local.{gives}
 use Rattle.tc_table.specs.Waiting.{parks}
+use Rattle.tc_table.specs.Inside.States.{none_running, all_killed}
 
 abbrev pub halted : Bool → Phase → Phase
 halted alive_type (P.Running run) = if alive_type then P.Stopped else P.Killed
@@ -81,6 +82,15 @@ abbrev pub touches : Scope → ℕ → Bool
 touches T.Nothing c = false
 touches (T.One d) c = d.0 == c
 touches T.All c = true
+
+-- a Stop of all where none is running, or a Kill of all where each is killed
+abbrev pub finds_none : Op → List ComponentState → Bool
+finds_none (O.Stop G.All) states = none_running (drop 1 states)
+finds_none (O.Kill G.All) states = all_killed (drop 1 states)
+finds_none _ states = false
+
+abbrev pub changes_none : Entry → List ComponentState → Bool
+changes_none e states = not (ends_case e) && finds_none e.op states
 
 -- a component that is running is not excused
 pub record IsSettled (states : List ComponentState) : Type 0 where

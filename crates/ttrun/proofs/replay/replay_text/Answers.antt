@@ -14,22 +14,23 @@ returns-in_default-clause-refused c =
 pub loop-rest-init : goal.loop-rest-init
 loop-rest-init c =
     let first = c.in-Some.ensures in
-    first_read c.args.text.now c.in-Some.rest.now c.new-out.result.items c.in-Some.behaviours c.in_ok-table.table first.few first.spelled first.only c.in_ok-table.ensures.0 c.in_ok-table.ensures.1 c.new-out.ensures.items
+    (first_read c.args.text.now c.in-Some.rest.now c.new-out.result.items c.in-Some.behaviours c.in_ok-state.state first.few first.spelled first.only c.in_ok-state.ensures.behaviours c.in_ok-state.ensures.opening c.new-out.ensures.items, grind (arith, common_steps))
 
 pub returns-in_default-take_move_line-clause-refused : goal.returns-in_default-take_move_line-clause-refused
 returns-in_default-take_move_line-clause-refused c =
-    let counted : length c.history.result.now ≡ length c.loop-rest.table.history = grind (arith, common_steps) in
     let some : 0 < length c.loop-rest.rest.now = grind (arith, common_steps) in
-    rw c.fault_at-in_default-take_move_line.ensures (bad_line c.args.text.now c.loop-rest.rest.now c.loop-rest.out.items c.in-Some.behaviours (length c.history.result.now) c.loop-rest.table c.loop-rest.invariant counted (not_empty c.loop-rest.rest.now some) c.in_default-take_move_line.ensures.only)
+    rw c.fault_at-in_default-take_move_line.ensures (bad_line c.args.text.now c.loop-rest.rest.now c.loop-rest.out.items c.in-Some.behaviours c.loop-rest.line c.loop-rest.state c.loop-rest.invariant.0 (not_empty c.loop-rest.rest.now some) c.in_default-take_move_line.ensures.only)
 
 pub loop-rest-preserved : goal.loop-rest-preserved
 loop-rest-preserved c =
     let line = c.in-Some-take_move_line in
-    let played = c.in_ok-play_move.ensures in
-    one_read c.args.text.now c.loop-rest.rest.now line.after.now c.loop-rest.out.items c.play_move.new.out.items c.in-Some.behaviours c.loop-rest.table c.play_move.new.table line.one c.loop-rest.invariant
-    line.ensures.spelled line.ensures.fits line.ensures.only played.same played.added played.line
+    let played = c.in_ok-play_move.ensures in (
+      one_read c.args.text.now c.loop-rest.rest.now line.after.now c.loop-rest.out.items c.play_move.new.out.items c.in-Some.behaviours c.loop-rest.line c.loop-rest.state c.play_move.new.state line.one c.loop-rest.invariant.0
+          line.ensures.spelled line.ensures.fits line.ensures.only played.same played.stands played.line,
+      grind (arith, common_steps),
+    )
 
 pub returns-clause-done : goal.returns-clause-done
 returns-clause-done c =
     let none : length c.loop-rest.rest.now ≡ 0 = grind (arith, common_steps) in
-    all_read c.args.text.now c.loop-rest.rest.now c.loop-rest.out.items c.append_verdict.new.out.items c.in-Some.behaviours c.loop-rest.table c.overall-verdict.result c.loop-rest.invariant (nil_from_length c.loop-rest.rest.now none) c.overall-verdict.ensures c.in_ok-append_verdict.ensures
+    all_read c.args.text.now c.loop-rest.rest.now c.loop-rest.out.items c.append_verdict.new.out.items c.in-Some.behaviours c.loop-rest.line c.loop-rest.state c.overall-verdict.result c.loop-rest.invariant.0 (nil_from_length c.loop-rest.rest.now none) c.overall-verdict.ensures c.in_ok-append_verdict.ensures

@@ -1,22 +1,24 @@
 //! The reply to a call that is no dynamic error.
-ghost use Rattle.std.specs.Prelude.{◌≡◌, true, Some};
-ghost use Rattle.tc_table.specs.Case.{past_of};
+ghost use Rattle.std.specs.Prelude.{◌≡◌, ◌<◌, true, Some, List, length};
+ghost use Rattle.tc_entry.specs.declared.entry.Entry.{Entry};
+ghost use Rattle.tc_table.specs.Standing.{StandsFor};
 ghost use Rattle.tc_table.specs.History as history;
 ghost use Rattle.tc_table.specs.Faults as faults;
+ghost use Rattle.tc_table.specs.Inside.States as tests;
 ghost use Rattle.tc_table.specs.Answers as answers;
 
 use crate::awaited::Awaited;
-use crate::table::Table;
+use crate::state::CaseState;
 use tc_entry::{Comp, Fault, Op, Reply};
 use tc_verdict::Run;
 
 #[tactic(auto, using(crate::proofs::KeptLemmas::kept_rules))]
-impl Table {
+impl CaseState {
     /// The reply to a wake.
     #[tactic(auto, using(crate::proofs::KeptLemmas::kept_rules, crate::proofs::KeptLemmas::wait_rules))]
     pub(crate) fn wake_reply(&self, caller: Run, awaited: Awaited) -> Reply
-        requires { faults.all_exist (past_of self.now) (faults.target_names awaited.target) ≡ true }
-        ensures { result ≡ answers.wake_reply (past_of self.now) caller.0 awaited }
+        requires { tests.all_below (faults.target_names awaited.target) (length self.now.states) ≡ true }
+        ensures { (past : List Entry) → StandsFor self.now past → result ≡ answers.wake_reply past caller.0 awaited }
     {
         if self.holds(awaited) {
             Reply::Matched
@@ -30,9 +32,10 @@ impl Table {
     /// The reply to a call that is no error, by a run on component own.
     #[tactic(auto, using(crate::proofs::KeptLemmas::kept_rules, crate::proofs::KeptLemmas::wait_rules))]
     pub(crate) fn plain_answer(&self, caller: Run, own: Comp, op: &Op) -> Reply
-        requires on { history.comp_of (past_of self.now) caller.0 ≡ Some own }
-        requires known { faults.all_exist (past_of self.now) (faults.names op.now) ≡ true }
-        ensures { result ≡ answers.plain_answer (past_of self.now) caller.0 op.now }
+        requires on { (past : List Entry) → StandsFor self.now past → history.comp_of past caller.0 ≡ Some own }
+        requires within { own.0 < length self.now.states }
+        requires known { tests.all_below (faults.names op.now) (length self.now.states) ≡ true }
+        ensures { (past : List Entry) → StandsFor self.now past → result ≡ answers.plain_answer past caller.0 op.now }
     {
         match op {
             Op::Create { .. } => Reply::Made(Comp(self.components())),

@@ -1,26 +1,29 @@
 //! The state of components, as the calls on a table see it.
-ghost use Rattle.std.specs.Prelude.{◌≡◌, true};
-ghost use Rattle.tc_table.specs.Case.{past_of};
+ghost use Rattle.std.specs.Prelude.{◌≡◌, ◌<◌, ◌∷◌, [], true, List, length, IfSome};
+ghost use Rattle.tc_entry.specs.declared.entry.Entry.{Entry};
+ghost use Rattle.tc_table.specs.Standing.{StandsFor};
 ghost use Rattle.tc_table.specs.History as history;
 ghost use Rattle.tc_table.specs.Status as status;
 ghost use Rattle.tc_table.specs.Faults as faults;
+ghost use Rattle.tc_table.specs.Inside.States as tests;
 
 use crate::component_state::{is_done, is_killed, is_running};
-use crate::table::Table;
+use crate::state::CaseState;
 use tc_entry::{Comp, Target};
 use tc_verdict::Run;
 
-#[tactic(auto, using(crate::proofs::KeptLemmas::kept_rules, crate::proofs::KeptLemmas::group_rules))]
-impl Table {
+#[tactic(auto, using(crate::proofs::KeptLemmas::kept_rules, crate::proofs::KeptLemmas::group_rules, crate::proofs::KeptLemmas::below_rules))]
+impl CaseState {
     pub(crate) fn exists(&self, comp: Comp) -> bool
-        ensures { result ≡ history.exists (past_of self.now) comp.0 }
+        ensures { result ≡ tests.all_below (comp ∷ []) (length self.now.states) }
     {
         (comp.0 as usize) < self.states.as_slice().len()
     }
 
     /// The component that a run is on.
     pub(crate) fn comp_of(&self, run: Run) -> Option<Comp>
-        ensures { result ≡ history.comp_of (past_of self.now) run.0 }
+        ensures is { (past : List Entry) → StandsFor self.now past → result ≡ history.comp_of past run.0 }
+        ensures within { IfSome result (λ c. c.0 < length self.now.states) }
     {
         if (run.0 as usize) < self.runs.len() {
             let state = self.runs[run.0 as usize];
@@ -32,8 +35,8 @@ impl Table {
 
     /// Whether components are running.
     pub(crate) fn running(&self, target: Target) -> bool
-        requires { faults.all_exist (past_of self.now) (faults.target_names target) ≡ true }
-        ensures { result ≡ status.running (past_of self.now) target }
+        requires { tests.all_below (faults.target_names target) (length self.now.states) ≡ true }
+        ensures { (past : List Entry) → StandsFor self.now past → result ≡ status.running past target }
     {
         let states = self.states.as_slice();
         match target {
@@ -45,8 +48,8 @@ impl Table {
 
     /// Whether components are not killed.
     pub(crate) fn alive(&self, target: Target) -> bool
-        requires { faults.all_exist (past_of self.now) (faults.target_names target) ≡ true }
-        ensures { result ≡ status.alive (past_of self.now) target }
+        requires { tests.all_below (faults.target_names target) (length self.now.states) ≡ true }
+        ensures { (past : List Entry) → StandsFor self.now past → result ≡ status.alive past target }
     {
         let states = self.states.as_slice();
         match target {
@@ -58,8 +61,8 @@ impl Table {
 
     /// Whether components are stopped or killed.
     pub(crate) fn done(&self, target: Target) -> bool
-        requires { faults.all_exist (past_of self.now) (faults.target_names target) ≡ true }
-        ensures { result ≡ status.done (past_of self.now) target }
+        requires { tests.all_below (faults.target_names target) (length self.now.states) ≡ true }
+        ensures { (past : List Entry) → StandsFor self.now past → result ≡ status.done past target }
     {
         let states = self.states.as_slice();
         match target {
@@ -71,8 +74,8 @@ impl Table {
 
     /// Whether components are killed.
     pub(crate) fn killed(&self, target: Target) -> bool
-        requires { faults.all_exist (past_of self.now) (faults.target_names target) ≡ true }
-        ensures { result ≡ status.killed (past_of self.now) target }
+        requires { tests.all_below (faults.target_names target) (length self.now.states) ≡ true }
+        ensures { (past : List Entry) → StandsFor self.now past → result ≡ status.killed past target }
     {
         let states = self.states.as_slice();
         match target {

@@ -1,26 +1,27 @@
 //! The dynamic errors of a call.
-ghost use Rattle.std.specs.Prelude.{◌≡◌, true};
-ghost use Rattle.tc_table.specs.Case.{past_of};
-ghost use Rattle.tc_table.specs.History as history;
+ghost use Rattle.std.specs.Prelude.{◌≡◌, ◌<◌, true, List, length, is_none};
+ghost use Rattle.tc_entry.specs.declared.entry.Entry.{Entry};
+ghost use Rattle.tc_table.specs.Standing.{StandsFor};
 ghost use Rattle.tc_table.specs.Faults as faults;
+ghost use Rattle.tc_table.specs.Inside.States as tests;
 
 use crate::component_state::{all_below, is_killed, is_running};
-use crate::table::Table;
+use crate::state::CaseState;
 use tc_entry::{Comp, Fault, Group, Op, Target};
 use tc_verdict::Run;
 
-#[tactic(auto, using(crate::proofs::KeptLemmas::kept_rules))]
-impl Table {
+#[tactic(auto, using(crate::proofs::KeptLemmas::kept_rules, crate::proofs::KeptLemmas::below_rules))]
+impl CaseState {
     /// Whether all these components exist.
     pub(crate) fn all_exist(&self, comps: &[Comp]) -> bool
-        ensures { result ≡ faults.all_exist (past_of self.now) comps.now }
+        ensures { result ≡ tests.all_below comps.now (length self.now.states) }
     {
         all_below(comps, self.states.as_slice().len())
     }
 
     /// Whether all components that the call names exist.
     pub(crate) fn names_exist(&self, op: &Op) -> bool
-        ensures { result ≡ faults.all_exist (past_of self.now) (faults.names op.now) }
+        ensures { result ≡ tests.all_below (faults.names op.now) (length self.now.states) }
     {
         match op {
             Op::Start { comp, args, .. } => self.exists(*comp) && self.all_exist(args.as_slice()),
@@ -40,7 +41,7 @@ impl Table {
     }
 
     pub(crate) fn target_exists(&self, target: Target) -> bool
-        ensures { result ≡ faults.all_exist (past_of self.now) (faults.target_names target) }
+        ensures { result ≡ tests.all_below (faults.target_names target) (length self.now.states) }
     {
         match target {
             Target::One(comp) => self.exists(comp),
@@ -50,7 +51,7 @@ impl Table {
     }
 
     pub(crate) fn group_exists(&self, group: Group) -> bool
-        ensures { result ≡ faults.all_exist (past_of self.now) (faults.group_names group) }
+        ensures { result ≡ tests.all_below (faults.group_names group) (length self.now.states) }
     {
         match group {
             Group::One(comp) => self.exists(comp),
@@ -61,8 +62,8 @@ impl Table {
     /// The error of a Start of this component with this run.
     #[tactic(auto, using(crate::proofs::KeptLemmas::kept_rules), unfolding(crate::specs::Faults::start_fault))]
     pub(crate) fn start_fault(&self, comp: Comp, run: Run) -> Option<Fault>
-        requires { history.exists (past_of self.now) comp.0 ≡ true }
-        ensures { result ≡ faults.start_fault self.now.behaviours (past_of self.now) comp.0 run.0 }
+        requires { comp.0 < length self.now.states }
+        ensures { (past : List Entry) → StandsFor self.now past → result ≡ faults.start_fault self.now.behaviours past comp.0 run.0 }
     {
         if comp.0 == 0 {
             return Some(Fault::StartMain);
@@ -82,9 +83,10 @@ impl Table {
     }
 
     /// The dynamic error of a call, if it is one.
-    #[tactic(auto, using(crate::proofs::KeptLemmas::kept_rules), unfolding(crate::specs::Faults::fault))]
+    #[tactic(auto, using(crate::proofs::KeptLemmas::kept_rules, crate::proofs::KeptLemmas::below_rules), unfolding(crate::specs::Faults::fault))]
     pub(crate) fn fault(&self, caller: Run, op: &Op) -> Option<Fault>
-        ensures { result ≡ faults.fault self.now.behaviours (past_of self.now) caller.0 op.now }
+        ensures known { is_none result ≡ true → tests.all_below (faults.names op.now) (length self.now.states) ≡ true }
+        ensures is { (past : List Entry) → StandsFor self.now past → result ≡ faults.fault self.now.behaviours past caller.0 op.now }
     {
         if !self.names_exist(op) {
             return Some(Fault::NoComponent);

@@ -1,6 +1,7 @@
 //! Which runs go on, which wait, and whether the case is stuck.
-ghost use Rattle.std.specs.Prelude.{◌≡◌, true, false, Some, MatchOption, IfSome};
-ghost use Rattle.tc_table.specs.Case.{past_of};
+ghost use Rattle.std.specs.Prelude.{◌≡◌, ◌<◌, true, false, Some, MatchOption, IfSome, List, length};
+ghost use Rattle.tc_entry.specs.declared.entry.Entry.{Entry};
+ghost use Rattle.tc_table.specs.Standing.{StandsFor};
 ghost use Rattle.tc_table.specs.History as history;
 ghost use Rattle.tc_table.specs.Waiting as waits;
 ghost use Rattle.tc_table.specs.Faults as faults;
@@ -8,16 +9,17 @@ ghost use Rattle.tc_table.specs.Answers as answers;
 ghost use Rattle.tc_table.specs.Inside.States as tests;
 
 use crate::awaited::Awaited;
-use crate::table::Table;
+use crate::state::CaseState;
 use tc_entry::{Comp, Phase};
 use tc_verdict::Run;
 
 #[tactic(auto, using(crate::proofs::KeptLemmas::kept_rules))]
-impl Table {
+impl CaseState {
     /// The component of a run that is going on.
     pub(crate) fn active_on(&self, caller: Run) -> Option<Comp>
-        ensures active { MatchOption result (answers.is_active (past_of self.now) caller.0 ≡ false) (λ c. answers.is_active (past_of self.now) caller.0 ≡ true) }
-        ensures on { IfSome result (λ c. history.comp_of (past_of self.now) caller.0 ≡ Some c) }
+        ensures active { (past : List Entry) → StandsFor self.now past → MatchOption result (answers.is_active past caller.0 ≡ false) (λ c. answers.is_active past caller.0 ≡ true) }
+        ensures on { (past : List Entry) → StandsFor self.now past → IfSome result (λ c. history.comp_of past caller.0 ≡ Some c) }
+        ensures within { IfSome result (λ c. c.0 < length self.now.states) }
     {
         let comp = self.comp_of(caller)?;
         let states = self.states.as_slice();
@@ -31,8 +33,8 @@ impl Table {
     /// Whether what is awaited has come.
     #[tactic(auto, using(crate::proofs::KeptLemmas::kept_rules, crate::proofs::KeptLemmas::wait_rules), unfolding(crate::specs::Waiting::holds))]
     pub(crate) fn holds(&self, awaited: Awaited) -> bool
-        requires { faults.all_exist (past_of self.now) (faults.target_names awaited.target) ≡ true }
-        ensures { result ≡ waits.holds (past_of self.now) awaited }
+        requires { tests.all_below (faults.target_names awaited.target) (length self.now.states) ≡ true }
+        ensures { (past : List Entry) → StandsFor self.now past → result ≡ waits.holds past awaited }
     {
         if awaited.killed {
             self.killed(awaited.target)
@@ -44,7 +46,7 @@ impl Table {
     /// Whether a run waits for what has not come.
     #[tactic(auto, using(crate::proofs::KeptLemmas::kept_rules, crate::proofs::KeptLemmas::wait_rules))]
     pub(crate) fn waits_in_vain(&self, run: Run) -> bool
-        ensures { result ≡ waits.waits_in_vain (past_of self.now) (waits.waiting (past_of self.now) run.0) }
+        ensures { (past : List Entry) → StandsFor self.now past → result ≡ waits.waits_in_vain past (waits.waiting past run.0) }
     {
         let runs = self.runs.as_slice();
         if (run.0 as usize) < runs.len() {
@@ -60,7 +62,7 @@ impl Table {
     /// Whether a run is going on, and does not wait in vain.
     #[tactic(auto, using(crate::proofs::KeptLemmas::kept_rules, crate::proofs::KeptLemmas::wait_rules), unfolding(crate::specs::Inside::States::goes_on))]
     pub(crate) fn goes_on(&self, run: Run) -> bool
-        ensures { result ≡ tests.goes_on (past_of self.now) run.0 }
+        ensures { (past : List Entry) → StandsFor self.now past → result ≡ tests.goes_on past run.0 }
     {
         match self.active_on(run) {
             Some(_) => !self.waits_in_vain(run),
@@ -70,7 +72,7 @@ impl Table {
 
     /// Whether every run that is going on waits in vain.
     pub(crate) fn is_stuck(&self) -> bool
-        ensures { result ≡ waits.is_stuck (past_of self.now) }
+        ensures { (past : List Entry) → StandsFor self.now past → result ≡ waits.is_stuck past }
     {
         for b in 0..self.behaviours {
             if self.goes_on(Run(b)) {

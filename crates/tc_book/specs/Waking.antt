@@ -1,0 +1,15 @@
+-- Who wakes by an entry.
+use Rattle.std.specs.Prelude.{ℕ, ◌≡◌, Bool}
+use Rattle.tc_verdict.specs.declared.run.Run.{Run}
+use Rattle.tc_entry.specs.declared.op.Op.TheVariants as O
+use Rattle.tc_entry.specs.declared.op.Target.{Target}
+use Rattle.tc_entry.specs.declared.reply.Reply.TheVariants as R
+use Rattle.tc_table.specs.History.{is_over}
+use Rattle.tc_book.specs.OpenCase.{OpenCase, past_of, reply_to}
+use Rattle.tc_book.specs.Starts.{start_of}
+
+-- who waited still waits: the Wake that would be parked again still would be, no run is started, and the case is over if it was
+pub record NobodyWakes (before after : OpenCase) : Type 0 where
+  pub parked : (run : Run) (killed : Bool) (target : Target) → reply_to before run (O.Wake killed target) ≡ R.Parked → reply_to after run (O.Wake killed target) ≡ R.Parked
+  pub starts : (b : ℕ) → start_of (past_of after) b ≡ start_of (past_of before) b
+  pub over : is_over (past_of after) ≡ is_over (past_of before)

@@ -1,0 +1,64 @@
+//! Calls, with whether one that waits may go on by them.
+ghost use Rattle.std.specs.Prelude.{◌≡◌, ◌≢◌, ◌&&◌, not, true, false, IfOk, IfSome, OnErr, IfNone};
+ghost use Rattle.tc_entry.specs.declared.op.Op.TheVariants as ops;
+ghost use Rattle.tc_entry.specs.declared.reply.Reply.TheVariants as replies;
+ghost use Rattle.tc_table.specs.Laws as laws;
+ghost use Rattle.tc_book.specs.OpenCase.{reply_to};
+ghost use Rattle.tc_book.specs.Replies.{suits};
+ghost use Rattle.tc_book.specs.Waking.{NobodyWakes};
+
+use crate::book::Book;
+use tc_entry::{Op, Reply, Target};
+use tc_verdict::{NoMemory, Run};
+
+/// Whether an operation starts, halts and kills nothing.
+fn keeps_phases(op: &Op) -> bool
+    ensures { result ≡ laws.keeps_phases op.now }
+{
+    !matches!(
+        op,
+        Op::Start { .. } | Op::Stop(_) | Op::Kill(_) | Op::Finish
+    )
+}
+
+/// Whether the caller goes on after this reply.
+fn lets_go_on(reply: Reply) -> bool
+    ensures { result ≡ laws.lets_go_on reply }
+{
+    !matches!(reply, Reply::Ended | Reply::Parked | Reply::Fault(_))
+}
+
+/// Whether one that waits may go on by an entry with this reply.
+fn tells(keeps_phases: bool, reply: Reply) -> bool
+    ensures { result ≡ not (keeps_phases && laws.lets_go_on reply) }
+{
+    !(keeps_phases && lets_go_on(reply))
+}
+
+impl Book {
+    /// Adds a call as `record` does, and answers its reply, and whether one that waits may go on by it.
+    pub fn call(&mut self, run: Run, op: Op) -> Result<(Reply, bool), NoMemory>
+        ensures reply { IfOk result (λ r. r.0 ≡ reply_to self.old run op) }
+        ensures suits { IfOk result (λ r. suits op r.0 ≡ true) }
+        ensures silent { IfOk result (λ r. r.1 ≡ false → NobodyWakes self.old self.new) }
+        ensures refused { OnErr result (self.new ≡ self.old) }
+    {
+        let _ = &self.count;
+        let keeps = keeps_phases(&op);
+        let reply = self.record(run, op)?;
+        Ok((reply, tells(keeps, reply)))
+    }
+
+    /// Adds the Wake of a parked wait as `wake` does, and answers its reply, and whether another that waits may go on by it.
+    pub fn call_wake(&mut self, run: Run, killed: bool, target: Target) -> Option<(Reply, bool)>
+        ensures none { IfNone result (self.new ≡ self.old) }
+        ensures awake { IfSome result (λ r. r.0 ≢ replies.Parked) }
+        ensures reply { IfSome result (λ r. r.0 ≡ reply_to self.old run (ops.Wake killed target)) }
+        ensures suits { IfSome result (λ r. suits (ops.Wake killed target) r.0 ≡ true) }
+        ensures silent { IfSome result (λ r. r.1 ≡ false → NobodyWakes self.old self.new) }
+    {
+        let _ = &self.count;
+        let reply = self.wake(run, killed, target)?;
+        Some((reply, tells(true, reply)))
+    }
+}

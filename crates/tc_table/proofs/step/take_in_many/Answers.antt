@@ -1,0 +1,10 @@
+use Rattle.std.proofs.Common.{◌≡◌, true, arith}
+use Rattle.std.proofs.lemmas.Bool.Decides.{nat_tests}
+use Rattle.tc_table.specs.Inside.Step.{changes_none}
+use Rattle.tc_table.proofs.Unchanged.{none_found}
+use Rattle.tc_table.proofs.step.take_in_many.Goals as goal
+
+pub returns-else-not-changes_none-clause-each : goal.returns-else-not-changes_none-clause-each
+returns-else-not-changes_none-clause-each c =
+    let h : changes_none c.args.entry.now c.args.states.now ≡ true = grind (arith, nat_tests) in
+    none_found c.args.own c.args.entry.now c.args.states.now c.requires.settled h

@@ -1,0 +1,143 @@
+//! What is kept of a test case beside its history.
+ghost use Rattle.std.specs.Prelude.{◌≡◌, ◌<◌, ◌≤◌, ◌∷◌, [], List, length, IfOk, OnErr};
+ghost use Rattle.std.specs.Bool.{OnTrue};
+ghost use Rattle.tc_entry.specs.declared.entry.Entry.{Entry};
+ghost use Rattle.tc_table.specs.Standing.{StandsFor};
+ghost use Rattle.tc_table.specs.History as history;
+ghost use Rattle.tc_table.specs.Phases as phases;
+ghost use Rattle.tc_table.specs.Local as verdicts;
+ghost use Rattle.tc_table.specs.Faults as faults;
+ghost use Rattle.tc_table.specs.Answers as answers;
+ghost use Rattle.tc_table.specs.Legal as legal;
+
+mod adding;
+mod answers;
+mod faults;
+mod status;
+mod waiting;
+
+use crate::component_states::ComponentStates;
+use crate::run_state::{RunState, opening_runs};
+use std::alloc::Global;
+use std::marker::Model;
+use tc_entry::{Comp, Entry, Fault, Op, Phase, Reply};
+use tc_verdict::{NoMemory, Run, Verdict};
+
+/// The state of one test case: it answers as the table does, and keeps no history.
+///
+/// Contracts say what it answers after each history that it stands for.
+#[derive(Drop)]
+pub struct CaseState {
+    behaviours: u16,
+    states: ComponentStates,
+    runs: Vec<RunState>,
+    over: bool,
+}
+
+impl Model for CaseState {
+    ghost use Rattle.std.specs.Prelude.{List};
+    ghost use Rattle.tc_entry.specs.declared.entry.Entry.{Entry};
+    ghost use Rattle.tc_table.specs.Standing.{Kept};
+    ghost use Rattle.tc_table.specs.Inside.Kept.{IsKept};
+
+    ghost Value = { Kept };
+
+    ghost view = { λ s. record { behaviours = s.behaviours; states = s.states; runs = s.runs.items; over = s.over } };
+
+    ghost invariant = { λ s. (past : List Entry) × IsKept s.behaviours past s.states s.runs.items s.over };
+}
+
+#[tactic(auto, using(crate::proofs::KeptLemmas::kept_rules, crate::proofs::KeptLemmas::group_rules))]
+impl CaseState {
+    /// A case of so many behaviours, at its opening.
+    pub fn new(alloc: Global, behaviours: u16) -> Result<CaseState, NoMemory>
+        requires some { 1 ≤ behaviours }
+        requires few { behaviours ≤ 64 }
+        ensures behaviours { IfOk result (λ s. s.behaviours ≡ behaviours) }
+        ensures opening { IfOk result (λ s. StandsFor s []) }
+    {
+        let states = ComponentStates::new(alloc)?;
+        let runs = opening_runs(alloc, behaviours)?;
+        Ok(CaseState {
+            behaviours,
+            states,
+            runs,
+            over: false,
+        })
+    }
+
+    /// Makes a call, and answers its reply. Where memory is refused the state stays as it was.
+    pub fn play(&mut self, caller: Run, op: Op) -> Result<Reply, NoMemory>
+        ensures behaviours { self.new.behaviours ≡ self.old.behaviours }
+        ensures reply { IfOk result (λ r. (past : List Entry) → StandsFor self.old past → r ≡ answers.answer self.old.behaviours past caller.0 op) }
+        ensures stands { IfOk result (λ r. (past : List Entry) → StandsFor self.old past → StandsFor self.new (record { caller = caller; op = op; reply = r } ∷ past)) }
+        ensures refused { OnErr result (self.new ≡ self.old) }
+    {
+        let reply = self.would(caller, &op);
+        let entry = Entry { caller, op, reply };
+        self.take(&entry)?;
+        Ok(reply)
+    }
+
+    /// The reply that `play` would give now.
+    #[tactic(auto, using(crate::proofs::KeptLemmas::kept_rules, crate::proofs::KeptLemmas::wait_rules), unfolding(crate::specs::Answers::answer, crate::specs::Faults::fault))]
+    pub fn would(&self, caller: Run, op: &Op) -> Reply
+        ensures { (past : List Entry) → StandsFor self.now past → result ≡ answers.answer self.now.behaviours past caller.0 op.now }
+    {
+        match self.active_on(caller) {
+            None => Reply::Ended,
+            Some(own) => match self.fault(caller, op) {
+                Some(fault) => Reply::Fault(fault),
+                None => self.plain_answer(caller, own, op),
+            },
+        }
+    }
+
+    /// What a component is doing.
+    pub fn phase_of(&self, comp: Comp) -> Option<Phase>
+        ensures { (past : List Entry) → StandsFor self.now past → result ≡ phases.phase_if_any past comp.0 }
+    {
+        let states = self.states.as_slice();
+        if (comp.0 as usize) < states.len() {
+            Some(states[comp.0 as usize].phase)
+        } else {
+            None
+        }
+    }
+
+    /// The local verdict of a component.
+    pub fn local(&self, comp: Comp) -> Option<Verdict>
+        ensures { (past : List Entry) → StandsFor self.now past → result ≡ verdicts.local_if_any past comp.0 }
+    {
+        let states = self.states.as_slice();
+        if (comp.0 as usize) < states.len() {
+            Some(states[comp.0 as usize].local)
+        } else {
+            None
+        }
+    }
+
+    /// The worst of the local verdicts.
+    #[tactic(auto, using(crate::proofs::KeptLemmas::overall_rules))]
+    pub fn overall(&self) -> Verdict
+        ensures { (past : List Entry) → StandsFor self.now past → result ≡ verdicts.overall past }
+    {
+        self.states.worst()
+    }
+
+    /// Whether the case is over.
+    #[tactic(auto, using(crate::proofs::Over::over_rules))]
+    pub fn is_over(&self) -> bool
+        ensures is { (past : List Entry) → StandsFor self.now past → result ≡ history.is_over past }
+        ensures after { (past : List Entry) → StandsFor self.now past → OnTrue result (legal.IsAllOver self.now.behaviours past) }
+    {
+        self.over
+    }
+
+    /// How many components exist.
+    pub fn components(&self) -> u32
+        ensures { (past : List Entry) → StandsFor self.now past → result ≡ faults.components past }
+    {
+        self.states.as_slice().len() as u32
+    }
+}

@@ -1,0 +1,68 @@
+//! Taking in an entry, and what it does to all that is kept.
+ghost use Rattle.std.specs.Prelude.{◌≡◌, ◌∷◌, ◌||◌, false, Some, None, List, OnErr, OnOk};
+ghost use Rattle.std.specs.Result.{IsOk};
+ghost use Rattle.tc_entry.specs.declared.entry.Entry.{Entry};
+ghost use Rattle.tc_table.specs.Standing.{StandsFor};
+ghost use Rattle.tc_table.specs.History as history;
+ghost use Rattle.tc_table.specs.Answers as answers;
+
+use crate::entries::{created, ends_case, is_alive_create};
+use crate::state::CaseState;
+use crate::step::{take_in, take_in_runs};
+use tc_entry::{Comp, Entry};
+use tc_verdict::NoMemory;
+
+#[tactic(auto, using(crate::proofs::KeptLemmas::kept_rules, crate::proofs::Settled::settled_rules))]
+impl CaseState {
+    /// Takes in an entry that makes no component, by a run on component own.
+    #[tactic(auto, using(crate::proofs::KeptLemmas::kept_rules, crate::proofs::Settled::settled_rules))]
+    pub(crate) fn add(&mut self, own: Option<Comp>, entry: &Entry)
+        requires legal { (past : List Entry) → StandsFor self.old past → entry.now.reply ≡ answers.answer self.old.behaviours past entry.now.caller.0 entry.now.op }
+        requires on { (past : List Entry) → StandsFor self.old past → own ≡ history.comp_of past entry.now.caller.0 }
+        requires makes_none { history.created entry.now.op entry.now.reply ≡ None }
+        ensures behaviours { self.new.behaviours ≡ self.old.behaviours }
+        ensures stands { (past : List Entry) → StandsFor self.old past → StandsFor self.new (entry.now ∷ past) }
+    {
+        take_in(&mut self.states, own, entry);
+        take_in_runs(&mut self.runs, entry);
+        self.over = either(self.over, ends_case(entry));
+    }
+
+    /// Takes in an entry that makes a component.
+    #[tactic(auto, using(crate::proofs::KeptLemmas::kept_rules, crate::proofs::Settled::settled_rules))]
+    pub(crate) fn make(&mut self, entry: &Entry, comp: Comp) -> Result<(), NoMemory>
+        requires legal { (past : List Entry) → StandsFor self.old past → entry.now.reply ≡ answers.answer self.old.behaviours past entry.now.caller.0 entry.now.op }
+        requires makes { history.created entry.now.op entry.now.reply ≡ Some comp }
+        ensures behaviours { self.new.behaviours ≡ self.old.behaviours }
+        ensures stands { OnOk result ((past : List Entry) → StandsFor self.old past → StandsFor self.new (entry.now ∷ past)) }
+        ensures refused { OnErr result (self.new ≡ self.old) }
+    {
+        self.states.add(is_alive_create(&entry.op))?;
+        take_in_runs(&mut self.runs, entry);
+        Ok(())
+    }
+
+    /// Takes in an entry with the reply that is the answer to it. Where memory is refused, the state stays as it was.
+    pub(crate) fn take(&mut self, entry: &Entry) -> Result<(), NoMemory>
+        requires legal { (past : List Entry) → StandsFor self.old past → entry.now.reply ≡ answers.answer self.old.behaviours past entry.now.caller.0 entry.now.op }
+        ensures behaviours { self.new.behaviours ≡ self.old.behaviours }
+        ensures stands { OnOk result ((past : List Entry) → StandsFor self.old past → StandsFor self.new (entry.now ∷ past)) }
+        ensures refused { OnErr result (self.new ≡ self.old) }
+        ensures sure { history.is_create entry.now.op ≡ false → IsOk result }
+    {
+        match created(&entry.op, entry.reply) {
+            None => {
+                let own = self.comp_of(entry.caller);
+                self.add(own, entry);
+                Ok(())
+            }
+            Some(comp) => self.make(entry, comp),
+        }
+    }
+}
+
+fn either(a: bool, b: bool) -> bool
+    ensures { result ≡ (a || b) }
+{
+    a || b
+}
