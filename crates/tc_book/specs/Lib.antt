@@ -3,6 +3,7 @@ pub mod Starts
 pub mod OpenCase
 pub mod Waking
 pub mod Passes
+pub mod Logs
 pub mod Parts
 pub mod Report
 pub mod Closing

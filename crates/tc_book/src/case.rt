@@ -8,6 +8,7 @@ ghost use Rattle.tc_book.specs.Report.{IsOneHistory};
 use crate::book::Book;
 use crate::closed::{CloseFault, Closed};
 use crate::left::Left;
+use crate::log::Log;
 use crate::pass::Pass;
 use crate::shared::Shared;
 use crate::ticket::Ticket;
@@ -54,8 +55,8 @@ pub fn open_case(alloc: Global, behaviours: u16) -> Result<(Shared, Pass, Vec<Ti
     ensures tickets { IfOk result (λ r. (k : ℕ) (d : Run) → k + 1 < behaviours → (slice_index_or r.2.items k d).0 ≡ k + 1) }
 {
     let shared = Shared::new(alloc, Book::new(alloc, behaviours)?)?;
-    let log = place(alloc)?;
-    let pass = Pass::new(shared.another()?, Run(0), Comp(0), Args::new(), log);
+    let log = Log::new(Run(0), Comp(0), place(alloc)?);
+    let pass = Pass::new(shared.another()?, log, Args::new());
     let tickets = tickets_of(alloc, &shared, behaviours)?;
     Ok((shared, pass, tickets))
 }

@@ -1,6 +1,5 @@
-//! When a pass has ended, and its log.
-ghost use Rattle.std.specs.Prelude.{◌≡◌, ◌<◌, ◌+◌, ◌++◌, ◌∷◌, ◌||◌, []};
-ghost use Rattle.std.specs.Vec.{vec_len, vec_capacity};
+//! Which entries end a pass.
+ghost use Rattle.std.specs.Prelude.{◌≡◌, ◌||◌};
 ghost use Rattle.tc_table.specs.History as history;
 ghost use Rattle.tc_book.specs.Passes as passes;
 
@@ -36,18 +35,4 @@ pub(crate) fn ends_pass(own: Comp, entry: &Entry) -> bool
             matches!(entry.op, Op::Finish) || is_end_of(&entry.op, 0) || is_end_of(&entry.op, own.0)
         }
     }
-}
-
-/// Adds an entry to the log of a run on component own, and answers whether its pass has ended.
-pub(crate) fn add(log: &mut Vec<Entry>, own: Comp, ended: bool, entry: Entry) -> bool
-    requires room { vec_len log.old < vec_capacity log.old }
-    requires ended { ended ≡ passes.ended_by own log.old.items }
-    ensures ended { result ≡ passes.ended_by own log.new.items }
-    ensures items { log.new.items ≡ log.old.items ++ entry ∷ [] }
-    ensures len { vec_len log.new ≡ vec_len log.old + 1 }
-    ensures capacity { vec_capacity log.new ≡ vec_capacity log.old }
-{
-    let ends = ends_pass(own, &entry);
-    log.push_reserved(entry);
-    ended || ends
 }

@@ -9,6 +9,8 @@ mod ending;
 mod halt;
 pub mod laws;
 mod left;
+mod log;
+mod logged_book;
 mod parts;
 mod pass;
 mod places;

@@ -1,42 +1,37 @@
 //! The pass of a started run: what its behaviour calls the case by.
-ghost use Rattle.std.specs.Prelude.{◌≡◌, ◌≢◌, ◌<◌, [], true, false, IfOk, Some, None, if◌then◌else◌};
-ghost use Rattle.std.specs.Vec.{vec_len, vec_capacity};
+ghost use Rattle.std.specs.Prelude.{◌≡◌, ◌≤◌, [], true, false, IfOk, Some, None, if◌then◌else◌};
 ghost use Rattle.tc_entry.specs.declared.op.Op.TheVariants as ops;
 ghost use Rattle.tc_entry.specs.declared.reply.Reply.{Reply};
 ghost use Rattle.tc_entry.specs.declared.reply.Reply.TheVariants as replies;
 ghost use Rattle.tc_book.specs.Passes.{has_ended, added, By, IsCall, IsWait};
 ghost use Rattle.tc_book.specs.Replies.{suits, is_halt};
 
-use crate::ending::add;
 use crate::halt::Halt;
 use crate::left::Left;
+use crate::log::Log;
 use crate::shared::Shared;
 use std::marker::Model;
 use std::sync::Wait;
 use tc_entry::{Args, Comp, Entry, Group, Op, Reply, Target};
-use tc_verdict::{Run, UserVerdict, Verdict};
+use tc_verdict::{NoMemory, Run, UserVerdict, Verdict};
 
 /// What the behaviour of a started run calls the case by, with the log of its calls.
 #[derive(Drop)]
 pub struct Pass {
     shared: Shared,
-    run: Run,
-    me: Comp,
     args: Args,
-    log: Vec<Entry>,
-    ended: bool,
+    log: Log,
 }
 
 impl Model for Pass {
-    ghost use Rattle.std.specs.Prelude.{◌≡◌, ◌<◌};
-    ghost use Rattle.std.specs.Vec.{vec_len, vec_capacity};
-    ghost use Rattle.tc_book.specs.Passes.{PassState, ended_by};
+    ghost use Rattle.std.specs.Prelude.{◌≤◌};
+    ghost use Rattle.tc_book.specs.Passes.{PassState};
 
     ghost Value = { PassState };
 
-    ghost view = { λ p. record { run = p.run; me = p.me; args = p.args; log = p.log.items } };
+    ghost view = { λ p. record { run = p.log.run; me = p.log.own; args = p.args; log = p.log.entries } };
 
-    ghost invariant = { λ p. (vec_len p.log < vec_capacity p.log) × (p.ended ≡ ended_by p.me p.log.items) };
+    ghost invariant = { λ p. 1 ≤ p.log.room };
 }
 
 /// The answer by a reply.
@@ -52,33 +47,27 @@ fn heard(reply: Reply) -> Result<Reply, Halt>
 }
 
 impl Pass {
-    pub(crate) fn new(shared: Shared, run: Run, me: Comp, args: Args, log: Vec<Entry>) -> Pass
-        requires empty { log.items ≡ [] }
-        requires room { vec_len log < vec_capacity log }
-        ensures { result ≡ record { run = run; me = me; args = args; log = [] } }
+    /// The pass of a run with its log, in which nothing stands yet.
+    pub(crate) fn new(shared: Shared, log: Log, args: Args) -> Pass
+        requires empty { log.entries ≡ [] }
+        requires room { 1 ≤ log.room }
+        ensures { result ≡ record { run = log.run; me = log.own; args = args; log = [] } }
     {
-        Pass {
-            shared,
-            run,
-            me,
-            args,
-            log,
-            ended: false,
-        }
+        Pass { shared, args, log }
     }
 
     /// The run.
     pub fn run(&self) -> Run
         ensures { result ≡ self.now.run }
     {
-        self.run
+        self.log.run()
     }
 
     /// The component that the run was started on.
     pub fn me(&self) -> Comp
         ensures { result ≡ self.now.me }
     {
-        self.me
+        self.log.own()
     }
 
     /// The arguments that the run was started with.
@@ -92,14 +81,14 @@ impl Pass {
     pub fn log(&self) -> &[Entry]
         ensures { result.now ≡ self.now.log }
     {
-        &self.log
+        self.log.entries()
     }
 
     /// Whether the run has ended: then each call is answered Ended, and nothing is recorded.
     pub fn is_ended(&self) -> bool
         ensures { result ≡ has_ended self.now }
     {
-        self.ended
+        self.log.is_ended()
     }
 
     /// Records a call and logs its entry.
@@ -107,22 +96,13 @@ impl Pass {
         ensures call { IsCall (λ r. r) op self.old self.new result }
         ensures plain { IfOk result (λ r. (is_halt r ≡ false) × (suits op r ≡ true)) }
     {
-        if self.ended {
+        if self.log.is_ended() {
             return Err(Halt::Ended);
         }
-        if self.log.reserve(2).is_err() {
-            return Err(Halt::NoMemory);
+        match self.shared.record(rt, op, &mut self.log) {
+            Ok(reply) => heard(reply),
+            Err(NoMemory) => Err(Halt::NoMemory),
         }
-        let Ok(reply) = self.shared.record(rt, self.run, op.copy()) else {
-            return Err(Halt::NoMemory);
-        };
-        let entry = Entry {
-            caller: self.run,
-            op,
-            reply,
-        };
-        self.ended = add(&mut self.log, self.me, self.ended, entry);
-        heard(reply)
     }
 
     /// Creates a component, ordinary or alive-type (ES 201 873-1, the create operation).
@@ -244,36 +224,19 @@ impl Pass {
         self.wait(rt, true, target)
     }
 
-    /// Records a Wait, and where that is parked a Wake. The room for both is made first.
+    /// Records a Wait, and where that is parked a Wake.
     fn wait<R: Wait>(&mut self, rt: &R, killed: bool, target: Target) -> Result<(), Halt>
         ensures { IsWait killed target self.old self.new result }
     {
-        if self.ended {
+        if self.log.is_ended() {
             return Err(Halt::Ended);
         }
-        if self.log.reserve(3).is_err() {
-            return Err(Halt::NoMemory);
-        }
-        let Ok(mut reply) = self
-            .shared
-            .record(rt, self.run, Op::Wait { killed, target })
-        else {
+        let wait = Op::Wait { killed, target };
+        let Ok(mut reply) = self.shared.record(rt, wait, &mut self.log) else {
             return Err(Halt::NoMemory);
         };
-        let wait = Entry {
-            caller: self.run,
-            op: Op::Wait { killed, target },
-            reply,
-        };
-        self.ended = add(&mut self.log, self.me, self.ended, wait);
         if matches!(reply, Reply::Parked) {
-            reply = self.shared.wake(rt, self.run, killed, target);
-            let wake = Entry {
-                caller: self.run,
-                op: Op::Wake { killed, target },
-                reply,
-            };
-            self.ended = add(&mut self.log, self.me, self.ended, wake);
+            reply = self.shared.wake(rt, killed, target, &mut self.log);
         }
         match heard(reply)? {
             Reply::Matched => Ok(()),
@@ -290,19 +253,11 @@ impl Pass {
     {
         let Pass {
             shared,
-            run,
-            me,
             args,
             mut log,
-            ended,
         } = self;
-        if let Some(reply) = shared.leave(rt, run, ended) {
-            log.push_reserved(Entry {
-                caller: run,
-                op: Op::Finish,
-                reply,
-            });
-        }
-        Left::new(run, log, Some((me, args)))
+        shared.leave(rt, &mut log);
+        let (run, me) = (log.run(), log.own());
+        Left::new(run, log.into_entries(), Some((me, args)))
     }
 }

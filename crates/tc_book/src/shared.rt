@@ -1,14 +1,18 @@
 //! The lock and the condition of a case: each entry is added in one hold.
-ghost use Rattle.std.specs.Prelude.{◌≡◌, ◌≢◌, true, IfOk, IfSome, is_none};
+ghost use Rattle.std.specs.Prelude.{◌≡◌, ◌≢◌, ◌≤◌, ◌+◌, true, false, IfOk, OnOk, OnErr, IfSome, IfNone, is_none};
 ghost use Rattle.tc_entry.specs.declared.op.Op.TheVariants as ops;
 ghost use Rattle.tc_entry.specs.declared.reply.Reply.TheVariants as replies;
 ghost use Rattle.tc_book.specs.Replies.{suits};
 ghost use Rattle.tc_book.specs.Closing.{IsWhole};
 ghost use Rattle.tc_book.specs.Report.{IsOneHistory};
+ghost use Rattle.tc_book.specs.Logs.{is_closed, with_own};
+ghost use Rattle.tc_book.specs.Starts.{IsAwaited};
 
 use crate::book::Book;
 use crate::closed::{CloseFault, Closed};
 use crate::left::Left;
+use crate::log::Log;
+use crate::logged_book::LoggedBook;
 use std::alloc::{AllocError, Global};
 use std::sync::{Arc, Condvar, Mutex, Wait};
 use tc_entry::{Args, Comp, Op, Reply, Target};
@@ -16,7 +20,7 @@ use tc_verdict::{NoMemory, Run};
 
 #[derive(Drop)]
 struct Held {
-    book: Mutex<Book>,
+    book: Mutex<LoggedBook>,
     changed: Condvar,
 }
 
@@ -29,7 +33,7 @@ pub struct Shared {
 impl Shared {
     pub(crate) fn new(alloc: Global, book: Book) -> Result<Shared, NoMemory> {
         let held = Held {
-            book: Mutex::new(book),
+            book: Mutex::new(LoggedBook::new(book)),
             changed: Condvar::new(),
         };
         match Arc::new(alloc, held) {
@@ -46,25 +50,37 @@ impl Shared {
         }
     }
 
-    /// Records a call, and tells all that wait where one of them may go on by it.
-    pub(crate) fn record<R: Wait>(&self, rt: &R, run: Run, op: Op) -> Result<Reply, NoMemory>
-        ensures { IfOk result (λ r. suits op r ≡ true) }
+    /// Records a call of the log's run in the history and in the log, and tells all that wait where one of them may go on by it.
+    pub(crate) fn record<R: Wait>(&self, rt: &R, op: Op, log: &mut Log) -> Result<Reply, NoMemory>
+        requires going_on { is_closed log.old ≡ false }
+        ensures run { log.new.run ≡ log.old.run }
+        ensures own { log.new.own ≡ log.old.own }
+        ensures suits { IfOk result (λ r. suits op r ≡ true) }
+        ensures entries { IfOk result (λ r. log.new.entries ≡ with_own log.old op r) }
+        ensures room { OnOk result (2 ≤ log.new.room) }
+        ensures refused { OnErr result (log.new.entries ≡ log.old.entries) }
+        ensures refused_room { OnErr result (log.old.room ≤ log.new.room) }
     {
-        let (reply, tells) = self.held.book.lock(rt).call(run, op)?;
+        let (reply, tells) = self.held.book.lock(rt).call(op, log)?;
         if tells {
             self.held.changed.notify_all();
         }
         Ok(reply)
     }
 
-    /// Records the Wake of a parked wait in the first hold in which it is not parked again.
-    pub(crate) fn wake<R: Wait>(&self, rt: &R, run: Run, killed: bool, target: Target) -> Reply
+    /// Records the Wake of a parked wait in the first hold in which it is not parked again, in its place in the log.
+    pub(crate) fn wake<R: Wait>(&self, rt: &R, killed: bool, target: Target, log: &mut Log) -> Reply
+        requires room { 1 ≤ log.old.room }
+        ensures run { log.new.run ≡ log.old.run }
+        ensures own { log.new.own ≡ log.old.own }
         ensures suits { suits (ops.Wake killed target) result ≡ true }
         ensures awake { result ≢ replies.Parked }
+        ensures entries { log.new.entries ≡ with_own log.old (ops.Wake killed target) result }
+        ensures room { log.new.room + 1 ≡ log.old.room }
     {
         let mut book = self.held.book.lock(rt);
         for _ in rt.forever() {
-            if let Some((reply, tells)) = book.call_wake(run, killed, target) {
+            if let Some((reply, tells)) = book.wake(killed, target, log) {
                 drop(book);
                 if tells {
                     self.held.changed.notify_all();
@@ -76,29 +92,46 @@ impl Shared {
         unreachable!()
     }
 
-    /// Gives up a run's place, with its Finish where its pass has not ended.
-    pub(crate) fn leave<R: Wait>(&self, rt: &R, run: Run, ended: bool) -> Option<Reply>
-        ensures none { is_none result ≡ ended }
+    /// Gives up the place of the log's run, and records its Finish where the run has not ended.
+    pub(crate) fn leave<R: Wait>(&self, rt: &R, log: &mut Log) -> Option<Reply>
+        requires room { 1 ≤ log.old.room }
+        ensures run { log.new.run ≡ log.old.run }
+        ensures own { log.new.own ≡ log.old.own }
+        ensures none { is_none result ≡ is_closed log.old }
+        ensures quiet { IfNone result (log.new ≡ log.old) }
         ensures suits { IfSome result (λ r. suits ops.Finish r ≡ true) }
+        ensures entries { IfSome result (λ r. log.new.entries ≡ with_own log.old ops.Finish r) }
     {
         let mut book = self.held.book.lock(rt);
         for _ in rt.forever() {
-            if let Some(reply) = book.leave(run, ended) {
+            if let Some(finish) = book.leave(log) {
                 drop(book);
                 self.held.changed.notify_all();
-                return reply;
+                return finish;
             }
             book = self.held.changed.wait(rt, book);
         }
         unreachable!()
     }
 
-    /// What a run was started with, once it was started; none once the case is over without.
-    pub(crate) fn await_start<R: Wait>(&self, rt: &R, run: Run) -> Option<(Comp, Args)> {
+    /// Gives up the place of a run that was never started.
+    pub(crate) fn give_up<R: Wait>(&self, rt: &R, run: Run) {
         let mut book = self.held.book.lock(rt);
         for _ in rt.forever() {
-            let start = book.start_of(run);
-            if start.is_some() || book.is_over() {
+            if book.give_up(run) {
+                return;
+            }
+            book = self.held.changed.wait(rt, book);
+        }
+    }
+
+    /// What a run was started with, once it was started; none once the case is over without.
+    pub(crate) fn await_start<R: Wait>(&self, rt: &R, run: Run) -> Option<(Comp, Args)>
+        ensures { IsAwaited run.0 result }
+    {
+        let mut book = self.held.book.lock(rt);
+        for _ in rt.forever() {
+            if let Some(start) = book.start_or_end(run) {
                 return start;
             }
             book = self.held.changed.wait(rt, book);

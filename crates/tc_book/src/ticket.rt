@@ -1,8 +1,10 @@
 //! The ticket of a run that is not yet started.
-ghost use Rattle.std.specs.Prelude.{◌≡◌, ◌<◌, [], None, IfOk, IfErr};
+ghost use Rattle.std.specs.Prelude.{◌≡◌, ◌<◌, [], Some, None, IfOk, IfErr};
 ghost use Rattle.std.specs.Vec.{vec_len, vec_capacity};
+ghost use Rattle.tc_book.specs.Starts.{IsAwaited};
 
 use crate::left::Left;
+use crate::log::Log;
 use crate::pass::Pass;
 use crate::shared::Shared;
 use std::marker::Model;
@@ -51,13 +53,15 @@ impl Ticket {
     pub fn await_start<R: Wait>(self, rt: &R) -> Result<Pass, Left>
         ensures pass { IfOk result (λ p. (p.run ≡ self) × (p.log ≡ [])) }
         ensures above { IfOk result (λ p. 0 < p.run.0) }
+        ensures started { IfOk result (λ p. IsAwaited p.run.0 (Some (p.me, p.args))) }
+        ensures never_started { IfErr result (λ l. IsAwaited l.run.0 None) }
         ensures left { IfErr result (λ l. l ≡ record { run = self; log = []; started = None }) }
     {
         let Ticket { shared, run, log } = self;
         match shared.await_start(rt, run) {
-            Some((comp, args)) => Ok(Pass::new(shared, run, comp, args, log)),
+            Some((comp, args)) => Ok(Pass::new(shared, Log::new(run, comp, log), args)),
             None => {
-                shared.leave(rt, run, true);
+                shared.give_up(rt, run);
                 Err(Left::new(run, log, None))
             }
         }
