@@ -1,5 +1,5 @@
 -- Who wakes by an entry.
-use Rattle.std.specs.Prelude.{ℕ, ◌≡◌, Bool}
+use Rattle.std.specs.Prelude.{ℕ, ◌≡◌, ◌||◌, not, Bool, false, Option, Some, None, is_some}
 use Rattle.tc_verdict.specs.declared.run.Run.{Run}
 use Rattle.tc_entry.specs.declared.op.Op.TheVariants as O
 use Rattle.tc_entry.specs.declared.op.Target.{Target}
@@ -7,9 +7,22 @@ use Rattle.tc_entry.specs.declared.reply.Reply.TheVariants as R
 use Rattle.tc_table.specs.History.{is_over}
 use Rattle.tc_book.specs.OpenCase.{OpenCase, past_of, reply_to}
 use Rattle.tc_book.specs.Starts.{start_of}
+use Rattle.tc_book.specs.Replies.{is_parked}
+use Rattle.tc_book.specs.declared.until.Until.{Until}
+use Rattle.tc_book.specs.declared.until.Until.TheVariants as U
 
 -- who waited still waits: the Wake that would be parked again still would be, no run is started, and the case is over if it was
 pub record NobodyWakes (before after : OpenCase) : Type 0 where
   pub parked : (run : Run) (killed : Bool) (target : Target) → reply_to before run (O.Wake killed target) ≡ R.Parked → reply_to after run (O.Wake killed target) ≡ R.Parked
   pub starts : (b : ℕ) → start_of (past_of after) b ≡ start_of (past_of before) b
   pub over : is_over (past_of after) ≡ is_over (past_of before)
+
+-- who waits for this goes on: its run was started, or the case is over; or its Wake would not be parked again
+abbrev pub goes_on : OpenCase → Run → Until → Bool
+goes_on b run U.Start = is_some (start_of (past_of b) run.0) || is_over (past_of b)
+goes_on b run (U.Wake killed target) = not (is_parked (reply_to b run (O.Wake killed target)))
+
+-- a run that waits goes on; of one that does not wait there is nothing to say
+abbrev pub wakes : OpenCase → Run → Option Until → Bool
+wakes b run (Some until) = goes_on b run until
+wakes b run None = false

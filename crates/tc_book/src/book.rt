@@ -156,6 +156,13 @@ impl Book {
         start_of(&self.starts, run)
     }
 
+    /// The reply that a call would be given now.
+    pub(crate) fn would(&self, run: Run, op: &Op) -> Reply
+        ensures { result ≡ reply_to self.now run op.now }
+    {
+        self.table.would(run, op)
+    }
+
     /// Whether the case is over.
     pub(crate) fn is_over(&self) -> bool
         ensures { result ≡ history.is_over (past_of self.now) }

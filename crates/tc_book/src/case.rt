@@ -5,7 +5,6 @@ ghost use Rattle.tc_verdict.specs.declared.run.Run.{Run};
 ghost use Rattle.tc_book.specs.Closing.{IsWhole};
 ghost use Rattle.tc_book.specs.Report.{IsOneHistory};
 
-use crate::book::Book;
 use crate::closed::{CloseFault, Closed};
 use crate::left::Left;
 use crate::log::Log;
@@ -54,7 +53,7 @@ pub fn open_case(alloc: Global, behaviours: u16) -> Result<(Shared, Pass, Vec<Ti
     ensures count { IfOk result (λ r. length r.2.items + 1 ≡ behaviours) }
     ensures tickets { IfOk result (λ r. (k : ℕ) (d : Run) → k + 1 < behaviours → (slice_index_or r.2.items k d).0 ≡ k + 1) }
 {
-    let shared = Shared::new(alloc, Book::new(alloc, behaviours)?)?;
+    let shared = Shared::new(alloc, behaviours)?;
     let log = Log::new(Run(0), Comp(0), place(alloc)?);
     let pass = Pass::new(shared.another()?, log, Args::new());
     let tickets = tickets_of(alloc, &shared, behaviours)?;

@@ -1,5 +1,5 @@
 //! The book behind the lock. Whatever is added to its history is added to the log of its caller in the same call.
-ghost use Rattle.std.specs.Prelude.{◌≡◌, ◌≢◌, ◌≤◌, ◌+◌, [], true, false, IfOk, OnOk, OnErr, IfSome, IfNone, IsTrue, IsFalse, None, is_none, set};
+ghost use Rattle.std.specs.Prelude.{◌≡◌, ◌≢◌, ◌≤◌, ◌+◌, [], true, false, IfOk, OnOk, OnErr, IfSome, IfNone, IsTrue, IsFalse, Some, None, is_none, replicate, set, slice_index_or};
 ghost use Rattle.tc_entry.specs.declared.op.Op.TheVariants as ops;
 ghost use Rattle.tc_entry.specs.declared.reply.Reply.TheVariants as replies;
 ghost use Rattle.tc_table.specs.History as history;
@@ -9,27 +9,64 @@ ghost use Rattle.tc_book.specs.OpenCase.{past_of, places_at, reply_to, with_entr
 ghost use Rattle.tc_book.specs.Replies.{suits};
 ghost use Rattle.tc_book.specs.Report.{IsOneHistory};
 ghost use Rattle.tc_book.specs.Starts as starts;
-ghost use Rattle.tc_book.specs.Waking.{NobodyWakes};
+ghost use Rattle.tc_book.specs.Waking.{NobodyWakes, wakes};
 
 use crate::book::Book;
 use crate::closed::{CloseFault, Closed};
 use crate::left::Left;
 use crate::log::Log;
+use crate::until::Until;
 use std::alloc::Global;
 use tc_entry::{Args, Comp, Op, Reply, Target};
 use tc_verdict::{NoMemory, Run};
 
-/// A book, each of whose entries is in the log of its caller as well.
+/// A book, each of whose entries is in the log of its caller as well, and what each run waits for behind the lock.
 #[derive(Drop)]
 pub(crate) struct LoggedBook {
     book: Book,
+    waiting: Vec<Option<Until>>,
 }
 
 impl LoggedBook {
-    pub(crate) fn new(book: Book) -> LoggedBook
-        ensures { result.book ≡ book }
+    /// The book of a case at its opening, in which no run waits.
+    pub(crate) fn new(alloc: Global, behaviours: u16) -> Result<LoggedBook, NoMemory>
+        requires some { 1 ≤ behaviours }
+        requires few { behaviours ≤ 64 }
+        ensures behaviours { IfOk result (λ b. b.book.behaviours ≡ behaviours) }
+        ensures opening { IfOk result (λ b. b.book.history ≡ []) }
+        ensures none { IfOk result (λ b. b.waiting.items ≡ replicate behaviours None) }
     {
-        LoggedBook { book }
+        let book = Book::new(alloc, behaviours)?;
+        let waiting = vec![in alloc; None; usize::from(behaviours)]?;
+        Ok(LoggedBook { book, waiting })
+    }
+
+    /// Notes what a run waits for, or that it waits no longer.
+    fn note(&mut self, run: Run, until: Option<Until>)
+        ensures book { self.new.book ≡ self.old.book }
+        ensures noted { self.new.waiting.items ≡ set self.old.waiting.items run.0 until }
+    {
+        if let Some(waits) = self.waiting.get_mut(usize::from(run.0)) {
+            *waits = until;
+        }
+    }
+
+    /// Notes that a run waits.
+    pub(crate) fn wait_for(&mut self, run: Run, until: Until)
+        ensures book { self.new.book ≡ self.old.book }
+        ensures noted { self.new.waiting.items ≡ set self.old.waiting.items run.0 (Some until) }
+    {
+        self.note(run, Some(until));
+    }
+
+    /// Whether a run waits and may go on now.
+    pub(crate) fn wakes(&self, run: Run) -> bool
+        ensures { result ≡ wakes self.now.book run (slice_index_or self.now.waiting.items run.0 None) }
+    {
+        match self.waiting.get(usize::from(run.0)) {
+            Some(Some(until)) => self.book.goes_on(run, *until),
+            _ => false,
+        }
     }
 
     /// Adds a call of the log's run to the history and to the log, with the places for its Wake and the Finish.
@@ -75,6 +112,7 @@ impl LoggedBook {
         ensures room { IfSome result (λ _. log.new.room + 1 ≡ log.old.room) }
     {
         let (reply, tells) = self.book.call_wake(log.run(), killed, target)?;
+        self.note(log.run(), None);
         log.add(Op::Wake { killed, target }, reply);
         Some((reply, tells))
     }
@@ -111,12 +149,14 @@ impl LoggedBook {
     }
 
     /// What one that waits for a run's start is answered: its start, or none where the case is over without. Nothing while it waits on.
-    pub(crate) fn start_or_end(&self, run: Run) -> Option<Option<(Comp, Args)>>
-        ensures waits { IfNone result ((starts.start_of (past_of self.now.book) run.0 ≡ None) × (history.is_over (past_of self.now.book) ≡ false)) }
-        ensures answers { IfSome result (λ s. starts.IsAwaitedIn self.now.book.behaviours (past_of self.now.book) run.0 s) }
+    pub(crate) fn start_or_end(&mut self, run: Run) -> Option<Option<(Comp, Args)>>
+        ensures book { self.new.book ≡ self.old.book }
+        ensures waits { IfNone result ((starts.start_of (past_of self.old.book) run.0 ≡ None) × (history.is_over (past_of self.old.book) ≡ false)) }
+        ensures answers { IfSome result (λ s. starts.IsAwaitedIn self.old.book.behaviours (past_of self.old.book) run.0 s) }
     {
         let start = self.book.start_of(run);
         if start.is_some() || self.book.is_over() {
+            self.note(run, None);
             Some(start)
         } else {
             None

@@ -8,11 +8,11 @@ ghost use Rattle.tc_book.specs.Report.{IsOneHistory};
 ghost use Rattle.tc_book.specs.Logs.{is_closed, with_own};
 ghost use Rattle.tc_book.specs.Starts.{IsAwaited};
 
-use crate::book::Book;
 use crate::closed::{CloseFault, Closed};
 use crate::left::Left;
 use crate::log::Log;
 use crate::logged_book::LoggedBook;
+use crate::until::Until;
 use std::alloc::{AllocError, Global};
 use std::sync::{Arc, Condvar, Mutex, Wait};
 use tc_entry::{Args, Comp, Op, Reply, Target};
@@ -21,7 +21,19 @@ use tc_verdict::{NoMemory, Run};
 #[derive(Drop)]
 struct Held {
     book: Mutex<LoggedBook>,
-    changed: Condvar,
+    /// Where each run waits.
+    changed: Vec<(Run, Condvar)>,
+    /// Where a run would wait that the case does not have. Nobody tells it.
+    never: Condvar,
+}
+
+/// A condition for each run.
+fn conditions(alloc: Global, behaviours: u16) -> Result<Vec<(Run, Condvar)>, NoMemory> {
+    let mut changed = Vec::with_capacity(alloc, usize::from(behaviours))?;
+    for k in 0..behaviours {
+        changed.push((Run(k), Condvar::new()))?;
+    }
+    Ok(changed)
 }
 
 /// A shared owner of a case's book.
@@ -31,10 +43,15 @@ pub struct Shared {
 }
 
 impl Shared {
-    pub(crate) fn new(alloc: Global, book: Book) -> Result<Shared, NoMemory> {
+    /// The owner of the book of a case at its opening.
+    pub(crate) fn new(alloc: Global, behaviours: u16) -> Result<Shared, NoMemory>
+        requires some { 1 ≤ behaviours }
+        requires few { behaviours ≤ 64 }
+    {
         let held = Held {
-            book: Mutex::new(LoggedBook::new(book)),
-            changed: Condvar::new(),
+            book: Mutex::new(LoggedBook::new(alloc, behaviours)?),
+            changed: conditions(alloc, behaviours)?,
+            never: Condvar::new(),
         };
         match Arc::new(alloc, held) {
             Ok(held) => Ok(Shared { held }),
@@ -50,7 +67,24 @@ impl Shared {
         }
     }
 
-    /// Records a call of the log's run in the history and in the log, and tells all that wait where one of them may go on by it.
+    /// Where a run waits.
+    fn changed(&self, run: Run) -> &Condvar {
+        match self.held.changed.get(usize::from(run.0)) {
+            Some((_, changed)) => changed,
+            None => &self.held.never,
+        }
+    }
+
+    /// Tells each run that waits and may go on now.
+    fn tell(&self, book: &LoggedBook) {
+        for (run, changed) in &self.held.changed {
+            if book.wakes(*run) {
+                changed.notify_all();
+            }
+        }
+    }
+
+    /// Records a call of the log's run in the history and in the log, and tells each run that may go on by it.
     pub(crate) fn record<R: Wait>(&self, rt: &R, op: Op, log: &mut Log) -> Result<Reply, NoMemory>
         requires going_on { is_closed log.old ≡ false }
         ensures run { log.new.run ≡ log.old.run }
@@ -61,9 +95,10 @@ impl Shared {
         ensures refused { OnErr result (log.new.entries ≡ log.old.entries) }
         ensures refused_room { OnErr result (log.old.room ≤ log.new.room) }
     {
-        let (reply, tells) = self.held.book.lock(rt).call(op, log)?;
+        let mut book = self.held.book.lock(rt);
+        let (reply, tells) = book.call(op, log)?;
         if tells {
-            self.held.changed.notify_all();
+            self.tell(&book);
         }
         Ok(reply)
     }
@@ -81,13 +116,13 @@ impl Shared {
         let mut book = self.held.book.lock(rt);
         for _ in rt.forever() {
             if let Some((reply, tells)) = book.wake(killed, target, log) {
-                drop(book);
                 if tells {
-                    self.held.changed.notify_all();
+                    self.tell(&book);
                 }
                 return reply;
             }
-            book = self.held.changed.wait(rt, book);
+            book.wait_for(log.run(), Until::Wake { killed, target });
+            book = self.changed(log.run()).wait(rt, book);
         }
         unreachable!()
     }
@@ -105,11 +140,10 @@ impl Shared {
         let mut book = self.held.book.lock(rt);
         for _ in rt.forever() {
             if let Some(finish) = book.leave(log) {
-                drop(book);
-                self.held.changed.notify_all();
+                self.tell(&book);
                 return finish;
             }
-            book = self.held.changed.wait(rt, book);
+            book = self.held.never.wait(rt, book);
         }
         unreachable!()
     }
@@ -121,7 +155,7 @@ impl Shared {
             if book.give_up(run) {
                 return;
             }
-            book = self.held.changed.wait(rt, book);
+            book = self.held.never.wait(rt, book);
         }
     }
 
@@ -134,7 +168,8 @@ impl Shared {
             if let Some(start) = book.start_or_end(run) {
                 return start;
             }
-            book = self.held.changed.wait(rt, book);
+            book.wait_for(run, Until::Start);
+            book = self.changed(run).wait(rt, book);
         }
         unreachable!()
     }

@@ -5,9 +5,10 @@ ghost use Rattle.tc_entry.specs.declared.reply.Reply.TheVariants as replies;
 ghost use Rattle.tc_table.specs.Laws as laws;
 ghost use Rattle.tc_book.specs.OpenCase.{reply_to, with_entry, places_at, with_wake, without_wake};
 ghost use Rattle.tc_book.specs.Replies.{suits, is_parked};
-ghost use Rattle.tc_book.specs.Waking.{NobodyWakes};
+ghost use Rattle.tc_book.specs.Waking.{NobodyWakes, goes_on};
 
 use crate::book::Book;
+use crate::until::Until;
 use tc_entry::{Op, Reply, Target};
 use tc_verdict::{NoMemory, Run};
 
@@ -67,5 +68,17 @@ impl Book {
         let _ = &self.count;
         let reply = self.wake(run, killed, target)?;
         Some((reply, tells(true, reply)))
+    }
+
+    /// Whether a run that waits for this may go on now.
+    pub(crate) fn goes_on(&self, run: Run, until: Until) -> bool
+        ensures { result ≡ goes_on self.now run until }
+    {
+        match until {
+            Until::Start => self.start_of(run).is_some() || self.is_over(),
+            Until::Wake { killed, target } => {
+                !matches!(self.would(run, &Op::Wake { killed, target }), Reply::Parked)
+            }
+        }
     }
 }
