@@ -18,6 +18,7 @@ mod report;
 mod shared;
 mod starts;
 mod ticket;
+mod wake_up;
 
 pub use case::{close_case, open_case};
 pub use closed::{CloseFault, Closed};

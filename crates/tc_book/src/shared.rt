@@ -61,10 +61,8 @@ impl Shared {
         ensures refused { OnErr result (log.new.entries ≡ log.old.entries) }
         ensures refused_room { OnErr result (log.old.room ≤ log.new.room) }
     {
-        let (reply, tells) = self.held.book.lock(rt).call(op, log)?;
-        if tells {
-            self.held.changed.notify_all();
-        }
+        let (reply, wake_up) = self.held.book.lock(rt).call(op, log)?;
+        wake_up.give(&self.held.changed);
         Ok(reply)
     }
 
@@ -80,11 +78,9 @@ impl Shared {
     {
         let mut book = self.held.book.lock(rt);
         for _ in rt.forever() {
-            if let Some((reply, tells)) = book.wake(killed, target, log) {
+            if let Some((reply, wake_up)) = book.wake(killed, target, log) {
                 drop(book);
-                if tells {
-                    self.held.changed.notify_all();
-                }
+                wake_up.give(&self.held.changed);
                 return reply;
             }
             book = self.held.changed.wait(rt, book);
@@ -104,9 +100,9 @@ impl Shared {
     {
         let mut book = self.held.book.lock(rt);
         for _ in rt.forever() {
-            if let Some(finish) = book.leave(log) {
+            if let Some((finish, wake_up)) = book.leave(log) {
                 drop(book);
-                self.held.changed.notify_all();
+                wake_up.give(&self.held.changed);
                 return finish;
             }
             book = self.held.changed.wait(rt, book);
@@ -152,3 +148,6 @@ impl Shared {
         self.held.book.lock(rt).close(alloc, lefts)
     }
 }
+
+#[cfg(test)]
+mod tests;
