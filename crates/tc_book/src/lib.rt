@@ -5,6 +5,7 @@ mod book;
 mod case;
 mod close;
 mod closed;
+mod conditions;
 mod ending;
 mod halt;
 pub mod laws;
@@ -19,6 +20,7 @@ mod shared;
 mod starts;
 mod ticket;
 mod until;
+mod wake_up;
 
 pub use case::{close_case, open_case};
 pub use closed::{CloseFault, Closed};

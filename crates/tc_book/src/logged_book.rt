@@ -1,8 +1,9 @@
 //! The book behind the lock. Whatever is added to its history is added to the log of its caller in the same call.
-ghost use Rattle.std.specs.Prelude.{◌≡◌, ◌≢◌, ◌≤◌, ◌+◌, [], true, false, IfOk, OnOk, OnErr, IfSome, IfNone, IsTrue, IsFalse, Some, None, is_none, replicate, set, slice_index_or};
+ghost use Rattle.std.specs.Prelude.{◌≡◌, ◌≢◌, ◌≤◌, ◌+◌, [], true, false, IfOk, OnOk, OnErr, IfErr, IfSome, IfNone, IsTrue, IsFalse, Some, None, is_none, replicate, set, slice_index_or};
 ghost use Rattle.tc_entry.specs.declared.op.Op.TheVariants as ops;
 ghost use Rattle.tc_entry.specs.declared.reply.Reply.TheVariants as replies;
 ghost use Rattle.tc_table.specs.History as history;
+ghost use Rattle.tc_book.specs.declared.closed.CloseFault.TheVariants as faults;
 ghost use Rattle.tc_book.specs.Closing.{IsWhole};
 ghost use Rattle.tc_book.specs.Logs.{is_closed, with_own};
 ghost use Rattle.tc_book.specs.OpenCase.{past_of, places_at, reply_to, with_entry, without_leave, without_wake};
@@ -16,6 +17,7 @@ use crate::closed::{CloseFault, Closed};
 use crate::left::Left;
 use crate::log::Log;
 use crate::until::Until;
+use crate::wake_up::WakeUp;
 use std::alloc::Global;
 use tc_entry::{Args, Comp, Op, Reply, Target};
 use tc_verdict::{NoMemory, Run};
@@ -70,14 +72,14 @@ impl LoggedBook {
     }
 
     /// Adds a call of the log's run to the history and to the log, with the places for its Wake and the Finish.
-    /// Answers its reply, and whether one that waits may go on by it.
-    pub(crate) fn call(&mut self, op: Op, log: &mut Log) -> Result<(Reply, bool), NoMemory>
+    /// Answers its reply, and whom to wake.
+    pub(crate) fn call(&mut self, op: Op, log: &mut Log) -> Result<(Reply, WakeUp), NoMemory>
         requires going_on { is_closed log.old ≡ false }
         ensures run { log.new.run ≡ log.old.run }
         ensures own { log.new.own ≡ log.old.own }
         ensures reply { IfOk result (λ r. r.0 ≡ reply_to self.old.book log.old.run op) }
         ensures suits { IfOk result (λ r. suits op r.0 ≡ true) }
-        ensures silent { IfOk result (λ r. r.1 ≡ false → NobodyWakes self.old.book self.new.book) }
+        ensures silent { IfOk result (λ r. r.1.anyone ≡ false → NobodyWakes self.old.book self.new.book) }
         ensures history { IfOk result (λ r. self.new.book.history ≡ with_entry self.old.book log.old.run op r.0) }
         ensures entries { IfOk result (λ r. log.new.entries ≡ with_own log.old op r.0) }
         ensures room { OnOk result (2 ≤ log.new.room) }
@@ -88,7 +90,7 @@ impl LoggedBook {
         log.make_room()?;
         let (reply, tells) = self.book.call(log.run(), op.copy())?;
         log.add(op, reply);
-        Ok((reply, tells))
+        Ok((reply, WakeUp::new(tells)))
     }
 
     /// Adds the Wake of the parked wait of the log's run to the history and to the log, unless it would be parked again.
@@ -97,7 +99,7 @@ impl LoggedBook {
         killed: bool,
         target: Target,
         log: &mut Log,
-    ) -> Option<(Reply, bool)>
+    ) -> Option<(Reply, WakeUp)>
         requires room { 1 ≤ log.old.room }
         ensures none { IfNone result (self.new.book ≡ self.old.book) }
         ensures none_logged { IfNone result (log.new ≡ log.old) }
@@ -106,7 +108,7 @@ impl LoggedBook {
         ensures awake { IfSome result (λ r. r.0 ≢ replies.Parked) }
         ensures reply { IfSome result (λ r. r.0 ≡ reply_to self.old.book log.old.run (ops.Wake killed target)) }
         ensures suits { IfSome result (λ r. suits (ops.Wake killed target) r.0 ≡ true) }
-        ensures silent { IfSome result (λ r. r.1 ≡ false → NobodyWakes self.old.book self.new.book) }
+        ensures silent { IfSome result (λ r. r.1.anyone ≡ false → NobodyWakes self.old.book self.new.book) }
         ensures history { IfSome result (λ r. self.new.book.history ≡ with_entry self.old.book log.old.run (ops.Wake killed target) r.0) }
         ensures entries { IfSome result (λ r. log.new.entries ≡ with_own log.old (ops.Wake killed target) r.0) }
         ensures room { IfSome result (λ _. log.new.room + 1 ≡ log.old.room) }
@@ -114,28 +116,29 @@ impl LoggedBook {
         let (reply, tells) = self.book.call_wake(log.run(), killed, target)?;
         self.note(log.run(), None);
         log.add(Op::Wake { killed, target }, reply);
-        Some((reply, tells))
+        Some((reply, WakeUp::new(tells)))
     }
 
     /// Gives up the place of the log's run, and where the run has not ended adds its Finish to the history and to the log.
-    pub(crate) fn leave(&mut self, log: &mut Log) -> Option<Option<Reply>>
+    pub(crate) fn leave(&mut self, log: &mut Log) -> Option<(Option<Reply>, WakeUp)>
         requires room { 1 ≤ log.old.room }
         ensures none { IfNone result ((self.new.book ≡ self.old.book) × (log.new ≡ log.old) × IsFalse (places_at self.old.book.places log.old.run).leave) }
         ensures run { log.new.run ≡ log.old.run }
         ensures own { log.new.own ≡ log.old.own }
-        ensures ended { IfSome result (λ f. is_none f ≡ is_closed log.old) }
+        ensures silent { IfSome result (λ f. f.1.anyone ≡ false → NobodyWakes self.old.book self.new.book) }
+        ensures ended { IfSome result (λ f. is_none f.0 ≡ is_closed log.old) }
         ensures places { IfSome result (λ _. self.new.book.places ≡ set self.old.book.places log.old.run.0 (without_leave (places_at self.old.book.places log.old.run))) }
-        ensures quiet { IfSome result (λ f. IfNone f ((self.new.book.history ≡ self.old.book.history) × (log.new ≡ log.old))) }
-        ensures reply { IfSome result (λ f. IfSome f (λ r. r ≡ reply_to self.old.book log.old.run ops.Finish)) }
-        ensures suits { IfSome result (λ f. IfSome f (λ r. suits ops.Finish r ≡ true)) }
-        ensures history { IfSome result (λ f. IfSome f (λ r. self.new.book.history ≡ with_entry self.old.book log.old.run ops.Finish r)) }
-        ensures entries { IfSome result (λ f. IfSome f (λ r. log.new.entries ≡ with_own log.old ops.Finish r)) }
+        ensures quiet { IfSome result (λ f. IfNone f.0 ((self.new.book.history ≡ self.old.book.history) × (log.new ≡ log.old))) }
+        ensures reply { IfSome result (λ f. IfSome f.0 (λ r. r ≡ reply_to self.old.book log.old.run ops.Finish)) }
+        ensures suits { IfSome result (λ f. IfSome f.0 (λ r. suits ops.Finish r ≡ true)) }
+        ensures history { IfSome result (λ f. IfSome f.0 (λ r. self.new.book.history ≡ with_entry self.old.book log.old.run ops.Finish r)) }
+        ensures entries { IfSome result (λ f. IfSome f.0 (λ r. log.new.entries ≡ with_own log.old ops.Finish r)) }
     {
         let finish = self.book.leave(log.run(), log.is_ended())?;
         if let Some(reply) = finish {
             log.add(Op::Finish, reply);
         }
-        Some(finish)
+        Some((finish, WakeUp::new(finish.is_some())))
     }
 
     /// Gives up the place of a run that was never started, and says whether it was still kept.
@@ -166,6 +169,7 @@ impl LoggedBook {
     /// Closes the case.
     pub(crate) fn close(&self, alloc: Global, lefts: Vec<Left>) -> Result<Closed, CloseFault>
         ensures whole { IfOk result (λ c. IsWhole c.behaviours c.history lefts.items) }
+        ensures torn { IfErr result (λ f. f ≡ faults.Torn → IsWhole self.now.book.behaviours self.now.book.history lefts.items → ⊥) }
         ensures behaviours { IfOk result (λ c. c.behaviours ≡ self.now.book.behaviours) }
         ensures history { IfOk result (λ c. c.history ≡ self.now.book.history) }
         ensures report { IfOk result (λ c. IsOneHistory c) }

@@ -9,31 +9,20 @@ ghost use Rattle.tc_book.specs.Logs.{is_closed, with_own};
 ghost use Rattle.tc_book.specs.Starts.{IsAwaited};
 
 use crate::closed::{CloseFault, Closed};
+use crate::conditions::Conditions;
 use crate::left::Left;
 use crate::log::Log;
 use crate::logged_book::LoggedBook;
 use crate::until::Until;
 use std::alloc::{AllocError, Global};
-use std::sync::{Arc, Condvar, Mutex, Wait};
+use std::sync::{Arc, Mutex, Wait};
 use tc_entry::{Args, Comp, Op, Reply, Target};
 use tc_verdict::{NoMemory, Run};
 
 #[derive(Drop)]
 struct Held {
     book: Mutex<LoggedBook>,
-    /// Where each run waits.
-    changed: Vec<(Run, Condvar)>,
-    /// Where a run would wait that the case does not have. Nobody tells it.
-    never: Condvar,
-}
-
-/// A condition for each run.
-fn conditions(alloc: Global, behaviours: u16) -> Result<Vec<(Run, Condvar)>, NoMemory> {
-    let mut changed = Vec::with_capacity(alloc, usize::from(behaviours))?;
-    for k in 0..behaviours {
-        changed.push((Run(k), Condvar::new()))?;
-    }
-    Ok(changed)
+    changed: Conditions,
 }
 
 /// A shared owner of a case's book.
@@ -50,8 +39,7 @@ impl Shared {
     {
         let held = Held {
             book: Mutex::new(LoggedBook::new(alloc, behaviours)?),
-            changed: conditions(alloc, behaviours)?,
-            never: Condvar::new(),
+            changed: Conditions::new(alloc, behaviours)?,
         };
         match Arc::new(alloc, held) {
             Ok(held) => Ok(Shared { held }),
@@ -67,23 +55,6 @@ impl Shared {
         }
     }
 
-    /// Where a run waits.
-    fn changed(&self, run: Run) -> &Condvar {
-        match self.held.changed.get(usize::from(run.0)) {
-            Some((_, changed)) => changed,
-            None => &self.held.never,
-        }
-    }
-
-    /// Tells each run that waits and may go on now.
-    fn tell(&self, book: &LoggedBook) {
-        for (run, changed) in &self.held.changed {
-            if book.wakes(*run) {
-                changed.notify_all();
-            }
-        }
-    }
-
     /// Records a call of the log's run in the history and in the log, and tells each run that may go on by it.
     pub(crate) fn record<R: Wait>(&self, rt: &R, op: Op, log: &mut Log) -> Result<Reply, NoMemory>
         requires going_on { is_closed log.old ≡ false }
@@ -96,10 +67,8 @@ impl Shared {
         ensures refused_room { OnErr result (log.old.room ≤ log.new.room) }
     {
         let mut book = self.held.book.lock(rt);
-        let (reply, tells) = book.call(op, log)?;
-        if tells {
-            self.tell(&book);
-        }
+        let (reply, wake_up) = book.call(op, log)?;
+        wake_up.give(&self.held.changed, &book);
         Ok(reply)
     }
 
@@ -115,14 +84,12 @@ impl Shared {
     {
         let mut book = self.held.book.lock(rt);
         for _ in rt.forever() {
-            if let Some((reply, tells)) = book.wake(killed, target, log) {
-                if tells {
-                    self.tell(&book);
-                }
+            if let Some((reply, wake_up)) = book.wake(killed, target, log) {
+                wake_up.give(&self.held.changed, &book);
                 return reply;
             }
             book.wait_for(log.run(), Until::Wake { killed, target });
-            book = self.changed(log.run()).wait(rt, book);
+            book = self.held.changed.of(log.run()).wait(rt, book);
         }
         unreachable!()
     }
@@ -139,11 +106,11 @@ impl Shared {
     {
         let mut book = self.held.book.lock(rt);
         for _ in rt.forever() {
-            if let Some(finish) = book.leave(log) {
-                self.tell(&book);
+            if let Some((finish, wake_up)) = book.leave(log) {
+                wake_up.give(&self.held.changed, &book);
                 return finish;
             }
-            book = self.held.never.wait(rt, book);
+            book = self.held.changed.never().wait(rt, book);
         }
         unreachable!()
     }
@@ -155,7 +122,7 @@ impl Shared {
             if book.give_up(run) {
                 return;
             }
-            book = self.held.never.wait(rt, book);
+            book = self.held.changed.never().wait(rt, book);
         }
     }
 
@@ -169,7 +136,7 @@ impl Shared {
                 return start;
             }
             book.wait_for(run, Until::Start);
-            book = self.changed(run).wait(rt, book);
+            book = self.held.changed.of(run).wait(rt, book);
         }
         unreachable!()
     }
@@ -187,3 +154,6 @@ impl Shared {
         self.held.book.lock(rt).close(alloc, lefts)
     }
 }
+
+#[cfg(test)]
+mod tests;

@@ -1,4 +1,5 @@
 mod soak;
+mod waking;
 
 use crate::laws::Book;
 use crate::*;
@@ -213,5 +214,82 @@ fn calls_on_a_book(rt: HostRuntime) -> Result<(), Fail> {
     assert_eq!(rt; book.leave(Run(0), false), Some(Some(Reply::Ok)));
     assert!(rt; book.is_over());
     assert!(rt; matches!(book.close(alloc, Vec::new(alloc)), Err(CloseFault::Torn)));
+    Ok(())
+}
+
+/// A case has as many runs as it was opened for.
+#[test]
+fn runs_of_a_case(rt: HostRuntime) -> Result<(), Fail> {
+    let alloc = rt.alloc();
+    let (_, pass, _) = open_case(alloc, 2)?;
+    let mut pass = pass;
+    let comp = pass.create(&rt, true)?;
+    pass.start(&rt, comp, Run(1), &Args::new())?;
+    pass.stop(&rt, Group::One(comp))?;
+    let refused = pass.start(&rt, comp, Run(2), &Args::new());
+    assert_eq!(rt; refused, Err(Halt::Fault(Fault::NoBehaviour)));
+    Ok(())
+}
+
+/// Whether each call on a book is answered with this reply, and says so whether somebody who waits may go on.
+fn are_answered<const N: usize>(book: &mut Book, calls: [(Run, Op, Reply, bool); N]) -> bool {
+    for (run, op, reply, wakes) in calls {
+        if book.call(run, op).ok() != Some((reply, wakes)) {
+            return false;
+        }
+    }
+    true
+}
+
+/// 10 calls and 4 Wakes on a book: their replies, and by which of them somebody who waits may go on.
+#[test]
+fn calls_that_wake(rt: HostRuntime) -> Result<(), Fail> {
+    let alloc = rt.alloc();
+    let mut book = Book::new(alloc, 2)?;
+    let start = Op::Start {
+        comp: Comp(1),
+        run: Run(1),
+        args: Args::new(),
+    };
+    let wait = Op::Wait {
+        killed: false,
+        target: one(1),
+    };
+    let parked = [
+        (
+            Run(0),
+            Op::Create { alive: true },
+            Reply::Made(Comp(1)),
+            false,
+        ),
+        (Run(0), start, Reply::Ok, true),
+        (Run(0), Op::Running(one(1)), Reply::Answer(true), false),
+        (Run(0), wait, Reply::Parked, true),
+    ];
+    assert!(rt; are_answered(&mut book, parked));
+    assert_eq!(rt; book.call_wake(Run(0), false, one(1)), None);
+    let finished = [
+        (Run(1), Op::SetVerdict(UserVerdict::Fail), Reply::Ok, false),
+        (Run(1), Op::Finish, Reply::Ok, true),
+    ];
+    assert!(rt; are_answered(&mut book, finished));
+    assert_eq!(rt; book.call_wake(Run(1), false, one(1)), None);
+    assert_eq!(rt;
+        book.call_wake(Run(0), false, one(1)),
+        Some((Reply::Matched, false))
+    );
+    assert_eq!(rt; book.call_wake(Run(0), false, one(1)), None);
+    let over = [
+        (Run(1), Op::GetVerdict, Reply::Ended, true),
+        (Run(0), Op::Stop(Group::All), Reply::Ok, true),
+        (Run(0), Op::Kill(Group::All), Reply::Ok, true),
+        (
+            Run(0),
+            Op::Alive(one(7)),
+            Reply::Fault(Fault::NoComponent),
+            true,
+        ),
+    ];
+    assert!(rt; are_answered(&mut book, over));
     Ok(())
 }

@@ -1,4 +1,4 @@
-//! Many cases with random calls, on as many threads as behaviours: each report is replayed.
+//! Many cases with random calls, on as many threads as behaviours: each report is replayed, and what was met is counted.
 ghost use Rattle.std.specs.Prelude.{◌<◌, ◌≤◌};
 
 use crate::*;
@@ -7,7 +7,7 @@ use std::sync::Wait;
 use std::test::Fail;
 use std::thread;
 use std::thread::{JoinHandle, Threads};
-use tc_entry::{Args, Comp, Group, NoMemory, Run, Target, UserVerdict};
+use tc_entry::{Args, Comp, Entry, Group, NoMemory, Op, Reply, Run, Target, UserVerdict};
 use tc_table::replay_check;
 
 /// A sequence of numbers that a seed determines.
@@ -38,7 +38,7 @@ fn verdict(random: &mut Random) -> UserVerdict {
     }
 }
 
-/// Mostly one component that may exist.
+/// Mostly one of the first components.
 fn target(random: &mut Random, comps: u32, main: bool) -> Target {
     match random.below(8) {
         0 if main => Target::Any,
@@ -59,62 +59,132 @@ fn ask<R: Wait>(rt: &R, pass: &mut Pass, random: &mut Random, target: Target) ->
     }
 }
 
-/// A call that may change the state of components, or wait for a change.
-fn act<R: Wait>(rt: &R, pass: &mut Pass, random: &mut Random, target: Target) -> Result<(), Halt> {
-    match random.below(5) {
+/// Halts one of the components up to this one. The first is only stopped, since further runs are started on it.
+fn halt<R: Wait>(rt: &R, pass: &mut Pass, random: &mut Random, most: u32) -> Result<(), Halt> {
+    let comp = Comp(1 + random.below(most.max(1)));
+    if comp == Comp(1) || random.below(2) == 0 {
+        pass.stop(rt, Group::One(comp))
+    } else {
+        pass.kill(rt, Group::One(comp))
+    }
+}
+
+/// A call that changes the state of components, or waits for a change. No component above the most is halted.
+fn act<R: Wait>(
+    rt: &R,
+    pass: &mut Pass,
+    random: &mut Random,
+    target: Target,
+    most: u32,
+) -> Result<(), Halt> {
+    match random.below(8) {
         0 => pass.create(rt, random.below(2) == 0).map(|_| ()),
-        1 => pass.stop(rt, Group::One(Comp(1 + random.below(63)))),
-        2 => pass.kill(rt, Group::One(Comp(1 + random.below(63)))),
-        3 => pass.wait_done(rt, target),
-        _ => pass.wait_killed(rt, target),
+        1 | 2 => halt(rt, pass, random, most),
+        3 => pass.wait_killed(rt, target),
+        _ => pass.wait_done(rt, target),
+    }
+}
+
+/// A call that is a dynamic error, whoever makes it.
+fn err<R: Wait>(rt: &R, pass: &mut Pass, random: &mut Random) -> Result<(), Halt> {
+    match random.below(3) {
+        0 => pass.stop(rt, Group::One(Comp(2_000))),
+        1 => pass.start(rt, Comp(0), Run(1), &Args::new()),
+        _ => pass.wait_done(rt, Target::One(Comp(2_000))),
     }
 }
 
 /// A behaviour of so many random calls.
-fn behave<R: Wait>(rt: &R, pass: &mut Pass, random: &mut Random, comps: u32, rounds: u32) {
-    for _ in 0..rounds {
+fn behave<R: Wait>(
+    rt: &R,
+    pass: &mut Pass,
+    random: &mut Random,
+    comps: u32,
+    most: u32,
+) -> Result<(), Halt> {
+    for _ in 0..40 {
         let target = target(random, comps, pass.run() == Run(0));
-        let answer = if random.below(10) < 8 {
-            ask(rt, pass, random, target)
+        if random.below(10) < 8 {
+            ask(rt, pass, random, target)?;
         } else {
-            act(rt, pass, random, target)
-        };
-        if answer.is_err() {
-            return;
+            act(rt, pass, random, target, most)?;
         }
     }
+    Ok(())
+}
+
+/// What a run above run 0 calls: it halts only components whose runs were started before it, and the last may err.
+fn follow<R: Wait>(
+    rt: &R,
+    pass: &mut Pass,
+    random: &mut Random,
+    behaviours: u16,
+) -> Result<(), Halt> {
+    let run = pass.run().0;
+    behave(rt, pass, random, u32::from(behaviours), u32::from(run))?;
+    if run == behaviours.saturating_sub(1) && random.below(2) == 0 {
+        return err(rt, pass, random);
+    }
+    Ok(())
 }
 
 /// The behaviour of a run other than run 0.
-fn work<R: Wait>(rt: &R, ticket: Ticket, seed: u64, comps: u32) -> Left {
+fn work<R: Wait>(rt: &R, ticket: Ticket, seed: u64, behaviours: u16) -> Left {
     let mut random = Random { state: seed };
     match ticket.await_start(rt) {
         Ok(mut pass) => {
-            behave(rt, &mut pass, &mut random, comps, 40);
+            let _ = follow(rt, &mut pass, &mut random, behaviours);
             pass.leave(rt)
         }
         Err(left) => left,
     }
 }
 
-/// The behaviour of run 0: a component for each run, some of them alive-type, and then random calls.
+/// Starts a run on its component, or each eighth anew on the first, whose run it stops.
+fn start_run<R: Wait>(
+    rt: &R,
+    pass: &mut Pass,
+    random: &mut Random,
+    run: u16,
+    behaviours: u16,
+) -> Result<(), Halt> {
+    let mut comp = Comp(u32::from(run));
+    if run % 8 == 0 {
+        comp = Comp(1);
+        pass.stop(rt, Group::One(comp))?;
+    }
+    let mut args = Args::new();
+    args.push(Comp(random.below(u32::from(behaviours))));
+    pass.start(rt, comp, Run(run), &args)
+}
+
+/// How run 0 ends: by itself, by an error, or after it halted all or waited for all.
+fn end<R: Wait>(rt: &R, pass: &mut Pass, random: &mut Random) -> Result<(), Halt> {
+    match random.below(5) {
+        0 => pass.stop(rt, Group::All),
+        1 => pass.kill(rt, Group::All),
+        2 => pass.wait_done(rt, Target::All),
+        3 => err(rt, pass, random),
+        _ => Ok(()),
+    }
+}
+
+/// The behaviour of run 0: all components, the first alive-type, then all starts, random calls and an end.
 fn lead<R: Wait>(
     rt: &R,
     pass: &mut Pass,
     random: &mut Random,
     behaviours: u16,
 ) -> Result<(), Halt> {
-    for run in 1..behaviours {
-        let comp = pass.create(rt, random.below(2) == 0)?;
-        let mut args = Args::new();
-        args.push(Comp(random.below(4)));
-        pass.start(rt, comp, Run(run), &args)?;
-        if random.below(8) == 0 {
-            pass.stop(rt, Group::One(comp))?;
-        }
+    for comp in 1..behaviours {
+        pass.create(rt, comp == 1 || random.below(2) == 0)?;
     }
-    behave(rt, pass, random, u32::from(behaviours), 40);
-    Ok(())
+    for run in 1..behaviours {
+        start_run(rt, pass, random, run, behaviours)?;
+    }
+    let comps = u32::from(behaviours);
+    behave(rt, pass, random, comps, comps.saturating_sub(1))?;
+    end(rt, pass, random)
 }
 
 fn start_workers<R: Threads + Wait + Copy + Send + 'static>(
@@ -125,11 +195,10 @@ fn start_workers<R: Threads + Wait + Copy + Send + 'static>(
     behaviours: u16,
 ) -> Result<Vec<JoinHandle<Left>>, NoMemory> {
     let rt = *rt;
-    let comps = u32::from(behaviours);
     let mut handles = Vec::new(alloc);
     for ticket in tickets {
         let seed = u64::from(random.below(1_000_000));
-        let Ok(handle) = thread::spawn(&rt, move || work(&rt, ticket, seed, comps)) else {
+        let Ok(handle) = thread::spawn(&rt, move || work(&rt, ticket, seed, behaviours)) else {
             return Err(NoMemory);
         };
         handles.push(handle)?;
@@ -167,15 +236,118 @@ fn run_case<R: Threads + Wait + Copy + Send + 'static>(
     close_case(rt, alloc, shared, lefts)
 }
 
+/// What the cases met.
+#[derive(Drop)]
+struct Met {
+    stops: usize,
+    kills: usize,
+    parked: usize,
+    restarts: usize,
+    faults: usize,
+}
+
+fn is_start_of_the_first(entry: &Entry) -> bool {
+    matches!(&entry.op, Op::Start { comp, .. } if *comp == Comp(1))
+        && matches!(entry.reply, Reply::Ok)
+}
+
+fn is_done_stop(entry: &Entry) -> bool {
+    matches!((&entry.op, entry.reply), (Op::Stop(_), Reply::Ok))
+}
+
+fn is_done_kill(entry: &Entry) -> bool {
+    matches!((&entry.op, entry.reply), (Op::Kill(_), Reply::Ok))
+}
+
+fn is_parked_wait(entry: &Entry) -> bool {
+    matches!((&entry.op, entry.reply), (Op::Wait { .. }, Reply::Parked))
+}
+
+fn is_fault(entry: &Entry) -> bool {
+    matches!(entry.reply, Reply::Fault(_))
+}
+
+impl Met {
+    fn new() -> Met {
+        Met {
+            stops: 0,
+            kills: 0,
+            parked: 0,
+            restarts: 0,
+            faults: 0,
+        }
+    }
+
+    /// What was met too seldom, if anything was.
+    fn shortage(&self) -> Option<&'static str> {
+        match self {
+            _ if self.stops < 200 => Some("stops"),
+            _ if self.kills < 100 => Some("kills"),
+            _ if self.parked < 400 => Some("parked waits"),
+            _ if self.restarts < 100 => Some("restarts"),
+            _ if self.faults < 12 => Some("dynamic errors"),
+            _ => None,
+        }
+    }
+
+    /// Counts what stands in a history.
+    fn count(&mut self, history: &[Entry]) {
+        let stops = history.iter().filter(|e| is_done_stop(e)).count();
+        let kills = history.iter().filter(|e| is_done_kill(e)).count();
+        let parked = history.iter().filter(|e| is_parked_wait(e)).count();
+        let starts = history.iter().filter(|e| is_start_of_the_first(e)).count();
+        let faults = history.iter().filter(|e| is_fault(e)).count();
+        self.stops = self.stops.saturating_add(stops);
+        self.kills = self.kills.saturating_add(kills);
+        self.parked = self.parked.saturating_add(parked);
+        self.restarts = self.restarts.saturating_add(starts.saturating_sub(1));
+        self.faults = self.faults.saturating_add(faults);
+    }
+}
+
+/// How many entries a case of so many behaviours has at least.
+fn least(behaviours: u16) -> usize {
+    if behaviours == 64 {
+        200
+    } else {
+        3 * usize::from(behaviours)
+    }
+}
+
+/// Whether nine of ten runs of a case were started.
+fn has_started(behaviours: u16, started: usize) -> bool {
+    usize::from(behaviours) * 9 <= started.saturating_mul(10)
+}
+
+/// What is wrong with a case, if anything is.
+fn complaint(alloc: Global, behaviours: u16, closed: &Closed) -> Option<&'static str> {
+    let history = closed.history.as_slice();
+    if replay_check(alloc, behaviours, history).ok() != Some(closed.verdict) {
+        return Some("it is replayed otherwise");
+    }
+    if !has_started(behaviours, closed.logs.as_slice().len()) {
+        return Some("it started too few runs");
+    }
+    if history.len() < least(behaviours) {
+        return Some("it has too few entries");
+    }
+    None
+}
+
+/// 40 cases, 10 of them of 64 behaviours, the others of 2 to 40; each starts all its runs. All together had, in two runs,
+/// 14,292 and 15,345 entries, 379 and 431 stops, 249 and 263 kills, 1,124 and 1,158 parked waits, 130 restarts and 38
+/// dynamic errors.
 #[test]
 fn random_cases_are_legal(rt: HostRuntime) -> Result<(), Fail> {
     let alloc = rt.alloc();
     let mut random = Random { state: 20_261_122 };
+    let mut met = Met::new();
     for case in 0..40u16 {
         let behaviours = if case % 4 == 0 { 64 } else { 1 + case };
         let closed = run_case(&rt, alloc, &mut random, behaviours)?;
-        let verdict = replay_check(alloc, behaviours, closed.history.as_slice())?;
-        assert_eq!(rt; verdict, closed.verdict);
+        assert_eq!(rt; complaint(alloc, behaviours, &closed), None, "case {case}");
+        met.count(closed.history.as_slice());
     }
+    assert_eq!(rt; met.shortage(), None);
     Ok(())
 }
