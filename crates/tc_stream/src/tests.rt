@@ -48,7 +48,7 @@ fn inputs_of_several_pieces(rt: HostRuntime) -> Result<(), Fail> {
 fn each_read_fails_in_turn(rt: HostRuntime) {
     for fails_at in 0..4 {
         let mut reader = SlowReader::new(b"abc", fails_at);
-        let answer = read_counted(rt.alloc(), &mut CountedReader::new(&mut reader), 3);
+        let answer = read_input(rt.alloc(), &mut reader, 3);
         assert_eq!(rt; answer, Err(InputFault::Read), "at {fails_at}");
         assert_eq!(rt; reader.reads, fails_at + 1);
     }
@@ -78,11 +78,16 @@ fn each_write_fails_in_turn(rt: HostRuntime) -> Result<(), Fail> {
 }
 
 #[test]
-fn writes_are_counted(rt: HostRuntime) {
+fn counted_calls(rt: HostRuntime) -> Result<(), Fail> {
+    let mut reader = SlowReader::new(b"abcd", NEVER);
+    let bytes = read_counted(rt.alloc(), &mut CountedReader::new(&mut reader), 4)?;
+    assert_eq!(rt; bytes.as_slice(), b"abcd".as_slice());
+    assert_eq!(rt; reader.reads, 5);
     let mut writer = NarrowWriter::new(rt.alloc(), NEVER, WriteFailure::Full);
     let answer = write_counted(&mut CountedWriter::new(&mut writer), b"abcd");
     assert_eq!(rt; answer, Ok(()));
     assert_eq!(rt; writer.writes, 4);
+    Ok(())
 }
 
 #[test]
