@@ -1,8 +1,8 @@
 //! Readers and writers for tests: each moves one byte at a time, and fails at one call.
-ghost use Rattle.std.specs.Prelude.{◌≡◌, ◌≢◌, ◌<◌, ◌≤◌, ◌+◌, ◌^◌, ◌↔◌, [], Some, Ok, IfOk, IfErr, IsErr, IsErrAnd, MatchResult, length, min};
+ghost use Rattle.std.specs.Prelude.{◌≡◌, ◌≢◌, ◌<◌, ◌≤◌, ◌+◌, ◌^◌, ◌↔◌, [], Some, Ok, IfOk, IfErr, IsErr, IsErrAnd, IsOk, MatchResult, length, min};
 ghost use Rattle.std.specs.Io.{ReadsAtMost, WritesAtMost};
 ghost use Rattle.std.specs.IoError.{error_kind};
-ghost use Rattle.std.specs.Io.KnownBytes.{ReadConsumes, WriteAppends};
+ghost use Rattle.std.specs.Io.KnownBytes.{Keeps, ReadConsumes, WriteAppends};
 
 use std::alloc::Global;
 use std::io;
@@ -134,7 +134,10 @@ impl Write for NarrowWriter {
         }
     }
 
-    fn flush(&mut self) -> io::Result<()> {
+    fn flush(&mut self) -> io::Result<()>
+        ensures bytes { Keeps (Some self.old.taken.items) (Some self.new.taken.items) }
+        ensures ok { IsOk result }
+    {
         Ok(())
     }
 }
