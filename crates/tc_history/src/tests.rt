@@ -1,8 +1,11 @@
 use super::*;
 use std::alloc::AllocGlobal;
 use std::process::Abort;
+use std::str;
 use std::test::Fail;
-use tc_entry::{Args, Comp, Entry, Fault, Name, Op, Reply, Run, Target, UserVerdict, Verdict};
+use tc_entry::{
+    Args, Comp, Entry, Fault, Group, Name, Op, Reply, Run, Target, UserVerdict, Verdict,
+};
 use tc_text::{TextFault, TextKind};
 
 fn entry(op: Op, reply: Reply) -> Entry {
@@ -175,5 +178,145 @@ fn lines_are_taken(rt: HostRuntime) -> Result<(), Fail> {
     assert!(rt; take_header_line(b"history 1 t_1 65\n").is_none());
     assert!(rt; take_end_line(b"end none \n").is_none());
     assert!(rt; take_entry_line(b"0 create -> made 1 \n").is_none());
+    Ok(())
+}
+
+// The longest name, and a name with one letter more.
+#[test]
+fn names_of_thirty_two_letters(rt: HostRuntime) -> Result<(), Fail> {
+    let longest = "abcdefghijklmnopqrstuvwxyz_01234";
+    assert_eq!(rt; longest.len(), 32);
+    let name = Name::read(longest).ok_or("a name")?;
+    let mut out = Vec::new(rt.alloc());
+    write_block(&mut out, &name, 1, &[], Verdict::None)?;
+    let text = format!(in rt.alloc(); "history 1 {longest} 1\nend none\n")?;
+    assert_eq!(rt; out.as_slice(), text.as_bytes());
+    let blocks = read_history(rt.alloc(), text.as_bytes()).map_err(|_| "a history")?;
+    let block = blocks.first().ok_or("a block")?;
+    assert!(rt; block.name.same(&name));
+    let text = format!(in rt.alloc(); "history 1 {longest}5 1\nend none\n")?;
+    is_refused(&rt, text.as_str(), 1, TextKind::FirstLine);
+    Ok(())
+}
+
+// The operations and their texts: each of the sixteen, and each of its forms once.
+fn operations() -> [(Op, &'static str); 20] {
+    let one = Target::One(Comp(4294967295));
+    let mut args = Args::new();
+    for comp in [0, 1, 2, 3] {
+        let _ = args.push(Comp(comp));
+    }
+    [
+        (Op::Create { alive: false }, "create"),
+        (Op::Create { alive: true }, "create alive"),
+        (
+            Op::Start {
+                comp: Comp(1),
+                run: Run(65535),
+                args,
+            },
+            "start 1 65535 0 1 2 3",
+        ),
+        (Op::Stop(Group::One(Comp(10))), "stop 10"),
+        (Op::Stop(Group::All), "stop all"),
+        (Op::Kill(Group::All), "kill all"),
+        (Op::Running(one), "running 4294967295"),
+        (Op::Alive(Target::Any), "alive any"),
+        (Op::Done(Target::All), "done all"),
+        (Op::Killed(one), "killed 4294967295"),
+        (
+            Op::Wait {
+                killed: false,
+                target: Target::Any,
+            },
+            "wait done any",
+        ),
+        (
+            Op::Wait {
+                killed: true,
+                target: one,
+            },
+            "wait killed 4294967295",
+        ),
+        (
+            Op::Wake {
+                killed: false,
+                target: Target::All,
+            },
+            "wake done all",
+        ),
+        (
+            Op::Wake {
+                killed: true,
+                target: Target::Any,
+            },
+            "wake killed any",
+        ),
+        (Op::SetVerdict(UserVerdict::None), "setverdict none"),
+        (Op::SetVerdict(UserVerdict::Pass), "setverdict pass"),
+        (Op::SetVerdict(UserVerdict::Inconc), "setverdict inconc"),
+        (Op::SetVerdict(UserVerdict::Fail), "setverdict fail"),
+        (Op::GetVerdict, "getverdict"),
+        (Op::Finish, "finish"),
+    ]
+}
+
+// The twenty replies and their texts.
+fn replies() -> [(Reply, &'static str); 20] {
+    [
+        (Reply::Made(Comp(4294967295)), "made 4294967295"),
+        (Reply::Ok, "ok"),
+        (Reply::Answer(true), "true"),
+        (Reply::Answer(false), "false"),
+        (Reply::Local(Verdict::None), "none"),
+        (Reply::Local(Verdict::Pass), "pass"),
+        (Reply::Local(Verdict::Inconc), "inconc"),
+        (Reply::Local(Verdict::Fail), "fail"),
+        (Reply::Local(Verdict::Error), "error"),
+        (Reply::Matched, "matched"),
+        (Reply::Parked, "parked"),
+        (Reply::Ended, "ended"),
+        (Reply::Fault(Fault::NoComponent), "error no-component"),
+        (Reply::Fault(Fault::NotMain), "error not-main"),
+        (Reply::Fault(Fault::StartMain), "error start-main"),
+        (Reply::Fault(Fault::AlreadyRunning), "error already-running"),
+        (Reply::Fault(Fault::NotStartable), "error not-startable"),
+        (Reply::Fault(Fault::NoBehaviour), "error no-behaviour"),
+        (Reply::Fault(Fault::TooMany), "error too-many"),
+        (Reply::Fault(Fault::Stuck), "error stuck"),
+    ]
+}
+
+// Each operation with each reply, 400 lines between the first and the last one: written, compared line by line, and read.
+#[test]
+fn lines_of_a_written_history(rt: HostRuntime) -> Result<(), Fail> {
+    let name = Name::read("t").ok_or("a name")?;
+    let operations = operations();
+    let replies = replies();
+    let mut entries = Vec::new(rt.alloc());
+    for (op, _) in operations.iter() {
+        for (reply, _) in replies.iter() {
+            entries.push(entry(op.copy(), *reply))?;
+        }
+    }
+    let mut out = Vec::new(rt.alloc());
+    write_block(&mut out, &name, 64, entries.as_slice(), Verdict::Fail)?;
+    let text = str::from_utf8(out.as_slice()).map_err(|_| "a text")?;
+    assert_eq!(rt; text.lines().count(), 402);
+    let mut lines = text.lines();
+    assert_eq!(rt; lines.next(), Some("history 1 t 64"));
+    for (_, op) in operations.iter() {
+        for (_, reply) in replies.iter() {
+            let wanted = format!(in rt.alloc(); "0 {op} -> {reply}")?;
+            assert_eq!(rt; lines.next(), Some(wanted.as_str()));
+        }
+    }
+    assert_eq!(rt; lines.next(), Some("end fail"));
+    let blocks = read_history(rt.alloc(), out.as_slice()).map_err(|_| "a history")?;
+    let block = blocks.first().ok_or("a block")?;
+    assert_eq!(rt; block.entries.as_slice().len(), 400);
+    for (read, written) in block.entries.as_slice().iter().zip(entries.as_slice()) {
+        assert!(rt; read.same(written));
+    }
     Ok(())
 }

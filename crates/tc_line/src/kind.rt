@@ -1,10 +1,12 @@
-ghost use Rattle.std.specs.Prelude.{◌≡◌};
-ghost use Rattle.tc_line.specs.ScriptKind.{kind_text};
+ghost use Rattle.std.specs.Prelude.{◌≡◌, Some};
+ghost use Rattle.tc_line.specs.ScriptKind.{fault_text, kind_text};
 
 use std::alloc::{AllocError, AllocFailed};
+use std::fmt;
+use thiserror::Error;
 
 /// What is wrong with a line of a script, in the order in which a line is judged.
-#[derive(Clone, Copy, Debug, PartialEq, Eq)]
+#[derive(Clone, Copy, Debug, PartialEq, Eq, Error)]
 pub enum ScriptKind {
     /// A byte outside 32 to 126.
     BadByte,
@@ -51,13 +53,32 @@ impl ScriptKind {
     }
 }
 
+impl fmt::Display for ScriptKind {
+    ghost output = { λ k. Some (kind_text k) };
+
+    fn fmt<W: fmt::Write>(&self, f: &mut fmt::Formatter<W>) -> fmt::Result {
+        f.write_str(self.text())
+    }
+}
+
 /// Why a line could not be read.
-#[derive(Debug, Drop)]
+#[derive(Debug, Drop, Error)]
 pub enum LineFault {
     /// What is wrong with the line.
     Kind(ScriptKind),
     /// Memory was refused.
     NoMemory,
+}
+
+impl fmt::Display for LineFault {
+    ghost output = { λ x. Some (fault_text x) };
+
+    fn fmt<W: fmt::Write>(&self, f: &mut fmt::Formatter<W>) -> fmt::Result {
+        match self {
+            LineFault::Kind(kind) => f.write_str(kind.text()),
+            LineFault::NoMemory => f.write_str("no memory"),
+        }
+    }
 }
 
 impl From<ScriptKind> for LineFault {

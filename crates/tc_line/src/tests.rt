@@ -112,8 +112,44 @@ fn a_start_and_its_words(rt: HostRuntime) {
     }
 }
 
+// The longest name, and a name with one letter more, in each of the sixteen places of a name.
 #[test]
-fn texts_of_the_kinds(rt: HostRuntime) {
+fn names_of_thirty_two_letters(rt: HostRuntime) -> Result<(), Fail> {
+    let places = [
+        ("testcase ", ""),
+        ("behaviour ", ""),
+        ("behaviour b p ", " q"),
+        ("create ", ""),
+        ("create ", " alive"),
+        ("start ", " b"),
+        ("start p ", ""),
+        ("start p b ", " mtc"),
+        ("stop ", ""),
+        ("kill ", ""),
+        ("running ", ""),
+        ("alive ", ""),
+        ("done ", ""),
+        ("killed ", ""),
+        ("wait done ", ""),
+        ("wait killed ", ""),
+    ];
+    let longest = "abcdefghijklmnopqrstuvwxyz_01234";
+    assert_eq!(rt; longest.len(), 32);
+    for (before, behind) in places {
+        let line = format!(in rt.alloc(); "{before}{longest}{behind}")?;
+        assert_eq!(rt; kind_of(&rt, line.as_str()), None, "{line}");
+        let line = format!(in rt.alloc(); "{before}{longest}5{behind}")?;
+        assert_eq!(rt;
+            kind_of(&rt, line.as_str()),
+            Some(ScriptKind::BadName),
+            "{line}"
+        );
+    }
+    Ok(())
+}
+
+#[test]
+fn texts_of_the_kinds(rt: HostRuntime) -> Result<(), Fail> {
     let texts = [
         (ScriptKind::BadByte, "byte not allowed"),
         (ScriptKind::BadLine, "line not understood"),
@@ -132,5 +168,11 @@ fn texts_of_the_kinds(rt: HostRuntime) {
     ];
     for (kind, text) in texts {
         assert_eq!(rt; kind.text(), text);
+        assert_eq!(rt; kind.to_string(rt.alloc())?.as_str(), text);
+        let fault = LineFault::Kind(kind).to_string(rt.alloc())?;
+        assert_eq!(rt; fault.as_str(), text);
     }
+    let refused = LineFault::NoMemory.to_string(rt.alloc())?;
+    assert_eq!(rt; refused.as_str(), "no memory");
+    Ok(())
 }

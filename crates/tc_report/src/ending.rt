@@ -3,6 +3,7 @@ ghost use Rattle.std.specs.Prelude.{◌≡◌, ◌++◌, OnOk, OnErr, IfOk};
 ghost use Rattle.std.specs.Io.{StartsWith};
 ghost use Rattle.tc_report.specs.Ending.{abort_text, aborted_text, ending_line, is_aborted, refusal_text as spec_refusal};
 
+use crate::fault::OutFault;
 use crate::results::{CampaignEnd, Results};
 use tc_entry::{Name, NoMemory};
 use tc_exec::CaseError;
@@ -14,7 +15,7 @@ fn refusal_text(why: CaseError) -> &'static str
     match why {
         CaseError::NoBehaviours => "no behaviours",
         CaseError::TooManyBehaviours => "too many behaviours",
-        CaseError::NoMemory => "no memory",
+        CaseError::NoMemory => OutFault::NoMemory.text(),
         CaseError::NoThread => "no thread",
         CaseError::Torn => "torn",
     }

@@ -1,17 +1,39 @@
 //! Why a text did not go out whole.
+ghost use Rattle.std.specs.Prelude.{◌≡◌, Some};
+ghost use Rattle.tc_report.specs.Output.{out_text};
+
+use std::fmt;
 use tc_entry::NoMemory;
-use tc_stream::WriteFault;
+use tc_stream::{InputFault, WriteFault};
 use thiserror::Error;
 
 /// Why a text did not go out whole.
 #[derive(Clone, Copy, Debug, PartialEq, Eq, Error)]
 pub enum OutFault {
     /// Memory was refused; nothing was written.
-    #[error("no memory")]
     NoMemory,
     /// The writer failed, or took no byte; what was written is a prefix of the text.
-    #[error("write fault")]
     Write,
+}
+
+impl OutFault {
+    /// The words that name the fault.
+    pub fn text(self) -> &'static str
+        ensures { result.now ≡ out_text self }
+    {
+        match self {
+            OutFault::NoMemory => InputFault::NoMemory.text(),
+            OutFault::Write => WriteFault.text(),
+        }
+    }
+}
+
+impl fmt::Display for OutFault {
+    ghost output = { λ f. Some (out_text f) };
+
+    fn fmt<W: fmt::Write>(&self, f: &mut fmt::Formatter<W>) -> fmt::Result {
+        f.write_str(self.text())
+    }
 }
 
 impl From<NoMemory> for OutFault {

@@ -6,12 +6,12 @@ ghost use Rattle.tc_report.specs.Histories.{case_history, histories_text};
 ghost use Rattle.tc_report.specs.Output.{LeavesPrefix};
 
 use crate::fault::OutFault;
+use crate::output::write_made;
 use crate::results::{Finished, Results};
 use std::alloc::Global;
 use std::io::Write;
 use tc_entry::NoMemory;
 use tc_history::write_block;
-use tc_stream::write_whole;
 
 // Appends the history of a finished test case.
 fn append_history(out: &mut Vec<u8>, case: &Finished) -> Result<(), NoMemory>
@@ -48,6 +48,5 @@ pub fn write_history<W: Write>(
 {
     let mut text = Vec::new(alloc);
     append_histories(&mut text, results.finished.as_slice())?;
-    write_whole(writer, text.as_slice())?;
-    Ok(())
+    write_made(writer, text.as_slice())
 }

@@ -5,6 +5,7 @@ mod counts;
 mod ending;
 mod fault;
 mod histories;
+mod output;
 mod records;
 mod report;
 mod results;

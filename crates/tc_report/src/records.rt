@@ -10,12 +10,12 @@ ghost use Rattle.tc_report.specs.Writing.{IsBetweenRecords, IsStarted, written_b
 
 use crate::counts::count_of;
 use crate::fault::OutFault;
+use crate::output::write_made;
 use crate::results::{Finished, Results};
 use csv::{ByteRecord, Writer, WriterBuilder};
 use std::alloc::Global;
 use std::io::Write;
 use tc_entry::{NoMemory, Verdict};
-use tc_stream::write_whole;
 use tc_verdict::name as name_of;
 
 // Adds a field, the number.
@@ -108,6 +108,5 @@ pub fn write_csv<W: Write>(alloc: Global, results: &Results, writer: &mut W) -> 
     ensures part { IfErr result (λ fault. LeavesPrefix (W.contents writer.old) (W.contents writer.new) (csv_text results.now) fault) }
 {
     let text = records(alloc, results)?;
-    write_whole(writer, text.as_slice())?;
-    Ok(())
+    write_made(writer, text.as_slice())
 }

@@ -11,12 +11,12 @@ ghost use Rattle.std.specs.Fmt.{decimal};
 use crate::counts::tally;
 use crate::ending::append_ending;
 use crate::fault::OutFault;
+use crate::output::write_made;
 use crate::results::{Finished, Results, Tally};
 use std::alloc::Global;
 use std::io::Write;
 use tc_book::RunLog;
 use tc_entry::{Entry, Name, NoMemory, Op, Reply, Run, Verdict};
-use tc_stream::write_whole;
 use tc_text::{append_number, append_text, write_op, write_reply};
 use tc_verdict::name as name_of;
 
@@ -205,6 +205,5 @@ pub fn write_text<W: Write>(
 {
     let mut text = Vec::new(alloc);
     append_report(&mut text, results)?;
-    write_whole(writer, text.as_slice())?;
-    Ok(())
+    write_made(writer, text.as_slice())
 }

@@ -8,3 +8,4 @@ pub mod Counts
 pub mod Passing
 pub mod Building
 pub mod Law
+pub mod Fault

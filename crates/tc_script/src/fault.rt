@@ -1,21 +1,47 @@
+ghost use Rattle.std.specs.Prelude.{◌++◌, Some, codes};
+ghost use Rattle.tc_script.specs.Fault.{fault_text, read_fault_text};
+
 use std::alloc::{AllocError, AllocFailed};
-use tc_line::ScriptKind;
+use std::fmt;
+use tc_line::{LineFault, ScriptKind};
+use thiserror::Error;
 
 /// The first fault of a script.
-#[derive(Clone, Copy, Debug, PartialEq, Eq)]
+#[derive(Clone, Copy, Debug, PartialEq, Eq, Error)]
 pub struct ScriptFault {
     /// The number of the line, from 1.
     pub line: usize,
     pub kind: ScriptKind,
 }
 
+impl fmt::Display for ScriptFault {
+    ghost output = { λ x. Some (fault_text x) };
+
+    fn fmt<W: fmt::Write>(&self, f: &mut fmt::Formatter<W>) -> fmt::Result {
+        let line = self.line;
+        let kind = self.kind;
+        write!(f, "line {line}: {kind}")
+    }
+}
+
 /// Why a script could not be read.
-#[derive(Debug, Drop)]
+#[derive(Debug, Drop, Error)]
 pub enum ReadFault {
     /// It spells no campaign.
     Script(ScriptFault),
     /// Memory was refused.
     NoMemory,
+}
+
+impl fmt::Display for ReadFault {
+    ghost output = { λ x. Some (read_fault_text x) };
+
+    fn fmt<W: fmt::Write>(&self, f: &mut fmt::Formatter<W>) -> fmt::Result {
+        match self {
+            ReadFault::Script(fault) => fault.fmt(f),
+            ReadFault::NoMemory => LineFault::NoMemory.fmt(f),
+        }
+    }
 }
 
 impl From<AllocError> for ReadFault {

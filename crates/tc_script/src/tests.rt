@@ -115,16 +115,23 @@ fn lines_in(text: &[u8]) -> usize {
     text.iter().filter(|byte| **byte == b'\n').count()
 }
 
+// All 423 prefixes of the stored script: four are accepted, the last line of 240 is of no form, and 179 end too early.
 #[test]
 fn prefixes_of_a_script(rt: HostRuntime) -> Result<(), Fail> {
     let mut accepted = Vec::new(rt.alloc());
+    let mut misread = 0u64;
+    let mut cut = 0u64;
     for length in 0..=STORED.len() {
         let text = &STORED[..length];
         let ended = lines_in(text);
         match fault_of(&rt, text) {
             None => accepted.push(length)?,
-            Some((line, ScriptKind::BadLine)) => assert!(rt; ended < line && line - ended == 1),
+            Some((line, ScriptKind::BadLine)) => {
+                misread = misread.saturating_add(1);
+                assert!(rt; ended < line && line - ended == 1);
+            }
             Some((line, kind)) => {
+                cut = cut.saturating_add(1);
                 assert_eq!(rt; kind, ScriptKind::Cut);
                 let is_cut_in_line = !matches!(text, [] | [.., b'\n']);
                 assert!(rt; ended < line && line - ended == if is_cut_in_line { 2 } else { 1 });
@@ -140,6 +147,7 @@ fn prefixes_of_a_script(rt: HostRuntime) -> Result<(), Fail> {
     assert_eq!(rt; lines_in(&STORED[..*second]), 13);
     assert!(rt; *first < *second && *second - *first == 1);
     assert!(rt; *third == STORED.len() - 1 && *fourth == STORED.len());
+    assert_eq!(rt; (misread, cut), (240, 179));
     Ok(())
 }
 
@@ -322,6 +330,64 @@ fn the_first_group_of_faults_comes_first(rt: HostRuntime) {
     is_refused(&rt, "testcase t\ntestcase u\n", 2, ScriptKind::BadPlace);
 }
 
+#[test]
+fn texts_of_the_faults(rt: HostRuntime) -> Result<(), Fail> {
+    let fault = ScriptFault {
+        line: 1003,
+        kind: ScriptKind::TooMany,
+    };
+    assert_eq!(rt;
+        fault.to_string(rt.alloc())?.as_str(),
+        "line 1003: too many"
+    );
+    let told = ReadFault::Script(fault).to_string(rt.alloc())?;
+    assert_eq!(rt; told.as_str(), "line 1003: too many");
+    let told = ReadFault::NoMemory.to_string(rt.alloc())?;
+    assert_eq!(rt; told.as_str(), "no memory");
+    Ok(())
+}
+
+/// A script whose five names have 32 letters each, but for one that has a letter more.
+fn long_names<R: Abort + AllocGlobal>(rt: &R, longer: usize) -> Result<String, Fail> {
+    let mut names = Vec::new(rt.alloc());
+    for (place, first) in ["t", "m", "p", "w", "b"].iter().enumerate() {
+        let more = if place == longer { "x" } else { "" };
+        names.push(format!(in rt.alloc(); "{first}xxxxxxxxxxxxxxxxxxxxxxxxxxxxxxx{more}")?)?;
+    }
+    let [case, main, made, worker, boss] = names.as_slice() else {
+        panic!(rt; "{}", names.len());
+    };
+    Ok(format!(in rt.alloc();
+        "testcase {case}\nbehaviour {main}\ncreate {made}\nstart {made} {worker} {made}\nend\nbehaviour {worker} {boss}\nstop {boss}\nend\nend\n"
+    )?)
+}
+
+// A name with 33 letters is refused in the line where it first stands, and names with 32 letters are read whole.
+#[test]
+fn names_of_exactly_thirty_two_letters(rt: HostRuntime) -> Result<(), Fail> {
+    for (longer, line) in [1, 2, 3, 4, 6].iter().enumerate() {
+        let text = long_names(&rt, longer)?;
+        is_refused(&rt, text.as_str(), *line, ScriptKind::BadName);
+    }
+    let text = long_names(&rt, 5)?;
+    let Ok(mut campaign) = read_campaign(rt.alloc(), text.as_bytes()) else {
+        panic!(rt; "{text}");
+    };
+    let (name, mut case) = campaign.take_first().ok_or("a test case")?;
+    assert_eq!(rt;
+        name.bytes(),
+        b"txxxxxxxxxxxxxxxxxxxxxxxxxxxxxxx".as_slice()
+    );
+    let main = script_of(&rt, &mut case, "mxxxxxxxxxxxxxxxxxxxxxxxxxxxxxxx", 0, 2).ok_or("main")?;
+    let worker = script_of(&rt, &mut case, "wxxxxxxxxxxxxxxxxxxxxxxxxxxxxxxx", 1, 1).ok_or("w")?;
+    assert_eq!(rt; main.steps().first(), Some(&Step::Create { alive: false }));
+    assert_eq!(rt;
+        worker.steps().first(),
+        Some(&Step::Stop(GroupPlace::One(Place::Bound(0))))
+    );
+    Ok(())
+}
+
 fn many<R: Abort + AllocGlobal>(
     rt: &R,
     cases: usize,
@@ -345,6 +411,7 @@ fn many<R: Abort + AllocGlobal>(
     Ok(fault_of(rt, text.as_slice()))
 }
 
+// Each limit met, and passed by one; the largest script has 64,000 behaviours.
 #[test]
 fn limits_of_a_script(rt: HostRuntime) -> Result<(), Fail> {
     assert_eq!(rt; many(&rt, 1, 1, 1000)?, None);

@@ -1,8 +1,10 @@
 //! Readers and writers for tests: each moves one byte at a time, and fails at one call.
-ghost use Rattle.std.specs.Prelude.{◌≡◌, ◌≢◌, ◌<◌, ◌+◌, ◌^◌, ◌↔◌, [], Some, IfOk, IsErr};
+ghost use Rattle.std.specs.Prelude.{◌≡◌, ◌≢◌, ◌<◌, ◌≤◌, ◌+◌, ◌^◌, ◌↔◌, [], Some, Ok, IfOk, IfErr, IsErr, IsErrAnd, IsOk, MatchResult, length, min};
 ghost use Rattle.std.specs.Io.{ReadsAtMost, WritesAtMost};
-ghost use Rattle.std.specs.Io.KnownBytes.{ReadConsumes, WriteAppends};
+ghost use Rattle.std.specs.IoError.{error_kind};
+ghost use Rattle.std.specs.Io.KnownBytes.{Keeps, ReadConsumes, WriteAppends};
 
+use std::alloc::Global;
 use std::io;
 use std::io::{Error, ErrorKind, Read, Write};
 
@@ -17,6 +19,21 @@ pub struct SlowReader<'a> {
     pub fails_at: usize,
 }
 
+impl<'a> SlowReader<'a> {
+    /// Gives these bytes, and fails at the read of that number.
+    pub fn new(bytes: &'a [u8], fails_at: usize) -> SlowReader<'a>
+        ensures rest { result.rest.now ≡ bytes.now }
+        ensures reads { result.reads ≡ 0 }
+        ensures fails_at { result.fails_at ≡ fails_at }
+    {
+        SlowReader {
+            rest: bytes,
+            reads: 0,
+            fails_at,
+        }
+    }
+}
+
 impl Read for SlowReader<'_> {
     ghost remaining = { λ r. Some r.rest.now };
 
@@ -24,7 +41,9 @@ impl Read for SlowReader<'_> {
     fn read(&mut self, buf: &mut [u8]) -> io::Result<usize>
         ensures bound { ReadsAtMost result buf.new }
         ensures bytes { ReadConsumes (Some self.old.rest.now) (Some self.new.rest.now) result buf.new }
+        ensures one { IfOk result (λ n. n ≤ 1) }
         ensures fails { IsErr result ↔ (self.old.reads ≡ self.old.fails_at) }
+        ensures kind { IfErr result (λ e. error_kind e ≡ ErrorKind.Interrupted) }
         ensures counted { self.old.reads + 1 < 2 ^ 64 → self.new.reads ≡ self.old.reads + 1 }
         ensures same { self.new.fails_at ≡ self.old.fails_at }
     {
@@ -69,16 +88,34 @@ pub struct NarrowWriter {
     pub failure: WriteFailure,
 }
 
+impl NarrowWriter {
+    /// Takes bytes into an empty vector, and fails so at the write of that number.
+    pub fn new(alloc: Global, fails_at: usize, failure: WriteFailure) -> NarrowWriter
+        ensures taken { result.taken.items ≡ [] }
+        ensures writes { result.writes ≡ 0 }
+        ensures fails_at { result.fails_at ≡ fails_at }
+        ensures failure { result.failure ≡ failure }
+    {
+        NarrowWriter {
+            taken: Vec::new(alloc),
+            writes: 0,
+            fails_at,
+            failure,
+        }
+    }
+}
+
 impl Write for NarrowWriter {
     ghost contents = { λ w. Some w.taken.items };
 
     fn write(&mut self, buf: &[u8]) -> io::Result<usize>
         ensures bound { WritesAtMost result buf.now }
         ensures bytes { WriteAppends (Some self.old.taken.items) (Some self.new.taken.items) result buf.now }
-        ensures fails { self.old.writes ≡ self.old.fails_at → self.new.taken.items ≡ self.old.taken.items }
-        ensures takes { self.old.writes ≢ self.old.fails_at → IfOk result (λ n. n ≡ 0 → buf.now ≡ []) }
+        ensures takes { self.old.writes ≢ self.old.fails_at → MatchResult result (λ n. n ≡ min 1 (length buf.now)) (λ e. error_kind e ≡ ErrorKind.OutOfMemory) }
+        ensures broken { self.old.writes ≡ self.old.fails_at → self.old.failure ≡ WriteFailure.Broken → IsErrAnd result (λ e. error_kind e ≡ ErrorKind.BrokenPipe) }
+        ensures full { self.old.writes ≡ self.old.fails_at → self.old.failure ≡ WriteFailure.Full → result ≡ Ok 0 }
         ensures counted { self.old.writes + 1 < 2 ^ 64 → self.new.writes ≡ self.old.writes + 1 }
-        ensures same { self.new.fails_at ≡ self.old.fails_at }
+        ensures same { (self.new.fails_at ≡ self.old.fails_at) × (self.new.failure ≡ self.old.failure) }
     {
         let writes = self.writes;
         self.writes = writes.saturating_add(1);
@@ -97,7 +134,10 @@ impl Write for NarrowWriter {
         }
     }
 
-    fn flush(&mut self) -> io::Result<()> {
+    fn flush(&mut self) -> io::Result<()>
+        ensures bytes { Keeps (Some self.old.taken.items) (Some self.new.taken.items) }
+        ensures ok { IsOk result }
+    {
         Ok(())
     }
 }

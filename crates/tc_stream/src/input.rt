@@ -1,8 +1,11 @@
-ghost use Rattle.std.specs.Prelude.{◌≡◌, true, false, ◌<◌, ◌≤◌, ◌+◌, length, IfOk, OnOk, IfSome, vec_len, IsErrOf};
+ghost use Rattle.std.specs.Prelude.{◌≡◌, true, false, ◌<◌, ◌≤◌, ◌+◌, ◌^◌, ◌↔◌, length, Some, IfOk, OnOk, IfSome, vec_len, IsErrOf};
 ghost use Rattle.std.specs.Io.KnownBytes.{Consumes, IsAtEnd};
 ghost use Rattle.std.specs.Io.{StartsWith, appended_bytes};
+ghost use Rattle.tc_stream.specs.Fault.{input_text};
 
+use crate::counted::{CountedRead, CountedReader};
 use std::alloc::Global;
+use std::fmt;
 use std::io::Read;
 use thiserror::Error;
 
@@ -10,25 +13,53 @@ use thiserror::Error;
 #[derive(Clone, Copy, Debug, PartialEq, Eq, Error)]
 pub enum InputFault {
     /// There are more bytes than the limit.
-    #[error("input too long")]
     TooLong,
     /// The reader failed; an interrupted read counts as a failure.
-    #[error("read fault")]
     Read,
     /// Memory was refused.
-    #[error("no memory")]
     NoMemory,
 }
 
+impl InputFault {
+    /// The words that name the fault.
+    pub fn text(self) -> &'static str
+        ensures { result.now ≡ input_text self }
+    {
+        match self {
+            InputFault::TooLong => "input too long",
+            InputFault::Read => "read fault",
+            InputFault::NoMemory => "no memory",
+        }
+    }
+}
+
+impl fmt::Display for InputFault {
+    ghost output = { λ f. Some (input_text f) };
+
+    fn fmt<W: fmt::Write>(&self, f: &mut fmt::Formatter<W>) -> fmt::Result {
+        f.write_str(self.text())
+    }
+}
+
 // One read, whose bytes go behind those that are there. It says whether there were any.
-fn read_more<R: Read>(reader: &mut R, bytes: &mut Vec<u8>, limit: usize) -> Result<bool, InputFault>
-    requires { vec_len bytes.old ≤ limit }
+fn read_more<R: CountedRead>(
+    reader: &mut R,
+    bytes: &mut Vec<u8>,
+    limit: usize,
+) -> Result<bool, InputFault>
+    requires fits { vec_len bytes.old ≤ limit }
+    requires sound { R.has_failed reader.old ≡ false }
+    requires few { R.reads reader.old + 1 < 2 ^ 128 }
     ensures fits { OnOk result (vec_len bytes.new ≤ limit) }
     ensures grows { IfOk result (λ more. more ≡ true → vec_len bytes.old < vec_len bytes.new) }
     ensures keeps { OnOk result (StartsWith bytes.new.items bytes.old.items) }
     ensures takes { OnOk result (Consumes (R.remaining reader.old) (R.remaining reader.new) (appended_bytes bytes.old.items bytes.new.items)) }
     ensures end { IfOk result (λ more. more ≡ false → IsAtEnd (R.remaining reader.new)) }
     ensures long { IsErrOf result InputFault.TooLong → IfSome (R.remaining reader.old) (λ xs. limit < vec_len bytes.old + length xs) }
+    ensures counted { R.reads reader.new ≡ R.reads reader.old + 1 }
+    ensures failed { IsErrOf result InputFault.Read ↔ (R.has_failed reader.new ≡ true) }
+    ensures sound { OnOk result (R.has_failed reader.new ≡ false) }
+    ensures same { R.name reader.new ≡ R.name reader.old }
 {
     let mut chunk = [0u8; 8192];
     let Ok(count) = reader.read(&mut chunk) else {
@@ -43,9 +74,28 @@ fn read_more<R: Read>(reader: &mut R, bytes: &mut Vec<u8>, limit: usize) -> Resu
     Ok(count > 0)
 }
 
-/// All bytes to the end of the reader, at most `limit`.
-///
-/// Each read but the last gives a byte or more, so there are at most `limit + 2` reads.
+/// All bytes to the end of the reader, at most `limit`. `Read` is answered exactly where a read failed, which is then the last one.
+pub fn read_counted<R: CountedRead>(
+    alloc: Global,
+    reader: &mut R,
+    limit: usize,
+) -> Result<Vec<u8>, InputFault>
+    requires sound { R.has_failed reader.old ≡ false }
+    requires few { R.reads reader.old + limit + 1 < 2 ^ 128 }
+    ensures all { IfOk result (λ v. IfSome (R.remaining reader.old) (λ xs. v.items ≡ xs)) }
+    ensures end { OnOk result (IsAtEnd (R.remaining reader.new)) }
+    ensures fits { IfOk result (λ v. vec_len v ≤ limit) }
+    ensures long { IsErrOf result InputFault.TooLong → IfSome (R.remaining reader.old) (λ xs. limit < length xs) }
+    ensures counted { R.reads reader.new ≤ R.reads reader.old + limit + 1 }
+    ensures failed { IsErrOf result InputFault.Read ↔ (R.has_failed reader.new ≡ true) }
+    ensures same { R.name reader.new ≡ R.name reader.old }
+{
+    let mut bytes = Vec::new(alloc);
+    while read_more(reader, &mut bytes, limit)? {}
+    Ok(bytes)
+}
+
+/// All bytes to the end of the reader, at most `limit`, with at most `limit + 1` reads.
 pub fn read_input<R: Read>(
     alloc: Global,
     reader: &mut R,
@@ -56,7 +106,5 @@ pub fn read_input<R: Read>(
     ensures fits { IfOk result (λ v. vec_len v ≤ limit) }
     ensures long { IsErrOf result InputFault.TooLong → IfSome (R.remaining reader.old) (λ xs. limit < length xs) }
 {
-    let mut bytes = Vec::new(alloc);
-    while read_more(reader, &mut bytes, limit)? {}
-    Ok(bytes)
+    read_counted(alloc, &mut CountedReader::new(reader), limit)
 }

@@ -1,12 +1,14 @@
 //! Whole inputs and whole outputs, over any reader and any writer.
 #![tactic(auto)]
 
+mod counted;
 pub mod devices;
 mod input;
 mod output;
 
-pub use input::{InputFault, read_input};
-pub use output::{WriteFault, write_whole};
+pub use counted::{CountedRead, CountedReader, CountedWrite, CountedWriter};
+pub use input::{InputFault, read_counted, read_input};
+pub use output::{WriteFault, write_counted, write_whole};
 
 #[cfg(test)]
 mod tests;

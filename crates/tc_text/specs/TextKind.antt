@@ -1,7 +1,10 @@
--- What can be wrong with a line of a text.
-use Rattle.std.specs.Prelude.{ℕ, List, codes}
+-- The texts of faults.
+use Rattle.std.specs.Prelude.{ℕ, List, ◌++◌, codes}
+use Rattle.std.specs.Fmt.{decimal}
 use Rattle.tc_text.specs.declared.fault.TextKind.{TextKind}
 use Rattle.tc_text.specs.declared.fault.TextKind.TheVariants as K
+use Rattle.tc_text.specs.declared.fault.TextFault.{TextFault}
+use Rattle.tc_text.specs.declared.fault.TextFault.TheVariants as F
 
 -- the words that name a fault
 abbrev pub kind_text : TextKind → List ℕ
@@ -9,3 +12,8 @@ kind_text K.FirstLine = codes "bad first line"
 kind_text K.Move = codes "bad move"
 kind_text K.Entry = codes "bad entry"
 kind_text K.Early = codes "text ends too early"
+
+-- the line and the words of its fault
+abbrev pub fault_text : TextFault → List ℕ
+fault_text (F.At line kind) = codes "line " ++ (decimal line ++ (codes ": " ++ kind_text kind))
+fault_text F.NoMemory = codes "no memory"

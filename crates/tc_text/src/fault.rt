@@ -1,9 +1,12 @@
 //! What is wrong with a text.
-ghost use Rattle.std.specs.Prelude.{◌≡◌};
-ghost use Rattle.tc_text.specs.TextKind.{kind_text};
+ghost use Rattle.std.specs.Prelude.{◌≡◌, Some};
+ghost use Rattle.tc_text.specs.TextKind.{fault_text, kind_text};
+
+use std::fmt;
+use thiserror::Error;
 
 /// What is wrong with a line of a text.
-#[derive(Clone, Copy, PartialEq, Eq, Debug)]
+#[derive(Clone, Copy, PartialEq, Eq, Debug, Error)]
 pub enum TextKind {
     /// The first line of a list of moves or of a block is not as it should be.
     FirstLine,
@@ -29,11 +32,30 @@ impl TextKind {
     }
 }
 
+impl fmt::Display for TextKind {
+    ghost output = { λ k. Some (kind_text k) };
+
+    fn fmt<W: fmt::Write>(&self, f: &mut fmt::Formatter<W>) -> fmt::Result {
+        f.write_str(self.text())
+    }
+}
+
 /// Why a text was not read.
-#[derive(Clone, Copy, PartialEq, Eq, Debug)]
+#[derive(Clone, Copy, PartialEq, Eq, Debug, Error)]
 pub enum TextFault {
     /// The first fault: the number of its line, counted from 1, and its kind.
     At { line: usize, kind: TextKind },
     /// Memory was refused.
     NoMemory,
+}
+
+impl fmt::Display for TextFault {
+    ghost output = { λ x. Some (fault_text x) };
+
+    fn fmt<W: fmt::Write>(&self, f: &mut fmt::Formatter<W>) -> fmt::Result {
+        match self {
+            TextFault::At { line, kind } => write!(f, "line {line}: {kind}"),
+            TextFault::NoMemory => f.write_str("no memory"),
+        }
+    }
 }

@@ -311,11 +311,29 @@ fn numbers_and_words(rt: HostRuntime) -> Result<(), NoMemory> {
 }
 
 #[test]
-fn words_of_faults(rt: HostRuntime) {
-    assert_eq!(rt; TextKind::FirstLine.text(), "bad first line");
-    assert_eq!(rt; TextKind::Move.text(), "bad move");
-    assert_eq!(rt; TextKind::Entry.text(), "bad entry");
-    assert_eq!(rt; TextKind::Early.text(), "text ends too early");
+fn texts_of_the_faults(rt: HostRuntime) -> Result<(), Fail> {
+    for (kind, text, fault) in [
+        (
+            TextKind::FirstLine,
+            "bad first line",
+            "line 7: bad first line",
+        ),
+        (TextKind::Move, "bad move", "line 7: bad move"),
+        (TextKind::Entry, "bad entry", "line 7: bad entry"),
+        (
+            TextKind::Early,
+            "text ends too early",
+            "line 7: text ends too early",
+        ),
+    ] {
+        assert_eq!(rt; kind.text(), text);
+        assert_eq!(rt; kind.to_string(rt.alloc())?.as_str(), text);
+        let found = TextFault::At { line: 7, kind }.to_string(rt.alloc())?;
+        assert_eq!(rt; found.as_str(), fault);
+    }
+    let refused = TextFault::NoMemory.to_string(rt.alloc())?;
+    assert_eq!(rt; refused.as_str(), "no memory");
+    Ok(())
 }
 
 #[test]

@@ -24,8 +24,10 @@ fn give<W: Write>(
     }
 }
 
+// Each byte of the three texts is once the one that the writer fails at, in each way: over 800 writers.
 #[test]
 fn each_write_fails_in_turn(rt: HostRuntime) -> Result<(), Fail> {
+    let mut failures = 0u64;
     let mut finished = Vec::new(rt.alloc());
     finished.push(stuck_case(rt.alloc())?)?;
     let results = Results {
@@ -37,12 +39,7 @@ fn each_write_fails_in_turn(rt: HostRuntime) -> Result<(), Fail> {
         assert_eq!(rt; give(rt.alloc(), form, &results, &mut whole), Ok(()));
         for fails_at in 0..=whole.len() {
             for failure in [WriteFailure::Broken, WriteFailure::Full] {
-                let mut writer = NarrowWriter {
-                    taken: Vec::new(rt.alloc()),
-                    writes: 0,
-                    fails_at,
-                    failure,
-                };
+                let mut writer = NarrowWriter::new(rt.alloc(), fails_at, failure);
                 let answer = give(rt.alloc(), form, &results, &mut writer);
                 let wanted = if fails_at == whole.len() {
                     Ok(())
@@ -52,8 +49,23 @@ fn each_write_fails_in_turn(rt: HostRuntime) -> Result<(), Fail> {
                 assert_eq!(rt; answer, wanted);
                 let part = whole.as_slice().get(..fails_at).ok_or("a prefix")?;
                 assert_eq!(rt; writer.taken.as_slice(), part);
+                assert_eq!(rt; writer.writes, fails_at.saturating_add(1).min(whole.len()));
+                failures = failures.saturating_add(1);
             }
         }
+    }
+    assert!(rt; failures > 800, "{failures}");
+    Ok(())
+}
+
+#[test]
+fn texts_of_the_faults(rt: HostRuntime) -> Result<(), Fail> {
+    for (fault, text) in [
+        (OutFault::NoMemory, "no memory"),
+        (OutFault::Write, "write fault"),
+    ] {
+        assert_eq!(rt; fault.text(), text);
+        assert_eq!(rt; fault.to_string(rt.alloc())?.as_str(), text);
     }
     Ok(())
 }

@@ -1,0 +1,81 @@
+//! Cases that were really run, and their texts.
+use super::*;
+use std::str;
+use std::sync::Wait;
+use tc_book::{Halt, Pass};
+use tc_exec::{Back, Ending, Job, run_case};
+
+type Behaviour = Box<dyn FnOnce(Pass) -> Back + Send>;
+
+fn waits_alone<R: Wait>(rt: &R, pass: &mut Pass) -> Result<(), Halt> {
+    let comp = pass.create(rt, false)?;
+    pass.set_verdict(rt, UserVerdict::Pass)?;
+    pass.wait_done(rt, Target::One(comp))
+}
+
+fn stops_itself<R: Wait>(rt: &R, pass: &mut Pass) -> Result<(), Halt> {
+    let comp = pass.create(rt, true)?;
+    pass.kill(rt, Group::One(comp))?;
+    pass.killed(rt, Target::All)?;
+    pass.get_verdict(rt)?;
+    pass.stop(rt, Group::One(Comp(0)))
+}
+
+// The two cases have one behaviour each, so each has one history.
+#[test]
+fn histories_of_run_cases(rt: HostRuntime) -> Result<(), Fail> {
+    let alloc = rt.alloc();
+    let first: Behaviour = Box::new(alloc, move |pass: Pass| {
+        let mut pass = pass;
+        let _ = waits_alone(&rt, &mut pass);
+        Back {
+            pass,
+            ending: Ending::Returned,
+        }
+    })?;
+    let second: Behaviour = Box::new(alloc, move |pass: Pass| {
+        let mut pass = pass;
+        let _ = stops_itself(&rt, &mut pass);
+        Back {
+            pass,
+            ending: Ending::Returned,
+        }
+    })?;
+    let mut finished = Vec::new(alloc);
+    for (text, behaviour) in [("solo", first), ("stopped", second)] {
+        let jobs = vec![in alloc; Job::new(behaviour)]?;
+        finished.push(Finished {
+            name: name(text)?,
+            names: names(alloc, &["main"])?,
+            report: run_case(&rt, alloc, jobs, 64)?,
+        })?;
+    }
+    let results = Results {
+        finished: Sequence::new(finished),
+        ending: CampaignEnd::Complete,
+    };
+    let mut out = Vec::new(alloc);
+    assert_eq!(rt; write_history(alloc, &results, &mut out), Ok(()));
+    let wanted = "history 1 solo 1
+0 create -> made 1
+0 setverdict pass -> ok
+0 wait done 1 -> parked
+0 wake done 1 -> error stuck
+end error
+history 1 stopped 1
+0 create alive -> made 1
+0 kill 1 -> ok
+0 killed all -> true
+0 getverdict -> none
+0 stop 0 -> ok
+end none
+";
+    let text = str::from_utf8(out.as_slice()).map_err(|_| "a text")?;
+    let mut lines = text.lines();
+    for line in wanted.lines() {
+        assert_eq!(rt; lines.next(), Some(line));
+    }
+    assert_eq!(rt; lines.next(), None);
+    assert_eq!(rt; status_of(&results), 2);
+    Ok(())
+}
