@@ -17,3 +17,4 @@ pub mod Elsewhere
 pub mod Unchanged
 pub mod LawsOfHistories
 pub mod Quiet
+pub mod Standing

@@ -36,3 +36,9 @@ pub fn local_of_whole()
 pub fn quiet_wakes_nobody()
     ensures { laws.QuietWakesNobody }
 {}
+
+/// A history that a case's state stands for is legal.
+#[tactic(auto, using(crate::proofs::Standing::stands_legal))]
+pub fn stands_for_legal()
+    ensures { laws.StandsForLegal }
+{}
