@@ -28,12 +28,11 @@ def least(path):
 print('| subcommand | input | bytes | ms | times an ordinary one |')
 print('|---|---|---|---|---|')
 for subcommand, ordinary in ORDINARY.items():
-    base = min(least(folder / name) for name in ordinary)
     size = min((folder / name).stat().st_size for name in ordinary)
-    rows = []
+    times = {}
     for path in folder.glob(f'{subcommand}.*'):
         assert path.stat().st_size >= size * 0.9, f'{path.name} is too small'
-        time = least(path)
-        rows.append((time, path))
-    for time, path in sorted(rows, reverse=True):
-        print(f'| {subcommand} | {path.name.split(".")[1]} | {path.stat().st_size:,} | {time:.1f} | {time / base:.1f} |')
+        times[path.name] = least(path)
+    base = min(times[name] for name in ordinary)
+    for name, time in sorted(times.items(), key=lambda row: -row[1]):
+        print(f'| {subcommand} | {name.split(".")[1]} | {(folder / name).stat().st_size:,} | {time:.1f} | {time / base:.1f} |')
