@@ -1,4 +1,4 @@
-mod WorkedCases
+pub mod WorkedCases
 pub mod Numbers
 pub mod KeptLemmas
 pub mod Steps
