@@ -59,10 +59,10 @@ def many_cases(case, name='t', verdict='none', behaviours=64):
     return filled('', f'history 1 {name} {behaviours}\n' + entries_of(case) + f'end {verdict}\n', '', LIMITS['check'])
 
 
-def kills():
-    """Each Kill of all finds one component that it has to kill behind all that are killed."""
-    case = Case()
-    for _ in range(COMPONENTS):
+def kills(first=0):
+    """Each Kill of all finds one component that it has to kill behind all that are killed; so many are made before the first."""
+    case = Case().create(first)
+    for _ in range(COMPONENTS - first):
         case.create(1).add('0 kill all')
     return case
 
@@ -99,6 +99,7 @@ def inputs():
         yield subcommand, 'calls_of_nobody', one_case(subcommand, Case(), '1 finish', 'ended')
         yield subcommand, 'starts_by_nobody', one_case(subcommand, Case(), '9 start 9 9 1 2 3 4', 'ended')
     yield 'check', 'cases_of_kills', many_cases(kills())
+    yield 'check', 'cases_of_kills_of_many', many_cases(kills(220))
     yield 'check', 'cases_of_stops', many_cases(stops())
     yield 'check', 'cases_that_end', many_cases(Case().create(COMPONENTS).add('0 finish'))
     yield 'check', 'cases_of_a_fault', many_cases(Case().create(1).add('0 start 0 1', 'error start-main'), verdict='error')
