@@ -158,6 +158,7 @@ pub keeps_entry : (v k : Kept) (past : List Entry) (e : Entry) (states' : List C
     length runs' ≡ length v.runs → ((b : ℕ) (d : RunState) → b < length v.runs → get_or runs' b d ≡ next_run e b (get_or v.runs b d)) →
     over' ≡ (v.over || ends_case e) →
     IsKept v.behaviours (e ∷ past) states' runs' over'
+unfolding StandsFor
 keeps_entry v k past e states' runs' own over' same stands legal on none as_many changed as_many_runs changed_runs over_is =
     let kept : StandsFor v past = stands_by k v past (sym same) stands in
     let as_many_kept : length v.runs ≡ v.behaviours = kept.as_many_runs in

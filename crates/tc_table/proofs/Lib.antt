@@ -1,4 +1,4 @@
-mod WorkedCases
+pub mod WorkedCases
 pub mod Numbers
 pub mod KeptLemmas
 pub mod Steps
@@ -17,3 +17,4 @@ pub mod Elsewhere
 pub mod Unchanged
 pub mod LawsOfHistories
 pub mod Quiet
+pub mod Standing

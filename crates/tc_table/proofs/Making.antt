@@ -163,6 +163,7 @@ pub makes_entry : (v k : Kept) (past : List Entry) (e : Entry) (d : Comp) (state
     states' ≡ v.states ++ made_state (is_alive_create e.op) ∷ [] →
     length runs' ≡ length v.runs → ((b : ℕ) (w : RunState) → b < length v.runs → get_or runs' b w ≡ next_run e b (get_or v.runs b w)) →
     IsKept v.behaviours (e ∷ past) states' runs' v.over
+unfolding StandsFor
 makes_entry v k past e d states' runs' same stands legal made grown as_many_runs changed_runs =
     let kept : StandsFor v past = stands_by k v past (sym same) stands in
     let legal' : e.reply ≡ answer v.behaviours past e.caller.0 e.op = legal ∙ ap (λ (w : Kept). answer w.behaviours past e.caller.0 e.op) (sym same) in

@@ -127,6 +127,7 @@ module _ {n : ℕ} {past : List Entry} {states : List ComponentState} {runs : Li
 
 -- the same, as a call has it
 pub on_over : (over : Bool) (v k : Kept) (past : List Entry) → v ≡ k → over ≡ v.over → StandsFor k past → OnTrue over (IsAllOver k.behaviours past)
+unfolding StandsFor
 on_over true v k past same is kept = all_over_kept kept (sym (is ∙ ap (λ (w : Kept). w.over) same))
 on_over false v k past same is kept = tt
 

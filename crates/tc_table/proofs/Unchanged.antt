@@ -1,5 +1,5 @@
 -- A Stop of all where none is running, and a Kill of all where each is killed, leave the states as they are.
-use Rattle.std.proofs.Common.{ℕ, zero, suc, ◌≡◌, ◌≢◌, ◌<◌, ◌==◌, ◌&&◌, ◌||◌, not, if◌then◌else◌, Bool, true, false, Option, None, is_some, List, [], ◌∷◌, length, drop, get_or, refl, ap, sym, ◌∙◌, arith}
+use Rattle.std.proofs.Common.{ℕ, zero, suc, ◌≡◌, ◌≢◌, ◌+◌, ◌<◌, ◌≤◌, ◌==◌, ◌&&◌, ◌||◌, not, if◌then◌else◌, Bool, true, false, Option, None, is_some, List, [], ◌∷◌, length, drop, get_or, refl, ap, sym, ◌∙◌, arith}
 use Rattle.std.specs.List.{list_all}
 use Rattle.std.proofs.lemmas.Bool.Decides.{nat_tests}
 use Rattle.tc_verdict.specs.declared.verdict.Verdict.{Verdict}
@@ -19,7 +19,9 @@ use Rattle.tc_table.specs.Phases.{start_in}
 use Rattle.tc_table.specs.Status.{is_running, is_killed}
 use Rattle.tc_table.specs.Local.{gives, setting}
 use Rattle.tc_table.specs.Inside.States.{none_running, all_killed}
-use Rattle.tc_table.specs.Inside.Step.{next_state, next_phase, next_excused, next_local, halted, finds_none, changes_none, IsSettled}
+use Rattle.tc_table.specs.Inside.Step.{next_state, next_phase, next_excused, next_local, halted, finds_none, finds, IsSettled}
+use Rattle.std.proofs.lemmas.List.{get_or_default}
+use Rattle.tc_table.proofs.Lists.{mapped_past}
 use Rattle.tc_table.proofs.Elsewhere.{if_same}
 
 and_left : (a b : Bool) → (a && b) ≡ true → a ≡ true
@@ -144,9 +146,46 @@ quiet own caller (O.Stop (G.One i)) reply states c d ends none within = absurd c
 quiet own caller (O.Kill (G.One i)) reply states c d ends none within = absurd cc
 quiet own caller _ reply states c d ends none within = absurd cc
 
-pub none_found : (own : Option Comp) (e : Entry) (states : List ComponentState) → IsSettled states → changes_none e states ≡ true →
+pub none_found : (own : Option Comp) (e : Entry) (states : List ComponentState) → IsSettled states → ends_case e ≡ false → finds_none e.op states ≡ true →
     (c : ℕ) (d : ComponentState) → c < length states → get_or states c d ≡ next_state own e c (get_or states c d)
-none_found own e states settled h c d within =
-    sym (unchanged_if own e c (get_or states c d)
-    (quiet own e.caller e.op e.reply states c d (not_true (ends_case e) (and_left (not (ends_case e)) (finds_none e.op states) h)) (and_right (not (ends_case e)) (finds_none e.op states) h) within)
-    (settled.not_excused c d within))
+none_found own e states settled ends none c d within =
+    sym (unchanged_if own e c (get_or states c d) (quiet own e.caller e.op e.reply states c d ends none within) (settled.not_excused c d within))
+
+not_false : (a : Bool) → not a ≡ false → a ≡ true
+not_false true h = refl
+not_false false h = absurd cc
+
+not_found : (own : Option Comp) (caller : Run) (op : Op) (reply : Reply) (c : ℕ) (p : Phase) → ends_case (record { caller = caller; op = op; reply = reply }) ≡ false → finds op p ≡ false →
+    Quiet own (record { caller = caller; op = op; reply = reply }) c p
+not_found own caller (O.Stop G.All) reply c p ends none = record {
+  kill = λ k. let e : kills (record { caller = caller; op = O.Stop G.All; reply = reply }) c ≡ false = rw ends (and_no (not (is_ended reply))) in absurd cc;
+  halt = λ h. none;
+  start = if_same (is_ok reply) None;
+  given = gives_none (O.Stop G.All) reply false false false refl ends;
+}
+not_found own caller (O.Kill G.All) reply c p ends none = record {
+  kill = λ k. not_false (is_killed p) none;
+  halt = λ h. killed_is_still p (not_false (is_killed p) none);
+  start = if_same (is_ok reply) None;
+  given = gives_none (O.Kill G.All) reply false false false refl ends;
+}
+not_found own caller (O.Stop (G.One i)) reply c p ends none = absurd cc
+not_found own caller (O.Kill (G.One i)) reply c p ends none = absurd cc
+not_found own caller _ reply c p ends none = absurd cc
+
+-- a component that is not found stays as it is
+pub left_as_it_is : (own : Option Comp) (e : Entry) (states : List ComponentState) → IsSettled states → ends_case e ≡ false →
+    (c : ℕ) (d : ComponentState) → c < length states → finds e.op (get_or states c d).phase ≡ false → next_state own e c (get_or states c d) ≡ get_or states c d
+left_as_it_is own e states settled ends c d within none =
+    unchanged_if own e c (get_or states c d) (not_found own e.caller e.op e.reply c (get_or states c d).phase ends none) (settled.not_excused c d within)
+
+-- a pass goes by a component that is not found
+pub passed_by : (own : Option Comp) (e : Entry) (old xs : List ComponentState) (i : ℕ) (s : ComponentState) → IsSettled old → ends_case e ≡ false → length xs ≡ length old → i < length old →
+    ((k : ℕ) (d : ComponentState) → k < i → get_or xs k d ≡ next_state own e k (get_or old k d)) →
+    ((k : ℕ) (d : ComponentState) → i ≤ k → get_or xs k d ≡ get_or old k d) →
+    s ≡ get_or xs i s → finds e.op s.phase ≡ false →
+    (length xs ≡ length old) × ((k : ℕ) (d : ComponentState) → k < i + 1 → get_or xs k d ≡ next_state own e k (get_or old k d)) × ((k : ℕ) (d : ComponentState) → i + 1 ≤ k → get_or xs k d ≡ get_or old k d)
+passed_by own e old xs i s settled ends as_many within below above read none =
+    mapped_past (next_state own e) old xs i as_many below above (λ d.
+    let r : s ≡ get_or old i d = read ∙ (above i s (omega arith) ∙ get_or_default old i s d within) in
+    left_as_it_is own e old settled ends i d within (ap (λ (t : ComponentState). finds e.op t.phase) (sym r) ∙ none))

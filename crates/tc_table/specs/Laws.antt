@@ -15,6 +15,7 @@ use Rattle.tc_table.specs.Phases.{phase, was_killed, was_halted}
 use Rattle.tc_table.specs.Local.{gives, local}
 use Rattle.tc_table.specs.Answers.{answer}
 use Rattle.tc_table.specs.Legal.{IsLegal, IsAllOver}
+use Rattle.tc_table.specs.Standing.{Kept, StandsFor}
 
 -- after an entry that ends the case no component is alive, and every call is answered Ended
 abbrev pub OverForAll : Type 0
@@ -79,3 +80,7 @@ pub record WakesNobody (n : ℕ) (past : List Entry) (e : Entry) : Type 0 where
 abbrev pub QuietWakesNobody : Type 0
 QuietWakesNobody =
     (n : ℕ) (past : List Entry) (e : Entry) → IsLegal n (e ∷ past) → is_quiet e.op e.reply ≡ true → WakesNobody n past e
+
+-- a history that a state stands for is legal
+abbrev pub StandsForLegal : Type 0
+StandsForLegal = (k : Kept) (past : List Entry) → StandsFor k past → IsLegal k.behaviours past

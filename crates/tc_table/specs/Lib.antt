@@ -7,6 +7,7 @@ pub mod Faults
 pub mod Answers
 pub mod Legal
 pub mod Laws
+pub mod WorkedCases
 pub mod Check
 pub mod Case
 pub mod Standing

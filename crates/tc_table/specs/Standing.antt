@@ -1,4 +1,5 @@
--- What contracts see of a case's state, and the histories that it stands for.
+-- What contracts see of a case's state, and the histories that it stands for: a new state stands for no entries, a call
+-- adds its entry, and each answer is told of the entries. So nothing has to be known of what is kept.
 use Rattle.std.specs.Prelude.{ℕ, Bool, List}
 use Rattle.tc_entry.specs.declared.entry.Entry.{Entry}
 use Rattle.tc_table.specs.declared.component_state.ComponentState.{ComponentState}
@@ -13,5 +14,5 @@ pub record Kept : Type 0 where
   pub over : Bool
 
 -- this is what is kept after these entries, the newest first, each of whose replies is the table's
-abbrev pub StandsFor : Kept → List Entry → Type 0
+unfoldable pub StandsFor : Kept → List Entry → Type 0
 StandsFor k past = IsKept k.behaviours past k.states k.runs k.over

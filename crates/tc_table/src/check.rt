@@ -4,16 +4,20 @@ ghost use Rattle.tc_table.specs.Legal.{IsLegal};
 ghost use Rattle.tc_table.specs.Check.{IsFaultOf};
 ghost use Rattle.tc_table.specs.Local as verdicts;
 
-use crate::table::Table;
+use crate::state::CaseState;
 use std::alloc::Global;
 use tc_entry::{Entry, Reply};
 use tc_verdict::{NoMemory, Verdict};
+use thiserror::Error;
 
 /// Why a list was not found legal.
-#[derive(Debug, Drop)]
+#[derive(Clone, Copy, PartialEq, Eq, Debug, Error)]
 pub enum CheckFault {
-    /// The entry at this place has another reply than the table's.
+    /// The entry at this place, counted from 0, has another reply than the table's, which is given.
+    #[error("the entry at {at} has another reply than the table's")]
     Differs { at: usize, reply: Reply },
+    /// Memory was refused.
+    #[error("no memory")]
     NoMemory,
 }
 
@@ -41,12 +45,12 @@ pub fn replay_check(alloc: Global, behaviours: u16, list: &[Entry]) -> Result<Ve
     ensures legal { IfOk result (λ v. IsLegal behaviours (reverse list.now) × (v ≡ verdicts.overall (reverse list.now))) }
     ensures fault { IfErr result (λ f. IsFaultOf behaviours list.now f) }
 {
-    let mut table = Table::new(alloc, behaviours)?;
+    let mut state = CaseState::new(alloc, behaviours)?;
     for (at, entry) in list.iter().enumerate() {
-        let reply = table.play(entry.caller, entry.op.copy())?;
+        let reply = state.play(entry.caller, entry.op.copy())?;
         if !is_same(reply, entry.reply) {
             return Err(CheckFault::Differs { at, reply });
         }
     }
-    Ok(table.overall())
+    Ok(state.overall())
 }

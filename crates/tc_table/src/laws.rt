@@ -1,5 +1,6 @@
-//! Laws of legal histories: each function does nothing, and its contract is the law.
+//! Laws of legal histories, and the worked cases: each function does nothing, and its contract is the law.
 ghost use Rattle.tc_table.specs.Laws as laws;
+ghost use Rattle.tc_table.specs.WorkedCases.{WorkedCases};
 
 /// After an entry that ends the case no component is alive, and every further call is answered Ended.
 #[tactic(auto, using(crate::proofs::LawsOfHistories::over_for_all))]
@@ -35,4 +36,16 @@ pub fn local_of_whole()
 #[tactic(auto, using(crate::proofs::Quiet::quiet_wakes_nobody))]
 pub fn quiet_wakes_nobody()
     ensures { laws.QuietWakesNobody }
+{}
+
+/// A history that a case's state stands for is legal.
+#[tactic(auto, using(crate::proofs::Standing::stands_legal))]
+pub fn stands_for_legal()
+    ensures { laws.StandsForLegal }
+{}
+
+/// The worked cases: the replies and the verdict that the definitions give to each.
+#[tactic(auto, using(crate::proofs::WorkedCases::worked_cases))]
+pub fn worked_cases()
+    ensures { WorkedCases }
 {}

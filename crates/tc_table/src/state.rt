@@ -47,7 +47,7 @@ impl Model for CaseState {
     ghost invariant = { λ s. (past : List Entry) × IsKept s.behaviours past s.states s.runs.items s.over };
 }
 
-#[tactic(auto, using(crate::proofs::KeptLemmas::kept_rules, crate::proofs::KeptLemmas::group_rules))]
+#[tactic(auto, using(crate::proofs::KeptLemmas::kept_rules, crate::proofs::KeptLemmas::group_rules), unfolding(crate::specs::Standing::StandsFor))]
 impl CaseState {
     /// A case of so many behaviours, at its opening.
     pub fn new(alloc: Global, behaviours: u16) -> Result<CaseState, NoMemory>
@@ -80,7 +80,7 @@ impl CaseState {
     }
 
     /// The reply that `play` would give now.
-    #[tactic(auto, using(crate::proofs::KeptLemmas::kept_rules, crate::proofs::KeptLemmas::wait_rules), unfolding(crate::specs::Answers::answer, crate::specs::Faults::fault))]
+    #[tactic(auto, using(crate::proofs::KeptLemmas::kept_rules, crate::proofs::KeptLemmas::wait_rules), unfolding(crate::specs::Answers::answer, crate::specs::Faults::fault, crate::specs::Standing::StandsFor))]
     pub fn would(&self, caller: Run, op: &Op) -> Reply
         ensures { (past : List Entry) → StandsFor self.now past → result ≡ answers.answer self.now.behaviours past caller.0 op.now }
     {
@@ -118,7 +118,7 @@ impl CaseState {
     }
 
     /// The worst of the local verdicts.
-    #[tactic(auto, using(crate::proofs::KeptLemmas::overall_rules))]
+    #[tactic(auto, using(crate::proofs::KeptLemmas::overall_rules), unfolding(crate::specs::Standing::StandsFor))]
     pub fn overall(&self) -> Verdict
         ensures { (past : List Entry) → StandsFor self.now past → result ≡ verdicts.overall past }
     {
@@ -126,7 +126,7 @@ impl CaseState {
     }
 
     /// Whether the case is over.
-    #[tactic(auto, using(crate::proofs::Over::over_rules))]
+    #[tactic(auto, using(crate::proofs::Over::over_rules), unfolding(crate::specs::Standing::StandsFor))]
     pub fn is_over(&self) -> bool
         ensures is { (past : List Entry) → StandsFor self.now past → result ≡ history.is_over past }
         ensures after { (past : List Entry) → StandsFor self.now past → OnTrue result (legal.IsAllOver self.now.behaviours past) }

@@ -1,10 +1,11 @@
 //! What one more entry does to what is kept of components and runs.
-ghost use Rattle.std.specs.Prelude.{◌≡◌, ◌≢◌, ◌<◌, ℕ, length, slice_index_or};
+ghost use Rattle.std.specs.Prelude.{◌≡◌, ◌≢◌, ◌<◌, ℕ, false, length, slice_index_or};
+ghost use Rattle.tc_table.specs.History as history;
 ghost use Rattle.tc_table.specs.Local as verdicts;
 ghost use Rattle.tc_table.specs.Inside.Step as step;
 ghost use Rattle.tc_table.specs.declared.step.Scope.TheVariants as changed;
 
-use crate::component_state::{ComponentState, is_running};
+use crate::component_state::{ComponentState, is_killed, is_running};
 use crate::component_states::ComponentStates;
 use crate::entries::{
     ends_case, halts, halts_from_outside, is_comp, is_ended, kills, parks, start_in, started_run,
@@ -191,11 +192,31 @@ fn finds_none(op: &Op, states: &ComponentStates) -> bool
     }
 }
 
-/// Whether the entry is a call on all components that changes none of them.
-fn changes_none(entry: &Entry, states: &ComponentStates) -> bool
-    ensures { result ≡ step.changes_none entry.now states.now }
+/// Whether a call on all components finds one that is in this phase so that it would change it.
+fn finds(op: &Op, phase: Phase) -> bool
+    ensures { result ≡ step.finds op.now phase }
 {
-    !ends_case(entry) && finds_none(&entry.op, states)
+    match op {
+        Op::Stop(Group::All) => is_running(phase),
+        Op::Kill(Group::All) => !is_killed(phase),
+        _ => true,
+    }
+}
+
+/// The same, for a call on all components that does not end the case: it writes those alone that it finds.
+fn take_in_found(states: &mut ComponentStates, own: Option<Comp>, entry: &Entry)
+    requires settled { step.IsSettled states.old }
+    requires goes_on { history.ends_case entry.now ≡ false }
+    ensures as_many { length states.new ≡ length states.old }
+    ensures each { (c : ℕ) (d : ComponentState) → c < length states.old → slice_index_or states.new c d ≡ step.next_state own entry.now c (slice_index_or states.old c d) }
+{
+    let count = states.as_slice().len();
+    for i in 0..count {
+        let state = states.get(i);
+        if finds(&entry.op, state.phase) {
+            states.set(i, next_state(own, entry, i as u32, state));
+        }
+    }
 }
 
 /// The same, for an entry that may touch every component: it goes over them only where it may change one.
@@ -204,8 +225,10 @@ fn take_in_many(states: &mut ComponentStates, own: Option<Comp>, entry: &Entry)
     ensures as_many { length states.new ≡ length states.old }
     ensures each { (c : ℕ) (d : ComponentState) → c < length states.old → slice_index_or states.new c d ≡ step.next_state own entry.now c (slice_index_or states.old c d) }
 {
-    if !changes_none(entry, states) {
+    if ends_case(entry) {
         take_in_all(states, own, entry);
+    } else if !finds_none(&entry.op, states) {
+        take_in_found(states, own, entry);
     }
 }
 

@@ -38,6 +38,7 @@ impl Model for Table {
     ghost invariant = { λ t. StandsFor t.state (reverse t.history.items) };
 }
 
+#[tactic(auto, using(crate::proofs::Standing::stands_legal))]
 impl Table {
     /// A case of so many behaviours, at its opening.
     pub fn new(alloc: Global, behaviours: u16) -> Result<Table, NoMemory>

@@ -51,6 +51,49 @@ fn calls_on_a_table(rt: HostRuntime) -> Result<(), Fail> {
 }
 
 #[test]
+fn calls_on_a_state(rt: HostRuntime) -> Result<(), Fail> {
+    let mut state = CaseState::new(rt.alloc(), 2)?;
+    assert_eq!(rt; state.components(), 1);
+    assert_eq!(rt;
+        state.would(Run(0), &Op::Create { alive: false }),
+        Reply::Made(Comp(1))
+    );
+    let wait = Op::Wait {
+        killed: false,
+        target: Target::All,
+    };
+    let moves = [
+        (0, Op::Create { alive: false }, Reply::Made(Comp(1))),
+        (0, start(1, 1), Reply::Ok),
+        (0, wait, Reply::Parked),
+        (1, Op::SetVerdict(UserVerdict::Inconc), Reply::Ok),
+        (1, Op::SetVerdict(UserVerdict::Pass), Reply::Ok),
+        (1, Op::Finish, Reply::Ok),
+        (1, Op::GetVerdict, Reply::Ended),
+    ];
+    for (caller, op, reply) in moves {
+        assert_eq!(rt; state.would(Run(caller), &op), reply);
+        assert_eq!(rt; state.play(Run(caller), op)?, reply);
+    }
+    assert_eq!(rt; state.components(), 2);
+    assert_eq!(rt; state.phase_of(Comp(0)), Some(Phase::Running(Run(0))));
+    assert_eq!(rt; state.phase_of(Comp(1)), Some(Phase::Killed));
+    assert_eq!(rt; state.phase_of(Comp(2)), None);
+    assert_eq!(rt; state.local(Comp(0)), Some(Verdict::None));
+    assert_eq!(rt; state.local(Comp(1)), Some(Verdict::Inconc));
+    assert_eq!(rt; state.local(Comp(2)), None);
+    assert_eq!(rt; state.overall(), Verdict::Inconc);
+    assert!(rt; !state.is_over());
+    assert_eq!(rt;
+        state.play(Run(0), Op::Stop(Group::One(Comp(7))))?,
+        Reply::Fault(Fault::NoComponent)
+    );
+    assert!(rt; state.is_over());
+    assert_eq!(rt; state.overall(), Verdict::Error);
+    Ok(())
+}
+
+#[test]
 fn quiet_calls(rt: HostRuntime) -> Result<(), Fail> {
     let mut table = Table::new(rt.alloc(), 1)?;
     table.make_room(2)?;
@@ -87,6 +130,22 @@ fn replay_check_of_a_list(rt: HostRuntime) -> Result<(), Fail> {
     match replay_check(rt.alloc(), 1, &list) {
         Ok(verdict) => assert_eq!(rt; verdict, Verdict::None),
         Err(_) => panic!(rt; "a parked wait was not found legal"),
+    }
+    Ok(())
+}
+
+#[test]
+fn texts_of_a_check(rt: HostRuntime) -> Result<(), Fail> {
+    let list = [entry(Op::GetVerdict, Reply::Ok)];
+    let Err(differs) = replay_check(rt.alloc(), 1, &list) else {
+        panic!(rt; "a verdict call replied ok was found legal")
+    };
+    for (fault, text) in [
+        (differs, "the entry at 0 has another reply than the table's"),
+        (CheckFault::NoMemory, "no memory"),
+    ] {
+        let shown = format!(in rt.alloc(); "{fault}")?;
+        assert_eq!(rt; shown.as_str(), text);
     }
     Ok(())
 }

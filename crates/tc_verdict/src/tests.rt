@@ -1,4 +1,5 @@
 use super::*;
+use std::test::Fail;
 
 const ALL: [Verdict; 5] = [
     Verdict::None,
@@ -48,4 +49,11 @@ fn names_and_ranks_are_read_back(rt: HostRuntime) {
     assert_eq!(rt; of_rank(4), None);
     assert_eq!(rt; to_user(Verdict::Error), None);
     assert_eq!(rt; Run(7).copy(), Run(7));
+}
+
+#[test]
+fn text_of_a_refusal(rt: HostRuntime) -> Result<(), Fail> {
+    let text = format!(in rt.alloc(); "{NoMemory}")?;
+    assert_eq!(rt; text.as_str(), "no memory");
+    Ok(())
 }

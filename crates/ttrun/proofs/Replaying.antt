@@ -10,7 +10,7 @@ use Rattle.tc_text.specs.Lines.{lines_of}
 use Rattle.tc_text.proofs.SoFar.{SoFar, IsThatNumberOfBehaviours, IsThatMove, IsNoMove, begins, goes_on, bad_move, is_done}
 use Rattle.tc_stream.specs.Output.{AppendsPrefix}
 use Rattle.tc_table.specs.Standing.{Kept, StandsFor}
-use Rattle.tc_table.specs.Legal.{IsLegal}
+use Rattle.tc_table.proofs.Standing.{legal_for}
 use Rattle.tc_table.specs.Local.{overall}
 use Rattle.ttrun.specs.Output.{WritesPrefix}
 use Rattle.ttrun.specs.Replay.{move_of, next_entry, reply_line, verdict_line, IsReplayOf, Replays}
@@ -74,7 +74,7 @@ all_read text rest out out' n line k verdict before none is more =
       replayed = record {
         history = h;
         moves_are = refl;
-        legal = subst (λ (m : ℕ). IsLegal m (reverse h)) before.behaviours before.stands.legal;
+        legal = legal_for n k (reverse h) before.behaviours before.stands;
         out_is = more ∙ (ap (λ l. l ++ verdict_line verdict) before.lines ∙ ap (λ v. flat_map reply_line h ++ verdict_line v) right);
         verdict_is = right;
       };

@@ -1,5 +1,5 @@
 -- What one more entry does to what the table keeps.
-use Rattle.std.specs.Prelude.{ℕ, ◌≡◌, ◌<◌, length, slice_index_or, ◌==◌, ◌&&◌, ◌||◌, not, if◌then◌else◌, Bool, true, false, Option, Some, None, is_some, List, [], ◌∷◌, drop}
+use Rattle.std.specs.Prelude.{ℕ, ◌≡◌, ◌<◌, length, slice_index_or, ◌==◌, ◌||◌, not, if◌then◌else◌, Bool, true, false, Option, Some, None, is_some, List, [], ◌∷◌, drop}
 use Rattle.tc_verdict.specs.declared.verdict.Verdict.{Verdict}
 use Rattle.tc_verdict.specs.declared.run.Run.{Run}
 use Rattle.tc_verdict.specs.Verdict.{worse}
@@ -17,7 +17,7 @@ use Rattle.tc_table.specs.declared.step.Scope.{Scope}
 use Rattle.tc_table.specs.declared.step.Scope.TheVariants as T
 use Rattle.tc_table.specs.History.{is_ok, is_ended, ends_case, is_comp, halts, kills, starts_run, first_some}
 use Rattle.tc_table.specs.Phases.{start_in, halts_from_outside}
-use Rattle.tc_table.specs.Status.{is_running}
+use Rattle.tc_table.specs.Status.{is_running, is_killed}
 use Rattle.tc_table.specs.Local.{gives}
 use Rattle.tc_table.specs.Waiting.{parks}
 use Rattle.tc_table.specs.Inside.States.{none_running, all_killed}
@@ -89,8 +89,11 @@ finds_none (O.Stop G.All) states = none_running (drop 1 states)
 finds_none (O.Kill G.All) states = all_killed (drop 1 states)
 finds_none _ states = false
 
-abbrev pub changes_none : Entry → List ComponentState → Bool
-changes_none e states = not (ends_case e) && finds_none e.op states
+-- a component in this phase is changed by a call on all of them that does not end the case
+abbrev pub finds : Op → Phase → Bool
+finds (O.Stop G.All) p = is_running p
+finds (O.Kill G.All) p = not (is_killed p)
+finds _ p = true
 
 -- a component that is running is not excused
 pub record IsSettled (states : List ComponentState) : Type 0 where

@@ -12,10 +12,10 @@ use crate::step::{take_in, take_in_runs};
 use tc_entry::{Comp, Entry};
 use tc_verdict::NoMemory;
 
-#[tactic(auto, using(crate::proofs::KeptLemmas::kept_rules, crate::proofs::Settled::settled_rules))]
+#[tactic(auto, using(crate::proofs::KeptLemmas::kept_rules, crate::proofs::Settled::settled_rules), unfolding(crate::specs::Standing::StandsFor))]
 impl CaseState {
     /// Takes in an entry that makes no component, by a run on component own.
-    #[tactic(auto, using(crate::proofs::KeptLemmas::kept_rules, crate::proofs::Settled::settled_rules))]
+    #[tactic(auto, using(crate::proofs::KeptLemmas::kept_rules, crate::proofs::Settled::settled_rules), unfolding(crate::specs::Standing::StandsFor))]
     pub(crate) fn add(&mut self, own: Option<Comp>, entry: &Entry)
         requires legal { (past : List Entry) → StandsFor self.old past → entry.now.reply ≡ answers.answer self.old.behaviours past entry.now.caller.0 entry.now.op }
         requires on { (past : List Entry) → StandsFor self.old past → own ≡ history.comp_of past entry.now.caller.0 }
@@ -29,7 +29,7 @@ impl CaseState {
     }
 
     /// Takes in an entry that makes a component.
-    #[tactic(auto, using(crate::proofs::KeptLemmas::kept_rules, crate::proofs::Settled::settled_rules))]
+    #[tactic(auto, using(crate::proofs::KeptLemmas::kept_rules, crate::proofs::Settled::settled_rules), unfolding(crate::specs::Standing::StandsFor))]
     pub(crate) fn make(&mut self, entry: &Entry, comp: Comp) -> Result<(), NoMemory>
         requires legal { (past : List Entry) → StandsFor self.old past → entry.now.reply ≡ answers.answer self.old.behaviours past entry.now.caller.0 entry.now.op }
         requires makes { history.created entry.now.op entry.now.reply ≡ Some comp }

@@ -1,7 +1,7 @@
-use Rattle.std.proofs.Common.{◌≡◌, take, length, ◌∙◌, sym, ap, subst, arith, All, Contains}
+use Rattle.std.proofs.Common.{◌≡◌, arith}
 use Rattle.std.proofs.lemmas.Grind.{common_steps}
 use Rattle.tc_verdict.specs.declared.verdict.Verdict.TheVariants as V
-use Rattle.tc_verdict.specs.Verdict.{worst, level_of}
+use Rattle.tc_verdict.specs.Verdict.{worst}
 use Rattle.tc_verdict.proofs.Order.{worst_take, worst_is_greatest, worst_is_member}
 use Rattle.tc_verdict.proofs.verdict.worst.Goals as goal
 

@@ -1,5 +1,6 @@
 use Rattle.tc_table.proofs.Keeping.{keeps_entry, stands_by}
 use Rattle.tc_table.proofs.Settled.{settled_kept}
+use Rattle.tc_table.specs.Standing.{StandsFor}
 use Rattle.tc_table.proofs.state.CaseState.add.Goals as goal
 use Rattle.std.proofs.Common.{◌∷◌}
 
@@ -7,6 +8,7 @@ pub take_in-requires : goal.take_in-requires
 take_in-requires c = record { settled = settled_kept c.self.invariant.1 }
 
 pub invariant_of-self : goal.invariant_of-self
+unfolding StandsFor
 invariant_of-self c =
     let past = c.self.invariant.0 in
     let stands = stands_by _ c.args.self.now past c.self.view_is c.self.invariant.1 in (
@@ -18,6 +20,7 @@ invariant_of-self c =
     )
 
 pub returns-clause-stands : goal.returns-clause-stands
+unfolding StandsFor
 returns-clause-stands c past stands =
     keeps_entry _ c.args.self.now past c.args.entry.now c.take_in.new.states c.take_in_runs.new.runs.items c.args.own c.either-self-inside.result c.self.view_is stands
     (c.requires.legal past stands) (c.requires.on past stands) c.requires.makes_none

@@ -1,0 +1,120 @@
+#!/usr/bin/env python3
+"""Writes into a folder inputs that were looked for because they might take `ttrun` long: move lists of at most 1,048,576 bytes
+and history texts of at most 16,777,216 bytes, each right to its last line, the same at every run.
+
+A file's name begins with the subcommand that reads it. What each asks of the table stands at the function that makes it.
+"""
+import sys
+from pathlib import Path
+
+LIMITS = {'replay': 1_048_576, 'check': 16_777_216}
+COMPONENTS = 999
+RUNS = range(1, 64)
+
+
+class Case:
+    """The moves of one test case with their replies, made by rules that need no table."""
+
+    def __init__(self):
+        self.lines = []
+        self.made = 0
+
+    def add(self, move, reply='ok'):
+        self.lines.append((move, reply))
+        return self
+
+    def create(self, count, alive=False):
+        for _ in range(count):
+            self.made += 1
+            self.add('0 create alive' if alive else '0 create', f'made {self.made}')
+        return self
+
+    def start(self, count):
+        for run in RUNS[:count]:
+            self.add(f'0 start {run} {run}')
+        return self
+
+
+def moves_of(case):
+    return ''.join(f'{move}\n' for move, _ in case.lines)
+
+
+def entries_of(case):
+    return ''.join(f'{move} -> {reply}\n' for move, reply in case.lines)
+
+
+def filled(head, line, tail, limit):
+    return head + line * ((limit - len(head) - len(tail)) // len(line)) + tail
+
+
+def one_case(subcommand, case, move, reply='ok', verdict='none', behaviours=64):
+    """The case, and then the same move up to the limit."""
+    if subcommand == 'replay':
+        return filled(f'behaviours {behaviours}\n' + moves_of(case), f'{move}\n', '', LIMITS['replay'])
+    head = f'history 1 t {behaviours}\n' + entries_of(case)
+    return filled(head, f'{move} -> {reply}\n', f'end {verdict}\n', LIMITS['check'])
+
+
+def many_cases(case, name='t', verdict='none', behaviours=64):
+    return filled('', f'history 1 {name} {behaviours}\n' + entries_of(case) + f'end {verdict}\n', '', LIMITS['check'])
+
+
+def kills(first=0):
+    """Each Kill of all finds one component that it has to kill behind all that are killed; so many are made before the first."""
+    case = Case().create(first)
+    for _ in range(COMPONENTS - first):
+        case.create(1).add('0 kill all')
+    return case
+
+
+def stops():
+    """Each Stop of all finds one component that it has to stop among 999."""
+    case = Case().create(COMPONENTS, alive=True)
+    for run in RUNS:
+        case.add(f'0 start {COMPONENTS} {run}').add('0 stop all')
+    return case
+
+
+def parked():
+    """All runs but the last wait in vain, so a Wake asks 64 runs whether the case is stuck."""
+    case = Case().create(63).start(63)
+    for run in RUNS[:-1]:
+        case.add(f'{run} wait killed 63', 'parked')
+    return case.add('0 wait done 63', 'parked')
+
+
+def inputs():
+    for subcommand in ('replay', 'check'):
+        yield subcommand, 'kill_of_all_finds_none', one_case(subcommand, Case().create(COMPONENTS), '0 kill all')
+        yield subcommand, 'stop_of_all_finds_none', one_case(subcommand, Case().create(COMPONENTS), '0 stop all')
+        yield subcommand, 'kill_of_all_finds_one', one_case(subcommand, kills(), '0 kill all')
+        yield subcommand, 'stop_of_all_finds_one', one_case(subcommand, stops(), '0 stop all')
+        yield subcommand, 'wakes_that_stay_parked', one_case(subcommand, parked(), '0 wake done 63', 'parked')
+        yield subcommand, 'wakes_of_another_run', one_case(subcommand, parked(), '1 wake killed 63', 'parked')
+        yield subcommand, 'waits_that_stay_parked', one_case(subcommand, parked(), '0 wait done 63', 'parked')
+        yield subcommand, 'status_of_all', one_case(subcommand, Case().create(COMPONENTS).start(63), '0 running all', 'true')
+        yield subcommand, 'status_of_one', one_case(subcommand, Case().create(COMPONENTS), '0 done 9', 'false')
+        yield subcommand, 'stops_of_one', one_case(subcommand, Case().create(COMPONENTS), '0 stop 9')
+        yield subcommand, 'verdicts', one_case(subcommand, Case(), '0 getverdict', 'none')
+        yield subcommand, 'calls_of_nobody', one_case(subcommand, Case(), '1 finish', 'ended')
+        yield subcommand, 'starts_by_nobody', one_case(subcommand, Case(), '9 start 9 9 1 2 3 4', 'ended')
+    yield 'check', 'cases_of_kills', many_cases(kills())
+    yield 'check', 'cases_of_kills_of_many', many_cases(kills(220))
+    yield 'check', 'cases_of_stops', many_cases(stops())
+    yield 'check', 'cases_that_end', many_cases(Case().create(COMPONENTS).add('0 finish'))
+    yield 'check', 'cases_of_a_fault', many_cases(Case().create(1).add('0 start 0 1', 'error start-main'), verdict='error')
+    yield 'check', 'empty_cases', many_cases(Case(), 'a')
+    yield 'check', 'empty_cases_of_one_behaviour', many_cases(Case(), 'a', behaviours=1)
+    yield 'check', 'empty_cases_of_long_names', many_cases(Case(), 'a' * 32)
+    yield 'check', 'cases_of_one_create', many_cases(Case().create(1), 'a')
+
+
+def main():
+    folder = Path(sys.argv[1])
+    folder.mkdir(parents=True, exist_ok=True)
+    for subcommand, name, text in inputs():
+        assert len(text) <= LIMITS[subcommand], name
+        (folder / f'{subcommand}.{name}').write_text(text)
+
+
+main()
