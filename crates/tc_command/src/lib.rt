@@ -1,0 +1,11 @@
+//! What the words of the program's command line ask for.
+#![tactic(auto)]
+
+mod command;
+mod read;
+mod task;
+#[cfg(test)]
+mod tests;
+
+pub use read::read_task;
+pub use task::{Form, Task};
