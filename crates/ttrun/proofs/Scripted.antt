@@ -20,7 +20,7 @@ use Rattle.tc_campaign.specs.declared.case.Case.{Case}
 use Rattle.tc_campaign.specs.Outline.{Outline, HasNames, outline_of}
 use Rattle.tc_campaign.specs.Campaign.{IsCalled, IsReported, IsRight, IsWhy}
 use Rattle.ttrun.specs.declared.fault.RunFault.{RunFault}
-use Rattle.ttrun.specs.declared.give.Form.{Form}
+use Rattle.tc_command.specs.declared.task.Form.{Form}
 use Rattle.ttrun.specs.declared.run.Options.{Options}
 use Rattle.ttrun.specs.Give.{text_of, LeavesUnwritten}
 use Rattle.ttrun.specs.Run.{AreResults, IsRuleOf, IsRun, IsUnwritten}

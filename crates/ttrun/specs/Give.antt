@@ -6,8 +6,8 @@ use Rattle.tc_report.specs.declared.results.Results.{Results}
 use Rattle.tc_report.specs.Report.{report_text}
 use Rattle.tc_report.specs.Csv.{csv_text}
 use Rattle.tc_report.specs.Histories.{histories_text}
-use Rattle.ttrun.specs.declared.give.Form.{Form}
-use Rattle.ttrun.specs.declared.give.Form.TheVariants as Forms
+use Rattle.tc_command.specs.declared.task.Form.{Form}
+use Rattle.tc_command.specs.declared.task.Form.TheVariants as Forms
 use Rattle.ttrun.specs.declared.fault.RunFault.{RunFault}
 use Rattle.ttrun.specs.declared.fault.RunFault.TheVariants as F
 

@@ -10,9 +10,9 @@ use Rattle.ttrun.specs.declared.check.TheConstants.{LIMIT as CHECK_LIMIT}
 use Rattle.ttrun.specs.declared.replay.TheConstants.{LIMIT as REPLAY_LIMIT}
 use Rattle.ttrun.specs.declared.script.TheConstants.{LIMIT as SCRIPT_LIMIT}
 use Rattle.ttrun.specs.declared.fault.RunFault.{RunFault}
-use Rattle.ttrun.specs.declared.command.Task.{Task}
-use Rattle.ttrun.specs.declared.command.Task.TheVariants as T
-use Rattle.ttrun.specs.declared.give.Form.{Form}
+use Rattle.tc_command.specs.declared.task.Task.{Task}
+use Rattle.tc_command.specs.declared.task.Task.TheVariants as T
+use Rattle.tc_command.specs.declared.task.Form.{Form}
 use Rattle.ttrun.specs.declared.run.Options.{Options}
 use Rattle.ttrun.specs.Fault.{Refuses, line_of}
 use Rattle.ttrun.specs.Output.{Writes}

@@ -4,7 +4,6 @@ ghost use Rattle.std.specs.Io.KnownBytes.{Keeps};
 ghost use Rattle.ttrun.specs.Program.{IsCarriedOut, Settles};
 
 use crate::check::check;
-use crate::command::Task;
 use crate::fault::RunFault;
 use crate::jobs::run_script;
 use crate::replay::replay;
@@ -14,6 +13,7 @@ use std::alloc::Global;
 use std::io::{Read, Write};
 use std::sync::Wait;
 use std::thread::Threads;
+use tc_command::Task;
 
 /// The exit status for an answer. The line of a fault is written; where it can't be, the status stays.
 pub fn settle<E: Write>(alloc: Global, errors: &mut E, answer: Result<u8, RunFault>) -> u8

@@ -9,17 +9,7 @@ use crate::fault::RunFault;
 use std::alloc::Global;
 use std::io::Write;
 use tc_campaign::{OutFault, Results, status_of, write_csv, write_history, write_text};
-
-/// In which form the results are written.
-#[derive(Clone, Copy, Debug, PartialEq, Eq)]
-pub enum Form {
-    /// The text report.
-    Text,
-    /// A table, as CSV.
-    Csv,
-    /// The history of each test case.
-    History,
-}
+use tc_command::Form;
 
 fn write<W: Write>(
     alloc: Global,

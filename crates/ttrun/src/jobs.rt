@@ -8,7 +8,6 @@ ghost use Rattle.ttrun.specs.Run.{bytes_of, IsNoName};
 ghost use Rattle.ttrun.specs.Scripted.{IsCaseOf};
 
 use crate::fault::RunFault;
-use crate::give::Form;
 use crate::run::{add_case, add_job, read_run, run_cases};
 use crate::script::LIMIT;
 use std::alloc::Global;
@@ -17,6 +16,7 @@ use std::sync::Wait;
 use std::thread::Threads;
 use tc_behaviour::ScriptJob;
 use tc_campaign::Case;
+use tc_command::Form;
 use tc_entry::Name;
 use tc_script::{Campaign, CaseScript};
 use tc_verdict::NoMemory;

@@ -4,7 +4,6 @@
 mod carry_out;
 mod check;
 mod check_lines;
-mod command;
 mod fault;
 mod give;
 mod jobs;
@@ -18,12 +17,12 @@ mod status;
 mod tests;
 
 use crate::carry_out::{carry_out, settle};
-use crate::command::read_task;
 use crate::fault::RunFault;
 use crate::status::REFUSED;
 use clap::error::ErrorKind;
 use std::process::ExitCode;
 use std::{env, io};
+use tc_command::read_task;
 use tc_stream::write_whole;
 
 fn words(rt: &HostRuntime) -> io::Result<Vec<String>> {

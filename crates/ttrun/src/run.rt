@@ -11,13 +11,14 @@ ghost use Rattle.ttrun.specs.Give.{LeavesUnwritten};
 ghost use Rattle.ttrun.specs.Run.{bytes_of, IsRuleOf, IsNoName, RefusesWord, RefusesRun, IsRun, IsUnwritten};
 
 use crate::fault::{RunFault, fault_line};
-use crate::give::{Form, give};
+use crate::give::give;
 use crate::script::{LIMIT, stop_word, take_script};
 use std::alloc::Global;
 use std::io::{Read, Write};
 use std::sync::Wait;
 use std::thread::Threads;
 use tc_campaign::{Case, Results, abort_line, run_campaign};
+use tc_command::Form;
 use tc_entry::Name;
 use tc_exec::Callable;
 use tc_script::Campaign;

@@ -10,7 +10,6 @@ mod devices;
 mod histories;
 mod orders;
 mod refused;
-mod words;
 mod worked;
 mod written_histories;
 

@@ -3,13 +3,14 @@ ghost use Rattle.std.specs.Prelude.{All, IfOk, OnOk};
 ghost use Rattle.tc_campaign.specs.Outline.{HasNames};
 
 use super::*;
-use crate::give::{Form, give};
+use crate::give::give;
 use crate::run::add_job;
 use crate::script::{stop_word, take_script};
 use std::alloc::AllocError;
 use tc_behaviour::Behaviour;
 use tc_book::Pass;
 use tc_campaign::{Case, run_campaign};
+use tc_command::Form;
 use tc_entry::{Name, Verdict};
 use tc_exec::{Back, Job};
 use tc_verdict::NoMemory;

@@ -3,11 +3,11 @@ ghost use Rattle.std.specs.Prelude.{All};
 ghost use Rattle.tc_campaign.specs.Outline.{HasNames};
 
 use super::*;
-use crate::command::{Task, read_task};
 use crate::run::{Options, add_case, add_job, read_run, run_cases};
 use tc_behaviour::Behaviour;
 use tc_book::Pass;
 use tc_campaign::Case;
+use tc_command::{Task, read_task};
 use tc_entry::Name;
 use tc_exec::{Back, Job};
 use tc_script::Campaign;

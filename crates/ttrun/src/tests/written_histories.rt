@@ -3,7 +3,7 @@ ghost use Rattle.std.specs.Prelude.{All};
 
 use super::*;
 use crate::check::check;
-use crate::give::{Form, give};
+use crate::give::give;
 use crate::run::add_job;
 use crate::script::take_script;
 use std::alloc::AllocGlobal;
@@ -11,6 +11,7 @@ use std::str;
 use tc_behaviour::Behaviour;
 use tc_book::Pass;
 use tc_campaign::{Case, Results, run_campaign};
+use tc_command::Form;
 use tc_entry::Verdict;
 use tc_exec::{Back, Job};
 

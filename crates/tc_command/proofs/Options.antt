@@ -1,0 +1,21 @@
+-- The options among the words, as the matches hold them.
+use Rattle.std.proofs.Common.{◌≡◌, ◌∙◌, Bool, true, false, refl, ap, sym, Option, Some, None, List}
+use Rattle.std.specs.Prelude.{find, option_map, option_and_then}
+use Rattle.std.specs.Str.{bytes_eq}
+use Rattle.clap.specs.Facts.{Entry}
+use Rattle.clap.specs.Matches.{matched_of}
+use Rattle.clap.specs.Walk.{Row, Text, row_of, rows_of}
+use Rattle.clap.specs.declared.parser.matches.Found.{Found}
+use Rattle.clap.specs.declared.parser.matches.MatchedArg.{MatchedArg}
+use Rattle.clap.specs.declared.parser.matches.ValueSource.{ValueSource}
+use Rattle.clap.proofs.WalkLemmas.{find_row}
+
+-- the source of an option's value, by its row
+pub source_of : (f : Found) (id : Text) → option_and_then (λ (a : MatchedArg). a.source) (matched_of f id)
+    ≡ option_and_then (λ (r : Row). r.source) (find (λ (r : Row). bytes_eq r.id id) (rows_of f))
+source_of f id = go (find (λ (e : Entry). bytes_eq e.0.now id) f.entries.items) ∙ ap (option_and_then (λ (r : Row). r.source)) (sym (find_row f.entries.items id))
+  where
+    go : (o : Option Entry) → option_and_then (λ (a : MatchedArg). a.source) (option_map (λ (e : Entry). e.1) o)
+        ≡ option_and_then (λ (r : Row). r.source) (option_map row_of o)
+    go None = refl
+    go (Some e) = refl

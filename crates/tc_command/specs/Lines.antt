@@ -1,0 +1,56 @@
+-- Command lines as the help shows them, without the program's name: what they ask for.
+use Rattle.std.specs.Prelude.{◌≢◌, ⊤, List, [], ◌∷◌, ◌++◌, Option, Some, None, codes}
+use Rattle.clap.specs.Words.{Text}
+use Rattle.tc_command.specs.declared.task.Form.{Form}
+use Rattle.tc_command.specs.declared.task.Form.TheVariants as form
+use Rattle.tc_command.specs.Asked.{Asked, check, replay, run}
+
+-- the word does not begin with a hyphen
+abbrev pub IsPlain : Text → Type 0
+IsPlain [] = ⊤
+IsPlain (x ∷ xs) = x ≢ 45
+
+-- the option that asks for a form; the text report is asked for by none
+abbrev pub form_words : Form → List Text
+form_words form.Text = []
+form_words form.Csv = codes "--csv" ∷ []
+form_words form.History = codes "--history" ∷ []
+
+-- how the word of the stopping rule is spelled: behind --stop-on, or in one word with it
+pub data SpellsRule : Option Text → List Text → Type 0 where
+  no_rule : SpellsRule None []
+  next_word : (word : Text) → IsPlain word → SpellsRule (Some word) (codes "--stop-on" ∷ word ∷ [])
+  same_word : (word : Text) → SpellsRule (Some word) ((codes "--stop-on=" ++ word) ∷ [])
+
+-- the words ask for this: no word at all for `run` without options, whose options stand in either order
+pub data AsksFor : Asked → List Text → Type 0 where
+  no_word : AsksFor (run form.Text None) []
+  checks : AsksFor check (codes "check" ∷ [])
+  replays : AsksFor replay (codes "replay" ∷ [])
+  form_first : (f : Form) (rule : Option Text) (words : List Text) → SpellsRule rule words
+      → AsksFor (run f rule) (codes "run" ∷ (form_words f ++ words))
+  rule_first : (f : Form) (rule : Option Text) (words : List Text) → SpellsRule rule words
+      → AsksFor (run f rule) (codes "run" ∷ (words ++ form_words f))
+
+-- the word asks for help
+pub data IsHelp : Text → Type 0 where
+  long : IsHelp (codes "--help")
+  short : IsHelp (codes "-h")
+
+-- the word is the name of a subcommand
+pub data IsName : Text → Type 0 where
+  run_name : IsName (codes "run")
+  check_name : IsName (codes "check")
+  replay_name : IsName (codes "replay")
+
+-- the words ask for help with the program, or with a subcommand, whatever follows
+pub data AsksHelp : List Text → Type 0 where
+  of_program : (help : Text) (rest : List Text) → IsHelp help → AsksHelp (help ∷ rest)
+  of_subcommand : (name help : Text) (rest : List Text) → IsName name → IsHelp help → AsksHelp (name ∷ help ∷ rest)
+
+-- the words ask for both forms, in either order, and for a stopping rule or none
+pub data AsksForBoth : List Text → Type 0 where
+  csv_first : (rule : Option Text) (words : List Text) → SpellsRule rule words
+      → AsksForBoth (codes "run" ∷ codes "--csv" ∷ codes "--history" ∷ words)
+  history_first : (rule : Option Text) (words : List Text) → SpellsRule rule words
+      → AsksForBoth (codes "run" ∷ codes "--history" ∷ codes "--csv" ∷ words)

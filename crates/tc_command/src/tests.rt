@@ -1,0 +1,139 @@
+//! Command lines, of which each two words have a space between them.
+use super::*;
+use clap::error::ErrorKind;
+use std::alloc::{AllocError, Global};
+use std::test::Fail;
+
+const CHECK: Result<Task<'static>, ErrorKind> = Ok(Task::Check);
+
+const REPLAY: Result<Task<'static>, ErrorKind> = Ok(Task::Replay);
+
+const HELP: Result<Task<'static>, ErrorKind> = Err(ErrorKind::DisplayHelp);
+
+const UNKNOWN: Result<Task<'static>, ErrorKind> = Err(ErrorKind::UnknownArgument);
+
+const NO_COMMAND: Result<Task<'static>, ErrorKind> = Err(ErrorKind::InvalidSubcommand);
+
+const CONFLICT: Result<Task<'static>, ErrorKind> = Err(ErrorKind::ArgumentConflict);
+
+const NO_WORD: Result<Task<'static>, ErrorKind> = Err(ErrorKind::InvalidValue);
+
+const TOO_MANY: Result<Task<'static>, ErrorKind> = Err(ErrorKind::TooManyValues);
+
+fn run(form: Form, stop_on: Option<&'static str>) -> Result<Task<'static>, ErrorKind> {
+    Ok(Task::Run { form, stop_on })
+}
+
+fn words(alloc: Global, line: &str) -> Result<Vec<String>, AllocError> {
+    let mut words = Vec::new(alloc);
+    for word in line.split(' ') {
+        words.push(word.to_string(alloc)?)?;
+    }
+    Ok(words)
+}
+
+#[test]
+fn lines_and_tasks(rt: HostRuntime) -> Result<(), Fail> {
+    let alloc = rt.alloc();
+    let lines = [
+        ("ttrun", run(Form::Text, None)),
+        ("ttrun --", run(Form::Text, None)),
+        ("ttrun check", CHECK),
+        ("ttrun replay", REPLAY),
+        ("ttrun check --", CHECK),
+        ("another-name replay", REPLAY),
+        ("ttrun run", run(Form::Text, None)),
+        ("ttrun run --csv", run(Form::Csv, None)),
+        ("ttrun run --history", run(Form::History, None)),
+        ("ttrun run --stop-on fail", run(Form::Text, Some("fail"))),
+        ("ttrun run --stop-on=fail", run(Form::Text, Some("fail"))),
+        ("ttrun run --stop-on=", run(Form::Text, Some(""))),
+        ("ttrun run --stop-on ", run(Form::Text, Some(""))),
+        ("ttrun run --stop-on -", run(Form::Text, Some("-"))),
+        ("ttrun run --stop-on=--csv", run(Form::Text, Some("--csv"))),
+        ("ttrun run --stop-on run", run(Form::Text, Some("run"))),
+        ("ttrun run --stop-on help", run(Form::Text, Some("help"))),
+        (
+            "ttrun run --csv --stop-on none",
+            run(Form::Csv, Some("none")),
+        ),
+        (
+            "ttrun run --stop-on none --csv",
+            run(Form::Csv, Some("none")),
+        ),
+        (
+            "ttrun run --stop-on error --history",
+            run(Form::History, Some("error")),
+        ),
+        (
+            "ttrun run --history --stop-on=error --",
+            run(Form::History, Some("error")),
+        ),
+        ("ttrun run --csv --history", CONFLICT),
+        ("ttrun run --history --csv", CONFLICT),
+        ("ttrun run --history --stop-on pass --csv", CONFLICT),
+        ("ttrun run --csv --csv", CONFLICT),
+        ("ttrun run --history --history", CONFLICT),
+        ("ttrun run --stop-on pass --stop-on pass", CONFLICT),
+        ("ttrun run --stop-on", NO_WORD),
+        ("ttrun run --stop-on --csv", NO_WORD),
+        ("ttrun run --csv=yes", TOO_MANY),
+        ("ttrun --help", HELP),
+        ("ttrun -h", HELP),
+        ("ttrun help", HELP),
+        ("ttrun help run", HELP),
+        ("ttrun help check", HELP),
+        ("ttrun help replay", HELP),
+        ("ttrun help help", HELP),
+        ("ttrun run --help", HELP),
+        ("ttrun run -h", HELP),
+        ("ttrun check --help", HELP),
+        ("ttrun check -h", HELP),
+        ("ttrun replay --help", HELP),
+        ("ttrun replay -h", HELP),
+        ("ttrun --help check", HELP),
+        ("ttrun run --csv --help", HELP),
+        ("ttrun run --csv --history --help", HELP),
+        ("ttrun help more", NO_COMMAND),
+        ("ttrun --csv run", UNKNOWN),
+        ("ttrun --csv", UNKNOWN),
+        ("ttrun --stop-on fail", UNKNOWN),
+        ("ttrun -x", UNKNOWN),
+        ("ttrun --version", UNKNOWN),
+        ("ttrun Run", NO_COMMAND),
+        ("ttrun chec", NO_COMMAND),
+        ("ttrun campaign.txt", NO_COMMAND),
+        ("ttrun ", NO_COMMAND),
+        ("ttrun -- run", UNKNOWN),
+        ("ttrun run campaign.txt", UNKNOWN),
+        ("ttrun run ", UNKNOWN),
+        ("ttrun run -", UNKNOWN),
+        ("ttrun run -c", UNKNOWN),
+        ("ttrun run --cs", UNKNOWN),
+        ("ttrun run --csv check", UNKNOWN),
+        ("ttrun run help", UNKNOWN),
+        ("ttrun run -- --csv", UNKNOWN),
+        ("ttrun check more", UNKNOWN),
+        ("ttrun check --csv", UNKNOWN),
+        ("ttrun replay more", UNKNOWN),
+        ("ttrun replay --stop-on fail", UNKNOWN),
+    ];
+    for (line, wanted) in lines {
+        let words = words(alloc, line)?;
+        let read = read_task(alloc, words.as_slice()).map_err(|error| error.kind());
+        assert_eq!(rt; read, wanted, "{line}");
+    }
+    Ok(())
+}
+
+#[test]
+fn no_words_at_all(rt: HostRuntime) -> Result<(), Fail> {
+    assert_eq!(rt;
+        read_task(rt.alloc(), &[])?,
+        Task::Run {
+            form: Form::Text,
+            stop_on: None
+        }
+    );
+    Ok(())
+}
