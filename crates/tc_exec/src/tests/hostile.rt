@@ -116,19 +116,18 @@ fn threads_now<R: Files + Alloc>(rt: &R) -> u64 {
     0
 }
 
-/// Looks at the number of threads until it is as wanted, ten thousand times at most, and says whether it was.
-fn are_threads<R: Files + Alloc, F: Fn(u64) -> bool>(rt: &R, wanted: F) -> bool
-    requires { IsAlwaysCallable wanted }
-{
+/// Looks at the number of threads until it is one of these, ten thousand times at most, and says whether it was.
+fn are_threads<R: Files + Alloc>(rt: &R, least: u64, most: u64) -> bool {
     for _ in 0..10_000u32 {
-        if wanted(threads_now(rt)) {
+        let threads = threads_now(rt);
+        if least <= threads && threads <= most {
             return true;
         }
     }
     false
 }
 
-/// Allows every worker, and keeps how many questions found a thread for each worker allowed before.
+/// Allows every worker, and keeps how many questions found a thread for each worker that was allowed before.
 #[derive(Drop)]
 struct Counts<R: Files + Alloc> {
     rt: R,
@@ -140,11 +139,10 @@ impl<R: Files + Alloc> Gate for Counts<R> {
     ghost asks = { λ _ _ _ _. ⊤ };
 
     fn allow(&mut self, _run: Run) -> bool {
-        let before = self.asked;
-        if are_threads(&self.rt, move |threads| threads > before) {
+        self.asked = self.asked.saturating_add(1);
+        if are_threads(&self.rt, self.asked, 64) {
             self.found = self.found.saturating_add(1);
         }
-        self.asked = before.saturating_add(1);
         true
     }
 }
@@ -158,7 +156,7 @@ fn a_thread_lives_before_the_next_question(rt: HostRuntime) -> Result<(), Fail> 
         let run: Behaviour = Box::new(alloc, move |pass: Pass| back(pass, Ok(())))?;
         jobs.push(Job::new(run))?;
     }
-    assert!(rt; are_threads(&rt, |threads| threads == 1));
+    assert!(rt; are_threads(&rt, 1, 1));
     let mut gate = Counts {
         rt,
         asked: 0,
