@@ -5,9 +5,10 @@ use std::alloc::Global;
 use std::process::Abort;
 use std::sync::Wait;
 use std::test::Fail;
-use tc_book::{Pass, open_case};
+use tc_book::{Pass, RunLog, open_case};
 use tc_entry::{Args, Comp, Entry, Fault, Group, Op, Reply, Run, Target, UserVerdict, Verdict};
-use tc_exec::Job;
+use tc_exec::{CaseReport, Everyone, Job, run_case, run_case_with};
+use tc_script::read_campaign;
 use tc_step::{GroupPlace, Place, Places, Status, Step, TargetPlace};
 
 fn one(index: usize) -> TargetPlace {
@@ -57,14 +58,33 @@ fn has_logged(back: &Back, run: Run, calls: &[(Op, Reply)]) -> bool {
         })
 }
 
+/// A behaviour with one parameter, which the other starts with one argument.
+const STARTED_WITH_ONE: &str = "testcase t
+behaviour main
+start mtc w mtc
+end
+behaviour w a
+end
+end";
+
 #[test]
 fn wrong_argument_count_runs_nothing(rt: HostRuntime) -> Result<(), Fail> {
     let alloc = rt.alloc();
+    let mut campaign = read_campaign(alloc, STARTED_WITH_ONE.as_bytes())?;
+    let (_, mut scripts) = campaign.take_first().ok_or("a test case")?;
+    let _main = scripts.take_first();
+    let (name, script) = scripts.take_first().ok_or("the behaviour w")?;
+    assert_eq!(rt; name.bytes(), b"w".as_slice());
     let (_, pass, _) = open_case(alloc, 1)?;
-    let none = script(&rt, 1, Vec::new(alloc));
-    let back = none.run(&rt, alloc, pass);
+    let back = script.run(&rt, alloc, pass);
     assert_eq!(rt; back.ending, Ending::Returned);
     assert_eq!(rt; back.pass.log().len(), 0);
+    Ok(())
+}
+
+#[test]
+fn a_script_of_two_parameters_without_arguments(rt: HostRuntime) -> Result<(), Fail> {
+    let alloc = rt.alloc();
     let steps = vec![in alloc; Step::GetVerdict]?;
     assert!(rt; Script::is_script(2, steps.as_slice()));
     let (_, pass, _) = open_case(alloc, 1)?;
@@ -248,10 +268,132 @@ fn a_run_that_stops_itself(rt: HostRuntime) -> Result<(), Fail> {
     Ok(())
 }
 
+/// The script that creates a component, starts run 1 on it with these arguments, and waits for it.
+fn leads<R: Abort>(rt: &R, alloc: Global, args: &[Place]) -> Result<Script, Fail> {
+    let steps = vec![in alloc;
+        Step::Create { alive: false },
+        Step::Start {
+            on: Place::Bound(0),
+            run: Run(1),
+            args: places(args),
+        },
+        Step::Wait {
+            killed: true,
+            target: one(0)
+        },
+    ]?;
+    Ok(script(rt, 0, steps))
+}
+
+/// The script of one parameter that sets fail and stops its own component.
+fn fails<R: Abort>(rt: &R, alloc: Global) -> Result<Script, Fail> {
+    let steps = vec![in alloc;
+        Step::Ask(Status::Alive, one(0)),
+        Step::SetVerdict(UserVerdict::Fail),
+        Step::Stop(GroupPlace::One(Place::Own)),
+        Step::SetVerdict(UserVerdict::Pass),
+    ]?;
+    Ok(script(rt, 1, steps))
+}
+
+/// Whether these are the operations of a log, but for a Wait that was parked.
+fn are_calls(log: &RunLog, run: Run, ops: &[Op]) -> bool {
+    let mut left = ops;
+    for entry in log.entries.as_slice() {
+        let Some((op, behind)) = left.split_first() else {
+            return false;
+        };
+        let shown = match &entry.op {
+            Op::Wake { killed, target } => Op::Wait {
+                killed: *killed,
+                target: *target,
+            },
+            other => other.copy(),
+        };
+        if entry.caller != run || !shown.same(op) {
+            return false;
+        }
+        if !matches!(entry.reply, Reply::Parked) {
+            left = behind;
+        }
+    }
+    left.is_empty()
+}
+
+/// Whether the report is that of `leads` and `fails`: each log is the calls of its own script.
+fn is_led(report: &CaseReport) -> bool {
+    let [first, second] = report.logs.as_slice() else {
+        return false;
+    };
+    let started = Op::Start {
+        comp: Comp(1),
+        run: Run(1),
+        args: args(&[Comp(0)]),
+    };
+    let waits = Op::Wait {
+        killed: true,
+        target: Target::One(Comp(1)),
+    };
+    let led = [Op::Create { alive: false }, started, waits, Op::Finish];
+    let failed = [
+        Op::Alive(Target::One(Comp(0))),
+        Op::SetVerdict(UserVerdict::Fail),
+        Op::Stop(Group::One(Comp(1))),
+    ];
+    are_calls(first, Run(0), &led)
+        && are_calls(second, Run(1), &failed)
+        && report.locals.as_slice() == [Verdict::None, Verdict::Fail].as_slice()
+        && report.verdict == Verdict::Fail
+}
+
+// Both forms of a job: a script with its runtime, and a box.
 #[test]
-fn a_job_of_a_script(rt: HostRuntime) -> Result<(), Fail> {
+fn scripts_are_run_in_a_case(rt: HostRuntime) -> Result<(), Fail> {
     let alloc = rt.alloc();
-    let script = script(&rt, 0, vec![in alloc; Step::GetVerdict]?);
-    let _ = Job::new(Box::new(alloc, move |pass| script.run(&rt, alloc, pass))?);
+    let first = ScriptJob::new(rt, alloc, leads(&rt, alloc, &[Place::Main])?);
+    let second = ScriptJob::new(rt, alloc, fails(&rt, alloc)?);
+    let jobs = vec![in alloc; first, second]?;
+    let report = run_case_with(&rt, alloc, jobs, 1, &mut Everyone)?;
+    assert!(rt; is_led(&report));
+    let (first, second) = (leads(&rt, alloc, &[Place::Main])?, fails(&rt, alloc)?);
+    let jobs = vec![in alloc;
+        Job::new(Box::new(alloc, move |pass| first.run(&rt, alloc, pass))?),
+        Job::new(Box::new(alloc, move |pass| second.run(&rt, alloc, pass))?),
+    ]?;
+    let report = run_case(&rt, alloc, jobs, 1)?;
+    assert!(rt; is_led(&report));
+    Ok(())
+}
+
+#[test]
+fn a_started_script_of_another_count_makes_no_call(rt: HostRuntime) -> Result<(), Fail> {
+    let alloc = rt.alloc();
+    let first = ScriptJob::new(rt, alloc, leads(&rt, alloc, &[])?);
+    let second = ScriptJob::new(rt, alloc, fails(&rt, alloc)?);
+    let jobs = vec![in alloc; first, second]?;
+    let report = run_case_with(&rt, alloc, jobs, 1, &mut Everyone)?;
+    let [_, second] = report.logs.as_slice() else {
+        panic!(rt; "run 1 was started")
+    };
+    assert!(rt; are_calls(second, Run(1), &[Op::Finish]));
+    assert_eq!(rt; report.verdict, Verdict::None);
+    Ok(())
+}
+
+// A thousand steps, the most that a script has; each is called.
+#[test]
+fn each_step_of_a_long_script(rt: HostRuntime) -> Result<(), Fail> {
+    let alloc = rt.alloc();
+    let (_, pass, _) = open_case(alloc, 1)?;
+    let mut steps = Vec::new(alloc);
+    for _ in 0..999 {
+        steps.push(Step::GetVerdict)?;
+    }
+    steps.push(Step::Create { alive: true })?;
+    let back = script(&rt, 0, steps).run(&rt, alloc, pass);
+    assert_eq!(rt; back.ending, Ending::Returned);
+    let log = back.pass.log();
+    assert_eq!(rt; log.len(), 1000);
+    assert!(rt; matches!(log[999].reply, Reply::Made(Comp(1))));
     Ok(())
 }

@@ -1,5 +1,6 @@
 -- What the functions inside of a campaign say, which no public clause names.
-use Rattle.std.specs.Prelude.{◌≡◌, ◌≤◌, ◌++◌, ◌∷◌, [], Option, List, All}
+use Rattle.std.specs.Prelude.{ℕ, ◌≡◌, ◌≤◌, ◌++◌, ◌∷◌, [], Option, Result, Ok, Err, List, All}
+use Rattle.tc_book.specs.declared.closed.Closed.{Closed}
 use Rattle.std.specs.List.{AllZip}
 use Rattle.tc_verdict.specs.declared.verdict.Verdict.{Verdict}
 use Rattle.tc_exec.specs.declared.refusal.CaseError.{CaseError}
@@ -23,6 +24,11 @@ pub record IsRefused (c : Outline) (ending : CampaignEnd) : Type 0 where
   pub why : CaseError
   pub aborted : ending ≡ E.Aborted c.name why
   pub cause : IsRefusal why c
+
+-- what becomes of a case by the answer to its run
+abbrev pub ended_by : List ℕ → List (List ℕ) → Result Closed CaseError → Result Finished CampaignEnd
+ended_by name names (Ok report) = Ok (record { name = name; names = names; report = report })
+ended_by name names (Err why) = Err (E.Aborted name why)
 
 -- these are done, each with the one at its place, and these are left
 pub record AreDone {A B : Type 0} (R : A → B → Type 0) (all left : List A) (ys : List B) : Type 0 where

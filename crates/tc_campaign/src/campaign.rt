@@ -4,7 +4,7 @@ ghost use Rattle.std.specs.Vec.{vec_len, vec_capacity};
 ghost use Rattle.std.specs.List.{AllZip};
 ghost use Rattle.tc_campaign.specs.Outline.{HasNames, outline_of};
 ghost use Rattle.tc_campaign.specs.Campaign.{HasBehaviours, HasThreads, IsCalled, IsNamed, IsReported, IsWhy, IsRight};
-ghost use Rattle.tc_campaign.specs.Inside.{IsOf, IsRefused, IsRun, IsUnrun};
+ghost use Rattle.tc_campaign.specs.Inside.{IsOf, IsRefused, IsRun, IsUnrun, ended_by};
 
 use crate::case::Case;
 use crate::stopping::stop_after;
@@ -12,9 +12,28 @@ use std::alloc::Global;
 use std::sync::Wait;
 use std::thread::Threads;
 use tc_book::Sequence;
-use tc_entry::Verdict;
-use tc_exec::{Callable, CaseError, Everyone, run_case_with};
+use tc_entry::{Name, Verdict};
+use tc_exec::{Callable, CaseError, CaseReport, Everyone, run_case_with};
 use tc_report::{CampaignEnd, Finished, Results};
+
+/// What becomes of a test case by the answer to its run: it is finished with the report, or the campaign is aborted at its name, for the
+/// same reason.
+fn ended(
+    name: Name,
+    names: Vec<Name>,
+    answer: Result<CaseReport, CaseError>,
+) -> Result<Finished, CampaignEnd>
+    ensures { result ≡ ended_by name names.items answer }
+{
+    match answer {
+        Ok(report) => Ok(Finished {
+            name,
+            names: Sequence::new(names),
+            report,
+        }),
+        Err(why) => Err(CampaignEnd::Aborted { name, why }),
+    }
+}
 
 /// Runs a test case. Where it is refused, the campaign is aborted at its name.
 fn finish<R: Threads + Wait + Copy + Send + 'static, B: Callable>(
@@ -29,14 +48,8 @@ fn finish<R: Threads + Wait + Copy + Send + 'static, B: Callable>(
     ensures threads { IfOk result (HasThreads threads) }
 {
     let Case { name, names, jobs } = case;
-    match run_case_with(rt, alloc, jobs, threads, &mut Everyone) {
-        Ok(report) => Ok(Finished {
-            name,
-            names: Sequence::new(names),
-            report,
-        }),
-        Err(why) => Err(CampaignEnd::Aborted { name, why }),
-    }
+    let answer = run_case_with(rt, alloc, jobs, threads, &mut Everyone);
+    ended(name, names, answer)
 }
 
 /// Runs the test cases up to the last by the stopping rule, or the first that is refused, and says how the campaign ended.

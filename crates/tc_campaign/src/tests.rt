@@ -2,6 +2,10 @@
 ghost use Rattle.std.specs.Prelude.{IfOk};
 ghost use Rattle.tc_campaign.specs.Outline.{HasNames};
 
+mod refusals;
+mod scripts;
+mod turns;
+
 use super::*;
 use std::alloc::Global;
 use std::sync::atomic::{AtomicU64, Ordering};

@@ -1,4 +1,5 @@
 pub mod Lists
+pub mod Gates
 pub mod Calls
 pub mod Reporting
 pub mod Logs

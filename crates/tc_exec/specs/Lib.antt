@@ -1,4 +1,5 @@
 pub mod Refusals
+pub mod Gates
 pub mod Workers
 pub mod Case
 pub mod Logs

@@ -1,9 +1,12 @@
 //! The run of a case.
-ghost use Rattle.std.specs.Prelude.{ℕ, ◌≡◌, ◌≢◌, ◌↔◌, ◌<◌, ◌≤◌, ◌+◌, ◌-◌, ◌∷◌, [], true, IfOk, IfErr, Err, length, map, slice_index_or};
+ghost use Rattle.std.specs.Prelude.{ℕ, ◌≡◌, ◌≢◌, ◌↔◌, ◌<◌, ◌≤◌, ◌+◌, ◌-◌, ◌∷◌, [], true, false, None, IfOk, IfErr, OnOk, Err, length, map, slice_index_or};
 ghost use Rattle.std.specs.Vec.{vec_len, vec_capacity};
 ghost use Rattle.tc_verdict.specs.declared.run.Run.{Run};
 ghost use Rattle.tc_book.specs.Closing.{IsWhole};
-ghost use Rattle.tc_exec.specs.Workers.{opening};
+ghost use Rattle.tc_exec.specs.Workers.{AreLeftBy, WasCalledFor, opening};
+ghost use Rattle.tc_book.specs.Passes.{LeftState};
+ghost use Rattle.tc_exec.specs.Refusals.{handed_on};
+ghost use Rattle.tc_exec.specs.Gates.{IsPassed, IsStopped};
 ghost use Rattle.tc_exec.specs.Case.{IsCaseReport, AreCalled, IsMadeOf};
 ghost use Rattle.tc_exec.specs.declared.refusal.CaseError.TheVariants.{NoBehaviours, TooManyBehaviours, NoMemory, NoThread};
 
@@ -17,7 +20,7 @@ use crate::worker::{Task, join_workers, make_workers};
 use std::alloc::Global;
 use std::sync::Wait;
 use std::thread::{PromisedHandle, Threads};
-use tc_book::{Closed, Pass, Shared, close_case, open_case};
+use tc_book::{CloseFault, Closed, Pass, Shared, close_case, open_case};
 
 /// The most behaviours of a case.
 const MOST: usize = 64;
@@ -41,6 +44,13 @@ fn behaviours_of(jobs: usize, threads: u16) -> Result<u16, CaseError>
     Ok(jobs as u16)
 }
 
+/// What the close of a case is answered by.
+fn hand_on(closed: Result<Closed, CloseFault>) -> Result<Closed, CaseError>
+    ensures { result ≡ handed_on closed }
+{
+    Ok(closed?)
+}
+
 /// Closes a case of which all runs have left. Where memory was refused to a behaviour, nothing else is judged.
 #[tactic(auto, using(crate::proofs::Reporting::case_report))]
 fn close<R: Wait>(
@@ -57,10 +67,49 @@ fn close<R: Wait>(
     if gathered.starved {
         return Err(CaseError::NoMemory);
     }
-    Ok(close_case(rt, alloc, shared, gathered.lefts)?)
+    hand_on(close_case(rt, alloc, shared, gathered.lefts))
 }
 
-/// Calls the behaviour of run 0, joins the workers, and closes the case.
+/// Calls the behaviour of run 0, and joins all workers, whatever came back.
+fn gather<R: Threads + Wait, B: Callable>(
+    rt: &R,
+    pass: Pass,
+    first: B,
+    workers: Vec<PromisedHandle<Handed, Task<B>>>,
+    gathered: Gathered,
+) -> Gathered
+    requires main { pass ≡ opening }
+    requires empty { gathered.lefts.items ≡ [] }
+    requires room { vec_len workers < vec_capacity gathered.lefts }
+    ensures all { vec_len result.lefts ≡ vec_len workers + 1 }
+    ensures called { WasCalledFor (record { 0 = 0 }) (B.outcome first) }
+    ensures first { (d : LeftState) → (slice_index_or result.lefts.items 0 d).started ≢ None }
+    ensures lefts { result.starved ≡ false → AreLeftBy B.outcome (record { 0 = 0 } ∷ map (λ w. w.promise.run) workers.items) (first ∷ map (λ w. w.promise.behaviour.value) workers.items) result.lefts.items }
+{
+    let mut gathered = gathered;
+    gathered.take(act(rt, first, pass));
+    join_workers(rt, workers, &mut gathered);
+    gathered
+}
+
+/// Ends a case of which no behaviour was called: leaves the pass of run 0, so that no run can be started any more, and joins all workers
+/// that were made.
+fn dismiss<R: Threads + Wait, B: Callable>(
+    rt: &R,
+    pass: Pass,
+    workers: Vec<PromisedHandle<Handed, Task<B>>>,
+    gathered: Gathered,
+) -> Gathered
+    requires room { vec_len gathered.lefts + vec_len workers ≤ vec_capacity gathered.lefts }
+    ensures all { vec_len result.lefts ≡ vec_len gathered.lefts + vec_len workers }
+{
+    let mut gathered = gathered;
+    pass.leave(rt);
+    join_workers(rt, workers, &mut gathered);
+    gathered
+}
+
+/// Runs the behaviours of a case of which all workers were made, and closes it.
 fn run_made<R: Threads + Wait, B: Callable>(
     rt: &R,
     alloc: Global,
@@ -79,9 +128,7 @@ fn run_made<R: Threads + Wait, B: Callable>(
     ensures called { IfOk result (AreCalled B.outcome (first ∷ map (λ w. w.promise.behaviour.value) workers.items)) }
     ensures made { IfOk result (IsMadeOf B.outcome (first ∷ map (λ w. w.promise.behaviour.value) workers.items)) }
 {
-    let mut gathered = gathered;
-    gathered.take(act(rt, first, pass));
-    join_workers(rt, workers, &mut gathered);
+    let gathered = gather(rt, pass, first, workers, gathered);
     close(rt, alloc, shared, gathered)
 }
 
@@ -101,6 +148,8 @@ fn run_jobs<R: Threads + Wait + Copy + Send + 'static, B: Callable, G: Gate>(
     ensures report { IfOk result (IsCaseReport behaviours) }
     ensures called { IfOk result (AreCalled B.outcome jobs.items) }
     ensures made { IfOk result (IsMadeOf B.outcome jobs.items) }
+    ensures asked { OnOk result (IsPassed G.asks behaviours gate.old gate.new) }
+    ensures stopped { result ≡ Err NoThread → IsStopped G.asks behaviours gate.old gate.new }
 {
     let count = usize::from(behaviours);
     let (shared, pass, tickets) = open_case(alloc, behaviours)?;
@@ -109,9 +158,7 @@ fn run_jobs<R: Threads + Wait + Copy + Send + 'static, B: Callable, G: Gate>(
     let mut jobs = jobs;
     let first = jobs.remove(0);
     if !make_workers(rt, gate, tickets, jobs, &mut workers) {
-        let mut gathered = gathered;
-        pass.leave(rt);
-        join_workers(rt, workers, &mut gathered);
+        dismiss(rt, pass, workers, gathered);
         return Err(CaseError::NoThread);
     }
     run_made(rt, alloc, shared, pass, first, workers, gathered)
@@ -144,8 +191,8 @@ pub fn run_case<R: Threads + Wait + Copy + Send + 'static>(
     run_case_with(rt, alloc, jobs, threads, &mut Everyone)
 }
 
-/// Runs a test case as `run_case` does, of jobs of any kind. The gate is asked for each worker, in the order of the runs, right before its
-/// thread is made; where it refuses one, no later run is asked about.
+/// Runs a test case as `run_case` does, of jobs of any kind. The gate is asked once for each worker, in the order of the runs, right before
+/// its thread is made; where it refuses one, no later run is asked about.
 pub fn run_case_with<R: Threads + Wait + Copy + Send + 'static, B: Callable, G: Gate>(
     rt: &R,
     alloc: Global,
@@ -160,6 +207,8 @@ pub fn run_case_with<R: Threads + Wait + Copy + Send + 'static, B: Callable, G: 
     ensures report { IfOk result (IsCaseReport (vec_len jobs)) }
     ensures called { IfOk result (AreCalled B.outcome jobs.items) }
     ensures made { IfOk result (IsMadeOf B.outcome jobs.items) }
+    ensures asked { OnOk result (IsPassed G.asks (vec_len jobs) gate.old gate.new) }
+    ensures stopped { result ≡ Err NoThread → vec_len jobs ≤ threads + 1 → IsStopped G.asks (vec_len jobs) gate.old gate.new }
 {
     let behaviours = behaviours_of(jobs.len(), threads)?;
     run_jobs(rt, alloc, behaviours, jobs, gate)

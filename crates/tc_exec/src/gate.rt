@@ -1,12 +1,16 @@
 //! Who is asked before a worker is made.
-ghost use Rattle.std.specs.Prelude.{IsTrue};
+ghost use Rattle.std.specs.Prelude.{◌≡◌, Bool, true};
+ghost use Rattle.tc_verdict.specs.declared.run.Run.{Run};
 
 use tc_verdict::Run;
 
-/// Is asked before the worker of a run is made.
+/// Is asked before the worker of a run is made. Contracts see what a question does to it, and how it may be answered.
 pub trait Gate {
+    ghost asks: { Self → Run → Self → Bool → Type 0 };
+
     /// Whether the worker of this run may be made. A refusal counts as a thread that could not be made.
-    fn allow(&mut self, run: Run) -> bool;
+    fn allow(&mut self, run: Run) -> bool
+        ensures { asks self.old run self.new result };
 }
 
 /// Allows every worker.
@@ -14,9 +18,9 @@ pub trait Gate {
 pub struct Everyone;
 
 impl Gate for Everyone {
-    fn allow(&mut self, _run: Run) -> bool
-        ensures { IsTrue result }
-    {
+    ghost asks = { λ _ _ _ answer. answer ≡ true };
+
+    fn allow(&mut self, _run: Run) -> bool {
         true
     }
 }

@@ -1,9 +1,10 @@
 //! The threads of a case.
-ghost use Rattle.std.specs.Prelude.{◌≡◌, ◌<◌, ◌≤◌, ◌+◌, ◌++◌, [], IsTrue, false, List, length, map, slice_index_or};
+ghost use Rattle.std.specs.Prelude.{◌≡◌, ◌<◌, ◌≤◌, ◌+◌, ◌++◌, [], IsTrue, IsFalse, false, List, length, map, slice_index_or};
 ghost use Rattle.std.specs.Vec.{vec_len, vec_capacity};
 ghost use Rattle.tc_verdict.specs.declared.run.Run.{Run};
 ghost use Rattle.tc_book.specs.Passes.{LeftState};
 ghost use Rattle.tc_exec.specs.Workers.{IsWorked, AreLeftBy};
+ghost use Rattle.tc_exec.specs.Gates.{AreAllowed, IsAskedUpTo};
 
 use crate::callable::Callable;
 use crate::gate::Gate;
@@ -43,6 +44,8 @@ pub(crate) fn make_workers<R: Threads + Wait + Copy + Send + 'static, B: Callabl
     ensures runs { IsTrue result → map (λ w. w.promise.run) workers.new.items ≡ tickets.items }
     ensures behaviours { IsTrue result → map (λ w. w.promise.behaviour.value) workers.new.items ≡ behaviours.items }
     ensures none { vec_len tickets ≡ 0 → IsTrue result }
+    ensures asked { IsTrue result → AreAllowed G.asks tickets.items gate.old gate.new }
+    ensures stopped { IsFalse result → IsAskedUpTo G.asks tickets.items gate.old gate.new }
 {
     let rt = *rt;
     let mut tickets = tickets.into_iter();

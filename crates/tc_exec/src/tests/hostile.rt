@@ -1,6 +1,10 @@
 //! Behaviours that do what they should not, and threads that are refused.
+ghost use Rattle.std.specs.Prelude.{⊤};
+
 use crate::tests::{Behaviour, back};
 use crate::*;
+use std::fs;
+use std::rt::Files;
 use std::sync::atomic::{AtomicU64, Ordering};
 use std::sync::{Arc, Wait};
 use std::test::Fail;
@@ -16,6 +20,8 @@ struct Refuses {
 }
 
 impl Gate for Refuses {
+    ghost asks = { λ _ _ _ _. ⊤ };
+
     fn allow(&mut self, run: Run) -> bool {
         self.asked.push(run).is_ok() && run != self.run
     }
@@ -77,6 +83,89 @@ fn workers_end_before_a_refusal(rt: HostRuntime) -> Result<(), Fail> {
     let refused = run_case_with(&rt, alloc, jobs, 2, &mut gate);
     assert_eq!(rt; gone.load(Ordering::SeqCst), 1);
     assert!(rt; matches!(refused, Err(CaseError::NoThread)));
+    Ok(())
+}
+
+#[test]
+fn workers_end_before_want_of_memory(rt: HostRuntime) -> Result<(), Fail> {
+    let alloc = rt.alloc();
+    let gone = Arc::new(alloc, AtomicU64::new(0))?;
+    let lingers = Lingers(Arc::try_clone(&gone)?);
+    let first: Behaviour = Box::new(alloc, move |pass: Pass| back(pass, Err(Halt::NoMemory)))?;
+    let second: Behaviour = Box::new(alloc, move |pass: Pass| {
+        drop(lingers);
+        back(pass, Ok(()))
+    })?;
+    let jobs = vec![in alloc; Job::new(first), Job::new(second)]?;
+    let refused = run_case(&rt, alloc, jobs, 1);
+    assert_eq!(rt; gone.load(Ordering::SeqCst), 1);
+    assert!(rt; matches!(refused, Err(CaseError::NoMemory)));
+    Ok(())
+}
+
+/// How many threads the program has; none where the system does not tell.
+fn threads_now<R: Files + Alloc>(rt: &R) -> u64 {
+    let Ok(status) = fs::read_to_string(rt, "/proc/self/status") else {
+        return 0;
+    };
+    for line in status.as_str().lines() {
+        if let Some(count) = line.strip_prefix("Threads:") {
+            return count.trim().parse::<u64>().unwrap_or(0);
+        }
+    }
+    0
+}
+
+/// Looks at the number of threads until it is one of these, ten thousand times at most, and says whether it was.
+fn are_threads<R: Files + Alloc>(rt: &R, least: u64, most: u64) -> bool {
+    for _ in 0..10_000u32 {
+        let threads = threads_now(rt);
+        if least <= threads && threads <= most {
+            return true;
+        }
+    }
+    false
+}
+
+/// Allows every worker, and keeps how many questions found a thread for each worker that was allowed before.
+#[derive(Drop)]
+struct Counts<R: Files + Alloc> {
+    rt: R,
+    asked: u64,
+    found: u64,
+}
+
+impl<R: Files + Alloc> Gate for Counts<R> {
+    ghost asks = { λ _ _ _ _. ⊤ };
+
+    fn allow(&mut self, _run: Run) -> bool {
+        self.asked = self.asked.saturating_add(1);
+        if are_threads(&self.rt, self.asked, 64) {
+            self.found = self.found.saturating_add(1);
+        }
+        true
+    }
+}
+
+// Seven questions: when a worker is asked about, the threads of all before it are there.
+#[test]
+fn a_thread_lives_before_the_next_question(rt: HostRuntime) -> Result<(), Fail> {
+    let alloc = rt.alloc();
+    let mut jobs = Vec::new(alloc);
+    for _ in 0..8 {
+        let run: Behaviour = Box::new(alloc, move |pass: Pass| back(pass, Ok(())))?;
+        jobs.push(Job::new(run))?;
+    }
+    assert!(rt; are_threads(&rt, 1, 1));
+    let mut gate = Counts {
+        rt,
+        asked: 0,
+        found: 0,
+    };
+    let report = run_case_with(&rt, alloc, jobs, 7, &mut gate)?;
+    assert_eq!(rt; report.logs.as_slice().len(), 1);
+    assert_eq!(rt; gate.asked, 7);
+    assert_eq!(rt; gate.found, 7);
     Ok(())
 }
 

@@ -1,5 +1,10 @@
-use Rattle.std.proofs.Common.{rules, ◌≡◌}
-use Rattle.tc_exec.proofs.Lists.{moved}
+use Rattle.std.proofs.Common.{rules, arith, ◌≡◌, ◌∙◌, ◌++◌, sym, ap, map, subst}
+use Rattle.std.specs.Vec.Iter.{into_iter_items}
+use Rattle.tc_exec.specs.Gates.{AreAllowed}
+use Rattle.std.proofs.lemmas.List.{length-map}
+use Rattle.std.specs.Vec.{vec_len}
+use Rattle.tc_exec.proofs.Lists.{moved, whole}
+use Rattle.tc_exec.proofs.Gates.{allowed_more}
 use Rattle.tc_exec.proofs.worker.make_workers.Goals as goal
 
 pub loop-behaviour-preserved : goal.loop-behaviour-preserved
@@ -12,4 +17,35 @@ loop-behaviour-preserved g c =
       search rules,
       rw c.push_reserved.ensures.items (moved _ _ _ _ _ _ _ was.3 c.in-Some-next.ensures.cases.0 run),
       rw c.push_reserved.ensures.items (moved _ _ _ _ _ _ _ was.4 c.in-Some.ensures.steps.0 behaviour),
+      allowed_more g.G.Gate.asks (λ w. w.promise.run) c.loop-behaviour.workers.items c.in-Ok.worker _ c.run.result c.allow.result _ _ _ was.5 c.allow.ensures (search rules) (run ∙ sym c.run.ensures) c.push_reserved.ensures.items,
     )
+
+pub returns-then-not-allow-clause-stopped : goal.returns-then-not-allow-clause-stopped
+returns-then-not-allow-clause-stopped g c = λ _. record {
+  asked = map (λ w. w.promise.run) c.loop-behaviour.workers.items;
+  last = c.in-Some-next.ticket;
+  left = into_iter_items c.next-in-loop-behaviour.new.self;
+  prefix = sym c.loop-behaviour.invariant.3 ∙ ap (λ rs. map (λ w. w.promise.run) c.loop-behaviour.workers.items ++ rs) c.in-Some-next.ensures.cases.0;
+  between = c.loop-behaviour.gate;
+  allowed = c.loop-behaviour.invariant.5;
+  answer = c.allow.result;
+  at_last = subst (λ run. g.G.Gate.asks c.loop-behaviour.gate run c.allow.new.self c.allow.result) c.run.ensures c.allow.ensures;
+}
+
+pub returns-in_default-spawn_with-clause-stopped : goal.returns-in_default-spawn_with-clause-stopped
+returns-in_default-spawn_with-clause-stopped g c = λ _. record {
+  asked = map (λ w. w.promise.run) c.loop-behaviour.workers.items;
+  last = c.in-Some-next.ticket;
+  left = into_iter_items c.next-in-loop-behaviour.new.self;
+  prefix = sym c.loop-behaviour.invariant.3 ∙ ap (λ rs. map (λ w. w.promise.run) c.loop-behaviour.workers.items ++ rs) c.in-Some-next.ensures.cases.0;
+  between = c.loop-behaviour.gate;
+  allowed = c.loop-behaviour.invariant.5;
+  answer = c.allow.result;
+  at_last = subst (λ run. g.G.Gate.asks c.loop-behaviour.gate run c.allow.new.self c.allow.result) c.run.ensures c.allow.ensures;
+}
+
+pub returns-clause-asked : goal.returns-clause-asked
+returns-clause-asked g c = λ _.
+    let count : vec_len c.loop-behaviour.workers ≡ vec_len c.args.tickets = search rules in
+    let all = whole _ _ _ c.loop-behaviour.invariant.3 (omega (arith, count, length-map c.loop-behaviour.workers.items (λ w. w.promise.run))) in
+    subst (λ rs. AreAllowed g.G.Gate.asks rs c.args.gate.now c.loop-behaviour.gate) all c.loop-behaviour.invariant.5
