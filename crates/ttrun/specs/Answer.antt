@@ -1,5 +1,5 @@
 -- What the program does with its words.
-use Rattle.std.specs.Prelude.{ℕ, ◌≡◌, ◌≢◌, ◌++◌, [], ◌∷◌, List, Option, Result, IfOk, IfErr, codes}
+use Rattle.std.specs.Prelude.{ℕ, ◌≡◌, ◌≢◌, ◌++◌, [], ◌∷◌, List, Option, Result, IfOk, IfErr, OnErr, codes}
 use Rattle.std.specs.declared.io.ErrorKind.{ErrorKind as IoKind}
 use Rattle.std.specs.declared.io.ErrorKind.TheVariants as IoKinds
 use Rattle.clap.specs.Values.{kind_of}
@@ -40,9 +40,11 @@ abbrev pub IsUnread : IoKind → Option (List ℕ) → Option (List ℕ) → Out
 IsUnread IoKinds.OutOfMemory untold told outcome = IsRefusal untold told outcome F.NoMemory
 IsUnread kind untold told outcome = (outcome.status ≡ 3) × IsTold untold told not_utf8_line outcome.told
 
--- the words are a task, which was carried out; or they ask for no task, and help or a refusal was shown
-pub record IsAnswered (words : List (List ℕ)) (input before after untold told : Option (List ℕ)) (outcome : Outcome) : Type 0 where
+-- The words are a task, which was carried out; or they ask for no task: help or a refusal was shown, and the input was not
+-- read. For refused words nothing was written.
+pub record IsAnswered (words : List (List ℕ)) (input before after untold told : Option (List ℕ)) (Unread Unwritten : Type 0) (outcome : Outcome) : Type 0 where
   pub asked : Result Task Error
   pub task : IfOk asked (λ task. IsCarriedOut task input before after untold told outcome)
   pub help : IfErr asked (λ error. kind_of error ≡ Kinds.DisplayHelp → IsHelped before after untold told outcome)
-  pub mistake : IfErr asked (λ error. IsMistake (kind_of error) → IsRefusedLine untold told outcome)
+  pub mistake : IfErr asked (λ error. IsMistake (kind_of error) → IsRefusedLine untold told outcome × Unwritten)
+  pub unread : OnErr asked Unread

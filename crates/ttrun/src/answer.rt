@@ -9,7 +9,7 @@ use crate::carry_out::carry_out;
 use crate::command::{Task, read_task};
 use crate::fault::RunFault;
 use crate::outcome::{Outcome, REFUSED};
-use crate::tell::{refuse, settle};
+use crate::tell::refuse;
 use clap::Error;
 use std::alloc::Global;
 use std::io;
@@ -27,7 +27,8 @@ fn show<W: Write>(alloc: Global, error: &Error, writer: &mut W) -> Result<(), Ru
     Ok(())
 }
 
-/// The outcome of words that ask for no task: help is written, and for refused words standard error says why.
+/// The outcome of words that ask for no task: help is written, and for refused words standard error says why. The texts
+/// are clap's.
 pub fn answer_no_task<W: Write, E: Write>(
     alloc: Global,
     error: &Error,
@@ -45,11 +46,13 @@ pub fn answer_no_task<W: Write, E: Write>(
             told: show(alloc, error, errors),
         };
     }
-    let answer = match show(alloc, error, writer) {
-        Ok(()) => Ok(0),
-        Err(fault) => Err(fault),
-    };
-    settle(alloc, errors, answer)
+    match show(alloc, error, writer) {
+        Ok(()) => Outcome {
+            status: 0,
+            told: Ok(()),
+        },
+        Err(fault) => refuse(alloc, errors, fault),
+    }
 }
 
 /// The outcome of words that could not be had; standard error says why.
@@ -78,7 +81,8 @@ pub fn answer<R, I: Read, W: Write, E: Write>(
 where
     R: Threads + Wait + Copy + Send + 'static,
     ensures had { IfOk words (λ given. IsAnswered (map string_bytes given.items) (I.remaining reader.old)
-        (W.contents writer.old) (W.contents writer.new) (E.contents errors.old) (E.contents errors.new) result) }
+        (W.contents writer.old) (W.contents writer.new) (E.contents errors.old) (E.contents errors.new)
+        (reader.new ≡ reader.old) (writer.new ≡ writer.old) result) }
     ensures not_had { IfErr words (λ error. IsUnread (error_kind error) (E.contents errors.old) (E.contents errors.new) result) }
     ensures unread { OnErr words (reader.new ≡ reader.old) }
     ensures unwritten { OnErr words (writer.new ≡ writer.old) }
