@@ -1,7 +1,6 @@
 pub mod Replaying
 pub mod Running
 pub mod Scripted
-pub mod Settling
 pub mod Checking
 pub mod Judging
 pub mod WrittenHistories

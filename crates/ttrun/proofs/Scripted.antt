@@ -22,6 +22,8 @@ use Rattle.tc_campaign.specs.Campaign.{IsCalled, IsReported, IsRight, IsWhy}
 use Rattle.ttrun.specs.declared.fault.RunFault.{RunFault}
 use Rattle.tc_command.specs.declared.task.Form.{Form}
 use Rattle.ttrun.specs.declared.run.Options.{Options}
+use Rattle.ttrun.specs.declared.outcome.Outcome.{Outcome}
+use Rattle.ttrun.specs.Limits.{HasAtMost, script_limit}
 use Rattle.ttrun.specs.Give.{text_of, LeavesUnwritten}
 use Rattle.ttrun.specs.Run.{AreResults, IsRuleOf, IsRun, IsUnwritten}
 use Rattle.ttrun.specs.Program.{RunsScript, RefusesScriptRun}
@@ -87,23 +89,24 @@ results cs ks stop_on r each are =
     }
 
 -- a run of the test cases that were made of the script of an input is a run of that script
-pub run_done : (form : Form) (word input : Option (List ℕ)) (cs : List CaseView) (ks : List (Case ScriptView)) (options : Options) (before after untold told : Option (List ℕ)) (r : Result ℕ RunFault)
-    → IfSome input (λ text. campaign text ≡ Ok cs) → IsRuleOf word options.stop_on → options.form ≡ form → AllZip IsCaseOf cs ks
+pub run_done : (form : Form) (word input : Option (List ℕ)) (cs : List CaseView) (ks : List (Case ScriptView)) (options : Options) (before after untold told : Option (List ℕ)) (r : Result Outcome RunFault)
+    → IfSome input (λ text. campaign text ≡ Ok cs) → HasAtMost script_limit input → IsRuleOf word options.stop_on → options.form ≡ form → AllZip IsCaseOf cs ks
     → IfOk r (IsRun outline_of (IsCalled Acts) ks options before after untold told) → IfOk r (RunsScript form word input before after untold told)
-run_done form word input cs ks options before after untold told (Err fault) spelled named same each run = tt
-run_done form word input cs ks options before after untold told (Ok status) spelled named same each run = record {
+run_done form word input cs ks options before after untold told (Err fault) spelled fits named same each run = tt
+run_done form word input cs ks options before after untold told (Ok outcome) spelled fits named same each run = record {
   cases = cs;
   rule = options.stop_on;
   spelled = spelled;
+  fits = fits;
   named = named;
   run = (run.0, results cs ks options.stop_on run.0 each run.1, run.2, subst (λ f. Appends before after (text_of f run.0)) same run.3, run.4);
 }
 
-pub run_refused : (form : Form) (word input : Option (List ℕ)) (limit : ℕ) (cs : List CaseView) (ks : List (Case ScriptView)) (options : Options) (before after : Option (List ℕ)) (r : Result ℕ RunFault)
+pub run_refused : (form : Form) (word input : Option (List ℕ)) (cs : List CaseView) (ks : List (Case ScriptView)) (options : Options) (before after : Option (List ℕ)) (r : Result Outcome RunFault)
     → IfSome input (λ text. campaign text ≡ Ok cs) → IsRuleOf word options.stop_on → options.form ≡ form → AllZip IsCaseOf cs ks
-    → IfErr r (IsUnwritten outline_of (IsCalled Acts) ks options before after) → IfErr r (RefusesScriptRun form word limit input before after)
-run_refused form word input limit cs ks options before after (Ok status) spelled named same each run = tt
-run_refused form word input limit cs ks options before after (Err fault) spelled named same each run = inr (record {
+    → IfErr r (IsUnwritten outline_of (IsCalled Acts) ks options before after) → IfErr r (RefusesScriptRun form word input before after)
+run_refused form word input cs ks options before after (Ok outcome) spelled named same each run = tt
+run_refused form word input cs ks options before after (Err fault) spelled named same each run = inr (record {
   cases = cs;
   rule = options.stop_on;
   spelled = spelled;

@@ -11,6 +11,7 @@ use Rattle.tc_table.specs.Local.{overall}
 use Rattle.tc_table.specs.Check.{DiffersAt}
 use Rattle.tc_history.specs.declared.read.Block.{Block}
 use Rattle.tc_history.specs.Text.{AreHistories}
+use Rattle.ttrun.specs.Fault.{place_text}
 use Rattle.ttrun.specs.declared.judge.Judgement.{Judgement}
 use Rattle.ttrun.specs.declared.judge.Judgement.TheVariants as J
 
@@ -38,10 +39,6 @@ judges_legal (J.OtherVerdict line given verdict) = false
 -- the line of a legal history: its name, how many entries it has, its verdict
 abbrev pub legal_line : List ℕ → ℕ → Verdict → List ℕ
 legal_line name entries verdict = codes "legal " ++ (name ++ (codes " " ++ (decimal entries ++ (codes " " ++ (name_of verdict ++ (10 ∷ []))))))
-
--- the number of a line
-unfoldable pub place_text : ℕ → List ℕ
-place_text line = codes "line " ++ (decimal line ++ codes ": ")
 
 -- the words before what the table gives
 unfoldable pub gives_text : List ℕ

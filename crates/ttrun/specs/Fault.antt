@@ -1,5 +1,5 @@
 -- The faults of the program: what each says of the input and the output, and its line on standard error.
-use Rattle.std.specs.Prelude.{ℕ, ◌<◌, List, [], ◌∷◌, ◌++◌, Option, IfSome, length, codes}
+use Rattle.std.specs.Prelude.{ℕ, ◌<◌, List, [], ◌∷◌, ◌++◌, Option, Some, None, IfSome, length, codes}
 use Rattle.std.specs.Fmt.{decimal}
 use Rattle.std.specs.Io.KnownBytes.{Keeps}
 use Rattle.tc_stream.specs.declared.input.InputFault.{InputFault}
@@ -8,7 +8,6 @@ use Rattle.tc_text.specs.declared.fault.TextFault.{TextFault}
 use Rattle.tc_text.specs.declared.fault.TextFault.TheVariants as T
 use Rattle.tc_text.specs.MoveList.{IsListFault}
 use Rattle.tc_text.specs.TextKind.{kind_text}
-use Rattle.tc_script.specs.declared.fault.ScriptFault.{ScriptFault}
 use Rattle.tc_line.specs.ScriptKind.{kind_text as script_kind_text}
 use Rattle.ttrun.specs.declared.fault.RunFault.{RunFault}
 use Rattle.ttrun.specs.declared.fault.RunFault.TheVariants as F
@@ -36,24 +35,40 @@ Refuses HasFault Gives limit input before after (F.Script fault) = ⊥
 Refuses HasFault Gives limit input before after F.StopOn = ⊥
 Refuses HasFault Gives limit input before after (F.Text fault) = Keeps before after × IfSome input (λ text. HasFault text fault)
 
--- the text of a fault that a text has
-abbrev pub text_fault_text : TextFault → List ℕ
-text_fault_text (T.At line kind) = codes "line " ++ (decimal line ++ (codes ": " ++ kind_text kind))
-text_fault_text T.NoMemory = codes "no memory"
+-- the number of the line of the input that has the fault, where it is one of a line
+abbrev pub line_number : RunFault → Option ℕ
+line_number F.TooLong = None
+line_number F.Read = None
+line_number F.Write = None
+line_number F.NoMemory = None
+line_number (F.Text (T.At line kind)) = Some line
+line_number (F.Text T.NoMemory) = None
+line_number (F.Script fault) = Some fault.line
+line_number F.StopOn = None
 
--- the text of a fault that a script has
-abbrev pub script_fault_text : ScriptFault → List ℕ
-script_fault_text fault = codes "line " ++ (decimal fault.line ++ (codes ": " ++ script_kind_text fault.kind))
+-- the words that name a fault
+abbrev pub words_of : RunFault → List ℕ
+words_of F.TooLong = codes "input too long"
+words_of F.Read = codes "read fault"
+words_of F.Write = codes "write fault"
+words_of F.NoMemory = codes "no memory"
+words_of (F.Text (T.At line kind)) = kind_text kind
+words_of (F.Text T.NoMemory) = codes "no memory"
+words_of (F.Script fault) = script_kind_text fault.kind
+words_of F.StopOn = codes "--stop-on takes none, pass, inconc, fail or error"
+
+-- the number of a line
+unfoldable pub place_text : ℕ → List ℕ
+place_text line = codes "line " ++ (decimal line ++ codes ": ")
+
+-- the words behind the place, where there is one
+abbrev pub placed : Option ℕ → List ℕ → List ℕ
+placed None words = words
+placed (Some line) words = place_text line ++ words
 
 -- the text of a fault
 abbrev pub fault_text : RunFault → List ℕ
-fault_text F.TooLong = codes "input too long"
-fault_text F.Read = codes "read fault"
-fault_text F.Write = codes "write fault"
-fault_text F.NoMemory = codes "no memory"
-fault_text (F.Text fault) = text_fault_text fault
-fault_text (F.Script fault) = script_fault_text fault
-fault_text F.StopOn = codes "--stop-on takes none, pass, inconc, fail or error"
+fault_text fault = placed (line_number fault) (words_of fault)
 
 -- the line on standard error
 abbrev pub line_of : RunFault → List ℕ

@@ -2,7 +2,6 @@
 use Rattle.std.specs.Prelude.{ℕ, ◌≡◌, ◌⊎◌, List, All, Option, None, Some, length, map, take, slice_get}
 use Rattle.std.specs.List.{AllZip}
 use Rattle.std.specs.Io.KnownBytes.{Appends}
-use Rattle.tc_stream.specs.Output.{AppendsPrefix}
 use Rattle.tc_verdict.specs.declared.verdict.Verdict.{Verdict}
 use Rattle.tc_verdict.specs.Verdict.{name_of}
 use Rattle.tc_campaign.specs.Outline.{Outline}
@@ -14,8 +13,10 @@ use Rattle.tc_report.specs.Status.{results_status}
 use Rattle.ttrun.specs.declared.run.Options.{Options}
 use Rattle.ttrun.specs.declared.fault.RunFault.{RunFault}
 use Rattle.ttrun.specs.declared.fault.RunFault.TheVariants as F
+use Rattle.ttrun.specs.declared.outcome.Outcome.{Outcome}
 use Rattle.ttrun.specs.Give.{text_of, LeavesUnwritten}
 use Rattle.ttrun.specs.Script.{RefusesScript}
+use Rattle.ttrun.specs.Tell.{IsTold}
 
 -- the bytes of a word, where there is one
 abbrev pub bytes_of : {X : Type 0} → (X → List ℕ) → Option X → Option (List ℕ)
@@ -57,13 +58,13 @@ pub record AreResults {C : Type 0} (outline : C → Outline) (called : C → Fin
   pub behaviours : All HasBehaviours r.finished
   pub why : IsWhy (slice_get (map outline cases) (length r.finished)) r.ending
 
--- The text of the results of these cases under these options was written, and this is their status. The line for a
--- campaign that was aborted was told, whole or a prefix of it; for another nothing was.
+-- The text of the results of these cases under these options was written, and the outcome has their status. The line for a
+-- campaign that was aborted was told, as the outcome says; for another nothing was.
 abbrev pub IsRun : {C : Type 0} → (C → Outline) → (C → Finished → Type 0) → List C → Options →
-    Option (List ℕ) → Option (List ℕ) → Option (List ℕ) → Option (List ℕ) → ℕ → Type 0
-IsRun outline called cases options before after untold told status =
-    (r : Results) × AreResults outline called cases options.stop_on r × (status ≡ results_status r) × Appends before after (text_of options.form r)
-    × AppendsPrefix untold told (abort_text r.ending)
+    Option (List ℕ) → Option (List ℕ) → Option (List ℕ) → Option (List ℕ) → Outcome → Type 0
+IsRun outline called cases options before after untold told outcome =
+    (r : Results) × AreResults outline called cases options.stop_on r × (outcome.status ≡ results_status r) × Appends before after (text_of options.form r)
+    × IsTold untold told (abort_text r.ending) outcome.told
 
 -- the text of the results of these cases under these options was not written whole
 abbrev pub IsUnwritten : {C : Type 0} → (C → Outline) → (C → Finished → Type 0) → List C → Options → Option (List ℕ) → Option (List ℕ) → RunFault → Type 0

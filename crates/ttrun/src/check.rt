@@ -1,32 +1,34 @@
 //! The subcommand `check`.
-ghost use Rattle.std.specs.Prelude.{◌≡◌, ◌≤◌, length, List, IfOk, IfErr, IfSome, MatchResult, OnOk};
+ghost use Rattle.std.specs.Prelude.{◌≡◌, ◌≤◌, length, List, IfOk, IfErr, MatchResult, OnOk};
 ghost use Rattle.tc_history.specs.declared.read.Block.{Block as AnyBlock};
 ghost use Rattle.tc_history.specs.Text.{AreHistories, IsHistoryFault};
 ghost use Rattle.ttrun.specs.Check.{Checks, IsCheckOf, IsChecked};
 ghost use Rattle.ttrun.specs.Inside.{RefusesHistory};
 ghost use Rattle.ttrun.specs.Output.{Writes};
 ghost use Rattle.ttrun.specs.Fault.{Refuses};
+ghost use Rattle.ttrun.specs.Limits.{HasAtMost, history_limit};
 ghost use Rattle.ttrun.specs.WrittenHistories.{FindsWrittenLegal};
 
 use crate::check_lines::append_judgement;
 use crate::fault::RunFault;
 use crate::judge::{fault_at, is_legal, judge_block};
-use crate::status::REFUSED;
+use crate::outcome::REFUSED;
 use std::alloc::Global;
 use std::io::{Read, Write};
 use tc_stream::{read_input, write_whole};
 use tc_table::TextKind;
 
 /// How many bytes a history text may have.
-pub const LIMIT: usize = 16_777_216;
+const LIMIT: usize = 16_777_216;
 
 // What is printed for the histories that the text spells, up to the first that is not legal, and whether all are; else
 // the text's first fault, or NoMemory. The text is read to its end also behind a history that is not legal.
 fn check_text(alloc: Global, text: &[u8]) -> Result<(Vec<u8>, bool), RunFault>
-    requires { length text.now ≤ LIMIT }
+    requires { length text.now ≤ history_limit }
     ensures done { IfOk result (λ r. IsCheckOf text.now r.0.items r.1) }
     ensures refused { IfErr result (RefusesHistory text.now) }
-    ensures only { (blocks : List AnyBlock) → AreHistories text.now blocks → MatchResult result (λ r. Checks blocks r.0.items r.1) (λ e. e ≡ RunFault.NoMemory) }
+    ensures only { (blocks : List AnyBlock) → AreHistories text.now blocks
+        → MatchResult result (λ r. Checks blocks r.0.items r.1) (λ e. e ≡ RunFault.NoMemory) }
 {
     if text.is_empty() {
         return Err(fault_at(1, TextKind::Early));
@@ -55,9 +57,10 @@ pub fn check<R: Read, W: Write>(
     reader: &mut R,
     writer: &mut W,
 ) -> Result<u8, RunFault>
-    ensures done { IfOk result (λ status. Writes IsChecked (R.remaining reader.old) (W.contents writer.old) (W.contents writer.new) status) }
-    ensures fits { OnOk result (IfSome (R.remaining reader.old) (λ text. length text ≤ LIMIT)) }
-    ensures refused { IfErr result (λ fault. Refuses IsHistoryFault IsChecked LIMIT (R.remaining reader.old) (W.contents writer.old) (W.contents writer.new) fault) }
+    ensures done { IfOk result (Writes IsChecked (R.remaining reader.old) (W.contents writer.old) (W.contents writer.new)) }
+    ensures fits { OnOk result (HasAtMost history_limit (R.remaining reader.old)) }
+    ensures refused { IfErr result (Refuses IsHistoryFault IsChecked history_limit (R.remaining reader.old)
+        (W.contents writer.old) (W.contents writer.new)) }
     ensures written { FindsWrittenLegal (R.remaining reader.old) (W.contents writer.old) (W.contents writer.new) result }
 {
     let text = read_input(alloc, reader, LIMIT)?;

@@ -2,8 +2,9 @@
 ghost use Rattle.std.specs.Prelude.{◌≡◌, ◌++◌, OnOk};
 ghost use Rattle.tc_text.specs.Spelling.{reply_text};
 ghost use Rattle.tc_verdict.specs.Verdict.{name_of};
-ghost use Rattle.ttrun.specs.Check.{gives_text, judgement_line, legal_line, other_line, place_text};
+ghost use Rattle.ttrun.specs.Check.{gives_text, judgement_line, legal_line, other_line};
 
+use crate::fault::append_place;
 use crate::judge::Judgement;
 use tc_entry::Name;
 use tc_table::{NoMemory, Reply, Verdict};
@@ -27,16 +28,6 @@ fn append_legal(
     append_text(out, name_of_verdict(verdict))?;
     out.push(b'\n')?;
     Ok(())
-}
-
-// Appends the number of a line; where memory is refused, a part of it.
-#[tactic(auto, unfolding(crate::specs::Check::place_text))]
-fn append_place(out: &mut Vec<u8>, line: usize) -> Result<(), NoMemory>
-    ensures { OnOk result (out.new.items ≡ out.old.items ++ place_text line) }
-{
-    append_text(out, "line ")?;
-    append_number(out, line as u64)?;
-    append_text(out, ": ")
 }
 
 // Appends the words before what the table gives.

@@ -1,16 +1,18 @@
 //! The faults of the program, and their lines on standard error.
-ghost use Rattle.std.specs.Prelude.{◌≡◌, ◌++◌, OnOk, OnErr};
+ghost use Rattle.std.specs.Prelude.{◌≡◌, ◌++◌, OnOk, OnErr, Some};
 ghost use Rattle.std.specs.Io.{StartsWith};
-ghost use Rattle.ttrun.specs.Fault.{fault_text, line_of, script_fault_text, text_fault_text};
+ghost use Rattle.ttrun.specs.Fault.{fault_text, line_number, line_of, place_text, words_of};
 
 use std::alloc::{AllocError, AllocFailed};
+use std::fmt;
 use tc_script::ScriptFault;
 use tc_stream::WriteFault;
 use tc_table::{InputFault, NoMemory, TextFault};
 use tc_text::{append_number, append_text};
+use thiserror::Error;
 
 /// Why a command was not carried out.
-#[derive(Clone, Copy, Debug, PartialEq, Eq)]
+#[derive(Clone, Copy, Debug, PartialEq, Eq, Error)]
 pub enum RunFault {
     /// The input has more bytes than its limit.
     TooLong,
@@ -98,32 +100,56 @@ impl From<TextFault> for RunFault {
     }
 }
 
-// Appends the text of the fault; where memory is refused, a part of it.
-fn append_text_fault(out: &mut Vec<u8>, fault: &TextFault) -> Result<(), NoMemory>
-    ensures ok { OnOk result (out.new.items ≡ out.old.items ++ text_fault_text fault.now) }
-    ensures err { OnErr result (StartsWith out.new.items out.old.items) }
-{
-    match fault {
-        TextFault::At { line, kind } => {
-            append_text(out, "line ")?;
-            append_number(out, *line as u64)?;
-            append_text(out, ": ")?;
-            append_text(out, kind.text())?;
+impl RunFault {
+    // The number of the line that has the fault, where it is one of a line of the input.
+    fn line(&self) -> Option<usize>
+        ensures { result ≡ line_number self.now }
+    {
+        match self {
+            RunFault::Text(TextFault::At { line, .. }) => Some(*line),
+            RunFault::Script(fault) => Some(fault.line),
+            _ => None,
         }
-        TextFault::NoMemory => append_text(out, "no memory")?,
     }
-    Ok(())
+
+    // The words that name the fault.
+    fn words(&self) -> &'static str
+        ensures { result.now ≡ words_of self.now }
+    {
+        match self {
+            RunFault::TooLong => "input too long",
+            RunFault::Read => "read fault",
+            RunFault::Write => "write fault",
+            RunFault::NoMemory | RunFault::Text(TextFault::NoMemory) => "no memory",
+            RunFault::Text(TextFault::At { kind, .. }) => kind.text(),
+            RunFault::Script(fault) => fault.kind.text(),
+            RunFault::StopOn => "--stop-on takes none, pass, inconc, fail or error",
+        }
+    }
 }
 
-// Appends the text of the fault; where memory is refused, a part of it.
-fn append_script_fault(out: &mut Vec<u8>, fault: ScriptFault) -> Result<(), NoMemory>
-    ensures ok { OnOk result (out.new.items ≡ out.old.items ++ script_fault_text fault) }
+impl fmt::Display for RunFault {
+    ghost output = { λ f. Some (fault_text f) };
+
+    #[tactic(auto, unfolding(crate::specs::Fault::place_text))]
+    fn fmt<W: fmt::Write>(&self, f: &mut fmt::Formatter<W>) -> fmt::Result {
+        let words = self.words();
+        match self.line() {
+            Some(line) => write!(f, "line {line}: {words}"),
+            None => f.write_str(words),
+        }
+    }
+}
+
+/// Appends the number of a line; where memory is refused, a part of it.
+#[tactic(auto, unfolding(crate::specs::Fault::place_text))]
+pub(crate) fn append_place(out: &mut Vec<u8>, line: usize) -> Result<(), NoMemory>
+    ensures ok { OnOk result (out.new.items ≡ out.old.items ++ place_text line) }
     ensures err { OnErr result (StartsWith out.new.items out.old.items) }
 {
     append_text(out, "line ")?;
-    append_number(out, fault.line as u64)?;
-    append_text(out, ": ")?;
-    append_text(out, fault.kind.text())
+    append_number(out, line as u64)?;
+    append_text(out, ": ")
 }
 
 // Appends the text of the fault; where memory is refused, a part of it.
@@ -131,16 +157,10 @@ fn append_fault(out: &mut Vec<u8>, fault: &RunFault) -> Result<(), NoMemory>
     ensures ok { OnOk result (out.new.items ≡ out.old.items ++ fault_text fault.now) }
     ensures err { OnErr result (StartsWith out.new.items out.old.items) }
 {
-    match fault {
-        RunFault::TooLong => append_text(out, "input too long")?,
-        RunFault::Read => append_text(out, "read fault")?,
-        RunFault::Write => append_text(out, "write fault")?,
-        RunFault::NoMemory => append_text(out, "no memory")?,
-        RunFault::Text(fault) => append_text_fault(out, fault)?,
-        RunFault::Script(fault) => append_script_fault(out, *fault)?,
-        RunFault::StopOn => append_text(out, "--stop-on takes none, pass, inconc, fail or error")?,
+    if let Some(line) = fault.line() {
+        append_place(out, line)?;
     }
-    Ok(())
+    append_text(out, fault.words())
 }
 
 // Appends the whole line; where memory is refused, a part of it.

@@ -1,6 +1,5 @@
 //! The test cases of a campaign, ready to be run.
 ghost use Rattle.std.specs.Prelude.{◌≡◌, IfOk, IfErr, OnErr, Err};
-ghost use Rattle.std.specs.Io.KnownBytes.{Keeps};
 ghost use Rattle.std.specs.List.{AllZip};
 ghost use Rattle.ttrun.specs.Program.{RunsScript, RefusesScriptRun};
 ghost use Rattle.ttrun.specs.declared.fault.RunFault.TheVariants.{StopOn};
@@ -8,15 +7,15 @@ ghost use Rattle.ttrun.specs.Run.{bytes_of, IsNoName};
 ghost use Rattle.ttrun.specs.Scripted.{IsCaseOf};
 
 use crate::fault::RunFault;
-use crate::run::{add_case, add_job, read_run, run_cases};
-use crate::script::LIMIT;
+use tc_command::Form;
+use crate::outcome::Outcome;
+use crate::run::{read_run, run_cases};
 use std::alloc::Global;
 use std::io::{Read, Write};
 use std::sync::Wait;
 use std::thread::Threads;
 use tc_behaviour::ScriptJob;
 use tc_campaign::Case;
-use tc_command::Form;
 use tc_entry::Name;
 use tc_script::{Campaign, CaseScript};
 use tc_verdict::NoMemory;
@@ -37,7 +36,8 @@ fn case_of<R: Wait + Copy + Send + 'static>(
         jobs: Vec::new(alloc),
     };
     while let Some((behaviour, script)) = scripts.take_first() {
-        add_job(&mut case, behaviour, ScriptJob::new(*rt, alloc, script))?;
+        case.names.push(behaviour)?;
+        case.jobs.push(ScriptJob::new(*rt, alloc, script))?;
     }
     Ok(case)
 }
@@ -53,14 +53,13 @@ pub fn cases_of<R: Wait + Copy + Send + 'static>(
     let mut campaign = campaign;
     let mut cases = Vec::new(alloc);
     while let Some((name, scripts)) = campaign.take_first() {
-        let case = case_of(rt, alloc, name, scripts)?;
-        add_case(&mut cases, case)?;
+        cases.push(case_of(rt, alloc, name, scripts)?)?;
     }
     Ok(cases)
 }
 
-/// Reads the campaign of a script, runs it, writes its results in this form, and answers the exit status for them. The
-/// word is that of the stopping rule.
+/// Reads the campaign of a script, runs it, writes its results in this form, and answers what came of it. The word is that
+/// of the stopping rule.
 pub fn run_script<R, I: Read, W: Write, E: Write>(
     rt: &R,
     alloc: Global,
@@ -69,12 +68,13 @@ pub fn run_script<R, I: Read, W: Write, E: Write>(
     reader: &mut I,
     writer: &mut W,
     errors: &mut E,
-) -> Result<u8, RunFault>
+) -> Result<Outcome, RunFault>
 where
     R: Threads + Wait + Copy + Send + 'static,
-    ensures done { IfOk result (λ status. RunsScript form (bytes_of (λ w. w.now) word.entry) (I.remaining reader.old) (W.contents writer.old) (W.contents writer.new) (E.contents errors.old) (E.contents errors.new) status) }
-    ensures refused { IfErr result (λ fault. RefusesScriptRun form (bytes_of (λ w. w.now) word.entry) LIMIT (I.remaining reader.old) (W.contents writer.old) (W.contents writer.new) fault) }
-    ensures quiet { OnErr result (Keeps (E.contents errors.old) (E.contents errors.new)) }
+    ensures done { IfOk result (RunsScript form (bytes_of (λ w. w.now) word.entry) (I.remaining reader.old)
+        (W.contents writer.old) (W.contents writer.new) (E.contents errors.old) (E.contents errors.new)) }
+    ensures refused { IfErr result (RefusesScriptRun form (bytes_of (λ w. w.now) word.entry) (I.remaining reader.old)
+        (W.contents writer.old) (W.contents writer.new)) }
     ensures untouched { OnErr result (errors.new ≡ errors.old) }
     ensures unread { IsNoName (bytes_of (λ w. w.now) word.entry) → (result ≡ Err StopOn) × (reader.new ≡ reader.old) }
 {

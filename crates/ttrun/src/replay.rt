@@ -1,5 +1,5 @@
 //! The subcommand `replay`.
-ghost use Rattle.std.specs.Prelude.{◌≡◌, ◌≤◌, ◌++◌, ◌∷◌, [], List, length, IfOk, IfErr, IfSome, OnOk};
+ghost use Rattle.std.specs.Prelude.{◌≡◌, ◌++◌, ◌∷◌, [], List, IfOk, IfErr, OnOk};
 ghost use Rattle.tc_entry.specs.declared.entry.Entry.{Entry};
 ghost use Rattle.tc_table.specs.Standing.{StandsFor};
 ghost use Rattle.tc_text.specs.MoveList.{IsListFault};
@@ -7,6 +7,7 @@ ghost use Rattle.tc_text.specs.Spelling.{reply_text};
 ghost use Rattle.ttrun.specs.Replay.{IsReplayOf, Replays, next_entry, reply_line, verdict_line};
 ghost use Rattle.ttrun.specs.Output.{Writes};
 ghost use Rattle.ttrun.specs.Fault.{Refuses, RefusesText};
+ghost use Rattle.ttrun.specs.Limits.{HasAtMost, move_list_limit};
 
 use crate::fault::RunFault;
 use std::alloc::Global;
@@ -20,7 +21,7 @@ use tc_text::{append_text, take_first_line, take_move_line};
 use tc_verdict::name;
 
 /// How many bytes a move list may have.
-pub const LIMIT: usize = 1_048_576;
+const LIMIT: usize = 1_048_576;
 
 // Appends the reply's line; where memory is refused, a part of it.
 fn append_reply(out: &mut Vec<u8>, reply: Reply) -> Result<(), NoMemory>
@@ -62,7 +63,7 @@ fn play_move(state: &mut CaseState, out: &mut Vec<u8>, one: (Run, Op)) -> Result
 // What is printed for the moves that the text spells, and the overall verdict; else the text's first fault, or NoMemory.
 fn replay_text(alloc: Global, text: &[u8]) -> Result<(Vec<u8>, Verdict), RunFault>
     ensures done { IfOk result (λ r. IsReplayOf text.now r.0.items r.1) }
-    ensures refused { IfErr result (λ fault. RefusesText text.now fault) }
+    ensures refused { IfErr result (RefusesText text.now) }
 {
     if text.is_empty() {
         return Err(fault_at(1, TextKind::Early));
@@ -94,9 +95,10 @@ pub fn replay<R: Read, W: Write>(
     reader: &mut R,
     writer: &mut W,
 ) -> Result<u8, RunFault>
-    ensures done { IfOk result (λ status. Writes Replays (R.remaining reader.old) (W.contents writer.old) (W.contents writer.new) status) }
-    ensures fits { OnOk result (IfSome (R.remaining reader.old) (λ text. length text ≤ LIMIT)) }
-    ensures refused { IfErr result (λ fault. Refuses IsListFault Replays LIMIT (R.remaining reader.old) (W.contents writer.old) (W.contents writer.new) fault) }
+    ensures done { IfOk result (Writes Replays (R.remaining reader.old) (W.contents writer.old) (W.contents writer.new)) }
+    ensures fits { OnOk result (HasAtMost move_list_limit (R.remaining reader.old)) }
+    ensures refused { IfErr result (Refuses IsListFault Replays move_list_limit (R.remaining reader.old)
+        (W.contents writer.old) (W.contents writer.new)) }
 {
     let text = read_input(alloc, reader, LIMIT)?;
     let (out, verdict) = replay_text(alloc, text.as_slice())?;

@@ -1,6 +1,7 @@
 //! The script of a campaign, and the word of `--stop-on`.
-ghost use Rattle.std.specs.Prelude.{◌≡◌, ◌≤◌, IfOk, IfErr, IfSome, OnOk, Ok, length};
+ghost use Rattle.std.specs.Prelude.{◌≡◌, IfOk, IfErr, IfSome, OnOk, Ok};
 ghost use Rattle.tc_script.specs.Campaign.{campaign};
+ghost use Rattle.ttrun.specs.Limits.{HasAtMost, script_limit};
 ghost use Rattle.ttrun.specs.Script.{RefusesScript, IsStopWord};
 
 use crate::fault::RunFault;
@@ -11,13 +12,13 @@ use tc_stream::read_input;
 use tc_verdict::{Verdict, read_name};
 
 /// How many bytes a script may have.
-pub const LIMIT: usize = 1_048_576;
+const LIMIT: usize = 1_048_576;
 
 /// The campaign that the input spells.
 pub fn take_script<R: Read>(alloc: Global, reader: &mut R) -> Result<Campaign, RunFault>
     ensures spelled { IfOk result (λ c. IfSome (R.remaining reader.old) (λ text. campaign text ≡ Ok c)) }
-    ensures fits { OnOk result (IfSome (R.remaining reader.old) (λ text. length text ≤ LIMIT)) }
-    ensures refused { IfErr result (RefusesScript LIMIT (R.remaining reader.old)) }
+    ensures fits { OnOk result (HasAtMost script_limit (R.remaining reader.old)) }
+    ensures refused { IfErr result (RefusesScript script_limit (R.remaining reader.old)) }
 {
     let text = read_input(alloc, reader, LIMIT)?;
     match read_campaign(alloc, text.as_slice()) {

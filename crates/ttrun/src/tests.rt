@@ -1,14 +1,19 @@
 //! Worked cases, each a whole input with its whole output.
+use crate::carry_out::carry_out;
+use tc_command::Task;
 use crate::fault::{RunFault, fault_line};
+use crate::outcome::Outcome;
 use crate::replay::replay;
 use std::alloc::{AllocError, Global};
 use std::process::Abort;
+use std::sync::Wait;
 use std::test::Fail;
+use std::thread::Threads;
 
 mod campaigns;
 mod devices;
 mod histories;
-mod orders;
+mod jobs;
 mod refused;
 mod worked;
 mod written_histories;
@@ -56,4 +61,56 @@ fn refuses<R: Abort + AllocGlobal>(rt: &R, input: &[u8], line: &str) -> Result<(
     assert_eq!(rt; told.as_slice(), wanted.as_slice());
     assert!(rt; written.is_empty(), "{line}");
     Ok(())
+}
+
+// The words of a command line, which has a space between each two.
+fn words_of(alloc: Global, line: &str) -> Result<Vec<String>, AllocError> {
+    let mut words = Vec::new(alloc);
+    for word in line.split(' ') {
+        words.push(word.to_string(alloc)?)?;
+    }
+    Ok(words)
+}
+
+// What is written of an input, what is told of it, and its status.
+#[derive(Drop)]
+struct Wanted<'a> {
+    written: &'a str,
+    told: &'a str,
+    status: u8,
+}
+
+// Carries out the task on the input, and compares what comes of it; what is told is told whole.
+fn carries_out<R: Abort + Threads + Wait + Copy + Send + 'static>(
+    rt: &R,
+    alloc: Global,
+    task: Task,
+    input: &[u8],
+    wanted: Wanted,
+) -> Result<(), Fail> {
+    let mut reader = input;
+    let mut written = Vec::new(alloc);
+    let mut told = Vec::new(alloc);
+    let outcome = carry_out(rt, alloc, task, &mut reader, &mut written, &mut told);
+    assert_eq!(rt; told.as_slice(), text_of(alloc, wanted.told)?.as_slice());
+    assert_eq!(rt;
+        written.as_slice(),
+        text_of(alloc, wanted.written)?.as_slice()
+    );
+    assert_eq!(rt;
+        outcome,
+        Outcome {
+            status: wanted.status,
+            told: Ok(())
+        }
+    );
+    Ok(())
+}
+
+// No bytes for no text, else its lines.
+fn text_of(alloc: Global, text: &str) -> Result<Vec<u8>, AllocError> {
+    if text.is_empty() {
+        return Ok(Vec::new(alloc));
+    }
+    lines(alloc, text)
 }

@@ -1,19 +1,34 @@
 //! Campaigns: scripts that are refused, and scripts that are run.
-ghost use Rattle.std.specs.Prelude.{All, IfOk, OnOk};
-ghost use Rattle.tc_campaign.specs.Outline.{HasNames};
-
 use super::*;
-use crate::give::give;
-use crate::run::add_job;
-use crate::script::{stop_word, take_script};
-use std::alloc::AllocError;
-use tc_behaviour::Behaviour;
-use tc_book::Pass;
-use tc_campaign::{Case, run_campaign};
-use tc_command::Form;
-use tc_entry::{Name, Verdict};
-use tc_exec::{Back, Job};
-use tc_verdict::NoMemory;
+use crate::answer::answer;
+use tc_command::{Form, Task};
+use crate::script::stop_word;
+use tc_stream::devices::SlowReader;
+use tc_verdict::Verdict;
+
+const CASES: &str =
+    "testcase a;behaviour main;setverdict pass;end;end;testcase b;behaviour main;setverdict fail;end;end;testcase c;behaviour main;setverdict pass;end;end";
+
+const TABLE: &str =
+    "testcase,components,none,pass,inconc,fail,error,verdict;a,1,0,1,0,0,0,pass;b,1,0,0,0,1,0,fail";
+
+const WHOLE_TABLE: &str =
+    "testcase,components,none,pass,inconc,fail,error,verdict;a,1,0,1,0,0,0,pass;b,1,0,0,0,1,0,fail;c,1,0,1,0,0,0,pass";
+
+const HISTORIES: &str =
+    "history 1 a 1;0 setverdict pass -> ok;0 finish -> ok;end pass;history 1 b 1;0 setverdict fail -> ok;0 finish -> ok;end fail;history 1 c 1;0 setverdict pass -> ok;0 finish -> ok;end pass";
+
+const REPORT: &str =
+    "testcase a;run 0 main on 0;  setverdict pass -> ok;  finish -> ok;local 0 pass;verdict pass;testcase b;run 0 main on 0;  setverdict fail -> ok;  finish -> ok;local 0 fail;verdict fail;testcase c;run 0 main on 0;  setverdict pass -> ok;  finish -> ok;local 0 pass;verdict pass;cases 3 none 0 pass 2 inconc 0 fail 1 error 0;complete";
+
+const STOPPED_REPORT: &str =
+    "testcase a;run 0 main on 0;  setverdict pass -> ok;  finish -> ok;local 0 pass;verdict pass;testcase b;run 0 main on 0;  setverdict fail -> ok;  finish -> ok;local 0 fail;verdict fail;cases 2 none 0 pass 1 inconc 0 fail 1 error 0;stopped after b";
+
+const TWO_CASES: &str =
+    "# two test cases;testcase t_pass;behaviour main;  create p;  start p worker mtc;  wait done p;  getverdict;end;behaviour worker boss;  alive boss;  setverdict pass;end;end;testcase t_again;behaviour main;  create p alive;  start p first;  wait done p;  start p second p;  wait done p;  kill all;  killed all;end;behaviour first;  setverdict pass;end;behaviour second me;  getverdict;  setverdict none;  running me;end;end";
+
+const TWO_REPORTS: &str =
+    "testcase t_pass;run 0 main on 0;  create -> made 1;  start 1 1 0 -> ok;  wait done 1 -> matched;  getverdict -> none;  finish -> ok;run 1 worker on 1;  alive 0 -> true;  setverdict pass -> ok;  finish -> ok;local 0 none;local 1 pass;verdict pass;testcase t_again;run 0 main on 0;  create alive -> made 1;  start 1 1 -> ok;  wait done 1 -> matched;  start 1 2 1 -> ok;  wait done 1 -> matched;  kill all -> ok;  killed all -> true;  finish -> ok;run 1 first on 1;  setverdict pass -> ok;  finish -> ok;run 2 second on 1;  getverdict -> pass;  setverdict none -> ok;  running 1 -> true;  finish -> ok;local 0 none;local 1 pass;verdict pass;cases 2 none 0 pass 2 inconc 0 fail 0 error 0;complete";
 
 const RESTART: &str =
     "testcase t_fail;behaviour main;create p alive;start p first;wait done p;start p second;wait done p;setverdict pass;end;behaviour first;setverdict fail;end;behaviour second;getverdict;setverdict pass;end;end";
@@ -26,60 +41,164 @@ const STUCK: &str = "testcase solo;behaviour main;create p;setverdict pass;wait 
 const STUCK_HISTORY: &str =
     "history 1 solo 1;0 create -> made 1;0 setverdict pass -> ok;0 wait done 1 -> parked;0 wake done 1 -> error stuck;end error";
 
-// A test case of one behaviour.
-fn single(alloc: Global, name: Name, behaviour: Name, job: Job) -> Result<Case, AllocError>
-    ensures { IfOk result HasNames }
-{
-    Ok(Case {
-        name,
-        names: vec![in alloc; behaviour]?,
-        jobs: vec![in alloc; job]?,
-    })
-}
+const NO_VERDICT: &str = "ttrun: --stop-on takes none, pass, inconc, fail or error";
 
-// Adds a test case of one behaviour.
-fn add_single(
+// Answers the words of the command line on the input, and compares what comes of it; what is told is told whole.
+fn answers<R: Abort + Threads + Wait + Copy + Send + 'static>(
+    rt: &R,
     alloc: Global,
-    cases: &mut Vec<Case>,
-    name: Name,
-    behaviour: Name,
-    job: Job,
-) -> Result<(), NoMemory>
-    ensures { OnOk result (All HasNames cases.old.items → All HasNames cases.new.items) }
-{
-    cases.push(single(alloc, name, behaviour, job)?)?;
-    Ok(())
-}
-
-// Gives the text to `take_script`, and compares the fault's line.
-fn refuses_script<R: Abort + AllocGlobal>(rt: &R, text: &str, line: &str) -> Result<(), Fail> {
-    let mut reader = text.as_bytes();
-    let mut told = Vec::new(rt.alloc());
-    match take_script(rt.alloc(), &mut reader) {
-        Ok(_) => panic!(rt; "{line}: the script was taken"),
-        Err(fault) => fault_line(&fault, &mut told)?,
-    }
-    let wanted = lines(rt.alloc(), line)?;
-    assert_eq!(rt; told.as_slice(), wanted.as_slice());
+    line: &str,
+    input: &str,
+    wanted: Wanted,
+) -> Result<(), Fail> {
+    let words = words_of(alloc, line)?;
+    let input = text_of(alloc, input)?;
+    let mut written = Vec::new(alloc);
+    let mut told = Vec::new(alloc);
+    let outcome = answer(
+        rt,
+        alloc,
+        Ok(words),
+        &mut input.as_slice(),
+        &mut written,
+        &mut told,
+    );
+    assert_eq!(rt;
+        told.as_slice(),
+        text_of(alloc, wanted.told)?.as_slice(),
+        "{line}"
+    );
+    assert_eq!(rt;
+        written.as_slice(),
+        text_of(alloc, wanted.written)?.as_slice(),
+        "{line}"
+    );
+    assert_eq!(rt;
+        outcome,
+        Outcome {
+            status: wanted.status,
+            told: Ok(())
+        },
+        "{line}"
+    );
     Ok(())
 }
 
 #[test]
-fn refused_scripts(rt: HostRuntime) -> Result<(), Fail> {
-    let unbound =
-        "testcase t\nbehaviour main\ncreate p\nstart q worker\nend\nbehaviour worker\nend\nend\n";
-    refuses_script(&rt, unbound, "ttrun: line 4: unbound reference")?;
-    let counted =
-        "testcase t\nbehaviour main\ncreate p\nstart p worker mtc\nend\nbehaviour worker\nend\nend\n";
-    refuses_script(&rt, counted, "ttrun: line 4: wrong number of arguments")?;
-    refuses_script(
+fn each_command_line(rt: HostRuntime) -> Result<(), Fail> {
+    let lines = [
+        ("ttrun", CASES, REPORT, 1),
+        ("ttrun run", CASES, REPORT, 1),
+        ("ttrun run --csv", CASES, WHOLE_TABLE, 1),
+        ("ttrun run --history", CASES, HISTORIES, 1),
+        ("ttrun run --stop-on fail", CASES, STOPPED_REPORT, 1),
+        ("ttrun run --stop-on error", CASES, REPORT, 1),
+        (
+            "ttrun check",
+            HISTORIES,
+            "legal a 2 pass;legal b 2 fail;legal c 2 pass",
+            0,
+        ),
+        (
+            "ttrun replay",
+            "behaviours 1;0 setverdict inconc",
+            "ok;verdict inconc",
+            1,
+        ),
+    ];
+    for (line, input, written, status) in lines {
+        let wanted = Wanted {
+            written,
+            told: "",
+            status,
+        };
+        answers(&rt, rt.alloc(), line, input, wanted)?;
+    }
+    Ok(())
+}
+
+#[test]
+fn campaign_stops_on_fail(rt: HostRuntime) -> Result<(), Fail> {
+    let wanted = Wanted {
+        written: TABLE,
+        told: "",
+        status: 1,
+    };
+    answers(
         &rt,
-        "testcase t\nbehaviour main\nsetver",
-        "ttrun: line 3: line not understood",
-    )?;
-    let cut = "testcase t\nbehaviour main\nsetverdict pass\n";
-    refuses_script(&rt, cut, "ttrun: line 4: text ends too early")?;
-    refuses_script(&rt, "", "ttrun: line 1: text ends too early")
+        rt.alloc(),
+        "ttrun run --csv --stop-on fail",
+        CASES,
+        wanted,
+    )
+}
+
+#[test]
+fn stored_run(rt: HostRuntime) -> Result<(), Fail> {
+    let wanted = Wanted {
+        written: TWO_REPORTS,
+        told: "",
+        status: 0,
+    };
+    answers(&rt, rt.alloc(), "ttrun", TWO_CASES, wanted)
+}
+
+#[test]
+fn restarted_component_report(rt: HostRuntime) -> Result<(), Fail> {
+    let wanted = Wanted {
+        written: RESTART_REPORT,
+        told: "",
+        status: 1,
+    };
+    answers(&rt, rt.alloc(), "ttrun run", RESTART, wanted)
+}
+
+#[test]
+fn history_of_a_stuck_case(rt: HostRuntime) -> Result<(), Fail> {
+    let wanted = Wanted {
+        written: STUCK_HISTORY,
+        told: "",
+        status: 2,
+    };
+    answers(&rt, rt.alloc(), "ttrun run --history", STUCK, wanted)
+}
+
+#[test]
+fn refused_scripts(rt: HostRuntime) -> Result<(), Fail> {
+    let scripts = [
+        (
+            "testcase t\nbehaviour main\ncreate p\nstart q worker\nend\nbehaviour worker\nend\nend\n",
+            "ttrun: line 4: unbound reference",
+        ),
+        (
+            "testcase t\nbehaviour main\ncreate p\nstart p worker mtc\nend\nbehaviour worker\nend\nend\n",
+            "ttrun: line 4: wrong number of arguments",
+        ),
+        (
+            "testcase t\nbehaviour main\nsetver",
+            "ttrun: line 3: line not understood",
+        ),
+        (
+            "testcase t\nbehaviour main\nsetverdict pass\n",
+            "ttrun: line 4: text ends too early",
+        ),
+        ("", "ttrun: line 1: text ends too early"),
+    ];
+    for (script, told) in scripts {
+        for form in [Form::Text, Form::Csv, Form::History] {
+            let wanted = Wanted {
+                written: "",
+                told,
+                status: 3,
+            };
+            let task = Task::Run {
+                form,
+                stop_on: None,
+            };
+            carries_out(&rt, rt.alloc(), task, script.as_bytes(), wanted)?;
+        }
+    }
+    Ok(())
 }
 
 #[test]
@@ -87,96 +206,61 @@ fn words_of_stop_on(rt: HostRuntime) -> Result<(), Fail> {
     assert_eq!(rt; stop_word("error"), Ok(Verdict::Error));
     assert_eq!(rt; stop_word("inconc"), Ok(Verdict::Inconc));
     for word in ["maybe", "Fail", ""] {
-        let Err(fault) = stop_word(word) else {
-            panic!(rt; "{word}: the word was taken")
+        assert_eq!(rt; stop_word(word), Err(RunFault::StopOn));
+        let mut reader = SlowReader {
+            rest: CASES.as_bytes(),
+            reads: 0,
+            fails_at: usize::MAX,
         };
-        assert_eq!(rt; fault, RunFault::StopOn);
+        let mut written = Vec::new(rt.alloc());
+        let mut told = Vec::new(rt.alloc());
+        let task = Task::Run {
+            form: Form::Text,
+            stop_on: Some(word),
+        };
+        let outcome = carry_out(&rt, rt.alloc(), task, &mut reader, &mut written, &mut told);
+        assert_eq!(rt;
+            outcome,
+            Outcome {
+                status: 3,
+                told: Ok(())
+            },
+            "{word}"
+        );
+        assert_eq!(rt; told.as_slice(), lines(rt.alloc(), NO_VERDICT)?.as_slice());
+        assert!(rt; written.is_empty());
+        assert_eq!(rt; reader.reads, 0, "{word}");
     }
-    let mut told = Vec::new(rt.alloc());
-    fault_line(&RunFault::StopOn, &mut told)?;
-    assert_eq!(rt;
-        told.as_slice(),
-        b"ttrun: --stop-on takes none, pass, inconc, fail or error\n".as_slice()
-    );
     Ok(())
 }
 
-#[test]
-fn campaign_stops_on_fail(rt: HostRuntime) -> Result<(), Fail> {
-    let alloc = rt.alloc();
-    let text = lines(
-        alloc,
-        "testcase a;behaviour main;setverdict pass;end;end;testcase b;behaviour main;setverdict fail;end;end;testcase c;behaviour main;setverdict pass;end;end",
-    )?;
-    let mut campaign = take_script(alloc, &mut text.as_slice())?;
-    let mut cases = Vec::new(alloc);
-    for _ in 0..3 {
-        let (name, scripts) = campaign.take_first().ok_or("a test case")?;
-        let mut scripts = scripts;
-        let (behaviour, script) = scripts.take_first().ok_or("a behaviour")?;
-        let run: Box<dyn FnOnce(Pass) -> Back + Send> = Box::new(
-            alloc,
-            move |pass: Pass| script.run(&rt, alloc, pass),
-        )?;
-        add_single(alloc, &mut cases, name, behaviour, Job::new(run))?;
+// A test case of 64 behaviours: the first makes 63 components, starts the others on them, and waits for them.
+fn sixty_four(alloc: Global) -> Result<String, Fail> {
+    let mut text = "testcase t\nbehaviour main\n".to_string(alloc)?;
+    for number in 1..64 {
+        let steps = format!(in alloc; "create p{number}\nstart p{number} b{number}\n")?;
+        text.push_str(steps.as_str())?;
     }
-    let results = run_campaign(&rt, alloc, cases, Some(stop_word("fail")?), 64);
-    let mut written = Vec::new(alloc);
-    assert_eq!(rt; give(alloc, &results, Form::Csv, &mut written)?, 1);
-    let wanted = lines(
-        alloc,
-        "testcase,components,none,pass,inconc,fail,error,verdict;a,1,0,1,0,0,0,pass;b,1,0,0,0,1,0,fail",
-    )?;
-    assert_eq!(rt; written.as_slice(), wanted.as_slice());
-    Ok(())
+    text.push_str("wait done all\nend\n")?;
+    for number in 1..64 {
+        let behaviour = format!(in alloc; "behaviour b{number}\nsetverdict pass\nend\n")?;
+        text.push_str(behaviour.as_str())?;
+    }
+    text.push_str("end\n")?;
+    Ok(text)
 }
 
 #[test]
-fn restarted_component_report(rt: HostRuntime) -> Result<(), Fail> {
-    let alloc = rt.alloc();
-    let text = lines(alloc, RESTART)?;
-    let mut campaign = take_script(alloc, &mut text.as_slice())?;
-    let (name, scripts) = campaign.take_first().ok_or("a test case")?;
-    let mut scripts = scripts;
-    let mut case = Case {
-        name,
-        names: Vec::new(alloc),
-        jobs: Vec::new(alloc),
+fn a_case_of_sixty_four_behaviours(rt: HostRuntime) -> Result<(), Fail> {
+    let text = sixty_four(rt.alloc())?;
+    let wanted = Wanted {
+        written: "testcase,components,none,pass,inconc,fail,error,verdict;t,64,1,63,0,0,0,pass",
+        told: "",
+        status: 0,
     };
-    for _ in 0..3 {
-        let (behaviour, script) = scripts.take_first().ok_or("a behaviour")?;
-        let run: Box<dyn FnOnce(Pass) -> Back + Send> = Box::new(
-            alloc,
-            move |pass: Pass| script.run(&rt, alloc, pass),
-        )?;
-        add_job(&mut case, behaviour, Job::new(run))?;
-    }
-    let results = run_campaign(&rt, alloc, vec![in alloc; case]?, None, 64);
-    let mut written = Vec::new(alloc);
-    assert_eq!(rt; give(alloc, &results, Form::Text, &mut written)?, 1);
-    assert_eq!(rt;
-        written.as_slice(),
-        lines(alloc, RESTART_REPORT)?.as_slice()
-    );
-    Ok(())
-}
-
-#[test]
-fn history_of_a_stuck_case(rt: HostRuntime) -> Result<(), Fail> {
-    let alloc = rt.alloc();
-    let text = lines(alloc, STUCK)?;
-    let mut campaign = take_script(alloc, &mut text.as_slice())?;
-    let (name, scripts) = campaign.take_first().ok_or("a test case")?;
-    let mut scripts = scripts;
-    let (behaviour, script) = scripts.take_first().ok_or("a behaviour")?;
-    let run: Box<dyn FnOnce(Pass) -> Back + Send> = Box::new(
-        alloc,
-        move |pass: Pass| script.run(&rt, alloc, pass),
-    )?;
-    let case = single(alloc, name, behaviour, Job::new(run))?;
-    let results = run_campaign(&rt, alloc, vec![in alloc; case]?, None, 64);
-    let mut written = Vec::new(alloc);
-    assert_eq!(rt; give(alloc, &results, Form::History, &mut written)?, 2);
-    assert_eq!(rt; written.as_slice(), lines(alloc, STUCK_HISTORY)?.as_slice());
-    Ok(())
+    let task = Task::Run {
+        form: Form::Csv,
+        stop_on: None,
+    };
+    carries_out(&rt, rt.alloc(), task, text.as_bytes(), wanted)
 }

@@ -1,42 +1,231 @@
 //! Readers and writers that fail.
 use super::*;
+use tc_command::{Form, Task};
 use tc_stream::devices::{NarrowWriter, SlowReader, WriteFailure};
 
-const INPUT: &[u8] = b"behaviours 3\n0 create\n0 start 1 1\n0 start 1 2\n1 getverdict\n";
+const MOVES: &str = "behaviours 3;0 create;0 start 1 1;0 start 1 2;1 getverdict";
 
-const OUTPUT: &[u8] = b"made 1\nok\nerror already-running\nended\nverdict error\n";
+const REPLIES: &str = "made 1;ok;error already-running;ended;verdict error";
+
+const HISTORY: &str =
+    "history 1 t 1;0 create -> made 1;0 stop 1 -> ok;0 alive 1 -> true;0 wait done 1 -> matched;end none";
+
+const JUDGED: &str = "line 5: matched, table gives parked";
+
+const SCRIPT: &str = "testcase t;behaviour main;setverdict fail;end;end";
+
+const REPORT: &str =
+    "testcase t;run 0 main on 0;  setverdict fail -> ok;  finish -> ok;local 0 fail;verdict fail;cases 1 none 0 pass 0 inconc 0 fail 1 error 0;complete";
+
+const TABLE: &str = "testcase,components,none,pass,inconc,fail,error,verdict;t,1,0,0,0,1,0,fail";
+
+const WRITTEN_HISTORY: &str = "history 1 t 1;0 setverdict fail -> ok;0 finish -> ok;end fail";
+
+const INCONC: &str = "behaviours 1;0 setverdict inconc;0 setverdict pass;0 getverdict";
+
+// An input of the task with this number, and what comes of it.
+#[derive(Drop)]
+struct Row {
+    task: Task<'static>,
+    input: &'static str,
+    output: &'static str,
+    status: u8,
+}
+
+const ROWS: usize = 5;
+
+fn row_of(number: usize) -> Row {
+    let run = |form| Task::Run {
+        form,
+        stop_on: None,
+    };
+    match number {
+        0 => Row {
+            task: Task::Replay,
+            input: MOVES,
+            output: REPLIES,
+            status: 2,
+        },
+        1 => Row {
+            task: Task::Check,
+            input: HISTORY,
+            output: JUDGED,
+            status: 3,
+        },
+        2 => Row {
+            task: run(Form::Text),
+            input: SCRIPT,
+            output: REPORT,
+            status: 1,
+        },
+        3 => Row {
+            task: run(Form::Csv),
+            input: SCRIPT,
+            output: TABLE,
+            status: 1,
+        },
+        _ => Row {
+            task: run(Form::History),
+            input: SCRIPT,
+            output: WRITTEN_HISTORY,
+            status: 1,
+        },
+    }
+}
+
+// What comes of the row's task where the reader fails at this read.
+fn reads<R: Abort + Threads + Wait + Copy + Send + 'static>(
+    rt: &R,
+    alloc: Global,
+    row: Row,
+    fails_at: usize,
+) -> Result<(), Fail> {
+    let input = lines(alloc, row.input)?;
+    let mut reader = SlowReader {
+        rest: input.as_slice(),
+        reads: 0,
+        fails_at,
+    };
+    let mut written = Vec::new(alloc);
+    let mut told = Vec::new(alloc);
+    let outcome = carry_out(rt, alloc, row.task, &mut reader, &mut written, &mut told);
+    assert_eq!(rt; outcome.told, Ok(()));
+    if fails_at > input.len() {
+        assert_eq!(rt; outcome.status, row.status);
+        assert_eq!(rt; written.as_slice(), lines(alloc, row.output)?.as_slice());
+        assert!(rt; told.is_empty());
+        return Ok(());
+    }
+    assert_eq!(rt; outcome.status, 3, "at {fails_at}");
+    assert_eq!(rt; told.as_slice(), b"ttrun: read fault\n".as_slice());
+    assert!(rt; written.is_empty());
+    assert_eq!(rt; reader.reads, fails_at + 1);
+    Ok(())
+}
+
+// What comes of the row's task where the writer fails at this write.
+fn writes<R: Abort + Threads + Wait + Copy + Send + 'static>(
+    rt: &R,
+    alloc: Global,
+    row: Row,
+    fails_at: usize,
+    failure: WriteFailure,
+) -> Result<(), Fail> {
+    let input = lines(alloc, row.input)?;
+    let output = lines(alloc, row.output)?;
+    let mut writer = NarrowWriter {
+        taken: Vec::new(alloc),
+        writes: 0,
+        fails_at,
+        failure,
+    };
+    let mut told = Vec::new(alloc);
+    let outcome = carry_out(
+        rt,
+        alloc,
+        row.task,
+        &mut input.as_slice(),
+        &mut writer,
+        &mut told,
+    );
+    assert_eq!(rt; outcome.told, Ok(()));
+    assert_eq!(rt;
+        Some(writer.taken.as_slice()),
+        output.as_slice().get(..fails_at),
+        "at {fails_at}"
+    );
+    if fails_at == output.len() {
+        assert_eq!(rt; outcome.status, row.status);
+        assert!(rt; told.is_empty());
+        return Ok(());
+    }
+    assert_eq!(rt; outcome.status, 3, "at {fails_at}");
+    assert_eq!(rt; told.as_slice(), b"ttrun: write fault\n".as_slice());
+    Ok(())
+}
 
 #[test]
 fn failing_devices(rt: HostRuntime) -> Result<(), Fail> {
-    for fails_at in 0..INPUT.len() {
-        let mut reader = SlowReader {
-            rest: INPUT,
-            reads: 0,
-            fails_at,
-        };
-        let mut written = Vec::new(rt.alloc());
-        let answer = replay(rt.alloc(), &mut reader, &mut written);
-        assert_eq!(rt; answer.err(), Some(RunFault::Read), "at {fails_at}");
-        assert!(rt; written.is_empty());
+    let mut failed = 0usize;
+    for number in 0..ROWS {
+        for fails_at in 0..row_of(number).input.len() + 3 {
+            reads(&rt, rt.alloc(), row_of(number), fails_at)?;
+            failed = failed.saturating_add(1);
+        }
+        for failure in [WriteFailure::Broken, WriteFailure::Full] {
+            for fails_at in 0..row_of(number).output.len() + 2 {
+                writes(&rt, rt.alloc(), row_of(number), fails_at, failure)?;
+                failed = failed.saturating_add(1);
+            }
+        }
     }
-    for fails_at in 0..OUTPUT.len() {
-        let mut reader = SlowReader {
-            rest: INPUT,
-            reads: 0,
-            fails_at: usize::MAX,
-        };
-        let mut writer = NarrowWriter {
+    assert!(rt; failed > 1_000, "{failed} calls");
+    Ok(())
+}
+
+#[test]
+fn standard_error_that_fails(rt: HostRuntime) -> Result<(), Fail> {
+    let line = b"ttrun: line 1: bad first line\n";
+    for fails_at in 0..=line.len() {
+        let mut errors = NarrowWriter {
             taken: Vec::new(rt.alloc()),
             writes: 0,
             fails_at,
             failure: WriteFailure::Broken,
         };
-        let answer = replay(rt.alloc(), &mut reader, &mut writer);
-        assert_eq!(rt; answer.err(), Some(RunFault::Write), "at {fails_at}");
-        assert_eq!(rt;
-            writer.taken.as_slice(),
-            OUTPUT.get(..fails_at).ok_or("a prefix")?
+        let mut written = Vec::new(rt.alloc());
+        let mut reader = b"behaviours 0\n".as_slice();
+        let outcome = carry_out(
+            &rt,
+            rt.alloc(),
+            Task::Replay,
+            &mut reader,
+            &mut written,
+            &mut errors,
         );
+        let told = if fails_at == line.len() {
+            Ok(())
+        } else {
+            Err(RunFault::Write)
+        };
+        assert_eq!(rt; outcome, Outcome { status: 3, told });
+        assert_eq!(rt; Some(errors.taken.as_slice()), line.get(..fails_at));
+        assert!(rt; written.is_empty());
     }
+    Ok(())
+}
+
+#[test]
+fn each_byte_in_place_of_each(rt: HostRuntime) -> Result<(), Fail> {
+    let mut text = lines(rt.alloc(), INCONC)?;
+    let mut answered = 0usize;
+    let mut refused = 0usize;
+    for place in 0..INCONC.len() {
+        let Some(kept) = text.as_slice().get(place).copied() else {
+            return Err(Fail::from("a place"));
+        };
+        for byte in 0..=255 {
+            if let Some(at) = text.as_mut_slice().get_mut(place) {
+                *at = byte;
+            }
+            let mut written = Vec::new(rt.alloc());
+            match replay(rt.alloc(), &mut text.as_slice(), &mut written) {
+                Ok(status) => {
+                    assert!(rt; status < 3);
+                    answered = answered.saturating_add(1);
+                }
+                Err(fault) => {
+                    assert!(rt; matches!(fault, RunFault::Text(_)));
+                    assert!(rt; written.is_empty());
+                    refused = refused.saturating_add(1);
+                }
+            }
+        }
+        if let Some(at) = text.as_mut_slice().get_mut(place) {
+            *at = kept;
+        }
+    }
+    assert!(rt; answered >= INCONC.len(), "{answered} answered");
+    assert!(rt; refused > 15_000, "{refused} refused");
     Ok(())
 }

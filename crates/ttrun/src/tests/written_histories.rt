@@ -1,19 +1,7 @@
 //! Histories that campaigns write, given to `check`.
-ghost use Rattle.std.specs.Prelude.{All};
-
 use super::*;
-use crate::check::check;
-use crate::give::give;
-use crate::run::add_job;
-use crate::script::take_script;
-use std::alloc::AllocGlobal;
+use tc_command::{Form, Task};
 use std::str;
-use tc_behaviour::Behaviour;
-use tc_book::Pass;
-use tc_campaign::{Case, Results, run_campaign};
-use tc_command::Form;
-use tc_entry::Verdict;
-use tc_exec::{Back, Job};
 
 const WORKERS: &str =
     "testcase t_pass;behaviour main;create p;start p worker mtc;wait done p;getverdict;end;behaviour worker boss;alive boss;setverdict pass;end;end;testcase t_again;behaviour main;create p alive;start p first;wait done p;start p second p;wait done p;kill all;killed all;end;behaviour first;setverdict pass;end;behaviour second me;getverdict;setverdict none;running me;end;end";
@@ -32,19 +20,28 @@ const FAILS_FIRST: &str =
 const EIGHT: &str =
     "testcase t_eight;behaviour main;create a;create b;create c;create d;create e;create f;create g;start a one;start b two;start c three;start d four;start e five;start f six;start g seven;wait done all;setverdict pass;end;behaviour one;setverdict pass;end;behaviour two;setverdict inconc;end;behaviour three;getverdict;end;behaviour four;setverdict pass;end;behaviour five;stop self;end;behaviour six;kill self;end;behaviour seven;setverdict none;end;end";
 
-// Gives the histories of the results to `check`: it writes so many lines, each of a legal history.
-fn are_legal<R: Abort + AllocGlobal>(rt: &R, results: &Results, cases: usize) -> Result<(), Fail> {
-    let mut histories = Vec::new(rt.alloc());
-    give(rt.alloc(), results, Form::History, &mut histories)?;
-    let mut told = Vec::new(rt.alloc());
-    assert_eq!(rt; check(rt.alloc(), &mut histories.as_slice(), &mut told)?, 0);
-    let text = str::from_utf8(told.as_slice()).map_err(|_| "a text")?;
-    assert_eq!(rt; text.lines().count(), cases);
-    assert!(rt;
-        text.lines().all(|line| line.starts_with("legal ")),
-        "{text}"
-    );
-    Ok(())
+// The line of each history of the text: its name, how many lines stand between its first and its last, and its verdict.
+fn legal_lines(alloc: Global, histories: &str) -> Result<String, Fail> {
+    let mut wanted = String::new(alloc);
+    let mut entries = 0usize;
+    for line in histories.lines() {
+        let mut words = line.split(' ');
+        match words.next() {
+            Some("history") => {
+                let name = words.nth(1).ok_or("a name")?;
+                let legal = format!(in alloc; "legal {name} ")?;
+                wanted.push_str(legal.as_str())?;
+                entries = 0;
+            }
+            Some("end") => {
+                let verdict = words.next().ok_or("a verdict")?;
+                let counted = format!(in alloc; "{entries} {verdict}\n")?;
+                wanted.push_str(counted.as_str())?;
+            }
+            _ => entries = entries.saturating_add(1),
+        }
+    }
+    Ok(wanted)
 }
 
 #[test]
@@ -55,32 +52,51 @@ fn written_histories_are_legal(rt: HostRuntime) -> Result<(), Fail> {
         (RESTART, None, 1),
         (STUCK, None, 1),
         (START_OF_THE_KILLED, None, 1),
-        (FAILS_FIRST, Some(Verdict::Fail), 1),
+        (FAILS_FIRST, Some("fail"), 1),
         (EIGHT, None, 1),
     ];
+    let mut checked = 0usize;
     for round in 0..120 {
         let (text, stop_on, finished) = campaigns[round % 6];
         let text = lines(alloc, text)?;
-        let mut campaign = take_script(alloc, &mut text.as_slice())?;
-        let mut cases = Vec::new(alloc);
-        while let Some((name, scripts)) = campaign.take_first() {
-            let mut scripts = scripts;
-            let mut case = Case {
-                name,
-                names: Vec::new(alloc),
-                jobs: Vec::new(alloc),
-            };
-            while let Some((behaviour, script)) = scripts.take_first() {
-                let run: Box<dyn FnOnce(Pass) -> Back + Send> = Box::new(
-                    alloc,
-                    move |pass: Pass| script.run(&rt, alloc, pass),
-                )?;
-                add_job(&mut case, behaviour, Job::new(run))?;
+        let mut histories = Vec::new(alloc);
+        let mut told = Vec::new(alloc);
+        let task = Task::Run {
+            form: Form::History,
+            stop_on,
+        };
+        let ran = carry_out(
+            &rt,
+            alloc,
+            task,
+            &mut text.as_slice(),
+            &mut histories,
+            &mut told,
+        );
+        assert!(rt; ran.status < 3);
+        let histories = str::from_utf8(histories.as_slice()).map_err(|_| "a text")?;
+        let wanted = legal_lines(alloc, histories)?;
+        assert_eq!(rt; wanted.as_str().lines().count(), finished);
+        let mut printed = Vec::new(alloc);
+        let found = carry_out(
+            &rt,
+            alloc,
+            Task::Check,
+            &mut histories.as_bytes(),
+            &mut printed,
+            &mut told,
+        );
+        assert_eq!(rt;
+            found,
+            Outcome {
+                status: 0,
+                told: Ok(())
             }
-            cases.push(case)?;
-        }
-        let results = run_campaign(&rt, alloc, cases, stop_on, 64);
-        are_legal(&rt, &results, finished)?;
+        );
+        assert_eq!(rt; printed.as_slice(), wanted.as_bytes());
+        assert!(rt; told.is_empty());
+        checked = checked.saturating_add(finished);
     }
+    assert_eq!(rt; checked, 140);
     Ok(())
 }

@@ -1,4 +1,3 @@
-use Rattle.ttrun.proofs.Running.{a_prefix_told}
 use Rattle.ttrun.proofs.run.run_cases.Goals as goal
 
 pub returns-clause-done : goal.returns-clause-done
@@ -8,5 +7,5 @@ returns-clause-done g c =
       record { right = e.right; reports = e.reports; calls = e.called; names = e.names; behaviours = e.behaviours; why = e.why },
       c.in_ok-status.ensures.status,
       c.in_ok-status.ensures.done,
-      a_prefix_told c.tell_abort.result _ _ _ c.tell_abort.ensures.told c.tell_abort.ensures.refused,
+      c.tell_abort-told.ensures,
     )
