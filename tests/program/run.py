@@ -18,6 +18,7 @@ from typing import List, Union
 sys.dont_write_bytecode = True
 
 import devices
+import documents_run
 import examples
 import random_moves
 import random_scripts
@@ -38,6 +39,7 @@ GROUPS = (
     ("devices", devices.cases, 75),
     ("sizes", sizes.cases, 25),
     ("examples", examples.cases, 20),
+    ("documents", documents_run.cases, 4),
 )
 
 
