@@ -6,11 +6,23 @@ import os
 import shlex
 import signal
 import subprocess
+import sys
+import threading
 from dataclasses import dataclass
 from typing import Dict, List, Optional, Tuple, Union
 
 # A program that has not ended after so many seconds is stopped, and its case has failed.
-SECONDS = 30
+SECONDS = 60
+# Starts the words behind it with standard output on a pipe that nobody reads. A process of its own makes the pipe, so that
+# no other that is just being started holds its other end.
+BROKEN = """
+import os, signal, sys
+reading, writing = os.pipe()
+os.dup2(writing, 1)
+os.close(reading)
+signal.signal(signal.SIGPIPE, signal.SIG_DFL)
+os.execv(sys.argv[1], [os.fsencode(it) for it in sys.argv[1:]])
+"""
 
 
 @dataclass(frozen=True)
@@ -57,6 +69,8 @@ class Ran:
 def command_of(case: Case, program: str) -> List[Word]:
     """The words that start the program; a shell sets what only a shell has."""
     plain: List[Word] = [program, *case.words]
+    if case.is_broken:
+        return [sys.executable, "-c", BROKEN, *plain]
     if not case.redirect and not case.limit:
         return plain
     limit = f"ulimit {case.limit}; " if case.limit else ""
@@ -88,18 +102,15 @@ def ended(started: subprocess.Popen, given: Optional[bytes]) -> Ran:
 
 def run(case: Case, program: str) -> Ran:
     """Runs the program once."""
-    with contextlib.ExitStack() as stack:
-        how: Dict[str, int] = {"stdin": subprocess.PIPE, "stdout": subprocess.PIPE, "stderr": subprocess.PIPE}
-        if case.is_broken:
-            reading, how["stdout"] = os.pipe()
-            os.close(reading)
-            stack.callback(os.close, how["stdout"])
-        started = subprocess.Popen(command_of(case, program), bufsize=0, start_new_session=True, **how)
-        stack.enter_context(started)
+    pipes: Dict[str, int] = {"stdin": subprocess.PIPE, "stdout": subprocess.PIPE, "stderr": subprocess.PIPE}
+    with subprocess.Popen(command_of(case, program), bufsize=0, start_new_session=True, **pipes) as started:
         if not case.stays_open:
             return ended(started, case.given)
+        guard = threading.Timer(SECONDS, os.killpg, (started.pid, signal.SIGKILL))
+        guard.start()
         with contextlib.suppress(BrokenPipeError):
             started.stdin.write(case.given)
+        guard.cancel()
         return ended(started, None)
 
 

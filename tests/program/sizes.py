@@ -87,7 +87,10 @@ def counted() -> Iterator[Case]:
     yield Case("sixty_four_jobs", ("run",), many_behaviours(64), report_of_many(64))
     yield Case("a_sixty_fifth_behaviour", ("run",), many_behaviours(65), status=3, errors=b"ttrun: line 322: too many\n")
     passed = ["setverdict pass"]
-    yield Case("a_thousand_steps", ("run", "--csv"), single(passed * 1000), PASSED)
+    calls = "  setverdict pass -> ok;" * 1000
+    yield Case("a_thousand_steps", ("run",), single(passed * 1000),
+               text(f"testcase t;run 0 main on 0;{calls}  finish -> ok;local 0 pass;verdict pass;"
+                    "cases 1 none 0 pass 1 inconc 0 fail 0 error 0;complete"))
     yield Case("one_step_more", ("run", "--csv"), single(passed * 1001), status=3, errors=b"ttrun: line 1003: too many\n")
     creates = [f"create p{at}" for at in range(1000)]
     yield Case("a_thousand_components_of_a_script", ("run", "--csv"), single(creates),
