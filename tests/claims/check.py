@@ -43,25 +43,46 @@ def named_in(cell: str) -> Iterator[str]:
             yield from name.split()
 
 
+def cells_of(line: str) -> List[str]:
+    """The cells of a line of a table, none of another line."""
+    return [it.strip() for it in re.split(r"(?<!\\)\|", line)[1:-1]] if line.startswith("|") else []
+
+
+def misplaced(sources: Sources, cell: str) -> Iterator[str]:
+    """What a cell as `NAME`, `NAME` in `FILE` says of a file in which the name is not defined."""
+    for names, file in re.findall(r"((?:`[^`]+`(?:, )?)+) in `([^`]+)`", cell):
+        yield from (f"{it} is not defined in {file}" for it in CODE.findall(names) if not sources.defines(file, it))
+
+
+def row_claims(sources: Sources, head: List[str], cells: List[str], crate: str) -> Iterator[str]:
+    """What one row names, and what does not stand in its crate, or below it; without a crate, anywhere."""
+    if crate and crate not in sources.crates:
+        yield f"there is no crate {crate}"
+        return
+    where = f"nowhere in {crate}, or below it" if crate else "nowhere"
+    for title, cell in zip(head, cells):
+        if title != "crate":
+            yield from (f"{it} stands {where}" for it in named_in(cell) if not sources.has(it, crate))
+            yield from misplaced(sources, cell)
+
+
 def table_claims(sources: Sources, path: str, section: str) -> Iterator[str]:
-    """What the table of what is proved names, and what does not stand in the crate of its row, or below it."""
-    rows, crate = 0, ""
+    """What the tables of what is proved name, and does not stand in the sources; in the text beside them, what is spelt as a name."""
+    rows, crate, head = 0, "", []
     for number, line in read(TOP, path).section(section):
-        cells = [it.strip() for it in re.split(r"(?<!\\)\|", line)[1:-1]] if line.startswith("|") else []
+        cells = cells_of(line)
         if not cells:
-            # in the text beside the table only what is spelt as a name of the sources is one
+            head = []
             names = [it for it in named_in(line) if re.search(r"\w_\w|::|\.antt$", it)]
             yield from (f"{path}:{number}: {it} stands nowhere" for it in names if not sources.has(it, ""))
-            continue
-        crate = cells[0].strip("`") if cells[0].startswith("`") else crate if not cells[0] else ""
-        rows += crate != ""
-        if crate and crate not in sources.crates:
-            yield f"{path}:{number}: there is no crate {crate}"
-            continue
-        names = [it for cell in cells[1:] for it in named_in(cell)] if crate else []
-        yield from (f"{path}:{number}: {it} stands nowhere in {crate}, or below it" for it in names if not sources.has(it, crate))
+        elif not head:
+            head, crate = cells, ""
+        elif not re.fullmatch("[-:| ]+", line):
+            rows += 1
+            crate = (cells[0].strip("`") or crate) if head[0] == "crate" else ""
+            yield from (f"{path}:{number}: {it}" for it in row_claims(sources, head, cells, crate))
     if rows < 10:
-        yield f"{path}: the section {section!r} has {rows} rows that name a crate, and no fewer than 10 are wanted"
+        yield f"{path}: the section {section!r} has {rows} rows, and no fewer than 10 are wanted"
 
 
 def example(name: str) -> str:

@@ -109,6 +109,14 @@ class Sources:
         folders = [self.top, *([os.path.join(self.top, "crates", crate)] if crate else [])]
         return any(os.path.exists(os.path.join(folder, name)) for folder in folders)
 
+    def defines(self, file: str, name: str) -> bool:
+        """Whether a file of definitions, by its path from the top, has this one."""
+        path = os.path.join(self.top, file)
+        if not os.path.isfile(path):
+            return False
+        with open(path, encoding="utf-8") as lines:
+            return name in DEFINITION.findall(lines.read())
+
     def has(self, name: str, crate: str) -> bool:
         """Whether what a document names stands in the sources; with a crate, in that crate or below it."""
         if "/" in name or name.endswith((".antt", ".rt", ".md")):
