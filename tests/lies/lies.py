@@ -24,20 +24,26 @@ LIES = (
 """),
     )),
     Lie("check_and_replay_are_exchanged", (
-        ("""Some(("replay", _)) => Task::Replay,""", """Some(("replay", _)) => Task::Check,"""),
-        ("""Some(("check", _)) => Task::Check,""", """Some(("check", _)) => Task::Replay,"""),
-    )),
-    Lie("csv_is_ignored", (
         ("""\
-    let form = if matches.get_flag("csv") {
-        Form::Csv
+        Task::Replay => {
+            let answer = replay(alloc, reader, writer);
 """, """\
-    let form = if matches.get_flag("csv") {
-        Form::Text
+        Task::Replay => {
+            let answer = check(alloc, reader, writer);
+"""),
+        ("""\
+        Task::Check => {
+            let answer = check(alloc, reader, writer);
+""", """\
+        Task::Check => {
+            let answer = replay(alloc, reader, writer);
 """),
     )),
+    Lie("csv_is_ignored", (
+        ("""Form::Csv => write_csv(alloc, results, writer),""", """Form::Csv => write_text(alloc, results, writer),"""),
+    )),
     Lie("the_stopping_rule_is_dropped", (
-        ("""stop_on: matches.get_str("stop-on"),""", """stop_on: None,"""),
+        ("""run_campaign(rt, alloc, cases, options.stop_on, THREADS)""", """run_campaign(rt, alloc, cases, None, THREADS)"""),
     )),
     Lie("help_ends_with_3", (
         ("""ErrorKind::DisplayHelp if printed.is_ok() => 0,""", """ErrorKind::DisplayHelp if printed.is_ok() => REFUSED,"""),
@@ -47,7 +53,7 @@ LIES = (
             let _ = tell(alloc, errors, &fault);
             REFUSED
 """, """\
-            let _ = tell(alloc, &mut std::io::empty(), &fault);
+            let _ = fault;
             REFUSED
 """),
     )),
