@@ -12,13 +12,13 @@ import os
 import re
 import subprocess
 import sys
-from typing import Callable, Dict, Iterator, List, Tuple
+from typing import Callable, Dict, Iterator, List
 
 sys.dont_write_bytecode = True
 TOP = os.path.dirname(os.path.dirname(os.path.dirname(os.path.abspath(__file__))))
 sys.path.append(os.path.join(TOP, "tests", "program"))
 
-from documents import Block, Document, named_by, output_of, read
+from documents import Block, Document, named_by, read
 from script_reader import read_script
 from sources import Sources
 from texts import Judged

@@ -4,7 +4,7 @@ from __future__ import annotations
 import os
 import re
 from dataclasses import dataclass, field
-from typing import Dict, Iterator, List, Optional, Tuple
+from typing import Iterator, List, Optional, Tuple
 
 COMMAND = re.compile(r"\./ttrun(?P<words>[^<|`\n]*)< examples/(?P<file>[\w.-]+)(?P<check> \| \./ttrun check)?")
 EXAMPLE = re.compile(r"examples/([\w-]+(?:\.[\w-]+)+)")

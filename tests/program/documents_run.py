@@ -14,7 +14,9 @@ from documents import output_of, read
 
 
 def cases() -> List[Case]:
-    """Each command once. What it prints is the file of examples/ that has its output; a history, which may be another at each run, is tested with its script."""
+    """Each command once. What it prints is the file of examples/ that has its output.
+
+    A history, which may be another at each run, is tested with its script."""
     documents = ["README.md", *(f"docs/{it}" for it in sorted(os.listdir(os.path.join(examples.TOP, "docs"))) if it.endswith(".md"))]
     found: List[Case] = []
     seen: Set[Tuple[Tuple[str, ...], str]] = set()

@@ -33,12 +33,12 @@ Test = Union[Case, Judgement]
 
 # Each group with the fewest tests that it may have.
 GROUPS = (
-    ("rows", rows.cases, 110),
-    ("scripts", scripts.cases, 80),
-    ("words", words.cases, 55),
+    ("rows", rows.cases, 130),
+    ("scripts", scripts.cases, 85),
+    ("words", words.cases, 60),
     ("devices", devices.cases, 75),
-    ("sizes", sizes.cases, 25),
-    ("examples", examples.cases, 20),
+    ("sizes", sizes.cases, 29),
+    ("examples", examples.cases, 38),
     ("documents", documents_run.cases, 4),
 )
 

@@ -3,7 +3,7 @@ from __future__ import annotations
 
 import re
 from dataclasses import dataclass, field
-from typing import Dict, List, Optional, Set, Tuple, Union
+from typing import List, Optional, Set, Union
 
 from table import MOST_ARGUMENTS, MOST_BEHAVIOURS, STATUSES
 from texts import Judged, is_name, lines_of, refused
