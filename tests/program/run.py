@@ -39,7 +39,7 @@ GROUPS = (
     ("devices", devices.cases, 75),
     ("sizes", sizes.cases, 29),
     ("examples", examples.cases, 38),
-    ("documents", documents_run.cases, 4),
+    ("documents", documents_run.cases, 2),
 )
 
 
