@@ -4,7 +4,7 @@
 usage: tests/lies/run.py [--only WORD] [--jobs N] [--rt COMMAND]
 
 It is no part of the gate: it builds the program once for each lie, and once as it stands, which takes about a minute each. The
-tests are those of tests/program that need no more than a plain standard input, run by `rt try --cases`. The last line is
+tests are some of tests/program that need no more than a plain standard input, run by `rt try --cases`. The last line is
 'N passed, M failed'.
 """
 from __future__ import annotations
@@ -30,28 +30,31 @@ import rows
 import scripts
 import sizes
 import words
-from case import Case
+from case import Case, Ran, faults_of
 from lies import LIES, Lie
 
 LONGEST = 100_000
-TRIED = re.compile(rb"case=(\w+) run=(\w+) (?:status=(\d+) )?.*?(?:output=(\w+) )?proved=no\n")
+# Of the long tables of tests every so many is run: `rt try` takes about half a second for each.
+EVERY = 10
+TRIED = re.compile(rb"case=c(\d+) run=(\w+) (?:status=(\d+) )?.*proved=no\n")
 TRUTH = Lie("the_program_as_it_stands", ())
 
 
 def plain_cases() -> List[Case]:
-    """The tests that a file and words make."""
-    every = [it for group in (rows, scripts, words, sizes, examples, documents_run) for it in group.cases() if isinstance(it, Case)]
-    return [it for it in every if not (it.redirect or it.limit or it.is_broken) and len(it.given) < LONGEST
-            and all(isinstance(word, str) and word for word in it.words)]
+    """The tests that a file and words make: all of examples/ and of the sizes, and some of the others."""
+    every: List[Case] = []
+    for group, step in ((examples, 1), (documents_run, 1), (sizes, 1), (rows, EVERY), (scripts, EVERY), (words, EVERY)):
+        plain = [it for it in group.cases() if isinstance(it, Case) and not (it.redirect or it.limit or it.is_broken)]
+        every += [it for it in plain if len(it.given) < LONGEST and all(isinstance(word, str) and word for word in it.words)][::step]
+    return every
 
 
 def write_cases(folder: str, cases: List[Case]) -> None:
     """The folder that `rt try --cases` takes. What is given to a pipe that stays open is a file here."""
     for at, case in enumerate(cases):
-        for ending, content in (("", case.given), (".args", "".join(f"{it}\n" for it in case.words).encode()), (".stdout", case.output)):
-            if isinstance(content, bytes):
-                with open(os.path.join(folder, f"c{at}{ending}"), "wb") as file:
-                    file.write(content)
+        for ending, content in (("", case.given), (".args", "".join(f"{it}\n" for it in case.words).encode())):
+            with open(os.path.join(folder, f"c{at}{ending}"), "wb") as file:
+                file.write(content)
 
 
 def files_of_sources(top: str) -> List[str]:
@@ -79,24 +82,16 @@ def plant(top: str, lie: Lie) -> str:
     return ""
 
 
-def differs(case: Case, errors: bytes, ended: bytes, status: bytes, output: bytes) -> str:
-    """What is not as the case wants it."""
-    if ended != b"ended" or int(status or b"-1") != case.status:
-        return f"it {ended.decode()}, with status {status.decode()} for {case.status}"
-    if output == b"differs":
-        return "its standard output is another"
-    if errors != case.errors if isinstance(case.errors, bytes) else not errors:
-        return f"its standard error is {errors[:200]!r}"
-    return ""
-
-
-def failing(cases: List[Case], said: bytes) -> Tuple[int, List[str]]:
-    """How many cases were run, and those that failed."""
+def failing(cases: List[Case], printed: bytes, said: bytes) -> Tuple[int, List[str]]:
+    """How many cases were run, and those that failed: `rt try` prints outputs under `== NAME`, and errors before the line of a case."""
+    parts = re.split(rb"(?m)^== c(\d+)\n", printed)
+    outputs = dict(zip(map(int, parts[1::2]), parts[2::2]))
     failed, count, at = [], 0, 0
     for found in TRIED.finditer(said):
-        case = cases[int(found[1][1:])]
-        why = differs(case, said[at:found.start()], found[2], found[3] or b"", found[4] or b"")
-        failed += [f"{case.name}: {why}"] * bool(why)
+        number, errors = int(found[1]), said[at:found.start()]
+        status = int(found[3]) if found[2] == b"ended" and found[3] else -1
+        faults = faults_of(cases[number], Ran(outputs.get(number, b""), errors, status))
+        failed += [f"{cases[number].name}: {faults[0]}"] if faults else []
         count, at = count + 1, found.end()
     return count, failed
 
@@ -115,7 +110,7 @@ def tried(lie: Lie, rt: List[str], cases: List[Case], wanted: bool) -> Tuple[boo
         write_cases(folder, cases)
         ran = subprocess.run([*rt, "try", "--cases", folder], cwd=os.path.join(room, "crates", "ttrun"),
                              stdin=subprocess.DEVNULL, stdout=subprocess.PIPE, stderr=subprocess.PIPE)
-    count, failed = failing(cases, ran.stderr)
+    count, failed = failing(cases, ran.stdout, ran.stderr)
     if count != len(cases):
         return False, f"FAILED {lie.name}: {count} of {len(cases)} tests were run: {ran.stderr[-1500:].decode(errors='replace')}"
     told = f"{lie.name}: {len(failed)} of {count} tests fail" + (f", as {failed[0]}" if failed else "")

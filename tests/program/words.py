@@ -13,8 +13,8 @@ HELP: List[Tuple[Tuple[str, ...], Tuple[str, ...]]] = [
     (("--help",), COMMANDS), (("-h",), COMMANDS), (("help",), COMMANDS),
     (("help", "run"), ALL_OPTIONS), (("run", "--help"), ALL_OPTIONS), (("run", "-h"), ALL_OPTIONS),
     (("run", "--csv", "--help"), ALL_OPTIONS), (("run", "--stop-on", "fail", "-h"), ALL_OPTIONS),
-    (("help", "check"), ("ttrun check",)), (("check", "--help"), ("ttrun check",)), (("check", "-h"), ("ttrun check",)),
-    (("help", "replay"), ("ttrun replay",)), (("replay", "--help"), ("ttrun replay",)), (("replay", "-h"), ("ttrun replay",)),
+    (("help", "check"), ("check",)), (("check", "--help"), ("check",)), (("check", "-h"), ("check",)),
+    (("help", "replay"), ("replay",)), (("replay", "--help"), ("replay",)), (("replay", "-h"), ("replay",)),
 ]
 
 REFUSED: List[Tuple[str, Tuple[Word, ...]]] = [
