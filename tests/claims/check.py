@@ -1,0 +1,226 @@
+#!/usr/bin/env python3
+"""Checks what the documents claim: names, quotations, commands and links, and a few rules of the repository.
+
+usage: tests/claims/check.py [--table FILE SECTION]
+
+FILE and SECTION say where the table of what is proved stands. The last line is 'N passed, M failed'.
+"""
+from __future__ import annotations
+
+import argparse
+import os
+import re
+import subprocess
+import sys
+from typing import Callable, Dict, Iterator, List
+
+sys.dont_write_bytecode = True
+TOP = os.path.dirname(os.path.dirname(os.path.dirname(os.path.abspath(__file__))))
+sys.path.append(os.path.join(TOP, "tests", "program"))
+
+from documents import Block, Document, named_by, read
+from script_reader import read_script
+from sources import Sources
+from texts import Judged
+
+TABLES = (("docs/proved.md", ""), ("README.md", "What is proved"))
+CODE = re.compile(r"`([^`]+)`")
+# A number that only a reader of some other list could look up.
+NUMBER = re.compile(r"(?<![\w.#])(?:[TDW](?:1?\d|2[0-2])[a-g]?|R(?:1[0-5]|[1-9])|B[1-5])(?![\w.(<])|\b[Rr]ows?[ _]\d+\b|\bw\d{1,2}_")
+OPTIONS = re.compile(r"(?:run)?(?: (?:--csv|--history|--stop-on (?:none|pass|inconc|fail|error)))*|check|replay")
+
+
+def expanded(name: str) -> List[str]:
+    """`A::{b, c}` as `A::b` and `A::c`."""
+    found = re.fullmatch(r"(.*)\{(.*)\}", name)
+    return [found[1] + it.strip() for it in found[2].split(",")] if found else [name]
+
+
+def named_in(cell: str) -> Iterator[str]:
+    """The names that stand in backquotes; of several words, each."""
+    for quoted in CODE.findall(cell):
+        for name in expanded(quoted):
+            yield from name.split()
+
+
+def cells_of(line: str) -> List[str]:
+    """The cells of a line of a table, none of another line."""
+    return [it.strip() for it in re.split(r"(?<!\\)\|", line)[1:-1]] if line.startswith("|") else []
+
+
+def misplaced(sources: Sources, cell: str) -> Iterator[str]:
+    """What a cell as `NAME`, `NAME` in `FILE` says of a file in which the name is not defined."""
+    for names, file in re.findall(r"((?:`[^`]+`(?:, )?)+) in `([^`]+)`", cell):
+        yield from (f"{it} is not defined in {file}" for it in CODE.findall(names) if not sources.defines(file, it))
+
+
+def row_claims(sources: Sources, head: List[str], cells: List[str], crate: str) -> Iterator[str]:
+    """What one row names, and what does not stand in its crate, or below it; without a crate, anywhere."""
+    if crate and crate not in sources.crates:
+        yield f"there is no crate {crate}"
+        return
+    where = f"nowhere in {crate}, or below it" if crate else "nowhere"
+    for title, cell in zip(head, cells):
+        if title != "crate":
+            yield from (f"{it} stands {where}" for it in named_in(cell) if not sources.has(it, crate))
+            yield from misplaced(sources, cell)
+
+
+def table_claims(sources: Sources, path: str, section: str) -> Iterator[str]:
+    """What the tables of what is proved name, and does not stand in the sources; in the text beside them, what is spelt as a name."""
+    rows, crate, head = 0, "", []
+    for number, line in read(TOP, path).section(section):
+        cells = cells_of(line)
+        if not cells:
+            head = []
+            names = [it for it in named_in(line) if re.search(r"\w_\w|::|\.antt$", it)]
+            yield from (f"{path}:{number}: {it} stands nowhere" for it in names if not sources.has(it, ""))
+        elif not head:
+            head, crate = cells, ""
+        elif not re.fullmatch("[-:| ]+", line):
+            rows += 1
+            crate = (cells[0].strip("`") or crate) if head[0] == "crate" else ""
+            yield from (f"{path}:{number}: {it}" for it in row_claims(sources, head, cells, crate))
+    if rows < 10:
+        yield f"{path}: the section {section!r} has {rows} rows, and no fewer than 10 are wanted"
+
+
+def example(name: str) -> str:
+    """The text of a file of examples/, empty where there is none."""
+    path = os.path.join(TOP, "examples", name)
+    if not os.path.isfile(path):
+        return ""
+    with open(path, encoding="utf-8") as file:
+        return file.read()
+
+
+def stands_in_an_example(text: str) -> bool:
+    """Whether the lines stand together in a file of examples/."""
+    return any(f"\n{text}" in f"\n{example(it)}" for it in os.listdir(os.path.join(TOP, "examples")))
+
+
+def is_of_digits(text: str) -> bool:
+    """Whether the block is a whole text of the program, and no pattern of one."""
+    return re.match(r"testcase,|history \d \w+ \d|behaviours \d|legal |cases \d|testcase \w+\nrun \d", text) is not None
+
+
+def fault_of_block(block: Block) -> str:
+    """Why a block that quotes an example, or is a text of the program, is not what stands there."""
+    names = [it for it in named_by(block) if example(it)]
+    is_part = "begin" in block.before.rsplit("\n\n", 1)[-1]
+    if stands_in_an_example(block.text):
+        is_whole = any(example(it) == block.text for it in names)
+        is_begun = is_part and any(example(it).startswith(block.text) for it in names)
+        return "" if not names or is_whole or is_begun else f"it is not the whole of {' or '.join(names)}"
+    if is_of_digits(block.text):
+        return f"it stands in no file of examples/{', as ' + ' or '.join(names) if names else ''}"
+    if re.match(r"(?:#.*\n)?testcase \w+\n\s*(?:#.*\n\s*)?behaviour ", block.text):
+        read_as = read_script(re.sub(r"(?m)^X$", "getverdict", block.text).encode())
+        return read_as.errors.decode().strip() if isinstance(read_as, Judged) else ""
+    return ""
+
+
+def quotations(documents: List[Document]) -> Iterator[str]:
+    """Blocks that are not what they quote."""
+    for document in documents:
+        for block in document.blocks():
+            fault = fault_of_block(block) if not block.language else ""
+            if fault:
+                yield f"{document.path}:{block.line}: {fault}"
+
+
+def squeezed(text: str) -> str:
+    """The text with each stretch of space as one."""
+    return " ".join(text.split())
+
+
+def quoted_code(documents: List[Document]) -> Iterator[str]:
+    """Blocks of Rattle that do not stand in a file of the crate that the document says they are of."""
+    for document in documents:
+        crates = re.findall(r"program is `crates/(\w+)`", "\n".join(document.lines))
+        for crate in crates:
+            folder = os.path.join(TOP, "crates", crate, "src")
+            code = [squeezed(open(os.path.join(folder, it), encoding="utf-8").read()) for it in sorted(os.listdir(folder))]
+            for block in document.blocks():
+                if block.language == "rust" and not any(squeezed(block.text) in it for it in code):
+                    yield f"{document.path}:{block.line}: this code stands in no file of crates/{crate}"
+
+
+def commands(documents: List[Document]) -> Iterator[str]:
+    """Commands that name an example which is not there, or words that the program does not take."""
+    for document in documents:
+        for number, words, file, _ in document.commands():
+            if not example(file):
+                yield f"{document.path}:{number}: there is no examples/{file}"
+            if not OPTIONS.fullmatch(" ".join(words)):
+                yield f"{document.path}:{number}: the program does not take {' '.join(words)}"
+        for number, line in enumerate(document.lines, 1):
+            for name in re.findall(r"examples/([\w-]+(?:\.[\w-]+)*\.[a-z]+)", line):
+                if not example(name):
+                    yield f"{document.path}:{number}: there is no examples/{name}"
+
+
+def links(documents: List[Document]) -> Iterator[str]:
+    """Links that lead nowhere."""
+    for document in documents:
+        for number, link in document.links():
+            if re.match(r"[a-z]+:", link):
+                continue
+            path, _, anchor = link.partition("#")
+            target = os.path.normpath(os.path.join(os.path.dirname(document.path), path)) if path else document.path
+            if not os.path.exists(os.path.join(TOP, target)):
+                yield f"{document.path}:{number}: {link} leads to no file"
+            elif anchor and anchor not in read(TOP, target).anchors():
+                yield f"{document.path}:{number}: {link} leads to no heading"
+
+
+def tracked() -> List[str]:
+    """The files of the repository."""
+    listed = subprocess.run(["git", "ls-files", "-co", "--exclude-standard"], cwd=TOP, stdout=subprocess.PIPE, check=True)
+    return [it for it in listed.stdout.decode().split("\n") if os.path.isfile(os.path.join(TOP, it))]
+
+
+def numbers() -> Iterator[str]:
+    """Numbers that stand for a rule or a case which is written elsewhere."""
+    for path in tracked():
+        try:
+            with open(os.path.join(TOP, path), encoding="utf-8") as file:
+                lines = file.read().split("\n")
+        except UnicodeDecodeError:
+            continue
+        for number, line in enumerate(lines, 1):
+            found = NUMBER.search(line)
+            if found:
+                yield f"{path}:{number}: {found[0]}"
+
+
+def main() -> int:
+    """Makes each check, and prints what it finds."""
+    parser = argparse.ArgumentParser(description="checks what the documents claim")
+    parser.add_argument("--table", nargs=2, metavar=("FILE", "SECTION"))
+    given = parser.parse_args()
+    path, section = given.table or next(it for it in TABLES if os.path.exists(os.path.join(TOP, it[0])))
+    sources = Sources(TOP)
+    documents = [read(TOP, it) for it in tracked() if it.endswith(".md")]
+    checks: Dict[str, Callable[[], Iterator[str]]] = {
+        "what the table of what is proved names stands in the sources": lambda: table_claims(sources, path, section),
+        "what the documents quote of examples/ stands there": lambda: quotations(documents),
+        "the code that the documents quote stands in its crate": lambda: quoted_code(documents),
+        "the commands that name an example name one, with words that there are": lambda: commands(documents),
+        "all links lead somewhere": lambda: links(documents),
+        "no name of an edit stands in two crates": sources.edits_in_two_crates,
+        "no number stands for a rule that is written elsewhere": numbers,
+    }
+    failed = 0
+    for name, check in checks.items():
+        faults = list(check())
+        failed += bool(faults)
+        print(f"{'FAILED' if faults else 'ok'}: {name}")
+        for it in faults:
+            print(f"  {it}")
+    print(f"{len(checks) - failed} passed, {failed} failed")
+    return 1 if failed else 0
+
+
+if __name__ == "__main__":
+    sys.exit(main())

@@ -1,0 +1,83 @@
+"""Lies that the program could tell: each is a change of the sources after which the program's tests must fail."""
+from __future__ import annotations
+
+from dataclasses import dataclass
+from typing import Tuple
+
+
+@dataclass(frozen=True)
+class Lie:
+    """A lie: pairs of a text, which stands exactly once in the sources of all crates, and what is put in its place."""
+
+    name: str
+    changes: Tuple[Tuple[str, str], ...]
+
+
+LIES = (
+    Lie("a_refused_input_ends_with_0", (
+        ("""\
+            let _ = tell(alloc, errors, &fault);
+            REFUSED
+""", """\
+            let _ = tell(alloc, errors, &fault);
+            0
+"""),
+    )),
+    Lie("check_and_replay_are_exchanged", (
+        ("""\
+        Task::Replay => {
+            let answer = replay(alloc, reader, writer);
+""", """\
+        Task::Replay => {
+            let answer = check(alloc, reader, writer);
+"""),
+        ("""\
+        Task::Check => {
+            let answer = check(alloc, reader, writer);
+""", """\
+        Task::Check => {
+            let answer = replay(alloc, reader, writer);
+"""),
+    )),
+    Lie("csv_is_ignored", (
+        ("""Form::Csv => write_csv(alloc, results, writer),""", """Form::Csv => write_text(alloc, results, writer),"""),
+    )),
+    Lie("the_stopping_rule_is_dropped", (
+        ("""run_campaign(rt, alloc, cases, options.stop_on, THREADS)""", """run_campaign(rt, alloc, cases, None, THREADS)"""),
+    )),
+    Lie("help_ends_with_3", (
+        ("""ErrorKind::DisplayHelp if printed.is_ok() => 0,""", """ErrorKind::DisplayHelp if printed.is_ok() => REFUSED,"""),
+    )),
+    Lie("fault_lines_are_never_told", (
+        ("""\
+            let _ = tell(alloc, errors, &fault);
+            REFUSED
+""", """\
+            let _ = fault;
+            REFUSED
+"""),
+    )),
+    Lie("steps_of_long_behaviours_are_dropped", (
+        ("""\
+        if pass.is_ended() {
+            break;
+        }
+        call(rt, pass, &mut made, step)?;
+""", """\
+        if pass.is_ended() || pass.log().len() >= 900 {
+            break;
+        }
+        call(rt, pass, &mut made, step)?;
+"""),
+    )),
+    Lie("the_first_test_case_is_left_out", (
+        ("""\
+    let mut campaign = campaign;
+    let mut cases = Vec::new(alloc);
+""", """\
+    let mut campaign = campaign;
+    let _ = campaign.take_first();
+    let mut cases = Vec::new(alloc);
+"""),
+    )),
+)

@@ -1,0 +1,139 @@
+#!/usr/bin/env python3
+"""Plants each lie into a copy of the sources, builds it without a proof, and shows that the program's tests fail on it.
+
+usage: tests/lies/run.py [--only WORD] [--jobs N] [--rt COMMAND]
+
+It is no part of the gate: it builds the program once for each lie, and once as it stands, which takes about a minute each. The
+tests are some of tests/program that need no more than a plain standard input, run by `rt try --cases`. The last line is
+'N passed, M failed'.
+"""
+from __future__ import annotations
+
+import argparse
+import os
+import re
+import shlex
+import shutil
+import subprocess
+import sys
+import tempfile
+from concurrent.futures import ThreadPoolExecutor
+from typing import List, Tuple
+
+sys.dont_write_bytecode = True
+TOP = os.path.dirname(os.path.dirname(os.path.dirname(os.path.abspath(__file__))))
+sys.path.append(os.path.join(TOP, "tests", "program"))
+
+import documents_run
+import examples
+import rows
+import scripts
+import sizes
+import words
+from case import Case, Ran, faults_of
+from lies import LIES, Lie
+
+LONGEST = 100_000
+# Of the long tables of tests every so many is run: `rt try` takes about half a second for each.
+EVERY = 10
+TRIED = re.compile(rb"case=c(\d+) run=(\w+) (?:status=(\d+) )?.*proved=no\n")
+TRUTH = Lie("the_program_as_it_stands", ())
+
+
+def plain_cases() -> List[Case]:
+    """The tests that a file and words make: all of examples/ and of the sizes, and some of the others."""
+    every: List[Case] = []
+    for group, step in ((examples, 1), (documents_run, 1), (sizes, 1), (rows, EVERY), (scripts, EVERY), (words, EVERY)):
+        plain = [it for it in group.cases() if isinstance(it, Case) and not (it.redirect or it.limit or it.is_broken)]
+        every += [it for it in plain if len(it.given) < LONGEST and all(isinstance(word, str) and word for word in it.words)][::step]
+    return every
+
+
+def write_cases(folder: str, cases: List[Case]) -> None:
+    """The folder that `rt try --cases` takes. What is given to a pipe that stays open is a file here."""
+    for at, case in enumerate(cases):
+        for ending, content in (("", case.given), (".args", "".join(f"{it}\n" for it in case.words).encode())):
+            with open(os.path.join(folder, f"c{at}{ending}"), "wb") as file:
+                file.write(content)
+
+
+def files_of_sources(top: str) -> List[str]:
+    """The files of code of all crates, without their tests."""
+    found = []
+    for at, folders, names in os.walk(os.path.join(top, "crates")):
+        folders[:] = [it for it in folders if it not in ("out", "tests")]
+        found += [os.path.join(at, it) for it in names if it.endswith(".rt") and it != "tests.rt"]
+    return sorted(found)
+
+
+def plant(top: str, lie: Lie) -> str:
+    """Changes the sources below this folder. Where a text does not stand exactly once, says so and changes no more."""
+    for old, new in lie.changes:
+        texts = {}
+        for path in files_of_sources(top):
+            with open(path, encoding="utf-8") as file:
+                texts[path] = file.read()
+        holding = [path for path, text in texts.items() if old in text]
+        count = sum(text.count(old) for text in texts.values())
+        if count != 1:
+            return f"this text stands {count} times in the sources, and must stand once: {old!r}"
+        with open(holding[0], "w", encoding="utf-8") as file:
+            file.write(texts[holding[0]].replace(old, new))
+    return ""
+
+
+def failing(cases: List[Case], printed: bytes, said: bytes) -> Tuple[int, List[str]]:
+    """How many cases were run, and those that failed: `rt try` prints outputs under `== NAME`, and errors before the line of a case."""
+    parts = re.split(rb"(?m)^== c(\d+)\n", printed)
+    outputs = dict(zip(map(int, parts[1::2]), parts[2::2]))
+    failed, count, at = [], 0, 0
+    for found in TRIED.finditer(said):
+        number, errors = int(found[1]), said[at:found.start()]
+        status = int(found[3]) if found[2] == b"ended" and found[3] else -1
+        faults = faults_of(cases[number], Ran(outputs.get(number, b""), errors, status))
+        failed += [f"{cases[number].name}: {faults[0]}"] if faults else []
+        count, at = count + 1, found.end()
+    return count, failed
+
+
+def tried(lie: Lie, rt: List[str], cases: List[Case], wanted: bool) -> Tuple[bool, str]:
+    """Plants the lie in a copy, builds it and runs the cases; whether tests fail exactly where they should, and the lines to print."""
+    with tempfile.TemporaryDirectory(prefix="ttrun-lies-") as room:
+        shutil.copytree(os.path.join(TOP, "crates"), os.path.join(room, "crates"), ignore=shutil.ignore_patterns("out"))
+        for name in ("crates.txt", "HANDLES"):
+            shutil.copy(os.path.join(TOP, name), room)
+        fault = plant(room, lie)
+        if fault:
+            return False, f"FAILED {lie.name}: {fault}"
+        folder = os.path.join(room, "cases")
+        os.mkdir(folder)
+        write_cases(folder, cases)
+        ran = subprocess.run([*rt, "try", "--cases", folder], cwd=os.path.join(room, "crates", "ttrun"),
+                             stdin=subprocess.DEVNULL, stdout=subprocess.PIPE, stderr=subprocess.PIPE)
+    count, failed = failing(cases, ran.stdout, ran.stderr)
+    if count != len(cases):
+        return False, f"FAILED {lie.name}: {count} of {len(cases)} tests were run: {ran.stderr[-1500:].decode(errors='replace')}"
+    told = f"{lie.name}: {len(failed)} of {count} tests fail" + (f", as {failed[0]}" if failed else "")
+    return bool(failed) == wanted, ("" if bool(failed) == wanted else "FAILED ") + told
+
+
+def main() -> int:
+    """Tries the program as it stands, and then with each lie."""
+    parser = argparse.ArgumentParser(description="shows that the program's tests fail on each lie")
+    parser.add_argument("--only", default="", help="the lies with this in their names")
+    parser.add_argument("--jobs", type=int, default=1, help="how many are tried at a time")
+    parser.add_argument("--rt", default="rt", help="the words that start rt")
+    given = parser.parse_args()
+    cases = plain_cases()
+    chosen = [(TRUTH, False), *((it, True) for it in LIES if given.only in it.name)]
+    with ThreadPoolExecutor(given.jobs) as pool:
+        answers = []
+        for answer in pool.map(lambda it: tried(it[0], shlex.split(given.rt), cases, it[1]), chosen):
+            print(answer[1], flush=True)
+            answers.append(answer[0])
+    print(f"{answers.count(True)} passed, {answers.count(False)} failed")
+    return 1 if False in answers else 0
+
+
+if __name__ == "__main__":
+    sys.exit(main())

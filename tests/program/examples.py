@@ -1,0 +1,117 @@
+"""Every file of examples/: scripts with their reports, tables and histories, and lists of moves with their replies."""
+from __future__ import annotations
+
+import os
+import re
+from typing import Dict, Iterator, List, Tuple, Union
+
+from case import Case, difference, run
+from judged import Judgement
+from script_reader import Campaign, read_script
+from script_run import faults_of_block
+from texts import Judged, check, read_history, replay, status_of
+
+TOP = os.path.dirname(os.path.dirname(os.path.dirname(os.path.abspath(__file__))))
+FOLDER = os.path.join(TOP, "examples")
+FORMS: Dict[str, Tuple[str, ...]] = {"report": (), "csv": ("--csv",), "history": ("--history",)}
+
+
+def bytes_of(name: str) -> bytes:
+    """The bytes of a file of examples/."""
+    with open(os.path.join(FOLDER, name), "rb") as it:
+        return it.read()
+
+
+def status_in(form: str, output: bytes) -> int:
+    """The status that belongs to a report, a table or histories, by the verdicts that stand there."""
+    patterns = {"report": rb"^verdict (\w+)$", "csv": rb",(\w+)$", "history": rb"^end (\w+)$"}
+    verdicts = [it.decode() for it in re.findall(patterns[form], output, re.M) if it != b"verdict"]
+    return max(status_of(it) for it in verdicts)
+
+
+def words_of(parts: List[str]) -> Tuple[str, ...]:
+    """The words of a run by the parts of a file's name: `NAME.report`, `NAME.csv`, `NAME.stop-on-fail.report` and so on."""
+    rules = [it[len("stop-on-"):] for it in parts[1:-1] if it.startswith("stop-on-")]
+    assert len(parts) == 2 + len(rules), parts
+    return ("run", *FORMS[parts[-1]], *(word for it in rules for word in ("--stop-on", it)))
+
+
+def campaign_of(stem: str) -> Campaign:
+    """The campaign of a script of examples/."""
+    campaign = read_script(bytes_of(f"{stem}.script"))
+    assert not isinstance(campaign, Judged), campaign
+    return campaign
+
+
+def faults_of_history(campaign: Campaign, text: bytes) -> List[str]:
+    """Why the text is no history of the first test cases of the campaign."""
+    blocks, refusal = read_history(text)
+    if refusal is not None:
+        return [refusal.errors.decode()]
+    faults = [fault for case, block in zip(campaign, blocks) for fault in faults_of_block(case, block)]
+    return faults + ["more histories than test cases"] * (len(blocks) > len(campaign))
+
+
+def written_is_checked(stem: str, count: int) -> Judgement:
+    """`run --history | check`: what is written is a history of the script, and is found legal."""
+
+    def judge(program: str) -> List[str]:
+        campaign = campaign_of(stem)
+        ran = run(Case("", ("run", "--history"), bytes_of(f"{stem}.script")), program)
+        faults = difference("standard error", b"", ran.errors) + faults_of_history(campaign, ran.output)
+        if ran.output.count(b"history 1 ") != count:
+            faults.append(f"{count} histories are wanted: {ran.output[:300]!r}")
+        if ran.status != status_in("history", ran.output or b"end error"):
+            faults.append(f"status {ran.status}")
+        checked = run(Case("", ("check",), ran.output), program)
+        wanted = check(ran.output)
+        return faults + difference("check", wanted.output, checked.output) + ["check: its status"] * (checked.status != 0)
+
+    return Judgement(f"written_is_checked_{stem}", f"ttrun run --history < examples/{stem}.script | ttrun check", judge)
+
+
+def stands_as_history(stem: str) -> Judgement:
+    """A history of examples/ is one of its script."""
+    return Judgement(f"history_of_its_script_{stem}", f"examples/{stem}.history",
+                     lambda program: faults_of_history(campaign_of(stem), bytes_of(f"{stem}.history")))
+
+
+def faults_of_folder(names: List[str]) -> List[str]:
+    """Files of examples/ that no test reads, and those that lack their outputs."""
+    faults = []
+    for name in names:
+        stem, _, suffix = name.partition(".")
+        suffix = suffix.rpartition(".")[2]
+        given = {"report": "script", "csv": "script", "history": "script", "replies": "moves"}.get(suffix)
+        if given is not None and f"{stem}.{given}" not in names or given is None and suffix not in ("script", "moves"):
+            faults.append(f"{name} is no output of an example")
+        lacking = {"script": [f"{stem}.report", f"{stem}.csv", f"{stem}.history"], "moves": [f"{stem}.replies"]}.get(suffix, [])
+        if suffix == "script" and (f"{stem}.csv" in names or f"{stem}.history" in names):
+            lacking = lacking[:1]
+        faults += [f"{name} lacks {it}" for it in lacking if it not in names]
+    return faults
+
+
+def tests_of(name: str) -> Iterator[Union[Case, Judgement]]:
+    """What is tested of one file."""
+    stem, suffix = name.partition(".")[0], name.rpartition(".")[2]
+    text = bytes_of(name)
+    if suffix == "script":
+        yield written_is_checked(stem, len(campaign_of(stem)))
+    elif suffix == "moves":
+        wanted = replay(text)
+        yield Case(f"example_{name}", ("replay",), text, bytes_of(f"{stem}.replies"), status=wanted.status)
+        yield Judgement(f"example_by_the_rules_{name}", f"examples/{name}",
+                        lambda program: difference("the rules", wanted.output, bytes_of(f"{stem}.replies")))
+    elif suffix == "history":
+        yield Case(f"example_{name}", ("check",), text, check(text).output)
+        yield stands_as_history(stem)
+    elif suffix in ("report", "csv"):
+        yield Case(f"example_{name}", words_of(name.split(".")), bytes_of(f"{stem}.script"), text, status=status_in(suffix, text))
+
+
+def cases() -> List[Union[Case, Judgement]]:
+    """All of them."""
+    names = sorted(os.listdir(FOLDER))
+    whole = Judgement("examples_are_whole", "examples/", lambda program: faults_of_folder(names))
+    return [whole, *(test for name in names for test in tests_of(name))]

@@ -1,0 +1,239 @@
+"""Random lists of moves and random histories: `replay` and `check` are held to the component table in Python."""
+from __future__ import annotations
+
+import random
+from collections import Counter
+from typing import List, Tuple
+
+from case import Case, difference, run
+from judged import Judgement
+from table import FAULTS, MOST_COMPONENTS, STATUSES, VERDICTS, Op, Table, Target
+from texts import Judged, check, replay
+
+USER_VERDICTS = VERDICTS[:4]
+OPERATIONS = ("create", "start", "stop", "kill", *STATUSES, "wait", "wake", "setverdict", "getverdict", "finish")
+WEIGHTS = (10, 12, 5, 4, 3, 3, 3, 3, 8, 8, 8, 6, 4)
+REPLIES = ("made", "ok", "true", "false", "none", "pass", "inconc", "fail", "matched", "parked", "ended")
+LISTS = 700
+TEXTS = 250
+
+
+def target_of(chance: random.Random, table: Table, caller: int, groups: Tuple[str, ...]) -> Target:
+    """A component, mostly one that is there, or a group, mostly where the main behaviour asks."""
+    if groups and chance.random() < (0.4 if caller == 0 else 0.1):
+        return chance.choice(groups)
+    if chance.random() < 0.02:
+        return chance.choice((len(table.components), 999, 1000, 65_536, 4_294_967_295))
+    return chance.randrange(len(table.components))
+
+
+def drawn_op(chance: random.Random, table: Table, caller: int) -> Op:
+    """An operation; a wake is mostly that of the wait before it."""
+    verb = chance.choices(OPERATIONS, WEIGHTS)[0]
+    if verb == "create":
+        return Op("create", alive=chance.random() < 0.6)
+    if verb == "start":
+        args = tuple(target_of(chance, table, caller, ()) for _ in range(chance.choice((0, 0, 0, 1, 2, 4))))
+        unused = [it for it in range(table.behaviours) if it not in table.component_of_run]
+        runs = unused if unused and chance.random() < 0.9 else [0, 1, table.behaviours, 65_535]
+        return Op("start", target_of(chance, table, caller, ()), run=chance.choice(runs), args=args)
+    if verb in ("stop", "kill"):
+        return Op(verb, target_of(chance, table, caller, ("all",)))
+    if verb in STATUSES:
+        return Op(verb, target_of(chance, table, caller, ("any", "all")))
+    if verb == "wake" and caller in table.awaited and chance.random() < 0.8:
+        awaited, target = table.awaited[caller]
+        return Op("wake", target, awaited=awaited)
+    if verb in ("wait", "wake"):
+        return Op(verb, target_of(chance, table, caller, ("any", "all")), awaited=chance.choice(("done", "killed")))
+    return Op(verb, verdict=chance.choice(USER_VERDICTS)) if verb == "setverdict" else Op(verb)
+
+
+def ends_case(op: Op, caller: int, reply: str) -> bool:
+    """Whether the entry ends the case."""
+    is_end = op.verb == "finish" and caller == 0 or op.verb in ("stop", "kill") and op.target == 0
+    return reply != "ended" and is_end or reply.startswith("error ")
+
+
+def kind_of(op: Op) -> str:
+    """The name under which an operation is counted."""
+    group = f" {op.target}" if isinstance(op.target, str) else ""
+    return f"{op.verb} {op.awaited}{op.verdict}".strip() + (" alive" if op.alive else "") + group
+
+
+class MoveList:
+    """A random test case: its moves, and their replies by the table."""
+
+    def __init__(self, chance: random.Random, met: Counter, is_crowded: bool) -> None:
+        self.behaviours = chance.choice((1, 2, 3, 4, 6, 9, 64))
+        self.table = Table(self.behaviours)
+        self.moves: List[Tuple[int, Op]] = []
+        self.replies: List[str] = []
+        if is_crowded:
+            for _ in range(MOST_COMPONENTS - 1):
+                self.play(0, Op("create", alive=True))
+        daring = chance.choice((0.02, 0.1, 0.5))
+        for _ in range(chance.randrange(5, 60)):
+            caller, op = self.drawn(chance)
+            if not ends_case(op, caller, self.table.would(caller, op)) or chance.random() < daring:
+                self.play(caller, op)
+        if chance.random() < 0.5:
+            self.play_fault(chance, chance.choice(FAULTS))
+        for (_, op), reply in zip(self.moves, self.replies):
+            met[kind_of(op)] += 1
+            met["reply " + (reply if reply.startswith("error ") else reply.split()[0])] += 1
+
+    def drawn(self, chance: random.Random) -> Tuple[int, Op]:
+        """A move, mostly of a run that goes on."""
+        going_on = [it for it in self.table.component_of_run if self.table.is_going_on(it)]
+        caller = chance.choice(going_on) if going_on and chance.random() < 0.95 else chance.choice((0, 1, 2, 65_535))
+        return caller, drawn_op(chance, self.table, caller)
+
+    def play_fault(self, chance: random.Random, fault: str) -> None:
+        """Adds a move that is answered by this error, where one is soon drawn, and then one more."""
+        for _ in range(60):
+            caller, op = self.drawn(chance)
+            if self.table.would(caller, op) == f"error {fault}":
+                self.play(caller, op)
+                self.play(*self.drawn(chance))
+                return
+
+    def play(self, caller: int, op: Op) -> None:
+        """Adds a move."""
+        self.moves.append((caller, op))
+        self.replies.append(self.table.play(caller, op))
+
+    def list_text(self) -> bytes:
+        """The list of moves."""
+        lines = [f"behaviours {self.behaviours}", *(f"{caller} {op.text()}" for caller, op in self.moves)]
+        return "".join(f"{it}\n" for it in lines).encode()
+
+    def history_lines(self, name: str) -> List[str]:
+        """The history, legal."""
+        entries = [f"{caller} {op.text()} -> {reply}" for (caller, op), reply in zip(self.moves, self.replies)]
+        return [f"history 1 {name} {self.behaviours}", *entries, f"end {self.table.overall()}"]
+
+
+def mutated(chance: random.Random, text: bytes) -> bytes:
+    """The text with one byte or one line changed, or cut."""
+    at, what = chance.randrange(len(text)), chance.randrange(7)
+    if what == 0:
+        return text[:at] + bytes([chance.randrange(256)]) + text[at + 1:]
+    if what == 1:
+        return text[:at] + text[at + 1:]
+    if what == 2:
+        return text[:at] + bytes([chance.choice(b" \n0189az\r\t")]) + text[at:]
+    if what == 3:
+        return text[:at]
+    lines = text.splitlines(keepends=True)
+    one, other = chance.randrange(len(lines)), chance.randrange(len(lines))
+    if what == 4:
+        del lines[one]
+    elif what == 5:
+        lines.insert(other, lines[one])
+    else:
+        lines[one], lines[other] = lines[other], lines[one]
+    return b"".join(lines)
+
+
+def falsified(chance: random.Random, lines: List[str]) -> None:
+    """Puts another reply, or another verdict, in one place of a history."""
+    at = chance.randrange(1, len(lines))
+    if at == len(lines) - 1:
+        lines[at] = "end " + chance.choice(VERDICTS)
+        return
+    replies = ("made 1", "made 0", "error stuck", f"error {chance.choice(FAULTS)}", "error", *REPLIES[1:])
+    lines[at] = lines[at].partition(" -> ")[0] + " -> " + chance.choice(replies)
+
+
+def compared(program: str, word: str, text: bytes, wanted: Judged) -> List[str]:
+    """What is wrong with the program's answer to this text."""
+    ran = run(Case("", (word,), text), program)
+    faults = difference("standard output", wanted.output, ran.output) + difference("standard error", wanted.errors, ran.errors)
+    faults += [f"status: wanted {wanted.status}, came {ran.status}"] * (ran.status != wanted.status)
+    return faults + [f"the input: {text[:1500]!r}"] if faults else []
+
+
+def below(met: Counter, floors: List[Tuple[str, int]]) -> List[str]:
+    """What was met too seldom for the test to say much."""
+    return [f"{name} was met {met[name]} times, and {floor} are wanted" for name, floor in floors if met[name] < floor]
+
+
+def list_floors() -> List[Tuple[str, int]]:
+    """How often each operation, reply and error is met at least by the random lists of one test."""
+    groups = [f"{status} {group}" for status in STATUSES for group in ("any", "all")] + ["stop all", "kill all"]
+    waits = [f"{verb} {awaited}{group}" for verb in ("wait", "wake") for awaited in ("done", "killed") for group in ("", " any", " all")]
+    plain = ["create", "create alive", "start", "stop", "kill", *STATUSES, "getverdict", "finish"]
+    floors = [(name, 60) for name in plain] + [(name, 25) for name in groups + waits]
+    floors += [(f"setverdict {it}", 60) for it in USER_VERDICTS] + [(f"reply {it}", 40) for it in REPLIES]
+    return floors + [(f"reply error {it}", 1 if it == "too-many" else 4) for it in FAULTS]
+
+
+def lists_are_replayed(seed: int) -> Judgement:
+    """Random lists of moves."""
+
+    def judge(program: str) -> List[str]:
+        chance, met = random.Random(f"lists {seed}"), Counter()
+        for at in range(LISTS):
+            drawn = MoveList(chance, met, is_crowded=at % 50 == 49)
+            text = drawn.list_text()
+            lines = [*drawn.replies, f"verdict {drawn.table.overall()}"]
+            wanted = replay(text)
+            if wanted.output != "".join(f"{it}\n" for it in lines).encode():
+                return [f"the list that was drawn is read otherwise: {text[:1500]!r}"]
+            faults = compared(program, "replay", text, wanted)
+            if faults:
+                return faults
+        return below(met, list_floors())
+
+    return Judgement(f"random_lists_are_replayed_{seed}", "ttrun replay < (random lists of moves)", judge)
+
+
+def changed_lists_are_judged(seed: int) -> Judgement:
+    """Lists of moves with a byte or a line changed."""
+
+    def judge(program: str) -> List[str]:
+        chance, met = random.Random(f"changed lists {seed}"), Counter()
+        for _ in range(TEXTS):
+            text = mutated(chance, MoveList(chance, Counter(), is_crowded=False).list_text())
+            wanted = replay(text)
+            met[wanted.errors.decode().rpartition(": ")[2].strip() or "accepted"] += 1
+            faults = compared(program, "replay", text, wanted)
+            if faults:
+                return faults
+        return below(met, [("accepted", 20), ("bad move", 40), ("bad first line", 2)])
+
+    return Judgement(f"changed_lists_are_judged_{seed}", "ttrun replay < (changed lists of moves)", judge)
+
+
+def histories_are_checked(seed: int) -> Judgement:
+    """Random histories: legal ones, ones with another reply or verdict, and ones with a byte or a line changed."""
+
+    def judge(program: str) -> List[str]:
+        chance, met = random.Random(f"histories {seed}"), Counter()
+        for _ in range(TEXTS):
+            lines: List[str] = []
+            what = chance.choice(("legal", "falsified", "falsified", "changed"))
+            for at in range(chance.randrange(1, 9)):
+                block = MoveList(chance, Counter(), is_crowded=False).history_lines(f"t{at}")
+                met["histories"] += 1
+                if what == "falsified" and chance.random() < 0.3:
+                    falsified(chance, block)
+                lines += block
+            text = "".join(f"{it}\n" for it in lines).encode()
+            text = mutated(chance, text) if what == "changed" else text
+            wanted = check(text)
+            told = wanted.errors.decode().rpartition(": ")[2].strip()
+            met[told or ("legal" if wanted.status == 0 else "not legal")] += 1
+            faults = compared(program, "check", text, wanted)
+            if faults:
+                return faults
+        return below(met, [("histories", 800), ("legal", 50), ("not legal", 50), ("bad entry", 20)])
+
+    return Judgement(f"random_histories_are_checked_{seed}", "ttrun check < (random histories)", judge)
+
+
+def judgements(seed: int) -> List[Judgement]:
+    """The tests for this seed, several of each kind, so that they run side by side."""
+    seeds = [4 * seed + at for at in range(4)]
+    return [*map(lists_are_replayed, seeds), *map(histories_are_checked, seeds), *map(changed_lists_are_judged, seeds[:2])]

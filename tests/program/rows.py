@@ -1,0 +1,364 @@
+"""Worked cases of replay, check and run. A `;` stands for the end of a line; each text ends with one."""
+from __future__ import annotations
+
+from typing import Iterator, List, Tuple
+
+from case import Case
+
+
+def text(lines: str) -> bytes:
+    """The bytes of lines that are written with `;`."""
+    return (lines.replace(";", "\n") + "\n").encode()
+
+
+# Name, moves, replies, status.
+REPLAYED: List[Tuple[str, str, str, int]] = [
+    ("no_moves", "behaviours 1", "verdict none", 0),
+    ("settings_of_the_main",
+     "behaviours 1;0 create;0 setverdict pass;0 setverdict none;0 getverdict;0 finish;0 getverdict",
+     "made 1;ok;ok;pass;ok;ended;verdict pass", 0),
+    ("inconc_stays", "behaviours 1;0 setverdict inconc;0 setverdict pass;0 getverdict", "ok;ok;inconc;verdict inconc", 1),
+    ("start_of_a_running_component", "behaviours 3;0 create;0 start 1 1;0 start 1 2;1 getverdict",
+     "made 1;ok;error already-running;ended;verdict error", 2),
+    ("restart_keeps_fail", "behaviours 3;0 create alive;0 start 1 1;1 setverdict fail;1 finish;0 start 1 2;2 getverdict",
+     "made 1;ok;ok;ok;ok;fail;verdict fail", 1),
+    ("stopped_ordinary_is_killed", "behaviours 3;0 create;0 start 1 1;0 stop 1;0 killed 1;0 start 1 2",
+     "made 1;ok;ok;true;error not-startable;verdict error", 2),
+    ("done_of_groups", "behaviours 1;0 done all;0 create;0 done all;0 done any", "true;made 1;true;false;verdict none", 0),
+    ("ptc_asks_of_any", "behaviours 2;0 create;0 start 1 1;1 running any", "made 1;ok;error not-main;verdict error", 2),
+    ("stop_and_kill_of_an_inactive_component", "behaviours 1;0 create;0 stop 1;0 alive 1;0 kill 1;0 done 1",
+     "made 1;ok;true;ok;true;verdict none", 0),
+    ("stopped_by_another_is_excused",
+     "behaviours 3;0 create;0 create;0 start 1 1;0 start 2 2;0 stop 1;0 running all;2 finish;0 running all",
+     "made 1;made 2;ok;ok;ok;true;ok;false;verdict none", 0),
+    ("waiting_alone_is_stuck", "behaviours 1;0 create;0 wait done 1;0 wake done 1",
+     "made 1;parked;error stuck;verdict error", 2),
+    ("a_ptc_stops_the_main", "behaviours 2;0 create;0 start 1 1;1 setverdict pass;1 stop 0;0 getverdict;1 getverdict",
+     "made 1;ok;ok;ok;ended;ended;verdict pass", 0),
+    ("a_thousand_components", "behaviours 1" + ";0 create" * 1000,
+     "".join(f"made {at};" for at in range(1, 1000)) + "error too-many;verdict error", 2),
+    ("faults_of_a_start_no_argument", "behaviours 2;0 create;0 start 1 1 7", "made 1;error no-component;verdict error", 2),
+    ("faults_of_a_start_main", "behaviours 2;0 start 0 1", "error start-main;verdict error", 2),
+    ("faults_of_a_start_run_0", "behaviours 2;0 create;0 start 1 0", "made 1;error no-behaviour;verdict error", 2),
+    ("faults_of_a_start_no_run", "behaviours 2;0 create;0 start 1 2", "made 1;error no-behaviour;verdict error", 2),
+    ("faults_of_a_start_twice", "behaviours 2;0 create;0 create;0 start 1 1;0 start 2 1",
+     "made 1;made 2;ok;error no-behaviour;verdict error", 2),
+    ("order_of_faults", "behaviours 2;0 create;0 start 1 1;0 start 1 9", "made 1;ok;error already-running;verdict error", 2),
+    ("status_of_a_restarted_component",
+     "behaviours 3;0 create alive;0 start 1 1;1 finish;0 done 1;0 start 1 2;0 done 1;0 running 1;0 alive 1",
+     "made 1;ok;ok;true;ok;false;true;true;verdict none", 0),
+    ("two_waits_are_stuck", "behaviours 2;0 create;0 start 1 1;0 wait done 1;1 wait killed 1;1 wake killed 1;0 wake done 1",
+     "made 1;ok;parked;parked;parked;error stuck;verdict error", 2),
+    ("a_finish_wakes", "behaviours 2;0 create;0 start 1 1;0 wait done 1;0 wake done 1;1 finish;0 wake done 1",
+     "made 1;ok;parked;parked;ok;matched;verdict none", 0),
+    ("groups_of_two",
+     "behaviours 3;0 create;0 create alive;0 start 2 1;0 killed any;0 stop all;0 done any;0 killed all;0 alive all;"
+     "0 kill all;0 killed all;0 alive any",
+     "made 1;made 2;ok;false;ok;true;false;true;ok;true;false;verdict none", 0),
+    ("a_run_that_was_never_started", "behaviours 2;1 setverdict fail;9 finish", "ended;ended;verdict none", 0),
+    ("self_stop_is_not_excused", "behaviours 2;0 create;0 start 1 1;1 stop 1;0 running all", "made 1;ok;ok;false;verdict none", 0),
+    ("the_main_is_asked_about", "behaviours 1;0 running 0;0 alive 0;0 done 0;0 killed 0", "true;true;false;false;verdict none", 0),
+    ("no_parallel_component",
+     "behaviours 1;0 running any;0 alive any;0 done any;0 killed any;0 running all;0 alive all;0 done all;0 killed all",
+     "false;false;false;false;true;true;true;true;verdict none", 0),
+    ("largest_numbers", "behaviours 64;65535 finish;0 running 4294967295", "ended;error no-component;verdict error", 2),
+]
+
+# Name, moves, line, fault.
+REFUSED_LISTS: List[Tuple[str, bytes, int, str]] = [
+    ("refused_move_lists_no_behaviours", text("behaviours 0"), 1, "bad first line"),
+    ("refused_move_lists_error", text("behaviours 1;0 setverdict error"), 2, "bad move"),
+    ("refused_move_lists_two_spaces", text("behaviours 1;0  getverdict"), 2, "bad move"),
+    ("refused_move_lists_empty", b"", 1, "text ends too early"),
+    ("an_empty_line", b"\n", 1, "bad first line"),
+    ("sixty_five_behaviours", text("behaviours 65"), 1, "bad first line"),
+    ("a_number_with_a_zero_in_front", text("behaviours 01"), 1, "bad first line"),
+    ("no_number", text("behaviours"), 1, "bad first line"),
+    ("a_space_behind_the_number", text("behaviours 1 "), 1, "bad first line"),
+    ("a_carriage_return", b"behaviours 1\r\n", 1, "bad first line"),
+    ("a_history_for_a_list", text("history 1 t 1"), 1, "bad first line"),
+    ("an_empty_line_between", text("behaviours 1;;0 create"), 2, "bad move"),
+    ("the_second_of_three_moves", text("behaviours 1;0 create;0 made;0 create x"), 3, "bad move"),
+    ("a_caller_out_of_range", text("behaviours 1;65536 finish"), 2, "bad move"),
+    ("a_component_out_of_range", text("behaviours 1;0 stop 4294967296"), 2, "bad move"),
+    ("a_run_out_of_range", text("behaviours 1;0 start 1 65536"), 2, "bad move"),
+    ("five_arguments", text("behaviours 1;0 start 1 1 0 0 0 0 0"), 2, "bad move"),
+    ("stop_of_any", text("behaviours 1;0 stop any"), 2, "bad move"),
+    ("start_of_all", text("behaviours 1;0 start all 1"), 2, "bad move"),
+    ("wait_for_running", text("behaviours 1;0 wait running 1"), 2, "bad move"),
+    ("a_byte_zero", b"behaviours 1\n0 create\0\n", 2, "bad move"),
+    ("a_byte_above_127", b"behaviours 1\n0 cr\xe9ate\n", 2, "bad move"),
+    ("a_tab", b"behaviours 1\n0\tcreate\n", 2, "bad move"),
+    ("a_move_without_a_caller", text("behaviours 1;create"), 2, "bad move"),
+    ("a_named_create", text("behaviours 1;0 create named pump"), 2, "bad move"),
+    ("a_stop_of_the_case", text("behaviours 1;0 stopcase"), 2, "bad move"),
+]
+
+INACTIVE = "history 1 t 1;0 create -> made 1;0 stop 1 -> ok;0 alive 1 -> true;"
+
+# Name, histories, output, status.
+CHECKED: List[Tuple[str, str, str, int]] = [
+    ("check_of_histories_other_reply", INACTIVE + "0 wait done 1 -> matched;end none", "line 5: matched, table gives parked", 3),
+    ("check_of_histories_legal", INACTIVE + "0 wait done 1 -> parked;end none", "legal t 4 none", 0),
+    ("check_of_histories_other_verdict", INACTIVE + "0 wait done 1 -> parked;end pass", "line 6: pass, table gives none", 3),
+    ("a_case_without_entries", "history 1 t 64;end none", "legal t 0 none", 0),
+    ("two_histories_of_one_name", "history 1 t 1;end none;history 1 t 1;end none", "legal t 0 none;legal t 0 none", 0),
+    ("nothing_behind_an_illegal_history",
+     "history 1 a 1;end none;history 1 b 1;0 finish -> ended;end none;history 1 c 1;end none",
+     "legal a 0 none;line 4: ended, table gives ok", 3),
+    ("error_is_no_status_of_check", "history 1 t 1;0 start 0 0 -> error start-main;end error", "legal t 1 error", 0),
+    ("fail_is_no_status_of_check", "history 1 t 1;0 setverdict fail -> ok;end fail", "legal t 1 fail", 0),
+    ("another_fault_is_named", "history 1 t 1;0 start 0 0 -> error stuck;end error",
+     "line 2: error stuck, table gives error start-main", 3),
+    ("another_component_is_named", "history 1 t 1;0 create -> made 7;end none", "line 2: made 7, table gives made 1", 3),
+    ("a_verdict_is_named", "history 1 t 1;0 getverdict -> error;end none", "line 2: error, table gives none", 3),
+    ("a_late_setting_that_is_counted",
+     "history 1 t 2;0 create -> made 1;0 start 1 1 -> ok;0 kill 1 -> ok;1 setverdict fail -> ok;end fail",
+     "line 5: ok, table gives ended", 3),
+    ("a_dropped_setting", "history 1 t 1;0 finish -> ok;end fail", "line 3: fail, table gives none", 3),
+    ("histories_of_two_cases", "history 1 first 1;0 setverdict pass -> ok;end pass;history 1 second 1;0 finish -> ok;end none",
+     "legal first 1 pass;legal second 1 none", 0),
+]
+
+# Name, histories, line, fault.
+REFUSED_HISTORIES: List[Tuple[str, bytes, int, str]] = [
+    ("histories_refused_and_checked_no_behaviours", text("history 1 t 0"), 1, "bad first line"),
+    ("histories_refused_and_checked_format_2", text("history 2 t 1;end none"), 1, "bad first line"),
+    ("histories_refused_and_checked_made_01", text("history 1 t 1;0 create -> made 01;end none"), 2, "bad entry"),
+    ("histories_refused_and_checked_cut", text("history 1 t 1;0 create -> made 1"), 3, "text ends too early"),
+    ("histories_refused_and_checked_empty", b"", 1, "text ends too early"),
+    ("a_fault_behind_an_illegal_history", text("history 1 t 1;0 finish -> ended;end none;end none"), 4, "bad first line"),
+    ("a_fault_behind_a_legal_history", text("history 1 t 1;end none;history 1 t"), 3, "bad first line"),
+    ("a_history_of_sixty_five", text("history 1 t 65;end none"), 1, "bad first line"),
+    ("a_history_of_a_word_that_is_no_name", text("history 1 mtc 1;end none"), 1, "bad first line"),
+    ("a_history_of_a_name_too_long", text(f"history 1 {'a' * 33} 1;end none"), 1, "bad first line"),
+    ("an_arrow_without_spaces", text("history 1 t 1;0 create->made 1;end none"), 2, "bad entry"),
+    ("two_spaces_behind_the_arrow", text("history 1 t 1;0 create ->  made 1;end none"), 2, "bad entry"),
+    ("a_reply_that_is_none", text("history 1 t 1;0 create -> done;end none"), 2, "bad entry"),
+    ("no_reply", text("history 1 t 1;0 create;end none"), 2, "bad entry"),
+    ("an_end_without_a_verdict", text("history 1 t 1;end"), 2, "bad entry"),
+    ("an_end_with_another_word", text("history 1 t 1;end passed"), 2, "bad entry"),
+    ("a_header_inside_of_a_history", text("history 1 t 1;history 1 t 1;end none"), 2, "bad entry"),
+    ("a_last_line_cut", b"history 1 t 1\n0 create -> made 1\nend non", 3, "bad entry"),
+    ("a_named_create_in_a_history", text("history 1 t 1;0 create named p -> made 1;end none"), 2, "bad entry"),
+    ("an_empty_line_in_a_history", text("history 1 t 1;;end none"), 2, "bad entry"),
+    ("an_empty_line_behind_a_history", text("history 1 t 1;end none;"), 3, "bad first line"),
+    ("a_list_for_a_history", text("behaviours 1;0 create"), 1, "bad first line"),
+]
+
+SOLO = "testcase solo;behaviour main;create p;setverdict pass;wait done p;end;end"
+
+STORED = """\
+testcase t_pass
+run 0 main on 0
+  create -> made 1
+  start 1 1 0 -> ok
+  wait done 1 -> matched
+  getverdict -> none
+  finish -> ok
+run 1 worker on 1
+  alive 0 -> true
+  setverdict pass -> ok
+  finish -> ok
+local 0 none
+local 1 pass
+verdict pass
+testcase t_again
+run 0 main on 0
+  create alive -> made 1
+  start 1 1 -> ok
+  wait done 1 -> matched
+  start 1 2 1 -> ok
+  wait done 1 -> matched
+  kill all -> ok
+  killed all -> true
+  finish -> ok
+run 1 first on 1
+  setverdict pass -> ok
+  finish -> ok
+run 2 second on 1
+  getverdict -> pass
+  setverdict none -> ok
+  running 1 -> true
+  finish -> ok
+local 0 none
+local 1 pass
+verdict pass
+cases 2 none 0 pass 2 inconc 0 fail 0 error 0
+complete
+"""
+STORED_SCRIPT = """\
+# two test cases
+testcase t_pass
+behaviour main
+  create p
+  start p worker mtc
+  wait done p
+  getverdict
+end
+behaviour worker boss
+  alive boss
+  setverdict pass
+end
+end
+testcase t_again
+behaviour main
+  create p alive
+  start p first
+  wait done p
+  start p second p
+  wait done p
+  kill all
+  killed all
+end
+behaviour first
+  setverdict pass
+end
+behaviour second me
+  getverdict
+  setverdict none
+  running me
+end
+end
+"""
+RESTARTED = """\
+testcase t_fail
+run 0 main on 0
+  create alive -> made 1
+  start 1 1 -> ok
+  wait done 1 -> matched
+  start 1 2 -> ok
+  wait done 1 -> matched
+  setverdict pass -> ok
+  finish -> ok
+run 1 first on 1
+  setverdict fail -> ok
+  finish -> ok
+run 2 second on 1
+  getverdict -> fail
+  setverdict pass -> ok
+  finish -> ok
+local 0 pass
+local 1 fail
+verdict fail
+cases 1 none 0 pass 0 inconc 0 fail 1 error 0
+complete
+"""
+RESTARTED_SCRIPT = """\
+testcase t_fail
+behaviour main
+create p alive
+start p first
+wait done p
+start p second
+wait done p
+setverdict pass
+end
+behaviour first
+setverdict fail
+end
+behaviour second
+getverdict
+setverdict pass
+end
+end
+"""
+
+
+def of_verdicts(*verdicts: str) -> bytes:
+    """A script of test cases a, b, c and on, each of one behaviour that sets its verdict, or with `error` starts the main one."""
+    lines: List[str] = []
+    for name, verdict in zip("abcdefgh", verdicts):
+        step = "start mtc main" if verdict == "error" else f"setverdict {verdict}"
+        lines += [f"testcase {name}", "behaviour main", step, "end", "end"]
+    return text(";".join(lines))
+
+
+def case_of_verdict(name: str, verdict: str) -> str:
+    """What the text report has of such a test case."""
+    calls = "  start 0 0 -> error start-main" if verdict == "error" else f"  setverdict {verdict} -> ok\n  finish -> ok"
+    return f"testcase {name}\nrun 0 main on 0\n{calls}\nlocal 0 {verdict}\nverdict {verdict}\n"
+
+
+def counts_of(*verdicts: str) -> str:
+    """The line of counts for these verdicts."""
+    names = ("none", "pass", "inconc", "fail", "error")
+    return " ".join([f"cases {len(verdicts)}", *(f"{it} {verdicts.count(it)}" for it in names)]) + "\n"
+
+
+ALL_VERDICTS = ("none", "pass", "inconc", "fail", "error")
+CSV_HEADER = "testcase,components,none,pass,inconc,fail,error,verdict\n"
+
+
+def csv_of_verdict(name: str, verdict: str) -> str:
+    """The record of such a test case."""
+    counts = ",".join(str(int(it == verdict)) for it in ALL_VERDICTS)
+    return f"{name},1,{counts},{verdict}\n"
+
+
+def history_of_verdict(name: str, verdict: str) -> str:
+    """The history of such a test case."""
+    calls = "0 start 0 0 -> error start-main" if verdict == "error" else f"0 setverdict {verdict} -> ok\n0 finish -> ok"
+    return f"history 1 {name} 1\n{calls}\nend {verdict}\n"
+
+
+def stopping_cases() -> Iterator[Case]:
+    """Each word of `--stop-on` over one test case of each verdict, in each form, and each single verdict's status."""
+    statuses = (0, 0, 1, 1, 2)
+    writers = (((), case_of_verdict), (("--csv",), csv_of_verdict), (("--history",), history_of_verdict))
+    for words, one in writers:
+        form = words[0][2:] if words else "text"
+        for at, word in enumerate(ALL_VERDICTS):
+            run = ALL_VERDICTS[: at + 1]
+            output = "".join(map(one, "abcde", run))
+            output = CSV_HEADER + output if form == "csv" else output
+            if form == "text":
+                output += counts_of(*run) + f"stopped after {'abcde'[at]}\n"
+            yield Case(f"words_of_stop_on_{word}_{form}", ("run", "--stop-on", word, *words), of_verdicts(*ALL_VERDICTS),
+                       output.encode(), status=statuses[at])
+    for at, verdict in enumerate(ALL_VERDICTS):
+        output = case_of_verdict("a", verdict) + counts_of(verdict) + "complete\n"
+        yield Case(f"status_of_one_{verdict}", ("run",), of_verdicts(verdict), output.encode(), status=statuses[at])
+        output = case_of_verdict("a", verdict) + counts_of(verdict) + "stopped after a\n"
+        yield Case(f"stop_after_the_last_{verdict}", ("run", f"--stop-on={verdict}"), of_verdicts(verdict), output.encode(),
+                   status=statuses[at])
+
+
+def run_cases() -> Iterator[Case]:
+    """Worked runs."""
+    yield Case("stored_run", (), STORED_SCRIPT.encode(), STORED.encode())
+    yield Case("stored_run_by_its_word", ("run",), STORED_SCRIPT.encode(), STORED.encode())
+    yield Case("restarted_component_report", ("run",), RESTARTED_SCRIPT.encode(), RESTARTED.encode(), status=1)
+    three = of_verdicts("pass", "fail", "pass")
+    yield Case("campaign_stops_on_fail", ("run", "--csv", "--stop-on", "fail"), three,
+               (CSV_HEADER + "a,1,0,1,0,0,0,pass\nb,1,0,0,0,1,0,fail\n").encode(), status=1)
+    yield Case("options_in_the_other_order", ("run", "--stop-on", "fail", "--csv"), three,
+               (CSV_HEADER + "a,1,0,1,0,0,0,pass\nb,1,0,0,0,1,0,fail\n").encode(), status=1)
+    yield Case("no_stopping_rule", ("run", "--csv"), three,
+               (CSV_HEADER + "a,1,0,1,0,0,0,pass\nb,1,0,0,0,1,0,fail\nc,1,0,1,0,0,0,pass\n").encode(), status=1)
+    yield Case("not_met_by_a_better_verdict", ("run", "--csv", "--stop-on", "error"), three,
+               (CSV_HEADER + "a,1,0,1,0,0,0,pass\nb,1,0,0,0,1,0,fail\nc,1,0,1,0,0,0,pass\n").encode(), status=1)
+    solo = text("history 1 solo 1;0 create -> made 1;0 setverdict pass -> ok;0 wait done 1 -> parked;"
+                "0 wake done 1 -> error stuck;end error")
+    yield Case("history_of_a_stuck_case", ("run", "--history"), text(SOLO), solo, status=2)
+    yield Case("check_of_the_history_of_a_stuck_case", ("check",), solo, b"legal solo 4 error\n")
+    yield Case("report_of_a_stuck_case", ("run",), text(SOLO),
+               text("testcase solo;run 0 main on 0;  create -> made 1;  setverdict pass -> ok;  wait done 1 -> error stuck;"
+                    "local 0 error;local 1 none;verdict error;cases 1 none 0 pass 0 inconc 0 fail 0 error 1;complete"), status=2)
+    yield Case("words_of_stop_on_maybe", ("run", "--stop-on", "maybe"), three,
+               errors=b"ttrun: --stop-on takes none, pass, inconc, fail or error\n", status=3)
+    for word in ("Fail", "", "fail ", "0", "pass,fail"):
+        yield Case(f"words_of_stop_on_{word!r}", ("run", f"--stop-on={word}"), three,
+                   errors=b"ttrun: --stop-on takes none, pass, inconc, fail or error\n", status=3)
+
+
+def cases() -> List[Case]:
+    """All of them."""
+    found = [Case(name, ("replay",), text(moves), text(replies), status=status) for name, moves, replies, status in REPLAYED]
+    found += [Case(f"{case.name}_without_the_last_line_feed", case.words, case.given[:-1], case.output, status=case.status)
+              for case in found[:3]]
+    found += [Case(name, ("check",), text(given), text(output), status=status) for name, given, output, status in CHECKED]
+    for word, refused in (("replay", REFUSED_LISTS), ("check", REFUSED_HISTORIES)):
+        found += [Case(name, (word,), given, errors=f"ttrun: line {line}: {fault}\n".encode(), status=3)
+                  for name, given, line, fault in refused]
+    return [*found, *run_cases(), *stopping_cases()]

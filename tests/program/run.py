@@ -1,0 +1,104 @@
+#!/usr/bin/env python3
+"""The program's tests: runs the built ttrun as a user does, and compares standard output, standard error and status.
+
+usage: tests/program/run.py [--program FILE] [--only WORD] [--seed N] [--list]
+
+The program is crates/ttrun/out/ttrun, which `rt ci`, `rt run` and ./ttrun leave there. The last line is
+'N passed, M failed'; the status is 0 where nothing failed, else 1, and 3 where there is no program.
+"""
+from __future__ import annotations
+
+import argparse
+import os
+import sys
+import time
+from concurrent.futures import ThreadPoolExecutor
+from typing import List, Union
+
+sys.dont_write_bytecode = True
+
+import devices
+import documents_run
+import examples
+import random_moves
+import random_scripts
+import rows
+import scripts
+import sizes
+import words
+from case import Case, faults_of, run, shown_command
+from judged import Judgement
+
+Test = Union[Case, Judgement]
+
+# Each group with the fewest tests that it may have.
+GROUPS = (
+    ("rows", rows.cases, 130),
+    ("scripts", scripts.cases, 85),
+    ("words", words.cases, 60),
+    ("devices", devices.cases, 75),
+    ("sizes", sizes.cases, 29),
+    ("examples", examples.cases, 38),
+    ("documents", documents_run.cases, 2),
+)
+
+
+def tests(seed: int) -> List[Test]:
+    """All tests, under names of their own."""
+    found: List[Test] = []
+    for name, cases, fewest in GROUPS:
+        group = list(cases())
+        if len(group) < fewest:
+            sys.exit(f"{name}: {len(group)} tests are fewer than {fewest}")
+        found += group
+    found += random_moves.judgements(seed) + random_scripts.judgements(seed)
+    names = [it.name for it in found]
+    twice = sorted({it for it in names if names.count(it) > 1})
+    if twice:
+        sys.exit(f"two tests have one name: {', '.join(twice)}")
+    return found
+
+
+def faults_in(test: Test, program: str) -> List[str]:
+    """What is wrong, nothing where the test passes."""
+    try:
+        return faults_of(test, run(test, program)) if isinstance(test, Case) else test.judge(program)
+    except Exception as error:  # a test that breaks has failed, and the others go on
+        return [f"{type(error).__name__}: {error}"]
+
+
+def told(test: Test, faults: List[str]) -> str:
+    """The lines about a test that failed."""
+    command = shown_command(test) if isinstance(test, Case) else test.command
+    return "\n".join([f"FAILED {test.name}", f"  {command}", *(f"  {it}" for it in faults)])
+
+
+def main() -> int:
+    """Runs the tests, several at a time."""
+    parser = argparse.ArgumentParser(description="runs the built ttrun as a user does")
+    parser.add_argument("--program", default=os.path.join(examples.TOP, "crates", "ttrun", "out", "ttrun"))
+    parser.add_argument("--only", default="", help="the tests with this in their names")
+    parser.add_argument("--seed", type=int, default=1, help="of the random inputs")
+    parser.add_argument("--list", action="store_true", help="prints the names of the tests")
+    given = parser.parse_args()
+    chosen = [it for it in tests(given.seed) if given.only in it.name]
+    if given.list:
+        print("\n".join(it.name for it in chosen))
+        return 0
+    program = os.path.abspath(given.program)
+    if not os.access(program, os.X_OK):
+        print(f"there is no program {program}: ./ttrun --help builds it", file=sys.stderr)
+        return 3
+    began = time.monotonic()
+    with ThreadPoolExecutor(os.cpu_count() or 1) as pool:
+        answers = list(pool.map(lambda it: faults_in(it, program), chosen))
+    failed = [(test, faults) for test, faults in zip(chosen, answers) if faults]
+    for test, faults in failed:
+        print(told(test, faults))
+    print(f"ttrun as a user runs it: {len(chosen)} tests in {time.monotonic() - began:.0f} seconds")
+    print(f"{len(chosen) - len(failed)} passed, {len(failed)} failed")
+    return 1 if failed or not chosen else 0
+
+
+if __name__ == "__main__":
+    sys.exit(main())

@@ -1,0 +1,212 @@
+"""The script language in Python, written from docs/scripts.md alone: the campaign that a script spells, or its first fault."""
+from __future__ import annotations
+
+import re
+from dataclasses import dataclass, field
+from typing import List, Optional, Set, Union
+
+from table import MOST_ARGUMENTS, MOST_BEHAVIOURS, STATUSES
+from texts import Judged, is_name, lines_of, refused
+
+MOST_TEST_CASES = 1000
+MOST_STEPS = 1000
+
+
+@dataclass
+class Behaviour:
+    """A behaviour, with the words of each step."""
+
+    name: str
+    parameters: List[str]
+    steps: List[List[str]] = field(default_factory=list)
+
+
+@dataclass
+class TestCase:
+    """A test case."""
+
+    name: str
+    behaviours: List[Behaviour] = field(default_factory=list)
+
+    def find(self, name: str) -> Optional[Behaviour]:
+        """The first behaviour of that name."""
+        return next((it for it in self.behaviours if it.name == name), None)
+
+
+Campaign = List[TestCase]
+
+
+@dataclass
+class Line:
+    """A line that is not skipped."""
+
+    number: int
+    text: str
+    words: List[str]
+
+
+def lines_with_words(text: bytes) -> List[Line]:
+    """The lines that are not skipped. Words stand between spaces, and nothing else is a space."""
+    found = [Line(number, line, [it for it in line.split(" ") if it]) for number, line in enumerate(lines_of(text), 1)]
+    return [it for it in found if it.words and not it.words[0].startswith("#")]
+
+
+def has_form(words: List[str]) -> bool:
+    """Whether the words are of a form, any word being taken in the place of a name or a component."""
+    verb, rest = words[0], words[1:]
+    if verb == "create":
+        return len(rest) == 1 or len(rest) == 2 and rest[1] == "alive"
+    if verb in ("behaviour", "start"):
+        return len(rest) >= (1 if verb == "behaviour" else 2)
+    if verb == "wait":
+        return len(rest) == 2 and rest[0] in ("done", "killed")
+    if verb == "setverdict":
+        return len(rest) == 1 and rest[0] in ("none", "pass", "inconc", "fail")
+    if verb in ("end", "getverdict"):
+        return not rest
+    return verb in ("testcase", "stop", "kill", *STATUSES) and len(rest) == 1
+
+
+def references_of(words: List[str]) -> List[str]:
+    """The words that stand in the place of a component or a group."""
+    verb = words[0]
+    if verb == "start":
+        return [words[1], *words[3:]]
+    if verb == "wait":
+        return words[2:]
+    return words[1:] if verb in ("stop", "kill", *STATUSES) else []
+
+
+def has_good_names(words: List[str]) -> bool:
+    """Whether each word in the place of a name or a component is allowed there."""
+    verb = words[0]
+    names = words[1:] if verb in ("testcase", "behaviour") else words[1:2] if verb == "create" else []
+    names = words[2:3] if verb == "start" else names
+    groups = ["mtc", "self"]
+    if verb in ("stop", "kill"):
+        groups += ["all"]
+    elif verb in ("wait", *STATUSES):
+        groups += ["any", "all"]
+    return all(map(is_name, names)) and all(it in groups or is_name(it) for it in references_of(words))
+
+
+class Grammar:
+    """Judges the lines one by one, and builds the campaign."""
+
+    def __init__(self) -> None:
+        self.campaign: Campaign = []
+        self.test_case: Optional[TestCase] = None
+        self.behaviour: Optional[Behaviour] = None
+
+    def fault(self, line: Line) -> Optional[str]:
+        """The first of the kinds of the upper table that applies to the line."""
+        words = line.words
+        if re.search("[^ -~]", line.text):
+            return "byte not allowed"
+        if not has_form(words):
+            return "line not understood"
+        if not has_good_names(words):
+            return "bad name"
+        if not self.is_in_place(words[0]):
+            return "not allowed here"
+        return "too many" if self.is_too_many(words) else None
+
+    def is_in_place(self, verb: str) -> bool:
+        """Whether such a line may stand here."""
+        if verb == "testcase":
+            return self.test_case is None
+        if verb == "behaviour":
+            return self.test_case is not None and self.behaviour is None
+        if verb == "end":
+            return self.test_case is not None and (self.behaviour is not None or bool(self.test_case.behaviours))
+        return self.behaviour is not None
+
+    def is_too_many(self, words: List[str]) -> bool:
+        """Whether the line is one more than a limit."""
+        if words[0] == "testcase":
+            return len(self.campaign) >= MOST_TEST_CASES
+        if words[0] == "behaviour":
+            return len(self.test_case.behaviours) >= MOST_BEHAVIOURS or len(words) > 2 + MOST_ARGUMENTS
+        if words[0] == "end":
+            return False
+        return len(self.behaviour.steps) >= MOST_STEPS or words[0] == "start" and len(words) > 3 + MOST_ARGUMENTS
+
+    def take(self, words: List[str]) -> None:
+        """Takes a line without a fault."""
+        if words[0] == "testcase":
+            self.test_case = TestCase(words[1])
+            self.campaign.append(self.test_case)
+        elif words[0] == "behaviour":
+            self.behaviour = Behaviour(words[1], words[2:])
+            self.test_case.behaviours.append(self.behaviour)
+        elif words[0] != "end":
+            self.behaviour.steps.append(words)
+        elif self.behaviour is not None:
+            self.behaviour = None
+        else:
+            self.test_case = None
+
+
+class Names:
+    """Judges the lines of a script without a fault of its grammar by what they name."""
+
+    def __init__(self, campaign: Campaign) -> None:
+        self.campaign = campaign
+        self.at = -1
+        self.used: Set[str] = set()
+        self.bound: Set[str] = set()
+        self.test_cases: Set[str] = set()
+
+    def fault(self, words: List[str]) -> Optional[str]:
+        """The first of the kinds of the lower table that applies to the line."""
+        verb = words[0]
+        if verb == "testcase":
+            return "name already used" if words[1] in self.test_cases else None
+        if verb == "behaviour":
+            is_twice = words[1] in self.used or len({*words[2:]}) < len(words[2:])
+            is_main = not self.used and len(words) > 2
+            return "name already used" if is_twice else "main behaviour takes no parameters" if is_main else None
+        if verb == "create" and words[1] in self.bound:
+            return "name already used"
+        free = {"mtc", "self", "any", "all"} | self.bound
+        if any(it not in free for it in references_of(words)):
+            return "unbound reference"
+        if verb == "start":
+            behaviour = self.campaign[self.at].find(words[2])
+            if behaviour is None:
+                return "unknown behaviour"
+            if len(behaviour.parameters) != len(words) - 3:
+                return "wrong number of arguments"
+        return None
+
+    def take(self, words: List[str]) -> None:
+        """Takes a line without a fault."""
+        if words[0] == "testcase":
+            self.at += 1
+            self.used = set()
+            self.test_cases.add(words[1])
+        elif words[0] == "behaviour":
+            self.used.add(words[1])
+            self.bound = {*words[2:]}
+        elif words[0] == "create":
+            self.bound.add(words[1])
+
+
+def read_script(text: bytes) -> Union[Campaign, Judged]:
+    """The campaign that the text spells, or the refusal of its first fault."""
+    lines = lines_with_words(text)
+    grammar = Grammar()
+    for line in lines:
+        fault = grammar.fault(line)
+        if fault is not None:
+            return refused(line.number, fault)
+        grammar.take(line.words)
+    if grammar.test_case is not None or not grammar.campaign:
+        return refused(len(lines_of(text)) + 1, "text ends too early")
+    names = Names(grammar.campaign)
+    for line in lines:
+        fault = names.fault(line.words)
+        if fault is not None:
+            return refused(line.number, fault)
+        names.take(line.words)
+    return grammar.campaign

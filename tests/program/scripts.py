@@ -1,0 +1,130 @@
+"""Scripts that are refused, line by line and kind by kind, and lines that are accepted."""
+from __future__ import annotations
+
+from typing import List, Tuple
+
+from case import Case
+from rows import text
+
+FRAME = "testcase t;behaviour main;{};end;behaviour w a;end;end"
+
+# Name, line 3 of the frame, fault. The frame has a behaviour `w` with one parameter.
+THIRD_LINES: List[Tuple[str, str, str]] = [
+    ("a_name_that_begins_with_a_digit", "create 1x", "bad name"),
+    ("stop_of_any_in_a_script", "stop any", "bad name"),
+    ("setverdict_error", "setverdict error", "line not understood"),
+    ("a_tab_in_front", "\tgetverdict", "byte not allowed"),
+    ("a_behaviour_in_a_behaviour", "behaviour b", "not allowed here"),
+    ("five_arguments_in_a_script", "start mtc w mtc mtc mtc mtc mtc", "too many"),
+    ("an_unbound_component", "start x w mtc", "unbound reference"),
+    ("no_such_behaviour", "start mtc zz mtc", "unknown behaviour"),
+    ("too_few_arguments", "start mtc w", "wrong number of arguments"),
+    ("too_many_arguments", "start mtc w mtc self", "wrong number of arguments"),
+    ("a_test_case_in_a_test_case", "testcase u", "not allowed here"),
+    ("an_unknown_word", "foo", "line not understood"),
+    ("a_word_too_few", "create", "line not understood"),
+    ("a_word_too_many", "getverdict now", "line not understood"),
+    ("alive_misspelt", "create p living", "line not understood"),
+    ("wait_for_running_in_a_script", "wait running mtc", "line not understood"),
+    ("wait_without_a_target", "wait done", "line not understood"),
+    ("words_in_capitals", "GETVERDICT", "line not understood"),
+    ("a_stop_of_the_case_in_a_script", "stopcase", "line not understood"),
+    ("a_named_create_in_a_script", "create p named l", "line not understood"),
+    ("kill_of_any", "kill any", "bad name"),
+    ("create_of_mtc", "create mtc", "bad name"),
+    ("create_of_self", "create self", "bad name"),
+    ("create_of_all", "create all alive", "bad name"),
+    ("a_name_of_33_bytes", "create " + "p" * 33, "bad name"),
+    ("a_name_with_a_dash", "create p-q", "bad name"),
+    ("a_name_that_begins_with_a_line", "create _p", "bad name"),
+    ("start_of_any", "start any w mtc", "bad name"),
+    ("start_of_a_behaviour_all", "start mtc all", "bad name"),
+    ("an_argument_all", "start mtc w all", "bad name"),
+    ("a_byte_above_126", "create p\x7f", "byte not allowed"),
+    ("a_carriage_return_in_a_script", "getverdict\r", "byte not allowed"),
+    ("an_unbound_argument", "start mtc w x", "unbound reference"),
+    ("an_unbound_target", "running q", "unbound reference"),
+    ("an_unbound_wait", "wait killed q", "unbound reference"),
+    ("an_unbound_group", "stop q", "unbound reference"),
+    ("a_parameter_of_another_behaviour", "alive a", "unbound reference"),
+    # the first kind that applies
+    ("byte_before_line", "foo\t", "byte not allowed"),
+    ("line_before_name", "create 1x 2x", "line not understood"),
+    ("name_before_place", "behaviour all", "bad name"),
+    ("place_before_many", "behaviour b p q r s u", "not allowed here"),
+    ("reference_before_behaviour", "start x zz", "unbound reference"),
+    ("reference_before_arguments", "start x w", "unbound reference"),
+]
+
+# Name, line 3 of the frame, what it calls and its reply, verdict, status.
+ACCEPTED_LINES: List[Tuple[str, str, str, str, int]] = [
+    ("a_comment_with_a_tab", "#\t", "finish -> ok", "none", 0),
+    ("a_comment_behind_spaces", "   # start x w mtc", "finish -> ok", "none", 0),
+    ("an_empty_line_in_a_script", "", "finish -> ok", "none", 0),
+    ("a_line_of_spaces", "   ", "finish -> ok", "none", 0),
+    ("spaces_between_words", "  setverdict    pass  ", "setverdict pass -> ok;  finish -> ok", "pass", 0),
+    ("start_of_the_main_component", "start mtc w mtc", "start 0 1 0 -> error start-main", "error", 2),
+    ("start_of_the_behaviour_of_the_main", "start self main", "start 0 0 -> error start-main", "error", 2),
+    ("stop_of_the_main", "stop mtc", "stop 0 -> ok", "none", 0),
+    ("kill_of_self", "kill self", "kill 0 -> ok", "none", 0),
+    ("status_of_groups", "running all", "running all -> true;  finish -> ok", "none", 0),
+    ("wait_for_the_main_itself", "wait done self", "wait done 0 -> error stuck", "error", 2),
+    ("wait_for_nobody", "wait done all", "wait done all -> matched;  finish -> ok", "none", 0),
+]
+
+# Name, script, line, fault.
+REFUSED: List[Tuple[str, bytes, int, str]] = [
+    ("refused_scripts_unbound", text("testcase t;behaviour main;create p;start q worker;end;behaviour worker;end;end"),
+     4, "unbound reference"),
+    ("refused_scripts_arguments", text("testcase t;behaviour main;create p;start p worker mtc;end;behaviour worker;end;end"),
+     4, "wrong number of arguments"),
+    ("refused_scripts_cut_in_a_line", b"testcase t\nbehaviour main\nsetver", 3, "line not understood"),
+    ("refused_scripts_cut_between_lines", text("testcase t;behaviour main;setverdict pass"), 4, "text ends too early"),
+    ("refused_scripts_empty", b"", 1, "text ends too early"),
+    ("two_behaviours_of_one_name", text(FRAME.format("getverdict").replace("w a", "main")), 5, "name already used"),
+    ("a_parameter_of_the_main", text(FRAME.format("getverdict").replace("main", "main p")), 2,
+     "main behaviour takes no parameters"),
+    ("comments_alone", text("# nothing; ;#"), 4, "text ends too early"),
+    ("a_test_case_without_a_behaviour", text("testcase t;end"), 2, "not allowed here"),
+    ("an_end_of_nothing", text("end"), 1, "not allowed here"),
+    ("an_end_too_many", text("testcase t;behaviour main;end;end;end"), 5, "not allowed here"),
+    ("a_behaviour_outside", text("behaviour main"), 1, "not allowed here"),
+    ("a_step_outside", text("getverdict"), 1, "not allowed here"),
+    ("a_step_between_behaviours", text("testcase t;behaviour main;end;getverdict;end"), 4, "not allowed here"),
+    ("an_open_test_case", text("testcase t;behaviour main;end"), 4, "text ends too early"),
+    ("cut_before_the_last_line", text(FRAME.format("getverdict"))[:-4], 7, "text ends too early"),
+    ("two_test_cases_of_one_name", text("testcase t;behaviour main;end;end;testcase t;behaviour main;end;end"), 5,
+     "name already used"),
+    ("a_component_bound_twice", text("testcase t;behaviour main;create p;create p;end;end"), 4, "name already used"),
+    ("a_parameter_bound_twice", text("testcase t;behaviour main;end;behaviour w a a;end;end"), 4, "name already used"),
+    ("a_component_named_as_a_parameter", text("testcase t;behaviour main;end;behaviour w a;create a;end;end"), 5,
+     "name already used"),
+    ("a_component_used_above_its_create", text("testcase t;behaviour main;kill p;create p;end;end"), 3, "unbound reference"),
+    ("a_component_of_another_behaviour", text("testcase t;behaviour main;create p;end;behaviour w;kill p;end;end"), 6,
+     "unbound reference"),
+    ("a_behaviour_of_another_test_case",
+     text("testcase t;behaviour main;end;behaviour w;end;end;testcase u;behaviour main;create p;start p w;end;end"), 10,
+     "unknown behaviour"),
+    ("five_parameters", text("testcase t;behaviour main;end;behaviour w a b c d e;end;end"), 4, "too many"),
+    ("grammar_before_names", text("testcase t;behaviour main;kill p;end;end;testcase t;behaviour main;end"), 9,
+     "text ends too early"),
+    ("the_first_of_two_faults", text("testcase t;behaviour main;create 1x;foo;end;end"), 3, "bad name"),
+    ("a_byte_above_127_in_a_script", b"testcase t\nbehaviour main\nsetverdict p\xc3\xa4ss\nend\nend\n", 3, "byte not allowed"),
+    ("a_byte_zero_in_a_script", b"testcase t\0\n", 1, "byte not allowed"),
+    ("a_list_for_a_script", text("behaviours 1;0 create"), 1, "line not understood"),
+    ("a_history_for_a_script", text("history 1 t 1;end none"), 1, "line not understood"),
+    ("a_script_with_carriage_returns", b"testcase t\r\nbehaviour main\r\nend\r\nend\r\n", 1, "byte not allowed"),
+]
+
+
+def cases() -> List[Case]:
+    """All of them. A refused script is refused alike in each form."""
+    thirds = [(name, text(FRAME.format(line)), 3, fault) for name, line, fault in THIRD_LINES]
+    forms: Tuple[Tuple[str, ...], ...] = (("run",), ("run", "--csv"), ("run", "--history"), ("run", "--stop-on", "fail"), ())
+    found = [Case(name, forms[at % len(forms)], given, errors=f"ttrun: line {line}: {fault}\n".encode(), status=3)
+             for at, (name, given, line, fault) in enumerate(thirds + REFUSED)]
+    for name, line, calls, verdict, status in ACCEPTED_LINES:
+        count = " ".join(f"{it} {int(it == verdict)}" for it in ("none", "pass", "inconc", "fail", "error"))
+        output = text(f"testcase t;run 0 main on 0;  {calls};local 0 {verdict};verdict {verdict};cases 1 {count};complete")
+        found.append(Case(name, ("run",), text(FRAME.format(line)), output, status=status))
+    return found

@@ -1,0 +1,135 @@
+"""The largest inputs, one more than each limit, and what is refused for want of memory or threads."""
+from __future__ import annotations
+
+from typing import Iterator, List, Tuple
+
+from case import Case
+from rows import CSV_HEADER, csv_of_verdict, text
+from texts import MOST_BYTES_OF_A_HISTORY, MOST_BYTES_OF_A_LIST, MOST_BYTES_OF_A_SCRIPT
+
+TOO_LONG = b"ttrun: input too long\n"
+NO_MEMORY = b"ttrun: no memory\n"
+PASSING = text("testcase t;behaviour main;setverdict pass;end;end")
+PASSED = (CSV_HEADER + csv_of_verdict("t", "pass")).encode()
+
+
+def padded_script(length: int) -> bytes:
+    """A script of that many bytes: one test case behind a comment."""
+    return b"#" + b" " * (length - len(PASSING) - 2) + b"\n" + PASSING
+
+
+def longest_list() -> Tuple[bytes, bytes]:
+    """A list of moves that has as many bytes as may be, and its replies."""
+    head, tail, line = b"behaviours 1\n", b"0 create\n", b"0 getverdict\n"
+    count, rest = divmod(MOST_BYTES_OF_A_LIST - len(head) - len(tail), len(line))
+    assert rest == 0
+    return head + line * count + tail, b"none\n" * count + b"made 1\nverdict none\n"
+
+
+def longest_history() -> Tuple[bytes, bytes]:
+    """A history text that has as many bytes as may be, and what is printed for it."""
+    name, line, tail = b"t" * 21, b"0 getverdict -> none\n", b"end none\n"
+    head = b"history 1 " + name + b" 1\n"
+    count, rest = divmod(MOST_BYTES_OF_A_HISTORY - len(head) - len(tail), len(line))
+    assert rest == 0
+    return head + line * count + tail, b"legal %s %d none\n" % (name, count)
+
+
+def longest() -> Iterator[Case]:
+    """Inputs at their limit, and one byte past it."""
+    moves, replies = longest_list()
+    history, legal = longest_history()
+    assert len(moves) == MOST_BYTES_OF_A_LIST and len(history) == MOST_BYTES_OF_A_HISTORY
+    yield Case("longest_list", ("replay",), moves, replies)
+    yield Case("a_list_one_byte_longer", ("replay",), moves + b"\n", errors=TOO_LONG, status=3)
+    yield Case("longest_history", ("check",), history, legal)
+    yield Case("a_history_one_byte_longer", ("check",), history + b"\n", errors=TOO_LONG, status=3)
+    yield Case("longest_script", ("run", "--csv"), padded_script(MOST_BYTES_OF_A_SCRIPT), PASSED)
+    yield Case("a_script_one_byte_longer", ("run", "--csv"), padded_script(MOST_BYTES_OF_A_SCRIPT + 1), errors=TOO_LONG, status=3)
+    for name, words, most in (("list", ("replay",), MOST_BYTES_OF_A_LIST), ("history", ("check",), MOST_BYTES_OF_A_HISTORY),
+                              ("script", ("run",), MOST_BYTES_OF_A_SCRIPT)):
+        yield Case(f"a_{name}_that_never_ends", words, b"\n" * (most + 1), errors=TOO_LONG, status=3, stays_open=True)
+        yield Case(f"a_{name}_of_line_feeds", words, b"\n" * most, status=3,
+                   errors=(f"line {most + 1}: text ends too early" if name == "script" else "line 1: bad first line")
+                   .join(("ttrun: ", "\n")).encode())
+
+
+def many_behaviours(count: int) -> bytes:
+    """The main behaviour starts each other one on a component of its own and waits for all; each other one sets pass."""
+    lines = ["testcase t", "behaviour main"]
+    for at in range(1, count):
+        lines += [f"create p{at}", f"start p{at} w{at}"]
+    lines += ["wait done all", "end"]
+    for at in range(1, count):
+        lines += [f"behaviour w{at}", "setverdict pass", "end"]
+    return text(";".join([*lines, "end"]))
+
+
+def report_of_many(count: int) -> bytes:
+    """The report of such a test case."""
+    lines = ["testcase t", "run 0 main on 0"]
+    for at in range(1, count):
+        lines += [f"  create -> made {at}", f"  start {at} {at} -> ok"]
+    lines += ["  wait done all -> matched", "  finish -> ok"]
+    for at in range(1, count):
+        lines += [f"run {at} w{at} on {at}", "  setverdict pass -> ok", "  finish -> ok"]
+    lines += ["local 0 none", *(f"local {at} pass" for at in range(1, count)), "verdict pass"]
+    return text(";".join([*lines, "cases 1 none 0 pass 1 inconc 0 fail 0 error 0", "complete"]))
+
+
+def single(steps: List[str]) -> bytes:
+    """A test case of one behaviour with these steps."""
+    return text(";".join(["testcase t", "behaviour main", *steps, "end", "end"]))
+
+
+def counted() -> Iterator[Case]:
+    """As many of a thing as may be, and one more."""
+    yield Case("sixty_four_jobs", ("run",), many_behaviours(64), report_of_many(64))
+    yield Case("a_sixty_fifth_behaviour", ("run",), many_behaviours(65), status=3, errors=b"ttrun: line 322: too many\n")
+    passed = ["setverdict pass"]
+    calls = "  setverdict pass -> ok;" * 1000
+    yield Case("a_thousand_steps", ("run",), single(passed * 1000),
+               text(f"testcase t;run 0 main on 0;{calls}  finish -> ok;local 0 pass;verdict pass;"
+                    "cases 1 none 0 pass 1 inconc 0 fail 0 error 0;complete"))
+    yield Case("one_step_more", ("run", "--csv"), single(passed * 1001), status=3, errors=b"ttrun: line 1003: too many\n")
+    creates = [f"create p{at}" for at in range(1000)]
+    yield Case("a_thousand_components_of_a_script", ("run", "--csv"), single(creates),
+               (CSV_HEADER + "t,1000,999,0,0,0,1,error\n").encode(), status=2)
+    yield Case("a_component_less", ("run", "--csv"), single(creates[1:]), (CSV_HEADER + "t,1000,1000,0,0,0,0,none\n").encode())
+    many = [f"testcase t{at};behaviour main;end;end" for at in range(1001)]
+    records = "".join(f"t{at},1,1,0,0,0,0,none\n" for at in range(1000))
+    yield Case("a_thousand_test_cases", ("run", "--csv"), text(";".join(many[:-1])), (CSV_HEADER + records).encode())
+    yield Case("one_test_case_more", ("run", "--csv"), text(";".join(many)), status=3, errors=b"ttrun: line 4001: too many\n")
+    name = "n" * 32
+    yield Case("a_name_of_32_bytes", ("run", "--csv"), PASSING.replace(b"testcase t", f"testcase {name}".encode()),
+               PASSED.replace(b"\nt,", f"\n{name},".encode()))
+    four = "testcase t;behaviour main;create p;start p w mtc self p p;wait done p;end;behaviour w a b c d;alive d;end;end"
+    yield Case("four_arguments", ("run",), text(four),
+               text("testcase t;run 0 main on 0;  create -> made 1;  start 1 1 0 0 1 1 -> ok;  wait done 1 -> matched;"
+                    "  finish -> ok;run 1 w on 1;  alive 1 -> true;  finish -> ok;local 0 none;local 1 none;verdict none;"
+                    "cases 1 none 1 pass 0 inconc 0 fail 0 error 0;complete"))
+
+
+ABORTED = text("testcase t;behaviour main;setverdict pass;end;end;testcase u;behaviour main;end;"
+               + ";".join(f"behaviour w{at};end" for at in range(1, 64)) + ";end")
+
+
+def refused() -> Iterator[Case]:
+    """Memory and threads are refused by a limit on the space for addresses."""
+    yield Case("no_memory_for_a_history", ("check",), longest_history()[0], errors=NO_MEMORY, status=3, limit="-v 9000")
+    first = (b"testcase t\nrun 0 main on 0\n  setverdict pass -> ok\n  finish -> ok\nlocal 0 pass\nverdict pass\n"
+             b"cases 1 none 0 pass 1 inconc 0 fail 0 error 0\naborted at u: no thread\n")
+    line = b"ttrun: aborted at u: no thread\n"
+    yield Case("no_thread", ("run",), ABORTED, first, line, status=3, limit="-v 40000")
+    yield Case("no_thread_csv", ("run", "--csv"), ABORTED, PASSED, line, status=3, limit="-v 40000")
+    yield Case("no_thread_history", ("run", "--history"), ABORTED, status=3, limit="-v 40000", errors=line,
+               output=text("history 1 t 1;0 setverdict pass -> ok;0 finish -> ok;end pass"))
+    yield Case("no_thread_and_no_output", ("run",), ABORTED, errors=b"ttrun: write fault\n", status=3, limit="-v 40000",
+               redirect=">/dev/full")
+    yield Case("no_thread_untold", ("run",), ABORTED, first, status=3, limit="-v 40000", redirect="2>/dev/full")
+    yield Case("stopped_before_no_thread", ("run", "--csv", "--stop-on", "pass"), ABORTED, PASSED, limit="-v 40000")
+
+
+def cases() -> List[Case]:
+    """All of them."""
+    return [*longest(), *counted(), *refused()]

@@ -1,0 +1,216 @@
+"""The texts of docs/texts.md in Python: move lists and histories, what is printed for them, and their first faults."""
+from __future__ import annotations
+
+import re
+from dataclasses import dataclass
+from typing import List, Optional, Tuple
+
+from table import FAULTS, MOST_BEHAVIOURS, VERDICTS, Op, Table, Target
+
+MOST_BYTES_OF_A_LIST = 1_048_576
+MOST_BYTES_OF_A_SCRIPT = 1_048_576
+MOST_BYTES_OF_A_HISTORY = 16_777_216
+
+NUMBER = "(?:0|[1-9][0-9]*)"
+NAME = "[A-Za-z][A-Za-z0-9_]{0,31}"
+NO_NAMES = ("all", "any", "mtc", "self")
+MOST_RUN = 65_535
+MOST_COMPONENT = 4_294_967_295
+
+MOVE = re.compile(
+    rf"(?P<caller>{NUMBER}) (?:"
+    rf"(?P<create>create)(?P<alive> alive)?"
+    rf"|(?P<start>start) (?P<on>{NUMBER}) (?P<run>{NUMBER})(?P<args>(?: {NUMBER}){{0,4}})"
+    rf"|(?P<halt>stop|kill) (?P<group>{NUMBER}|all)"
+    rf"|(?P<status>running|alive|done|killed) (?P<asked>{NUMBER}|any|all)"
+    rf"|(?P<wait>wait|wake) (?P<awaited>done|killed) (?P<target>{NUMBER}|any|all)"
+    rf"|(?P<set>setverdict) (?P<verdict>none|pass|inconc|fail)"
+    rf"|(?P<plain>getverdict|finish)"
+    rf")"
+)
+REPLY = re.compile(
+    rf"made (?P<made>{NUMBER})|ok|true|false|matched|parked|ended|{'|'.join(VERDICTS)}|error (?:{'|'.join(FAULTS)})"
+)
+
+
+@dataclass(frozen=True)
+class Judged:
+    """What the program answers to an input: the bytes of standard output, the line of its fault, the status."""
+
+    output: bytes
+    errors: bytes
+    status: int
+
+
+def refused(line: int, text: str) -> Judged:
+    """The answer to a text that is refused at this line."""
+    return Judged(b"", f"ttrun: line {line}: {text}\n".encode(), 3)
+
+
+def lines_of(text: bytes) -> List[str]:
+    """The lines of a text. Each byte is one character."""
+    lines = text.decode("latin-1").split("\n")
+    return lines[:-1] if lines[-1] == "" else lines
+
+
+def status_of(verdict: str) -> int:
+    """The exit status for a worst verdict."""
+    return {"none": 0, "pass": 0, "inconc": 1, "fail": 1, "error": 2}[verdict]
+
+
+def component_of(word: str) -> Optional[Target]:
+    """The component or group of a word that stands in the place of one."""
+    if word in ("any", "all"):
+        return word
+    return int(word) if int(word) <= MOST_COMPONENT else None
+
+
+def read_move(text: str) -> Optional[Tuple[int, Op]]:
+    """The caller and operation that the text spells."""
+    found = MOVE.fullmatch(text)
+    if found is None or int(found["caller"]) > MOST_RUN:
+        return None
+    targets = [component_of(it) for it in (found["on"] or found["group"] or found["asked"] or found["target"] or "0",)]
+    args = [component_of(it) for it in (found["args"] or "").split()]
+    if None in targets + args or int(found["run"] or 0) > MOST_RUN:
+        return None
+    verb = next(found[it] for it in ("create", "start", "halt", "status", "wait", "set", "plain") if found[it])
+    op = Op(
+        verb,
+        target=targets[0],
+        alive=found["alive"] is not None and verb == "create",
+        run=int(found["run"] or 0),
+        args=tuple(args),
+        awaited=found["awaited"] or "",
+        verdict=found["verdict"] or "",
+    )
+    return int(found["caller"]), op
+
+
+def is_reply(text: str) -> bool:
+    """Whether the text spells a reply."""
+    found = REPLY.fullmatch(text)
+    return found is not None and int(found["made"] or 0) <= MOST_COMPONENT
+
+
+def is_name(word: str) -> bool:
+    """Whether the word is a name."""
+    return re.fullmatch(NAME, word) is not None and word not in NO_NAMES
+
+
+def behaviours_of(word: str) -> Optional[int]:
+    """The number of behaviours that the word spells."""
+    if re.fullmatch(NUMBER, word) and 1 <= int(word) <= MOST_BEHAVIOURS:
+        return int(word)
+    return None
+
+
+def replay(text: bytes) -> Judged:
+    """What `replay` answers to this list of moves."""
+    if len(text) > MOST_BYTES_OF_A_LIST:
+        return Judged(b"", b"ttrun: input too long\n", 3)
+    lines = lines_of(text)
+    if not lines:
+        return refused(1, "text ends too early")
+    first, _, word = lines[0].partition(" ")
+    behaviours = behaviours_of(word)
+    if first != "behaviours" or behaviours is None:
+        return refused(1, "bad first line")
+    moves = [read_move(line) for line in lines[1:]]
+    if None in moves:
+        return refused(2 + moves.index(None), "bad move")
+    table = Table(behaviours)
+    replies = [table.play(*move) for move in moves]
+    output = "".join(f"{line}\n" for line in [*replies, f"verdict {table.overall()}"])
+    return Judged(output.encode(), b"", status_of(table.overall()))
+
+
+@dataclass
+class Entry:
+    """An entry of a history, with the number of its line."""
+
+    line: int
+    caller: int
+    op: Op
+    reply: str
+
+
+@dataclass
+class Block:
+    """The history of one test case, with the number of its last line."""
+
+    name: str
+    behaviours: int
+    entries: List[Entry]
+    last_line: int
+    verdict: str
+
+
+def read_header(line: str) -> Optional[Tuple[str, int]]:
+    """The name and the number of behaviours in the first line of a block."""
+    words = line.split(" ")
+    if len(words) != 4 or words[:2] != ["history", "1"] or not is_name(words[2]):
+        return None
+    behaviours = behaviours_of(words[3])
+    return None if behaviours is None else (words[2], behaviours)
+
+
+def read_entry(line: int, text: str) -> Optional[Entry]:
+    """The entry that the text spells."""
+    move_text, arrow, reply = text.partition(" -> ")
+    move = read_move(move_text)
+    if not arrow or move is None or not is_reply(reply):
+        return None
+    return Entry(line, *move, reply)
+
+
+def read_history(text: bytes) -> Tuple[List[Block], Optional[Judged]]:
+    """The blocks of a history text, or the refusal of its first fault."""
+    lines = lines_of(text)
+    blocks: List[Block] = []
+    header: Optional[Tuple[str, int]] = None
+    entries: List[Entry] = []
+    for number, line in enumerate(lines, 1):
+        if header is None:
+            header, entries = read_header(line), []
+            if header is None:
+                return [], refused(number, "bad first line")
+        elif line.startswith("end ") and line[4:] in VERDICTS:
+            blocks.append(Block(*header, entries, number, line[4:]))
+            header = None
+        else:
+            entry = read_entry(number, line)
+            if entry is None:
+                return [], refused(number, "bad entry")
+            entries.append(entry)
+    if header is not None or not lines:
+        return [], refused(len(lines) + 1, "text ends too early")
+    return blocks, None
+
+
+def judge_block(block: Block) -> Tuple[str, bool]:
+    """The line that `check` prints for a block, and whether it is legal."""
+    table = Table(block.behaviours)
+    for entry in block.entries:
+        reply = table.play(entry.caller, entry.op)
+        if reply != entry.reply:
+            return f"line {entry.line}: {entry.reply}, table gives {reply}\n", False
+    if table.overall() != block.verdict:
+        return f"line {block.last_line}: {block.verdict}, table gives {table.overall()}\n", False
+    return f"legal {block.name} {len(block.entries)} {block.verdict}\n", True
+
+
+def check(text: bytes) -> Judged:
+    """What `check` answers to this history text."""
+    if len(text) > MOST_BYTES_OF_A_HISTORY:
+        return Judged(b"", b"ttrun: input too long\n", 3)
+    blocks, refusal = read_history(text)
+    if refusal is not None:
+        return refusal
+    output = ""
+    for block in blocks:
+        line, is_legal = judge_block(block)
+        output += line
+        if not is_legal:
+            return Judged(output.encode(), b"", 3)
+    return Judged(output.encode(), b"", 0)
