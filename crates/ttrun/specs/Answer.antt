@@ -1,12 +1,15 @@
 -- What the program does with its words.
-use Rattle.std.specs.Prelude.{ℕ, ◌≡◌, ◌≢◌, ◌++◌, [], ◌∷◌, List, Option, Result, IfOk, IfErr, OnErr, codes}
+use Rattle.std.specs.Prelude.{ℕ, ◌≡◌, ◌≢◌, ◌++◌, [], ◌∷◌, List, Option, Some, Result, IfOk, IfErr, OnErr, codes}
 use Rattle.std.specs.declared.io.ErrorKind.{ErrorKind as IoKind}
 use Rattle.std.specs.declared.io.ErrorKind.TheVariants as IoKinds
 use Rattle.clap.specs.Values.{kind_of}
+use Rattle.clap.specs.Words.{FailsBy, subcommand_of}
 use Rattle.clap.specs.declared.error.Error.{Error}
 use Rattle.clap.specs.declared.error.kind.ErrorKind.{ErrorKind}
 use Rattle.clap.specs.declared.error.kind.ErrorKind.TheVariants as Kinds
 use Rattle.tc_command.specs.declared.task.Task.{Task}
+use Rattle.tc_command.specs.Asked.{asked as asked_of, asked_by, faults}
+use Rattle.tc_command.specs.Command.{ttrun}
 use Rattle.ttrun.specs.declared.fault.RunFault.{RunFault}
 use Rattle.ttrun.specs.declared.fault.RunFault.TheVariants as F
 use Rattle.ttrun.specs.declared.outcome.Outcome.{Outcome}
@@ -40,11 +43,13 @@ abbrev pub IsUnread : IoKind → Option (List ℕ) → Option (List ℕ) → Out
 IsUnread IoKinds.OutOfMemory untold told outcome = IsRefusal untold told outcome F.NoMemory
 IsUnread kind untold told outcome = (outcome.status ≡ 3) × IsTold untold told not_utf8_line outcome.told
 
--- The words are a task, which was carried out; or they ask for no task: help or a refusal was shown, and the input was not
--- read. For refused words nothing was written.
+-- What the words are read as is what they ask for by the rules of the command line. They are a task, which was carried out; or they ask
+-- for no task: help or a refusal was shown, and the input was not read. For refused words nothing was written.
 pub record IsAnswered (words : List (List ℕ)) (input before after untold told : Option (List ℕ)) (Unread Unwritten : Type 0) (outcome : Outcome) : Type 0 where
-  pub asked : Result Task Error
-  pub task : IfOk asked (λ task. IsCarriedOut task input before after untold told outcome)
-  pub help : IfErr asked (λ error. kind_of error ≡ Kinds.DisplayHelp → IsHelped before after untold told outcome)
-  pub mistake : IfErr asked (λ error. IsMistake (kind_of error) → IsRefusedLine untold told outcome × Unwritten)
-  pub unread : OnErr asked Unread
+  pub answer : Result Task Error
+  pub asked : IfOk answer (λ task. asked_by (subcommand_of ttrun words) ≡ Some (asked_of task))
+  pub refused : FailsBy (faults words) answer
+  pub task : IfOk answer (λ task. IsCarriedOut task input before after untold told outcome)
+  pub help : IfErr answer (λ error. kind_of error ≡ Kinds.DisplayHelp → IsHelped before after untold told outcome)
+  pub mistake : IfErr answer (λ error. IsMistake (kind_of error) → IsRefusedLine untold told outcome × Unwritten)
+  pub unread : OnErr answer Unread

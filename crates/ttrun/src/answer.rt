@@ -6,7 +6,6 @@ ghost use Rattle.clap.specs.declared.error.kind.ErrorKind.TheVariants.{DisplayHe
 ghost use Rattle.ttrun.specs.Answer.{IsAnswered, IsHelped, IsMistake, IsRefusedLine, IsUnread, ShowsText};
 
 use crate::carry_out::carry_out;
-use tc_command::{Task, read_task};
 use crate::fault::RunFault;
 use crate::outcome::{Outcome, REFUSED};
 use crate::tell::refuse;
@@ -16,6 +15,7 @@ use std::io;
 use std::io::{Read, Write};
 use std::sync::Wait;
 use std::thread::Threads;
+use tc_command::{Task, read_task};
 use tc_stream::write_whole;
 
 // Writes the text of a command line that asks for no task.

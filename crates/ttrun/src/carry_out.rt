@@ -3,7 +3,6 @@ ghost use Rattle.std.specs.Prelude.{◌≡◌};
 ghost use Rattle.ttrun.specs.Program.{HasNoRule, IsCarriedOut};
 
 use crate::check::check;
-use tc_command::Task;
 use crate::jobs::run_script;
 use crate::outcome::Outcome;
 use crate::replay::replay;
@@ -12,6 +11,7 @@ use std::alloc::Global;
 use std::io::{Read, Write};
 use std::sync::Wait;
 use std::thread::Threads;
+use tc_command::Task;
 
 /// Does what the words ask for.
 pub fn carry_out<R, I: Read, W: Write, E: Write>(

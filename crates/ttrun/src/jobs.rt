@@ -7,7 +7,6 @@ ghost use Rattle.ttrun.specs.Run.{bytes_of, IsNoName};
 ghost use Rattle.ttrun.specs.Scripted.{IsCaseOf};
 
 use crate::fault::RunFault;
-use tc_command::Form;
 use crate::outcome::Outcome;
 use crate::run::{read_run, run_cases};
 use std::alloc::Global;
@@ -16,6 +15,7 @@ use std::sync::Wait;
 use std::thread::Threads;
 use tc_behaviour::ScriptJob;
 use tc_campaign::Case;
+use tc_command::Form;
 use tc_entry::Name;
 use tc_script::{Campaign, CaseScript};
 use tc_verdict::NoMemory;

@@ -9,7 +9,6 @@ ghost use Rattle.ttrun.specs.Run.{bytes_of, IsRuleOf, IsNoName, RefusesWord, Ref
 
 use crate::fault::RunFault;
 use crate::give::give;
-use tc_command::Form;
 use crate::outcome::Outcome;
 use crate::script::{stop_word, take_script};
 use crate::tell::tell_abort;
@@ -18,6 +17,7 @@ use std::io::{Read, Write};
 use std::sync::Wait;
 use std::thread::Threads;
 use tc_campaign::{Case, run_campaign};
+use tc_command::Form;
 use tc_exec::Callable;
 use tc_script::Campaign;
 use tc_verdict::Verdict;

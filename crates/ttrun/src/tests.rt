@@ -1,6 +1,5 @@
 //! Worked cases, each a whole input with its whole output.
 use crate::carry_out::carry_out;
-use tc_command::Task;
 use crate::fault::{RunFault, fault_line};
 use crate::outcome::Outcome;
 use crate::replay::replay;
@@ -9,12 +8,14 @@ use std::process::Abort;
 use std::sync::Wait;
 use std::test::Fail;
 use std::thread::Threads;
+use tc_command::Task;
 
 mod campaigns;
 mod devices;
 mod histories;
 mod jobs;
 mod refused;
+mod words;
 mod worked;
 mod written_histories;
 

@@ -1,8 +1,8 @@
 //! Campaigns: scripts that are refused, and scripts that are run.
 use super::*;
 use crate::answer::answer;
-use tc_command::{Form, Task};
 use crate::script::stop_word;
+use tc_command::{Form, Task};
 use tc_stream::devices::SlowReader;
 use tc_verdict::Verdict;
 

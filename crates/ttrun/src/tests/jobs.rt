@@ -2,12 +2,12 @@
 ghost use Rattle.tc_campaign.specs.Outline.{HasNames};
 
 use super::*;
-use tc_command::Form;
 use crate::jobs::run_script;
 use crate::run::{Options, run_cases};
 use tc_behaviour::{Behaviour, ScriptJob};
 use tc_book::open_case;
 use tc_campaign::Case;
+use tc_command::Form;
 use tc_entry::Name;
 use tc_exec::{Callable, Ending, Job};
 use tc_script::read_campaign;

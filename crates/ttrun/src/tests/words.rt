@@ -1,9 +1,9 @@
 //! Command lines.
 use super::*;
 use crate::answer::{answer, answer_no_task, answer_unread};
-use tc_command::{Form, Task, read_task};
 use clap::error::ErrorKind;
 use std::{io, str};
+use tc_command::{Form, Task, read_task};
 use tc_stream::devices::{NarrowWriter, SlowReader, WriteFailure};
 
 #[test]

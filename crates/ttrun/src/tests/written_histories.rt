@@ -1,7 +1,7 @@
 //! Histories that campaigns write, given to `check`.
 use super::*;
-use tc_command::{Form, Task};
 use std::str;
+use tc_command::{Form, Task};
 
 const WORKERS: &str =
     "testcase t_pass;behaviour main;create p;start p worker mtc;wait done p;getverdict;end;behaviour worker boss;alive boss;setverdict pass;end;end;testcase t_again;behaviour main;create p alive;start p first;wait done p;start p second p;wait done p;kill all;killed all;end;behaviour first;setverdict pass;end;behaviour second me;getverdict;setverdict none;running me;end;end";
