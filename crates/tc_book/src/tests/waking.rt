@@ -178,9 +178,12 @@ fn complaint<R: Threads + Wait + Clock + Copy + Send + 'static>(
     if woken_by(&left) != Some(reply) {
         return Some("it wakes with another reply");
     }
-    match vec![in alloc; main, left, late] {
-        Ok(lefts) if close_case(rt, alloc, shared, lefts).is_ok() => None,
-        _ => Some("the case is not closed"),
+    let Ok(lefts) = vec![in alloc; main, left, late] else {
+        return Some("no room for what was left");
+    };
+    match close_case(rt, alloc, shared, lefts) {
+        Ok(_) => None,
+        Err(_) => Some("the case is not closed"),
     }
 }
 
