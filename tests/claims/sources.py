@@ -13,7 +13,7 @@ MEMBER = re.compile(r"(?m)^    (?:pub(?:\([a-z]+\))? )?([A-Za-z]\w*)[,({: ]")
 CLAUSE = re.compile(r"\b(?:ensures|requires|ghost invariant) (\w+) \{")
 REEXPORT = re.compile(r"(?ms)^pub use ([^;]*);")
 TEXT = re.compile(r'"((?:[^"\\\n]|\\.)*)"')
-DEFINITION = re.compile(r"(?m)^(?:(?:abbrev|unfoldable|pub) )*(?:(?:record|data) )?([A-Za-z]\w*)(?: \(.*\))? :")
+DEFINITION = re.compile(r"(?m)^ *(?:(?:abbrev|unfoldable|pub) )*(?:(?:record|data) )?([A-Za-z]\w*)(?: [({].*[)}])? :")
 FIELD = re.compile(r"(?m)^  pub (\w+) :")
 
 
