@@ -1,13 +1,13 @@
 #!/usr/bin/env python3
-"""Writes into a folder inputs that were looked for because they might take `ttrun` long: move lists of at most 1,048,576 bytes
-and history texts of at most 16,777,216 bytes, each right to its last line, the same at every run.
+"""Writes into a folder inputs that were looked for because they might take `ttrun` long: move lists and scripts of at most 1,048,576
+bytes and history texts of at most 16,777,216 bytes, each right to its last line, the same at every run.
 
 A file's name begins with the subcommand that reads it. What each asks of the table stands at the function that makes it.
 """
 import sys
 from pathlib import Path
 
-LIMITS = {'replay': 1_048_576, 'check': 16_777_216}
+LIMITS = {'replay': 1_048_576, 'check': 16_777_216, 'run': 1_048_576}
 COMPONENTS = 999
 RUNS = range(1, 64)
 
@@ -44,7 +44,7 @@ def entries_of(case):
 
 
 def filled(head, line, tail, limit):
-    return head + line * ((limit - len(head) - len(tail)) // len(line)) + tail
+    return head + line * ((limit - len(head) - len(tail)) // max(len(line), 1)) + tail
 
 
 def one_case(subcommand, case, move, reply='ok', verdict='none', behaviours=64):
@@ -83,7 +83,73 @@ def parked():
     return case.add('0 wait done 63', 'parked')
 
 
+def behaviour(name, steps):
+    return f'behaviour {name}\n' + ''.join(f'{step}\n' for step in steps) + 'end\n'
+
+
+def test_cases(behaviours):
+    """Test cases of these behaviours up to the limit, at most 1,000."""
+    text = ''
+    for number in range(1000):
+        case = f'testcase t{number}\n' + behaviours + 'end\n'
+        if len(text) + len(case) > LIMITS['run']:
+            break
+        text += case
+    return text
+
+
+def two_behaviours():
+    """An ordinary script: test cases of two behaviours, one of which judges."""
+    return test_cases(behaviour('main', ['create p', 'start p w', 'wait done p']) + behaviour('w', ['setverdict pass'] * 60))
+
+
+def idle_behaviours():
+    """As many behaviours as a script can have, none of which is started: each has a thread all the same."""
+    return test_cases(behaviour('main', []) + ''.join(behaviour(f'b{run}', []) for run in range(63)))
+
+
+def starts(kind, count):
+    return [step for run in range(count) for step in (f'create p{run}{kind}', f'start p{run} b{run}')]
+
+
+def started_behaviours():
+    """The same, each of them started."""
+    return test_cases(behaviour('main', starts('', 63) + ['wait done all']) + ''.join(behaviour(f'b{run}', []) for run in range(63)))
+
+
+def waiting_while(steps):
+    """62 behaviours and the main one wait, while one makes these steps, by which nobody may go on."""
+    main = behaviour('main', starts(' alive', 62) + ['create q alive', 'start q c', 'wait killed p0'])
+    waiting = ''.join(behaviour(f'b{run}', ['wait killed mtc']) for run in range(62))
+    return test_cases(main + waiting + behaviour('c', steps + ['kill mtc']))
+
+
+def kills_of_one():
+    """Each Kill of all finds one component that was created since the last."""
+    return test_cases(behaviour('main', [step for number in range(499) for step in (f'create p{number}', 'kill all')]))
+
+
+def padded(line):
+    """One small test case, and then the same line up to the limit."""
+    return filled('testcase t\n' + behaviour('main', []) + 'end\n', line, '', LIMITS['run'])
+
+
+def scripts():
+    yield 'ordinary', two_behaviours()
+    yield 'idle_behaviours', idle_behaviours()
+    yield 'started_behaviours', started_behaviours()
+    yield 'waiting_while_one_asks', waiting_while(['running mtc'] * 900)
+    yield 'waiting_while_one_kills', waiting_while(['create z'] + ['kill z'] * 900)
+    yield 'kills_of_one', kills_of_one()
+    yield 'empty_lines', padded('\n')
+    yield 'empty_comments', padded('#\n')
+    yield 'one_comment', padded('').rstrip('\n') + '\n#' + 'x' * 1_048_000
+    yield 'one_line_of_spaces', padded('').rstrip('\n') + '\n' + ' ' * 1_048_000
+
+
 def inputs():
+    for name, text in scripts():
+        yield 'run', name, text
     for subcommand in ('replay', 'check'):
         yield subcommand, 'kill_of_all_finds_none', one_case(subcommand, Case().create(COMPONENTS), '0 kill all')
         yield subcommand, 'stop_of_all_finds_none', one_case(subcommand, Case().create(COMPONENTS), '0 stop all')

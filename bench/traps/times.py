@@ -9,7 +9,7 @@ import sys
 from pathlib import Path
 
 program, folder, rounds = sys.argv[1], Path(sys.argv[2]), int(sys.argv[3])
-ORDINARY = {'replay': ['replay.ordinary'], 'check': ['check.ordinary_one', 'check.ordinary_many']}
+ORDINARY = {'run': ['run.ordinary'], 'replay': ['replay.ordinary'], 'check': ['check.ordinary_one', 'check.ordinary_many']}
 
 
 def milliseconds(path):

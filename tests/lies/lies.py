@@ -16,11 +16,11 @@ class Lie:
 LIES = (
     Lie("a_refused_input_ends_with_0", (
         ("""\
-            let _ = tell(alloc, errors, &fault);
-            REFUSED
+        status: REFUSED,
+        told: tell(alloc, errors, fault),
 """, """\
-            let _ = tell(alloc, errors, &fault);
-            0
+        status: 0,
+        told: tell(alloc, errors, fault),
 """),
     )),
     Lie("check_and_replay_are_exchanged", (
@@ -46,15 +46,17 @@ LIES = (
         ("""run_campaign(rt, alloc, cases, options.stop_on, THREADS)""", """run_campaign(rt, alloc, cases, None, THREADS)"""),
     )),
     Lie("help_ends_with_3", (
-        ("""ErrorKind::DisplayHelp if printed.is_ok() => 0,""", """ErrorKind::DisplayHelp if printed.is_ok() => REFUSED,"""),
+        ("""\
+        Ok(()) => Outcome {
+            status: 0,
+""", """\
+        Ok(()) => Outcome {
+            status: REFUSED,
+"""),
     )),
     Lie("fault_lines_are_never_told", (
-        ("""\
-            let _ = tell(alloc, errors, &fault);
-            REFUSED
-""", """\
-            let _ = fault;
-            REFUSED
+        ("""        told: tell(alloc, errors, fault),
+""", """        told: Ok(()),
 """),
     )),
     Lie("steps_of_long_behaviours_are_dropped", (
