@@ -40,7 +40,19 @@ LIES = (
 """),
     )),
     Lie("csv_is_ignored", (
-        ("""Form::Csv => write_csv(alloc, results, writer),""", """Form::Csv => write_text(alloc, results, writer),"""),
+        ("""\
+    ensures refused { IfErr result (LeavesPrefix (W.contents writer.old) (W.contents writer.new) (text_of form results.now)) }
+{
+    match form {
+        Form::Text => write_text(alloc, results, writer),
+        Form::Csv => write_csv(alloc, results, writer),
+""", """\
+    ensures refused { IfErr result (LeavesPrefix (W.contents writer.old) (W.contents writer.new) (text_of form results.now)) }
+{
+    match form {
+        Form::Text => write_text(alloc, results, writer),
+        Form::Csv => write_text(alloc, results, writer),
+"""),
     )),
     Lie("the_stopping_rule_is_dropped", (
         ("""run_campaign(rt, alloc, cases, options.stop_on, THREADS)""", """run_campaign(rt, alloc, cases, None, THREADS)"""),
