@@ -88,38 +88,39 @@ module _ (v : Text) (plain : IsNoOption v) where
   next_form : (f : Form) → Asks (codes "run" ∷ (form_words f ++ codes "--stop-on" ∷ v ∷ [])) (run f (Some v))
   unfolding clap_on_literals
   next_form form.Text = (
-        ap₂ (faults_by []) (turn_quiet leaf (held_before []) (codes "stop-on") 1 v plain) (value_walked leaf (held_before []) (codes "stop-on") 1 v plain),
-        ap (asked_after []) (value_walked leaf (held_before []) (codes "stop-on") 1 v plain),
-      )
+    ap₂ (faults_by []) (turn_quiet leaf (held_before []) (codes "stop-on") 1 v plain) (value_walked leaf (held_before []) (codes "stop-on") 1 v plain),
+    ap (asked_after []) (value_walked leaf (held_before []) (codes "stop-on") 1 v plain),
+  )
   next_form form.Csv = (
-        ap₂ (faults_by []) (turn_quiet leaf (held_before (codes "--csv" ∷ [])) (codes "stop-on") 1 v plain) (value_walked leaf (held_before (codes "--csv" ∷ [])) (codes "stop-on") 1 v plain),
-        ap (asked_after []) (value_walked leaf (held_before (codes "--csv" ∷ [])) (codes "stop-on") 1 v plain),
-      )
+    ap₂ (faults_by []) (turn_quiet leaf (held_before (codes "--csv" ∷ [])) (codes "stop-on") 1 v plain) (value_walked leaf (held_before (codes "--csv" ∷ [])) (codes "stop-on") 1 v plain),
+    ap (asked_after []) (value_walked leaf (held_before (codes "--csv" ∷ [])) (codes "stop-on") 1 v plain),
+  )
   next_form form.History = (
-        ap₂ (faults_by []) (turn_quiet leaf (held_before (codes "--history" ∷ [])) (codes "stop-on") 1 v plain) (value_walked leaf (held_before (codes "--history" ∷ [])) (codes "stop-on") 1 v plain),
-        ap (asked_after []) (value_walked leaf (held_before (codes "--history" ∷ [])) (codes "stop-on") 1 v plain),
-      )
+    ap₂ (faults_by []) (turn_quiet leaf (held_before (codes "--history" ∷ [])) (codes "stop-on") 1 v plain) (value_walked leaf (held_before (codes "--history" ∷ [])) (codes "stop-on") 1 v plain),
+    ap (asked_after []) (value_walked leaf (held_before (codes "--history" ∷ [])) (codes "stop-on") 1 v plain),
+  )
 
   -- and before it
   next_rule : (f : Form) → Asks (codes "run" ∷ (codes "--stop-on" ∷ v ∷ form_words f)) (run f (Some v))
   unfolding clap_on_literals
   next_rule form.Text = (
-        ap₂ (faults_by []) (turn_quiet leaf (held_before []) (codes "stop-on") 1 v plain) (value_walked leaf (held_before []) (codes "stop-on") 1 v plain),
-        ap (asked_after []) (value_walked leaf (held_before []) (codes "stop-on") 1 v plain),
-      )
+    ap₂ (faults_by []) (turn_quiet leaf (held_before []) (codes "stop-on") 1 v plain) (value_walked leaf (held_before []) (codes "stop-on") 1 v plain),
+    ap (asked_after []) (value_walked leaf (held_before []) (codes "stop-on") 1 v plain),
+  )
   next_rule form.Csv = (
-        ap₂ (faults_by (codes "--csv" ∷ [])) (turn_quiet leaf (held_before []) (codes "stop-on") 1 v plain) (value_walked leaf (held_before []) (codes "stop-on") 1 v plain),
-        ap (asked_after (codes "--csv" ∷ [])) (value_walked leaf (held_before []) (codes "stop-on") 1 v plain),
-      )
+    ap₂ (faults_by (codes "--csv" ∷ [])) (turn_quiet leaf (held_before []) (codes "stop-on") 1 v plain) (value_walked leaf (held_before []) (codes "stop-on") 1 v plain),
+    ap (asked_after (codes "--csv" ∷ [])) (value_walked leaf (held_before []) (codes "stop-on") 1 v plain),
+  )
   next_rule form.History = (
-        ap₂ (faults_by (codes "--history" ∷ [])) (turn_quiet leaf (held_before []) (codes "stop-on") 1 v plain) (value_walked leaf (held_before []) (codes "stop-on") 1 v plain),
-        ap (asked_after (codes "--history" ∷ [])) (value_walked leaf (held_before []) (codes "stop-on") 1 v plain),
-      )
+    ap₂ (faults_by (codes "--history" ∷ [])) (turn_quiet leaf (held_before []) (codes "stop-on") 1 v plain) (value_walked leaf (held_before []) (codes "stop-on") 1 v plain),
+    ap (asked_after (codes "--history" ∷ [])) (value_walked leaf (held_before []) (codes "stop-on") 1 v plain),
+  )
 
   -- behind both forms
   both_csv : faults ([] ∷ codes "run" ∷ codes "--csv" ∷ codes "--history" ∷ codes "--stop-on" ∷ v ∷ []) ≡ ArgumentConflict ∷ []
   unfolding clap_on_literals
   both_csv = ap₂ (faults_by []) (turn_quiet leaf (held_before (codes "--csv" ∷ codes "--history" ∷ [])) (codes "stop-on") 1 v plain) (value_walked leaf (held_before (codes "--csv" ∷ codes "--history" ∷ [])) (codes "stop-on") 1 v plain)
+
   both_history : faults ([] ∷ codes "run" ∷ codes "--history" ∷ codes "--csv" ∷ codes "--stop-on" ∷ v ∷ []) ≡ ArgumentConflict ∷ []
   unfolding clap_on_literals
   both_history = ap₂ (faults_by []) (turn_quiet leaf (held_before (codes "--history" ∷ codes "--csv" ∷ [])) (codes "stop-on") 1 v plain) (value_walked leaf (held_before (codes "--history" ∷ codes "--csv" ∷ [])) (codes "stop-on") 1 v plain)

@@ -17,5 +17,4 @@ pub fn lines(words: &[String])
         → faults (map string_bytes words.now) ≡ DisplayHelp ∷ [] }
     ensures both { AsksForBoth (drop 1 (map string_bytes words.now))
         → faults (map string_bytes words.now) ≡ ArgumentConflict ∷ [] }
-{
-}
+{}
