@@ -232,7 +232,7 @@ fn runs_of_a_case(rt: HostRuntime) -> Result<(), Fail> {
 }
 
 /// Whether each call on a book is answered with this reply, and says so whether somebody who waits may go on.
-fn are_answered<const N: usize>(book: &mut Book, calls: [(Run, Op, Reply, bool); N]) -> bool {
+fn are_answered(book: &mut Book, calls: Vec<(Run, Op, Reply, bool)>) -> bool {
     for (run, op, reply, wakes) in calls {
         if book.call(run, op).ok() != Some((reply, wakes)) {
             return false;
@@ -255,7 +255,7 @@ fn calls_that_wake(rt: HostRuntime) -> Result<(), Fail> {
         killed: false,
         target: one(1),
     };
-    let parked = [
+    let parked = vec![in alloc;
         (
             Run(0),
             Op::Create { alive: true },
@@ -265,13 +265,13 @@ fn calls_that_wake(rt: HostRuntime) -> Result<(), Fail> {
         (Run(0), start, Reply::Ok, true),
         (Run(0), Op::Running(one(1)), Reply::Answer(true), false),
         (Run(0), wait, Reply::Parked, true),
-    ];
+    ]?;
     assert!(rt; are_answered(&mut book, parked));
     assert_eq!(rt; book.call_wake(Run(0), false, one(1)), None);
-    let finished = [
+    let finished = vec![in alloc;
         (Run(1), Op::SetVerdict(UserVerdict::Fail), Reply::Ok, false),
         (Run(1), Op::Finish, Reply::Ok, true),
-    ];
+    ]?;
     assert!(rt; are_answered(&mut book, finished));
     assert_eq!(rt; book.call_wake(Run(1), false, one(1)), None);
     assert_eq!(rt;
@@ -279,7 +279,7 @@ fn calls_that_wake(rt: HostRuntime) -> Result<(), Fail> {
         Some((Reply::Matched, false))
     );
     assert_eq!(rt; book.call_wake(Run(0), false, one(1)), None);
-    let over = [
+    let over = vec![in alloc;
         (Run(1), Op::GetVerdict, Reply::Ended, true),
         (Run(0), Op::Stop(Group::All), Reply::Ok, true),
         (Run(0), Op::Kill(Group::All), Reply::Ok, true),
@@ -289,7 +289,7 @@ fn calls_that_wake(rt: HostRuntime) -> Result<(), Fail> {
             Reply::Fault(Fault::NoComponent),
             true,
         ),
-    ];
+    ]?;
     assert!(rt; are_answered(&mut book, over));
     Ok(())
 }

@@ -320,7 +320,10 @@ fn has_started(behaviours: u16, started: usize) -> bool {
 }
 
 /// What is wrong with a case, if anything is.
-fn complaint(alloc: Global, behaviours: u16, closed: &Closed) -> Option<&'static str> {
+fn complaint(alloc: Global, behaviours: u16, closed: &Closed) -> Option<&'static str>
+    requires some { 1 ≤ behaviours }
+    requires few { behaviours ≤ 64 }
+{
     let history = closed.history.as_slice();
     if replay_check(alloc, behaviours, history).ok() != Some(closed.verdict) {
         return Some("it is replayed otherwise");
