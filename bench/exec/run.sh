@@ -9,7 +9,7 @@ work=$(mktemp -d)
 trap 'rm -rf "$work"' EXIT
 
 mkdir -p "$work/crates/times/src"
-for crate in tc_verdict tc_stream tc_entry tc_text tc_table tc_book tc_exec; do
+for crate in tc_verdict tc_stream tc_entry tc_text tc_table tc_merge tc_board tc_words tc_book tc_exec; do
     cp -r "$top/crates/$crate" "$work/crates/"
     grep "^$crate:" "$top/crates.txt" >> "$work/crates.txt"
 done

@@ -1,4 +1,6 @@
-//! A plain Rust program of the same job as `times.rt.txt`: a case of behaviours on threads, with one lock and one condition.
+//! A plain Rust program of the same job as `times.rt.txt`: a case of behaviours on threads, with an atomic byte for the verdict
+//! of each, and one lock and one condition for all other calls.
+use std::sync::atomic::{AtomicU8, Ordering};
 use std::sync::{Arc, Condvar, Mutex};
 use std::thread;
 use std::time::Instant;
@@ -47,6 +49,17 @@ enum Phase {
 struct Component {
     phase: Phase,
     local: Verdict,
+}
+
+/// The bit of a closed word.
+const CLOSED: u8 = 8;
+
+/// The word of a run that was not started.
+const UNBEGUN: u8 = 16;
+
+/// The verdict of a word that was closed.
+fn of_word(found: u8) -> Verdict {
+    if found == Verdict::None as u8 { Verdict::None } else { Verdict::Pass }
 }
 
 /// The table of the components, with its history.
@@ -100,11 +113,7 @@ impl Table {
             }
             Op::WaitAllDone | Op::WakeAllDone if self.running == 0 => Reply::Matched,
             Op::WaitAllDone | Op::WakeAllDone => Reply::Parked,
-            Op::SetVerdict(value) => {
-                let local = &mut self.components[own].local;
-                *local = (*local).max(value);
-                Reply::Ok
-            }
+            Op::SetVerdict(_) => unreachable!("a verdict call does not ask the table"),
             Op::Finish if caller == 0 => {
                 for component in &mut self.components {
                     component.phase = Phase::Killed;
@@ -120,14 +129,35 @@ impl Table {
         }
     }
 
-    fn play(&mut self, caller: u16, op: Op) -> Reply {
+    fn play(&mut self, words: &[AtomicU8], caller: u16, op: Op) -> Reply {
         let reply = self.answer(caller, &op);
         self.history.push(Entry { caller, op, reply });
+        match op {
+            Op::Start { comp, run, .. } => {
+                let carried = self.components[comp as usize].local as u8;
+                words[usize::from(run)].store(carried, Ordering::SeqCst);
+            }
+            Op::Finish => self.close_words(words),
+            _ => {}
+        }
         reply
+    }
+
+    /// Closes the word of each run that was halted, and takes its verdict.
+    fn close_words(&mut self, words: &[AtomicU8]) {
+        for (run, word) in (0u16..).zip(words) {
+            if word.load(Ordering::SeqCst) < CLOSED && self.comp_of(run).is_none() {
+                let found = of_word(word.fetch_or(CLOSED, Ordering::SeqCst));
+                if let Some(comp) = self.starts[usize::from(run)] {
+                    self.components[comp as usize].local = found;
+                }
+            }
+        }
     }
 }
 
 struct Shared {
+    words: Vec<AtomicU8>,
     table: Mutex<Table>,
     changed: Condvar,
 }
@@ -144,11 +174,26 @@ impl Pass {
         if self.ended {
             return Reply::Ended;
         }
-        let reply = self.shared.table.lock().unwrap().play(self.run, op);
+        let reply = self.shared.table.lock().unwrap().play(&self.shared.words, self.run, op);
         self.shared.changed.notify_all();
         self.log.push(Entry {
             caller: self.run,
             op,
+            reply,
+        });
+        self.ended = reply == Reply::Ended;
+        reply
+    }
+
+    fn set_verdict(&mut self, value: Verdict) -> Reply {
+        if self.ended {
+            return Reply::Ended;
+        }
+        let found = self.shared.words[usize::from(self.run)].fetch_max(value as u8, Ordering::SeqCst);
+        let reply = if found < CLOSED { Reply::Ok } else { Reply::Ended };
+        self.log.push(Entry {
+            caller: self.run,
+            op: Op::SetVerdict(value),
             reply,
         });
         self.ended = reply == Reply::Ended;
@@ -237,9 +282,42 @@ fn work(shared: Arc<Shared>, run: u16, behaviour: Behaviour) -> Left {
     behaviour(pass).leave()
 }
 
+/// Moves the settings at the head of what is left of a log, up to one that was replied Ended.
+fn put_head(all: &mut Vec<Entry>, rest: &mut &[Entry]) {
+    while let [first, others @ ..] = *rest {
+        if !matches!(first.op, Op::SetVerdict(_)) || first.reply == Reply::Ended {
+            break;
+        }
+        all.push(*first);
+        *rest = others;
+    }
+}
+
+/// The history with the settings of the logs.
+fn merged(history: &[Entry], lefts: &[Left]) -> Vec<Entry> {
+    let logged = lefts.iter().map(|left| left.log.len()).sum();
+    let mut all = Vec::with_capacity(logged);
+    let mut rests: Vec<&[Entry]> = lefts.iter().map(|left| left.log.as_slice()).collect();
+    put_head(&mut all, &mut rests[0]);
+    for entry in history {
+        all.push(*entry);
+        let rest = &mut rests[usize::from(entry.caller)];
+        *rest = rest.get(1..).unwrap_or(&[]);
+        put_head(&mut all, rest);
+        if let (Op::Start { run, .. }, Reply::Ok) = (entry.op, entry.reply) {
+            put_head(&mut all, &mut rests[usize::from(run)]);
+        }
+    }
+    for rest in rests {
+        all.extend_from_slice(rest);
+    }
+    all
+}
+
 fn run_case(behaviours: Vec<Behaviour>) -> Report {
     let count = behaviours.len() as u16;
     let shared = Arc::new(Shared {
+        words: (0..count).map(|run| AtomicU8::new(if run == 0 { 0 } else { UNBEGUN })).collect(),
         table: Mutex::new(Table::new(count)),
         changed: Condvar::new(),
     });
@@ -257,6 +335,7 @@ fn run_case(behaviours: Vec<Behaviour>) -> Report {
         lefts.push(worker.join().expect("the worker ended"));
     }
     let table = shared.table.lock().unwrap();
+    let history = merged(&table.history, &lefts);
     let logs = lefts
         .into_iter()
         .filter_map(|left| {
@@ -270,7 +349,7 @@ fn run_case(behaviours: Vec<Behaviour>) -> Report {
     let locals: Vec<_> = table.components.iter().map(|c| c.local).collect();
     let verdict = locals.iter().copied().max().expect("the main component");
     Report {
-        history: table.history.clone(),
+        history,
         logs,
         locals,
         verdict,
@@ -289,13 +368,13 @@ fn case_of(behaviours: u16) -> Vec<Behaviour> {
             }
         }
         pass.wait_all_done();
-        pass.call(Op::SetVerdict(Verdict::Pass));
+        pass.set_verdict(Verdict::Pass);
         pass
     });
     let mut all = vec![lead];
     for _ in 1..behaviours {
         all.push(Box::new(|mut pass| {
-            pass.call(Op::SetVerdict(Verdict::Pass));
+            pass.set_verdict(Verdict::Pass);
             pass
         }));
     }

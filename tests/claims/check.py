@@ -1,18 +1,15 @@
 #!/usr/bin/env python3
 """Checks what the documents claim: names, quotations, commands and links, and a few rules of the repository.
 
-usage: tests/claims/check.py [--table FILE SECTION]
-
-FILE and SECTION say where the table of what is proved stands. The last line is 'N passed, M failed'.
+The last line is 'N passed, M failed'.
 """
 from __future__ import annotations
 
-import argparse
 import os
 import re
 import subprocess
 import sys
-from typing import Callable, Dict, Iterator, List
+from typing import Callable, Dict, Iterator, List, Tuple
 
 sys.dont_write_bytecode = True
 TOP = os.path.dirname(os.path.dirname(os.path.dirname(os.path.abspath(__file__))))
@@ -20,10 +17,19 @@ sys.path.append(os.path.join(TOP, "tests", "program"))
 
 from documents import Block, Document, named_by, read
 from script_reader import read_script
-from sources import Sources
+from sources import Sources, files_below
 from texts import Judged
 
-TABLES = (("docs/proved.md", ""), ("README.md", "What is proved"))
+# The tables whose cells name what stands in the sources: document, section or none for all, and the fewest rows.
+TABLES = (("docs/proved.md", "", 60), ("docs/architecture.md", "Where a rule stands", 15), ("docs/scripts.md", "Where a rule stands", 8),
+          ("docs/architecture.md", "From a rule to its contract, code, test and edit", 5), ("docs/architecture.md", "What a newcomer asks", 12),
+          ("docs/guide.md", "Limits", 8), ("CONTRIBUTING.md", "Add an operation", 8))
+# The columns of these tables that are in words, with quotations of texts among them.
+IN_WORDS = ("crate", "question", "rule", "at most", "beyond it", "what there is")
+WIDTH = 120
+# A path in backquotes; but one with a word in capitals stands for many, and what is built is not there before.
+PATH = re.compile(r"[\w.*+-]+(?:/[\w.*+-]+)+/?|[\w-]+\.(?:rt|antt|edit|py|sh)")
+OF_MANY = re.compile(r"\*|\b[A-Z]{2,}\b(?!\.md)|/out/")
 CODE = re.compile(r"`([^`]+)`")
 # A number that only a reader of some other list could look up.
 NUMBER = re.compile(r"(?<![\w.#])(?:[TDW](?:1?\d|2[0-2])[a-g]?|R(?:1[0-5]|[1-9])|B[1-5])(?![\w.(<])|\b[Rr]ows?[ _]\d+\b|\bw\d{1,2}_")
@@ -61,13 +67,13 @@ def row_claims(sources: Sources, head: List[str], cells: List[str], crate: str) 
         return
     where = f"nowhere in {crate}, or below it" if crate else "nowhere"
     for title, cell in zip(head, cells):
-        if title != "crate":
+        if title not in IN_WORDS:
             yield from (f"{it} stands {where}" for it in named_in(cell) if not sources.has(it, crate))
             yield from misplaced(sources, cell)
 
 
-def table_claims(sources: Sources, path: str, section: str) -> Iterator[str]:
-    """What the tables of what is proved name, and does not stand in the sources; in the text beside them, what is spelt as a name."""
+def table_claims(sources: Sources, path: str, section: str, fewest: int) -> Iterator[str]:
+    """What the tables of a section name, and does not stand in the sources; in the text beside them, what is spelt as a name."""
     rows, crate, head = 0, "", []
     for number, line in read(TOP, path).section(section):
         cells = cells_of(line)
@@ -81,8 +87,14 @@ def table_claims(sources: Sources, path: str, section: str) -> Iterator[str]:
             rows += 1
             crate = (cells[0].strip("`") or crate) if head[0] == "crate" else ""
             yield from (f"{path}:{number}: {it}" for it in row_claims(sources, head, cells, crate))
-    if rows < 10:
-        yield f"{path}: the section {section!r} has {rows} rows, and no fewer than 10 are wanted"
+    if rows < fewest:
+        yield f"{path}: the section {section!r} has {rows} rows, and no fewer than {fewest} are wanted"
+
+
+def all_table_claims(sources: Sources) -> Iterator[str]:
+    """The same of each of the tables."""
+    for path, section, fewest in TABLES:
+        yield from table_claims(sources, path, section, fewest)
 
 
 def example(name: str) -> str:
@@ -137,10 +149,12 @@ def squeezed(text: str) -> str:
 def quoted_code(documents: List[Document]) -> Iterator[str]:
     """Blocks of Rattle that do not stand in a file of the crate that the document says they are of."""
     for document in documents:
-        crates = re.findall(r"program is `crates/(\w+)`", "\n".join(document.lines))
+        crates = re.findall(r"(?:program\s+is|code\s+below\s+is\s+of)\s+`crates/(\w+)`", "\n".join(document.lines))
+        if not crates and any(it.language == "rust" for it in document.blocks()):
+            yield f"{document.path}: it does not say of which crate its code is"
         for crate in crates:
             folder = os.path.join(TOP, "crates", crate, "src")
-            code = [squeezed(open(os.path.join(folder, it), encoding="utf-8").read()) for it in sorted(os.listdir(folder))]
+            code = [squeezed(open(it, encoding="utf-8").read()) for it in files_below(folder, ".rt")]
             for block in document.blocks():
                 if block.language == "rust" and not any(squeezed(block.text) in it for it in code):
                     yield f"{document.path}:{block.line}: this code stands in no file of crates/{crate}"
@@ -174,6 +188,35 @@ def links(documents: List[Document]) -> Iterator[str]:
                 yield f"{document.path}:{number}: {link} leads to no heading"
 
 
+def prose(document: Document) -> Iterator[Tuple[int, str]]:
+    """The numbered lines of a document outside of tables and blocks."""
+    is_code = False
+    for number, line in enumerate(document.lines, 1):
+        is_code ^= line.lstrip().startswith("```")
+        if not is_code and not line.startswith("|"):
+            yield number, line
+
+
+def broken_lines(documents: List[Document]) -> Iterator[str]:
+    """Lines of prose that are too long, though they might be broken."""
+    for document in documents:
+        for number, line in prose(document):
+            if len(line) > WIDTH and " " in re.sub(r"`[^`]*`|\[[^\]]*\]", "", line).strip():
+                yield f"{document.path}:{number}: {len(line)} letters, where {WIDTH} are the most"
+
+
+def paths(documents: List[Document]) -> Iterator[str]:
+    """Paths that lead to nothing: each begins at the top, or in the README of a folder beside it."""
+    for document in documents:
+        folders = [TOP, *([os.path.join(TOP, os.path.dirname(document.path))] if document.path.endswith("/README.md") else [])]
+        for number, line in enumerate(document.lines, 1):
+            for name in named_in(line):
+                if not PATH.fullmatch(name) or OF_MANY.search(name):
+                    continue
+                if not any(os.path.exists(os.path.join(it, name)) for it in folders):
+                    yield f"{document.path}:{number}: {name} is no path from the top"
+
+
 def tracked() -> List[str]:
     """The files of the repository."""
     listed = subprocess.run(["git", "ls-files", "-co", "--exclude-standard"], cwd=TOP, stdout=subprocess.PIPE, check=True)
@@ -194,22 +237,32 @@ def numbers() -> Iterator[str]:
                 yield f"{path}:{number}: {found[0]}"
 
 
+def nameless() -> Iterator[str]:
+    """Sources whose first line does not say what they are. The answers and the invariants of a function are named by their path."""
+    for path in tracked():
+        if path.endswith(("/Answers.antt", "/Invariants.antt")) or not path.endswith((".rt", ".antt", ".py", ".sh", ".rs", ".txt")):
+            continue
+        with open(os.path.join(TOP, path), encoding="utf-8") as file:
+            lines = [it for it in file.read(1000).split("\n") if not it.startswith("#!/")]
+        if not re.match(r'(?://!?|--|#) \w|"""\w', lines[0]):
+            yield f"{path}: {lines[0]}"
+
+
 def main() -> int:
     """Makes each check, and prints what it finds."""
-    parser = argparse.ArgumentParser(description="checks what the documents claim")
-    parser.add_argument("--table", nargs=2, metavar=("FILE", "SECTION"))
-    given = parser.parse_args()
-    path, section = given.table or next(it for it in TABLES if os.path.exists(os.path.join(TOP, it[0])))
     sources = Sources(TOP)
     documents = [read(TOP, it) for it in tracked() if it.endswith(".md")]
     checks: Dict[str, Callable[[], Iterator[str]]] = {
-        "what the table of what is proved names stands in the sources": lambda: table_claims(sources, path, section),
+        "what the tables of names name stands in the sources": lambda: all_table_claims(sources),
         "what the documents quote of examples/ stands there": lambda: quotations(documents),
         "the code that the documents quote stands in its crate": lambda: quoted_code(documents),
         "the commands that name an example name one, with words that there are": lambda: commands(documents),
         "all links lead somewhere": lambda: links(documents),
+        "all paths begin at the top, and lead somewhere": lambda: paths(documents),
+        "no line of prose is too long": lambda: broken_lines(documents),
         "no name of an edit stands in two crates": sources.edits_in_two_crates,
         "no number stands for a rule that is written elsewhere": numbers,
+        "the first line of each source says what it is": nameless,
     }
     failed = 0
     for name, check in checks.items():

@@ -110,12 +110,14 @@ class Sources:
         return any(os.path.exists(os.path.join(folder, name)) for folder in folders)
 
     def defines(self, file: str, name: str) -> bool:
-        """Whether a file of definitions, by its path from the top, has this one."""
+        """Whether a file, by its path from the top, has this definition, or this function or type."""
         path = os.path.join(self.top, file)
         if not os.path.isfile(path):
             return False
         with open(path, encoding="utf-8") as lines:
-            return name in DEFINITION.findall(lines.read())
+            text = lines.read()
+        patterns = (FUNCTION, TYPE) if file.endswith(".rt") else (DEFINITION,)
+        return any(name in it.findall(text) for it in patterns)
 
     def has(self, name: str, crate: str) -> bool:
         """Whether what a document names stands in the sources; with a crate, in that crate or below it."""

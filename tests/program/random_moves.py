@@ -11,8 +11,8 @@ from table import FAULTS, MOST_COMPONENTS, STATUSES, VERDICTS, Op, Table, Target
 from texts import Judged, check, replay
 
 USER_VERDICTS = VERDICTS[:4]
-OPERATIONS = ("create", "start", "stop", "kill", *STATUSES, "wait", "wake", "setverdict", "getverdict", "finish")
-WEIGHTS = (10, 12, 5, 4, 3, 3, 3, 3, 8, 8, 8, 6, 4)
+OPERATIONS = ("create", "start", "stop", "kill", *STATUSES, "wait", "wake", "setverdict", "getverdict", "finish", "stopcase")
+WEIGHTS = (10, 12, 5, 4, 3, 3, 3, 3, 8, 8, 8, 6, 4, 1)
 REPLIES = ("made", "ok", "true", "false", "none", "pass", "inconc", "fail", "matched", "parked", "ended")
 LISTS = 700
 TEXTS = 250
@@ -51,7 +51,7 @@ def drawn_op(chance: random.Random, table: Table, caller: int) -> Op:
 
 def ends_case(op: Op, caller: int, reply: str) -> bool:
     """Whether the entry ends the case."""
-    is_end = op.verb == "finish" and caller == 0 or op.verb in ("stop", "kill") and op.target == 0
+    is_end = op.verb == "stopcase" or op.verb == "finish" and caller == 0 or op.verb in ("stop", "kill") and op.target == 0
     return reply != "ended" and is_end or reply.startswith("error ")
 
 
@@ -163,7 +163,7 @@ def list_floors() -> List[Tuple[str, int]]:
     """How often each operation, reply and error is met at least by the random lists of one test."""
     groups = [f"{status} {group}" for status in STATUSES for group in ("any", "all")] + ["stop all", "kill all"]
     waits = [f"{verb} {awaited}{group}" for verb in ("wait", "wake") for awaited in ("done", "killed") for group in ("", " any", " all")]
-    plain = ["create", "create alive", "start", "stop", "kill", *STATUSES, "getverdict", "finish"]
+    plain = ["create", "create alive", "start", "stop", "kill", *STATUSES, "stopcase", "getverdict", "finish"]
     floors = [(name, 60) for name in plain] + [(name, 25) for name in groups + waits]
     floors += [(f"setverdict {it}", 60) for it in USER_VERDICTS] + [(f"reply {it}", 40) for it in REPLIES]
     return floors + [(f"reply error {it}", 1 if it == "too-many" else 4) for it in FAULTS]

@@ -24,7 +24,7 @@ KINDS = (
 )
 WORDS = (
     "testcase", "behaviour", "end", "create", "start", "stop", "kill", "running", "alive", "done", "killed", "wait", "setverdict",
-    "getverdict", "pass", "error", "mtc", "self", "any", "all", "b0", "b1", "p", "q", "1x", "zz", "#", "_", "named",
+    "stopcase", "getverdict", "pass", "error", "mtc", "self", "any", "all", "b0", "b1", "p", "q", "1x", "zz", "#", "_", "named",
 )
 
 
@@ -94,6 +94,8 @@ class Writer:
             self.create()
         elif drawn < 0.9:
             self.lines.append(f"{self.chance.choice(STATUSES)} {self.target(at, ('any', 'all'))}")
+        elif drawn < 0.91:
+            self.lines.append("stopcase")
         elif drawn < 0.95:
             self.lines.append(f"{self.chance.choice(('stop', 'kill'))} {self.target(at, ('all',))}")
         elif not self.is_in_turn or at == 0:

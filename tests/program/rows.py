@@ -61,6 +61,10 @@ REPLAYED: List[Tuple[str, str, str, int]] = [
     ("no_parallel_component",
      "behaviours 1;0 running any;0 alive any;0 done any;0 killed any;0 running all;0 alive all;0 done all;0 killed all",
      "false;false;false;false;true;true;true;true;verdict none", 0),
+    ("stop_of_a_case", "behaviours 2;0 create;0 start 1 1;1 setverdict pass;1 stopcase;0 getverdict",
+     "made 1;ok;ok;ok;ended;verdict error", 2),
+    ("stop_of_a_case_by_the_main", "behaviours 1;0 stopcase;0 getverdict", "ok;ended;verdict error", 2),
+    ("stop_of_a_case_by_a_run_that_was_never_started", "behaviours 2;1 stopcase", "ended;verdict none", 0),
     ("largest_numbers", "behaviours 64;65535 finish;0 running 4294967295", "ended;error no-component;verdict error", 2),
 ]
 
@@ -91,7 +95,7 @@ REFUSED_LISTS: List[Tuple[str, bytes, int, str]] = [
     ("a_tab", b"behaviours 1\n0\tcreate\n", 2, "bad move"),
     ("a_move_without_a_caller", text("behaviours 1;create"), 2, "bad move"),
     ("a_named_create", text("behaviours 1;0 create named pump"), 2, "bad move"),
-    ("a_stop_of_the_case", text("behaviours 1;0 stopcase"), 2, "bad move"),
+    ("a_stop_of_the_case_with_a_word_too_many", text("behaviours 1;0 stopcase all"), 2, "bad move"),
 ]
 
 INACTIVE = "history 1 t 1;0 create -> made 1;0 stop 1 -> ok;0 alive 1 -> true;"

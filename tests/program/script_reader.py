@@ -62,7 +62,7 @@ def has_form(words: List[str]) -> bool:
         return len(rest) == 2 and rest[0] in ("done", "killed")
     if verb == "setverdict":
         return len(rest) == 1 and rest[0] in ("none", "pass", "inconc", "fail")
-    if verb in ("end", "getverdict"):
+    if verb in ("end", "stopcase", "getverdict"):
         return not rest
     return verb in ("testcase", "stop", "kill", *STATUSES) and len(rest) == 1
 

@@ -28,7 +28,7 @@ class Scope:
             return Op("wait", self.known[words[2]], awaited=words[1])
         if verb == "setverdict":
             return Op("setverdict", verdict=words[1])
-        return Op(verb) if verb == "getverdict" else Op(verb, self.known[words[1]])
+        return Op(verb) if verb in ("stopcase", "getverdict") else Op(verb, self.known[words[1]])
 
     def take(self, words: List[str], reply: str) -> None:
         """Learns the component that a create made."""
@@ -46,7 +46,7 @@ def ends_pass(op: Op, reply: str, me: int) -> bool:
     if reply == "ended" or reply.startswith("error "):
         return True
     halts = [me, 0] if me == 0 else [me, 0, "all"]
-    return op.verb == "finish" or op.verb in ("stop", "kill") and op.target in halts
+    return op.verb in ("finish", "stopcase") or op.verb in ("stop", "kill") and op.target in halts
 
 
 def fault_of_log(case: TestCase, run: int, me: int, args: Tuple[int, ...], log: List[Entry]) -> Optional[str]:

@@ -46,13 +46,13 @@ class Op:
             words += [self.awaited, str(self.target)]
         elif self.verb == "setverdict":
             words += [self.verdict]
-        elif self.verb not in ("getverdict", "finish"):
+        elif self.verb not in ("stopcase", "getverdict", "finish"):
             words += [str(self.target)]
         return " ".join(words)
 
     def named(self) -> List[Target]:
         """The components and groups that the operation names."""
-        if self.verb in ("create", "setverdict", "getverdict", "finish"):
+        if self.verb in ("create", "stopcase", "setverdict", "getverdict", "finish"):
             return []
         return [self.target, *self.args]
 
@@ -201,6 +201,9 @@ class Table:
             self.components[on].verdict = worst(self.components[on].verdict, op.verdict)
         elif op.verb == "finish":
             self.components[on].halt(is_excuse=False)
+        elif op.verb == "stopcase":
+            self.components[on].verdict = "error"
+            self.end_case()
         elif op.verb in ("stop", "kill"):
             self.halt_group(on, op)
         if self.components[0].phase != "running":

@@ -25,7 +25,7 @@ MOVE = re.compile(
     rf"|(?P<status>running|alive|done|killed) (?P<asked>{NUMBER}|any|all)"
     rf"|(?P<wait>wait|wake) (?P<awaited>done|killed) (?P<target>{NUMBER}|any|all)"
     rf"|(?P<set>setverdict) (?P<verdict>none|pass|inconc|fail)"
-    rf"|(?P<plain>getverdict|finish)"
+    rf"|(?P<plain>stopcase|getverdict|finish)"
     rf")"
 )
 REPLY = re.compile(

@@ -32,6 +32,17 @@ impl Verdict {
         })
     }
 
+    /// The verdict at this place from best to worst.
+    pub fn of_rank(rank: u8) -> Verdict {
+        match rank {
+            0 => Verdict::None,
+            1 => Verdict::Pass,
+            2 => Verdict::Inconc,
+            3 => Verdict::Fail,
+            _ => Verdict::Error,
+        }
+    }
+
     /// The verdict that a user may set by this name.
     pub fn settable(word: &[u8]) -> Option<Verdict> {
         Verdict::named(word).filter(|verdict| *verdict != Verdict::Error)

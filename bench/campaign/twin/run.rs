@@ -1,8 +1,9 @@
-//! Runs a test case: each behaviour on a thread of its own, one lock around the table with its history, and one condition
-//! that is notified after each entry.
+//! Runs a test case: each behaviour on a thread of its own, an atomic byte for the verdict of each, one lock around the
+//! table with the history of all other calls, and one condition that is notified after each entry.
 use crate::entry::{Args, Entry, Op, Reply, Target, Verdict};
 use crate::script::{Behaviour, Place, Status, Step, TargetPlace};
 use crate::table::Table;
+use std::sync::atomic::{AtomicU8, Ordering};
 use std::sync::{Condvar, Mutex};
 use std::thread;
 
@@ -14,18 +15,39 @@ struct Book {
     starts: Vec<Option<Start>>,
 }
 
+/// The bit of a closed word.
+const CLOSED: u8 = 8;
+
+/// The word of a run that was not started.
+const UNBEGUN: u8 = 16;
+
 impl Book {
-    fn record(&mut self, run: u16, op: Op) -> Reply {
+    fn record(&mut self, words: &[AtomicU8], run: u16, op: Op) -> Reply {
         let reply = self.table.play(run, &op);
         if let (Op::Start { comp, run: started, args }, Reply::Ok) = (op, reply) {
             self.starts[usize::from(started)] = Some((comp, args));
+            words[usize::from(started)].store(self.table.local(comp) as u8, Ordering::SeqCst);
         }
         self.history.push(Entry { run, op, reply });
+        if matches!(op, Op::Stop(_) | Op::Kill(_) | Op::Finish) || matches!(reply, Reply::Fault(_)) {
+            self.close_words(words);
+        }
         reply
+    }
+
+    /// Closes the word of each run that was halted, and takes its verdict into the table.
+    fn close_words(&mut self, words: &[AtomicU8]) {
+        for (run, word) in (0u16..).zip(words) {
+            if word.load(Ordering::SeqCst) < CLOSED && !self.table.is_active(run) {
+                let found = word.fetch_or(CLOSED, Ordering::SeqCst);
+                self.table.take_verdict(run, Verdict::of_rank(found));
+            }
+        }
     }
 }
 
 struct Shared {
+    words: Vec<AtomicU8>,
     book: Mutex<Book>,
     changed: Condvar,
 }
@@ -35,11 +57,12 @@ impl Shared {
         let mut starts = vec![None; behaviours];
         starts[0] = Some((0, Args::default()));
         let book = Book { table: Table::new(behaviours), history: Vec::new(), starts };
-        Shared { book: Mutex::new(book), changed: Condvar::new() }
+        let words = (0..behaviours).map(|run| AtomicU8::new(if run == 0 { 0 } else { UNBEGUN })).collect();
+        Shared { words, book: Mutex::new(book), changed: Condvar::new() }
     }
 
     fn record(&self, run: u16, op: Op) -> Reply {
-        let reply = self.book.lock().unwrap().record(run, op);
+        let reply = self.book.lock().unwrap().record(&self.words, run, op);
         self.changed.notify_all();
         reply
     }
@@ -48,7 +71,7 @@ impl Shared {
     fn wake(&self, run: u16, killed: bool, target: Target) -> Reply {
         let book = self.book.lock().unwrap();
         let mut book = self.changed.wait_while(book, |book| book.table.would_park(run, killed, target)).unwrap();
-        let reply = book.record(run, Op::Wake { killed, target });
+        let reply = book.record(&self.words, run, Op::Wake { killed, target });
         drop(book);
         self.changed.notify_all();
         reply
@@ -109,6 +132,17 @@ impl Pass<'_> {
         }
     }
 
+    fn set_verdict(&mut self, verdict: Verdict) {
+        let found = self.shared.words[usize::from(self.run)].fetch_max(verdict as u8, Ordering::SeqCst);
+        self.log(Op::SetVerdict(verdict), if found < CLOSED { Reply::Ok } else { Reply::Ended });
+    }
+
+    fn get_verdict(&mut self) {
+        let found = self.shared.words[usize::from(self.run)].load(Ordering::SeqCst);
+        let reply = if found < CLOSED { Reply::Local(Verdict::of_rank(found)) } else { Reply::Ended };
+        self.log(Op::GetVerdict, reply);
+    }
+
     fn wait(&mut self, killed: bool, target: Target) {
         let op = Op::Wait { killed, target };
         let mut reply = self.shared.record(self.run, op);
@@ -137,8 +171,8 @@ impl Pass<'_> {
             Step::Ask(Status::Done, place) => self.call(Op::Done(self.target(*place))),
             Step::Ask(Status::Killed, place) => self.call(Op::Killed(self.target(*place))),
             Step::Wait { killed, target } => self.wait(*killed, self.target(*target)),
-            Step::SetVerdict(verdict) => self.call(Op::SetVerdict(*verdict)),
-            Step::GetVerdict => self.call(Op::GetVerdict),
+            Step::SetVerdict(verdict) => self.set_verdict(*verdict),
+            Step::GetVerdict => self.get_verdict(),
         }
     }
 
@@ -177,9 +211,50 @@ fn work(shared: &Shared, run: u16, steps: &[Step]) -> Option<RunLog> {
     Some(pass.run(steps))
 }
 
+fn is_verdict_call(op: &Op) -> bool {
+    matches!(op, Op::SetVerdict(_) | Op::GetVerdict)
+}
+
+/// Moves the verdict entries at the head of what is left of a log, up to one that was replied Ended.
+fn put_head(all: &mut Vec<Entry>, rest: &mut &[Entry]) {
+    while let [first, others @ ..] = *rest {
+        if !is_verdict_call(&first.op) || first.reply == Reply::Ended {
+            break;
+        }
+        all.push(*first);
+        *rest = others;
+    }
+}
+
+/// The history with the verdict entries of the logs.
+fn merged(history: &[Entry], behaviours: usize, logs: &[RunLog]) -> Vec<Entry> {
+    let logged: usize = logs.iter().map(|log| log.entries.len()).sum();
+    let mut all = Vec::with_capacity(history.len() + logged);
+    let mut rests: Vec<&[Entry]> = vec![&[]; behaviours];
+    for log in logs {
+        rests[usize::from(log.run)] = &log.entries;
+    }
+    put_head(&mut all, &mut rests[0]);
+    for entry in history {
+        all.push(*entry);
+        if entry.reply != Reply::Parked {
+            let rest = &mut rests[usize::from(entry.run)];
+            *rest = rest.get(1..).unwrap_or(&[]);
+            put_head(&mut all, rest);
+        }
+        if let (Op::Start { run, .. }, Reply::Ok) = (entry.op, entry.reply) {
+            put_head(&mut all, &mut rests[usize::from(run)]);
+        }
+    }
+    for rest in rests {
+        all.extend_from_slice(rest);
+    }
+    all
+}
+
 pub fn run_case(behaviours: &[Behaviour]) -> Report {
     let shared = Shared::new(behaviours.len());
-    let logs = thread::scope(|scope| {
+    let logs: Vec<_> = thread::scope(|scope| {
         let shared = &shared;
         let workers: Vec<_> = (1u16..)
             .zip(&behaviours[1..])
@@ -190,5 +265,6 @@ pub fn run_case(behaviours: &[Behaviour]) -> Report {
         std::iter::once(first).chain(others).flatten().collect()
     });
     let Book { table, history, .. } = shared.book.into_inner().unwrap();
+    let history = merged(&history, behaviours.len(), &logs);
     Report { history, logs, locals: table.locals().collect(), verdict: table.overall() }
 }

@@ -165,6 +165,21 @@ impl Table {
         if killed { self.is_killed(target) } else { self.is_done(target) }
     }
 
+    pub fn is_active(&self, run: u16) -> bool {
+        self.active(run).is_some()
+    }
+
+    pub fn local(&self, comp: u32) -> Verdict {
+        self.comps[comp as usize].local
+    }
+
+    /// Takes in the verdict of a run that was halted.
+    pub fn take_verdict(&mut self, run: u16, verdict: Verdict) {
+        if let Some(comp) = self.comp_of(run) {
+            self.give(comp as usize, verdict);
+        }
+    }
+
     fn active(&self, run: u16) -> Option<usize> {
         let comp = self.comp_of(run)? as usize;
         (self.comps[comp].phase == Phase::Running(run)).then_some(comp)

@@ -2,22 +2,13 @@
 use std::sync::Wait;
 use tc_book::{Halt, Pass};
 use tc_entry::{Args, Run, Target, UserVerdict};
-use tc_exec::{Back, Ending};
-
-/// Hands a pass back after these calls.
-fn hand_back(pass: Pass, made: Result<(), Halt>) -> Back {
-    let ending = match made {
-        Err(Halt::NoMemory) => Ending::Starved,
-        Ok(()) | Err(Halt::Ended) | Err(Halt::Fault(_)) => Ending::Returned,
-    };
-    Back { pass, ending }
-}
+use tc_exec::Back;
 
 /// The behaviour of run 0: it creates a component, starts run 1 on it, and sets pass once that is done.
 pub(crate) fn lead<R: Wait>(rt: &R, pass: Pass) -> Back {
     let mut pass = pass;
     let made = lead_calls(rt, &mut pass);
-    hand_back(pass, made)
+    Back::after(pass, made)
 }
 
 fn lead_calls<R: Wait>(rt: &R, pass: &mut Pass) -> Result<(), Halt> {
@@ -26,14 +17,14 @@ fn lead_calls<R: Wait>(rt: &R, pass: &mut Pass) -> Result<(), Halt> {
     args.push(pass.me());
     pass.start(rt, probe, Run(1), &args)?;
     pass.wait_done(rt, Target::One(probe))?;
-    pass.set_verdict(rt, UserVerdict::Pass)
+    pass.set_verdict(UserVerdict::Pass)
 }
 
 /// The behaviour of run 1: it sets inconc if the component that is its argument is running.
 pub(crate) fn probe<R: Wait>(rt: &R, pass: Pass) -> Back {
     let mut pass = pass;
     let made = probe_calls(rt, &mut pass);
-    hand_back(pass, made)
+    Back::after(pass, made)
 }
 
 fn probe_calls<R: Wait>(rt: &R, pass: &mut Pass) -> Result<(), Halt> {
@@ -41,7 +32,7 @@ fn probe_calls<R: Wait>(rt: &R, pass: &mut Pass) -> Result<(), Halt> {
         return Ok(());
     };
     if pass.running(rt, Target::One(main))? {
-        pass.set_verdict(rt, UserVerdict::Inconc)?;
+        pass.set_verdict(UserVerdict::Inconc)?;
     }
     Ok(())
 }

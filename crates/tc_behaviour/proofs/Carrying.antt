@@ -11,6 +11,7 @@ use Rattle.tc_entry.specs.declared.op.Op.TheVariants as O
 use Rattle.tc_entry.specs.declared.reply.Fault.{Fault}
 use Rattle.tc_entry.specs.declared.reply.Reply.{Reply}
 use Rattle.tc_entry.specs.declared.reply.Reply.TheVariants as R
+use Rattle.tc_step.specs.declared.place.Place.{Place}
 use Rattle.tc_step.specs.declared.place.TargetPlace.{TargetPlace}
 use Rattle.tc_step.specs.declared.step.Step.{Step}
 use Rattle.tc_step.specs.declared.step.Step.TheVariants as S
@@ -42,6 +43,7 @@ args_same (S.Ask status t) bound p q r is = ap (λ x. x.args) is
 args_same (S.Wait killed t) bound p q r (inl is) = ap (λ x. x.args) is
 args_same (S.Wait killed t) bound p q r (inr is) = ap (λ x. x.args) is
 args_same (S.SetVerdict v) bound p q r is = ap (λ x. x.args) is
+args_same S.StopCase bound p q r is = ap (λ x. x.args) is
 args_same S.GetVerdict bound p q r is = ap (λ x. x.args) is
 
 binds_none : (s : Step) (r : Reply) (bound : List Comp) → creates s ≡ false → bound_behind s r bound ≡ bound
@@ -52,6 +54,7 @@ binds_none (S.Kill g) r bound is = refl
 binds_none (S.Ask status t) r bound is = refl
 binds_none (S.Wait killed t) r bound is = refl
 binds_none (S.SetVerdict v) r bound is = refl
+binds_none S.StopCase r bound is = refl
 binds_none S.GetVerdict r bound is = refl
 
 counts_none : (s : Step) (n : ℕ) → creates s ≡ false → count_after n s ≡ n
@@ -62,6 +65,7 @@ counts_none (S.Kill g) n is = refl
 counts_none (S.Ask status t) n is = refl
 counts_none (S.Wait killed t) n is = refl
 counts_none (S.SetVerdict v) n is = refl
+counts_none S.StopCase n is = refl
 counts_none S.GetVerdict n is = refl
 
 calls_plain : (s : Step) (bound : List Comp) (p q : PassState) (r : Reply) → waits s ≡ false → q ≡ added p (operation p.me bound s) r → Calls bound s p q r
@@ -72,6 +76,7 @@ calls_plain (S.Kill g) bound p q r other is = is
 calls_plain (S.Ask status t) bound p q r other is = is
 calls_plain (S.Wait killed t) bound p q r other is = absurd (cc)
 calls_plain (S.SetVerdict v) bound p q r other is = is
+calls_plain S.StopCase bound p q r other is = is
 calls_plain S.GetVerdict bound p q r other is = is
 
 -- a step that creates nothing
@@ -94,7 +99,7 @@ plain_step said s op made p q answer result call is same on quiet no-wait =
     (λ e. (e, refl))
 
 -- a wait
-pub wait_step : (killed : Bool) (t : TargetPlace) (made : List Comp) (p q : PassState) (answer : Result (Unit {0}) Halt) (result : Result (Unit {0}) NoMemory)
+pub wait_step : (killed : Bool) (t : TargetPlace (Place ℕ)) (made : List Comp) (p q : PassState) (answer : Result (Unit {0}) Halt) (result : Result (Unit {0}) NoMemory)
     → IsWait killed (target p.me (p.args ++ made) t) p q answer → is_ok result ≡ not (is_refused answer) → has_ended p ≡ false
     → Carried (IsStepped (S.Wait killed t) (p.args ++ made) p (q.args ++ made) q) ((q ≡ p) × (made ≡ made)) result
 wait_step killed t made p q answer result wait is on =

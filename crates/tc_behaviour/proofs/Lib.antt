@@ -1,2 +1,5 @@
+-- The lemmas of this crate.
 pub mod Carrying
 pub mod Running
+pub mod Giving
+pub mod Spelled

@@ -34,6 +34,7 @@ calls_grow (S.Wait killed t) bound p q r (inr is) =
     let wake = entry_of p.run (O.Wake killed (target p.me bound t)) r in
     (wait ∷ wake ∷ [], is ∙ ap (with_log p) (append_assoc p.log (wait ∷ []) (wake ∷ [])))
 calls_grow (S.SetVerdict v) bound p q r is = (entry_of p.run (O.SetVerdict v) r ∷ [], is)
+calls_grow S.StopCase bound p q r is = (entry_of p.run O.StopCase r ∷ [], is)
 calls_grow S.GetVerdict bound p q r is = (entry_of p.run O.GetVerdict r ∷ [], is)
 
 pub grown_none : (p : PassState) → HasGrown p p
@@ -45,7 +46,7 @@ grown steps start _ _ _ (one_more s left bound before after reply called on call
     grown_more start before after (grown steps start (s ∷ left) bound before called) (calls_grow s bound before after reply calls)
 
 pub run_grown : (steps : List Step) (start now : PassState) (how : _) → IsRun steps start now how → HasGrown start now
-run_grown steps start now how run = grown steps start run.0 run.1 now run.2
+run_grown steps start now how run = grown steps start run.left run.bound now run.called
 
 pub so_far_none : (steps : List Step) (start : PassState) (bound : List Comp) → bound ≡ start.args → AreBound (length start.args) steps → IsSoFar steps start steps bound start
 so_far_none steps start bound is are = rw is (record { called = none; bound = λ on. are })
@@ -65,15 +66,20 @@ ends_returned true = refl
 ends_returned false = refl
 
 pub run_ended : (steps : List Step) (start : PassState) (left : List Step) (comps : List Comp) (now : PassState) → IsSoFar steps start left comps now → has_ended now ≡ true → IsRun steps start now E.Returned
-run_ended steps start left comps now so is = (left, comps, so.called, sym (ap (λ b. ending b left) is))
+run_ended steps start left comps now so is = record { left = left; bound = comps; called = so.called; ending_is = sym (ap (λ b. ending b left) is) }
 
 pub run_whole : (steps : List Step) (start : PassState) (left : List Step) (comps : List Comp) (now : PassState) → IsSoFar steps start left comps now → left ≡ [] → IsRun steps start now E.Returned
-run_whole steps start left comps now so is = (left, comps, so.called, sym (ap (ending (has_ended now)) is ∙ ends_returned (has_ended now)))
+run_whole steps start left comps now so is = record { left = left; bound = comps; called = so.called; ending_is = sym (ap (ending (has_ended now)) is ∙ ends_returned (has_ended now)) }
 
 pub run_starved : (steps : List Step) (start : PassState) (now left : List Step) (s : Step) (comps : List Comp) (mid new : PassState)
     → IsSoFar steps start now comps mid → now ≡ s ∷ left → has_ended mid ≡ false → new ≡ mid → IsRun steps start new E.Starved
 run_starved steps start now left s comps mid new so at on same =
-    (now, comps, subst (HasCalled steps start now comps) (sym same) so.called, sym (ap (λ b. ending b now) (ap has_ended same ∙ on) ∙ ap (ending false) at))
+    record {
+      left = now;
+      bound = comps;
+      called = subst (HasCalled steps start now comps) (sym same) so.called;
+      ending_is = sym (ap (λ b. ending b now) (ap has_ended same ∙ on) ∙ ap (ending false) at);
+    }
 
 pub step_at : (steps : List Step) (i : ℕ) (d : Step) → i < length steps → drop i steps ≡ get_or steps i d ∷ drop (i + 1) steps
 step_at steps i d lt = let e : i + 1 ≡ suc i = omega arith in rw e (drop-cons steps i d lt)

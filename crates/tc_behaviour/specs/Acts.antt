@@ -12,3 +12,8 @@ pub record Acts (s : ScriptView) (before : PassState) (b : Back) : Type 0 where
   pub other_count : length before.args ≢ s.parameters → (b.pass ≡ before) × (b.ending ≡ E.Returned)
   pub calls : length before.args ≡ s.parameters → IsRun s.steps before b.pass b.ending
   pub grown : HasGrown before b.pass
+
+-- what a script hands back for a pass with as many arguments as it has parameters: it has made the calls of its steps, as far as they go
+pub record MakesItsCalls (s : ScriptView) (before : PassState) (b : Back) : Type 0 where
+  pub as_many : length before.args ≡ s.parameters
+  pub calls : IsRun s.steps before b.pass b.ending

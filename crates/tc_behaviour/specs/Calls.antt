@@ -1,5 +1,5 @@
 -- What the steps of a script call, and the pass that comes of it.
-use Rattle.std.specs.Prelude.{◌≡◌, ◌++◌, ◌∷◌, [], Bool, false, List, map, slice_index_or}
+use Rattle.std.specs.Prelude.{ℕ, ◌≡◌, ◌++◌, ◌∷◌, [], Bool, false, List, map, slice_index_or}
 use Rattle.tc_entry.specs.declared.comp.Comp.{Comp}
 use Rattle.tc_entry.specs.declared.entry.Entry.{Entry}
 use Rattle.tc_entry.specs.declared.op.Op.{Op}
@@ -29,20 +29,23 @@ abbrev pub main : Comp
 main = record { 0 = 0 }
 
 -- the component that a place names, by the behaviour's own component and those that are bound; a script names none but these
-abbrev pub component : Comp → List Comp → Place → Comp
+abbrev pub component : Comp → List Comp → Place ℕ → Comp
 component me bound P.Main = main
 component me bound P.Own = me
 component me bound (P.Bound k) = slice_index_or bound k main
 
-abbrev pub group : Comp → List Comp → GroupPlace → Group
+-- the group that a step names, with the component of its place
+abbrev pub group : Comp → List Comp → GroupPlace (Place ℕ) → Group
 group me bound (G.One p) = OnGroup.One (component me bound p)
 group me bound G.All = OnGroup.All
 
-abbrev pub target : Comp → List Comp → TargetPlace → Target
+-- the target that a step names, with the component of its place
+abbrev pub target : Comp → List Comp → TargetPlace (Place ℕ) → Target
 target me bound (T.One p) = OnTarget.One (component me bound p)
 target me bound T.Any = OnTarget.Any
 target me bound T.All = OnTarget.All
 
+-- the operation that asks for a status
 abbrev pub question : Status → Target → Op
 question Asks.Running t = O.Running t
 question Asks.Alive t = O.Alive t
@@ -58,6 +61,7 @@ operation me bound (S.Kill g) = O.Kill (group me bound g)
 operation me bound (S.Ask status t) = question status (target me bound t)
 operation me bound (S.Wait killed t) = O.Wait killed (target me bound t)
 operation me bound (S.SetVerdict v) = O.SetVerdict v
+operation me bound S.StopCase = O.StopCase
 operation me bound S.GetVerdict = O.GetVerdict
 
 -- a step's call was replied so: it added its one entry, or, if it is a wait that was parked, the entry and one Wake
@@ -83,10 +87,16 @@ abbrev pub ending : Bool → List Step → Ending
 ending false (s ∷ left) = E.Starved
 ending _ _ = E.Returned
 
--- the pass is that of the calls of some first steps, and the behaviour came back with the ending of these
-abbrev pub IsRun : List Step → PassState → PassState → Ending → Type 0
-IsRun steps before after how =
-    (left : List Step) × (bound : List Comp) × HasCalled steps before left bound after × (how ≡ ending (has_ended after) left)
+-- some first steps were called, from one pass to the other, and the behaviour came back so
+pub record IsRun (steps : List Step) (before after : PassState) (how : Ending) : Type 0 where
+  -- the steps that were not called
+  pub left : List Step
+  -- the components that are bound then
+  pub bound : List Comp
+  -- the steps before these were called, in order
+  pub called : HasCalled steps before left bound after
+  -- how it came back goes by whether the pass has ended, and by whether steps are left
+  pub ending_is : how ≡ ending (has_ended after) left
 
 -- the run, its component and its arguments are the same, and the log has grown
 abbrev pub HasGrown : PassState → PassState → Type 0

@@ -1,5 +1,5 @@
 -- What the functions inside of a run say, which no public clause names.
-use Rattle.std.specs.Prelude.{◌≡◌, Bool, true, false, List, Result, Ok, Err, length}
+use Rattle.std.specs.Prelude.{◌≡◌, ◌++◌, Bool, true, false, List, Result, Ok, Err, length}
 use Rattle.tc_verdict.specs.declared.memory.NoMemory.{NoMemory}
 use Rattle.tc_entry.specs.declared.comp.Comp.{Comp}
 use Rattle.tc_entry.specs.declared.reply.Reply.{Reply}
@@ -36,6 +36,12 @@ pub record IsStepped (s : Step) (bound : List Comp) (before : PassState) (bound-
   pub called : Calls bound s before after reply
   pub binds : bound-new ≡ bound_behind s reply bound
   pub counts : has_ended after ≡ false → length bound-new ≡ count_after (length bound) s
+
+-- the call of a step, on this pass and where these components were made before: it was carried out, and the pass and what was made are
+-- those behind it; or memory was refused, and nothing changed
+abbrev pub IsCarriedOut : Step → PassState → List Comp → PassState → List Comp → Result (Unit {0}) NoMemory → Type 0
+IsCarriedOut s before made after made-new result =
+    Carried (IsStepped s (before.args ++ made) before (after.args ++ made-new) after) ((after ≡ before) × (made-new ≡ made)) result
 
 -- the calls up to the steps that are left: they are bound, unless the pass has ended
 pub record IsSoFar (steps : List Step) (start : PassState) (left : List Step) (comps : List Comp) (now : PassState) : Type 0 where

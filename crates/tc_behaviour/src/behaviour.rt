@@ -8,8 +8,8 @@ ghost use Rattle.tc_behaviour.specs.Inside.{ending_of};
 use crate::call::call;
 use std::alloc::Global;
 use std::sync::Wait;
-use tc_book::Pass;
-use tc_exec::{Back, Ending};
+use tc_book::{Halt, Pass};
+use tc_exec::Back;
 use tc_step::Script;
 use tc_verdict::NoMemory;
 
@@ -53,15 +53,9 @@ impl Behaviour for Script {
     fn run<R: Wait>(self, rt: &R, alloc: Global, pass: Pass) -> Back {
         let mut pass = pass;
         if pass.args().len() != self.parameters() {
-            return Back {
-                pass,
-                ending: Ending::Returned,
-            };
+            return Back::after(pass, Ok(()));
         }
-        let ending = match make_calls(rt, alloc, &self, &mut pass) {
-            Ok(()) => Ending::Returned,
-            Err(NoMemory) => Ending::Starved,
-        };
-        Back { pass, ending }
+        let made = make_calls(rt, alloc, &self, &mut pass);
+        Back::after(pass, made.map_err(|_| Halt::NoMemory))
     }
 }

@@ -5,7 +5,7 @@ ghost use Rattle.tc_book.specs.Passes.{has_ended, IsCall, IsWait};
 ghost use Rattle.tc_step.specs.declared.step.Step.TheVariants as steps;
 ghost use Rattle.tc_step.specs.Steps.{IsBound, places};
 ghost use Rattle.tc_behaviour.specs.Calls.{question};
-ghost use Rattle.tc_behaviour.specs.Inside.{is_refused, Carried, IsStepped};
+ghost use Rattle.tc_behaviour.specs.Inside.{is_refused, IsCarriedOut};
 
 use crate::bound::{arguments, component, group, target};
 use std::sync::Wait;
@@ -32,7 +32,7 @@ fn create<R: Wait>(
     alive: bool,
 ) -> Result<(), NoMemory>
     requires { has_ended pass.old ≡ false }
-    ensures { Carried (IsStepped (steps.Create alive) (pass.old.args ++ made.old.items) pass.old (pass.new.args ++ made.new.items) pass.new) ((pass.new ≡ pass.old) × (made.new.items ≡ made.old.items)) result }
+    ensures { IsCarriedOut (steps.Create alive) pass.old made.old.items pass.new made.new.items result }
 {
     if made.reserve(1).is_err() {
         return Err(NoMemory);
@@ -79,7 +79,7 @@ pub(crate) fn call<R: Wait>(
 ) -> Result<(), NoMemory>
     requires not_ended { has_ended pass.old ≡ false }
     requires bound { All (IsBound (length (pass.old.args ++ made.old.items))) (places step.now) }
-    ensures { Carried (IsStepped step.now (pass.old.args ++ made.old.items) pass.old (pass.new.args ++ made.new.items) pass.new) ((pass.new ≡ pass.old) × (made.new.items ≡ made.old.items)) result }
+    ensures { IsCarriedOut step.now pass.old made.old.items pass.new made.new.items result }
 {
     match step {
         Step::Create { alive } => create(rt, pass, made, *alive),
@@ -107,7 +107,8 @@ pub(crate) fn call<R: Wait>(
             let target = target(pass, made, *named);
             carried_out(wait(rt, pass, *killed, target))
         }
-        Step::SetVerdict(value) => carried_out(pass.set_verdict(rt, *value)),
-        Step::GetVerdict => carried_out(pass.get_verdict(rt)),
+        Step::StopCase => carried_out(pass.stop_case(rt)),
+        Step::SetVerdict(value) => carried_out(pass.set_verdict(*value)),
+        Step::GetVerdict => carried_out(pass.get_verdict()),
     }
 }

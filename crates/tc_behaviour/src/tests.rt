@@ -1,3 +1,4 @@
+//! Scripts as they are run on a pass and in a case.
 ghost use Rattle.std.specs.Prelude.{◌≡◌, []};
 
 use super::*;
@@ -265,6 +266,17 @@ fn a_run_that_stops_itself(rt: HostRuntime) -> Result<(), Fail> {
     let back = script(&rt, 0, steps).run(&rt, alloc, pass);
     assert_eq!(rt; back.ending, Ending::Returned);
     assert!(rt; has_logged(&back, Run(0), &[(Op::Stop(Group::One(Comp(0))), Reply::Ok)]));
+    Ok(())
+}
+
+#[test]
+fn stop_of_a_case(rt: HostRuntime) -> Result<(), Fail> {
+    let alloc = rt.alloc();
+    let (_, pass, _) = open_case(alloc, 1)?;
+    let steps = vec![in alloc; Step::StopCase, Step::SetVerdict(UserVerdict::Pass)]?;
+    let back = script(&rt, 0, steps).run(&rt, alloc, pass);
+    assert_eq!(rt; back.ending, Ending::Returned);
+    assert!(rt; has_logged(&back, Run(0), &[(Op::StopCase, Reply::Ok)]));
     Ok(())
 }
 

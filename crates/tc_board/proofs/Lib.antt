@@ -1,3 +1,4 @@
+-- The lemmas of this crate.
 pub mod Lookup
 pub mod Numbers
 pub mod Answers
@@ -5,3 +6,4 @@ pub mod Rows
 pub mod HandSteps
 pub mod KeeperSteps
 pub mod NewBoard
+pub mod RuleLaws

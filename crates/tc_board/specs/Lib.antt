@@ -1,6 +1,8 @@
+-- The definitions that the contracts of this crate cite.
 pub mod Answers
 pub mod Rule
 pub mod Hand
 pub mod Keeper
 pub mod Board
 pub mod Inside
+pub mod Laws

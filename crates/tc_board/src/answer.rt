@@ -1,3 +1,4 @@
+//! What a hand was answered.
 use tc_verdict::UserVerdict;
 
 /// What a call of a hand was answered.

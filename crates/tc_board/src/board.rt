@@ -1,4 +1,6 @@
+//! The board: a word for each run, its keeper and the hands.
 ghost use Rattle.std.specs.Prelude.{◌≡◌, ◌≤◌, IfOk};
+ghost use Rattle.tc_entry.specs.declared.limits.TheConstants.{BEHAVIOURS};
 
 use crate::hand::Hand;
 use crate::keeper::Keeper;
@@ -32,7 +34,7 @@ impl Board {
     /// hand has met it; every other word is unbegun.
     pub fn new(alloc: Global, n: u16) -> Result<(Board, Keeper, Vec<Hand>), NoMemory>
         requires some { 1 ≤ n }
-        requires most { n ≤ 64 }
+        requires most { n ≤ BEHAVIOURS }
         ensures keeper { IfOk result (λ r. r.1 ≡ new_keeper r.0 n) }
         ensures hands { IfOk result (λ r. r.2.items ≡ new_hands r.0 0 n) }
     {

@@ -1,3 +1,4 @@
+//! The hand of a run, which sets and gets its verdict.
 ghost use Rattle.std.specs.Prelude.{◌≡◌, ◌≢◌, [], true, MatchBool};
 ghost use Rattle.tc_board.specs.declared.answer.Answer.TheVariants.{Met};
 

@@ -1,3 +1,4 @@
+//! The keeper, which opens and closes the words.
 ghost use Rattle.std.specs.Prelude.{◌≡◌, Contains, slice_get};
 ghost use Rattle.tc_verdict.specs.UserVerdict.{given};
 ghost use Rattle.tc_board.specs.declared.answer.AnswerList.{AnswerList};

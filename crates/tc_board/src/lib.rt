@@ -5,6 +5,7 @@ mod answer;
 mod board;
 mod hand;
 mod keeper;
+pub mod laws;
 mod record;
 mod rule;
 mod steps;

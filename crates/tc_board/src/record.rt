@@ -1,3 +1,4 @@
+//! What the keeper did with a word.
 use tc_verdict::UserVerdict;
 
 /// What the keeper did with a word.

@@ -1,3 +1,4 @@
+//! The rule of the board, as its table of atomic words sees it.
 use crate::answer::AnswerList;
 use crate::record::Record;
 use atomic_table::{Seat, TableRule};

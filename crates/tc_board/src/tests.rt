@@ -1,3 +1,4 @@
+//! Hands and a keeper on threads of their own.
 ghost use Rattle.std.specs.Prelude.{◌≡◌, ◌≢◌, []};
 ghost use Rattle.tc_board.specs.Keeper.{IsOpen};
 

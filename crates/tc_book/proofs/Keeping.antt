@@ -1,7 +1,18 @@
 -- Rules for what a book keeps, at the opening and after one more entry.
-use Rattle.std.proofs.Common.{ℕ, ◌≡◌, ◌≤◌, List, [], ◌∷◌, ◌++◌, length, reverse, replicate}
+use Rattle.std.proofs.Common.{ℕ, ◌≡◌, ◌≤◌, ◌∙◌, sym, Option, None, List, [], ◌∷◌, ◌++◌, length, reverse, replicate}
 use Rattle.std.proofs.lemmas.List.{reverse-append, length-replicate}
+use Rattle.tc_entry.specs.declared.limits.TheConstants.{BEHAVIOURS}
+use Rattle.tc_verdict.specs.declared.run.Run.{Run}
+use Rattle.tc_verdict.specs.declared.user_verdict.UserVerdict.{UserVerdict}
+use Rattle.tc_entry.specs.declared.comp.Comp.{Comp}
 use Rattle.tc_entry.specs.declared.entry.Entry.{Entry}
+use Rattle.tc_entry.specs.declared.op.Op.{Op}
+use Rattle.tc_entry.specs.declared.reply.Reply.{Reply}
+use Rattle.tc_board.specs.declared.record.Record.{Record}
+use Rattle.tc_table.specs.Case.{Case, past_of}
+use Rattle.tc_words.specs.Words.{AreTold, earlier, carried_to, carried_to_newest}
+use Rattle.tc_book.specs.declared.places.Places.{Places}
+use Rattle.tc_book.specs.Inside.{IsKept, start_at}
 use Rattle.tc_book.specs.OpenCase.{opening_place}
 use Rattle.tc_book.proofs.Totals.{total_opening, total_bound, one_at_most, total_set, no_place_beyond}
 use Rattle.tc_book.proofs.Suits.{answer_suits}
@@ -10,7 +21,36 @@ use Rattle.tc_book.proofs.Starting.{starts_below}
 pub past_more : (h : List Entry) (e : Entry) → reverse (h ++ e ∷ []) ≡ e ∷ reverse h
 past_more h e = reverse-append h (e ∷ [])
 
-pub opening_len : (n : ℕ) → n ≤ 64 → length (replicate n opening_place) ≤ 64
+pub opening_len : (n : ℕ) → n ≤ BEHAVIOURS → length (replicate n opening_place) ≤ BEHAVIOURS
 opening_len n few = rw (length-replicate n opening_place) few
+
+pub kept_at_opening : (n m : ℕ) (h : List Entry) (started : List (Option (Comp × List Comp))) (places : List Places) (count room : ℕ) (words : List Record) →
+    m ≡ n → h ≡ [] → 1 ≤ n → n ≤ BEHAVIOURS → length started ≡ n → ((b : ℕ) → start_at started b ≡ None) → places ≡ replicate n opening_place → count ≡ n → count ≤ room → AreTold n [] words →
+    IsKept m (reverse h) started places count room words
+kept_at_opening n m h started places count room words same none some few as_many none_started are counted covered told =
+    rw (same, none, are) (record {
+      some = some;
+      few = few;
+      legal = tt;
+      as_many_starts = as_many;
+      each_start = none_started;
+      few_places = opening_len n few;
+      counted = counted ∙ sym (total_opening n);
+      covered = covered;
+      others = tt;
+      told = told;
+    })
+
+abbrev entry : Run → Op → Reply → Entry
+entry caller op reply = record { caller = caller; op = op; reply = reply }
+
+-- the words before an entry were told by the entries before it
+pub told_before : (t t' : Case) (words : List Record) (caller : Run) (op : Op) (reply : Reply) → t'.behaviours ≡ t.behaviours → t'.history ≡ t.history ++ entry caller op reply ∷ [] →
+    AreTold t.behaviours (past_of t) words → AreTold t'.behaviours (earlier (past_of t')) words
+told_before t t' words caller op reply same added told = rw (same, added, reverse-append t.history (entry caller op reply ∷ [])) told
+
+pub carried_before : (t t' : Case) (words : List Record) (caller : Run) (op : Op) (reply : Reply) (u : UserVerdict) → t'.history ≡ t.history ++ entry caller op reply ∷ [] →
+    u ≡ carried_to words (past_of t) op → u ≡ carried_to_newest words (past_of t')
+carried_before t t' words caller op reply u added is = rw (added, reverse-append t.history (entry caller op reply ∷ [])) is
 
 pub ruleset book_rules = (total_opening, total_bound, one_at_most, total_set, no_place_beyond, answer_suits, past_more, starts_below, opening_len)

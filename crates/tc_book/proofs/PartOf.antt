@@ -1,5 +1,5 @@
 -- The part of a history by a run, and what a run left.
-use Rattle.std.proofs.Common.{reverse, add-one, ◌+◌, length, take, get_or, ◌<◌, arith, zero, suc, ◌++◌, slice_index_or, ◌≡◌, ◌↔◌, ℕ, ◌==◌, if◌then◌else◌, option_map, Bool, true, false, Option, Some, None, List, [], ◌∷◌, refl, sym, ap, ◌∙◌}
+use Rattle.std.proofs.Common.{zero, suc, ◌++◌, slice_index_or, ◌≡◌, ℕ, ◌==◌, if◌then◌else◌, option_map, Bool, true, false, Option, Some, None, List, [], ◌∷◌, refl, sym, ap, ◌∙◌}
 use Rattle.tc_entry.specs.declared.comp.Comp.{Comp}
 use Rattle.tc_entry.specs.declared.entry.Entry.{Entry}
 use Rattle.tc_entry.specs.declared.op.Op.{Op}
@@ -7,12 +7,8 @@ use Rattle.tc_entry.specs.declared.op.Op.TheVariants as O
 use Rattle.tc_table.specs.History.{comp_of, first_some, is_ok, starts_run}
 use Rattle.tc_book.specs.Starts.{starts_with, start_of}
 use Rattle.tc_book.specs.Inside.{comp_by}
-use Rattle.std.specs.List.{All}
-use Rattle.tc_book.specs.Closing.{IsFitting}
-use Rattle.tc_book.specs.Passes.{LeftState}
 use Rattle.tc_book.specs.Parts.{part, is_by}
-use Rattle.std.proofs.Math.Seq.{take-suc}
-use Rattle.tc_book.specs.Inside.{start_at, IsKnown, KnowsStarts, KnowsParts}
+use Rattle.tc_book.specs.Inside.{start_at, KnowsStarts}
 
 with_comp : (op : Op) (b : ℕ) → starts_run op b ≡ option_map (λ s. s.0) (starts_with op b)
 with_comp (O.Start c run args) b = by_test (run.0 == b)
@@ -64,33 +60,3 @@ part_end (x ∷ h) e b = by_test (x.caller.0 == b) (part_end h e b)
         (if t then x ∷ part (h ++ e ∷ []) b else part (h ++ e ∷ []) b) ≡ (if t then x ∷ part h b else part h b) ++ (if is_by b e then e ∷ [] else [])
     by_test true more = ap (λ l. x ∷ l) more
     by_test false more = more
-
-pub no_part : (parts : List (List Entry)) (b : ℕ) → slice_index_or parts b [] ≡ [] → slice_index_or parts b [] ≡ part [] b
-unfolding part
-no_part parts b none = none
-
--- the parts of one entry more
-pub parts_more : (parts more : List (List Entry)) (h : List Entry) (i : ℕ) (e : Entry) → i < length h → e ≡ get_or h i e → length more ≡ length parts →
-    ((b : ℕ) → b < length parts → slice_index_or more b [] ≡ slice_index_or parts b [] ++ (if is_by b e then e ∷ [] else [])) →
-    KnowsParts parts (take i h) → KnowsParts more (take (i + 1) h)
-parts_more parts more h i e inside here as_many added known b below =
-    let before : b < length parts = omega (arith, as_many) in
-    let next : take (i + 1) h ≡ take i h ++ (e ∷ []) = rw add-one (take-suc h i e inside) ∙ ap (λ x. take i h ++ (x ∷ [])) (sym here) in
-    added b before ∙ ap (λ l. l ++ (if is_by b e then e ∷ [] else [])) (known b before) ∙ sym (part_end (take i h) e b) ∙ ap (λ l. part l b) (sym next)
-
-fits : (starts : List (Option (Comp × List Comp))) (parts : List (List Entry)) (h : List Entry) (l : LeftState) → KnowsStarts starts (reverse h) → KnowsParts parts h →
-    l.run.0 < length parts → IsKnown starts parts l ↔ IsFitting h l
-fits starts parts h l known parts_known within =
-    let part_is = parts_known l.run.0 within in
-    let comp = comp_known starts (reverse h) l.run.0 known in (
-      (λ w. record { part = w.part ∙ part_is; started = λ some. w.started some ∙ known l.run.0; unstarted = λ none. w.unstarted (comp ∙ none) }),
-      (λ w. record { part = w.part ∙ sym part_is; started = λ some. w.started some ∙ sym (known l.run.0); unstarted = λ none. w.unstarted (sym comp ∙ none) }),
-    )
-
--- what fits the starts and the parts of a history fits the history
-pub known_fitting : (starts : List (Option (Comp × List Comp))) (parts : List (List Entry)) (h : List Entry) (lefts : List LeftState) → KnowsStarts starts (reverse h) → KnowsParts parts h →
-    All (λ l. l.run.0 < length parts) lefts → All (IsKnown starts parts) lefts ↔ All (IsFitting h) lefts
-known_fitting starts parts h lefts known parts_known within = (
-  (λ w k d q. (fits starts parts h (get_or lefts k d) known parts_known (within k d q)).0 (w k d q)),
-  (λ w k d q. (fits starts parts h (get_or lefts k d) known parts_known (within k d q)).1 (w k d q)),
-)

@@ -35,6 +35,7 @@ plain_suits past b (O.Create a) = refl
 plain_suits past b (O.Start c run args) = refl
 plain_suits past b (O.Stop g) = refl
 plain_suits past b (O.Kill g) = refl
+plain_suits past b O.StopCase = refl
 plain_suits past b (O.Running t) = refl
 plain_suits past b (O.Alive t) = refl
 plain_suits past b (O.Done t) = refl

@@ -1,11 +1,19 @@
 -- When a case may be closed: what came back is whole.
-use Rattle.std.specs.Prelude.{ℕ, ◌≡◌, ◌<◌, ◌==◌, [], Bool, true, None, List, length, reverse, All, count_by, sum_by}
+use Rattle.std.specs.Prelude.{ℕ, ◌≡◌, ◌<◌, ◌==◌, [], Bool, true, None, List, length, map, reverse, All, count_by, sum_by}
+use Rattle.tc_board.specs.declared.record.Record.{Record}
+use Rattle.tc_board.specs.declared.record.Record.TheVariants.{Unbegun}
 use Rattle.tc_entry.specs.declared.entry.Entry.{Entry}
 use Rattle.tc_table.specs.History.{comp_of, is_over}
+use Rattle.tc_table.specs.Legal.{IsLegal}
+use Rattle.tc_merge.specs.declared.run_log.RunLog.{RunLog}
+use Rattle.tc_merge.specs.Merge.{merge}
+use Rattle.tc_words.specs.Words.{record_at}
+use Rattle.tc_words.specs.Counting.{Counts}
 use Rattle.tc_book.specs.Passes.{LeftState}
 use Rattle.tc_book.specs.Starts.{start_of}
 use Rattle.tc_book.specs.Parts.{part}
 
+-- this was left of run b
 abbrev pub is_of_run : ℕ → LeftState → Bool
 is_of_run b l = l.run.0 == b
 
@@ -31,3 +39,28 @@ pub record IsWhole (n : ℕ) (history : List Entry) (lefts : List LeftState) : T
   pub fitting : All (IsFitting history) lefts
   -- the history is as long as the logs together
   pub as_long : length history ≡ sum_by (λ l. length l.log) lefts
+
+-- the log of a run that left; the merge asks for its run and its entries alone
+abbrev pub run_log : LeftState → RunLog
+run_log l = record { run = l.run; comp = record { 0 = 0 }; entries = l.log }
+
+-- the history of a case with the verdict entries of what its runs left
+abbrev pub merged : List Entry → List LeftState → List Entry
+merged history lefts = merge history (map run_log lefts)
+
+-- The word of a run agrees with the run's log. Where it was begun, it was closed, and its close counted what it was begun with
+-- and exactly the settings of the log that were replied Ok.
+abbrev pub Agrees : Record → List Entry → Type 0
+Agrees Unbegun log = Unit {0}
+Agrees word log = Counts word log
+
+-- the word of the run that left this agrees with its log
+pub record IsAgreed (words : List Record) (l : LeftState) : Type 0 where
+  pub agrees : Agrees (record_at words l.run.0) l.log
+
+-- the merged history is one that the component table would make, what came back is whole by it, and each run's word agrees
+-- with its log
+pub record IsMerged (n : ℕ) (history : List Entry) (words : List Record) (lefts : List LeftState) : Type 0 where
+  pub agreed : All (IsAgreed words) lefts
+  pub legal : IsLegal n (reverse (merged history lefts))
+  pub whole : IsWhole n (merged history lefts) lefts

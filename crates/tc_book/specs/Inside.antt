@@ -1,5 +1,6 @@
 -- What only the way a book is kept needs: no public clause names a word of this file.
-use Rattle.std.specs.Prelude.{ℕ, zero, suc, ◌++◌, ◌≡◌, ◌+◌, ◌≤◌, ◌<◌, ◌==◌, Bool, if◌then◌else◌, option_map, Option, Some, None, List, [], length, sum_by, slice_index_or}
+use Rattle.std.specs.Prelude.{ℕ, zero, suc, ◌++◌, ◌≡◌, ◌+◌, ◌≤◌, ◌<◌, ◌==◌, Bool, if◌then◌else◌, option_map, Option, Some, None, List, [], length, sum_by, slice_index_or, All}
+use Rattle.tc_entry.specs.declared.limits.TheConstants.{BEHAVIOURS}
 use Rattle.tc_entry.specs.declared.comp.Comp.{Comp}
 use Rattle.tc_entry.specs.declared.entry.Entry.{Entry}
 use Rattle.tc_entry.specs.declared.op.Op.{Op}
@@ -10,9 +11,14 @@ use Rattle.tc_merge.specs.declared.run_log.RunLog.{RunLog}
 use Rattle.tc_book.specs.declared.places.Places.{Places}
 use Rattle.tc_table.specs.Legal.{IsLegal}
 use Rattle.tc_book.specs.Parts.{part, log_of}
+use Rattle.tc_book.specs.Closing.{IsOneEach}
+use Rattle.tc_book.specs.OpenCase.{AreOthers}
+use Rattle.tc_words.specs.Words.{AreTold}
+use Rattle.tc_board.specs.declared.record.Record.{Record}
 use Rattle.tc_book.specs.Passes.{LeftState}
 use Rattle.tc_book.specs.Starts.{start_of}
 
+-- one where it is so
 abbrev pub one_if : Bool → ℕ
 one_if b = if b then 1 else 0
 
@@ -45,24 +51,31 @@ abbrev pub logs_from : List (Option (Comp × List Comp)) → List (List Entry) �
 logs_from starts parts zero = []
 logs_from starts parts (suc b) = logs_from starts parts b ++ log_of (comp_by b (start_at starts b)) b (slice_index_or parts b [])
 
--- what a run left is what these starts and these parts have of it
-pub record IsKnown (starts : List (Option (Comp × List Comp))) (parts : List (List Entry)) (l : LeftState) : Type 0 where
-  pub part : l.log ≡ slice_index_or parts l.run.0 []
+-- what a run left is what these starts have of it
+pub record IsPlaced (starts : List (Option (Comp × List Comp))) (l : LeftState) : Type 0 where
   pub started : 0 < l.run.0 → l.started ≡ start_at starts l.run.0
   pub unstarted : comp_by l.run.0 (start_at starts l.run.0) ≡ None → l.log ≡ []
+
+-- what came back is one of each run, as these starts have it
+pub record ArePlaced (n : ℕ) (starts : List (Option (Comp × List Comp))) (lefts : List LeftState) : Type 0 where
+  pub one_each : IsOneEach n lefts
+  pub each : All (IsPlaced starts) lefts
 
 -- a run that is started by this call is one of the first n
 abbrev pub StartsBelow : Op → Reply → ℕ → Type 0
 StartsBelow (O.Start c run args) R.Ok n = run.0 < n
 StartsBelow _ _ n = Unit {0}
 
--- what a book keeps: its history is legal, what it knows of starts is the history's, and there is room for every place
-pub record IsKept (n : ℕ) (past : List Entry) (starts : List (Option (Comp × List Comp))) (places : List Places) (count room : ℕ) : Type 0 where
+-- What a book keeps: its history is legal and has no entries of verdict calls, what it knows of starts is the history's, the
+-- words are told by it, and there is room for every place.
+pub record IsKept (n : ℕ) (past : List Entry) (starts : List (Option (Comp × List Comp))) (places : List Places) (count room : ℕ) (words : List Record) : Type 0 where
   pub some : 1 ≤ n
-  pub few : n ≤ 64
+  pub few : n ≤ BEHAVIOURS
   pub legal : IsLegal n past
   pub as_many_starts : length starts ≡ n
   pub each_start : KnowsStarts starts past
-  pub few_places : length places ≤ 64
+  pub few_places : length places ≤ BEHAVIOURS
   pub counted : count ≡ total places
   pub covered : count ≤ room
+  pub others : AreOthers past
+  pub told : AreTold n past words

@@ -1,10 +1,13 @@
+-- The definitions that the contracts of this crate cite.
 pub mod Replies
 pub mod Starts
 pub mod OpenCase
 pub mod Waking
 pub mod Passes
 pub mod Logs
+pub mod Hands
 pub mod Parts
 pub mod Report
 pub mod Closing
+pub mod Fault
 pub mod Inside

@@ -11,22 +11,27 @@ is_halt R.Ended = true
 is_halt (R.Fault f) = true
 is_halt _ = false
 
+-- the target of a wait does not hold yet
 abbrev pub is_parked : Reply → Bool
 is_parked R.Parked = true
 is_parked _ = false
 
+-- the new component is named
 abbrev pub is_made : Reply → Bool
 is_made (R.Made c) = true
 is_made _ = false
 
+-- yes or no is answered
 abbrev pub is_answer : Reply → Bool
 is_answer (R.Answer b) = true
 is_answer _ = false
 
+-- a local verdict is answered
 abbrev pub is_local : Reply → Bool
 is_local (R.Local v) = true
 is_local _ = false
 
+-- the call was made, and there is nothing to answer
 abbrev pub is_plain_ok : Reply → Bool
 is_plain_ok R.Ok = true
 is_plain_ok _ = false

@@ -1,12 +1,17 @@
 //! What the lock of a case holds.
-ghost use Rattle.std.specs.Prelude.{◌≡◌, ◌≤◌, ◌≢◌, [], Some, None, if◌then◌else◌, IfOk, OnErr, OnOk, IfSome, IfNone, OnSome, IsTrue, IsFalse, MatchOption, true, replicate, set};
+ghost use Rattle.std.specs.Prelude.{◌≡◌, ◌≤◌, ◌≢◌, [], Some, None, if◌then◌else◌, IfOk, OnErr, OnOk, IfSome, IfNone, OnSome, IsTrue, IsFalse, MatchOption, true, false, replicate, set};
+ghost use Rattle.tc_entry.specs.declared.limits.TheConstants.{BEHAVIOURS};
 ghost use Rattle.tc_entry.specs.declared.op.Op.TheVariants as ops;
 ghost use Rattle.tc_entry.specs.declared.reply.Reply.TheVariants as replies;
 ghost use Rattle.tc_table.specs.History as history;
 ghost use Rattle.tc_table.specs.Legal.{IsLegal};
-ghost use Rattle.tc_book.specs.OpenCase.{past_of, reply_to, with_entry, places_at, with_wake, without_wake, without_leave, opening_place};
+ghost use Rattle.tc_book.specs.OpenCase.{AreOthers, past_of, reply_to, with_entry, places_at, with_wake, without_wake, without_leave, opening_place};
 ghost use Rattle.tc_book.specs.Replies.{suits, is_parked};
 ghost use Rattle.tc_book.specs.Starts as starts;
+ghost use Rattle.tc_words.specs.Words.{record_at, AreTold};
+ghost use Rattle.tc_merge.specs.Merge.{is_verdict_call};
+ghost use Rattle.tc_board.specs.Board.{new_keeper};
+ghost use Rattle.std.specs.Arc.{arc_value};
 
 mod closing;
 mod waking;
@@ -15,20 +20,25 @@ use crate::places::{Places, places_of, put};
 use crate::starts::{no_starts, note_start, start_of};
 use std::alloc::Global;
 use std::marker::Model;
+use std::sync::Arc;
+use tc_board::{Board, Keeper, Record};
 use tc_entry::{Args, Comp, Op, Reply, Target};
 use tc_table::Table;
-use tc_verdict::{NoMemory, Run};
+use tc_verdict::{NoMemory, Run, UserVerdict};
+use tc_words::Words;
 
 /// What the lock of a case holds: the component table with its history, what each run was started with,
-/// and the places in the history that are kept for each run.
+/// the places in the history that are kept for each run, and what was done with the word of each run. The history has
+/// no entries of verdict calls.
 ///
-/// Contracts see the number of behaviours, the history and the places.
+/// Contracts see the number of behaviours, the history, the places and the words.
 #[derive(Drop)]
 pub struct Book {
     table: Table,
     starts: Vec<Option<(Comp, Args)>>,
     places: Vec<Places>,
     count: usize,
+    words: Words,
 }
 
 impl Model for Book {
@@ -38,17 +48,23 @@ impl Model for Book {
 
     ghost Value = { OpenCase };
 
-    ghost view = { λ b. record { behaviours = b.table.behaviours; history = b.table.history; places = b.places.items } };
+    ghost view = { λ b. record { behaviours = b.table.behaviours; history = b.table.history; places = b.places.items; words = b.words } };
 
-    ghost invariant = { λ b. IsKept b.table.behaviours (reverse b.table.history) b.starts.items b.places.items b.count b.table.room };
+    ghost invariant = { λ b. IsKept b.table.behaviours (reverse b.table.history) b.starts.items b.places.items b.count b.table.room b.words };
 }
 
 #[tactic(auto, using(crate::proofs::Keeping::book_rules))]
 impl Book {
-    /// The book of a case at its opening, which keeps a place for each run.
-    pub fn new(alloc: Global, behaviours: u16) -> Result<Book, NoMemory>
+    /// The book of a case at its opening, which keeps a place for each run and the words of a new board.
+    pub fn new(
+        alloc: Global,
+        behaviours: u16,
+        keeper: Keeper,
+        board: Arc<Board>,
+    ) -> Result<Book, NoMemory>
         requires some { 1 ≤ behaviours }
-        requires few { behaviours ≤ 64 }
+        requires few { behaviours ≤ BEHAVIOURS }
+        requires keeper { keeper ≡ new_keeper (arc_value board) behaviours }
         ensures behaviours { IfOk result (λ b. b.behaviours ≡ behaviours) }
         ensures opening { IfOk result (λ b. b.history ≡ []) }
         ensures places { IfOk result (λ b. b.places ≡ replicate behaviours opening_place) }
@@ -62,16 +78,20 @@ impl Book {
             wake: false,
         };
         let places = vec![in alloc; opening; count]?;
+        let words = Words::new(alloc, behaviours, keeper, board)?;
         Ok(Book {
             table,
             starts,
             places,
             count,
+            words,
         })
     }
 
-    /// Adds a call to the history, and answers its reply.
+    /// Adds a call to the history, and answers its reply. The word of a run that it starts is begun, and those of the runs
+    /// that it halts are closed.
     pub fn record(&mut self, run: Run, op: Op) -> Result<Reply, NoMemory>
+        requires other { is_verdict_call op ≡ false }
         ensures behaviours { self.new.behaviours ≡ self.old.behaviours }
         ensures reply { IfOk result (λ r. r ≡ reply_to self.old run op) }
         ensures suits { IfOk result (λ r. suits op r ≡ true) }
@@ -80,7 +100,9 @@ impl Book {
         ensures refused { OnErr result (self.new ≡ self.old) }
     {
         self.table.make_room(self.count + 2)?;
+        let carried = self.words.carried_to(&self.table, &op);
         let reply = self.table.play(run, op.copy())?;
+        self.words.follow(&self.table, carried);
         note_start(&mut self.starts, op, reply);
         if matches!(reply, Reply::Parked) {
             let now = Places {
@@ -111,6 +133,7 @@ impl Book {
         let Ok(reply) = self.table.play(run, op) else {
             unreachable!()
         };
+        self.words.follow(&self.table, UserVerdict::None);
         let now = Places {
             leave: was.leave,
             wake: false,
@@ -138,6 +161,7 @@ impl Book {
             let Ok(reply) = self.table.play(run, Op::Finish) else {
                 unreachable!()
             };
+            self.words.follow(&self.table, UserVerdict::None);
             Some(reply)
         };
         let now = Places {
@@ -154,6 +178,15 @@ impl Book {
         ensures legal { IsLegal self.now.behaviours (past_of self.now) }
     {
         start_of(&self.starts, run)
+    }
+
+    /// What was done with the word of a run.
+    pub fn word_of(&self, run: Run) -> Record
+        ensures word { result ≡ record_at self.now.words run.0 }
+        ensures told { AreTold self.now.behaviours (past_of self.now) self.now.words }
+        ensures others { AreOthers (past_of self.now) }
+    {
+        self.words.record_of(run)
     }
 
     /// The reply that a call would be given now.

@@ -1,18 +1,24 @@
 //! The opening and the close of a case.
-ghost use Rattle.std.specs.Prelude.{◌≡◌, ◌<◌, ◌≤◌, ◌+◌, ℕ, [], IfOk, length, slice_index_or};
+ghost use Rattle.std.specs.Prelude.{◌≡◌, ◌<◌, ◌≤◌, ◌+◌, ◌-◌, ℕ, [], IfOk, length, slice_index_or};
 ghost use Rattle.std.specs.Vec.{vec_len, vec_capacity};
+ghost use Rattle.std.specs.Arc.{arc_value};
+ghost use Rattle.tc_entry.specs.declared.limits.TheConstants.{BEHAVIOURS};
+ghost use Rattle.tc_board.specs.Board.{new_hands};
 ghost use Rattle.tc_verdict.specs.declared.run.Run.{Run};
 ghost use Rattle.tc_book.specs.Closing.{IsWhole};
 ghost use Rattle.tc_book.specs.Report.{IsOneHistory};
 
+use crate::book::Book;
 use crate::closed::{CloseFault, Closed};
 use crate::left::Left;
 use crate::log::Log;
 use crate::pass::Pass;
+use crate::run_hand::RunHand;
 use crate::shared::Shared;
 use crate::ticket::Ticket;
-use std::alloc::Global;
-use std::sync::Wait;
+use std::alloc::{AllocError, Global};
+use std::sync::{Arc, Wait};
+use tc_board::{Board, Hand};
 use tc_entry::{Args, Comp, Entry};
 use tc_verdict::{NoMemory, Run};
 
@@ -24,23 +30,43 @@ fn place(alloc: Global) -> Result<Vec<Entry>, NoMemory>
     Vec::with_capacity(alloc, 1).map_err(|_| NoMemory)
 }
 
-fn ticket_of(alloc: Global, shared: &Shared, run: Run) -> Result<Ticket, NoMemory>
-    requires { 0 < run.0 }
+fn another(board: &Arc<Board>) -> Result<Arc<Board>, NoMemory>
+    ensures { IfOk result (λ b. arc_value b ≡ arc_value board.now) }
+{
+    match Arc::try_clone(board) {
+        Ok(board) => Ok(board),
+        Err(AllocError) => Err(NoMemory),
+    }
+}
+
+fn ticket_of(alloc: Global, shared: &Shared, run: Run, hand: RunHand) -> Result<Ticket, NoMemory>
+    requires above { 0 < run.0 }
+    requires run { hand.run ≡ run.0 }
+    requires answers { hand.answers ≡ [] }
     ensures { IfOk result (λ t. t ≡ run) }
 {
     let log = place(alloc)?;
-    Ok(Ticket::new(shared.another()?, run, log))
+    Ok(Ticket::new(shared.another()?, run, log, hand))
 }
 
-/// The tickets of all runs but run 0.
-fn tickets_of(alloc: Global, shared: &Shared, behaviours: u16) -> Result<Vec<Ticket>, NoMemory>
-    requires { 1 ≤ behaviours }
+/// The tickets of all runs but run 0, with their hands.
+fn tickets_of(
+    alloc: Global,
+    shared: &Shared,
+    board: &Arc<Board>,
+    mut hands: Vec<Hand>,
+    behaviours: u16,
+) -> Result<Vec<Ticket>, NoMemory>
+    requires some { 1 ≤ behaviours }
+    requires hands { hands.items ≡ new_hands (arc_value board.now) 1 (behaviours - 1) }
     ensures count { IfOk result (λ v. length v.items + 1 ≡ behaviours) }
     ensures tickets { IfOk result (λ v. (k : ℕ) (d : Run) → k + 1 < behaviours → (slice_index_or v.items k d).0 ≡ k + 1) }
 {
     let mut tickets = Vec::new(alloc);
     for k in 1..behaviours {
-        tickets.push(ticket_of(alloc, shared, Run(k))?)?;
+        let hand = hands.remove(0);
+        let hand = RunHand::new(another(board)?, hand);
+        tickets.push(ticket_of(alloc, shared, Run(k), hand)?)?;
     }
     Ok(tickets)
 }
@@ -48,15 +74,22 @@ fn tickets_of(alloc: Global, shared: &Shared, behaviours: u16) -> Result<Vec<Tic
 /// Opens a case of so many behaviours: its shared book, the pass of run 0, and the tickets of the other runs.
 pub fn open_case(alloc: Global, behaviours: u16) -> Result<(Shared, Pass, Vec<Ticket>), NoMemory>
     requires some { 1 ≤ behaviours }
-    requires few { behaviours ≤ 64 }
+    requires few { behaviours ≤ BEHAVIOURS }
     ensures pass { IfOk result (λ r. r.1 ≡ record { run = record { 0 = 0 }; me = record { 0 = 0 }; args = []; log = [] }) }
     ensures count { IfOk result (λ r. length r.2.items + 1 ≡ behaviours) }
     ensures tickets { IfOk result (λ r. (k : ℕ) (d : Run) → k + 1 < behaviours → (slice_index_or r.2.items k d).0 ≡ k + 1) }
 {
-    let shared = Shared::new(alloc, behaviours)?;
-    let log = Log::new(Run(0), Comp(0), place(alloc)?);
+    let (board, keeper, mut hands) = Board::new(alloc, behaviours)?;
+    let Ok(board) = Arc::new(alloc, board) else {
+        return Err(NoMemory);
+    };
+    let book = Book::new(alloc, behaviours, keeper, another(&board)?)?;
+    let shared = Shared::new(alloc, book, behaviours)?;
+    let hand = hands.remove(0);
+    let hand = RunHand::new(another(&board)?, hand);
+    let log = Log::new(Run(0), Comp(0), place(alloc)?, hand);
     let pass = Pass::new(shared.another()?, log, Args::new());
-    let tickets = tickets_of(alloc, &shared, behaviours)?;
+    let tickets = tickets_of(alloc, &shared, &board, hands, behaviours)?;
     Ok((shared, pass, tickets))
 }
 

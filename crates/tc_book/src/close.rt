@@ -1,13 +1,15 @@
 //! Whether what came back of a case is whole.
-ghost use Rattle.std.specs.Prelude.{◌≡◌, ◌↔◌, ℕ, ◌<◌, ◌≤◌, [], None, true, All, IsTrue, count_by, sum_by, length, reverse, slice_index_or};
-ghost use Rattle.tc_table.specs.History as table;
-ghost use Rattle.tc_book.specs.Inside.{IsKnown, KnowsStarts, KnowsParts};
-ghost use Rattle.tc_book.specs.Closing.{is_of_run, IsOneEach, IsWhole};
+ghost use Rattle.std.specs.Prelude.{◌≡◌, ◌↔◌, ℕ, ◌<◌, [], None, All, IsTrue, count_by};
+ghost use Rattle.tc_book.specs.Inside.{IsPlaced, ArePlaced};
+ghost use Rattle.tc_book.specs.Closing.{is_of_run, IsOneEach, Agrees, IsAgreed};
+ghost use Rattle.tc_book.specs.Parts.{logged};
 
 use crate::left::Left;
 use crate::starts::{comp_of, start_of};
-use tc_entry::{Args, Comp, Entry, Sequence};
-use tc_verdict::Run;
+use tc_board::Record;
+use tc_entry::{Args, Comp, Entry};
+use tc_merge::RunLog;
+use tc_words::{Words, counts};
 
 fn count_of(lefts: &[Left], run: u16) -> usize
     ensures { result ≡ count_by (is_of_run run) lefts.now }
@@ -44,33 +46,6 @@ fn is_one_each(lefts: &[Left], behaviours: u16) -> bool
     has_one_each(lefts, behaviours)
 }
 
-/// Whether two lists of entries are the same.
-fn are_same(entries: &[Entry], others: &[Entry]) -> bool
-    ensures { IsTrue result ↔ (entries.now ≡ others.now) }
-{
-    let mut rest = entries;
-    let mut more = others;
-    while let Some((entry, behind)) = rest.split_first() {
-        let Some((other, left)) = more.split_first() else {
-            return false;
-        };
-        if !entry.same(other) {
-            return false;
-        }
-        rest = behind;
-        more = left;
-    }
-    more.is_empty()
-}
-
-/// Whether a log is its run's part of the history.
-fn is_part(parts: &[Sequence<Entry>], run: Run, log: &[Entry]) -> bool
-    requires within { run.0 < length parts.now }
-    ensures { IsTrue result ↔ (log.now ≡ slice_index_or parts.now run.0 []) }
-{
-    are_same(log, parts[usize::from(run.0)].as_slice())
-}
-
 /// Whether the component and the arguments of a run above 0 are those of its start.
 fn is_started_so(left: &Left, start: &Option<(Comp, Args)>) -> bool
     ensures { IsTrue result ↔ (0 < left.now.run.0 → left.now.started ≡ start.now) }
@@ -85,39 +60,39 @@ fn is_silent_unstarted(left: &Left, comp: Option<Comp>) -> bool
     comp.is_some() || left.log().is_empty()
 }
 
-/// Whether what a run left fits what is known of starts and parts.
-fn is_fitting(starts: &[Option<(Comp, Args)>], parts: &[Sequence<Entry>], left: &Left) -> bool
-    requires within { left.now.run.0 < length parts.now }
-    ensures { IsTrue result ↔ IsKnown starts.now parts.now left.now }
+/// Whether what a run left fits what is known of starts.
+fn is_placed(starts: &[Option<(Comp, Args)>], left: &Left) -> bool
+    ensures { IsTrue result ↔ IsPlaced starts.now left.now }
 {
-    if !is_started_so(left, &start_of(starts, left.run())) {
-        return false;
-    }
-    if !is_silent_unstarted(left, comp_of(starts, left.run())) {
-        return false;
-    }
-    is_part(parts, left.run(), left.log())
+    is_started_so(left, &start_of(starts, left.run()))
+        && is_silent_unstarted(left, comp_of(starts, left.run()))
 }
 
-fn all_fitting(starts: &[Option<(Comp, Args)>], parts: &[Sequence<Entry>], lefts: &[Left]) -> bool
-    requires within { All (λ l. l.run.0 < length parts.now) lefts.now }
-    ensures { IsTrue result ↔ All (IsKnown starts.now parts.now) lefts.now }
+fn all_placed(starts: &[Option<(Comp, Args)>], lefts: &[Left]) -> bool
+    ensures { IsTrue result ↔ All (IsPlaced starts.now) lefts.now }
 {
     for left in lefts {
-        if !is_fitting(starts, parts, left) {
+        if !is_placed(starts, left) {
             return false;
         }
     }
     true
 }
 
+/// Whether one of each run came back, as it was started.
+pub(crate) fn are_placed(behaviours: u16, starts: &[Option<(Comp, Args)>], lefts: &[Left]) -> bool
+    ensures { IsTrue result ↔ ArePlaced behaviours starts.now lefts.now }
+{
+    is_one_each(lefts, behaviours) && all_placed(starts, lefts)
+}
+
 /// Whether the logs have so many entries together.
-fn have_together(lefts: &[Left], count: usize) -> bool
-    ensures { IsTrue result ↔ (count ≡ sum_by (λ l. length l.log) lefts.now) }
+pub(crate) fn have_together(logs: &[RunLog], count: usize) -> bool
+    ensures { IsTrue result ↔ (count ≡ logged logs.now) }
 {
     let mut rest = count;
-    for left in lefts {
-        let Some(less) = rest.checked_sub(left.log().len()) else {
+    for log in logs {
+        let Some(less) = rest.checked_sub(log.entries.as_slice().len()) else {
             return false;
         };
         rest = less;
@@ -125,27 +100,28 @@ fn have_together(lefts: &[Left], count: usize) -> bool
     rest == 0
 }
 
-/// Whether what came back is whole, by the history, what each run was started with, and each run's part.
-#[tactic(auto, using(crate::proofs::PartOf::known_fitting))]
-pub(crate) fn is_whole(
-    history: &[Entry],
-    over: bool,
-    starts: &[Option<(Comp, Args)>],
-    parts: &[Sequence<Entry>],
-    lefts: &[Left],
-) -> bool
-    requires over { over ≡ table.is_over (reverse history.now) }
-    requires starts { KnowsStarts starts.now (reverse history.now) }
-    requires parts { KnowsParts parts.now history.now }
-    requires few { length parts.now ≤ 64 }
-    ensures { IsTrue result ↔ IsWhole (length parts.now) history.now lefts.now }
+/// Whether the word of a run agrees with the run's log.
+fn agrees(word: Record, log: &[Entry]) -> bool
+    ensures { IsTrue result ↔ Agrees word log.now }
 {
-    let behaviours = parts.len() as u16;
-    if !over || !is_one_each(lefts, behaviours) {
-        return false;
+    matches!(word, Record::Unbegun) || counts(word, log)
+}
+
+/// Whether the word of a run that left agrees with its log.
+fn is_agreed(words: &Words, left: &Left) -> bool
+    ensures { IsTrue result ↔ IsAgreed words.now left.now }
+{
+    agrees(words.record_of(left.run()), left.log())
+}
+
+/// Whether the word of each run agrees with the log that came back.
+pub(crate) fn all_agreed(words: &Words, lefts: &[Left]) -> bool
+    ensures { IsTrue result ↔ All (IsAgreed words.now) lefts.now }
+{
+    for left in lefts {
+        if !is_agreed(words, left) {
+            return false;
+        }
     }
-    if !all_fitting(starts, parts, lefts) {
-        return false;
-    }
-    have_together(lefts, history.len())
+    true
 }

@@ -1,6 +1,12 @@
 //! The report of a closed case.
+ghost use Rattle.std.specs.Prelude.{◌≡◌, Some};
+ghost use Rattle.tc_book.specs.Fault.{close_text};
+
+use std::fmt;
 use tc_entry::{Entry, Sequence, Verdict};
 use tc_merge::RunLog;
+use tc_verdict::NoMemory;
+use thiserror::Error;
 
 /// The report of a closed case.
 #[derive(Drop)]
@@ -18,10 +24,30 @@ pub struct Closed {
 }
 
 /// Why a case was not closed.
-#[derive(Clone, Copy, PartialEq, Eq, Debug)]
+#[derive(Clone, Copy, PartialEq, Eq, Debug, Error)]
 pub enum CloseFault {
     /// What came back is not whole: not one of each run, the case not over, or a log that is not its run's part.
     Torn,
     /// Memory was refused.
     NoMemory,
+}
+
+impl CloseFault {
+    /// The words that name the fault.
+    pub fn text(self) -> &'static str
+        ensures { result.now ≡ close_text self }
+    {
+        match self {
+            CloseFault::Torn => "torn",
+            CloseFault::NoMemory => NoMemory.text(),
+        }
+    }
+}
+
+impl fmt::Display for CloseFault {
+    ghost output = { λ fault. Some (close_text fault) };
+
+    fn fmt<W: fmt::Write>(&self, f: &mut fmt::Formatter<W>) -> fmt::Result {
+        f.write_str(self.text())
+    }
 }

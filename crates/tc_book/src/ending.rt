@@ -32,7 +32,9 @@ pub(crate) fn ends_pass(own: Comp, entry: &Entry) -> bool
     match entry.reply {
         Reply::Ended | Reply::Fault(_) => true,
         _ => {
-            matches!(entry.op, Op::Finish) || is_end_of(&entry.op, 0) || is_end_of(&entry.op, own.0)
+            matches!(entry.op, Op::Finish | Op::StopCase)
+                || is_end_of(&entry.op, 0)
+                || is_end_of(&entry.op, own.0)
         }
     }
 }

@@ -1,7 +1,15 @@
+//! Why a call on a pass was not answered by its value.
+ghost use Rattle.std.specs.Prelude.{Some};
+ghost use Rattle.tc_book.specs.Fault.{halt_text};
+
+use std::fmt;
 use tc_entry::Fault;
+use tc_text::name_of_fault;
+use tc_verdict::NoMemory;
+use thiserror::Error;
 
 /// Why a call on a pass was not answered by its value.
-#[derive(Clone, Copy, PartialEq, Eq, Debug)]
+#[derive(Clone, Copy, PartialEq, Eq, Debug, Error)]
 pub enum Halt {
     /// The run has ended, or its component was halted.
     Ended,
@@ -9,4 +17,19 @@ pub enum Halt {
     Fault(Fault),
     /// Memory was refused: nothing was recorded, nothing has changed, and the call may be made again.
     NoMemory,
+}
+
+impl fmt::Display for Halt {
+    ghost output = { λ halt. Some (halt_text halt) };
+
+    fn fmt<W: fmt::Write>(&self, f: &mut fmt::Formatter<W>) -> fmt::Result {
+        match self {
+            Halt::Ended => f.write_str("ended"),
+            Halt::Fault(fault) => {
+                let name = name_of_fault(*fault);
+                write!(f, "error {name}")
+            }
+            Halt::NoMemory => NoMemory.fmt(f),
+        }
+    }
 }

@@ -1,8 +1,10 @@
 //! What a run leaves.
 ghost use Rattle.std.specs.Prelude.{◌≡◌, ◌↔◌, IsTrue, MatchOption, Some, None};
+ghost use Rattle.tc_book.specs.Closing.{run_log};
 
 use std::marker::Model;
-use tc_entry::{Args, Comp, Entry};
+use tc_entry::{Args, Comp, Entry, Sequence};
+use tc_merge::RunLog;
 use tc_verdict::Run;
 
 /// What a run leaves: its log, and what it was started with.
@@ -49,6 +51,17 @@ impl Left {
         match &self.started {
             Some((comp, args)) => Some((*comp, args.as_slice())),
             None => None,
+        }
+    }
+
+    /// The log, as the merge takes it.
+    pub(crate) fn into_run_log(self) -> RunLog
+        ensures { result ≡ run_log self }
+    {
+        RunLog {
+            run: self.run,
+            comp: Comp(0),
+            entries: Sequence::new(self.log),
         }
     }
 

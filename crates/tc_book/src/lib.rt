@@ -16,6 +16,7 @@ mod parts;
 mod pass;
 mod places;
 mod report;
+mod run_hand;
 mod shared;
 mod starts;
 mod ticket;

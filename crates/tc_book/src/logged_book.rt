@@ -1,21 +1,25 @@
 //! The book behind the lock. Whatever is added to its history is added to the log of its caller in the same call.
-ghost use Rattle.std.specs.Prelude.{◌≡◌, ◌≢◌, ◌≤◌, ◌+◌, [], true, false, IfOk, OnOk, OnErr, IfErr, IfSome, IfNone, IsTrue, IsFalse, Some, None, is_none, replicate, set, slice_index_or};
+ghost use Rattle.std.specs.Prelude.{◌≡◌, ◌≢◌, ◌≤◌, ◌+◌, [], true, false, IfOk, OnOk, OnErr, IfErr, IfSome, IfNone, OnSome, IsTrue, IsFalse, Some, None, is_none, replicate, set, slice_index_or};
 ghost use Rattle.tc_entry.specs.declared.op.Op.TheVariants as ops;
 ghost use Rattle.tc_entry.specs.declared.reply.Reply.TheVariants as replies;
 ghost use Rattle.tc_table.specs.History as history;
 ghost use Rattle.tc_book.specs.declared.closed.CloseFault.TheVariants as faults;
-ghost use Rattle.tc_book.specs.Closing.{IsWhole};
+ghost use Rattle.tc_book.specs.Closing.{IsWhole, IsMerged, merged};
 ghost use Rattle.tc_book.specs.Logs.{is_closed, with_own};
 ghost use Rattle.tc_book.specs.OpenCase.{past_of, places_at, reply_to, with_entry, without_leave, without_wake};
 ghost use Rattle.tc_book.specs.Replies.{suits};
 ghost use Rattle.tc_book.specs.Report.{IsOneHistory};
 ghost use Rattle.tc_book.specs.Starts as starts;
 ghost use Rattle.tc_book.specs.Waking.{NobodyWakes, wakes};
+ghost use Rattle.tc_merge.specs.Merge.{is_verdict_call};
+ghost use Rattle.tc_board.specs.Hand.{answered};
+ghost use Rattle.tc_board.specs.declared.answer.Answer.TheVariants.{Met};
 
 use crate::book::Book;
 use crate::closed::{CloseFault, Closed};
 use crate::left::Left;
 use crate::log::Log;
+use crate::run_hand::RunHand;
 use crate::until::Until;
 use crate::wake_up::WakeUp;
 use std::alloc::Global;
@@ -30,15 +34,11 @@ pub(crate) struct LoggedBook {
 }
 
 impl LoggedBook {
-    /// The book of a case at its opening, in which no run waits.
-    pub(crate) fn new(alloc: Global, behaviours: u16) -> Result<LoggedBook, NoMemory>
-        requires some { 1 ≤ behaviours }
-        requires few { behaviours ≤ 64 }
-        ensures behaviours { IfOk result (λ b. b.book.behaviours ≡ behaviours) }
-        ensures opening { IfOk result (λ b. b.book.history ≡ []) }
+    /// A book of a case of so many behaviours, in which no run waits.
+    pub(crate) fn new(alloc: Global, book: Book, behaviours: u16) -> Result<LoggedBook, NoMemory>
+        ensures book { IfOk result (λ b. b.book ≡ book) }
         ensures none { IfOk result (λ b. b.waiting.items ≡ replicate behaviours None) }
     {
-        let book = Book::new(alloc, behaviours)?;
         let waiting = vec![in alloc; None; usize::from(behaviours)]?;
         Ok(LoggedBook { book, waiting })
     }
@@ -74,6 +74,7 @@ impl LoggedBook {
     /// Adds a call of the log's run to the history and to the log, with the places for its Wake and the Finish.
     /// Answers its reply, and whom to wake.
     pub(crate) fn call(&mut self, op: Op, log: &mut Log) -> Result<(Reply, WakeUp), NoMemory>
+        requires other { is_verdict_call op ≡ false }
         requires going_on { is_closed log.old ≡ false }
         ensures run { log.new.run ≡ log.old.run }
         ensures own { log.new.own ≡ log.old.own }
@@ -151,14 +152,26 @@ impl LoggedBook {
         self.book.leave(run, true).is_some()
     }
 
-    /// What one that waits for a run's start is answered: its start, or none where the case is over without. Nothing while it waits on.
-    pub(crate) fn start_or_end(&mut self, run: Run) -> Option<Option<(Comp, Args)>>
+    /// What one that waits for a run's start is answered: its start, once its hand has met its word, or none where the case is
+    /// over without. Nothing while it waits on.
+    pub(crate) fn start_or_end(
+        &mut self,
+        run: Run,
+        hand: &mut RunHand,
+    ) -> Option<Option<(Comp, Args)>>
         ensures book { self.new.book ≡ self.old.book }
-        ensures waits { IfNone result ((starts.start_of (past_of self.old.book) run.0 ≡ None) × (history.is_over (past_of self.old.book) ≡ false)) }
+        ensures waits { IfNone result (starts.start_of (past_of self.old.book) run.0 ≡ None → history.is_over (past_of self.old.book) ≡ false) }
+        ensures unmet { IfNone result (hand.new ≡ hand.old) }
+        ensures met { IfSome result (λ s. OnSome s (hand.new ≡ answered hand.old Met)) }
         ensures answers { IfSome result (λ s. starts.IsAwaitedIn self.old.book.behaviours (past_of self.old.book) run.0 s) }
     {
         let start = self.book.start_of(run);
-        if start.is_some() || self.book.is_over() {
+        let goes_on = if start.is_some() {
+            hand.meet()
+        } else {
+            self.book.is_over()
+        };
+        if goes_on {
             self.note(run, None);
             Some(start)
         } else {
@@ -169,9 +182,10 @@ impl LoggedBook {
     /// Closes the case.
     pub(crate) fn close(&self, alloc: Global, lefts: Vec<Left>) -> Result<Closed, CloseFault>
         ensures whole { IfOk result (λ c. IsWhole c.behaviours c.history lefts.items) }
-        ensures torn { IfErr result (λ f. f ≡ faults.Torn → IsWhole self.now.book.behaviours self.now.book.history lefts.items → ⊥) }
+        ensures merged { IfOk result (λ _. IsMerged self.now.book.behaviours self.now.book.history self.now.book.words lefts.items) }
+        ensures torn { IfErr result (λ f. f ≡ faults.Torn → IsMerged self.now.book.behaviours self.now.book.history self.now.book.words lefts.items → ⊥) }
         ensures behaviours { IfOk result (λ c. c.behaviours ≡ self.now.book.behaviours) }
-        ensures history { IfOk result (λ c. c.history ≡ self.now.book.history) }
+        ensures history { IfOk result (λ c. c.history ≡ merged self.now.book.history lefts.items) }
         ensures report { IfOk result (λ c. IsOneHistory c) }
     {
         self.book.close(alloc, lefts)

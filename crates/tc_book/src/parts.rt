@@ -1,10 +1,13 @@
-//! The parts of a history by its runs.
-ghost use Rattle.std.specs.Prelude.{◌≡◌, ◌<◌, ◌++◌, ◌∷◌, ℕ, [], if◌then◌else◌, IfOk, OnOk, length, slice_index_or};
+//! The logs of a case by the numbers of their runs, and whether each is its run's part of a history.
+ghost use Rattle.std.specs.Prelude.{◌≡◌, ◌<◌, ◌++◌, ◌∷◌, ◌↔◌, ℕ, [], All, if◌then◌else◌, IfOk, IsTrue, IsFalse, List, length, slice_index_or};
+ghost use Rattle.tc_entry.specs.declared.entry.Entry.{Entry as AnyEntry};
+ghost use Rattle.tc_merge.specs.Merge.{log_of};
 ghost use Rattle.tc_book.specs.Inside.{KnowsParts};
 ghost use Rattle.tc_book.specs.Parts.{is_by};
 
 use std::alloc::Global;
 use tc_entry::{Entry, Sequence};
+use tc_merge::RunLog;
 use tc_verdict::NoMemory;
 
 // So many empty parts.
@@ -20,31 +23,73 @@ fn no_parts(alloc: Global, count: u16) -> Result<Vec<Sequence<Entry>>, NoMemory>
     Ok(parts)
 }
 
-// Adds an entry to its caller's part, if there is one.
-fn add_entry(parts: &mut Vec<Sequence<Entry>>, entry: &Entry) -> Result<(), NoMemory>
-    ensures len { length parts.new.items ≡ length parts.old.items }
-    ensures added { OnOk result ((b : ℕ) → b < length parts.old.items → slice_index_or parts.new.items b [] ≡ slice_index_or parts.old.items b [] ++ (if is_by b entry.now then entry.now ∷ [] else [])) }
-{
-    let caller = usize::from(entry.caller.0);
-    if caller < parts.len() {
-        parts[caller].push(entry.copy())?;
-    }
-    Ok(())
-}
-
-/// The part of the history by each of so many runs, made in one pass.
-#[tactic(auto, using(crate::proofs::PartOf::part_end))]
-pub(crate) fn parts_of(
+/// The log of each of so many runs, at the place of its number. No entry is copied.
+pub(crate) fn logs_by_run(
     alloc: Global,
-    history: &[Entry],
+    mut logs: Vec<RunLog>,
     behaviours: u16,
 ) -> Result<Vec<Sequence<Entry>>, NoMemory>
+    requires within { All (λ l. l.run.0 < behaviours) logs.items }
     ensures len { IfOk result (λ v. length v.items ≡ behaviours) }
-    ensures parts { IfOk result (λ v. KnowsParts v.items history.now) }
+    ensures each { IfOk result (λ v. (b : ℕ) → b < behaviours → slice_index_or v.items b [] ≡ log_of logs.items b) }
 {
     let mut parts = no_parts(alloc, behaviours)?;
-    for entry in history {
-        add_entry(&mut parts, entry)?;
+    while let Some(log) = logs.pop() {
+        let RunLog { run, entries, .. } = log;
+        parts[usize::from(run.0)] = entries;
     }
     Ok(parts)
+}
+
+/// What is left of each part at the beginning: all of it.
+fn rests_of(alloc: Global, parts: &[Sequence<Entry>]) -> Result<Vec<&[Entry]>, NoMemory>
+    ensures len { IfOk result (λ v. length v.items ≡ length parts.now) }
+    ensures each { IfOk result (λ v. (b : ℕ) (d : _) → b < length parts.now → (slice_index_or v.items b d).now ≡ slice_index_or parts.now b []) }
+{
+    let mut rests = Vec::new(alloc);
+    for part in parts {
+        rests.push(part.as_slice())?;
+    }
+    Ok(rests)
+}
+
+/// Whether the entry is the first of what is left of its caller's part; then it is taken off. A caller without a part is passed
+/// over.
+fn take_next(rests: &mut Vec<&[Entry]>, entry: &Entry) -> bool
+    ensures len { length rests.new.items ≡ length rests.old.items }
+    ensures taken { IsTrue result → (b : ℕ) (d : _) → b < length rests.old.items → (slice_index_or rests.old.items b d).now ≡ (if is_by b entry.now then entry.now ∷ [] else []) ++ (slice_index_or rests.new.items b d).now }
+    ensures other { IsFalse result → (entry.now.caller.0 < length rests.old.items) × ((d : _) (es : List AnyEntry) → (slice_index_or rests.old.items entry.now.caller.0 d).now ≡ entry.now ∷ es → ⊥) }
+{
+    let caller = usize::from(entry.caller.0);
+    if caller >= rests.len() {
+        return true;
+    }
+    let Some((first, rest)) = rests[caller].split_first() else {
+        return false;
+    };
+    rests[caller] = rest;
+    first.same(entry)
+}
+
+fn are_empty(rests: &[&[Entry]]) -> bool
+    ensures { IsTrue result ↔ All (λ r. r.now ≡ []) rests.now }
+{
+    rests.iter().all(|rest| rest.is_empty())
+}
+
+/// Whether each of these lists is its run's part of the history, found in one pass over both.
+pub(crate) fn are_parts(
+    alloc: Global,
+    parts: &[Sequence<Entry>],
+    history: &[Entry],
+) -> Result<bool, NoMemory>
+    ensures { IfOk result (λ yes. IsTrue yes ↔ KnowsParts parts.now history.now) }
+{
+    let mut rests = rests_of(alloc, parts)?;
+    for entry in history {
+        if !take_next(&mut rests, entry) {
+            return Ok(false);
+        }
+    }
+    Ok(are_empty(&rests))
 }

@@ -3,8 +3,10 @@ ghost use Rattle.std.specs.Prelude.{◌≡◌, ◌≤◌, [], true, false, IfOk,
 ghost use Rattle.tc_entry.specs.declared.op.Op.TheVariants as ops;
 ghost use Rattle.tc_entry.specs.declared.reply.Reply.{Reply};
 ghost use Rattle.tc_entry.specs.declared.reply.Reply.TheVariants as replies;
+ghost use Rattle.tc_book.specs.Hands.{IsHandOf};
 ghost use Rattle.tc_book.specs.Passes.{has_ended, added, By, IsCall, IsWait};
 ghost use Rattle.tc_book.specs.Replies.{suits, is_halt};
+ghost use Rattle.tc_merge.specs.Merge.{is_verdict_call};
 
 use crate::halt::Halt;
 use crate::left::Left;
@@ -12,10 +14,11 @@ use crate::log::Log;
 use crate::shared::Shared;
 use std::marker::Model;
 use std::sync::Wait;
+use tc_board::Hand;
 use tc_entry::{Args, Comp, Entry, Group, Op, Reply, Target};
 use tc_verdict::{NoMemory, Run, UserVerdict, Verdict};
 
-/// What the behaviour of a started run calls the case by, with the log of its calls.
+/// What the behaviour of a started run calls the case by, with the log of its calls and the run's hand on the verdict board.
 #[derive(Drop)]
 pub struct Pass {
     shared: Shared,
@@ -84,6 +87,14 @@ impl Pass {
         self.log.entries()
     }
 
+    /// The run's hand on the verdict board: it met the word of the run, and then had the answers of the log's verdict
+    /// entries, so no step on the word is without its entry, and no entry without its step.
+    pub fn hand(&self) -> &Hand
+        ensures { IsHandOf result.now self.now.run.0 self.now.log }
+    {
+        self.log.hand()
+    }
+
     /// Whether the run has ended: then each call is answered Ended, and nothing is recorded.
     pub fn is_ended(&self) -> bool
         ensures { result ≡ has_ended self.now }
@@ -93,6 +104,7 @@ impl Pass {
 
     /// Records a call and logs its entry.
     fn call<R: Wait>(&mut self, rt: &R, op: Op) -> Result<Reply, Halt>
+        requires other { is_verdict_call op ≡ false }
         ensures call { IsCall (λ r. r) op self.old self.new result }
         ensures plain { IfOk result (λ r. (is_halt r ≡ false) × (suits op r ≡ true)) }
     {
@@ -150,6 +162,17 @@ impl Pass {
         }
     }
 
+    /// Ends the test case with the verdict error (ES 201 873-1, the test case stop operation), as an end of the main
+    /// component does: all components are killed, and the caller's local verdict is error.
+    pub fn stop_case<R: Wait>(&mut self, rt: &R) -> Result<(), Halt>
+        ensures { IsCall (λ _. replies.Ok) ops.StopCase self.old self.new result }
+    {
+        match self.call(rt, Op::StopCase)? {
+            Reply::Ok => Ok(()),
+            _ => unreachable!(),
+        }
+    }
+
     /// Whether components are running (ES 201 873-1, the running operation).
     pub fn running<R: Wait>(&mut self, rt: &R, target: Target) -> Result<bool, Halt>
         ensures { IsCall replies.Answer (ops.Running target) self.old self.new result }
@@ -190,21 +213,34 @@ impl Pass {
         }
     }
 
-    /// Makes the caller's local verdict no better than this (ES 201 873-1, verdict operations).
-    pub fn set_verdict<R: Wait>(&mut self, rt: &R, value: UserVerdict) -> Result<(), Halt>
+    /// Makes the caller's local verdict no better than this (ES 201 873-1, verdict operations): one step on the word of the
+    /// run, without the lock.
+    pub fn set_verdict(&mut self, value: UserVerdict) -> Result<(), Halt>
         ensures { IsCall (λ _. replies.Ok) (ops.SetVerdict value) self.old self.new result }
     {
-        match self.call(rt, Op::SetVerdict(value))? {
+        if self.log.is_ended() {
+            return Err(Halt::Ended);
+        }
+        if self.log.make_room().is_err() {
+            return Err(Halt::NoMemory);
+        }
+        match heard(self.log.set_verdict(value))? {
             Reply::Ok => Ok(()),
             _ => unreachable!(),
         }
     }
 
-    /// The caller's local verdict (ES 201 873-1, verdict operations).
-    pub fn get_verdict<R: Wait>(&mut self, rt: &R) -> Result<Verdict, Halt>
+    /// The caller's local verdict (ES 201 873-1, verdict operations): one step on the word of the run, without the lock.
+    pub fn get_verdict(&mut self) -> Result<Verdict, Halt>
         ensures { IsCall replies.Local ops.GetVerdict self.old self.new result }
     {
-        match self.call(rt, Op::GetVerdict)? {
+        if self.log.is_ended() {
+            return Err(Halt::Ended);
+        }
+        if self.log.make_room().is_err() {
+            return Err(Halt::NoMemory);
+        }
+        match heard(self.log.get_verdict())? {
             Reply::Local(verdict) => Ok(verdict),
             _ => unreachable!(),
         }

@@ -1,6 +1,7 @@
 //! The places in the history that are kept for each run.
 ghost use Rattle.std.specs.Prelude.{◌≡◌, ◌+◌, ◌≤◌, set, length};
 ghost use Rattle.std.specs.Vec.{vec_len};
+ghost use Rattle.tc_entry.specs.declared.limits.TheConstants.{BEHAVIOURS};
 ghost use Rattle.tc_book.specs.OpenCase.{places_at};
 ghost use Rattle.tc_book.specs.Inside.{size_of, total};
 
@@ -36,7 +37,7 @@ pub(crate) fn places_of(all: &[Places], run: Run) -> Places
 #[tactic(auto, using(crate::proofs::Totals::total_bound, crate::proofs::Totals::one_at_most, crate::proofs::Totals::total_set, crate::proofs::Totals::no_place_beyond))]
 pub(crate) fn put(all: &mut Vec<Places>, count: usize, run: Run, now: Places) -> usize
     requires counted { count ≡ total all.old.items }
-    requires few { vec_len all.old ≤ 64 }
+    requires few { vec_len all.old ≤ BEHAVIOURS }
     ensures items { all.new.items ≡ set all.old.items run.0 now }
     ensures counted { result ≡ total all.new.items }
     ensures len { vec_len all.new ≡ vec_len all.old }

@@ -1,7 +1,10 @@
 //! The report of a case whose runs came back whole.
-ghost use Rattle.std.specs.Prelude.{◌≡◌, ◌≤◌, ℕ, ◌++◌, true, IfOk, OnOk, length, map};
+ghost use Rattle.std.specs.Prelude.{◌≡◌, ◌<◌, ◌≤◌, ◌++◌, true, IfOk, OnOk, List, length, map, reverse};
+ghost use Rattle.tc_entry.specs.declared.limits.TheConstants.{BEHAVIOURS};
 ghost use Rattle.tc_table.specs.History.{comps, is_over};
-ghost use Rattle.tc_table.specs.Case.{past_of};
+ghost use Rattle.tc_table.specs.Faults.{components};
+ghost use Rattle.tc_table.specs.Standing.{StandsFor};
+ghost use Rattle.tc_entry.specs.declared.entry.Entry.{Entry as AnyEntry};
 ghost use Rattle.tc_table.specs.Legal.{IsLegal};
 ghost use Rattle.tc_table.specs.Local as verdicts;
 ghost use Rattle.tc_book.specs.Inside.{KnowsStarts, KnowsParts, logs_from};
@@ -10,10 +13,10 @@ ghost use Rattle.tc_book.specs.Report.{IsOneHistory};
 
 use crate::closed::Closed;
 use crate::starts::comp_of;
-use std::alloc::{AllocError, Global};
+use std::alloc::Global;
 use tc_entry::{Args, Comp, Entry, Sequence, Verdict};
 use tc_merge::RunLog;
-use tc_table::Table;
+use tc_table::CaseState;
 use tc_verdict::{NoMemory, Run};
 
 /// Adds the log of a run, if it was started.
@@ -38,7 +41,7 @@ fn logs_of(
     starts: &[Option<(Comp, Args)>],
     parts: Vec<Sequence<Entry>>,
 ) -> Result<Vec<RunLog>, NoMemory>
-    requires few { length parts.items ≤ 64 }
+    requires few { length parts.items ≤ BEHAVIOURS }
     ensures { IfOk result (λ v. v.items ≡ logs_from starts.now parts.items (length parts.items)) }
 {
     let mut logs = Vec::new(alloc);
@@ -50,56 +53,56 @@ fn logs_of(
     Ok(logs)
 }
 
+/// The local verdict of a component; none where there is no such component.
+fn local_of(state: &CaseState, comp: u32) -> Verdict
+    ensures { (past : List AnyEntry) → StandsFor state.now past → comp < components past → result ≡ verdicts.local past comp }
+{
+    match state.local(Comp(comp)) {
+        Some(local) => local,
+        None => Verdict::None,
+    }
+}
+
 /// The local verdict of each component.
-#[tactic(auto, using(crate::proofs::Numbered::local_rules))]
-fn locals_of(alloc: Global, table: &Table) -> Result<Vec<Verdict>, NoMemory>
-    requires legal { IsLegal table.now.behaviours (past_of table.now) }
-    ensures { IfOk result (λ v. v.items ≡ map (verdicts.local (past_of table.now)) (comps (past_of table.now))) }
+fn locals_of(alloc: Global, state: &CaseState) -> Result<Vec<Verdict>, NoMemory>
+    ensures { (past : List AnyEntry) → StandsFor state.now past → IfOk result (λ v. v.items ≡ map (verdicts.local past) (comps past)) }
 {
     let mut locals = Vec::new(alloc);
-    for comp in 0..table.components() {
-        let Some(local) = table.local(Comp(comp)) else {
-            unreachable!()
-        };
-        locals.push(local)?;
+    for comp in 0..state.components() {
+        locals.push(local_of(state, comp))?;
     }
     Ok(locals)
 }
 
-fn copies(alloc: Global, history: &[Entry]) -> Result<Vec<Entry>, AllocError>
-    ensures { IfOk result (λ v. v.items ≡ history.now) }
-{
-    history.iter().map(|entry| entry.copy()).collect(alloc)
-}
-
-/// The report of a case that is over, where its logs have all its entries.
+/// The report of a case that is over, by its history and what is kept after it, where its logs have all its entries.
 #[tactic(auto, using(crate::proofs::Reporting::one_history, crate::proofs::Reporting::logs_known))]
 pub(crate) fn report(
     alloc: Global,
-    table: &Table,
+    state: &CaseState,
+    history: Vec<Entry>,
     starts: &[Option<(Comp, Args)>],
     parts: Vec<Sequence<Entry>>,
 ) -> Result<Closed, NoMemory>
-    requires behaviours { length parts.items ≡ table.now.behaviours }
-    requires few { length parts.items ≤ 64 }
-    requires legal { IsLegal table.now.behaviours (past_of table.now) }
-    requires starts { KnowsStarts starts.now (past_of table.now) }
-    requires parts { KnowsParts parts.items table.now.history }
-    requires over { is_over (past_of table.now) ≡ true }
-    requires as_long { length table.now.history ≡ logged (logs_below table.now.history (length parts.items)) }
-    ensures behaviours { IfOk result (λ c. c.behaviours ≡ table.now.behaviours) }
-    ensures history { IfOk result (λ c. c.history ≡ table.now.history) }
+    requires behaviours { length parts.items ≡ state.now.behaviours }
+    requires few { length parts.items ≤ BEHAVIOURS }
+    requires stands { StandsFor state.now (reverse history.items) }
+    requires legal { IsLegal state.now.behaviours (reverse history.items) }
+    requires starts { KnowsStarts starts.now (reverse history.items) }
+    requires parts { KnowsParts parts.items history.items }
+    requires over { is_over (reverse history.items) ≡ true }
+    requires as_long { length history.items ≡ logged (logs_below history.items (length parts.items)) }
+    ensures behaviours { IfOk result (λ c. c.behaviours ≡ state.now.behaviours) }
+    ensures history { IfOk result (λ c. c.history ≡ history.items) }
     ensures report { IfOk result (λ c. IsOneHistory c) }
 {
     let behaviours = parts.len() as u16;
     let logs = logs_of(alloc, starts, parts)?;
-    let locals = locals_of(alloc, table)?;
-    let history = copies(alloc, table.history())?;
+    let locals = locals_of(alloc, state)?;
     Ok(Closed {
         behaviours,
         history: Sequence::new(history),
         logs: Sequence::new(logs),
         locals: Sequence::new(locals),
-        verdict: table.overall(),
+        verdict: state.overall(),
     })
 }

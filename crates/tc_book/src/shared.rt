@@ -1,5 +1,5 @@
 //! The lock and the condition of a case: each entry is added in one hold.
-ghost use Rattle.std.specs.Prelude.{◌≡◌, ◌≢◌, ◌≤◌, ◌+◌, true, false, IfOk, OnOk, OnErr, IfSome, IfNone, is_none};
+ghost use Rattle.std.specs.Prelude.{◌≡◌, ◌≢◌, ◌≤◌, ◌+◌, true, false, IfOk, OnOk, OnErr, IfSome, IfNone, OnSome, is_none};
 ghost use Rattle.tc_entry.specs.declared.op.Op.TheVariants as ops;
 ghost use Rattle.tc_entry.specs.declared.reply.Reply.TheVariants as replies;
 ghost use Rattle.tc_book.specs.Replies.{suits};
@@ -7,12 +7,17 @@ ghost use Rattle.tc_book.specs.Closing.{IsWhole};
 ghost use Rattle.tc_book.specs.Report.{IsOneHistory};
 ghost use Rattle.tc_book.specs.Logs.{is_closed, with_own};
 ghost use Rattle.tc_book.specs.Starts.{IsAwaited};
+ghost use Rattle.tc_merge.specs.Merge.{is_verdict_call};
+ghost use Rattle.tc_board.specs.Hand.{answered};
+ghost use Rattle.tc_board.specs.declared.answer.Answer.TheVariants.{Met};
 
+use crate::book::Book;
 use crate::closed::{CloseFault, Closed};
 use crate::conditions::Conditions;
 use crate::left::Left;
 use crate::log::Log;
 use crate::logged_book::LoggedBook;
+use crate::run_hand::RunHand;
 use crate::until::Until;
 use std::alloc::{AllocError, Global};
 use std::sync::{Arc, Mutex, Wait};
@@ -32,13 +37,10 @@ pub struct Shared {
 }
 
 impl Shared {
-    /// The owner of the book of a case at its opening.
-    pub(crate) fn new(alloc: Global, behaviours: u16) -> Result<Shared, NoMemory>
-        requires some { 1 ≤ behaviours }
-        requires few { behaviours ≤ 64 }
-    {
+    /// The owner of a book of a case of so many behaviours, at its opening.
+    pub(crate) fn new(alloc: Global, book: Book, behaviours: u16) -> Result<Shared, NoMemory> {
         let held = Held {
-            book: Mutex::new(LoggedBook::new(alloc, behaviours)?),
+            book: Mutex::new(LoggedBook::new(alloc, book, behaviours)?),
             changed: Conditions::new(alloc, behaviours)?,
         };
         match Arc::new(alloc, held) {
@@ -57,6 +59,7 @@ impl Shared {
 
     /// Records a call of the log's run in the history and in the log, and tells each run that may go on by it.
     pub(crate) fn record<R: Wait>(&self, rt: &R, op: Op, log: &mut Log) -> Result<Reply, NoMemory>
+        requires other { is_verdict_call op ≡ false }
         requires going_on { is_closed log.old ≡ false }
         ensures run { log.new.run ≡ log.old.run }
         ensures own { log.new.own ≡ log.old.own }
@@ -126,13 +129,19 @@ impl Shared {
         }
     }
 
-    /// What a run was started with, once it was started; none once the case is over without.
-    pub(crate) fn await_start<R: Wait>(&self, rt: &R, run: Run) -> Option<(Comp, Args)>
-        ensures { IsAwaited run.0 result }
+    /// What a run was started with, once it was started and its hand has met its word; none once the case is over without.
+    pub(crate) fn await_start<R: Wait>(
+        &self,
+        rt: &R,
+        run: Run,
+        hand: &mut RunHand,
+    ) -> Option<(Comp, Args)>
+        ensures start { IsAwaited run.0 result }
+        ensures met { OnSome result (hand.new ≡ answered hand.old Met) }
     {
         let mut book = self.held.book.lock(rt);
         for _ in rt.forever() {
-            if let Some(start) = book.start_or_end(run) {
+            if let Some(start) = book.start_or_end(run, hand) {
                 return start;
             }
             book.wait_for(run, Until::Start);

@@ -6,6 +6,7 @@ ghost use Rattle.tc_book.specs.Starts.{IsAwaited};
 use crate::left::Left;
 use crate::log::Log;
 use crate::pass::Pass;
+use crate::run_hand::RunHand;
 use crate::shared::Shared;
 use std::marker::Model;
 use std::sync::Wait;
@@ -18,6 +19,7 @@ pub struct Ticket {
     shared: Shared,
     run: Run,
     log: Vec<Entry>,
+    hand: RunHand,
 }
 
 impl Model for Ticket {
@@ -29,17 +31,24 @@ impl Model for Ticket {
 
     ghost view = { λ t. t.run };
 
-    ghost invariant = { λ t. (0 < t.run.0) × (t.log.items ≡ []) × (vec_len t.log < vec_capacity t.log) };
+    ghost invariant = { λ t. (0 < t.run.0) × (t.log.items ≡ []) × (vec_len t.log < vec_capacity t.log) × (t.hand.run ≡ t.run.0) × (t.hand.answers ≡ []) };
 }
 
 impl Ticket {
-    pub(crate) fn new(shared: Shared, run: Run, log: Vec<Entry>) -> Ticket
+    pub(crate) fn new(shared: Shared, run: Run, log: Vec<Entry>, hand: RunHand) -> Ticket
+        requires run { hand.run ≡ run.0 }
+        requires answers { hand.answers ≡ [] }
         requires above { 0 < run.0 }
         requires empty { log.items ≡ [] }
         requires room { vec_len log < vec_capacity log }
         ensures { result ≡ run }
     {
-        Ticket { shared, run, log }
+        Ticket {
+            shared,
+            run,
+            log,
+            hand,
+        }
     }
 
     /// The run.
@@ -57,9 +66,14 @@ impl Ticket {
         ensures never_started { IfErr result (λ l. IsAwaited l.run.0 None) }
         ensures left { IfErr result (λ l. l ≡ record { run = self; log = []; started = None }) }
     {
-        let Ticket { shared, run, log } = self;
-        match shared.await_start(rt, run) {
-            Some((comp, args)) => Ok(Pass::new(shared, Log::new(run, comp, log), args)),
+        let Ticket {
+            shared,
+            run,
+            log,
+            mut hand,
+        } = self;
+        match shared.await_start(rt, run, &mut hand) {
+            Some((comp, args)) => Ok(Pass::new(shared, Log::new(run, comp, log, hand), args)),
             None => {
                 shared.give_up(rt, run);
                 Err(Left::new(run, log, None))

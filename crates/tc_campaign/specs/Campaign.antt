@@ -1,6 +1,8 @@
 -- Right results of a campaign.
 use Rattle.std.specs.Prelude.{ℕ, ◌≡◌, ◌<◌, ◌≤◌, ◌+◌, ◌-◌, ⊤, Option, List, All, IfSome, IsNone, IsSomeAnd, length, take, slice_get}
 use Rattle.std.specs.List.{AllZip}
+use Rattle.tc_entry.specs.Limits.{IsBehaviours}
+use Rattle.tc_entry.specs.declared.limits.TheConstants.{BEHAVIOURS}
 use Rattle.tc_verdict.specs.declared.verdict.Verdict.{Verdict}
 use Rattle.tc_book.specs.Passes.{PassState}
 use Rattle.tc_exec.specs.declared.refusal.CaseError.{CaseError}
@@ -30,7 +32,7 @@ IsReported c f = IsCaseReport (c.jobs) f.report
 
 -- a finished case has 1 to 64 behaviours
 abbrev pub HasBehaviours : Finished → Type 0
-HasBehaviours f = (1 ≤ f.report.behaviours) × (f.report.behaviours ≤ 64)
+HasBehaviours f = IsBehaviours f.report.behaviours
 
 -- the jobs of a finished case are those of this case: each of which the run was started was called, with a new pass of that run, and the report is
 -- made of what the passes that they handed back have logged
@@ -60,9 +62,9 @@ HasThreads threads f = f.report.behaviours ≤ threads + 1
 -- this case can be refused so
 abbrev pub IsRefusal : CaseError → Outline → Type 0
 IsRefusal C.NoBehaviours c = c.jobs ≡ 0
-IsRefusal C.TooManyBehaviours c = 64 < c.jobs
-IsRefusal C.NoThread c = (1 < c.jobs) × (c.jobs ≤ 64)
-IsRefusal C.Torn c = (1 ≤ c.jobs) × (c.jobs ≤ 64)
+IsRefusal C.TooManyBehaviours c = BEHAVIOURS < c.jobs
+IsRefusal C.NoThread c = (1 < c.jobs) × (c.jobs ≤ BEHAVIOURS)
+IsRefusal C.Torn c = IsBehaviours c.jobs
 IsRefusal C.NoMemory c = ⊤
 
 -- where the campaign was aborted, the next case can be refused so

@@ -1,5 +1,6 @@
 -- What the functions inside of a campaign say, which no public clause names.
 use Rattle.std.specs.Prelude.{ℕ, ◌≡◌, ◌≤◌, ◌++◌, ◌∷◌, [], Option, Result, Ok, Err, List, All}
+use Rattle.tc_entry.specs.declared.limits.TheConstants.{BEHAVIOURS}
 use Rattle.tc_book.specs.declared.closed.Closed.{Closed}
 use Rattle.std.specs.List.{AllZip}
 use Rattle.tc_verdict.specs.declared.verdict.Verdict.{Verdict}
@@ -17,7 +18,7 @@ use Rattle.tc_campaign.specs.Campaign.{IsOfCase, IsRefusal}
 pub record IsOf (c : Outline) (f : Finished) : Type 0 where
   pub names : IsOfCase c f
   pub report : IsCaseReport (c.jobs) f.report
-  pub few : (1 ≤ c.jobs) × (c.jobs ≤ 64)
+  pub few : (1 ≤ c.jobs) × (c.jobs ≤ BEHAVIOURS)
 
 -- a case was refused so
 pub record IsRefused (c : Outline) (ending : CampaignEnd) : Type 0 where

@@ -42,9 +42,9 @@ fn back(pass: Pass, made: Result<(), Halt>) -> Back {
     Back { pass, ending }
 }
 
-fn sets<R: Wait>(rt: &R, pass: Pass, verdict: UserVerdict) -> Back {
+fn sets(pass: Pass, verdict: UserVerdict) -> Back {
     let mut pass = pass;
-    let made = pass.set_verdict(rt, verdict);
+    let made = pass.set_verdict(verdict);
     back(pass, made)
 }
 
@@ -66,11 +66,11 @@ fn campaign_stops_on_fail(rt: HostRuntime) -> Result<(), Fail> {
     let alloc = rt.alloc();
     let called = Arc::new(alloc, AtomicU64::new(0))?;
     let theirs = Arc::try_clone(&called)?;
-    let a: Behaviour = Box::new(alloc, move |pass: Pass| sets(&rt, pass, UserVerdict::Pass))?;
-    let b: Behaviour = Box::new(alloc, move |pass: Pass| sets(&rt, pass, UserVerdict::Fail))?;
+    let a: Behaviour = Box::new(alloc, move |pass: Pass| sets(pass, UserVerdict::Pass))?;
+    let b: Behaviour = Box::new(alloc, move |pass: Pass| sets(pass, UserVerdict::Fail))?;
     let c: Behaviour = Box::new(alloc, move |pass: Pass| {
         theirs.store(1, Ordering::SeqCst);
-        sets(&rt, pass, UserVerdict::Pass)
+        sets(pass, UserVerdict::Pass)
     })?;
     let cases = vec![in alloc;
         case(alloc, "a", a)?,
@@ -127,9 +127,9 @@ aborted at t: no thread
 #[test]
 fn starved_job_aborts(rt: HostRuntime) -> Result<(), Fail> {
     let alloc = rt.alloc();
-    let a: Behaviour = Box::new(alloc, move |pass: Pass| sets(&rt, pass, UserVerdict::Pass))?;
+    let a: Behaviour = Box::new(alloc, move |pass: Pass| sets(pass, UserVerdict::Pass))?;
     let b: Behaviour = Box::new(alloc, move |pass: Pass| back(pass, Err(Halt::NoMemory)))?;
-    let c: Behaviour = Box::new(alloc, move |pass: Pass| sets(&rt, pass, UserVerdict::Pass))?;
+    let c: Behaviour = Box::new(alloc, move |pass: Pass| sets(pass, UserVerdict::Pass))?;
     let cases = vec![in alloc;
         case(alloc, "a", a)?,
         case(alloc, "b", b)?,
@@ -167,11 +167,8 @@ fn no_cases(rt: HostRuntime) -> Result<(), Fail> {
 #[test]
 fn last_case_meets_the_rule(rt: HostRuntime) -> Result<(), Fail> {
     let alloc = rt.alloc();
-    let a: Behaviour = Box::new(alloc, move |pass: Pass| sets(&rt, pass, UserVerdict::Pass))?;
-    let b: Behaviour = Box::new(
-        alloc,
-        move |pass: Pass| sets(&rt, pass, UserVerdict::Inconc),
-    )?;
+    let a: Behaviour = Box::new(alloc, move |pass: Pass| sets(pass, UserVerdict::Pass))?;
+    let b: Behaviour = Box::new(alloc, move |pass: Pass| sets(pass, UserVerdict::Inconc))?;
     let cases = vec![in alloc; case(alloc, "a", a)?, case(alloc, "b", b)?]?;
     let results = run_campaign(&rt, alloc, cases, Some(Verdict::Inconc), 0);
     let text = report(alloc, &results)?;
@@ -197,12 +194,9 @@ stopped after b
 #[test]
 fn worse_than_the_rule(rt: HostRuntime) -> Result<(), Fail> {
     let alloc = rt.alloc();
-    let a: Behaviour = Box::new(
-        alloc,
-        move |pass: Pass| sets(&rt, pass, UserVerdict::Inconc),
-    )?;
+    let a: Behaviour = Box::new(alloc, move |pass: Pass| sets(pass, UserVerdict::Inconc))?;
     let b: Behaviour = Box::new(alloc, move |pass: Pass| errs(&rt, pass))?;
-    let c: Behaviour = Box::new(alloc, move |pass: Pass| sets(&rt, pass, UserVerdict::Fail))?;
+    let c: Behaviour = Box::new(alloc, move |pass: Pass| sets(pass, UserVerdict::Fail))?;
     let cases = vec![in alloc;
         case(alloc, "a", a)?,
         case(alloc, "b", b)?,
@@ -233,7 +227,7 @@ stopped after b
 fn all_cases_without_a_rule(rt: HostRuntime) -> Result<(), Fail> {
     let alloc = rt.alloc();
     let a: Behaviour = Box::new(alloc, move |pass: Pass| errs(&rt, pass))?;
-    let b: Behaviour = Box::new(alloc, move |pass: Pass| sets(&rt, pass, UserVerdict::Pass))?;
+    let b: Behaviour = Box::new(alloc, move |pass: Pass| sets(pass, UserVerdict::Pass))?;
     let cases = vec![in alloc; case(alloc, "a", a)?, case(alloc, "b", b)?]?;
     let results = run_campaign(&rt, alloc, cases, None, 0);
     assert!(rt; matches!(results.ending, CampaignEnd::Complete));
@@ -252,7 +246,7 @@ fn all_cases_without_a_rule(rt: HostRuntime) -> Result<(), Fail> {
 #[test]
 fn refused_case_aborts(rt: HostRuntime) -> Result<(), Fail> {
     let alloc = rt.alloc();
-    let a: Behaviour = Box::new(alloc, move |pass: Pass| sets(&rt, pass, UserVerdict::Fail))?;
+    let a: Behaviour = Box::new(alloc, move |pass: Pass| sets(pass, UserVerdict::Fail))?;
     let none = Case {
         name: name("b")?,
         names: Vec::new(alloc),

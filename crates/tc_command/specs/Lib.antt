@@ -1,3 +1,4 @@
+-- The definitions that the contracts of this crate cite.
 pub mod Command
 pub mod Asked
 pub mod Lines

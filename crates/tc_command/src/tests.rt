@@ -137,3 +137,40 @@ fn no_words_at_all(rt: HostRuntime) -> Result<(), Fail> {
     );
     Ok(())
 }
+
+#[test]
+fn the_help_says_what_each_word_does(rt: HostRuntime) -> Result<(), Fail> {
+    let alloc = rt.alloc();
+    let lines = [
+        (
+            "ttrun --help",
+            "the component control runtime of a TTCN-3 test executor",
+        ),
+        (
+            "ttrun --help",
+            "runs the campaign of a script, and writes its report",
+        ),
+        (
+            "ttrun --help",
+            "replays histories, and says which are legal",
+        ),
+        (
+            "ttrun --help",
+            "replays a list of moves, and prints each reply and the overall verdict",
+        ),
+        ("ttrun run --help", "writes the report as CSV"),
+        ("ttrun run --help", "writes the histories of the test cases"),
+        ("ttrun run --help", "--stop-on <VERDICT>"),
+        (
+            "ttrun run --help",
+            "stops after a test case with this verdict, or a worse one",
+        ),
+    ];
+    for (line, part) in lines {
+        let words = words(alloc, line)?;
+        let help = read_task(alloc, words.as_slice()).err().ok_or("help")?;
+        let text = help.to_string(alloc)?;
+        assert!(rt; text.as_str().contains(part), "{line}: {text}");
+    }
+    Ok(())
+}

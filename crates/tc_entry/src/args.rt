@@ -1,25 +1,29 @@
+//! The arguments of a Start.
 ghost use Rattle.std.specs.Prelude.{◌≡◌, ◌<◌, ◌≤◌, [], ◌∷◌, ◌++◌, length, IsTrue, ◌↔◌};
 ghost use Rattle.std.specs.Bool.{OnTrue, OnFalse};
+ghost use Rattle.tc_entry.specs.declared.limits.TheConstants.{ARGUMENTS};
 
 use crate::comp::{Comp, same_comps};
+use crate::limits::ARGUMENTS;
 use arrayvec::ArrayVec;
 use std::marker::Model;
 
-/// The arguments of a Start: at most four components, held in place.
+/// The arguments of a Start: at most `ARGUMENTS` components, held in place.
 #[derive(PartialEq, Eq, Debug, Drop)]
 pub struct Args {
-    comps: ArrayVec<Comp, 4>,
+    comps: ArrayVec<Comp, ARGUMENTS>,
 }
 
 impl Model for Args {
     ghost use Rattle.std.specs.Prelude.{List, length, ◌≤◌};
     ghost use Rattle.tc_entry.specs.declared.comp.Comp.{Comp};
+    ghost use Rattle.tc_entry.specs.declared.limits.TheConstants.{ARGUMENTS};
 
     ghost Value = { List Comp };
 
     ghost view = { λ a. a.comps.items };
 
-    ghost invariant = { λ a. length a.comps.items ≤ 4 };
+    ghost invariant = { λ a. length a.comps.items ≤ ARGUMENTS };
 
     ghost inverse = { λ xs. record { comps = record { items = xs } } };
 }
@@ -34,7 +38,7 @@ impl Args {
         }
     }
 
-    /// Adds a component, unless there are four: then it answers false and nothing is changed.
+    /// Adds a component, unless there are `ARGUMENTS`: then it answers false and nothing is changed.
     pub fn push(&mut self, comp: Comp) -> bool
         ensures pushed { OnTrue result (self.new ≡ self.old ++ comp ∷ []) }
         ensures full { OnFalse result (self.new ≡ self.old) }
@@ -46,7 +50,7 @@ impl Args {
     /// The components, in their order.
     pub fn as_slice(&self) -> &[Comp]
         ensures same { result.now ≡ self.now }
-        ensures few { length self.now ≤ 4 }
+        ensures few { length self.now ≤ ARGUMENTS }
     {
         self.comps.as_slice()
     }

@@ -1,3 +1,4 @@
+//! A component, by its number.
 ghost use Rattle.std.specs.Prelude.{◌≡◌, IsTrue, ◌↔◌};
 
 /// A test component, by its number. Component 0 is the main test component.

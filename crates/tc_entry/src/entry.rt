@@ -1,3 +1,4 @@
+//! An entry of a history.
 ghost use Rattle.std.specs.Prelude.{◌≡◌, IsTrue, ◌↔◌};
 
 use crate::op::Op;

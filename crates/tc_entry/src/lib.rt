@@ -4,6 +4,7 @@
 mod args;
 mod comp;
 mod entry;
+mod limits;
 mod name;
 mod op;
 mod phase;
@@ -13,6 +14,7 @@ mod sequence;
 pub use args::Args;
 pub use comp::Comp;
 pub use entry::Entry;
+pub use limits::{ARGUMENTS, BEHAVIOURS, COMPONENTS, NAME_BYTES, is_behaviours, may_create};
 pub use name::Name;
 pub use op::{Group, Op, Target};
 pub use phase::Phase;

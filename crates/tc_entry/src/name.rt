@@ -1,13 +1,15 @@
+//! The name of a test case or a behaviour.
 ghost use Rattle.std.specs.Prelude.{◌≡◌, ◌↔◌, IsSome, IfSome, IsTrue};
 ghost use Rattle.tc_entry.specs.Name.{IsName, is_name_byte as is_allowed};
 
+use crate::limits::NAME_BYTES;
 use arrayvec::ArrayVec;
 use std::marker::Model;
 
-/// A name of a test case or a behaviour: 1 to 32 bytes, held in place.
+/// A name of a test case or a behaviour: 1 to `NAME_BYTES` bytes, held in place.
 #[derive(PartialEq, Eq, Hash, Debug, Drop)]
 pub struct Name {
-    bytes: ArrayVec<u8, 32>,
+    bytes: ArrayVec<u8, NAME_BYTES>,
 }
 
 impl Model for Name {
@@ -30,12 +32,19 @@ fn is_name_byte(byte: u8) -> bool
 }
 
 impl Name {
-    /// The name that is spelled so, if there is one.
+    /// The name of this text, if it is one.
     pub fn read(text: &str) -> Option<Name>
         ensures valid { IsSome result ↔ IsName text.now }
         ensures spelled { IfSome result (λ n. n ≡ text.now) }
     {
-        let bytes = text.as_bytes();
+        Name::of_bytes(text.as_bytes())
+    }
+
+    /// The name of these bytes, if they are one.
+    pub fn of_bytes(bytes: &[u8]) -> Option<Name>
+        ensures valid { IsSome result ↔ IsName bytes.now }
+        ensures spelled { IfSome result (λ n. n ≡ bytes.now) }
+    {
         let first = bytes.first()?;
         if !first.is_ascii_alphabetic() || !bytes.iter().all(|byte| is_name_byte(*byte)) {
             return None;

@@ -1,3 +1,4 @@
+//! The operations of a behaviour, and which components they are about.
 ghost use Rattle.std.specs.Prelude.{◌≡◌, IsTrue, ◌↔◌};
 
 use crate::args::Args;
@@ -22,13 +23,14 @@ pub enum Group {
 /// An operation of a behaviour (ES 201 873-1, test component operations and verdict operations).
 ///
 /// `Wait` and `Wake` are this project's own: a wait on done or killed is a `Wait`, and, where that is
-/// parked, a later `Wake`. `Finish` is the end of a behaviour.
+/// parked, a later `Wake`. `Finish` is the end of a behaviour. `StopCase` is the standard's testcase.stop.
 #[derive(PartialEq, Eq, Debug, Drop)]
 pub enum Op {
     Create { alive: bool },
     Start { comp: Comp, run: Run, args: Args },
     Stop(Group),
     Kill(Group),
+    StopCase,
     Running(Target),
     Alive(Target),
     Done(Target),
@@ -72,6 +74,7 @@ impl Op {
             },
             Op::Stop(group) => Op::Stop(*group),
             Op::Kill(group) => Op::Kill(*group),
+            Op::StopCase => Op::StopCase,
             Op::Running(target) => Op::Running(*target),
             Op::Alive(target) => Op::Alive(*target),
             Op::Done(target) => Op::Done(*target),
@@ -124,7 +127,9 @@ impl Op {
                 },
             ) => { *killed == *k && same_target(*target, *t) }
             (Op::SetVerdict(a), Op::SetVerdict(b)) => same_setting(*a, *b),
-            (Op::GetVerdict, Op::GetVerdict) | (Op::Finish, Op::Finish) => true,
+            (Op::StopCase, Op::StopCase)
+            | (Op::GetVerdict, Op::GetVerdict)
+            | (Op::Finish, Op::Finish) => true,
             _ => false,
         }
     }

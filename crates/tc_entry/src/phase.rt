@@ -1,3 +1,4 @@
+//! What a component is doing.
 use tc_verdict::Run;
 
 /// What a component is doing; the four phases are this project's own division.

@@ -1,3 +1,4 @@
+//! The replies, and the dynamic errors among them.
 ghost use Rattle.std.specs.Prelude.{◌≡◌, IsTrue, ◌↔◌};
 
 use crate::comp::Comp;

@@ -1,3 +1,4 @@
+//! Arguments, names, copies and sequences.
 use super::*;
 use std::test::Fail;
 
@@ -15,6 +16,17 @@ fn arguments_are_at_most_four(rt: HostRuntime) {
 }
 
 #[test]
+fn limits(rt: HostRuntime) {
+    assert!(rt; !is_behaviours(0));
+    assert!(rt; is_behaviours(1));
+    assert!(rt; is_behaviours(64));
+    assert!(rt; !is_behaviours(65));
+    assert!(rt; may_create(999));
+    assert!(rt; !may_create(1000));
+    assert_eq!(rt; NAME_BYTES, 32);
+}
+
+#[test]
 fn names(rt: HostRuntime) {
     for text in ["t_1", "abcdefghijklmnopqrstuvwxyz_ABC12"] {
         let read = Name::read(text);
@@ -22,6 +34,7 @@ fn names(rt: HostRuntime) {
         if let Some(name) = read {
             assert_eq!(rt; name.bytes(), text.as_bytes());
             assert!(rt; name.same(&name.copy()));
+            assert_eq!(rt; Name::of_bytes(text.as_bytes()), Some(name));
         }
     }
     for text in [
@@ -36,6 +49,7 @@ fn names(rt: HostRuntime) {
         "abcdefghijklmnopqrstuvwxyz_ABC123",
     ] {
         assert!(rt; Name::read(text).is_none(), "{text}");
+        assert!(rt; Name::of_bytes(text.as_bytes()).is_none(), "{text}");
     }
 }
 
@@ -66,6 +80,8 @@ fn copies_are_the_same(rt: HostRuntime) {
     };
     assert!(rt; !entry.same(&other));
     assert!(rt; !Op::GetVerdict.same(&Op::Finish));
+    assert!(rt; Op::StopCase.same(&Op::StopCase.copy()));
+    assert!(rt; !Op::StopCase.same(&Op::Finish));
     assert_eq!(rt; Comp(5).copy(), Comp(5));
     assert!(rt; Reply::Parked.copy().same(&Reply::Parked));
 }

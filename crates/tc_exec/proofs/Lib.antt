@@ -1,3 +1,4 @@
+-- The lemmas of this crate.
 pub mod Lists
 pub mod Gates
 pub mod Calls

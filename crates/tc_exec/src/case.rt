@@ -1,10 +1,10 @@
 //! The run of a case.
-ghost use Rattle.std.specs.Prelude.{ℕ, ◌≡◌, ◌≢◌, ◌↔◌, ◌<◌, ◌≤◌, ◌+◌, ◌-◌, ◌∷◌, [], true, false, None, IfOk, IfErr, OnOk, Err, length, map, slice_index_or};
+ghost use Rattle.std.specs.Prelude.{◌≡◌, ◌≢◌, ◌↔◌, ◌<◌, ◌≤◌, ◌+◌, ◌-◌, ◌∷◌, [], true, IfOk, OnOk, Err};
 ghost use Rattle.std.specs.Vec.{vec_len, vec_capacity};
-ghost use Rattle.tc_verdict.specs.declared.run.Run.{Run};
+ghost use Rattle.tc_entry.specs.declared.limits.TheConstants.{BEHAVIOURS};
 ghost use Rattle.tc_book.specs.Closing.{IsWhole};
-ghost use Rattle.tc_exec.specs.Workers.{AreLeftBy, WasCalledFor, opening};
-ghost use Rattle.tc_book.specs.Passes.{LeftState};
+ghost use Rattle.tc_exec.specs.Inside.{AreAbove, Gathers, IsFirstStarted, jobs_of, runs_of};
+ghost use Rattle.tc_exec.specs.Workers.{WasCalledFor, opening};
 ghost use Rattle.tc_exec.specs.Refusals.{handed_on};
 ghost use Rattle.tc_exec.specs.Gates.{IsPassed, IsStopped};
 ghost use Rattle.tc_exec.specs.Case.{IsCaseReport, AreCalled, IsMadeOf};
@@ -21,21 +21,19 @@ use std::alloc::Global;
 use std::sync::Wait;
 use std::thread::{PromisedHandle, Threads};
 use tc_book::{CloseFault, Closed, Pass, Shared, close_case, open_case};
-
-/// The most behaviours of a case.
-const MOST: usize = 64;
+use tc_entry::BEHAVIOURS;
 
 /// The number of behaviours, where so many jobs can be run on so many threads.
 fn behaviours_of(jobs: usize, threads: u16) -> Result<u16, CaseError>
     ensures none { (jobs ≡ 0) ↔ (result ≡ Err NoBehaviours) }
-    ensures many { (64 < jobs) ↔ (result ≡ Err TooManyBehaviours) }
-    ensures threads { ((0 < jobs) × (jobs ≤ 64) × (threads < jobs - 1)) ↔ (result ≡ Err NoThread) }
+    ensures many { (BEHAVIOURS < jobs) ↔ (result ≡ Err TooManyBehaviours) }
+    ensures threads { ((0 < jobs) × (jobs ≤ BEHAVIOURS) × (threads < jobs - 1)) ↔ (result ≡ Err NoThread) }
     ensures count { IfOk result (λ n. n ≡ jobs) }
 {
     if jobs == 0 {
         return Err(CaseError::NoBehaviours);
     }
-    if jobs > MOST {
+    if jobs > BEHAVIOURS {
         return Err(CaseError::TooManyBehaviours);
     }
     if jobs - 1 > usize::from(threads) {
@@ -82,9 +80,9 @@ fn gather<R: Threads + Wait, B: Callable>(
     requires empty { gathered.lefts.items ≡ [] }
     requires room { vec_len workers < vec_capacity gathered.lefts }
     ensures all { vec_len result.lefts ≡ vec_len workers + 1 }
-    ensures called { WasCalledFor (record { 0 = 0 }) (B.outcome first) }
-    ensures first { (d : LeftState) → (slice_index_or result.lefts.items 0 d).started ≢ None }
-    ensures lefts { result.starved ≡ false → AreLeftBy B.outcome (record { 0 = 0 } ∷ map (λ w. w.promise.run) workers.items) (first ∷ map (λ w. w.promise.behaviour.value) workers.items) result.lefts.items }
+    ensures called { WasCalledFor opening.run (B.outcome first) }
+    ensures first { IsFirstStarted result.lefts.items }
+    ensures lefts { Gathers B.outcome (opening.run ∷ runs_of workers.items) (first ∷ jobs_of workers.items) result }
 {
     let mut gathered = gathered;
     gathered.take(act(rt, first, pass));
@@ -122,11 +120,11 @@ fn run_made<R: Threads + Wait, B: Callable>(
     requires main { pass ≡ opening }
     requires empty { gathered.lefts.items ≡ [] }
     requires room { vec_len workers < vec_capacity gathered.lefts }
-    requires runs { (k : ℕ) (run : Run) → k < length (map (λ w. w.promise.run) workers.items) → (slice_index_or (map (λ w. w.promise.run) workers.items) k run).0 ≡ k + 1 }
+    requires runs { AreAbove (runs_of workers.items) }
     ensures kind { (result ≢ Err NoBehaviours) × (result ≢ Err TooManyBehaviours) × (result ≢ Err NoThread) }
     ensures report { IfOk result (IsCaseReport (vec_len workers + 1)) }
-    ensures called { IfOk result (AreCalled B.outcome (first ∷ map (λ w. w.promise.behaviour.value) workers.items)) }
-    ensures made { IfOk result (IsMadeOf B.outcome (first ∷ map (λ w. w.promise.behaviour.value) workers.items)) }
+    ensures called { IfOk result (AreCalled B.outcome (first ∷ jobs_of workers.items)) }
+    ensures made { IfOk result (IsMadeOf B.outcome (first ∷ jobs_of workers.items)) }
 {
     let gathered = gather(rt, pass, first, workers, gathered);
     close(rt, alloc, shared, gathered)
@@ -141,7 +139,7 @@ fn run_jobs<R: Threads + Wait + Copy + Send + 'static, B: Callable, G: Gate>(
     gate: &mut G,
 ) -> Result<Closed, CaseError>
     requires some { 1 ≤ behaviours }
-    requires few { behaviours ≤ 64 }
+    requires few { behaviours ≤ BEHAVIOURS }
     requires each { vec_len jobs ≡ behaviours }
     ensures kind { (result ≢ Err NoBehaviours) × (result ≢ Err TooManyBehaviours) }
     ensures alone { behaviours ≡ 1 → result ≢ Err NoThread }
@@ -181,8 +179,8 @@ pub fn run_case<R: Threads + Wait + Copy + Send + 'static>(
     threads: u16,
 ) -> Result<Closed, CaseError>
     ensures none { (vec_len jobs ≡ 0) ↔ (result ≡ Err NoBehaviours) }
-    ensures many { (64 < vec_len jobs) ↔ (result ≡ Err TooManyBehaviours) }
-    ensures threads { (0 < vec_len jobs) × (vec_len jobs ≤ 64) × (threads < vec_len jobs - 1) → result ≡ Err NoThread }
+    ensures many { (BEHAVIOURS < vec_len jobs) ↔ (result ≡ Err TooManyBehaviours) }
+    ensures threads { (0 < vec_len jobs) × (vec_len jobs ≤ BEHAVIOURS) × (threads < vec_len jobs - 1) → result ≡ Err NoThread }
     ensures alone { vec_len jobs ≡ 1 → result ≢ Err NoThread }
     ensures report { IfOk result (IsCaseReport (vec_len jobs)) }
     ensures called { IfOk result (AreCalled ⟦<Job as Callable>⟧.outcome jobs.items) }
@@ -201,8 +199,8 @@ pub fn run_case_with<R: Threads + Wait + Copy + Send + 'static, B: Callable, G: 
     gate: &mut G,
 ) -> Result<Closed, CaseError>
     ensures none { (vec_len jobs ≡ 0) ↔ (result ≡ Err NoBehaviours) }
-    ensures many { (64 < vec_len jobs) ↔ (result ≡ Err TooManyBehaviours) }
-    ensures threads { (0 < vec_len jobs) × (vec_len jobs ≤ 64) × (threads < vec_len jobs - 1) → result ≡ Err NoThread }
+    ensures many { (BEHAVIOURS < vec_len jobs) ↔ (result ≡ Err TooManyBehaviours) }
+    ensures threads { (0 < vec_len jobs) × (vec_len jobs ≤ BEHAVIOURS) × (threads < vec_len jobs - 1) → result ≡ Err NoThread }
     ensures alone { vec_len jobs ≡ 1 → result ≢ Err NoThread }
     ensures report { IfOk result (IsCaseReport (vec_len jobs)) }
     ensures called { IfOk result (AreCalled B.outcome jobs.items) }

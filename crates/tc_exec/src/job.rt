@@ -1,10 +1,11 @@
 //! The behaviour of a run, as a job that is called once.
-ghost use Rattle.std.specs.Prelude.{◌↔◌};
+ghost use Rattle.std.specs.Prelude.{◌≡◌, ◌↔◌};
 ghost use Rattle.tc_book.specs.Passes.{PassState};
 ghost use Rattle.tc_exec.specs.declared.job.Back.{Back};
+ghost use Rattle.tc_exec.specs.Ending.{ending_after};
 
 use crate::callable::Callable;
-use tc_book::Pass;
+use tc_book::{Halt, Pass};
 
 /// Why a behaviour came back.
 #[derive(Clone, Copy, PartialEq, Eq, Debug)]
@@ -22,6 +23,21 @@ pub struct Back {
     pub pass: Pass,
     /// Why it came back.
     pub ending: Ending,
+}
+
+impl Back {
+    /// What a behaviour hands back after its calls: `made` says that all were made, or how the first was answered that was
+    /// not answered by its value.
+    pub fn after(pass: Pass, made: Result<(), Halt>) -> Back
+        ensures pass { result.pass ≡ pass }
+        ensures ending { result.ending ≡ ending_after made }
+    {
+        let ending = match made {
+            Err(Halt::NoMemory) => Ending::Starved,
+            Ok(()) | Err(Halt::Ended) | Err(Halt::Fault(_)) => Ending::Returned,
+        };
+        Back { pass, ending }
+    }
 }
 
 /// A behaviour, which may be called on every pass.

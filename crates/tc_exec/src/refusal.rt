@@ -1,14 +1,16 @@
 //! Why a case has no report.
-ghost use Rattle.std.specs.Prelude.{◌≡◌};
+ghost use Rattle.std.specs.Prelude.{◌≡◌, Some};
 ghost use Rattle.tc_exec.specs.declared.refusal.CaseError.TheVariants as refusals;
-ghost use Rattle.tc_exec.specs.Refusals.{of_close};
+ghost use Rattle.tc_exec.specs.Refusals.{of_close, refusal_text};
 
 use std::alloc::AllocError;
+use std::fmt;
 use tc_book::CloseFault;
 use tc_verdict::NoMemory;
+use thiserror::Error;
 
 /// Why a case has no report.
-#[derive(Clone, Copy, PartialEq, Eq, Debug)]
+#[derive(Clone, Copy, PartialEq, Eq, Debug, Error)]
 pub enum CaseError {
     /// There is no behaviour.
     NoBehaviours,
@@ -20,6 +22,29 @@ pub enum CaseError {
     NoThread,
     /// What the behaviours handed back is not whole.
     Torn,
+}
+
+impl CaseError {
+    /// The words that say why.
+    pub fn text(self) -> &'static str
+        ensures { result.now ≡ refusal_text self }
+    {
+        match self {
+            CaseError::NoBehaviours => "no behaviours",
+            CaseError::TooManyBehaviours => "too many behaviours",
+            CaseError::NoMemory => NoMemory.text(),
+            CaseError::NoThread => "no thread",
+            CaseError::Torn => CloseFault::Torn.text(),
+        }
+    }
+}
+
+impl fmt::Display for CaseError {
+    ghost output = { λ e. Some (refusal_text e) };
+
+    fn fmt<W: fmt::Write>(&self, f: &mut fmt::Formatter<W>) -> fmt::Result {
+        f.write_str(self.text())
+    }
 }
 
 impl From<NoMemory> for CaseError {

@@ -1,22 +1,14 @@
+//! Cases whose behaviours run on threads.
 mod hostile;
 
 use crate::*;
 use std::sync::atomic::{AtomicU64, Ordering};
 use std::sync::{Arc, Wait};
 use std::test::Fail;
-use tc_book::{Halt, Pass};
-use tc_entry::{Args, Entry, Group, Op, Reply, Run, Target, UserVerdict, Verdict};
+use tc_book::{CloseFault, Halt, Pass, open_case};
+use tc_entry::{Args, Entry, Fault, Group, Op, Reply, Run, Target, UserVerdict, Verdict};
 
 type Behaviour = Box<dyn FnOnce(Pass) -> Back + Send>;
-
-/// What a behaviour hands back after these calls.
-fn back(pass: Pass, made: Result<(), Halt>) -> Back {
-    let ending = match made {
-        Err(Halt::NoMemory) => Ending::Starved,
-        _ => Ending::Returned,
-    };
-    Back { pass, ending }
-}
 
 /// Creates a component for each other run, starts them, and waits until all are done.
 fn starts_all<R: Wait>(rt: &R, pass: &mut Pass, behaviours: u16) -> Result<(), Halt> {
@@ -38,7 +30,7 @@ fn is_seen(flag: &AtomicU64) -> bool {
 }
 
 /// Sets its own flag, and pass once the other's is set.
-fn meets<R: Wait>(rt: &R, pass: Pass, mine: &AtomicU64, other: &AtomicU64) -> Back {
+fn meets(pass: Pass, mine: &AtomicU64, other: &AtomicU64) -> Back {
     let mut pass = pass;
     mine.store(1, Ordering::SeqCst);
     let verdict = if is_seen(other) {
@@ -46,8 +38,8 @@ fn meets<R: Wait>(rt: &R, pass: Pass, mine: &AtomicU64, other: &AtomicU64) -> Ba
     } else {
         UserVerdict::Fail
     };
-    let made = pass.set_verdict(rt, verdict);
-    back(pass, made)
+    let made = pass.set_verdict(verdict);
+    Back::after(pass, made)
 }
 
 #[test]
@@ -59,10 +51,10 @@ fn behaviours_run_together(rt: HostRuntime) -> Result<(), Fail> {
     let first: Behaviour = Box::new(alloc, move |pass: Pass| {
         let mut pass = pass;
         let made = starts_all(&rt, &mut pass, 3);
-        back(pass, made)
+        Back::after(pass, made)
     })?;
-    let second: Behaviour = Box::new(alloc, move |pass: Pass| meets(&rt, pass, &one, &two_seen))?;
-    let third: Behaviour = Box::new(alloc, move |pass: Pass| meets(&rt, pass, &two, &one_seen))?;
+    let second: Behaviour = Box::new(alloc, move |pass: Pass| meets(pass, &one, &two_seen))?;
+    let third: Behaviour = Box::new(alloc, move |pass: Pass| meets(pass, &two, &one_seen))?;
     let jobs = vec![in alloc; Job::new(first), Job::new(second), Job::new(third)]?;
     let report = run_case(&rt, alloc, jobs, 64)?;
     assert_eq!(rt; report.verdict, Verdict::Pass);
@@ -78,7 +70,7 @@ fn restarts<R: Wait>(rt: &R, pass: Pass, flag: &AtomicU64) -> Back {
     let mut pass = pass;
     let made = restart(rt, &mut pass);
     flag.store(1, Ordering::SeqCst);
-    back(pass, made)
+    Back::after(pass, made)
 }
 
 fn restart<R: Wait>(rt: &R, pass: &mut Pass) -> Result<(), Halt> {
@@ -93,24 +85,24 @@ fn restart<R: Wait>(rt: &R, pass: &mut Pass) -> Result<(), Halt> {
 fn sets_late<R: Wait>(rt: &R, pass: Pass, flag: &AtomicU64, more: u32, ended: &AtomicU64) -> Back {
     let mut pass = pass;
     let seen = is_seen(flag);
-    if seen && pass.set_verdict(rt, UserVerdict::Fail) == Err(Halt::Ended) {
+    if seen && pass.set_verdict(UserVerdict::Fail) == Err(Halt::Ended) {
         ended.fetch_add(1, Ordering::SeqCst);
     }
     for _ in 0..more {
-        if pass.set_verdict(rt, UserVerdict::Fail) == Err(Halt::Ended) {
+        if pass.set_verdict(UserVerdict::Fail) == Err(Halt::Ended) {
             ended.fetch_add(1, Ordering::SeqCst);
         }
         if pass.create(rt, false) == Err(Halt::Ended) {
             ended.fetch_add(1, Ordering::SeqCst);
         }
     }
-    back(pass, Ok(()))
+    Back::after(pass, Ok(()))
 }
 
-fn sets_pass<R: Wait>(rt: &R, pass: Pass) -> Back {
+fn sets_pass(pass: Pass) -> Back {
     let mut pass = pass;
-    let made = pass.set_verdict(rt, UserVerdict::Pass);
-    back(pass, made)
+    let made = pass.set_verdict(UserVerdict::Pass);
+    Back::after(pass, made)
 }
 
 /// Whether the late setting is the one entry of run 1, and only the pass of run 2 counts.
@@ -139,7 +131,7 @@ fn late_setting_does_not_count(rt: HostRuntime) -> Result<(), Fail> {
     let second: Behaviour = Box::new(alloc, move |pass: Pass| {
         sets_late(&rt, pass, &flag, 0, &counted)
     })?;
-    let third: Behaviour = Box::new(alloc, move |pass: Pass| sets_pass(&rt, pass))?;
+    let third: Behaviour = Box::new(alloc, move |pass: Pass| sets_pass(pass))?;
     let jobs = vec![in alloc; Job::new(first), Job::new(second), Job::new(third)]?;
     let report = run_case(&rt, alloc, jobs, 64)?;
     assert_eq!(rt; count.load(Ordering::SeqCst), 1);
@@ -157,7 +149,7 @@ fn calls_after_the_end(rt: HostRuntime) -> Result<(), Fail> {
     let second: Behaviour = Box::new(alloc, move |pass: Pass| {
         sets_late(&rt, pass, &flag, 500, &counted)
     })?;
-    let third: Behaviour = Box::new(alloc, move |pass: Pass| sets_pass(&rt, pass))?;
+    let third: Behaviour = Box::new(alloc, move |pass: Pass| sets_pass(pass))?;
     let jobs = vec![in alloc; Job::new(first), Job::new(second), Job::new(third)]?;
     let report = run_case(&rt, alloc, jobs, 64)?;
     assert_eq!(rt; count.load(Ordering::SeqCst), 1001);
@@ -170,10 +162,10 @@ fn unstarted_job_is_dropped(rt: HostRuntime) -> Result<(), Fail> {
     let alloc = rt.alloc();
     let called = Arc::new(alloc, AtomicU64::new(0))?;
     let theirs = Arc::try_clone(&called)?;
-    let first: Behaviour = Box::new(alloc, move |pass: Pass| back(pass, Ok(())))?;
+    let first: Behaviour = Box::new(alloc, move |pass: Pass| Back::after(pass, Ok(())))?;
     let second: Behaviour = Box::new(alloc, move |pass: Pass| {
         theirs.store(1, Ordering::SeqCst);
-        back(pass, Ok(()))
+        Back::after(pass, Ok(()))
     })?;
     let jobs = vec![in alloc; Job::new(first), Job::new(second)]?;
     let report = run_case(&rt, alloc, jobs, 64)?;
@@ -198,6 +190,24 @@ fn unstarted_job_is_dropped(rt: HostRuntime) -> Result<(), Fail> {
 }
 
 #[test]
+fn back_after_its_calls(rt: HostRuntime) -> Result<(), Fail> {
+    for (made, ending) in [
+        (Ok(()), Ending::Returned),
+        (Err(Halt::Ended), Ending::Returned),
+        (Err(Halt::Fault(Fault::NoComponent)), Ending::Returned),
+        (Err(Halt::NoMemory), Ending::Starved),
+    ] {
+        let (_, mut pass, _) = open_case(rt.alloc(), 1)?;
+        pass.set_verdict(UserVerdict::Inconc)?;
+        let back = Back::after(pass, made);
+        assert_eq!(rt; back.ending, ending);
+        assert_eq!(rt; back.pass.run(), Run(0));
+        assert_eq!(rt; back.pass.log().len(), 1);
+    }
+    Ok(())
+}
+
+#[test]
 fn refused_cases(rt: HostRuntime) -> Result<(), Fail> {
     let alloc = rt.alloc();
     let none = run_case(&rt, alloc, Vec::new(alloc), 64);
@@ -212,7 +222,7 @@ fn refused_cases(rt: HostRuntime) -> Result<(), Fail> {
             let theirs = Arc::try_clone(&called)?;
             let run: Behaviour = Box::new(alloc, move |pass: Pass| {
                 theirs.store(1, Ordering::SeqCst);
-                back(pass, Ok(()))
+                Back::after(pass, Ok(()))
             })?;
             jobs.push(Job::new(run))?;
         }
@@ -222,7 +232,10 @@ fn refused_cases(rt: HostRuntime) -> Result<(), Fail> {
         assert_eq!(rt; error, refusal);
     }
     assert_eq!(rt; called.load(Ordering::SeqCst), 0);
-    let starved: Behaviour = Box::new(alloc, move |pass: Pass| back(pass, Err(Halt::NoMemory)))?;
+    let starved: Behaviour = Box::new(
+        alloc,
+        move |pass: Pass| Back::after(pass, Err(Halt::NoMemory)),
+    )?;
     let jobs = vec![in alloc; Job::new(starved)]?;
     assert!(rt; matches!(run_case(&rt, alloc, jobs, 64), Err(CaseError::NoMemory)));
     Ok(())
@@ -234,11 +247,11 @@ fn sixty_four_jobs(rt: HostRuntime) -> Result<(), Fail> {
     let first: Behaviour = Box::new(alloc, move |pass: Pass| {
         let mut pass = pass;
         let made = starts_all(&rt, &mut pass, 64);
-        back(pass, made)
+        Back::after(pass, made)
     })?;
     let mut jobs = vec![in alloc; Job::new(first)]?;
     for _ in 1..64 {
-        let run: Behaviour = Box::new(alloc, move |pass: Pass| sets_pass(&rt, pass))?;
+        let run: Behaviour = Box::new(alloc, move |pass: Pass| sets_pass(pass))?;
         jobs.push(Job::new(run))?;
     }
     let report = run_case(&rt, alloc, jobs, 63)?;
@@ -248,5 +261,25 @@ fn sixty_four_jobs(rt: HostRuntime) -> Result<(), Fail> {
     assert_eq!(rt; locals.len(), 64);
     assert_eq!(rt; locals[0], Verdict::None);
     assert!(rt; locals[1..].iter().all(|local| *local == Verdict::Pass));
+    Ok(())
+}
+
+#[test]
+fn texts_of_the_faults(rt: HostRuntime) -> Result<(), Fail> {
+    let alloc = rt.alloc();
+    for (fault, text) in [
+        (CloseFault::Torn, "torn"),
+        (CloseFault::NoMemory, "no memory"),
+    ] {
+        assert_eq!(rt; fault.to_string(alloc)?.as_str(), text);
+        assert_eq!(rt; CaseError::from(fault).to_string(alloc)?.as_str(), text);
+    }
+    for (halt, text) in [
+        (Halt::Ended, "ended"),
+        (Halt::Fault(Fault::NoComponent), "error no-component"),
+        (Halt::NoMemory, "no memory"),
+    ] {
+        assert_eq!(rt; halt.to_string(alloc)?.as_str(), text);
+    }
     Ok(())
 }

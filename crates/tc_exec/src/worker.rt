@@ -1,10 +1,9 @@
 //! The threads of a case.
-ghost use Rattle.std.specs.Prelude.{◌≡◌, ◌<◌, ◌≤◌, ◌+◌, ◌++◌, [], IsTrue, IsFalse, false, List, length, map, slice_index_or};
+ghost use Rattle.std.specs.Prelude.{◌≡◌, ◌≤◌, ◌+◌, [], IsTrue, IsFalse};
 ghost use Rattle.std.specs.Vec.{vec_len, vec_capacity};
-ghost use Rattle.tc_verdict.specs.declared.run.Run.{Run};
-ghost use Rattle.tc_book.specs.Passes.{LeftState};
-ghost use Rattle.tc_exec.specs.Workers.{IsWorked, AreLeftBy};
+ghost use Rattle.tc_exec.specs.Workers.{IsWorked};
 ghost use Rattle.tc_exec.specs.Gates.{AreAllowed, IsAskedUpTo};
+ghost use Rattle.tc_exec.specs.Inside.{GathersMore, KeepsFirst, jobs_of, runs_of};
 
 use crate::callable::Callable;
 use crate::gate::Gate;
@@ -41,8 +40,8 @@ pub(crate) fn make_workers<R: Threads + Wait + Copy + Send + 'static, B: Callabl
     requires pairs { vec_len tickets ≡ vec_len behaviours }
     ensures most { vec_len workers.new ≤ vec_len tickets }
     ensures all { IsTrue result → vec_len workers.new ≡ vec_len tickets }
-    ensures runs { IsTrue result → map (λ w. w.promise.run) workers.new.items ≡ tickets.items }
-    ensures behaviours { IsTrue result → map (λ w. w.promise.behaviour.value) workers.new.items ≡ behaviours.items }
+    ensures runs { IsTrue result → runs_of workers.new.items ≡ tickets.items }
+    ensures behaviours { IsTrue result → jobs_of workers.new.items ≡ behaviours.items }
     ensures none { vec_len tickets ≡ 0 → IsTrue result }
     ensures asked { IsTrue result → AreAllowed G.asks tickets.items gate.old gate.new }
     ensures stopped { IsFalse result → IsAskedUpTo G.asks tickets.items gate.old gate.new }
@@ -76,8 +75,8 @@ pub(crate) fn join_workers<R: Threads, B: Callable>(
 )
     requires room { vec_len gathered.old.lefts + vec_len workers ≤ vec_capacity gathered.old.lefts }
     ensures all { vec_len gathered.new.lefts ≡ vec_len gathered.old.lefts + vec_len workers }
-    ensures lefts { (runs : List Run) (bs : _) → (gathered.old.starved ≡ false → AreLeftBy B.outcome runs bs gathered.old.lefts.items) → gathered.new.starved ≡ false → AreLeftBy B.outcome (runs ++ map (λ w. w.promise.run) workers.items) (bs ++ map (λ w. w.promise.behaviour.value) workers.items) gathered.new.lefts.items }
-    ensures first { (d : LeftState) → 0 < length gathered.old.lefts.items → slice_index_or gathered.new.lefts.items 0 d ≡ slice_index_or gathered.old.lefts.items 0 d }
+    ensures lefts { GathersMore B.outcome (runs_of workers.items) (jobs_of workers.items) gathered.old gathered.new }
+    ensures first { KeepsFirst gathered.old.lefts.items gathered.new.lefts.items }
 {
     for worker in workers {
         gathered.take(worker.join(rt));

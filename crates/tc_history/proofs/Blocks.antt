@@ -9,9 +9,10 @@ use Rattle.tc_text.specs.Lines.{lines_of}
 use Rattle.tc_text.specs.Spelling.{op_text, reply_text}
 use Rattle.tc_text.proofs.Digits.{no_letter}
 use Rattle.tc_text.proofs.LinesOf.{some_line}
+use Rattle.tc_history.specs.declared.header.Header.{Header}
 use Rattle.tc_history.specs.declared.read.Block.{Block}
 use Rattle.tc_history.specs.Block.{header_text, entry_text, end_text}
-use Rattle.tc_history.specs.Text.{IsEntry, AreEntries, IsHeader, IsBlock, open_lines, block_lines, Opens, IsBadStart, IsBadInside, IsCutInside}
+use Rattle.tc_history.specs.Text.{IsEntry, AreEntries, IsHeader, IsBlock, header_of, open_lines, block_lines, Opens, IsBadStart, IsBadInside, IsCutInside}
 
 -- the first line is that of no entry
 abbrev pub IsNoEntryLine : List ℕ → Type 0
@@ -23,11 +24,11 @@ IsNoEndLine text = (v : Verdict) (others : List (List ℕ)) → lines_of text �
 
 -- the first line is no first line of a block
 abbrev pub IsNoHeaderLine : List ℕ → Type 0
-IsNoHeaderLine text = (name : List ℕ) (n : ℕ) (others : List (List ℕ)) → IsHeader name n → lines_of text ≡ header_text name n ∷ others → ⊥
+IsNoHeaderLine text = (h : Header) (others : List (List ℕ)) → IsHeader h.name h.behaviours → lines_of text ≡ header_text h ∷ others → ⊥
 
 -- what reading a first line tells: it is that of this block, entry or verdict
-abbrev pub IsThatHeader : List ℕ → List ℕ → ℕ → List ℕ → Type 0
-IsThatHeader text name n rest = (m : List ℕ) (k : ℕ) (others : List (List ℕ)) → IsHeader m k → lines_of text ≡ header_text m k ∷ others → (name ≡ m) × (n ≡ k) × (lines_of rest ≡ others)
+abbrev pub IsThatHeader : List ℕ → Header → List ℕ → Type 0
+IsThatHeader text h rest = (g : Header) (others : List (List ℕ)) → IsHeader g.name g.behaviours → lines_of text ≡ header_text g ∷ others → (h ≡ g) × (lines_of rest ≡ others)
 
 abbrev pub IsThatEntry : List ℕ → Entry → List ℕ → Type 0
 IsThatEntry text e rest = (t : Entry) (others : List (List ℕ)) → IsEntry t → lines_of text ≡ entry_text t ∷ others → (e ≡ t) × (lines_of rest ≡ others)
@@ -43,61 +44,59 @@ pub record Remains (entries : List Entry) (rest : List ℕ) (b : Block) (others 
   pub right : AreEntries tail
 
 -- what reading so far tells of a block that the text may begin with
-pub record IsThatBlock (name : List ℕ) (n : ℕ) (entries : List Entry) (rest : List ℕ) (b : Block) (others : List (List ℕ)) : Type 0 where
-  pub name_is : name ≡ b.name
-  pub behaviours : n ≡ b.behaviours
+pub record IsThatBlock (h : Header) (entries : List Entry) (rest : List ℕ) (b : Block) (others : List (List ℕ)) : Type 0 where
+  pub header_is : h ≡ header_of b
   pub remains : Remains entries rest b others
 
 -- a first line and these entries are read, and every block that the text begins with begins with them
-pub record SoFar (text : List ℕ) (line : ℕ) (name : List ℕ) (n : ℕ) (entries : List Entry) (rest : List ℕ) : Type 0 where
-  pub opens : Opens text name n entries (lines_of rest)
-  pub only : (b : Block) (others : List (List ℕ)) → IsBlock line b → lines_of text ≡ block_lines b ++ others → IsThatBlock name n entries rest b others
+pub record SoFar (text : List ℕ) (line : ℕ) (h : Header) (entries : List Entry) (rest : List ℕ) : Type 0 where
+  pub opens : Opens text h entries (lines_of rest)
+  pub only : (b : Block) (others : List (List ℕ)) → IsBlock line b → lines_of text ≡ block_lines b ++ others → IsThatBlock h entries rest b others
   pub room : length entries + 1 + length rest ≤ length text
 
 head_is : (x y : List ℕ) (xs ys : List (List ℕ)) → x ∷ xs ≡ y ∷ ys → x ≡ y
 head_is x y xs ys e = cc
 
 -- the lines of a block, and others behind them
-block_and : (b : Block) (others : List (List ℕ)) → block_lines b ++ others ≡ header_text b.name b.behaviours ∷ (map entry_text b.entries ++ end_text b.verdict ∷ others)
-block_and b others = ap (λ l. header_text b.name b.behaviours ∷ l) (append_assoc (map entry_text b.entries) (end_text b.verdict ∷ []) others)
+block_and : (b : Block) (others : List (List ℕ)) → block_lines b ++ others ≡ header_text (header_of b) ∷ (map entry_text b.entries ++ end_text b.verdict ∷ others)
+block_and b others = ap (λ l. header_text (header_of b) ∷ l) (append_assoc (map entry_text b.entries) (end_text b.verdict ∷ []) others)
 
 entries_more : (es : List Entry) (e : Entry) → AreEntries es → IsEntry e → AreEntries (es ++ e ∷ [])
 entries_more [] e all one = (one, tt)
 entries_more (x ∷ xs) e all one = (all.0, entries_more xs e all.1 one)
 
-lines_more : (name : List ℕ) (n : ℕ) (entries new : List Entry) (rest after : List ℕ) (e : Entry) → lines_of rest ≡ entry_text e ∷ lines_of after → new ≡ entries ++ e ∷ [] →
-    open_lines name n entries ++ lines_of rest ≡ open_lines name n new ++ lines_of after
-lines_more name n entries new rest after e line added =
-    ap (λ x. header_text name n ∷ x)
+lines_more : (h : Header) (entries new : List Entry) (rest after : List ℕ) (e : Entry) → lines_of rest ≡ entry_text e ∷ lines_of after → new ≡ entries ++ e ∷ [] →
+    open_lines h entries ++ lines_of rest ≡ open_lines h new ++ lines_of after
+lines_more h entries new rest after e line added =
+    ap (λ x. header_text h ∷ x)
     (ap (λ x. map entry_text entries ++ x) line
     ∙ (sym (append_assoc (map entry_text entries) (entry_text e ∷ []) (lines_of after))
     ∙ ap (λ x. x ++ lines_of after) (sym (map-append entry_text entries (e ∷ [])) ∙ ap (map entry_text) (sym added))))
 
 -- a first line is read
-pub opens_none : (text rest name : List ℕ) (n : ℕ) (entries : List Entry) → lines_of text ≡ header_text name n ∷ lines_of rest → IsHeader name n → entries ≡ [] → Opens text name n entries (lines_of rest)
-opens_none text rest name n entries lines header none = record { header = header; right = rw none tt; lines = lines ∙ ap (λ es. open_lines name n es ++ lines_of rest) (sym none) }
+pub opens_none : (text rest : List ℕ) (h : Header) (entries : List Entry) → lines_of text ≡ header_text h ∷ lines_of rest → IsHeader h.name h.behaviours → entries ≡ [] → Opens text h entries (lines_of rest)
+opens_none text rest h entries lines header none = record { header_is = header; right = rw none tt; lines = lines ∙ ap (λ es. open_lines h es ++ lines_of rest) (sym none) }
 
 -- and one more entry
-pub opens_more : (text name : List ℕ) (n : ℕ) (entries new : List Entry) (rest after : List ℕ) (e : Entry) → Opens text name n entries (lines_of rest) → lines_of rest ≡ entry_text e ∷ lines_of after → IsEntry e →
-    new ≡ entries ++ e ∷ [] → Opens text name n new (lines_of after)
-opens_more text name n entries new rest after e opens line fits added =
-    record { header = opens.header; right = rw added (entries_more entries e opens.right fits); lines = opens.lines ∙ lines_more name n entries new rest after e line added }
+pub opens_more : (text : List ℕ) (h : Header) (entries new : List Entry) (rest after : List ℕ) (e : Entry) → Opens text h entries (lines_of rest) → lines_of rest ≡ entry_text e ∷ lines_of after → IsEntry e →
+    new ≡ entries ++ e ∷ [] → Opens text h new (lines_of after)
+opens_more text h entries new rest after e opens line fits added =
+    record { header_is = opens.header_is; right = rw added (entries_more entries e opens.right fits); lines = opens.lines ∙ lines_more h entries new rest after e line added }
 
 -- and a last line
-pub ended_lines : (text : List ℕ) (b : Block) (rest after : List ℕ) → Opens text b.name b.behaviours b.entries (lines_of rest) → lines_of rest ≡ end_text b.verdict ∷ lines_of after → lines_of text ≡ block_lines b ++ lines_of after
+pub ended_lines : (text : List ℕ) (b : Block) (rest after : List ℕ) → Opens text (header_of b) b.entries (lines_of rest) → lines_of rest ≡ end_text b.verdict ∷ lines_of after → lines_of text ≡ block_lines b ++ lines_of after
 ended_lines text b rest after opens line =
-    opens.lines ∙ (ap (λ x. open_lines b.name b.behaviours b.entries ++ x) line ∙ sym (block_and b (lines_of after)))
+    opens.lines ∙ (ap (λ x. open_lines (header_of b) b.entries ++ x) line ∙ sym (block_and b (lines_of after)))
 
-pub begins : (text rest : List ℕ) (line : ℕ) (name : List ℕ) (n : ℕ) (entries : List Entry) → lines_of text ≡ header_text name n ∷ lines_of rest → IsHeader name n →
-    IsThatHeader text name n rest → length rest < length text → entries ≡ [] → SoFar text line name n entries rest
-begins text rest line name n entries lines header only less none = record {
-  opens = opens_none text rest name n entries lines header none;
+pub begins : (text rest : List ℕ) (line : ℕ) (h : Header) (entries : List Entry) → lines_of text ≡ header_text h ∷ lines_of rest → IsHeader h.name h.behaviours →
+    IsThatHeader text h rest → length rest < length text → entries ≡ [] → SoFar text line h entries rest
+begins text rest line h entries lines header only less none = record {
+  opens = opens_none text rest h entries lines header none;
   only = λ b others is whole.
-      let that = only b.name b.behaviours (map entry_text b.entries ++ end_text b.verdict ∷ others) is.header (whole ∙ block_and b others) in
+      let that = only (header_of b) (map entry_text b.entries ++ end_text b.verdict ∷ others) is.header (whole ∙ block_and b others) in
       record {
-        name_is = that.0;
-        behaviours = that.1;
-        remains = record { tail = b.entries; parts = ap (λ es. es ++ b.entries) (sym none); spelled = that.2; right = is.entries };
+        header_is = that.0;
+        remains = record { tail = b.entries; parts = ap (λ es. es ++ b.entries) (sym none); spelled = that.1; right = is.entries };
       };
   room = let nothing = ap length none in omega (arith, nothing);
 }
@@ -117,14 +116,14 @@ more_remains entries new rest after e b others added no_end only so = by_tail so
           right = right.1;
         }
 
-pub goes_on : (text : List ℕ) (line : ℕ) (name : List ℕ) (n : ℕ) (entries new : List Entry) (rest after : List ℕ) (e : Entry) → SoFar text line name n entries rest →
+pub goes_on : (text : List ℕ) (line : ℕ) (h : Header) (entries new : List Entry) (rest after : List ℕ) (e : Entry) → SoFar text line h entries rest →
     lines_of rest ≡ entry_text e ∷ lines_of after → IsEntry e → IsNoEndLine rest → IsThatEntry rest e after → length after < length rest →
-    new ≡ entries ++ e ∷ [] → length new ≡ length entries + 1 → SoFar text line name n new after
-goes_on text line name n entries new rest after e so spelled fits no_end only less added longer = record {
-  opens = opens_more text name n entries new rest after e so.opens spelled fits added;
+    new ≡ entries ++ e ∷ [] → length new ≡ length entries + 1 → SoFar text line h new after
+goes_on text line h entries new rest after e so spelled fits no_end only less added longer = record {
+  opens = opens_more text h entries new rest after e so.opens spelled fits added;
   only = λ b others is whole.
       let that = so.only b others is whole in
-      record { name_is = that.name_is; behaviours = that.behaviours; remains = more_remains entries new rest after e b others added no_end only that.remains };
+      record { header_is = that.header_is; remains = more_remains entries new rest after e b others added no_end only that.remains };
   room = let room = so.room in omega (arith, room);
 }
 
@@ -146,25 +145,25 @@ same_block : (b c : Block) → b.name ≡ c.name → b.behaviours ≡ c.behaviou
 same_block b c name behaviours line entries verdict =
     same_made b.name c.name b.behaviours c.behaviours b.first_line c.first_line b.entries c.entries b.verdict c.verdict name behaviours line entries verdict
 
-pub ended_only : (text : List ℕ) (line : ℕ) (b : Block) (rest after : List ℕ) → SoFar text line b.name b.behaviours b.entries rest → lines_of rest ≡ end_text b.verdict ∷ lines_of after → b.first_line ≡ line →
+pub ended_only : (text : List ℕ) (line : ℕ) (b : Block) (rest after : List ℕ) → SoFar text line (header_of b) b.entries rest → lines_of rest ≡ end_text b.verdict ∷ lines_of after → b.first_line ≡ line →
     IsThatEnd rest b.verdict after → (c : Block) (others : List (List ℕ)) → IsBlock line c → lines_of text ≡ block_lines c ++ others → (b ≡ c) × (lines_of after ≡ others)
 ended_only text line b rest after so ends first only c others is whole = by_tail that.remains.tail that.remains.parts that.remains.spelled that.remains.right
   where
-    that : IsThatBlock b.name b.behaviours b.entries rest c others
+    that : IsThatBlock (header_of b) b.entries rest c others
     that = so.only c others is whole
 
     by_tail : (tail : List Entry) → c.entries ≡ b.entries ++ tail → lines_of rest ≡ map entry_text tail ++ end_text c.verdict ∷ others → AreEntries tail → (b ≡ c) × (lines_of after ≡ others)
     by_tail [] parts spelled right =
         let two = only c.verdict others spelled in
-        (same_block b c that.name_is that.behaviours (first ∙ sym is.first) (sym (parts ∙ append-nil b.entries)) two.0, two.1)
+        (same_block b c (ap (λ (h : Header). h.name) that.header_is) (ap (λ (h : Header). h.behaviours) that.header_is) (first ∙ sym is.first) (sym (parts ∙ append-nil b.entries)) two.0, two.1)
     by_tail (t ∷ ts) parts spelled right = absurd (entry_no_end t b.verdict right.0 (head_is (entry_text t) (end_text b.verdict) _ (lines_of after) (sym spelled ∙ ends)))
 
 -- nothing can be such a block: a line is neither an entry nor a last line
-pub never_inside : (text : List ℕ) (line : ℕ) (name : List ℕ) (n : ℕ) (entries : List Entry) (rest : List ℕ) → SoFar text line name n entries rest → IsNoEntryLine rest → IsNoEndLine rest →
+pub never_inside : (text : List ℕ) (line : ℕ) (h : Header) (entries : List Entry) (rest : List ℕ) → SoFar text line h entries rest → IsNoEntryLine rest → IsNoEndLine rest →
     (c : Block) (others : List (List ℕ)) → IsBlock line c → lines_of text ≡ block_lines c ++ others → ⊥
-never_inside text line name n entries rest so no_entry no_end c others is whole = by_tail that.remains.tail that.remains.spelled that.remains.right
+never_inside text line h entries rest so no_entry no_end c others is whole = by_tail that.remains.tail that.remains.spelled that.remains.right
   where
-    that : IsThatBlock name n entries rest c others
+    that : IsThatBlock h entries rest c others
     that = so.only c others is whole
 
     by_tail : (tail : List Entry) → lines_of rest ≡ map entry_text tail ++ end_text c.verdict ∷ others → AreEntries tail → ⊥
@@ -172,11 +171,11 @@ never_inside text line name n entries rest so no_entry no_end c others is whole 
     by_tail (t ∷ ts) ends right = no_entry t (map entry_text ts ++ end_text c.verdict ∷ others) right.0 ends
 
 -- or the text ends
-pub never_cut : (text : List ℕ) (line : ℕ) (name : List ℕ) (n : ℕ) (entries : List Entry) (rest : List ℕ) → SoFar text line name n entries rest → rest ≡ [] →
+pub never_cut : (text : List ℕ) (line : ℕ) (h : Header) (entries : List Entry) (rest : List ℕ) → SoFar text line h entries rest → rest ≡ [] →
     (c : Block) (others : List (List ℕ)) → IsBlock line c → lines_of text ≡ block_lines c ++ others → ⊥
-never_cut text line name n entries rest so nothing c others is whole = by_tail that.remains.tail that.remains.spelled
+never_cut text line h entries rest so nothing c others is whole = by_tail that.remains.tail that.remains.spelled
   where
-    that : IsThatBlock name n entries rest c others
+    that : IsThatBlock h entries rest c others
     that = so.only c others is whole
 
     by_tail : (tail : List Entry) → lines_of rest ≡ map entry_text tail ++ end_text c.verdict ∷ others → ⊥
@@ -188,32 +187,30 @@ never_cut text line name n entries rest so nothing c others is whole = by_tail t
 pub bad_start : (text : List ℕ) → text ≢ [] → IsNoHeaderLine text → IsBadStart text
 bad_start text some none =
     let line = some_line text some in
-    record { bad_line = line.0; others = line.1.0; lines = line.1.1; bad = λ name n header e. none name n line.1.0 header (line.1.1 ∙ ap (λ l. l ∷ line.1.0) e) }
+    record { bad_line = line.0; others = line.1.0; lines = line.1.1; bad = λ h header e. none h line.1.0 header (line.1.1 ∙ ap (λ l. l ∷ line.1.0) e) }
 
 pub never_start : (text : List ℕ) (line : ℕ) → IsNoHeaderLine text → (c : Block) (others : List (List ℕ)) → IsBlock line c → lines_of text ≡ block_lines c ++ others → ⊥
-never_start text line none c others is whole = none c.name c.behaviours (map entry_text c.entries ++ end_text c.verdict ∷ others) is.header (whole ∙ block_and c others)
+never_start text line none c others is whole = none (header_of c) (map entry_text c.entries ++ end_text c.verdict ∷ others) is.header (whole ∙ block_and c others)
 
-pub bad_inside : (text : List ℕ) (line at : ℕ) (name : List ℕ) (n : ℕ) (entries : List Entry) (rest : List ℕ) → rest ≢ [] → Opens text name n entries (lines_of rest) → IsNoEntryLine rest → IsNoEndLine rest →
+pub bad_inside : (text : List ℕ) (line at : ℕ) (h : Header) (entries : List Entry) (rest : List ℕ) → rest ≢ [] → Opens text h entries (lines_of rest) → IsNoEntryLine rest → IsNoEndLine rest →
     at ≡ line + length entries + 1 → IsBadInside text line at
-bad_inside text line at name n entries rest some opens no_entry no_end number =
+bad_inside text line at h entries rest some opens no_entry no_end number =
     let bad = some_line rest some in
     record {
-      name = name;
-      behaviours = n;
+      header = h;
       entries = entries;
       bad_line = bad.0;
       others = bad.1.0;
-      opens = record { header = opens.header; right = opens.right; lines = opens.lines ∙ ap (λ x. open_lines name n entries ++ x) bad.1.1 };
+      opens = record { header_is = opens.header_is; right = opens.right; lines = opens.lines ∙ ap (λ x. open_lines h entries ++ x) bad.1.1 };
       number = number;
       no_entry = λ e fits same. no_entry e bad.1.0 fits (bad.1.1 ∙ ap (λ l. l ∷ bad.1.0) same);
       no_end = λ v same. no_end v bad.1.0 (bad.1.1 ∙ ap (λ l. l ∷ bad.1.0) same);
     }
 
-pub cut_inside : (text : List ℕ) (line at : ℕ) (name : List ℕ) (n : ℕ) (entries : List Entry) (rest : List ℕ) → Opens text name n entries (lines_of rest) → rest ≡ [] → at ≡ line + length entries + 1 → IsCutInside text line at
-cut_inside text line at name n entries rest opens nothing number = record {
-  name = name;
-  behaviours = n;
+pub cut_inside : (text : List ℕ) (line at : ℕ) (h : Header) (entries : List Entry) (rest : List ℕ) → Opens text h entries (lines_of rest) → rest ≡ [] → at ≡ line + length entries + 1 → IsCutInside text line at
+cut_inside text line at h entries rest opens nothing number = record {
+  header = h;
   entries = entries;
-  opens = record { header = opens.header; right = opens.right; lines = opens.lines ∙ ap (λ r. open_lines name n entries ++ lines_of r) nothing };
+  opens = record { header_is = opens.header_is; right = opens.right; lines = opens.lines ∙ ap (λ r. open_lines h entries ++ lines_of r) nothing };
   number = number;
 }

@@ -15,7 +15,7 @@ use Rattle.tc_text.specs.Reading.{EndsMove, EndsLine}
 use Rattle.tc_text.specs.Spelling.{move_text, fault_name, reply_text, IsReply}
 use Rattle.tc_text.proofs.LinesOf.{NoLf, no_lf-append, line_ended, first_line, same_behind}
 use Rattle.tc_text.proofs.Plain.{number_plain, move_plain, some_move}
-use Rattle.tc_history.specs.Block.{entry_text, end_text}
+use Rattle.tc_history.specs.Block.{entry_text, end_text, outcome_text}
 use Rattle.tc_history.specs.Text.{IsEntry}
 
 pub verdict_plain : (v : Verdict) → NoLf (name_of v)
@@ -122,6 +122,52 @@ ends_arrow rest = record {
 
 pub behind_arrow : (xs ys : List ℕ) → codes " -> " ++ xs ≡ codes " -> " ++ ys → xs ≡ ys
 behind_arrow xs ys e = cc
+
+-- ---- what stands behind a move
+
+outcome_plain : (r : Reply) → IsReply r → NoLf (outcome_text r)
+outcome_plain r fits = no_lf-append (codes " -> ") (reply_text r) (search rules) (reply_plain r fits)
+
+pub outcome_spelled : (text r1 r2 behind : List ℕ) (r : Reply) → text ≡ codes " -> " ++ r1 → r1 ≡ reply_text r ++ r2 → EndsLine r2 behind → IsReply r → lines_of text ≡ outcome_text r ∷ lines_of behind
+outcome_spelled text r1 r2 behind r arrow replied ends fits =
+    ap lines_of (arrow ∙ ap (λ l. codes " -> " ++ l) replied) ∙ line_ended (outcome_text r) r2 behind (λ e. cc) (outcome_plain r fits) ends
+
+-- the text begins with what stands behind a move, and the line's end stands behind it
+pub record BeginsWithOutcome (text : List ℕ) (r : Reply) (others : List (List ℕ)) : Type 0 where
+  pub rest : List ℕ
+  pub behind : List ℕ
+  pub parts : text ≡ codes " -> " ++ (reply_text r ++ rest)
+  pub ends : EndsLine rest behind
+  pub lines : lines_of behind ≡ others
+
+pub begins_with_outcome : (text : List ℕ) (r : Reply) (others : List (List ℕ)) → lines_of text ≡ outcome_text r ∷ others → BeginsWithOutcome text r others
+begins_with_outcome text r others lines =
+    let begins = first_line text (outcome_text r) others lines in
+    record { rest = begins.rest; behind = begins.behind; parts = begins.parts; ends = begins.ends; lines = begins.lines }
+
+-- the text begins with the move of the entry, and the rest of its line stands behind it
+pub record BeginsWithMove (text : List ℕ) (e : Entry) (others : List (List ℕ)) : Type 0 where
+  pub rest : List ℕ
+  pub parts : text ≡ move_text e.caller.0 e.op ++ rest
+  pub ends : EndsMove rest
+  pub lines : lines_of rest ≡ outcome_text e.reply ∷ others
+
+pub begins_with_move : (text : List ℕ) (e : Entry) (others : List (List ℕ)) → IsEntry e → lines_of text ≡ entry_text e ∷ others → BeginsWithMove text e others
+begins_with_move text e others fits lines =
+    let begins = begins_with_entry text e others lines in
+    let behind = reply_text e.reply ++ begins.rest in
+    record {
+      rest = codes " -> " ++ behind;
+      parts = begins.parts;
+      ends = ends_arrow behind;
+      lines = outcome_spelled (codes " -> " ++ behind) behind begins.rest begins.behind e.reply refl refl begins.ends fits.reply ∙ ap (λ l. outcome_text e.reply ∷ l) begins.lines;
+    }
+
+-- a move, and the rest of its line
+pub entry_and_outcome : (text rest after : List ℕ) (e : Entry) → text ≡ move_text e.caller.0 e.op ++ rest → lines_of rest ≡ outcome_text e.reply ∷ lines_of after → IsEntry e → lines_of text ≡ entry_text e ∷ lines_of after
+entry_and_outcome text rest after e moved lines fits =
+    let begins = begins_with_outcome rest e.reply (lines_of after) lines in
+    entry_spelled text rest (reply_text e.reply ++ begins.rest) begins.rest begins.behind e moved begins.parts refl begins.ends fits ∙ ap (λ l. entry_text e ∷ l) begins.lines
 
 abbrev make : Run → Op → Reply → Entry
 make run op reply = record { caller = run; op = op; reply = reply }

@@ -1,3 +1,4 @@
+-- The lemmas of this crate.
 pub mod Blocks
 pub mod Cutting
 pub mod InnerLines
@@ -5,3 +6,4 @@ pub mod Names
 pub mod Prefixes
 pub mod Texts
 pub mod WrittenBlocks
+pub mod Taking

@@ -102,12 +102,12 @@ no_histories text (b ∷ bs) nothing is = let e = sym (ap lines_of nothing) ∙ 
 -- a fault of the block that should come next is the first fault of the text
 pub first_fault : (text : List ℕ) (blocks : List Block) (rest : List ℕ) (line : ℕ) (fault : TextFault) → AreRead text blocks rest line → IsBlockFault rest line fault → IsHistoryFault text fault
 first_fault text blocks rest line (F.At at K.Early) read bad =
-    let whole = read.lines ∙ (ap (λ l. all_lines blocks ++ l) bad.opens.lines ∙ ap (λ l. all_lines blocks ++ l) (append-nil (open_lines bad.name bad.behaviours bad.entries))) in
+    let whole = read.lines ∙ (ap (λ l. all_lines blocks ++ l) bad.opens.lines ∙ ap (λ l. all_lines blocks ++ l) (append-nil (open_lines bad.header bad.entries))) in
     let number = read.number in
     let here = bad.number in
     let count = ap length whole in (
-      inr (record { blocks = blocks; name = bad.name; behaviours = bad.behaviours; entries = bad.entries; fits = read.fits; header = bad.opens.header; right = bad.opens.right; lines = whole }),
-      omega (arith, number, here, count, length-append (all_lines blocks) (open_lines bad.name bad.behaviours bad.entries), length-map bad.entries entry_text),
+      inr (record { blocks = blocks; header = bad.header; entries = bad.entries; fits = read.fits; header_is = bad.opens.header_is; right = bad.opens.right; lines = whole }),
+      omega (arith, number, here, count, length-append (all_lines blocks) (open_lines bad.header bad.entries), length-map bad.entries entry_text),
     )
 first_fault text blocks rest line (F.At at K.FirstLine) read bad = record {
   blocks = blocks;
@@ -120,13 +120,12 @@ first_fault text blocks rest line (F.At at K.FirstLine) read bad = record {
 }
 first_fault text blocks rest line (F.At at K.Entry) read bad = record {
   blocks = blocks;
-  name = bad.name;
-  behaviours = bad.behaviours;
+  header = bad.header;
   entries = bad.entries;
   bad_line = bad.bad_line;
   others = bad.others;
   fits = read.fits;
-  header = bad.opens.header;
+  header_is = bad.opens.header_is;
   right = bad.opens.right;
   lines = read.lines ∙ ap (λ l. all_lines blocks ++ l) bad.opens.lines;
   number = let number = read.number in let here = bad.number in omega (arith, number, here);

@@ -12,9 +12,10 @@ use Rattle.tc_text.specs.Lines.{lines_of, ended_lines}
 use Rattle.tc_text.specs.Spelling.{move_text, reply_text}
 use Rattle.tc_text.proofs.LinesOf.{NoLf, no_lf-append, lines-ended_lines}
 use Rattle.tc_text.proofs.Plain.{number_plain, move_plain}
+use Rattle.tc_history.specs.declared.header.Header.{Header}
 use Rattle.tc_history.specs.declared.read.Block.{Block}
 use Rattle.tc_history.specs.Block.{header_text, entry_text, end_text, entry_line}
-use Rattle.tc_history.specs.Text.{IsEntry, AreEntries, IsHeader, AreBlocks, block_lines, all_lines}
+use Rattle.tc_history.specs.Text.{IsEntry, AreEntries, IsHeader, AreBlocks, header_of, block_lines, all_lines}
 use Rattle.tc_history.specs.Written.{text_of_block, text_of_blocks, WrittenIsRead}
 use Rattle.tc_history.proofs.InnerLines.{verdict_plain, reply_plain}
 
@@ -27,11 +28,11 @@ name_plain : (bs : List ℕ) → All (λ b. IsTrue (is_name_byte b)) bs → NoLf
 name_plain [] all = tt
 name_plain (b ∷ bs) all = (name_byte_plain b (All-head (λ x. IsTrue (is_name_byte x)) b bs all), name_plain bs (All-tail (λ x. IsTrue (is_name_byte x)) b bs all))
 
-header_plain : (name : List ℕ) (n : ℕ) → IsHeader name n → NoLf (header_text name n)
-header_plain name n header =
+header_plain : (h : Header) → IsHeader h.name h.behaviours → NoLf (header_text h)
+header_plain h header =
     let most = header.few.1 in
     no_lf-append (codes "history 1 ") _ (search rules)
-    (no_lf-append name (codes " " ++ decimal n) (name_plain name header.name_is.allowed) (refl, number_plain n (omega (arith, most))))
+    (no_lf-append h.name (codes " " ++ decimal h.behaviours) (name_plain h.name header.name_is.allowed) (refl, number_plain h.behaviours (omega (arith, most))))
 
 entry_plain : (e : Entry) → IsEntry e → NoLf (entry_text e)
 entry_plain e fits =
@@ -51,7 +52,7 @@ entries_plain (e ∷ es) fits = (entry_plain e fits.0, entries_plain es fits.1)
 
 block_plain : (b : Block) → IsHeader b.name b.behaviours → AreEntries b.entries → AllByRecursion NoLf (block_lines b)
 block_plain b header entries =
-    (header_plain b.name b.behaviours header, all_plain-append (map entry_text b.entries) (end_text b.verdict ∷ []) (entries_plain b.entries entries) (end_plain b.verdict, tt))
+    (header_plain (header_of b) header, all_plain-append (map entry_text b.entries) (end_text b.verdict ∷ []) (entries_plain b.entries entries) (end_plain b.verdict, tt))
 
 blocks_plain : (line : ℕ) (bs : List Block) → AreBlocks line bs → AllByRecursion NoLf (all_lines bs)
 blocks_plain line [] are = tt
@@ -73,7 +74,7 @@ entries_ended (e ∷ es) rest =
 
 block_ended : (b : Block) → text_of_block b ≡ ended_lines (block_lines b)
 block_ended b =
-    ap (λ l. header_text b.name b.behaviours ++ 10 ∷ l)
+    ap (λ l. header_text (header_of b) ++ 10 ∷ l)
     (entries_ended b.entries (end_text b.verdict ++ 10 ∷ []) ∙ sym (ended_lines-append (map entry_text b.entries) (end_text b.verdict ∷ [])))
 
 blocks_ended : (bs : List Block) → text_of_blocks bs ≡ ended_lines (all_lines bs)

@@ -5,15 +5,21 @@ use Rattle.std.specs.Fmt.{decimal}
 use Rattle.tc_verdict.specs.declared.verdict.Verdict.{Verdict}
 use Rattle.tc_verdict.specs.Verdict.{name_of}
 use Rattle.tc_entry.specs.declared.entry.Entry.{Entry}
+use Rattle.tc_entry.specs.declared.reply.Reply.{Reply}
 use Rattle.tc_text.specs.Spelling.{move_text, reply_text}
+use Rattle.tc_history.specs.declared.header.Header.{Header}
 
 -- the first line, without its LF: the name of the case, and how many behaviours it has
-abbrev pub header_text : List ℕ → ℕ → List ℕ
-header_text name n = codes "history 1 " ++ (name ++ (codes " " ++ decimal n))
+abbrev pub header_text : Header → List ℕ
+header_text h = codes "history 1 " ++ (h.name ++ (codes " " ++ decimal h.behaviours))
+
+-- what stands behind the move of an entry
+abbrev pub outcome_text : Reply → List ℕ
+outcome_text r = codes " -> " ++ reply_text r
 
 -- an entry, without its LF
 abbrev pub entry_text : Entry → List ℕ
-entry_text e = move_text e.caller.0 e.op ++ (codes " -> " ++ reply_text e.reply)
+entry_text e = move_text e.caller.0 e.op ++ outcome_text e.reply
 
 -- the last line, without its LF
 abbrev pub end_text : Verdict → List ℕ
@@ -25,4 +31,4 @@ entry_line e = entry_text e ++ (10 ∷ [])
 
 -- a first line, a line for each entry, and a last line
 abbrev pub block_text : List ℕ → ℕ → List Entry → Verdict → List ℕ
-block_text name n entries v = header_text name n ++ (10 ∷ (flat_map entry_line entries ++ (end_text v ++ (10 ∷ []))))
+block_text name n entries v = header_text (record { name = name; behaviours = n }) ++ (10 ∷ (flat_map entry_line entries ++ (end_text v ++ (10 ∷ []))))

@@ -1,4 +1,6 @@
+-- The definitions that the contracts of this crate cite.
 pub mod Block
 pub mod Text
 pub mod Cut
 pub mod Written
+pub mod Inside

@@ -8,10 +8,15 @@ use Rattle.tc_text.specs.declared.fault.TextFault.TheVariants as F
 use Rattle.tc_text.specs.declared.fault.TextKind.{TextKind}
 use Rattle.tc_text.specs.declared.fault.TextKind.TheVariants as K
 use Rattle.tc_text.specs.Lines.{lines_of}
-use Rattle.tc_text.specs.MoveList.{IsBehaviours}
+use Rattle.tc_entry.specs.Limits.{IsBehaviours}
 use Rattle.tc_text.specs.Spelling.{IsOp, IsReply}
+use Rattle.tc_history.specs.declared.header.Header.{Header}
 use Rattle.tc_history.specs.declared.read.Block.{Block}
 use Rattle.tc_history.specs.Block.{header_text, entry_text, end_text}
+
+-- what the first line of a block says
+abbrev pub header_of : Block → Header
+header_of b = record { name = b.name; behaviours = b.behaviours }
 
 -- an entry whose numbers are those of their types
 pub record IsEntry (e : Entry) : Type 0 where
@@ -25,12 +30,12 @@ AreEntries [] = Unit {0}
 AreEntries (e ∷ es) = IsEntry e × AreEntries es
 
 -- a first line and entries, which no line ends yet
-abbrev pub open_lines : List ℕ → ℕ → List Entry → List (List ℕ)
-open_lines name n entries = header_text name n ∷ map entry_text entries
+abbrev pub open_lines : Header → List Entry → List (List ℕ)
+open_lines h entries = header_text h ∷ map entry_text entries
 
 -- the lines of a block
 abbrev pub block_lines : Block → List (List ℕ)
-block_lines b = open_lines b.name b.behaviours b.entries ++ end_text b.verdict ∷ []
+block_lines b = open_lines (header_of b) b.entries ++ end_text b.verdict ∷ []
 
 -- the lines of blocks, one block after the other
 abbrev pub all_lines : List Block → List (List ℕ)
@@ -59,6 +64,12 @@ pub record AreHistories (text : List ℕ) (blocks : List Block) : Type 0 where
   pub fits : AreBlocks 1 blocks
   pub lines : lines_of text ≡ all_lines blocks
 
+-- the value is what the histories of the text make
+pub record IsMadeOf {H : Type 0} (stands : List Block → H → Type 0) (text : List ℕ) (value : H) : Type 0 where
+  pub blocks : List Block
+  pub histories : AreHistories text blocks
+  pub made : stands blocks value
+
 -- some blocks, and then, in the line of this number, no first line of a block
 pub record IsBadHeader (text : List ℕ) (line : ℕ) : Type 0 where
   pub blocks : List Block
@@ -67,20 +78,19 @@ pub record IsBadHeader (text : List ℕ) (line : ℕ) : Type 0 where
   pub fits : AreBlocks 1 blocks
   pub lines : lines_of text ≡ all_lines blocks ++ bad_line ∷ others
   pub number : line ≡ length (all_lines blocks) + 1
-  pub bad : (name : List ℕ) (n : ℕ) → IsHeader name n → bad_line ≢ header_text name n
+  pub bad : (h : Header) → IsHeader h.name h.behaviours → bad_line ≢ header_text h
 
 -- some blocks, a first line and some entries, and then, in the line of this number, neither an entry nor the end of the block
 pub record IsBadEntry (text : List ℕ) (line : ℕ) : Type 0 where
   pub blocks : List Block
-  pub name : List ℕ
-  pub behaviours : ℕ
+  pub header : Header
   pub entries : List Entry
   pub bad_line : List ℕ
   pub others : List (List ℕ)
   pub fits : AreBlocks 1 blocks
-  pub header : IsHeader name behaviours
+  pub header_is : IsHeader header.name header.behaviours
   pub right : AreEntries entries
-  pub lines : lines_of text ≡ all_lines blocks ++ (open_lines name behaviours entries ++ bad_line ∷ others)
+  pub lines : lines_of text ≡ all_lines blocks ++ (open_lines header entries ++ bad_line ∷ others)
   pub number : line ≡ length (all_lines blocks) + (length entries + 2)
   pub no_entry : (e : Entry) → IsEntry e → bad_line ≢ entry_text e
   pub no_end : (v : Verdict) → bad_line ≢ end_text v
@@ -88,13 +98,12 @@ pub record IsBadEntry (text : List ℕ) (line : ℕ) : Type 0 where
 -- some blocks, a first line and some entries, and nothing more
 pub record IsOpen (text : List ℕ) : Type 0 where
   pub blocks : List Block
-  pub name : List ℕ
-  pub behaviours : ℕ
+  pub header : Header
   pub entries : List Entry
   pub fits : AreBlocks 1 blocks
-  pub header : IsHeader name behaviours
+  pub header_is : IsHeader header.name header.behaviours
   pub right : AreEntries entries
-  pub lines : lines_of text ≡ all_lines blocks ++ open_lines name behaviours entries
+  pub lines : lines_of text ≡ all_lines blocks ++ open_lines header entries
 
 -- the first fault of the text is of this kind and in this line
 abbrev pub IsHistoryFaultAt : List ℕ → ℕ → TextKind → Type 0
@@ -112,13 +121,13 @@ IsHistoryFault text F.NoMemory = Unit {0}
 
 -- the line is no first line of a block
 abbrev pub IsNoHeader : List ℕ → Type 0
-IsNoHeader line = (name : List ℕ) (n : ℕ) → IsHeader name n → line ≢ header_text name n
+IsNoHeader line = (h : Header) → IsHeader h.name h.behaviours → line ≢ header_text h
 
 -- a first line and entries, and then these lines
-pub record Opens (text : List ℕ) (name : List ℕ) (n : ℕ) (entries : List Entry) (others : List (List ℕ)) : Type 0 where
-  pub header : IsHeader name n
+pub record Opens (text : List ℕ) (h : Header) (entries : List Entry) (others : List (List ℕ)) : Type 0 where
+  pub header_is : IsHeader h.name h.behaviours
   pub right : AreEntries entries
-  pub lines : lines_of text ≡ open_lines name n entries ++ others
+  pub lines : lines_of text ≡ open_lines h entries ++ others
 
 -- the first line of the text is no first line of a block
 pub record IsBadStart (text : List ℕ) : Type 0 where
@@ -129,22 +138,20 @@ pub record IsBadStart (text : List ℕ) : Type 0 where
 
 -- a first line and some entries, and then, in the line of this number, neither an entry nor the end of the block
 pub record IsBadInside (text : List ℕ) (first_line line : ℕ) : Type 0 where
-  pub name : List ℕ
-  pub behaviours : ℕ
+  pub header : Header
   pub entries : List Entry
   pub bad_line : List ℕ
   pub others : List (List ℕ)
-  pub opens : Opens text name behaviours entries (bad_line ∷ others)
+  pub opens : Opens text header entries (bad_line ∷ others)
   pub number : line ≡ first_line + length entries + 1
   pub no_entry : (e : Entry) → IsEntry e → bad_line ≢ entry_text e
   pub no_end : (v : Verdict) → bad_line ≢ end_text v
 
 -- a first line and some entries, and nothing more
 pub record IsCutInside (text : List ℕ) (first_line line : ℕ) : Type 0 where
-  pub name : List ℕ
-  pub behaviours : ℕ
+  pub header : Header
   pub entries : List Entry
-  pub opens : Opens text name behaviours entries []
+  pub opens : Opens text header entries []
   pub number : line ≡ first_line + length entries + 1
 
 -- the first fault of a text that should begin with a block

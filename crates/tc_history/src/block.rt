@@ -10,7 +10,7 @@ use tc_verdict::name as name_of;
 
 // Appends the first line; where memory is refused, a part of it.
 fn append_header(out: &mut Vec<u8>, name: &Name, behaviours: u16) -> Result<(), NoMemory>
-    ensures ok { OnOk result (out.new.items ≡ out.old.items ++ (header_text name.now behaviours ++ (10 ∷ []))) }
+    ensures ok { OnOk result (out.new.items ≡ out.old.items ++ (header_text (record { name = name.now; behaviours = behaviours }) ++ (10 ∷ []))) }
     ensures err { OnErr result (StartsWith out.new.items out.old.items) }
 {
     append_text(out, "history 1 ")?;
@@ -55,22 +55,6 @@ fn append_end(out: &mut Vec<u8>, verdict: Verdict) -> Result<(), NoMemory>
     Ok(())
 }
 
-// Appends the history; where memory is refused, a part of it.
-fn append_block(
-    out: &mut Vec<u8>,
-    name: &Name,
-    behaviours: u16,
-    entries: &[Entry],
-    verdict: Verdict,
-) -> Result<(), NoMemory>
-    ensures ok { OnOk result (out.new.items ≡ out.old.items ++ block_text name.now behaviours entries.now verdict) }
-    ensures err { OnErr result (StartsWith out.new.items out.old.items) }
-{
-    append_header(out, name, behaviours)?;
-    append_entries(out, entries)?;
-    append_end(out, verdict)
-}
-
 /// Appends the history of a test case: its name, the number of its behaviours, its entries and its overall verdict.
 /// Where memory is refused, nothing is appended.
 pub fn write_block(
@@ -84,11 +68,12 @@ pub fn write_block(
     ensures err { OnErr result (out.new.items ≡ out.old.items) }
 {
     let start = out.len();
-    match append_block(out, name, behaviours, entries, verdict) {
-        Ok(()) => Ok(()),
-        Err(error) => {
-            out.truncate(start);
-            Err(error)
-        }
+    if append_header(out, name, behaviours).is_ok()
+        && append_entries(out, entries).is_ok()
+        && append_end(out, verdict).is_ok()
+    {
+        return Ok(());
     }
+    out.truncate(start);
+    Err(NoMemory)
 }

@@ -56,7 +56,7 @@ fn op_fits(op: &Op)
             target_fits(target)
         }
         Op::Wait { target, .. } | Op::Wake { target, .. } => target_fits(target),
-        Op::Create { .. } | Op::SetVerdict(_) | Op::GetVerdict | Op::Finish => (),
+        Op::Create { .. } | Op::StopCase | Op::SetVerdict(_) | Op::GetVerdict | Op::Finish => (),
     }
 }
 

@@ -9,9 +9,8 @@ mod line;
 mod read;
 
 pub use block::write_block;
-pub use header::{Header, take_header_line};
-pub use line::{take_end_line, take_entry_line};
-pub use read::{Block, read_history};
+pub use header::Header;
+pub use read::{BegunBlock, Block, TakesHistories, read_history, read_history_into};
 
 #[cfg(test)]
 mod tests;

@@ -1,20 +1,23 @@
 //! The lines inside a block.
-ghost use Rattle.std.specs.Prelude.{◌≡◌, ◌<◌, ◌∷◌, ℕ, List, length, IfSome, MatchOption};
+ghost use Rattle.std.specs.Prelude.{◌≡◌, ◌<◌, ◌∷◌, ℕ, List, length, IfSome};
 ghost use Rattle.tc_verdict.specs.declared.verdict.Verdict.{Verdict as AnyVerdict};
 ghost use Rattle.tc_entry.specs.declared.entry.Entry.{Entry as AnyEntry};
+ghost use Rattle.tc_entry.specs.declared.reply.Reply.{Reply as AnyReply};
 ghost use Rattle.tc_text.specs.Lines.{lines_of};
-ghost use Rattle.tc_history.specs.Block.{end_text, entry_text};
+ghost use Rattle.tc_text.specs.Reading.{TakesLine};
+ghost use Rattle.tc_text.specs.Spelling.{IsReply, IsStart};
+ghost use Rattle.tc_history.specs.Block.{end_text, entry_text, outcome_text};
 ghost use Rattle.tc_history.specs.Text.{IsEntry};
 
-use tc_entry::{Entry, Verdict};
-use tc_text::{after, take_line_end, take_move, take_reply, take_short_move, take_verdict};
+use tc_entry::{Entry, Reply, Verdict};
+use tc_text::{after, take_line_end, take_reply, take_short_move, take_start_move, take_verdict};
 
 /// The overall verdict, where the first line is the last one of a block, and what stands behind that line.
 #[inline(always)]
 pub fn take_end_line(text: &[u8]) -> Option<(Verdict, &[u8])>
     ensures spelled { IfSome result (λ r. lines_of text.now ≡ end_text r.0 ∷ lines_of r.1.now) }
     ensures less { IfSome result (λ r. length r.1.now < length text.now) }
-    ensures only { (v : AnyVerdict) (others : List (List ℕ)) → lines_of text.now ≡ end_text v ∷ others → MatchOption result ⊥ (λ r. (r.0 ≡ v) × (lines_of r.1.now ≡ others)) }
+    ensures only { (v : AnyVerdict) (others : List (List ℕ)) → lines_of text.now ≡ end_text v ∷ others → TakesLine result v others }
 {
     let rest = after(text, b"end ")?;
     let (verdict, rest) = take_verdict(rest)?;
@@ -22,26 +25,33 @@ pub fn take_end_line(text: &[u8]) -> Option<(Verdict, &[u8])>
     Some((verdict, rest))
 }
 
-// The entry that the first line spells, and what stands behind that line, whatever the entry's operation.
+// The reply behind a move, and what stands behind the line, which it ends.
+#[inline(always)]
+fn take_outcome(text: &[u8]) -> Option<(Reply, &[u8])>
+    ensures spelled { IfSome result (λ r. lines_of text.now ≡ outcome_text r.0 ∷ lines_of r.1.now) }
+    ensures fits { IfSome result (λ r. IsReply r.0) }
+    ensures less { IfSome result (λ r. length r.1.now < length text.now) }
+    ensures only { (r : AnyReply) (others : List (List ℕ)) → IsReply r → lines_of text.now ≡ outcome_text r ∷ others
+        → TakesLine result r others }
+{
+    let rest = after(text, b" -> ")?;
+    let (reply, rest) = take_reply(rest)?;
+    let rest = take_line_end(rest)?;
+    Some((reply, rest))
+}
+
+// The entry of a Start that the first line spells, and what stands behind that line.
 #[inline(never)]
-fn take_any_entry_line(text: &[u8]) -> Option<(Entry, &[u8])>
+fn take_start_line(text: &[u8]) -> Option<(Entry, &[u8])>
     ensures spelled { IfSome result (λ r. lines_of text.now ≡ entry_text r.0 ∷ lines_of r.1.now) }
     ensures fits { IfSome result (λ r. IsEntry r.0) }
     ensures less { IfSome result (λ r. length r.1.now < length text.now) }
-    ensures only { (e : AnyEntry) (others : List (List ℕ)) → IsEntry e → lines_of text.now ≡ entry_text e ∷ others → MatchOption result ⊥ (λ r. (r.0 ≡ e) × (lines_of r.1.now ≡ others)) }
+    ensures only { (e : AnyEntry) (others : List (List ℕ)) → IsStart e.op → IsEntry e → lines_of text.now ≡ entry_text e ∷ others
+        → TakesLine result e others }
 {
-    let Some((one, rest)) = take_move(text) else {
-        return None;
-    };
-    let rest = after(rest, b" -> ")?;
-    let (reply, rest) = take_reply(rest)?;
-    let rest = take_line_end(rest)?;
-    let entry = Entry {
-        caller: one.0,
-        op: one.1,
-        reply,
-    };
-    Some((entry, rest))
+    let ((caller, op), rest) = take_start_move(text)?;
+    let (reply, rest) = take_outcome(rest)?;
+    Some((Entry { caller, op, reply }, rest))
 }
 
 /// The entry that the first line spells, and what stands behind that line.
@@ -50,17 +60,16 @@ pub fn take_entry_line(text: &[u8]) -> Option<(Entry, &[u8])>
     ensures spelled { IfSome result (λ r. lines_of text.now ≡ entry_text r.0 ∷ lines_of r.1.now) }
     ensures fits { IfSome result (λ r. IsEntry r.0) }
     ensures less { IfSome result (λ r. length r.1.now < length text.now) }
-    ensures only { (e : AnyEntry) (others : List (List ℕ)) → IsEntry e → lines_of text.now ≡ entry_text e ∷ others → MatchOption result ⊥ (λ r. (r.0 ≡ e) × (lines_of r.1.now ≡ others)) }
+    ensures only { (e : AnyEntry) (others : List (List ℕ)) → IsEntry e → lines_of text.now ≡ entry_text e ∷ others
+        → TakesLine result e others }
 {
-    let Some((one, rest)) = take_short_move(text) else {
-        return take_any_entry_line(text);
+    let Some(((caller, short), rest)) = take_short_move(text) else {
+        return take_start_line(text);
     };
-    let rest = after(rest, b" -> ")?;
-    let (reply, rest) = take_reply(rest)?;
-    let rest = take_line_end(rest)?;
+    let (reply, rest) = take_outcome(rest)?;
     let entry = Entry {
-        caller: one.0,
-        op: one.1.op(),
+        caller,
+        op: short.op(),
         reply,
     };
     Some((entry, rest))

@@ -1,4 +1,7 @@
+//! Texts of histories, read and written.
 use super::*;
+use crate::header::take_header_line;
+use crate::line::{take_end_line, take_entry_line};
 use std::alloc::AllocGlobal;
 use std::process::Abort;
 use std::str;
@@ -199,8 +202,8 @@ fn names_of_thirty_two_letters(rt: HostRuntime) -> Result<(), Fail> {
     Ok(())
 }
 
-// The operations and their texts: each of the sixteen, and each of its forms once.
-fn operations() -> [(Op, &'static str); 20] {
+// The operations and their texts: each in each of its forms once.
+fn operations() -> [(Op, &'static str); 21] {
     let one = Target::One(Comp(4294967295));
     let mut args = Args::new();
     for comp in [0, 1, 2, 3] {
@@ -220,6 +223,7 @@ fn operations() -> [(Op, &'static str); 20] {
         (Op::Stop(Group::One(Comp(10))), "stop 10"),
         (Op::Stop(Group::All), "stop all"),
         (Op::Kill(Group::All), "kill all"),
+        (Op::StopCase, "stopcase"),
         (Op::Running(one), "running 4294967295"),
         (Op::Alive(Target::Any), "alive any"),
         (Op::Done(Target::All), "done all"),
@@ -287,7 +291,7 @@ fn replies() -> [(Reply, &'static str); 20] {
     ]
 }
 
-// Each operation with each reply, 400 lines between the first and the last one: written, compared line by line, and read.
+// Each operation with each reply, 420 lines between the first and the last one: written, compared line by line, and read.
 #[test]
 fn lines_of_a_written_history(rt: HostRuntime) -> Result<(), Fail> {
     let name = Name::read("t").ok_or("a name")?;
@@ -302,7 +306,7 @@ fn lines_of_a_written_history(rt: HostRuntime) -> Result<(), Fail> {
     let mut out = Vec::new(rt.alloc());
     write_block(&mut out, &name, 64, entries.as_slice(), Verdict::Fail)?;
     let text = str::from_utf8(out.as_slice()).map_err(|_| "a text")?;
-    assert_eq!(rt; text.lines().count(), 402);
+    assert_eq!(rt; text.lines().count(), 422);
     let mut lines = text.lines();
     assert_eq!(rt; lines.next(), Some("history 1 t 64"));
     for (_, op) in operations.iter() {
@@ -314,7 +318,7 @@ fn lines_of_a_written_history(rt: HostRuntime) -> Result<(), Fail> {
     assert_eq!(rt; lines.next(), Some("end fail"));
     let blocks = read_history(rt.alloc(), out.as_slice()).map_err(|_| "a history")?;
     let block = blocks.first().ok_or("a block")?;
-    assert_eq!(rt; block.entries.as_slice().len(), 400);
+    assert_eq!(rt; block.entries.as_slice().len(), 420);
     for (read, written) in block.entries.as_slice().iter().zip(entries.as_slice()) {
         assert!(rt; read.same(written));
     }

@@ -1,15 +1,12 @@
 -- The test for a name, and what a name is.
-use Rattle.std.proofs.Common.{ℕ, ◌≡◌, ◌≢◌, ◌<◌, ◌≤◌, Bool, true, false, List, [], ◌∷◌, length, codes, refl, arith, rules, tests}
+use Rattle.std.proofs.Common.{ℕ, ◌≡◌, ◌≢◌, ◌≤◌, Bool, true, false, List, [], ◌∷◌, length, codes, refl, arith, rules, tests}
 use Rattle.std.specs.Prelude.{◌&&◌, ◌||◌, not, nat_eq, nat_le, IsTrue, All, IfSome, slice_get}
 use Rattle.std.specs.List.{list_all}
 use Rattle.std.specs.Char.{is_ascii_alphabetic}
 use Rattle.std.specs.Cmp.Lexicographic.{pointwise, bytes_decides}
-use Rattle.std.specs.Str.{IsUtf8}
-use Rattle.std.proofs.lemmas.Str.{IsUtf8-from_ascii}
-use Rattle.std.proofs.lemmas.Str.Ascii.{IsAscii-from_all}
 use Rattle.std.specs.Bool.{Decides}
 use Rattle.std.proofs.lemmas.Bool.Decides.{nat_tests, Decides-by_and}
-use Rattle.std.proofs.lemmas.List.Elements.{All-weaker}
+use Rattle.tc_entry.specs.declared.limits.TheConstants.{NAME_BYTES}
 use Rattle.tc_entry.specs.Name.{IsName, is_name_byte}
 use Rattle.tc_line.specs.Words.{is_text, is_reserved, begins_with_letter, has_name_bytes, is_name}
 
@@ -58,7 +55,7 @@ begins_well (b ∷ bs) letter some = (true_is (is_ascii_alphabetic b)).1 letter
 pub name_is_told : (word : List ℕ) → is_name word ≡ true → IsName word
 unfolding is_name is_reserved has_name_bytes
 name_is_told word e =
-    let well = both (begins_with_letter word && list_all is_name_byte word && nat_le (length word) 32) _ e in
+    let well = both (begins_with_letter word && list_all is_name_byte word && nat_le (length word) NAME_BYTES) _ e in
     let short = both (begins_with_letter word && list_all is_name_byte word) _ well.0 in
     let allowed = both (begins_with_letter word) _ short.0 in
     let last = one_of (is_text word (codes "all") || is_text word (codes "any") || is_text word (codes "mtc")) _ (opposite _ well.1) in
@@ -81,19 +78,13 @@ joined a b c d p q r s = rw (p, q, r, s) refl
 none_of : (a b c d : Bool) → a ≡ false → b ≡ false → c ≡ false → d ≡ false → not (a || b || c || d) ≡ true
 none_of a b c d p q r s = rw (p, q, r, s) refl
 
-short_enough : (n : ℕ) → n ≤ 32 → nat_le n 32 ≡ true
+short_enough : (n : ℕ) → n ≤ NAME_BYTES → nat_le n NAME_BYTES ≡ true
 short_enough n h = grind (arith, nat_tests)
 
 pub name_is_found : (word : List ℕ) → IsName word → is_name word ≡ true
 unfolding is_name is_reserved has_name_bytes
 name_is_found word is = joined _ _ _ _ (begins_well word is.begins is.is_some) ((all_allowed word).1 is.allowed) (short_enough (length word) is.is_short)
     (none_of _ _ _ _ (other_is word (codes "all") is.not_all) (other_is word (codes "any") is.not_any) (other_is word (codes "mtc") is.not_mtc) (other_is word (codes "self") is.not_self))
-
-name_byte_low : (b : ℕ) → IsTrue (is_name_byte b) → b < 128
-name_byte_low b h = grind (arith, nat_tests)
-
-pub name_is_utf8 : (word : List ℕ) → IsName word → IsUtf8 word
-name_is_utf8 word is = IsUtf8-from_ascii word (IsAscii-from_all word (All-weaker _ _ name_byte_low word is.allowed))
 
 pub no_name : (word : List ℕ) → (IsName word → ⊥) → is_name word ≡ false
 no_name word missing = by (is_name word) (name_is_told word)
@@ -102,4 +93,4 @@ no_name word missing = by (is_name word) (name_is_told word)
     by true f = absurd (missing (f refl))
     by false f = refl
 
-pub ruleset naming_rules = (name_is_told, name_is_found, name_is_utf8, no_name)
+pub ruleset naming_rules = (name_is_told, name_is_found, no_name)

@@ -7,12 +7,12 @@ use Rattle.tc_line.specs.declared.kind.LineFault.{LineFault}
 use Rattle.tc_line.specs.declared.kind.LineFault.TheVariants as E
 use Rattle.tc_line.specs.declared.line.Keyword.{Keyword}
 use Rattle.tc_line.specs.declared.line.Keyword.TheVariants as K
-use Rattle.tc_line.specs.declared.line.Reference.{Reference}
-use Rattle.tc_line.specs.declared.line.Reference.TheVariants as R
-use Rattle.tc_line.specs.declared.line.GroupWord.{GroupWord}
-use Rattle.tc_line.specs.declared.line.GroupWord.TheVariants as G
-use Rattle.tc_line.specs.declared.line.TargetWord.{TargetWord}
-use Rattle.tc_line.specs.declared.line.TargetWord.TheVariants as T
+use Rattle.tc_step.specs.declared.place.Place.{Place}
+use Rattle.tc_step.specs.declared.place.Place.TheVariants as P
+use Rattle.tc_step.specs.declared.place.GroupPlace.{GroupPlace}
+use Rattle.tc_step.specs.declared.place.GroupPlace.TheVariants as G
+use Rattle.tc_step.specs.declared.place.TargetPlace.{TargetPlace}
+use Rattle.tc_step.specs.declared.place.TargetPlace.TheVariants as T
 use Rattle.tc_line.specs.declared.line.Call.TheVariants as C
 use Rattle.tc_line.specs.declared.line.Line.{Line}
 use Rattle.tc_line.specs.declared.line.Line.TheVariants as L
@@ -20,6 +20,7 @@ use Rattle.tc_line.specs.Text.{words}
 use Rattle.tc_line.specs.Words.{is_text, name, keyword, verdict}
 
 infixl 10 ◌>>=◌
+-- what is made of a result, or its fault
 abbrev pub ◌>>=◌ : {A B E : Type 0} → Result A E → (A → Result B E) → Result B E
 (Ok x) >>= f = f x
 (Err e) >>= f = Err e
@@ -32,31 +33,38 @@ each f (x ∷ xs) = do
   ys ← each f xs
   Ok (y ∷ ys)
 
+-- what is there, or the fault where nothing is
 abbrev pub or_fault : {A : Type 0} → Option A → ScriptKind → Result A ScriptKind
 or_fault (Some x) kind = Ok x
 or_fault None kind = Err kind
 
+-- the word as a name
 unfoldable pub named : List ℕ → Result (List ℕ) ScriptKind
 named word = or_fault (name word) F.BadName
 
-unfoldable pub reference : List ℕ → Result Reference ScriptKind
+-- the component that a word names
+unfoldable pub reference : List ℕ → Result (Place (List ℕ)) ScriptKind
 reference word =
-    if is_text word (codes "mtc") then Ok R.Main
-    else if is_text word (codes "self") then Ok R.Own
-    else named word >>= λ n. Ok (R.Bound n)
+    if is_text word (codes "mtc") then Ok P.Main
+    else if is_text word (codes "self") then Ok P.Own
+    else named word >>= λ n. Ok (P.Bound n)
 
-unfoldable pub group : List ℕ → Result GroupWord ScriptKind
+-- the components that the word after stop or kill names
+unfoldable pub group : List ℕ → Result (GroupPlace (Place (List ℕ))) ScriptKind
 group word = if is_text word (codes "all") then Ok G.All else reference word >>= λ r. Ok (G.One r)
 
-unfoldable pub target : List ℕ → Result TargetWord ScriptKind
+-- the components that the word after a question or a wait names
+unfoldable pub target : List ℕ → Result (TargetPlace (Place (List ℕ))) ScriptKind
 target word =
     if is_text word (codes "any") then Ok T.Any
     else if is_text word (codes "all") then Ok T.All
     else reference word >>= λ r. Ok (T.One r)
 
+-- the line of a create of this name
 abbrev pub create : List ℕ → Bool → Result Line ScriptKind
 create r alive = named r >>= λ n. Ok (L.Step (C.Create n alive))
 
+-- the line of a wait on this word
 abbrev pub wait : List ℕ → Bool → Result Line ScriptKind
 wait t killed = target t >>= λ u. Ok (L.Step (C.Wait killed u))
 
@@ -77,6 +85,7 @@ form K.Start (x ∷ b ∷ as_given) = do
   Ok (L.Step (C.Start on m args))
 form K.Stop (g ∷ []) = group g >>= λ h. Ok (L.Step (C.Stop h))
 form K.Kill (g ∷ []) = group g >>= λ h. Ok (L.Step (C.Kill h))
+form K.StopCase [] = Ok (L.Step C.StopCase)
 form (K.Ask s) (t ∷ []) = target t >>= λ u. Ok (L.Step (C.Ask s u))
 form K.Wait (w ∷ t ∷ []) =
     if is_text w (codes "done") then wait t false
@@ -86,9 +95,11 @@ form K.SetVerdict (v ∷ []) = or_fault (verdict v) F.BadLine >>= λ u. Ok (L.St
 form K.GetVerdict [] = Ok (L.Step C.GetVerdict)
 form _ _ = Err F.BadLine
 
+-- no byte is outside 32 to 126
 unfoldable pub printable : List ℕ → Bool
 printable bytes = list_all (λ b. nat_le 32 b && nat_le b 126) bytes
 
+-- the word begins with `#`
 abbrev pub is_comment : List ℕ → Bool
 is_comment [] = false
 is_comment (b ∷ bs) = b == 35

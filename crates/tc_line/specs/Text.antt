@@ -2,15 +2,19 @@
 use Rattle.std.specs.Prelude.{ℕ, ◌==◌, ◌-◌, not, Bool, if◌then◌else◌, List, [], length, filter, take, slice_index}
 use Rattle.std.specs.List.{slice_split}
 
+-- a line feed
 abbrev pub is_newline : ℕ → Bool
 is_newline b = b == 10
 
+-- a space
 abbrev pub is_space : ℕ → Bool
 is_space b = b == 32
 
+-- a text that is not empty
 abbrev pub is_some_text : List ℕ → Bool
 is_some_text w = not (length w == 0)
 
+-- the parts between the bytes that cut
 abbrev pub parts : (ℕ → Bool) → List ℕ → List (List ℕ)
 parts cuts bytes = slice_split cuts bytes
 

@@ -6,6 +6,7 @@ use Rattle.std.specs.Cmp.Lexicographic.{pointwise}
 use Rattle.tc_line.specs.declared.line.Keyword.{Keyword}
 use Rattle.tc_line.specs.declared.line.Keyword.TheVariants as K
 use Rattle.tc_step.specs.declared.step.Status.TheVariants as S
+use Rattle.tc_entry.specs.declared.limits.TheConstants.{NAME_BYTES}
 use Rattle.tc_entry.specs.Name.{is_name_byte}
 use Rattle.tc_verdict.specs.declared.user_verdict.UserVerdict.{UserVerdict}
 use Rattle.tc_verdict.specs.declared.user_verdict.UserVerdict.TheVariants as V
@@ -19,21 +20,25 @@ unfoldable pub is_reserved : List ℕ → Bool
 is_reserved word =
     is_text word (codes "all") || is_text word (codes "any") || is_text word (codes "mtc") || is_text word (codes "self")
 
+-- the first byte is a letter
 unfoldable pub begins_with_letter : List ℕ → Bool
 begins_with_letter [] = false
 begins_with_letter (b ∷ bs) = is_ascii_alphabetic b
 
+-- each byte may stand in a name
 unfoldable pub has_name_bytes : List ℕ → Bool
 has_name_bytes text = list_all is_name_byte text
 
--- the test for a name: a letter, and then letters, digits or `_`, 1 to 32 bytes, and no reserved word
+-- the test for a name: a letter, and then letters, digits or `_`, 1 to `NAME_BYTES` bytes, and no reserved word
 unfoldable pub is_name : List ℕ → Bool
 is_name text =
-    begins_with_letter text && has_name_bytes text && nat_le (length text) 32 && not (is_reserved text)
+    begins_with_letter text && has_name_bytes text && nat_le (length text) NAME_BYTES && not (is_reserved text)
 
+-- the word, if it is a name
 abbrev pub name : List ℕ → Option (List ℕ)
 name word = if is_name word then Some word else None
 
+-- the first word of a line
 unfoldable pub keyword : List ℕ → Option Keyword
 keyword word =
     if is_text word (codes "testcase") then Some K.TestCase
@@ -43,6 +48,7 @@ keyword word =
     else if is_text word (codes "start") then Some K.Start
     else if is_text word (codes "stop") then Some K.Stop
     else if is_text word (codes "kill") then Some K.Kill
+    else if is_text word (codes "stopcase") then Some K.StopCase
     else if is_text word (codes "running") then Some (K.Ask S.Running)
     else if is_text word (codes "alive") then Some (K.Ask S.Alive)
     else if is_text word (codes "done") then Some (K.Ask S.Done)
@@ -52,6 +58,7 @@ keyword word =
     else if is_text word (codes "getverdict") then Some K.GetVerdict
     else None
 
+-- what setverdict may set
 unfoldable pub verdict : List ℕ → Option UserVerdict
 verdict word =
     if is_text word (codes "none") then Some V.None

@@ -1,8 +1,10 @@
+//! What is wrong with a line of a script.
 ghost use Rattle.std.specs.Prelude.{◌≡◌, Some};
 ghost use Rattle.tc_line.specs.ScriptKind.{fault_text, kind_text};
 
 use std::alloc::{AllocError, AllocFailed};
 use std::fmt;
+use tc_verdict::{EARLY_END, NoMemory};
 use thiserror::Error;
 
 /// What is wrong with a line of a script, in the order in which a line is judged.
@@ -43,7 +45,7 @@ impl ScriptKind {
             ScriptKind::BadName => "bad name",
             ScriptKind::BadPlace => "not allowed here",
             ScriptKind::TooMany => "too many",
-            ScriptKind::Cut => "text ends too early",
+            ScriptKind::Cut => EARLY_END,
             ScriptKind::Twice => "name already used",
             ScriptKind::NoReference => "unbound reference",
             ScriptKind::UnknownBehaviour => "unknown behaviour",
@@ -76,7 +78,7 @@ impl fmt::Display for LineFault {
     fn fmt<W: fmt::Write>(&self, f: &mut fmt::Formatter<W>) -> fmt::Result {
         match self {
             LineFault::Kind(kind) => f.write_str(kind.text()),
-            LineFault::NoMemory => f.write_str("no memory"),
+            LineFault::NoMemory => NoMemory.fmt(f),
         }
     }
 }

@@ -9,10 +9,10 @@ mod text;
 mod word;
 
 pub use kind::{LineFault, ScriptKind};
-pub use line::{Call, GroupWord, Line, Reference, TargetWord};
+pub use line::{Call, Line};
 pub use reading::read_line;
 pub use tc_entry::{Name, Sequence, UserVerdict};
-pub use tc_step::Status;
+pub use tc_step::{GroupPlace, Place, Status, TargetPlace};
 pub use text::lines_of;
 
 #[cfg(test)]

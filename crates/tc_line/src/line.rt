@@ -1,5 +1,6 @@
+//! A line of a script, as a form.
 use tc_entry::{Name, Sequence, UserVerdict};
-use tc_step::Status;
+use tc_step::{GroupPlace, Place, Status, TargetPlace};
 
 /// The first word of a line that is not skipped.
 #[derive(Clone, Copy, Debug, PartialEq, Eq)]
@@ -11,39 +12,14 @@ pub enum Keyword {
     Start,
     Stop,
     Kill,
+    StopCase,
     Ask(Status),
     Wait,
     SetVerdict,
     GetVerdict,
 }
 
-/// A component, as a line names it.
-#[derive(Drop)]
-pub enum Reference {
-    /// `mtc`, the main component.
-    Main,
-    /// `self`, the component of the behaviour.
-    Own,
-    /// A parameter, or the name that a create gave.
-    Bound(Name),
-}
-
-/// Which components a stop or a kill is for, as a line names them.
-#[derive(Drop)]
-pub enum GroupWord {
-    One(Reference),
-    All,
-}
-
-/// Which components a question or a wait is about, as a line names them.
-#[derive(Drop)]
-pub enum TargetWord {
-    One(Reference),
-    Any,
-    All,
-}
-
-/// A call, as a line writes it.
+/// A call, as a line writes it. A component that is bound has the name of a parameter, or that which a create gave.
 #[derive(Drop)]
 pub enum Call {
     Create {
@@ -51,16 +27,17 @@ pub enum Call {
         alive: bool,
     },
     Start {
-        on: Reference,
+        on: Place<Name>,
         behaviour: Name,
-        args: Sequence<Reference>,
+        args: Sequence<Place<Name>>,
     },
-    Stop(GroupWord),
-    Kill(GroupWord),
-    Ask(Status, TargetWord),
+    Stop(GroupPlace<Place<Name>>),
+    Kill(GroupPlace<Place<Name>>),
+    StopCase,
+    Ask(Status, TargetPlace<Place<Name>>),
     Wait {
         killed: bool,
-        target: TargetWord,
+        target: TargetPlace<Place<Name>>,
     },
     SetVerdict(UserVerdict),
     GetVerdict,

@@ -1,15 +1,16 @@
+//! A line is read as its form, or by its first fault.
 ghost use Rattle.std.specs.Prelude.{◌≡◌, map};
 ghost use Rattle.tc_line.specs.Line.{named, reference, group, target, form, line_of, printable, is_comment as comment, each, Gives};
 ghost use Rattle.tc_line.specs.declared.line.Keyword.TheVariants as K;
 
 use crate::kind::{LineFault, ScriptKind};
-use crate::line::{Call, GroupWord, Keyword, Line, Reference, TargetWord};
+use crate::line::{Call, Keyword, Line};
 use crate::spelling::{is_word, read_keyword, read_verdict};
 use crate::text::words_of;
 use crate::word::read_name;
 use std::alloc::Global;
 use tc_entry::{Name, Sequence};
-use tc_step::Status;
+use tc_step::{GroupPlace, Place, Status, TargetPlace};
 
 #[tactic(auto, unfolding(crate::specs::Line::named))]
 fn read_named(word: &[u8]) -> Result<Name, ScriptKind>
@@ -22,42 +23,42 @@ fn read_named(word: &[u8]) -> Result<Name, ScriptKind>
 }
 
 #[tactic(auto, unfolding(crate::specs::Line::reference))]
-fn read_reference(word: &[u8]) -> Result<Reference, ScriptKind>
+fn read_reference(word: &[u8]) -> Result<Place<Name>, ScriptKind>
     ensures { result ≡ reference word.now }
 {
     if is_word(word, b"mtc") {
-        return Ok(Reference::Main);
+        return Ok(Place::Main);
     }
     if is_word(word, b"self") {
-        return Ok(Reference::Own);
+        return Ok(Place::Own);
     }
     let name = read_named(word)?;
-    Ok(Reference::Bound(name))
+    Ok(Place::Bound(name))
 }
 
 #[tactic(auto, unfolding(crate::specs::Line::group))]
-fn read_group(word: &[u8]) -> Result<GroupWord, ScriptKind>
+fn read_group(word: &[u8]) -> Result<GroupPlace<Place<Name>>, ScriptKind>
     ensures { result ≡ group word.now }
 {
     if is_word(word, b"all") {
-        return Ok(GroupWord::All);
+        return Ok(GroupPlace::All);
     }
     let one = read_reference(word)?;
-    Ok(GroupWord::One(one))
+    Ok(GroupPlace::One(one))
 }
 
 #[tactic(auto, unfolding(crate::specs::Line::target))]
-fn read_target(word: &[u8]) -> Result<TargetWord, ScriptKind>
+fn read_target(word: &[u8]) -> Result<TargetPlace<Place<Name>>, ScriptKind>
     ensures { result ≡ target word.now }
 {
     if is_word(word, b"any") {
-        return Ok(TargetWord::Any);
+        return Ok(TargetPlace::Any);
     }
     if is_word(word, b"all") {
-        return Ok(TargetWord::All);
+        return Ok(TargetPlace::All);
     }
     let one = read_reference(word)?;
-    Ok(TargetWord::One(one))
+    Ok(TargetPlace::One(one))
 }
 
 #[tactic(auto, unfolding(crate::specs::Line::form))]
@@ -104,7 +105,7 @@ fn read_names(alloc: Global, words: &[&[u8]]) -> Result<Sequence<Name>, LineFaul
     Ok(Sequence::new(names))
 }
 
-fn read_references(alloc: Global, words: &[&[u8]]) -> Result<Sequence<Reference>, LineFault>
+fn read_references(alloc: Global, words: &[&[u8]]) -> Result<Sequence<Place<Name>>, LineFault>
     ensures { Gives result (each reference (map (λ w. w.now) words.now)) }
 {
     let mut references = Vec::new(alloc);
@@ -195,6 +196,16 @@ fn read_kill(words: &[&[u8]]) -> Result<Line, ScriptKind>
 }
 
 #[tactic(auto, unfolding(crate::specs::Line::form))]
+fn read_stop_case(words: &[&[u8]]) -> Result<Line, ScriptKind>
+    ensures { result ≡ form K.StopCase (map (λ w. w.now) words.now) }
+{
+    match words {
+        [] => Ok(Line::Step(Call::StopCase)),
+        _ => Err(ScriptKind::BadLine),
+    }
+}
+
+#[tactic(auto, unfolding(crate::specs::Line::form))]
 fn read_ask(status: Status, words: &[&[u8]]) -> Result<Line, ScriptKind>
     ensures { result ≡ form (K.Ask status) (map (λ w. w.now) words.now) }
 {
@@ -252,6 +263,7 @@ fn read_form(alloc: Global, keyword: Keyword, words: &[&[u8]]) -> Result<Line, L
         Keyword::Start => read_start(alloc, words)?,
         Keyword::Stop => read_stop(words)?,
         Keyword::Kill => read_kill(words)?,
+        Keyword::StopCase => read_stop_case(words)?,
         Keyword::Ask(status) => read_ask(status, words)?,
         Keyword::Wait => read_wait(words)?,
         Keyword::SetVerdict => read_set_verdict(words)?,

@@ -1,3 +1,4 @@
+//! The words of the script language: keywords and verdicts.
 ghost use Rattle.std.specs.Prelude.{◌≡◌};
 ghost use Rattle.tc_line.specs.Words.{is_text, keyword, verdict};
 
@@ -32,6 +33,8 @@ pub fn read_keyword(word: &[u8]) -> Option<Keyword>
         Some(Keyword::Stop)
     } else if is_word(word, b"kill") {
         Some(Keyword::Kill)
+    } else if is_word(word, b"stopcase") {
+        Some(Keyword::StopCase)
     } else if is_word(word, b"running") {
         Some(Keyword::Ask(Status::Running))
     } else if is_word(word, b"alive") {

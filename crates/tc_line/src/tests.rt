@@ -1,3 +1,4 @@
+//! Lines of scripts, their words and their faults.
 use super::*;
 use std::process::Abort;
 use std::test::Fail;
@@ -51,6 +52,7 @@ fn faults_of_a_line(rt: HostRuntime) {
         ("wait killed p", None),
         ("setverdict none", None),
         ("setverdict inconc", None),
+        ("stopcase", None),
         ("getverdict", None),
         ("\tend", Some(ScriptKind::BadByte)),
         ("end \u{e9}", Some(ScriptKind::BadByte)),
@@ -64,6 +66,7 @@ fn faults_of_a_line(rt: HostRuntime) {
         ("start p", Some(ScriptKind::BadLine)),
         ("wait running p", Some(ScriptKind::BadLine)),
         ("setverdict error", Some(ScriptKind::BadLine)),
+        ("stopcase all", Some(ScriptKind::BadLine)),
         ("getverdict p", Some(ScriptKind::BadLine)),
         ("finish", Some(ScriptKind::BadLine)),
         ("testcase all", Some(ScriptKind::BadName)),
@@ -80,9 +83,9 @@ fn faults_of_a_line(rt: HostRuntime) {
     }
 }
 
-fn is_bound<R: Abort>(rt: &R, reference: &Reference, name: &str) {
+fn is_bound<R: Abort>(rt: &R, reference: &Place<Name>, name: &str) {
     match reference {
-        Reference::Bound(bound) => assert_eq!(rt; bound.bytes(), name.as_bytes()),
+        Place::Bound(bound) => assert_eq!(rt; bound.bytes(), name.as_bytes()),
         _ => panic!(rt; "no name"),
     }
 }
@@ -104,9 +107,9 @@ fn a_start_and_its_words(rt: HostRuntime) {
             assert_eq!(rt; behaviour.bytes(), b"worker".as_slice());
             let args = args.as_slice();
             assert_eq!(rt; args.len(), 3);
-            assert!(rt; matches!(&args[0], Reference::Main));
+            assert!(rt; matches!(&args[0], Place::Main));
             is_bound(&rt, &args[1], "q");
-            assert!(rt; matches!(&args[2], Reference::Own));
+            assert!(rt; matches!(&args[2], Place::Own));
         }
         _ => panic!(rt; "no start"),
     }

@@ -1,3 +1,4 @@
+//! The lines of a text, and the words of a line.
 ghost use Rattle.std.specs.Prelude.{◌≡◌, IfOk, map};
 ghost use Rattle.tc_line.specs.Text.{lines, words, parts, is_newline, without_end};
 

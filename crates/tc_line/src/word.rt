@@ -1,3 +1,4 @@
+//! A name by its spelling.
 ghost use Rattle.std.specs.Prelude.{◌≡◌};
 ghost use Rattle.tc_line.specs.Words.{name};
 
@@ -8,8 +9,5 @@ use tc_entry::Name;
 pub fn read_name(word: &[u8]) -> Option<Name>
     ensures { result ≡ name word.now }
 {
-    match str::from_utf8(word) {
-        Ok(text) => Name::read(text),
-        Err(_) => None,
-    }
+    Name::of_bytes(word)
 }

@@ -1,3 +1,4 @@
+-- The lemmas of this crate.
 pub mod Table
 pub mod InPlace
 pub mod Late

@@ -17,11 +17,13 @@ log_or (l ∷ ls) b other = if l.run.0 == b then l.entries else log_or ls b othe
 abbrev pub HasAfter : List (Bor (List Entry)) → List RunLog → (ℕ → List Entry) → Type 0
 HasAfter table logs log = (b : ℕ) (d : Bor (List Entry)) → b < length table → log_or logs b (get_or table b d).now ≡ log b
 
-log_or-none : (logs : List RunLog) (b : ℕ) → log_or logs b [] ≡ log_of logs b
+-- with no other entries it is the log of the run
+pub log_or-none : (logs : List RunLog) (b : ℕ) → log_or logs b [] ≡ log_of logs b
 log_or-none [] b = refl
 log_or-none (l ∷ ls) b = ap (λ x. if l.run.0 == b then l.entries else x) (log_or-none ls b)
 
-log_or-last : (logs : List RunLog) (l : RunLog) (b : ℕ) (other : List Entry) →
+-- of one log more at the end
+pub log_or-last : (logs : List RunLog) (l : RunLog) (b : ℕ) (other : List Entry) →
     log_or (logs ++ l ∷ []) b other ≡ log_or logs b (if l.run.0 == b then l.entries else other)
 log_or-last [] l b other = refl
 log_or-last (m ∷ ms) l b other = ap (λ x. if m.run.0 == b then m.entries else x) (log_or-last ms l b other)

@@ -17,6 +17,7 @@ abbrev pub AreStartedOnce : List Entry → Type 0
 AreStartedOnce [] = Unit {0}
 AreStartedOnce (e ∷ past) = ((run : Run) → started e ≡ Some run → comp_of past run.0 ≡ None) × AreStartedOnce past
 
+-- there is no entry
 abbrev pub is_empty : List Entry → Bool
 is_empty [] = true
 is_empty (e ∷ es) = false

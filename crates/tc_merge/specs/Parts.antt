@@ -2,6 +2,7 @@
 use Rattle.std.specs.Prelude.{ℕ, ◌==◌, Bool, List, filter}
 use Rattle.tc_entry.specs.declared.entry.Entry.{Entry}
 
+-- the entry is one of run b
 abbrev pub is_by : ℕ → Entry → Bool
 is_by b e = e.caller.0 == b
 

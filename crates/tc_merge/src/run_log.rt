@@ -1,3 +1,4 @@
+//! The log of a run.
 use tc_entry::{Comp, Entry, Run, Sequence};
 
 /// The entries of one run.

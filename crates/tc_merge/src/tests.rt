@@ -1,3 +1,4 @@
+//! Histories and logs that are merged.
 use crate::*;
 use std::alloc::Global;
 use std::test::Fail;

@@ -1,3 +1,4 @@
+-- The lemmas of this crate.
 pub mod Counting
 pub mod Locals
 pub mod Overalls

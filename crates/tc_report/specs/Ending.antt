@@ -1,19 +1,9 @@
 -- How a campaign ended, as texts say it.
 use Rattle.std.specs.Prelude.{ℕ, Bool, true, false, List, [], ◌∷◌, ◌++◌, codes}
 use Rattle.tc_exec.specs.declared.refusal.CaseError.{CaseError}
-use Rattle.tc_exec.specs.declared.refusal.CaseError.TheVariants as C
-use Rattle.tc_report.specs.declared.fault.OutFault.TheVariants as F
-use Rattle.tc_report.specs.Output.{out_text}
+use Rattle.tc_exec.specs.Refusals.{refusal_text}
 use Rattle.tc_report.specs.declared.results.CampaignEnd.{CampaignEnd}
 use Rattle.tc_report.specs.declared.results.CampaignEnd.TheVariants as E
-
--- why a case has no report
-abbrev pub refusal_text : CaseError → List ℕ
-refusal_text C.NoBehaviours = codes "no behaviours"
-refusal_text C.TooManyBehaviours = codes "too many behaviours"
-refusal_text C.NoMemory = out_text F.NoMemory
-refusal_text C.NoThread = codes "no thread"
-refusal_text C.Torn = codes "torn"
 
 -- the case that was refused, and why
 abbrev pub aborted_text : List ℕ → CaseError → List ℕ

@@ -2,8 +2,8 @@
 use Rattle.std.specs.Prelude.{ℕ, List, Option}
 use Rattle.std.specs.Io.KnownBytes.{Keeps}
 use Rattle.tc_stream.specs.Output.{AppendsPrefix}
-use Rattle.tc_stream.specs.Fault.{input_text, write_text}
-use Rattle.tc_stream.specs.declared.input.InputFault.TheVariants as I
+use Rattle.tc_stream.specs.Fault.{write_text}
+use Rattle.tc_verdict.specs.Words.{memory_text}
 use Rattle.tc_report.specs.declared.fault.OutFault.{OutFault}
 use Rattle.tc_report.specs.declared.fault.OutFault.TheVariants as F
 
@@ -14,5 +14,5 @@ LeavesPrefix before after text F.Write = AppendsPrefix before after text
 
 -- why a text did not go out whole
 abbrev pub out_text : OutFault → List ℕ
-out_text F.NoMemory = input_text I.NoMemory
+out_text F.NoMemory = memory_text
 out_text F.Write = write_text

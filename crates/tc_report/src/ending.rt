@@ -1,25 +1,12 @@
 //! How a campaign ended, as texts say it.
 ghost use Rattle.std.specs.Prelude.{◌≡◌, ◌++◌, OnOk, OnErr, IfOk};
 ghost use Rattle.std.specs.Io.{StartsWith};
-ghost use Rattle.tc_report.specs.Ending.{abort_text, aborted_text, ending_line, is_aborted, refusal_text as spec_refusal};
+ghost use Rattle.tc_report.specs.Ending.{abort_text, aborted_text, ending_line, is_aborted};
 
-use crate::fault::OutFault;
 use crate::results::{CampaignEnd, Results};
 use tc_entry::{Name, NoMemory};
 use tc_exec::CaseError;
 use tc_text::append_text;
-
-fn refusal_text(why: CaseError) -> &'static str
-    ensures { result.now ≡ spec_refusal why }
-{
-    match why {
-        CaseError::NoBehaviours => "no behaviours",
-        CaseError::TooManyBehaviours => "too many behaviours",
-        CaseError::NoMemory => OutFault::NoMemory.text(),
-        CaseError::NoThread => "no thread",
-        CaseError::Torn => "torn",
-    }
-}
 
 // Appends which case was refused, and why; where memory is refused, a part of it.
 fn append_aborted(out: &mut Vec<u8>, name: &Name, why: CaseError) -> Result<(), NoMemory>
@@ -29,7 +16,7 @@ fn append_aborted(out: &mut Vec<u8>, name: &Name, why: CaseError) -> Result<(), 
     append_text(out, "aborted at ")?;
     out.extend_from_slice(name.bytes())?;
     append_text(out, ": ")?;
-    append_text(out, refusal_text(why))
+    append_text(out, why.text())
 }
 
 /// Appends the line of the ending; where memory is refused, a part of it.

@@ -4,7 +4,7 @@ ghost use Rattle.tc_report.specs.Output.{out_text};
 
 use std::fmt;
 use tc_entry::NoMemory;
-use tc_stream::{InputFault, WriteFault};
+use tc_stream::WriteFault;
 use thiserror::Error;
 
 /// Why a text did not go out whole.
@@ -22,7 +22,7 @@ impl OutFault {
         ensures { result.now ≡ out_text self }
     {
         match self {
-            OutFault::NoMemory => InputFault::NoMemory.text(),
+            OutFault::NoMemory => NoMemory.text(),
             OutFault::Write => WriteFault.text(),
         }
     }

@@ -8,27 +8,28 @@ use Rattle.std.proofs.lemmas.List.Elements.{All-cons}
 use Rattle.std.proofs.lemmas.List.Folds.{list_any-append}
 use Rattle.tc_line.specs.declared.kind.ScriptKind.{ScriptKind}
 use Rattle.tc_line.specs.declared.kind.ScriptKind.TheVariants as F
-use Rattle.tc_line.specs.declared.line.Reference.{Reference}
-use Rattle.tc_line.specs.declared.line.Reference.TheVariants as R
-use Rattle.tc_line.specs.declared.line.GroupWord.{GroupWord}
-use Rattle.tc_line.specs.declared.line.GroupWord.TheVariants as G
-use Rattle.tc_line.specs.declared.line.TargetWord.{TargetWord}
-use Rattle.tc_line.specs.declared.line.TargetWord.TheVariants as T
 use Rattle.tc_line.specs.declared.line.Call.TheVariants as C
 use Rattle.tc_line.specs.declared.line.Line.{Line}
 use Rattle.tc_line.specs.declared.line.Line.TheVariants as L
 use Rattle.tc_line.specs.Words.{is_text}
+use Rattle.tc_step.specs.declared.place.Place.{Place}
+use Rattle.tc_step.specs.declared.place.Place.TheVariants as P
+use Rattle.tc_step.specs.declared.place.GroupPlace.{GroupPlace}
+use Rattle.tc_step.specs.declared.place.GroupPlace.TheVariants as G
+use Rattle.tc_step.specs.declared.place.TargetPlace.{TargetPlace}
+use Rattle.tc_step.specs.declared.place.TargetPlace.TheVariants as T
+use Rattle.tc_step.specs.Places.{group_map, target_map}
 use Rattle.tc_step.specs.Steps.{IsBound, AreBound, of_group, of_target}
 use Rattle.tc_script.specs.Names.{among, index_of, add, all_of, has_twice}
 use Rattle.tc_script.specs.Scope.{Head, scope_of, bound}
-use Rattle.tc_script.specs.Campaign.{steps, step_of, place, group_at, target_at}
-use Rattle.tc_script.specs.Meaning.{misnamed, meant, at_line, is_unbound, one_of_group, one_of_target}
-use Rattle.tc_script.specs.Passing.{line_fault, start_fault, fault_where}
+use Rattle.tc_script.specs.Campaign.{steps, step_of, place}
+use Rattle.tc_script.specs.SecondPass.{misnamed, name_fault, at_line, is_unbound}
+use Rattle.tc_script.specs.Inside.Passing.{line_fault, start_fault, fault_where}
 use Rattle.tc_script.proofs.Judging.{line_fault_is}
 
 pub named_next : (past : List Line) (l : Line) (rest : List Line) → misnamed past (l ∷ rest) ≡ None → (line_fault (scope_of past (l ∷ rest)) l ≡ None) × (misnamed (l ∷ past) rest ≡ None)
 named_next past l rest is =
-    let two = by (meant (scope_of past (l ∷ rest)) l) is in
+    let two = by (name_fault (scope_of past (l ∷ rest)) l) is in
     (line_fault_is (scope_of past (l ∷ rest)) l ∙ two.0, two.1)
   where
     by : (o : Option ScriptKind) → at_line past o (misnamed (l ∷ past) rest) ≡ None → (o ≡ None) × (misnamed (l ∷ past) rest ≡ None)
@@ -54,23 +55,23 @@ known : (b : Bool) → not b ≡ false → b ≡ true
 known true e = refl
 known false e = absurd cc
 
-place_bound : (ns : List (List ℕ)) (r : Reference) → is_unbound ns r ≡ false → IsBound (length ns) (place ns r)
+place_bound : (ns : List (List ℕ)) (r : Place (List ℕ)) → is_unbound ns r ≡ false → IsBound (length ns) (place ns r)
 unfolding among index_of
-place_bound ns R.Main e = tt
-place_bound ns R.Own e = tt
-place_bound ns (R.Bound n) e = found_below (is_text n) ns (known (among n ns) e)
+place_bound ns P.Main e = tt
+place_bound ns P.Own e = tt
+place_bound ns (P.Bound n) e = found_below (is_text n) ns (known (among n ns) e)
 
-all_bound : (ns : List (List ℕ)) (rs : List Reference) → list_any (is_unbound ns) rs ≡ false → All (IsBound (length ns)) (map (place ns) rs)
+all_bound : (ns : List (List ℕ)) (rs : List (Place (List ℕ))) → list_any (is_unbound ns) rs ≡ false → All (IsBound (length ns)) (map (place ns) rs)
 all_bound ns [] e = search rules
 all_bound ns (r ∷ rs) e =
     let two = neither (is_unbound ns r) (list_any (is_unbound ns) rs) e in
     All-cons (IsBound (length ns)) (place ns r) (map (place ns) rs) (place_bound ns r two.0) (all_bound ns rs two.1)
 
-group_bound : (ns : List (List ℕ)) (g : GroupWord) → list_any (is_unbound ns) (one_of_group g) ≡ false → All (IsBound (length ns)) (of_group (group_at ns g))
+group_bound : (ns : List (List ℕ)) (g : GroupPlace (Place (List ℕ))) → list_any (is_unbound ns) (of_group g) ≡ false → All (IsBound (length ns)) (of_group (group_map (place ns) g))
 group_bound ns (G.One r) e = all_bound ns (r ∷ []) e
 group_bound ns G.All e = search rules
 
-target_bound : (ns : List (List ℕ)) (t : TargetWord) → list_any (is_unbound ns) (one_of_target t) ≡ false → All (IsBound (length ns)) (of_target (target_at ns t))
+target_bound : (ns : List (List ℕ)) (t : TargetPlace (Place (List ℕ))) → list_any (is_unbound ns) (of_target t) ≡ false → All (IsBound (length ns)) (of_target (target_map (place ns) t))
 target_bound ns (T.One r) e = all_bound ns (r ∷ []) e
 target_bound ns T.Any e = search rules
 target_bound ns T.All e = search rules
@@ -164,6 +165,7 @@ are_bound hs past (L.Step (C.Wait killed t) ∷ rest) named =
     let two = named_next past (L.Step (C.Wait killed t)) rest named in
     (target_bound (bound past) t (no_fault _ F.NoReference two.0), are_bound hs (L.Step (C.Wait killed t) ∷ past) rest two.1)
 are_bound hs past (L.Step (C.SetVerdict v) ∷ rest) named = (search rules, are_bound hs (L.Step (C.SetVerdict v) ∷ past) rest (named_next past (L.Step (C.SetVerdict v)) rest named).1)
+are_bound hs past (L.Step C.StopCase ∷ rest) named = (search rules, are_bound hs (L.Step C.StopCase ∷ past) rest (named_next past (L.Step C.StopCase) rest named).1)
 are_bound hs past (L.Step C.GetVerdict ∷ rest) named = (search rules, are_bound hs (L.Step C.GetVerdict ∷ past) rest (named_next past (L.Step C.GetVerdict) rest named).1)
 
 -- those of a behaviour with these parameters

@@ -1,6 +1,8 @@
 -- What the first pass remembers follows from the lines before.
 use Rattle.std.proofs.Common.{ℕ, ◌≡◌, ◌+◌, Bool, true, false, Result, Ok, Err, List, [], ◌∷◌, length, refl, sym, ap, arith}
 use Rattle.std.specs.Prelude.{filter, nat_le, nat_lt, ◌||◌, if◌then◌else◌}
+use Rattle.tc_entry.specs.declared.limits.TheConstants.{ARGUMENTS, BEHAVIOURS}
+use Rattle.tc_step.specs.declared.limits.TheConstants.{STEPS}
 use Rattle.tc_line.specs.declared.kind.ScriptKind.{ScriptKind}
 use Rattle.tc_line.specs.declared.kind.ScriptKind.TheVariants as F
 use Rattle.tc_script.specs.declared.open.Open.{Open}
@@ -9,8 +11,8 @@ use Rattle.tc_script.specs.declared.counts.Counts.{Counts}
 use Rattle.tc_line.specs.declared.line.Call.{Call}
 use Rattle.tc_line.specs.declared.line.Line.{Line}
 use Rattle.tc_line.specs.declared.line.Line.TheVariants as L
-use Rattle.tc_script.specs.Open.{opened, cases_in, behaviours_in, steps_in, given, is_mark, open_by, placed}
-use Rattle.tc_script.specs.Counts.{counts_of, counted, case_counted, behaviour_counted, end_counted, step_counted, case_counted_at, behaviour_counted_at, end_counted_at, step_counted_at}
+use Rattle.tc_script.specs.FirstPass.{opened, cases_in, behaviours_in, steps_in, given, is_mark, open_by, placed}
+use Rattle.tc_script.specs.Inside.Counts.{counts_of, counted, case_counted, behaviour_counted, end_counted, step_counted, case_counted_at, behaviour_counted_at, end_counted_at, step_counted_at}
 
 -- what `counted` answers, against `placed`
 abbrev pub Agrees : List Line → Line → Result Counts ScriptKind → Type 0
@@ -81,8 +83,8 @@ case_at past n O.Behaviour e = rw e refl
 
 behaviour_at : (past : List Line) (n : List ℕ) (ps : List (List ℕ)) (o : Open) → opened past ≡ o → Agrees past (L.Behaviour n ps) (behaviour_counted_at o (counts_of past) (length ps))
 behaviour_at past n ps O.Nothing e = rw e refl
-behaviour_at past n ps O.NewCase e = within past (L.Behaviour n ps) (made O.Behaviour (cases_in past) (behaviours_in past + 1) 0) (nat_le 64 (behaviours_in past) || nat_lt 4 (length ps)) (rw e refl) (behaviour_counts past n ps)
-behaviour_at past n ps O.Case e = within past (L.Behaviour n ps) (made O.Behaviour (cases_in past) (behaviours_in past + 1) 0) (nat_le 64 (behaviours_in past) || nat_lt 4 (length ps)) (rw e refl) (behaviour_counts past n ps)
+behaviour_at past n ps O.NewCase e = within past (L.Behaviour n ps) (made O.Behaviour (cases_in past) (behaviours_in past + 1) 0) (nat_le BEHAVIOURS (behaviours_in past) || nat_lt ARGUMENTS (length ps)) (rw e refl) (behaviour_counts past n ps)
+behaviour_at past n ps O.Case e = within past (L.Behaviour n ps) (made O.Behaviour (cases_in past) (behaviours_in past + 1) 0) (nat_le BEHAVIOURS (behaviours_in past) || nat_lt ARGUMENTS (length ps)) (rw e refl) (behaviour_counts past n ps)
 behaviour_at past n ps O.Behaviour e = rw e refl
 
 end_at : (past : List Line) (o : Open) → opened past ≡ o → Agrees past L.End (end_counted_at o (counts_of past))
@@ -95,7 +97,7 @@ step_at : (past : List Line) (call : Call) (o : Open) → opened past ≡ o → 
 step_at past call O.Nothing e = rw e refl
 step_at past call O.NewCase e = rw e refl
 step_at past call O.Case e = rw e refl
-step_at past call O.Behaviour e = within past (L.Step call) (made O.Behaviour (cases_in past) (behaviours_in past) (steps_in past + 1)) (nat_le 1000 (steps_in past) || nat_lt 4 (given call)) (rw e refl) (step_counts past call e)
+step_at past call O.Behaviour e = within past (L.Step call) (made O.Behaviour (cases_in past) (behaviours_in past) (steps_in past + 1)) (nat_le STEPS (steps_in past) || nat_lt ARGUMENTS (given call)) (rw e refl) (step_counts past call e)
 
 pub counted_agrees : (past : List Line) (l : Line) → Agrees past l (counted (counts_of past) l)
 unfolding case_counted behaviour_counted end_counted step_counted

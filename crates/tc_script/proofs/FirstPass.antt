@@ -10,8 +10,8 @@ use Rattle.tc_script.specs.declared.fault.ReadFault.TheVariants as E
 use Rattle.tc_script.specs.declared.counts.Counts.{Counts}
 use Rattle.tc_line.specs.declared.line.Line.{Line}
 use Rattle.tc_line.specs.Line.{line_of}
-use Rattle.tc_script.specs.Open.{parsed, judged, ends_well}
-use Rattle.tc_script.specs.Counts.{counts_of, counted, Takes, may_end}
+use Rattle.tc_script.specs.FirstPass.{parsed, judged, ends_well}
+use Rattle.tc_script.specs.Inside.Counts.{counts_of, counted, Takes, may_end}
 use Rattle.tc_script.specs.Reading.{Reads}
 use Rattle.tc_script.proofs.Counting.{Agrees, counted_agrees}
 

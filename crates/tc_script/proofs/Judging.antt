@@ -6,10 +6,11 @@ use Rattle.tc_line.specs.declared.line.Call.{Call}
 use Rattle.tc_line.specs.declared.line.Call.TheVariants as C
 use Rattle.tc_line.specs.declared.line.Line.{Line}
 use Rattle.tc_line.specs.declared.line.Line.TheVariants as L
+use Rattle.tc_step.specs.Steps.{of_group, of_target}
 use Rattle.tc_script.specs.Names.{among, has_twice}
 use Rattle.tc_script.specs.Scope.{ScopeView, parameters_of}
-use Rattle.tc_script.specs.Meaning.{meant, first_kind, uses_twice, has_unbound, starts_unknown, is_main_with_parameters, has_other_count, is_other, one_of_group, one_of_target}
-use Rattle.tc_script.specs.Passing.{line_fault, call_fault, start_fault, fault_where, any_unbound}
+use Rattle.tc_script.specs.SecondPass.{name_fault, first_kind, uses_twice, has_unbound, starts_unknown, is_main_with_parameters, has_other_count, is_other}
+use Rattle.tc_script.specs.Inside.Passing.{line_fault, call_fault, start_fault, fault_where, any_unbound}
 
 twice_alone : (b : Bool) → fault_where b F.Twice ≡ first_kind ((b, F.Twice) ∷ (false, F.NoReference) ∷ (false, F.UnknownBehaviour) ∷ (false, F.MainParameters) ∷ (false, F.Arguments) ∷ [])
 twice_alone true = refl
@@ -35,18 +36,19 @@ of_start false (Some expected) given = by (not (given == expected))
     by true = refl
     by false = refl
 
-of_call : (s : ScopeView) (call : Call) → call_fault s call ≡ meant s (L.Step call)
+of_call : (s : ScopeView) (call : Call) → call_fault s call ≡ name_fault s (L.Step call)
 unfolding uses_twice has_unbound starts_unknown is_main_with_parameters has_other_count
 of_call s (C.Create n alive) = twice_alone (among n s.bound)
 of_call s (C.Start on b args) = of_start (any_unbound s (on ∷ args)) (parameters_of b s.heads) (length args)
-of_call s (C.Stop g) = unbound_alone (any_unbound s (one_of_group g))
-of_call s (C.Kill g) = unbound_alone (any_unbound s (one_of_group g))
-of_call s (C.Ask status t) = unbound_alone (any_unbound s (one_of_target t))
-of_call s (C.Wait killed t) = unbound_alone (any_unbound s (one_of_target t))
+of_call s (C.Stop g) = unbound_alone (any_unbound s (of_group g))
+of_call s (C.Kill g) = unbound_alone (any_unbound s (of_group g))
+of_call s (C.Ask status t) = unbound_alone (any_unbound s (of_target t))
+of_call s (C.Wait killed t) = unbound_alone (any_unbound s (of_target t))
 of_call s (C.SetVerdict v) = refl
+of_call s C.StopCase = refl
 of_call s C.GetVerdict = refl
 
-pub line_fault_is : (s : ScopeView) (l : Line) → line_fault s l ≡ meant s l
+pub line_fault_is : (s : ScopeView) (l : Line) → line_fault s l ≡ name_fault s l
 unfolding uses_twice has_unbound starts_unknown is_main_with_parameters has_other_count
 line_fault_is s (L.TestCase n) = twice_alone (among n s.cases)
 line_fault_is s (L.Behaviour n ps) = of_behaviour (among n s.behaviours || has_twice ps) (length s.behaviours == 0 && not (length ps == 0))

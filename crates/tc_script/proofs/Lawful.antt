@@ -8,6 +8,7 @@ use Rattle.std.proofs.lemmas.List.{length-map, map-append, append-nil}
 use Rattle.std.proofs.lemmas.List.Elements.{All-cons}
 use Rattle.std.proofs.lemmas.List.Folds.{list_any-append}
 use Rattle.std.proofs.lemmas.Bool.Decides.{nat_tests}
+use Rattle.tc_entry.specs.declared.limits.TheConstants.{BEHAVIOURS}
 use Rattle.tc_line.specs.declared.kind.ScriptKind.TheVariants as F
 use Rattle.tc_line.specs.declared.line.Call.{Call}
 use Rattle.tc_line.specs.declared.line.Call.TheVariants as C
@@ -18,9 +19,9 @@ use Rattle.tc_step.specs.Steps.{ScriptView}
 use Rattle.tc_script.specs.Names.{Word, among, index_of, add, all_of, has_twice}
 use Rattle.tc_script.specs.Scope.{Head, heads, heads_behind, heads_around, add_head, names_of, parameters_of, cases_before, behaviours_before, with_bound}
 use Rattle.tc_script.specs.Campaign.{place, steps, step_of, behaviours, cases}
-use Rattle.tc_script.specs.Meaning.{misnamed}
-use Rattle.tc_script.specs.Passing.{start_fault, fault_where}
-use Rattle.tc_script.specs.Building.{AreCases}
+use Rattle.tc_script.specs.SecondPass.{misnamed}
+use Rattle.tc_script.specs.Inside.Passing.{start_fault, fault_where}
+use Rattle.tc_script.specs.Inside.Building.{AreCases}
 use Rattle.tc_script.specs.Law.{signatures, StartsOne, IsCase}
 use Rattle.tc_script.proofs.Binding.{named_next, neither, either, differ, add_new, no_fault}
 
@@ -96,6 +97,7 @@ starts_at hs ns past (C.Kill g) rest same named = tt
 starts_at hs ns past (C.Ask s t) rest same named = tt
 starts_at hs ns past (C.Wait killed t) rest same named = tt
 starts_at hs ns past (C.SetVerdict v) rest same named = tt
+starts_at hs ns past C.StopCase rest same named = tt
 starts_at hs ns past C.GetVerdict rest same named = tt
 
 starts_of : (hs : List Head) (ns : List Word) (past rest : List Line) → heads_around past rest ≡ hs → misnamed past rest ≡ None → All (StartsOne hs) (steps hs ns rest)
@@ -174,7 +176,7 @@ case_names past (L.TestCase n ∷ rest) named once =
 
 -- ---- test cases
 
-case_is : (past : List Line) (n : Word) (rest : List Line) → length (heads rest) ≤ 64 → misnamed (L.TestCase n ∷ past) rest ≡ None → IsCase (behaviours (heads rest) rest)
+case_is : (past : List Line) (n : Word) (rest : List Line) → length (heads rest) ≤ BEHAVIOURS → misnamed (L.TestCase n ∷ past) rest ≡ None → IsCase (behaviours (heads rest) rest)
 unfolding heads
 case_is past n rest few named =
     let same : heads rest ≡ signatures (behaviours (heads rest) rest) = heads_are (heads rest) [] (L.TestCase n ∷ past) rest named refl in

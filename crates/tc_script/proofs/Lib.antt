@@ -1,6 +1,7 @@
+-- The lemmas of this crate.
 pub mod Counting
 pub mod FirstPass
-pub mod Places
+pub mod Positions
 pub mod Adding
 pub mod Judging
 pub mod SecondPass

@@ -3,10 +3,10 @@ use Rattle.std.proofs.Common.{◌≡◌, ◌∙◌, ◌+◌, ◌-◌, List, [], 
 use Rattle.tc_line.specs.declared.kind.ScriptKind.{ScriptKind}
 use Rattle.tc_line.specs.declared.line.Line.{Line}
 use Rattle.tc_line.specs.declared.line.Line.TheVariants as L
-use Rattle.tc_script.specs.Open.{at_next}
+use Rattle.tc_script.specs.FirstPass.{at_next}
 use Rattle.tc_script.specs.Scope.{ScopeView, scope_of}
-use Rattle.tc_script.specs.Passing.{scope_after, line_fault}
-use Rattle.tc_script.specs.Meaning.{meant, misnamed}
+use Rattle.tc_script.specs.Inside.Passing.{scope_after, line_fault}
+use Rattle.tc_script.specs.SecondPass.{name_fault, misnamed}
 use Rattle.tc_script.proofs.Judging.{line_fault_is}
 
 -- the names behind a line are those that the lines say
@@ -27,14 +27,14 @@ pub record IsJudged (scope : ScopeView) (rest lines : List Line) : Type 0 where
 pub judged_first : (lines : List Line) → IsJudged (record { cases = []; behaviours = []; bound = []; heads = [] }) lines lines
 judged_first lines = record { past = []; counted = omega arith; now = refl; so_far = refl }
 
-meant_is : (scope : ScopeView) (l : Line) (rest others : List Line) (o : Option ScriptKind) {lines : List Line} → rest ≡ l ∷ others → (is : IsJudged scope rest lines) → o ≡ line_fault scope l
-    → meant (scope_of is.past (l ∷ others)) l ≡ o
-meant_is scope l rest others o at is found = ap (λ s. meant s l) (sym (is.now ∙ ap (scope_of is.past) at)) ∙ sym (line_fault_is scope l) ∙ sym found
+name_fault_is : (scope : ScopeView) (l : Line) (rest others : List Line) (o : Option ScriptKind) {lines : List Line} → rest ≡ l ∷ others → (is : IsJudged scope rest lines) → o ≡ line_fault scope l
+    → name_fault (scope_of is.past (l ∷ others)) l ≡ o
+name_fault_is scope l rest others o at is found = ap (λ s. name_fault s l) (sym (is.now ∙ ap (scope_of is.past) at)) ∙ sym (line_fault_is scope l) ∙ sym found
 
 pub judged_more : (scope after : ScopeView) (l : Line) (rest others lines : List Line) → rest ≡ l ∷ others → IsJudged scope rest lines → None ≡ line_fault scope l → after ≡ scope_after scope l others
     → IsJudged after others lines
 judged_more scope after l rest others lines at is none new =
-    let one : misnamed is.past rest ≡ misnamed (l ∷ is.past) others = rw at (rw (meant_is scope l rest others None at is none) refl) in
+    let one : misnamed is.past rest ≡ misnamed (l ∷ is.past) others = rw at (rw (name_fault_is scope l rest others None at is none) refl) in
     let long : length is.past + length (l ∷ others) ≡ length lines = ap (λ xs. length is.past + length xs) (sym at) ∙ is.counted in
     record {
       past = l ∷ is.past;
@@ -46,7 +46,7 @@ judged_more scope after l rest others lines at is none new =
 pub judged_faulty : (scope : ScopeView) (l : Line) (rest others lines : List Line) (kind : ScriptKind) → rest ≡ l ∷ others → IsJudged scope rest lines → Some kind ≡ line_fault scope l
     → Some (record { line = length lines - length others; kind = kind }) ≡ misnamed [] lines
 judged_faulty scope l rest others lines kind at is some =
-    let one : misnamed is.past rest ≡ Some (at_next is.past kind) = rw at (rw (meant_is scope l rest others (Some kind) at is some) refl) in
+    let one : misnamed is.past rest ≡ Some (at_next is.past kind) = rw at (rw (name_fault_is scope l rest others (Some kind) at is some) refl) in
     let long : length is.past + length (l ∷ others) ≡ length lines = ap (λ xs. length is.past + length xs) (sym at) ∙ is.counted in
     let same : length lines - length others ≡ length is.past + 1 = grind (arith, long) in
     ap (λ k. Some (record { line = k; kind = kind })) same ∙ sym one ∙ is.so_far

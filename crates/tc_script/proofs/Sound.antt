@@ -3,21 +3,23 @@ use Rattle.std.proofs.Common.{All, map, ℕ, ◌≡◌, ◌∙◌, ◌+◌, ◌<
 use Rattle.std.specs.Prelude.{reverse, not, if◌then◌else◌, is_some}
 use Rattle.std.proofs.lemmas.List.{reverse-append, length-append, append-nil}
 use Rattle.std.proofs.lemmas.Bool.Decides.{nat_tests}
+use Rattle.tc_entry.specs.declared.limits.TheConstants.{ARGUMENTS, BEHAVIOURS}
+use Rattle.tc_step.specs.declared.limits.TheConstants.{STEPS}
 use Rattle.tc_line.specs.declared.kind.ScriptKind.{ScriptKind}
 use Rattle.tc_line.specs.declared.kind.ScriptKind.TheVariants as F
 use Rattle.tc_line.specs.declared.line.Call.{Call}
 use Rattle.tc_line.specs.declared.line.Line.{Line}
 use Rattle.tc_line.specs.declared.line.Line.TheVariants as L
 use Rattle.tc_line.specs.Line.{line_of, ◌>>=◌}
-use Rattle.tc_script.specs.Open.{parsed, placed, fits, passes_limit, opened, or_at, at_next, ends_well, given, steps_in, behaviours_in}
+use Rattle.tc_script.specs.FirstPass.{parsed, placed, fits, passes_limit, opened, or_at, at_next, ends_well, given, steps_in, behaviours_in}
 use Rattle.tc_script.specs.Scope.{Head, heads, heads_behind, add_head, with_bound, parameters_of}
 use Rattle.tc_script.specs.Campaign.{steps, cases, CampaignView}
 use Rattle.tc_script.specs.Law.{IsCase}
 use Rattle.tc_script.proofs.Lawful.{cases_are, case_names}
-use Rattle.tc_script.specs.Meaning.{misnamed}
+use Rattle.tc_script.specs.SecondPass.{misnamed}
 use Rattle.tc_script.specs.Names.{all_of, has_twice}
 use Rattle.tc_script.proofs.Binding.{named_next, places_bound}
-use Rattle.tc_script.specs.Building.{HasFewArguments, HaveFewArguments, AreScripts, AreCases}
+use Rattle.tc_script.specs.Inside.Building.{HasFewArguments, HaveFewArguments, AreScripts, AreCases}
 
 -- each line is in its place, and within the limits
 abbrev pub ArePlaced : List Line → List Line → Type 0
@@ -70,10 +72,10 @@ within_limits past l is = by (fits l (opened past)) (passes_limit l past) is
     by true true e = absurd cc
     by true false e = refl
 
-few_given : (past : List Line) (call : Call) → passes_limit (L.Step call) past ≡ false → (steps_in past < 1000) × (given call ≤ 4)
+few_given : (past : List Line) (call : Call) → passes_limit (L.Step call) past ≡ false → (steps_in past < STEPS) × (given call ≤ ARGUMENTS)
 few_given past call e = (grind (arith, nat_tests, e), grind (arith, nat_tests, e))
 
-few_more : (past : List Line) (n : List ℕ) (ps : List (List ℕ)) → passes_limit (L.Behaviour n ps) past ≡ false → (behaviours_in past < 64) × (length ps ≤ 4)
+few_more : (past : List Line) (n : List ℕ) (ps : List (List ℕ)) → passes_limit (L.Behaviour n ps) past ≡ false → (behaviours_in past < BEHAVIOURS) × (length ps ≤ ARGUMENTS)
 few_more past n ps e = (grind (arith, nat_tests, e), grind (arith, nat_tests, e))
 
 few_arguments_at : (past : List Line) (l : Line) → placed past l ≡ Ok l → HasFewArguments l
@@ -89,12 +91,12 @@ few_arguments past (l ∷ rest) are = (few_arguments_at past l are.0, few_argume
 
 -- ---- the limits of a behaviour and of a test case
 
-few_steps : (hs : List Head) (ns : List (List ℕ)) (past rest : List Line) → ArePlaced past rest → steps_in past ≤ 1000 → steps_in past + length (steps hs ns rest) ≤ 1000
+few_steps : (hs : List Head) (ns : List (List ℕ)) (past rest : List Line) → ArePlaced past rest → steps_in past ≤ STEPS → steps_in past + length (steps hs ns rest) ≤ STEPS
 unfolding steps_in
 few_steps hs ns past [] are few = grind arith
 few_steps hs ns past (L.Step call ∷ rest) are few =
-    let low : steps_in past < 1000 = (few_given past call (within_limits past (L.Step call) are.0)).0 in
-    let more : steps_in (L.Step call ∷ past) ≤ 1000 = omega (arith, low) in
+    let low : steps_in past < STEPS = (few_given past call (within_limits past (L.Step call) are.0)).0 in
+    let more : steps_in (L.Step call ∷ past) ≤ STEPS = omega (arith, low) in
     let long = few_steps hs (with_bound call ns) (L.Step call ∷ past) rest are.1 more in
     omega (arith, long)
 few_steps hs ns past (L.Skipped ∷ rest) are few = few_steps hs ns (L.Skipped ∷ past) rest are.1 few
@@ -109,12 +111,12 @@ head_more n k hs = by (is_some (parameters_of n hs))
     by true = omega arith
     by false = grind (arith, length-append hs ((n, k) ∷ []))
 
-few_heads : (hs : List Head) (past rest : List Line) → ArePlaced past rest → length hs ≤ behaviours_in past → behaviours_in past ≤ 64 → length (heads_behind hs rest) ≤ 64
+few_heads : (hs : List Head) (past rest : List Line) → ArePlaced past rest → length hs ≤ behaviours_in past → behaviours_in past ≤ BEHAVIOURS → length (heads_behind hs rest) ≤ BEHAVIOURS
 unfolding behaviours_in
 few_heads hs past [] are le few = omega (arith, le, few)
 few_heads hs past (L.TestCase n ∷ rest) are le few = omega (arith, le, few)
 few_heads hs past (L.Behaviour n ps ∷ rest) are le few =
-    let low : behaviours_in past < 64 = (few_more past n ps (within_limits past (L.Behaviour n ps) are.0)).0 in
+    let low : behaviours_in past < BEHAVIOURS = (few_more past n ps (within_limits past (L.Behaviour n ps) are.0)).0 in
     let grown : length (add_head n (length ps) hs) ≤ length hs + 1 = head_more n (length ps) hs in
     few_heads (add_head n (length ps) hs) (L.Behaviour n ps ∷ past) rest are.1 (omega (arith, le, grown)) (omega (arith, low))
 few_heads hs past (L.Skipped ∷ rest) are le few = few_heads hs (L.Skipped ∷ past) rest are.1 le few
@@ -123,7 +125,7 @@ few_heads hs past (L.Step call ∷ rest) are le few = few_heads hs (L.Step call 
 
 -- ---- scripts
 
-few_parameters : (past : List Line) (n : List ℕ) (ps : List (List ℕ)) → placed past (L.Behaviour n ps) ≡ Ok (L.Behaviour n ps) → length ps ≤ 4
+few_parameters : (past : List Line) (n : List ℕ) (ps : List (List ℕ)) → placed past (L.Behaviour n ps) ≡ Ok (L.Behaviour n ps) → length ps ≤ ARGUMENTS
 few_parameters past n ps is = (few_more past n ps (within_limits past (L.Behaviour n ps) is)).1
 
 pub are_scripts : (hs : List Head) (past ls : List Line) → ArePlaced past ls → misnamed past ls ≡ None → AreScripts hs ls

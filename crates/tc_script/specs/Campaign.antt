@@ -1,11 +1,5 @@
 -- The campaign that a text spells, or its first fault.
 use Rattle.std.specs.Prelude.{ℕ, Option, Some, None, Result, Ok, Err, List, [], ◌∷◌, length, map}
-use Rattle.tc_line.specs.declared.line.Reference.{Reference}
-use Rattle.tc_line.specs.declared.line.Reference.TheVariants as R
-use Rattle.tc_line.specs.declared.line.GroupWord.{GroupWord}
-use Rattle.tc_line.specs.declared.line.GroupWord.TheVariants as G
-use Rattle.tc_line.specs.declared.line.TargetWord.{TargetWord}
-use Rattle.tc_line.specs.declared.line.TargetWord.TheVariants as T
 use Rattle.tc_line.specs.declared.line.Call.{Call}
 use Rattle.tc_line.specs.declared.line.Call.TheVariants as C
 use Rattle.tc_line.specs.declared.line.Line.{Line}
@@ -13,46 +7,32 @@ use Rattle.tc_line.specs.declared.line.Line.TheVariants as L
 use Rattle.tc_line.specs.Line.{◌>>=◌}
 use Rattle.tc_line.specs.Text.{lines}
 use Rattle.tc_step.specs.declared.place.Place.{Place}
-use Rattle.tc_step.specs.declared.place.Place.TheVariants as P
-use Rattle.tc_step.specs.declared.place.GroupPlace.{GroupPlace}
-use Rattle.tc_step.specs.declared.place.GroupPlace.TheVariants as H
-use Rattle.tc_step.specs.declared.place.TargetPlace.{TargetPlace}
-use Rattle.tc_step.specs.declared.place.TargetPlace.TheVariants as U
 use Rattle.tc_step.specs.declared.step.Step.{Step}
 use Rattle.tc_step.specs.declared.step.Step.TheVariants as S
+use Rattle.tc_step.specs.Places.{place_map, group_map, target_map}
 use Rattle.tc_step.specs.Steps.{ScriptView}
 use Rattle.tc_script.specs.declared.fault.ScriptFault.{ScriptFault}
 use Rattle.tc_script.specs.Names.{Word, index_of, all_of}
 use Rattle.tc_script.specs.Scope.{Head, heads, names_of, with_bound}
-use Rattle.tc_script.specs.Open.{parsed}
-use Rattle.tc_script.specs.Meaning.{misnamed}
+use Rattle.tc_script.specs.FirstPass.{parsed}
+use Rattle.tc_script.specs.SecondPass.{misnamed}
 
 -- ---- steps
 
--- the component that a reference names, where these names are bound
-abbrev pub place : List Word → Reference → Place
-place ns R.Main = P.Main
-place ns R.Own = P.Own
-place ns (R.Bound n) = P.Bound (index_of n ns)
-
-abbrev pub group_at : List Word → GroupWord → GroupPlace
-group_at ns (G.One r) = H.One (place ns r)
-group_at ns G.All = H.All
-
-abbrev pub target_at : List Word → TargetWord → TargetPlace
-target_at ns (T.One r) = U.One (place ns r)
-target_at ns T.Any = U.Any
-target_at ns T.All = U.All
+-- the component that a line names, where these names are bound
+abbrev pub place : List Word → Place Word → Place ℕ
+place ns p = place_map (λ n. index_of n ns) p
 
 -- a call where the names ns are bound, in a test case with the behaviours hs: the run of a behaviour is its place among them
 unfoldable pub step_of : List Head → List Word → Call → Step
 step_of hs ns (C.Create n alive) = S.Create alive
 step_of hs ns (C.Start on b args) = S.Start (place ns on) (record { 0 = index_of b (names_of hs) }) (map (place ns) args)
-step_of hs ns (C.Stop g) = S.Stop (group_at ns g)
-step_of hs ns (C.Kill g) = S.Kill (group_at ns g)
-step_of hs ns (C.Ask s t) = S.Ask s (target_at ns t)
-step_of hs ns (C.Wait killed t) = S.Wait killed (target_at ns t)
+step_of hs ns (C.Stop g) = S.Stop (group_map (place ns) g)
+step_of hs ns (C.Kill g) = S.Kill (group_map (place ns) g)
+step_of hs ns (C.Ask s t) = S.Ask s (target_map (place ns) t)
+step_of hs ns (C.Wait killed t) = S.Wait killed (target_map (place ns) t)
 step_of hs ns (C.SetVerdict v) = S.SetVerdict v
+step_of hs ns C.StopCase = S.StopCase
 step_of hs ns C.GetVerdict = S.GetVerdict
 
 -- the steps up to the end of the behaviour
@@ -82,6 +62,7 @@ cases (_ ∷ rest) = cases rest
 abbrev pub CampaignView : Type 0
 CampaignView = List (Word × List (Word × ScriptView))
 
+-- the fault, if there is one; else the value
 abbrev pub or_else : {A : Type 0} → Option ScriptFault → A → Result A ScriptFault
 or_else (Some fault) x = Err fault
 or_else None x = Ok x

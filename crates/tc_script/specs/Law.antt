@@ -1,6 +1,7 @@
 -- What holds of each test case of a campaign that a text spells.
 use Rattle.std.specs.Prelude.{◌≡◌, false, ◌≤◌, Some, IfSome, List, length, map, slice_get, All}
 use Rattle.std.specs.Option.{option_map}
+use Rattle.tc_entry.specs.declared.limits.TheConstants.{BEHAVIOURS}
 use Rattle.tc_step.specs.declared.step.Step.{Step}
 use Rattle.tc_step.specs.declared.step.Step.TheVariants as S
 use Rattle.tc_step.specs.Steps.{ScriptView}
@@ -18,7 +19,7 @@ StartsOne hs _ = Unit {0}
 
 -- its behaviours are few, their names are distinct, the first has no parameter, and each start is of one of them
 pub record IsCase (scripts : List (Word × ScriptView)) : Type 0 where
-  pub few : length scripts ≤ 64
+  pub few : length scripts ≤ BEHAVIOURS
   pub distinct : has_twice (map (λ b. b.0) scripts) ≡ false
   pub main : IfSome (slice_get scripts 0) (λ b. b.1.parameters ≡ 0)
   pub starts : All (λ b. All (StartsOne (signatures scripts)) b.1.steps) scripts

@@ -1,11 +1,10 @@
+-- The definitions that the contracts of this crate cite.
 pub mod Names
-pub mod Open
+pub mod FirstPass
 pub mod Scope
-pub mod Meaning
+pub mod SecondPass
 pub mod Campaign
 pub mod Reading
-pub mod Counts
-pub mod Passing
-pub mod Building
 pub mod Law
 pub mod Fault
+pub mod Inside

@@ -3,9 +3,11 @@ use Rattle.std.specs.Prelude.{ℕ, Bool, ◌||◌, false, if◌then◌else◌, L
 use Rattle.std.specs.List.{list_any, position_or_len}
 use Rattle.tc_line.specs.Words.{is_text}
 
+-- a name, by its bytes
 abbrev pub Word : Type 0
 Word = List ℕ
 
+-- the name is one of these
 unfoldable pub among : Word → List Word → Bool
 among n ns = list_any (is_text n) ns
 

@@ -1,5 +1,7 @@
+//! The campaign that a script spells: its test cases, and their behaviours.
 ghost use Rattle.std.specs.Prelude.{◌≡◌, ◌≤◌, [], ◌∷◌, ◌++◌, length, OnOk, OnErr, IfOk, MatchOption};
-ghost use Rattle.tc_script.specs.Building.{HaveFewArguments, AreScripts, AreCases};
+ghost use Rattle.tc_entry.specs.declared.limits.TheConstants.{BEHAVIOURS};
+ghost use Rattle.tc_script.specs.Inside.Building.{HaveFewArguments, AreScripts, AreCases};
 ghost use Rattle.tc_script.specs.Campaign.{behaviours, cases};
 
 use crate::heads::{Heads, heads_of};
@@ -90,7 +92,7 @@ impl Campaign {
 
 /// The behaviours up to the next test case.
 fn case_of(alloc: Global, heads: &Heads, lines: &[Line]) -> Result<CaseScript, AllocError>
-    requires few_heads { length heads.now ≤ 64 }
+    requires few_heads { length heads.now ≤ BEHAVIOURS }
     requires few_arguments { HaveFewArguments lines.now }
     requires scripts { AreScripts heads.now lines.now }
     ensures { IfOk result (λ c. c ≡ behaviours heads.now lines.now) }

@@ -1,8 +1,12 @@
+//! What the first pass over a script remembers of the lines before.
 ghost use Rattle.std.specs.Prelude.{◌≡◌};
-ghost use Rattle.tc_script.specs.Open.{given};
+ghost use Rattle.tc_script.specs.FirstPass.{given};
 
+use crate::limits::TEST_CASES;
 use crate::open::Open;
+use tc_entry::{ARGUMENTS, BEHAVIOURS};
 use tc_line::{Call, Line, ScriptKind};
+use tc_step::STEPS;
 
 /// What the first pass remembers of the lines before.
 #[derive(Clone, Copy, Debug, PartialEq, Eq)]
@@ -23,15 +27,15 @@ fn arguments(call: &Call) -> usize
 }
 
 impl Counts {
-    ghost use Rattle.tc_script.specs.Counts.{counted, may_end, case_counted, behaviour_counted, end_counted, step_counted};
+    ghost use Rattle.tc_script.specs.Inside.Counts.{counted, may_end, case_counted, behaviour_counted, end_counted, step_counted};
 
-    #[tactic(auto, unfolding(crate::specs::Counts::case_counted))]
+    #[tactic(auto, unfolding(crate::specs::Inside::Counts::case_counted))]
     fn with_case(self) -> Result<Counts, ScriptKind>
         ensures { result ≡ case_counted self }
     {
         match self.state {
             Open::Nothing => {
-                if self.cases >= 1000 {
+                if self.cases >= TEST_CASES {
                     return Err(ScriptKind::TooMany);
                 }
                 Ok(Counts {
@@ -45,13 +49,13 @@ impl Counts {
         }
     }
 
-    #[tactic(auto, unfolding(crate::specs::Counts::behaviour_counted))]
+    #[tactic(auto, unfolding(crate::specs::Inside::Counts::behaviour_counted))]
     fn with_behaviour(self, parameters: usize) -> Result<Counts, ScriptKind>
         ensures { result ≡ behaviour_counted self parameters }
     {
         match self.state {
             Open::NewCase | Open::Case => {
-                if self.behaviours >= 64 || parameters > 4 {
+                if self.behaviours >= BEHAVIOURS || parameters > ARGUMENTS {
                     return Err(ScriptKind::TooMany);
                 }
                 Ok(Counts {
@@ -65,7 +69,7 @@ impl Counts {
         }
     }
 
-    #[tactic(auto, unfolding(crate::specs::Counts::end_counted))]
+    #[tactic(auto, unfolding(crate::specs::Inside::Counts::end_counted))]
     fn with_end(self) -> Result<Counts, ScriptKind>
         ensures { result ≡ end_counted self }
     {
@@ -86,13 +90,13 @@ impl Counts {
         }
     }
 
-    #[tactic(auto, unfolding(crate::specs::Counts::step_counted))]
+    #[tactic(auto, unfolding(crate::specs::Inside::Counts::step_counted))]
     fn with_step(self, arguments: usize) -> Result<Counts, ScriptKind>
         ensures { result ≡ step_counted self arguments }
     {
         match self.state {
             Open::Behaviour => {
-                if self.steps >= 1000 || arguments > 4 {
+                if self.steps >= STEPS || arguments > ARGUMENTS {
                     return Err(ScriptKind::TooMany);
                 }
                 Ok(Counts {

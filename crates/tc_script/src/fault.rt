@@ -1,3 +1,4 @@
+//! The first fault of a script.
 ghost use Rattle.std.specs.Prelude.{◌++◌, Some, codes};
 ghost use Rattle.tc_script.specs.Fault.{fault_text, read_fault_text};
 

@@ -1,3 +1,4 @@
+//! The behaviours of a test case, each with the number of its parameters.
 ghost use Rattle.std.specs.Prelude.{◌≡◌, ◌≤◌, [], length, OnOk, IfOk};
 ghost use Rattle.tc_script.specs.Names.{index_of};
 ghost use Rattle.tc_script.specs.Scope.{names_of, add_head, parameters_of, heads};

@@ -1,3 +1,4 @@
+//! Distinct names, in their order.
 ghost use Rattle.std.specs.Prelude.{◌≡◌, ◌==◌, length, [], OnOk, OnErr, IfOk, not};
 ghost use Rattle.tc_line.specs.Words.{is_text};
 ghost use Rattle.tc_script.specs.Names.{among, index_of, add, all_of};

@@ -1,3 +1,4 @@
+//! The campaign of a text, or its first fault.
 ghost use Rattle.std.specs.Prelude.{◌≡◌, false, IfOk, All, map};
 ghost use Rattle.tc_script.specs.Campaign.{campaign};
 ghost use Rattle.tc_script.specs.Reading.{Reads};
@@ -6,8 +7,8 @@ ghost use Rattle.tc_script.specs.Names.{has_twice};
 
 use crate::campaign::{Campaign, campaign_of};
 use crate::fault::ReadFault;
-use crate::naming::first_misnamed;
-use crate::parsing::parse;
+use crate::first_pass::parse;
+use crate::second_pass::first_misnamed;
 use std::alloc::Global;
 
 /// The campaign that a text spells; else its first fault. Only want of memory may stand in place of either.

@@ -1,14 +1,16 @@
+//! The names that a line may not use again, and those that it may refer to.
 ghost use Rattle.std.specs.Prelude.{◌≡◌, [], ◌∷◌, length, IfOk, OnOk};
+ghost use Rattle.tc_step.specs.Steps.{of_group, of_target};
 ghost use Rattle.tc_script.specs.Names.{all_of, has_twice};
 ghost use Rattle.tc_script.specs.Scope.{with_bound, parameters_of};
-ghost use Rattle.tc_script.specs.Meaning.{is_unbound, one_of_group, one_of_target};
-ghost use Rattle.tc_script.specs.Passing.{scope_after, line_fault, call_fault, start_fault, behaviour_fault, any_unbound, fault_where as the_fault_where};
+ghost use Rattle.tc_script.specs.SecondPass.{is_unbound};
+ghost use Rattle.tc_script.specs.Inside.Passing.{scope_after, line_fault, call_fault, start_fault, behaviour_fault, any_unbound, fault_where as the_fault_where};
 
 use crate::heads::{Heads, heads_of};
 use crate::names::{Names, is_one_of};
 use std::alloc::{AllocError, Global};
 use std::marker::Model;
-use tc_line::{Call, GroupWord, Line, Name, Reference, ScriptKind, Sequence, TargetWord};
+use tc_line::{Call, GroupPlace, Line, Name, Place, ScriptKind, TargetPlace};
 
 /// The names that a line may not use again, and those that it may refer to.
 #[derive(Drop)]
@@ -84,39 +86,37 @@ impl Scope {
         }
     }
 
-    fn is_unbound(&self, reference: &Reference) -> bool
-        ensures { result ≡ is_unbound self.now.bound reference.now }
+    fn is_unbound(&self, place: &Place<Name>) -> bool
+        ensures { result ≡ is_unbound self.now.bound place.now }
     {
-        match reference {
-            Reference::Bound(name) => !self.bound.contains(name),
+        match place {
+            Place::Bound(name) => !self.bound.contains(name),
             _ => false,
         }
     }
 
-    fn is_group_unbound(&self, group: &GroupWord) -> bool
-        ensures { result ≡ any_unbound self.now (one_of_group group.now) }
+    fn is_group_unbound(&self, group: &GroupPlace<Place<Name>>) -> bool
+        ensures { result ≡ any_unbound self.now (of_group group.now) }
     {
         match group {
-            GroupWord::One(reference) => self.is_unbound(reference),
-            GroupWord::All => false,
+            GroupPlace::One(place) => self.is_unbound(place),
+            GroupPlace::All => false,
         }
     }
 
-    fn is_target_unbound(&self, target: &TargetWord) -> bool
-        ensures { result ≡ any_unbound self.now (one_of_target target.now) }
+    fn is_target_unbound(&self, target: &TargetPlace<Place<Name>>) -> bool
+        ensures { result ≡ any_unbound self.now (of_target target.now) }
     {
         match target {
-            TargetWord::One(reference) => self.is_unbound(reference),
+            TargetPlace::One(place) => self.is_unbound(place),
             _ => false,
         }
     }
 
-    fn is_any_unbound(&self, references: &[Reference]) -> bool
-        ensures { result ≡ any_unbound self.now references.now }
+    fn is_any_unbound(&self, places: &[Place<Name>]) -> bool
+        ensures { result ≡ any_unbound self.now places.now }
     {
-        references
-            .iter()
-            .any(|reference| self.is_unbound(reference))
+        places.iter().any(|place| self.is_unbound(place))
     }
 
     fn fault_of_behaviour(&self, name: &Name, parameters: &[Name]) -> Option<ScriptKind>
@@ -132,7 +132,12 @@ impl Scope {
         )
     }
 
-    fn fault_of_start(&self, on: &Reference, name: &Name, args: &[Reference]) -> Option<ScriptKind>
+    fn fault_of_start(
+        &self,
+        on: &Place<Name>,
+        name: &Name,
+        args: &[Place<Name>],
+    ) -> Option<ScriptKind>
         ensures { result ≡ start_fault (any_unbound self.now (on.now ∷ args.now)) (parameters_of name.now self.now.heads) (length args.now) }
     {
         if self.is_unbound(on) || self.is_any_unbound(args) {
@@ -162,7 +167,7 @@ impl Scope {
             Call::Ask(_, target) | Call::Wait { target, .. } => {
                 fault_where(self.is_target_unbound(target), ScriptKind::NoReference)
             }
-            Call::SetVerdict(_) | Call::GetVerdict => None,
+            Call::StopCase | Call::SetVerdict(_) | Call::GetVerdict => None,
         }
     }
 

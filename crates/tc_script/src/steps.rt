@@ -1,52 +1,33 @@
+//! The steps of a behaviour, from its lines.
 ghost use Rattle.std.specs.Prelude.{◌≡◌, ◌≤◌, [], length, IfOk, map};
-ghost use Rattle.tc_script.specs.Campaign.{place, group_at, target_at, step_of, steps};
+ghost use Rattle.tc_entry.specs.declared.limits.TheConstants.{ARGUMENTS, BEHAVIOURS};
+ghost use Rattle.tc_script.specs.Campaign.{place as the_place, step_of, steps};
 ghost use Rattle.tc_script.specs.Names.{all_of};
-ghost use Rattle.tc_script.specs.Open.{given};
-ghost use Rattle.tc_script.specs.Building.{HaveFewArguments};
+ghost use Rattle.tc_script.specs.FirstPass.{given};
+ghost use Rattle.tc_script.specs.Inside.Building.{HaveFewArguments};
 
 use crate::heads::Heads;
 use crate::names::Names;
 use crate::scope::{bind, bound_by};
 use std::alloc::{AllocError, Global};
-use tc_line::{Call, GroupWord, Line, Name, Reference, TargetWord};
-use tc_step::{GroupPlace, Place, Places, Run, Step, TargetPlace};
+use tc_line::{Call, Line, Name};
+use tc_step::{Place, Places, Run, Step};
 
-fn place_at(bound: &Names, reference: &Reference) -> Place
-    ensures { result ≡ place bound.now reference.now }
+/// The component that a line names, where these names are bound.
+fn place_at(bound: &Names, place: &Place<Name>) -> Place
+    ensures { result ≡ the_place bound.now place.now }
 {
-    match reference {
-        Reference::Main => Place::Main,
-        Reference::Own => Place::Own,
-        Reference::Bound(name) => Place::Bound(bound.place_of(name)),
-    }
+    place.map(|name| bound.place_of(name))
 }
 
-fn group_of(bound: &Names, group: &GroupWord) -> GroupPlace
-    ensures { result ≡ group_at bound.now group.now }
-{
-    match group {
-        GroupWord::One(reference) => GroupPlace::One(place_at(bound, reference)),
-        GroupWord::All => GroupPlace::All,
-    }
-}
-
-fn target_of(bound: &Names, target: &TargetWord) -> TargetPlace
-    ensures { result ≡ target_at bound.now target.now }
-{
-    match target {
-        TargetWord::One(reference) => TargetPlace::One(place_at(bound, reference)),
-        TargetWord::Any => TargetPlace::Any,
-        TargetWord::All => TargetPlace::All,
-    }
-}
-
-fn places_of(bound: &Names, references: &[Reference]) -> Places
-    requires { length references.now ≤ 4 }
-    ensures { result ≡ map (place bound.now) references.now }
+/// The components that a start gives as arguments.
+fn places_of(bound: &Names, named: &[Place<Name>]) -> Places
+    requires { length named.now ≤ ARGUMENTS }
+    ensures { result ≡ map (the_place bound.now) named.now }
 {
     let mut places = Places::new();
-    for reference in references {
-        let _ = places.push(place_at(bound, reference));
+    for place in named {
+        let _ = places.push(place_at(bound, place));
     }
     places
 }
@@ -54,8 +35,8 @@ fn places_of(bound: &Names, references: &[Reference]) -> Places
 /// The step of a call, where these names are bound.
 #[tactic(auto, unfolding(crate::specs::Campaign::step_of))]
 fn step_at(heads: &Heads, bound: &Names, call: &Call) -> Step
-    requires few_heads { length heads.now ≤ 64 }
-    requires few_arguments { given call.now ≤ 4 }
+    requires few_heads { length heads.now ≤ BEHAVIOURS }
+    requires few_arguments { given call.now ≤ ARGUMENTS }
     ensures { result ≡ step_of heads.now bound.now call.now }
 {
     match call {
@@ -69,13 +50,14 @@ fn step_at(heads: &Heads, bound: &Names, call: &Call) -> Step
             run: Run(heads.place_of(behaviour) as u16),
             args: places_of(bound, args.as_slice()),
         },
-        Call::Stop(group) => Step::Stop(group_of(bound, group)),
-        Call::Kill(group) => Step::Kill(group_of(bound, group)),
-        Call::Ask(status, target) => Step::Ask(*status, target_of(bound, target)),
+        Call::Stop(group) => Step::Stop(group.map(|place| place_at(bound, place))),
+        Call::Kill(group) => Step::Kill(group.map(|place| place_at(bound, place))),
+        Call::Ask(status, target) => Step::Ask(*status, target.map(|place| place_at(bound, place))),
         Call::Wait { killed, target } => Step::Wait {
             killed: *killed,
-            target: target_of(bound, target),
+            target: target.map(|place| place_at(bound, place)),
         },
+        Call::StopCase => Step::StopCase,
         Call::SetVerdict(setting) => Step::SetVerdict(*setting),
         Call::GetVerdict => Step::GetVerdict,
     }
@@ -88,7 +70,7 @@ pub fn steps_of(
     parameters: &[Name],
     lines: &[Line],
 ) -> Result<Vec<Step>, AllocError>
-    requires few_heads { length heads.now ≤ 64 }
+    requires few_heads { length heads.now ≤ BEHAVIOURS }
     requires few_arguments { HaveFewArguments lines.now }
     ensures { IfOk result (λ v. v.items ≡ steps heads.now (all_of [] parameters.now) lines.now) }
 {

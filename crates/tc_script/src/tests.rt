@@ -1,3 +1,4 @@
+//! Scripts that are read, and scripts that are refused.
 use super::*;
 use std::process::Abort;
 use std::test::Fail;

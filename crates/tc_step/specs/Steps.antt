@@ -1,5 +1,6 @@
 -- What a script is: steps whose places are bound where they stand.
 use Rattle.std.specs.Prelude.{ℕ, ◌+◌, ◌<◌, ◌≤◌, List, [], ◌∷◌, length, All}
+use Rattle.tc_entry.specs.declared.limits.TheConstants.{ARGUMENTS}
 use Rattle.tc_step.specs.declared.place.Place.{Place}
 use Rattle.tc_step.specs.declared.place.Place.TheVariants as P
 use Rattle.tc_step.specs.declared.place.GroupPlace.{GroupPlace}
@@ -14,16 +15,18 @@ pub record ScriptView : Type 0 where
   pub parameters : ℕ
   pub steps : List Step
 
-abbrev pub of_group : GroupPlace → List Place
+-- the places that a group names
+abbrev pub of_group : {P : Type 0} → GroupPlace P → List P
 of_group (G.One p) = p ∷ []
 of_group G.All = []
 
-abbrev pub of_target : TargetPlace → List Place
+-- the places that a target names
+abbrev pub of_target : {P : Type 0} → TargetPlace P → List P
 of_target (T.One p) = p ∷ []
 of_target _ = []
 
 -- the places that a step names
-abbrev pub places : Step → List Place
+abbrev pub places : Step → List (Place ℕ)
 places (S.Start on run args) = on ∷ args
 places (S.Stop g) = of_group g
 places (S.Kill g) = of_group g
@@ -32,7 +35,7 @@ places (S.Wait killed t) = of_target t
 places _ = []
 
 -- the place is one of a behaviour that has so many components bound
-abbrev pub IsBound : ℕ → Place → Type 0
+abbrev pub IsBound : ℕ → Place ℕ → Type 0
 IsBound count (P.Bound k) = k < count
 IsBound count _ = Unit {0}
 
@@ -41,17 +44,13 @@ abbrev pub count_after : ℕ → Step → ℕ
 count_after count (S.Create alive) = count + 1
 count_after count _ = count
 
--- how many are bound behind some steps
-abbrev pub count_behind : ℕ → List Step → ℕ
-count_behind count [] = count
-count_behind count (s ∷ steps) = count_behind (count_after count s) steps
-
 -- each place of each step is bound where the step stands, so many components being bound before the first step
 abbrev pub AreBound : ℕ → List Step → Type 0
 AreBound count [] = Unit {0}
 AreBound count (s ∷ steps) = All (IsBound count) (places s) × AreBound (count_after count s) steps
 
+-- a script has few parameters and few steps, and its places are bound
 pub record IsScript (parameters : ℕ) (steps : List Step) : Type 0 where
-  pub few_parameters : parameters ≤ 4
+  pub few_parameters : parameters ≤ ARGUMENTS
   pub few_steps : length steps ≤ 1000
   pub bound : AreBound parameters steps

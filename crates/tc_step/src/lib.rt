@@ -1,11 +1,13 @@
 //! The steps of a scripted behaviour, and the components that they name.
 #![tactic(auto)]
 
+mod limits;
 mod place;
 mod places;
 mod script;
 mod step;
 
+pub use limits::STEPS;
 pub use place::{GroupPlace, Place, TargetPlace};
 pub use places::Places;
 pub use script::Script;

@@ -1,13 +1,18 @@
+//! A scripted behaviour: its parameters and its steps.
 ghost use Rattle.std.specs.Prelude.{◌≡◌, ◌≤◌, ◌↔◌, IsTrue, length};
+ghost use Rattle.tc_entry.specs.declared.limits.TheConstants.{ARGUMENTS};
 ghost use Rattle.tc_step.specs.Steps.{AreBound, IsScript};
+ghost use Rattle.tc_step.specs.declared.limits.TheConstants.{STEPS};
 
+use crate::limits::STEPS;
 use crate::step::Step;
 use std::marker::Model;
+use tc_entry::ARGUMENTS;
 
 /// A scripted behaviour: the number of its parameters, and its steps in their order.
 ///
-/// It has at most 4 parameters and 1,000 steps, and each place of a step is bound where the step stands; these limits
-/// are this project's own.
+/// It has at most `ARGUMENTS` parameters and `STEPS` steps, and each place of a step is bound where the step stands;
+/// these limits are this project's own.
 #[derive(Drop)]
 pub struct Script {
     parameters: usize,
@@ -26,8 +31,8 @@ impl Model for Script {
 
 /// Whether each place of each step is bound where so many components are bound before the first step.
 fn are_bound(parameters: usize, steps: &[Step]) -> bool
-    requires few_parameters { parameters ≤ 4 }
-    requires few_steps { length steps.now ≤ 1000 }
+    requires few_parameters { parameters ≤ ARGUMENTS }
+    requires few_steps { length steps.now ≤ STEPS }
     ensures { IsTrue result ↔ AreBound parameters steps.now }
 {
     let mut count = parameters;
@@ -49,7 +54,7 @@ impl Script {
     pub fn is_script(parameters: usize, steps: &[Step]) -> bool
         ensures { IsTrue result ↔ IsScript parameters steps.now }
     {
-        if parameters > 4 || steps.len() > 1000 {
+        if parameters > ARGUMENTS || steps.len() > STEPS {
             return false;
         }
         are_bound(parameters, steps)

@@ -1,3 +1,4 @@
+//! A step of a scripted behaviour.
 ghost use Rattle.std.specs.Prelude.{◌↔◌, ◌∷◌, IsTrue, All};
 ghost use Rattle.tc_step.specs.Steps.{IsBound, of_group, of_target, places};
 
@@ -25,6 +26,8 @@ pub enum Step {
     Stop(GroupPlace),
     /// Kills components.
     Kill(GroupPlace),
+    /// Ends the test case with the verdict error.
+    StopCase,
     /// Asks whether components are running, alive, done or killed.
     Ask(Status, TargetPlace),
     /// Waits until components are done, or killed.

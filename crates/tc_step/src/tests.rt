@@ -1,3 +1,4 @@
+//! Places and steps, bound and unbound.
 use super::*;
 use std::test::Fail;
 
@@ -24,6 +25,7 @@ fn a_script_of_bound_places(rt: HostRuntime) -> Result<(), Fail> {
             target: TargetPlace::One(Place::Bound(1))
         },
         Step::Kill(GroupPlace::All),
+        Step::StopCase,
         Step::Ask(Status::Killed, TargetPlace::Any),
         Step::SetVerdict(UserVerdict::Pass),
         Step::GetVerdict,
@@ -33,7 +35,7 @@ fn a_script_of_bound_places(rt: HostRuntime) -> Result<(), Fail> {
     assert!(rt; Script::is_script(1, steps.as_slice()));
     let script = Script::new(1, steps);
     assert_eq!(rt; script.parameters(), 1);
-    assert_eq!(rt; script.steps().len(), 7);
+    assert_eq!(rt; script.steps().len(), 8);
     assert_eq!(rt; script.steps()[3], Step::Kill(GroupPlace::All));
     Ok(())
 }
@@ -81,4 +83,29 @@ fn places_are_at_most_four(rt: HostRuntime) {
     assert!(rt; !places.push(Place::Own));
     assert_eq!(rt; places.as_slice().len(), 4);
     assert_eq!(rt; places.as_slice()[3], Place::Bound(3));
+}
+
+#[test]
+fn places_under_a_function(rt: HostRuntime) {
+    let is_third = |index: &usize| *index == 3;
+    assert_eq!(rt; Place::Bound(3).map(is_third), Place::Bound(true));
+    assert_eq!(rt; Place::Own.map(is_third), Place::<bool>::Own);
+    assert_eq!(rt; Place::Main.map(is_third), Place::<bool>::Main);
+    let is_own = |place: &Place| *place == Place::Own;
+    let one = GroupPlace::One(Place::Own);
+    assert_eq!(rt; one.map(is_own), GroupPlace::One(true));
+    assert_eq!(rt;
+        GroupPlace::<Place>::All.map(is_own),
+        GroupPlace::<bool>::All
+    );
+    let one = TargetPlace::One(Place::Main);
+    assert_eq!(rt; one.map(is_own), TargetPlace::One(false));
+    assert_eq!(rt;
+        TargetPlace::<Place>::Any.map(is_own),
+        TargetPlace::<bool>::Any
+    );
+    assert_eq!(rt;
+        TargetPlace::<Place>::All.map(is_own),
+        TargetPlace::<bool>::All
+    );
 }

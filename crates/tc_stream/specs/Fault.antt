@@ -1,5 +1,6 @@
 -- The texts of faults.
 use Rattle.std.specs.Prelude.{ℕ, List, codes}
+use Rattle.tc_verdict.specs.Words.{memory_text}
 use Rattle.tc_stream.specs.declared.input.InputFault.{InputFault}
 use Rattle.tc_stream.specs.declared.input.InputFault.TheVariants as I
 
@@ -7,7 +8,7 @@ use Rattle.tc_stream.specs.declared.input.InputFault.TheVariants as I
 abbrev pub input_text : InputFault → List ℕ
 input_text I.TooLong = codes "input too long"
 input_text I.Read = codes "read fault"
-input_text I.NoMemory = codes "no memory"
+input_text I.NoMemory = memory_text
 
 -- why an output did not go out
 abbrev pub write_text : List ℕ

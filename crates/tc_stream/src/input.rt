@@ -1,3 +1,4 @@
+//! A whole input, up to a limit.
 ghost use Rattle.std.specs.Prelude.{◌≡◌, true, false, ◌<◌, ◌≤◌, ◌+◌, ◌^◌, ◌↔◌, length, Some, IfOk, OnOk, IfSome, vec_len, IsErrOf};
 ghost use Rattle.std.specs.Io.KnownBytes.{Consumes, IsAtEnd};
 ghost use Rattle.std.specs.Io.{StartsWith, appended_bytes};
@@ -7,6 +8,7 @@ use crate::counted::{CountedRead, CountedReader};
 use std::alloc::Global;
 use std::fmt;
 use std::io::Read;
+use tc_verdict::NoMemory;
 use thiserror::Error;
 
 /// Why an input was refused.
@@ -28,7 +30,7 @@ impl InputFault {
         match self {
             InputFault::TooLong => "input too long",
             InputFault::Read => "read fault",
-            InputFault::NoMemory => "no memory",
+            InputFault::NoMemory => NoMemory.text(),
         }
     }
 }

@@ -1,3 +1,4 @@
+//! A whole output.
 ghost use Rattle.std.specs.Prelude.{◌≡◌, true, false, ◌<◌, ◌≤◌, ◌+◌, ◌^◌, ◌↔◌, length, take, Some, IfOk, IsErr, OnOk, OnErr};
 ghost use Rattle.std.specs.Io.KnownBytes.{Appends, Keeps};
 ghost use Rattle.tc_stream.specs.Fault.{write_text};

@@ -1,3 +1,4 @@
+//! Readers and writers that give and take little, and fail.
 use super::*;
 use crate::devices::{NarrowWriter, SlowReader, WriteFailure};
 use std::test::Fail;

@@ -1,8 +1,9 @@
 -- What is counted over states.
-use Rattle.std.proofs.Common.{ℕ, zero, suc, ◌≡◌, ◌+◌, ◌<◌, ◌≤◌, ◌==◌, ◌&&◌, ◌||◌, not, if◌then◌else◌, nat_lt, Bool, true, false, List, [], ◌∷◌, ◌++◌, length, drop, get_or, refl, ap, sym, ◌∙◌, arith, length-append}
+use Rattle.std.proofs.Common.{ℕ, zero, suc, ◌≡◌, ◌+◌, ◌<◌, ◌≤◌, ◌==◌, ◌&&◌, ◌||◌, not, if◌then◌else◌, nat_lt, Bool, true, false, is_some, List, [], ◌∷◌, ◌++◌, length, drop, get_or, refl, ap, sym, ◌∙◌, arith, length-append}
 use Rattle.std.specs.List.{list_any, list_all}
 use Rattle.std.proofs.Math.ListN.{set, length-set}
 use Rattle.std.proofs.lemmas.Bool.Decides.{nat_tests}
+use Rattle.tc_entry.specs.declared.limits.TheConstants.{COMPONENTS}
 use Rattle.tc_verdict.specs.declared.verdict.Verdict.{Verdict}
 use Rattle.tc_verdict.specs.declared.verdict.Verdict.TheVariants as V
 use Rattle.tc_verdict.specs.Verdict.{worse, level_of}
@@ -54,9 +55,9 @@ some_is p (x ∷ xs) = by_test (p x) (list_any (λ s. not (p s)) xs) (count_of p
     by_test true b n m h k = grind (arith, nat_tests)
     by_test false b n m h k = grind (arith, nat_tests)
 
-lapsed_is : (xs : List ComponentState) → list_all (λ s. not s.started || is_running s.phase || s.excused) xs ≡ (count_of is_lapsed xs == 0)
+lapsed_is : (xs : List ComponentState) → list_all (λ s. not (is_some s.last) || is_running s.phase || s.excused) xs ≡ (count_of is_lapsed xs == 0)
 lapsed_is [] = refl
-lapsed_is (x ∷ xs) = by_test x.started (is_running x.phase) x.excused _ (count_of is_lapsed xs) (lapsed_is xs)
+lapsed_is (x ∷ xs) = by_test (is_some x.last) (is_running x.phase) x.excused _ (count_of is_lapsed xs) (lapsed_is xs)
   where
     by_test : (s r e b : Bool) (n : ℕ) → b ≡ (n == 0) → ((not s || r || e) && b) ≡ (bit (s && not r && not e) + n == 0)
     by_test true true e b n h = grind (arith, nat_tests)
@@ -138,7 +139,7 @@ counted_at p (x ∷ xs) (suc i) old n h is a =
     let t : nat_lt 0 (suc i) ≡ true = grind (arith, nat_tests) in
     rw t (omega arith)
 
-pub few_counted : (p : ComponentState → Bool) (xs : List ComponentState) (n : ℕ) → length xs ≤ 1000 → n ≡ count_of p (drop 1 xs) → n ≤ 1000
+pub few_counted : (p : ComponentState → Bool) (xs : List ComponentState) (n : ℕ) → length xs ≤ COMPONENTS → n ≡ count_of p (drop 1 xs) → n ≤ COMPONENTS
 few_counted p [] n h e = omega arith
 few_counted p (x ∷ xs) n h e = omega (arith, count_le p xs)
 
@@ -165,7 +166,7 @@ counted-more p [] y k h = absurd (omega arith)
 counted-more p (x ∷ xs) y k h = count-more p xs y h
 
 module _ {states : List ComponentState} {running done killed lapsed : ℕ} {w : Verdict} where
-  pub counted_more : (alive : Bool) → IsCounted states running done killed lapsed w → length states < 1000 → IsCounted (states ++ made_state alive ∷ []) running done killed lapsed w
+  pub counted_more : (alive : Bool) → IsCounted states running done killed lapsed w → length states < COMPONENTS → IsCounted (states ++ made_state alive ∷ []) running done killed lapsed w
   counted_more alive k h =
       let e = length-append states (made_state alive ∷ []) in
       record {
@@ -198,7 +199,7 @@ module _ {states : List ComponentState} {running done killed lapsed : ℕ} {w : 
       }
 
   -- the same, if the growth was not refused
-  pub counted_either : (alive ok : Bool) (after : List ComponentState) → IsCounted states running done killed lapsed w → length states < 1000 →
+  pub counted_either : (alive ok : Bool) (after : List ComponentState) → IsCounted states running done killed lapsed w → length states < COMPONENTS →
       after ≡ (if ok then states ++ made_state alive ∷ [] else states) → IsCounted after running done killed lapsed w
   counted_either alive true after k h e = rw e (counted_more alive k h)
   counted_either alive false after k h e = rw e k
@@ -206,7 +207,7 @@ module _ {states : List ComponentState} {running done killed lapsed : ℕ} {w : 
   pub some_counted : IsCounted states running done killed lapsed w → 1 ≤ length states
   some_counted k = k.some
 
-  pub few_states : IsCounted states running done killed lapsed w → length states ≤ 1000
+  pub few_states : IsCounted states running done killed lapsed w → length states ≤ COMPONENTS
   few_states k = k.few
 
   pub running_at : (i : ℕ) (old : ComponentState) → IsCounted states running done killed lapsed w → i < length states → old ≡ get_or states i old → bit (nat_lt 0 i && is_running old.phase) ≤ running
@@ -221,16 +222,16 @@ module _ {states : List ComponentState} {running done killed lapsed : ℕ} {w : 
   pub lapsed_at : (i : ℕ) (old : ComponentState) → IsCounted states running done killed lapsed w → i < length states → old ≡ get_or states i old → bit (nat_lt 0 i && is_lapsed old) ≤ lapsed
   lapsed_at i old k h is = counted_at is_lapsed states i old lapsed h is k.lapsed_is
 
-  pub few_running : IsCounted states running done killed lapsed w → running ≤ 1000
+  pub few_running : IsCounted states running done killed lapsed w → running ≤ COMPONENTS
   few_running k = few_counted (λ s. is_running s.phase) states running k.few k.running_is
 
-  pub few_done : IsCounted states running done killed lapsed w → done ≤ 1000
+  pub few_done : IsCounted states running done killed lapsed w → done ≤ COMPONENTS
   few_done k = few_counted (λ s. is_done s.phase) states done k.few k.done_is
 
-  pub few_killed : IsCounted states running done killed lapsed w → killed ≤ 1000
+  pub few_killed : IsCounted states running done killed lapsed w → killed ≤ COMPONENTS
   few_killed k = few_counted (λ s. is_killed s.phase) states killed k.few k.killed_is
 
-  pub few_lapsed : IsCounted states running done killed lapsed w → lapsed ≤ 1000
+  pub few_lapsed : IsCounted states running done killed lapsed w → lapsed ≤ COMPONENTS
   few_lapsed k = few_counted is_lapsed states lapsed k.few k.lapsed_is
 
   pub worst_counted : IsCounted states running done killed lapsed w → worst_local states ≡ w

@@ -1,5 +1,5 @@
 -- An entry leaves the states that it does not touch as they are.
-use Rattle.std.proofs.Common.{ℕ, ◌≡◌, ◌≢◌, ◌<◌, ◌≤◌, ◌==◌, ◌&&◌, ◌||◌, not, if◌then◌else◌, Bool, true, false, Option, Some, None, is_some, List, [], ◌∷◌, length, get_or, refl, ap, sym, ◌∙◌, arith, get_or-set_other, get_or-set_same}
+use Rattle.std.proofs.Common.{ℕ, ◌≡◌, ◌≢◌, ◌<◌, ◌≤◌, ◌==◌, ◌&&◌, ◌||◌, not, if◌then◌else◌, Bool, true, false, Option, Some, None, List, [], ◌∷◌, length, get_or, refl, ap, sym, ◌∙◌, arith, get_or-set_other, get_or-set_same}
 use Rattle.std.proofs.Math.ListN.{set}
 use Rattle.std.proofs.lemmas.List.{get_or_default}
 use Rattle.std.proofs.lemmas.Bool.Decides.{nat_tests}
@@ -16,11 +16,12 @@ use Rattle.tc_entry.specs.declared.reply.Reply.{Reply}
 use Rattle.tc_entry.specs.declared.reply.Reply.TheVariants as R
 use Rattle.tc_table.specs.declared.component_state.ComponentState.{ComponentState}
 use Rattle.tc_table.specs.declared.step.Scope.TheVariants as T
-use Rattle.tc_table.specs.History.{is_comp, is_ok, is_ended, is_fault, is_finish, is_stop_of, is_kill_of, kills, halts, ends_case, starts_on}
+use Rattle.tc_table.specs.History.{is_comp, is_ok, is_ended, is_fault, is_finish, is_stop_case, is_stop_of, is_kill_of, kills, halts, ends_case, starts_on, first_some}
 use Rattle.tc_table.specs.Phases.{start_in, halts_from_outside}
 use Rattle.tc_table.specs.Status.{is_running}
 use Rattle.tc_table.specs.Local.{gives, setting}
 use Rattle.tc_table.specs.Inside.Step.{next_state, next_phase, next_excused, next_local, touched, touched_by, touched_own, touches, IsSettled}
+use Rattle.tc_table.proofs.Deciding.{if_same}
 
 -- what is known of an operation that does not touch component c
 record Spares (own : Option Comp) (op : Op) (c : ℕ) : Type 0 where
@@ -29,10 +30,6 @@ record Spares (own : Option Comp) (op : Op) (c : ℕ) : Type 0 where
   start : starts_on op c ≡ None
   finish : (is_finish op && is_comp own c) ≡ false
   sets : (if is_comp own c then setting op else []) ≡ []
-
-pub if_same : {A : Type 0} (t : Bool) (x : A) → (if t then x else x) ≡ x
-if_same true x = refl
-if_same false x = refl
 
 own_touches : (own : Option Comp) (c : ℕ) → touches (touched_own own) c ≡ is_comp own c
 own_touches None c = refl
@@ -45,6 +42,7 @@ spares own (O.Stop G.All) c h = absurd cc
 spares own (O.Kill (G.One d)) c h = record { stop = refl; kill = h; start = refl; finish = refl; sets = if_same (is_comp own c) [] }
 spares own (O.Kill G.All) c h = absurd cc
 spares own (O.SetVerdict v) c h = let e = sym (own_touches own c) ∙ h in record { stop = refl; kill = refl; start = refl; finish = refl; sets = rw e }
+spares own O.StopCase c h = let e = sym (own_touches own c) ∙ h in record { stop = refl; kill = refl; start = refl; finish = refl; sets = rw e }
 spares own O.Finish c h = let e = sym (own_touches own c) ∙ h in record { stop = refl; kill = refl; start = refl; finish = e; sets = if_same (is_comp own c) [] }
 spares own _ c h = record { stop = refl; kill = refl; start = refl; finish = refl; sets = if_same (is_comp own c) [] }
 
@@ -62,14 +60,14 @@ gives_by true op R.Ok h k = k
 gives_by true op (R.Fault f) h k = absurd cc
 gives_by true op _ h k = refl
 
-fault_ends : (ended fault fin stop kill : Bool) → (not ended && (fault || fin || stop || kill)) ≡ false → ended ≡ false → fault ≡ false
-fault_ends true fault fin stop kill h k = absurd cc
-fault_ends false true fin stop kill h k = absurd cc
-fault_ends false false fin stop kill h k = refl
+fault_ends : (ended fault case fin stop kill : Bool) → (not ended && (fault || case || fin || stop || kill)) ≡ false → ended ≡ false → fault ≡ false
+fault_ends true fault case fin stop kill h k = absurd cc
+fault_ends false true case fin stop kill h k = absurd cc
+fault_ends false false case fin stop kill h k = refl
 
 leaves_op : (own : Option Comp) (e : Entry) (c : ℕ) → ends_case e ≡ false → is_ended e.reply ≡ false → Spares own e.op c → Leaves own e c
 leaves_op own e c ends ended s =
-    let f = fault_ends (is_ended e.reply) (is_fault e.reply) (is_finish e.op && (e.caller.0 == 0)) (is_stop_of e.op 0) (is_kill_of e.op 0) ends ended in
+    let f = fault_ends (is_ended e.reply) (is_fault e.reply) (is_stop_case e.op) (is_finish e.op && (e.caller.0 == 0)) (is_stop_of e.op 0) (is_kill_of e.op 0) ends ended in
     record {
       kill = rw (ends, ended, s.kill);
       start = rw s.start (if_same (is_ok e.reply) None);
@@ -90,7 +88,7 @@ leaves_by false false own e c a b h = leaves_op own e c a b (spares own e.op c h
 
 kept_by : (kill : Bool) (start : Option Run) (halt out r : Bool) (vs : List Verdict) (s : ComponentState) → kill ≡ false → start ≡ None → halt ≡ false → out ≡ false → vs ≡ [] →
     is_running s.phase ≡ r → (r ≡ true → s.excused ≡ false) →
-    record { phase = next_phase kill start halt s.alive_type s.phase; alive_type = s.alive_type; started = is_some start || s.started; excused = next_excused start out s.phase s.excused; local = next_local vs s.local } ≡ s
+    record { phase = next_phase kill start halt s.alive_type s.phase; alive_type = s.alive_type; last = first_some start s.last; excused = next_excused start out s.phase s.excused; local = next_local vs s.local } ≡ s
 kept_by kill start halt out true vs s a b c d e f g = let h = sym (g refl) in rw (a, b, c, d, e, f) (ap (λ x. record s { excused = x }) h)
 kept_by kill start halt out false vs s a b c d e f g = rw (a, b, c, d, e, f)
 

@@ -1,5 +1,5 @@
 -- A component that is not yet made, after one more entry.
-use Rattle.std.proofs.Common.{ℕ, ◌≡◌, ◌&&◌, Bool, true, false, Option, Some, None, is_some, List, ◌∷◌, refl, ap}
+use Rattle.std.proofs.Common.{ℕ, ◌≡◌, ◌&&◌, Bool, true, false, Option, None, List, ◌∷◌, refl, ap}
 use Rattle.tc_verdict.specs.declared.verdict.Verdict.TheVariants as V
 use Rattle.tc_verdict.specs.declared.run.Run.{Run}
 use Rattle.tc_verdict.specs.Verdict.{worst}
@@ -16,10 +16,6 @@ not_killed_if : (k : Bool) (r : Option Run) (h a : Bool) → phase_by k r h a �
 not_killed_if true r h a e = cc
 not_killed_if false r h a e = refl
 
-none_if : (r : Option Run) → is_some r ≡ false → r ≡ None
-none_if (Some b) e = cc
-none_if None e = refl
-
 pub fresh_not_killed : (past : List Entry) (c : ℕ) → state_of past c ≡ blank → was_killed past c ≡ false
 unfolding phase
 fresh_not_killed past c e = not_killed_if (was_killed past c) (last_run past c) (was_halted past c) (is_alive_type past c) (ap (λ s. s.phase) e)
@@ -29,6 +25,6 @@ pub fresh_step : (past : List Entry) (e : Entry) (c : ℕ) → exists past c ≡
 unfolding phase local
 fresh_step past e c ex st on blank' =
     let k : was_killed past c ≡ false = fresh_not_killed past c blank' in
-    let r : last_run past c ≡ None = none_if (last_run past c) (ap (λ s. s.started) blank') in
+    let r : last_run past c ≡ None = ap (λ s. s.last) blank' in
     let l : worst (verdicts_of past c) ≡ V.None = ap (λ s. s.local) blank' in
     rw (ex, st, on, k, r, l)

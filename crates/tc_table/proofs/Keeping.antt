@@ -1,7 +1,6 @@
 -- What the table keeps is right after one more entry.
 use Rattle.std.proofs.Common.{ℕ, ◌≡◌, ◌<◌, ◌≤◌, ◌==◌, ◌&&◌, ◌||◌, not, if◌then◌else◌, Bool, true, false, Option, Some, None, is_some, List, ◌∷◌, length, get_or, refl, ap, subst, sym, ◌∙◌, arith}
 use Rattle.std.specs.List.{list_all}
-use Rattle.std.proofs.lemmas.Bool.Decides.{nat_tests}
 use Rattle.tc_table.specs.declared.awaited.Awaited.{Awaited}
 use Rattle.tc_entry.specs.declared.comp.Comp.{Comp}
 use Rattle.tc_entry.specs.declared.entry.Entry.{Entry}
@@ -20,6 +19,7 @@ use Rattle.tc_table.proofs.Steps.{state_step, run_step}
 use Rattle.tc_table.proofs.Fresh.{fresh_step}
 use Rattle.tc_table.specs.Inside.Counts.{made_state}
 use Rattle.tc_table.proofs.Sound.{starts, runs_on, parked, no_parks, starts_fresh}
+use Rattle.tc_table.proofs.Deciding.{equal_if, other_comp}
 
 halting_by : (ended ends fin stop kill : Bool) → (ends || (not ended && kill)) ≡ true → (ends || (not ended && (fin || stop || kill))) ≡ true
 halting_by ended true fin stop kill h = refl
@@ -48,10 +48,6 @@ not_some : {A : Type 0} (o : Option A) → (is_some o ≡ true → ⊥) → o �
 not_some (Some x) h = absurd (h refl)
 not_some None h = refl
 
-other_comp : (o : Option Comp) (c : ℕ) (n : ℕ) → ((d : Comp) → o ≡ Some d → d.0 < n) → n ≤ c → is_comp o c ≡ false
-other_comp None c n h out = refl
-other_comp (Some d) c n h out = let k : d.0 < n = h d refl in grind (arith, nat_tests)
-
 first_none : {A : Type 0} (o p : Option A) → o ≡ None → ((x : A) → p ≡ Some x → ⊥) → first_some o p ≡ None
 first_none o (Some x) e h = absurd (h x refl)
 first_none o None e h = rw e
@@ -74,9 +70,6 @@ none_waits past e b w p = waits_by (e.caller.0 == b) (parks e.op e.reply) (waiti
     waits_by : (t : Bool) (x y : Option Awaited) → y ≡ None → (t ≡ true → x ≡ None) → (if t then x else y) ≡ None
     waits_by true x y e h = h refl
     waits_by false x y e h = e
-
-    equal_if : (m n : ℕ) → (m == n) ≡ true → m ≡ n
-    equal_if m n h = grind (arith, nat_tests)
 
 now_on : (ok : Bool) (o p : Option Comp) (c : ℕ) → ok ≡ true → o ≡ None → p ≡ Some (record { 0 = c }) → first_some o (if ok then p else None) ≡ Some (record { 0 = c })
 now_on true None p c a b h = h

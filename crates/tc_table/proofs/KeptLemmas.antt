@@ -123,7 +123,7 @@ module _ {n : ℕ} {past : List Entry} {states : List ComponentState} {runs : Li
   unfolding running none_lapsed
   running_all kept =
       list_all-same _ _ (ptcs past) (λ c. masked (is_some (last_run past c)) (is_running (phase past c)) (is_excused past c))
-      ∙ all_kept (λ s. not s.started || is_running s.phase || s.excused) kept
+      ∙ all_kept (λ s. not (is_some s.last) || is_running s.phase || s.excused) kept
 
   pub alive_any : IsKept n past states runs over → alive past T.Any ≡ any_alive (drop 1 states)
   unfolding alive any_alive
@@ -154,6 +154,12 @@ module _ {n : ℕ} {past : List Entry} {states : List ComponentState} {runs : Li
 
   pub phase_state : (c : ℕ) (d : ComponentState) → IsKept n past states runs over → c < length states → (get_or states c d).phase ≡ phase past c
   phase_state c d kept h = ap (λ s. s.phase) (kept.each_state c d h)
+
+  pub last_kept : (c : ℕ) (d : ComponentState) → IsKept n past states runs over → c < length states → (get_or states c d).last ≡ last_run past c
+  last_kept c d kept h = ap (λ s. s.last) (kept.each_state c d h)
+
+  pub no_last : (c : ℕ) → IsKept n past states runs over → length states ≤ c → last_run past c ≡ None
+  no_last c kept h = ap (λ s. s.last) (kept.fresh c h)
 
   pub waiting_kept : (b : ℕ) (d : RunState) → IsKept n past states runs over → b < length runs → (get_or runs b d).waiting ≡ waiting past b
   waiting_kept b d kept h = ap (λ s. s.waiting) (kept.each_run b d (omega (arith, kept.as_many_runs)))
@@ -233,3 +239,5 @@ pub ruleset group_rules = (running_one, alive_one, done_one, killed_one, running
 pub ruleset wait_rules = (waiting_kept, not_waiting, local_state)
 
 pub ruleset overall_rules = (overall_kept)
+
+pub ruleset last_rules = (last_kept, no_last)

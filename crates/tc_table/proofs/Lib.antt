@@ -1,3 +1,5 @@
+-- The lemmas of this crate.
+pub mod Deciding
 pub mod WorkedCases
 pub mod Numbers
 pub mod KeptLemmas
@@ -17,4 +19,5 @@ pub mod Elsewhere
 pub mod Unchanged
 pub mod LawsOfHistories
 pub mod Quiet
+pub mod Going
 pub mod Standing

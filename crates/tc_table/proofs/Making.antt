@@ -1,8 +1,9 @@
 -- What the table keeps is right after an entry that makes a component.
-use Rattle.std.proofs.Common.{ℕ, ◌≡◌, ◌+◌, ◌<◌, ◌≤◌, ◌==◌, ◌&&◌, ◌||◌, if◌then◌else◌, Bool, true, false, Option, Some, None, List, [], ◌∷◌, ◌++◌, length, get_or, refl, ap, subst, sym, ◌∙◌, arith, length-append, below_more, suc}
+use Rattle.std.proofs.Common.{ℕ, ◌≡◌, ◌+◌, ◌<◌, ◌==◌, ◌&&◌, ◌||◌, if◌then◌else◌, Bool, true, false, Option, Some, None, List, [], ◌∷◌, ◌++◌, length, get_or, refl, ap, subst, sym, ◌∙◌, arith, length-append, below_more, suc}
 use Rattle.std.proofs.lemmas.Bool.Decides.{nat_tests}
 use Rattle.std.proofs.lemmas.List.{get_or_append_left}
 use Rattle.std.proofs.Math.Seq.{get_or-append_seam}
+use Rattle.tc_entry.specs.declared.limits.TheConstants.{COMPONENTS}
 use Rattle.tc_entry.specs.declared.comp.Comp.{Comp}
 use Rattle.std.specs.List.{list_all}
 use Rattle.tc_verdict.specs.declared.run.Run.{Run}
@@ -31,6 +32,7 @@ use Rattle.tc_table.proofs.Settled.{running_not_excused}
 use Rattle.tc_table.proofs.Fresh.{fresh_step}
 use Rattle.tc_table.specs.Inside.Counts.{made_state}
 use Rattle.tc_table.proofs.Sound.{next}
+use Rattle.tc_table.proofs.Deciding.{other_comp}
 
 abbrev create : Run → Bool → Comp → Entry
 create caller alive d = record { caller = caller; op = O.Create alive; reply = R.Made d }
@@ -45,10 +47,6 @@ quiet caller alive d own c s h = same (is_comp own c) (is_running s.phase) s h
     same false true s h = let e = sym (h refl) in ap (λ x. record s { excused = x }) e
     same true false s h = refl
     same false false s h = refl
-
-other_comp : (o : Option Comp) (c : ℕ) (n : ℕ) → ((d : Comp) → o ≡ Some d → d.0 < n) → n ≤ c → is_comp o c ≡ false
-other_comp None c n h out = refl
-other_comp (Some d) c n h out = let k : d.0 < n = h d refl in grind (arith, nat_tests)
 
 no_more : {A : Type 0} (o : Option A) → first_some o None ≡ o
 no_more (Some x) = refl
@@ -114,7 +112,7 @@ entry_ext : {op op' : Op} {r r' : Reply} (caller : Run) → op ≡ op' → r ≡
 entry_ext caller a b = cc
 
 module _ {n : ℕ} {past : List Entry} {states : List ComponentState} {runs : List RunState} {over : Bool} where
-  created_lit : (caller : Run) (alive : Bool) (d : Comp) (runs' : List RunState) → IsKept n past states runs over → R.Made d ≡ answer n past caller.0 (O.Create alive) → d.0 ≡ length states → length states < 1000 →
+  created_lit : (caller : Run) (alive : Bool) (d : Comp) (runs' : List RunState) → IsKept n past states runs over → R.Made d ≡ answer n past caller.0 (O.Create alive) → d.0 ≡ length states → length states < COMPONENTS →
       length runs' ≡ length runs → ((b : ℕ) (v : RunState) → b < n → get_or runs' b v ≡ next_run (create caller alive d) b (get_or runs b v)) →
       IsKept n (create caller alive d ∷ past) (states ++ made_state alive ∷ []) runs' over
   created_lit caller alive d runs' kept legal number few as_many_runs changed_runs =
@@ -172,7 +170,7 @@ makes_entry v k past e d states' runs' same stands legal made grown as_many_runs
     let made_legal : R.Made d ≡ answer v.behaviours past e.caller.0 (O.Create (is_alive_create e.op)) = sym f.is_made ∙ legal' ∙ ap (answer v.behaviours past e.caller.0) f.is_create in
     let size : components past ≡ length v.states = components_kept kept in
     let number : d.0 ≡ length v.states = f.number ∙ size in
-    let few : length v.states < 1000 = omega (arith, f.few) in
+    let few : length v.states < COMPONENTS = omega (arith, f.few) in
     let as_many_kept : length v.runs ≡ v.behaviours = kept.as_many_runs in
     rw grown
     (subst (λ (x : Entry). IsKept v.behaviours (x ∷ past) (v.states ++ made_state (is_alive_create e.op) ∷ []) runs' v.over) (sym l)

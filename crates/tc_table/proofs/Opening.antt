@@ -1,6 +1,7 @@
 -- What the table keeps at the opening of a case.
 use Rattle.std.proofs.Common.{ℕ, ◌≡◌, ◌<◌, ◌≤◌, ◌==◌, if◌then◌else◌, Bool, true, false, Some, None, List, [], ◌∷◌, length, get_or, refl, ap, sym, ◌∙◌, arith}
 use Rattle.std.proofs.lemmas.Bool.Decides.{nat_tests}
+use Rattle.tc_entry.specs.declared.limits.TheConstants.{BEHAVIOURS}
 use Rattle.tc_verdict.specs.declared.run.Run.{Run}
 use Rattle.tc_entry.specs.declared.comp.Comp.{Comp}
 use Rattle.tc_table.specs.declared.component_state.ComponentState.{ComponentState}
@@ -42,7 +43,7 @@ on_opening c r h = by_test (c == 0) refl h
         rw (← q) (ap (λ (x : ℕ). Some (let z : Comp = record { 0 = x } in z)) (sym z))
     by_test false k e = absurd cc
 
-pub opening : (n : ℕ) (runs : List RunState) → 1 ≤ n → n ≤ 64 → length runs ≡ n → ((b : ℕ) (d : RunState) → b < n → get_or runs b d ≡ run_of [] b) → IsKept n [] (main_state ∷ []) runs false
+pub opening : (n : ℕ) (runs : List RunState) → 1 ≤ n → n ≤ BEHAVIOURS → length runs ≡ n → ((b : ℕ) (d : RunState) → b < n → get_or runs b d ≡ run_of [] b) → IsKept n [] (main_state ∷ []) runs false
 opening n runs some few as_many each =
     record {
       behaviours = (some, few);

@@ -14,52 +14,29 @@ use Rattle.tc_entry.specs.declared.reply.Fault.TheVariants as F
 use Rattle.tc_entry.specs.declared.reply.Reply.{Reply}
 use Rattle.tc_entry.specs.declared.reply.Reply.TheVariants as R
 use Rattle.tc_table.specs.declared.awaited.Awaited.{Awaited}
-use Rattle.tc_table.specs.History.{add_new, comp_of, comps, created, ends_case, exists, first_some, halts, is_alive_type, is_ended, is_fault, is_finish, is_in, is_kill_of, is_ok, is_stop_of, kills, starts_on, starts_run}
+use Rattle.tc_table.specs.History.{add_new, comp_of, comps, created, ends_case, exists, first_some, halts, is_alive_type, is_ended, is_fault, is_finish, is_in, is_ok, kills, starts_on, starts_run}
 use Rattle.tc_table.specs.Phases.{phase, phase_if_not_killed, last_run, start_in, was_halted, was_killed}
 use Rattle.tc_table.specs.Status.{done, is_done, is_killed, is_running, killed}
 use Rattle.tc_table.specs.Waiting.{holds, is_still, is_stuck, parks, waiting}
 use Rattle.tc_table.specs.Faults.{all_exist, asks_many, fault, target_names}
 use Rattle.tc_table.specs.Answers.{answer, answer_unless, is_active, is_active_on, is_run_of}
 use Rattle.tc_table.specs.Legal.{IsLegal}
-use Rattle.tc_table.specs.Laws.{keeps_phases, lets_go_on, is_quiet, QuietWakesNobody}
+use Rattle.tc_table.specs.Laws.{halting_op, keeps_phases, lets_go_on, is_quiet, QuietWakesNobody}
 use Rattle.tc_table.proofs.LawsOfHistories.{answered_is_running}
 use Rattle.tc_table.proofs.Over.{on_existing, stays}
 use Rattle.tc_table.proofs.Sound.{starts}
-use Rattle.tc_table.proofs.Stuck.{one_false, self_equal}
-
-and_no : (b : Bool) → (b && false) ≡ false
-and_no true = refl
-and_no false = refl
-
-and_left : (a b : Bool) → (a && b) ≡ true → a ≡ true
-and_left true b h = refl
-and_left false b h = absurd cc
-
-and_right : (a b : Bool) → (a && b) ≡ true → b ≡ true
-and_right true b h = h
-and_right false b h = absurd cc
-
-if_same : {A : Type 0} (t : Bool) (x : A) → (if t then x else x) ≡ x
-if_same true x = refl
-if_same false x = refl
-
-first_alone : {A : Type 0} (o : Option A) → first_some o None ≡ o
-first_alone (Some x) = refl
-first_alone None = refl
+use Rattle.tc_table.proofs.Stuck.{one_false}
+use Rattle.tc_table.proofs.Deciding.{self_equal, if_same, and_no, and_left, and_right, none_if, first_alone, no_stop, no_kill, no_stop_case, no_finish}
 
 -- what an operation that keeps the phases is not
 
-no_stop : (op : Op) (c : ℕ) → keeps_phases op ≡ true → is_stop_of op c ≡ false
-no_stop (O.Stop g) c h = absurd cc
-no_stop _ c h = refl
-
-no_kill : (op : Op) (c : ℕ) → keeps_phases op ≡ true → is_kill_of op c ≡ false
-no_kill (O.Kill g) c h = absurd cc
-no_kill _ c h = refl
-
-no_finish : (op : Op) → keeps_phases op ≡ true → is_finish op ≡ false
-no_finish O.Finish h = absurd cc
-no_finish _ h = refl
+halts_none : (op : Op) → keeps_phases op ≡ true → halting_op op ≡ false
+halts_none (O.Start d run args) h = refl
+halts_none (O.Stop group) h = absurd cc
+halts_none (O.Kill group) h = absurd cc
+halts_none O.StopCase h = absurd cc
+halts_none O.Finish h = absurd cc
+halts_none _ h = refl
 
 none_on : (op : Op) (c : ℕ) → keeps_phases op ≡ true → starts_on op c ≡ None
 none_on (O.Start d run args) c h = absurd cc
@@ -97,12 +74,13 @@ quiet e h =
     let g : lets_go_on e.reply ≡ true = and_right (keeps_phases e.op) (lets_go_on e.reply) h in
     let a : is_ended e.reply ≡ false = not_ended e.reply g in
     let f : is_fault e.reply ≡ false = no_fault e.reply g in
-    let n : is_finish e.op ≡ false = no_finish e.op k in
-    let ends : ends_case e ≡ false = rw (a, f, n, no_stop e.op 0 k, no_kill e.op 0 k) refl in
+    let s : halting_op e.op ≡ false = halts_none e.op k in
+    let n : is_finish e.op ≡ false = no_finish e.op s in
+    let ends : ends_case e ≡ false = rw (a, f, no_stop_case e.op s, n, no_stop e.op 0 s, no_kill e.op 0 s) refl in
     record {
       ends = ends;
-      kill = λ c. rw (ends, a, no_kill e.op c k) refl;
-      halt = λ own c. rw (ends, a, n, no_stop e.op c k, no_kill e.op c k) refl;
+      kill = λ c. rw (ends, a, no_kill e.op c s) refl;
+      halt = λ own c. rw (ends, a, n, no_stop e.op c s, no_kill e.op c s) refl;
       start = λ c. rw (none_on e.op c k) (if_same (is_ok e.reply) None);
       run = λ b. rw (no_run e.op b k) (if_same (is_ok e.reply) None);
       park = not_parked e.op e.reply g;
@@ -137,10 +115,6 @@ killed_exists (e ∷ past) c h = stays past e c (either (exists past c) (kills e
 not_if : (x y : Bool) → (x ≡ true → y ≡ true) → y ≡ false → x ≡ false
 not_if true y f h = sym (f refl) ∙ h
 not_if false y f h = refl
-
-none_if : (r : Option Run) → is_some r ≡ false → r ≡ None
-none_if (Some b) h = absurd cc
-none_if None h = refl
 
 unmade : (n : ℕ) (past : List Entry) (c : ℕ) → IsLegal n past → exists past c ≡ false → phase past c ≡ P.Inactive
 unfolding phase

@@ -1,5 +1,5 @@
 -- An entry changes the state of its caller and of the run that it starts.
-use Rattle.std.proofs.Common.{ℕ, ◌≡◌, ◌≢◌, ◌<◌, ◌==◌, if◌then◌else◌, Bool, true, false, Option, Some, None, List, length, get_or, refl, ap, sym, ◌∙◌, arith}
+use Rattle.std.proofs.Common.{ℕ, ◌≡◌, ◌≢◌, ◌<◌, ◌==◌, Bool, true, false, Option, Some, None, List, length, get_or, refl, ap, sym, ◌∙◌, arith}
 use Rattle.std.proofs.lemmas.Bool.Decides.{nat_tests}
 use Rattle.tc_verdict.specs.declared.run.Run.{Run}
 use Rattle.tc_entry.specs.declared.comp.Comp.{Comp}
@@ -7,16 +7,9 @@ use Rattle.tc_entry.specs.declared.entry.Entry.{Entry}
 use Rattle.tc_entry.specs.declared.op.Op.{Op}
 use Rattle.tc_entry.specs.declared.op.Op.TheVariants as O
 use Rattle.tc_table.specs.declared.run_state.RunState.{RunState}
-use Rattle.tc_table.specs.History.{is_ok, starts_run, first_some}
+use Rattle.tc_table.specs.History.{is_ok, starts_run}
 use Rattle.tc_table.specs.Inside.Step.{next_run, started_run}
-
-first_alone : {A : Type 0} (o : Option A) → first_some o None ≡ o
-first_alone (Some x) = refl
-first_alone None = refl
-
-if_same : {A : Type 0} (t : Bool) (x : A) → (if t then x else x) ≡ x
-if_same true x = refl
-if_same false x = refl
+use Rattle.tc_table.proofs.Deciding.{if_same, first_alone}
 
 not_started : (op : Op) (b : ℕ) → started_run op ≡ None → starts_run op b ≡ None
 not_started (O.Start c run args) b h = absurd cc

@@ -1,5 +1,6 @@
 -- A component that is running is not excused.
 use Rattle.std.proofs.Common.{ℕ, ◌≡◌, ◌<◌, ◌&&◌, ◌||◌, not, if◌then◌else◌, Bool, true, false, Option, Some, None, is_some, List, [], ◌∷◌, length, refl, ap, sym, ◌∙◌, arith}
+use Rattle.tc_entry.specs.declared.limits.TheConstants.{COMPONENTS}
 use Rattle.tc_verdict.specs.declared.run.Run.{Run}
 use Rattle.tc_entry.specs.declared.comp.Comp.{Comp}
 use Rattle.tc_entry.specs.declared.entry.Entry.{Entry}
@@ -59,7 +60,7 @@ module _ {n : ℕ} {past : List Entry} {states : List ComponentState} {runs : Li
   }
 
   -- a component that was made found room
-  pub few_before : (e : Entry) (d : Comp) → IsKept n past states runs over → e.reply ≡ answer n past e.caller.0 e.op → created e.op e.reply ≡ Some d → length states < 1000
+  pub few_before : (e : Entry) (d : Comp) → IsKept n past states runs over → e.reply ≡ answer n past e.caller.0 e.op → created e.op e.reply ≡ Some d → length states < COMPONENTS
   few_before e d kept legal made = let f = next n past e d legal made in let size = components_kept kept in omega (arith, f.few)
 
 pub ruleset settled_rules = (settled_kept, few_before)

@@ -1,6 +1,7 @@
 -- What an entry with the right reply says.
 use Rattle.std.proofs.Common.{ℕ, ◌≡◌, ◌<◌, ◌==◌, ◌&&◌, ◌||◌, not, nat_le, if◌then◌else◌, Bool, true, false, Option, Some, None, is_some, List, ◌∷◌, refl, ap, subst, sym, ◌∙◌, arith}
 use Rattle.std.proofs.lemmas.Bool.Decides.{nat_tests}
+use Rattle.tc_entry.specs.declared.limits.TheConstants.{COMPONENTS}
 use Rattle.tc_verdict.specs.declared.run.Run.{Run}
 use Rattle.tc_table.specs.declared.awaited.Awaited.{Awaited}
 use Rattle.tc_entry.specs.declared.comp.Comp.{Comp}
@@ -19,6 +20,7 @@ use Rattle.tc_table.specs.Faults.{fault, all_exist, names, asks_many, special_fa
 use Rattle.tc_table.specs.Waiting.{awaited, parks}
 use Rattle.tc_table.proofs.Steps.{phase_by}
 use Rattle.tc_table.proofs.KeptLemmas.{all_exist_more}
+use Rattle.tc_table.proofs.Deciding.{self_equal, equal_if, test_by, ok_is}
 
 -- the call was made by a run that is going on, and is no error
 pub record IsPlain (n : ℕ) (past : List Entry) (b : ℕ) (op : Op) (reply : Reply) : Type 0 where
@@ -85,10 +87,6 @@ pub not_killed : (past : List Entry) (c : ℕ) → is_killed (phase past c) ≡ 
 unfolding phase
 not_killed past c h = killed_by (was_killed past c) (last_run past c) (was_halted past c) (is_alive_type past c) h
 
-ok_is : (reply : Reply) → is_ok reply ≡ true → reply ≡ R.Ok
-ok_is R.Ok h = refl
-ok_is _ h = absurd cc
-
 both_by : {A : Type 0} (ok : Bool) (s : Option A) → is_some (if ok then s else None) ≡ true → (ok ≡ true) × (is_some s ≡ true)
 both_by true s h = (refl, h)
 both_by false s h = absurd cc
@@ -128,13 +126,6 @@ starts n past e c legal h =
 pub record CanRun (n : ℕ) (past : List Entry) (b : ℕ) (d : Comp) : Type 0 where
   pub known : exists past d.0 ≡ true
   pub in_range : b < n
-
-test_by : {A : Type 0} (t : Bool) (d' d : A) → (if t then Some d' else None) ≡ Some d → (t ≡ true) × (d' ≡ d)
-test_by true d' d h = (refl, cc)
-test_by false d' d h = absurd cc
-
-equal_if : (m n : ℕ) → (m == n) ≡ true → m ≡ n
-equal_if m n h = grind (arith, nat_tests)
 
 run_of_start : (n : ℕ) (past : List Entry) (b : ℕ) (op : Op) (k : ℕ) (d : Comp) → IsPlain n past b op R.Ok → starts_run op k ≡ Some d → CanRun n past k d
 run_of_start n past b (O.Start c run args) k d plain h =
@@ -180,7 +171,7 @@ no_parks n past e legal none = let q : e.reply ≡ R.Ended = rw none at legal in
 -- the component of a Create replied Made is the next one, and there were not too many
 pub record IsNext (past : List Entry) (op : Op) (reply : Reply) (d : Comp) : Type 0 where
   pub number : d.0 ≡ components past
-  pub few : components past < 1000
+  pub few : components past < COMPONENTS
   pub is_create : op ≡ O.Create (is_alive_create op)
   pub is_made : reply ≡ R.Made d
 
@@ -193,7 +184,7 @@ next_of n past b (O.Create alive) (R.Made m) d legal h =
     let plain = plain_if n past b (O.Create alive) (R.Made m) refl refl legal in
     let same : m ≡ d = cc in
     let number : m.0 ≡ components past = made_number m (components past) plain.is in
-    let few : nat_le 1000 (components past) ≡ false = few_by (nat_le 1000 (components past)) (no_special n past b (O.Create alive) plain.no_fault) in
+    let few : nat_le COMPONENTS (components past) ≡ false = few_by (nat_le COMPONENTS (components past)) (no_special n past b (O.Create alive) plain.no_fault) in
     record { number = rw (← same) number; few = grind (arith, nat_tests); is_create = refl; is_made = ap R.Made same }
   where
     made_number : (m : Comp) (k : ℕ) → R.Made m ≡ R.Made (record { 0 = k }) → m.0 ≡ k
@@ -221,16 +212,9 @@ start_free n past c b h =
     let p = (start_by (c == 0) (is_running (phase past c)) (is_killed (phase past c)) ((b == 0) || nat_le n b || is_some (comp_of past b)) h).1 in
     free_by (b == 0) (nat_le n b) (comp_of past b) p
 
-same_run : (t : Bool) (run r : Run) → (if t then Some run else None) ≡ Some r → (t ≡ true) × (run ≡ r)
-same_run true run r h = (refl, cc)
-same_run false run r h = absurd cc
-
-self_equal : (m : ℕ) → (m == m) ≡ true
-self_equal m = grind (arith, nat_tests)
-
 fresh_of : (n : ℕ) (past : List Entry) (b : ℕ) (op : Op) (c : ℕ) (r : Run) → IsPlain n past b op R.Ok → starts_on op c ≡ Some r → IsFresh past op c r
 fresh_of n past b (O.Start d run args) c r plain h =
-    let t = same_run (d.0 == c) run r h in
+    let t = test_by (d.0 == c) run r h in
     let k : d.0 ≡ c = equal_if d.0 c t.0 in
     let free : comp_of past run.0 ≡ None = start_free n past d.0 run.0 (no_special n past b (O.Start d run args) plain.no_fault) in
     record { free = ap (λ (x : Run). comp_of past x.0) (sym t.1) ∙ free; now = rw (← t.1) (rw (self_equal run.0) (ap (λ (x : ℕ). Some (let z : Comp = record { 0 = x } in z)) k)) }

@@ -39,10 +39,6 @@ excused_step None out false (Some b) true true old h = refl
 excused_step None out false (Some b) true false old h = refl
 excused_step None out false (Some b) false a old h = refl
 
-started_step : (s r : Option Run) → is_some (first_some s r) ≡ (is_some s || is_some r)
-started_step (Some b) r = refl
-started_step None r = refl
-
 worst-append : (vs ws : List Verdict) → worst (vs ++ ws) ≡ next_local vs (worst ws)
 worst-append [] ws = refl
 worst-append (v ∷ vs) ws = rw (worst-append vs ws)
@@ -51,10 +47,10 @@ local_step : (on : Bool) (vs ws : List Verdict) → worst (if on then vs ++ ws e
 local_step true vs ws = worst-append vs ws
 local_step false vs ws = refl
 
-abbrev state : Phase → Bool → Bool → Bool → Verdict → ComponentState
-state p a s x l = record { phase = p; alive_type = a; started = s; excused = x; local = l }
+abbrev state : Phase → Bool → Option Run → Bool → Verdict → ComponentState
+state p a s x l = record { phase = p; alive_type = a; last = s; excused = x; local = l }
 
-state_ext : {p p' : Phase} {a a' s s' x x' : Bool} {l l' : Verdict} → p ≡ p' → a ≡ a' → s ≡ s' → x ≡ x' → l ≡ l' → state p a s x l ≡ state p' a' s' x' l'
+state_ext : {p p' : Phase} {a a' x x' : Bool} {s s' : Option Run} {l l' : Verdict} → p ≡ p' → a ≡ a' → s ≡ s' → x ≡ x' → l ≡ l' → state p a s x l ≡ state p' a' s' x' l'
 state_ext p a s x l = cc
 
 -- the state of a component that exists, after one more entry
@@ -65,9 +61,8 @@ unfolding phase local next_state
 state_step past e c ex halted_if_killed start_ok =
     let ph = phase_step (kills e c) (start_in e c) (halts (comp_of past e.caller.0) e c) (was_killed past c) (last_run past c) (was_halted past c) (is_alive_type past c) start_ok in
     let ex' = excused_step (start_in e c) (halts_from_outside (comp_of past e.caller.0) e c) (was_killed past c) (last_run past c) (was_halted past c) (is_alive_type past c) (is_excused past c) halted_if_killed in
-    let st = started_step (start_in e c) (last_run past c) in
     let lo = local_step (is_comp (comp_of past e.caller.0) c) (gives e.op e.reply) (verdicts_of past c) in
-    rw ex (state_ext ph refl st ex' lo)
+    rw ex (state_ext ph refl refl ex' lo)
 
 pub run_step : (past : List Entry) (e : Entry) (b : ℕ) → run_of (e ∷ past) b ≡ next_run e b (run_of past b)
 unfolding next_run

@@ -17,14 +17,11 @@ use Rattle.tc_table.specs.Inside.States.{goes_on}
 use Rattle.tc_table.specs.Inside.Kept.{IsKept}
 use Rattle.tc_table.proofs.KeptLemmas.{exists_if}
 use Rattle.tc_table.proofs.Steps.{phase_by}
+use Rattle.tc_table.proofs.Deciding.{self_equal, and_no}
 
 all_true : (f : ℕ → Bool) (xs : List ℕ) → ((x : ℕ) → f x ≡ true) → list_all f xs ≡ true
 all_true f [] h = refl
 all_true f (x ∷ xs) h = rw (h x, all_true f xs h)
-
-and_no : (b : Bool) → (b && false) ≡ false
-and_no true = refl
-and_no false = refl
 
 pub one_false : (f : ℕ → Bool) (xs : List ℕ) (x : ℕ) → is_in x xs ≡ true → f x ≡ false → list_all f xs ≡ false
 one_false f [] x h k = absurd cc
@@ -77,9 +74,6 @@ is_in_comps past c h = h
 goes_on_is : (past : List Entry) (b : ℕ) → goes_on past b ≡ (is_active past b && not (waits_in_vain past (waiting past b)))
 unfolding goes_on
 goes_on_is past b = refl
-
-pub self_equal : (m : ℕ) → (m == m) ≡ true
-self_equal m = grind (arith, nat_tests)
 
 none_some : (o : Option Comp) (c : Comp) → o ≡ None → o ≡ Some c → ⊥
 none_some o c a b = let e : None ≡ Some c = sym a ∙ b in absurd cc

@@ -1,5 +1,5 @@
 -- A Stop of all where none is running, and a Kill of all where each is killed, leave the states as they are.
-use Rattle.std.proofs.Common.{ℕ, zero, suc, ◌≡◌, ◌≢◌, ◌+◌, ◌<◌, ◌≤◌, ◌==◌, ◌&&◌, ◌||◌, not, if◌then◌else◌, Bool, true, false, Option, None, is_some, List, [], ◌∷◌, length, drop, get_or, refl, ap, sym, ◌∙◌, arith}
+use Rattle.std.proofs.Common.{ℕ, zero, suc, ◌≡◌, ◌≢◌, ◌+◌, ◌<◌, ◌≤◌, ◌==◌, ◌&&◌, ◌||◌, not, if◌then◌else◌, Bool, true, false, Option, None, List, [], ◌∷◌, length, drop, get_or, refl, ap, sym, ◌∙◌, arith}
 use Rattle.std.specs.List.{list_all}
 use Rattle.std.proofs.lemmas.Bool.Decides.{nat_tests}
 use Rattle.tc_verdict.specs.declared.verdict.Verdict.{Verdict}
@@ -14,7 +14,7 @@ use Rattle.tc_entry.specs.declared.phase.Phase.TheVariants as P
 use Rattle.tc_entry.specs.declared.reply.Reply.{Reply}
 use Rattle.tc_entry.specs.declared.reply.Reply.TheVariants as R
 use Rattle.tc_table.specs.declared.component_state.ComponentState.{ComponentState}
-use Rattle.tc_table.specs.History.{is_comp, is_ok, is_ended, is_fault, is_stop_of, is_kill_of, ends_case, kills, halts}
+use Rattle.tc_table.specs.History.{is_comp, is_ok, is_ended, is_fault, is_stop_of, is_kill_of, ends_case, first_some, kills, halts}
 use Rattle.tc_table.specs.Phases.{start_in}
 use Rattle.tc_table.specs.Status.{is_running, is_killed}
 use Rattle.tc_table.specs.Local.{gives, setting}
@@ -22,15 +22,7 @@ use Rattle.tc_table.specs.Inside.States.{none_running, all_killed}
 use Rattle.tc_table.specs.Inside.Step.{next_state, next_phase, next_excused, next_local, halted, finds_none, finds, IsSettled}
 use Rattle.std.proofs.lemmas.List.{get_or_default}
 use Rattle.tc_table.proofs.Lists.{mapped_past}
-use Rattle.tc_table.proofs.Elsewhere.{if_same}
-
-and_left : (a b : Bool) → (a && b) ≡ true → a ≡ true
-and_left true b h = refl
-and_left false b h = absurd cc
-
-and_right : (a b : Bool) → (a && b) ≡ true → b ≡ true
-and_right true b h = h
-and_right false b h = absurd cc
+use Rattle.tc_table.proofs.Deciding.{if_same, and_no, and_left, and_right}
 
 not_true : (a : Bool) → not a ≡ true → a ≡ false
 not_true true h = absurd cc
@@ -71,20 +63,16 @@ killed_if true P.Inactive h = let e = h refl in absurd cc
 killed_if true P.Stopped h = let e = h refl in absurd cc
 killed_if true P.Killed h = refl
 
-and_no : (b : Bool) → (b && false) ≡ false
-and_no true = refl
-and_no false = refl
-
 killed_is_still : (p : Phase) → is_killed p ≡ true → is_running p ≡ false
 killed_is_still P.Killed h = refl
 killed_is_still (P.Running r) h = absurd cc
 killed_is_still P.Inactive h = refl
 killed_is_still P.Stopped h = refl
 
-gives_none : (op : Op) (reply : Reply) (fin stop kill : Bool) → setting op ≡ [] → (not (is_ended reply) && (is_fault reply || fin || stop || kill)) ≡ false → gives op reply ≡ []
-gives_none op R.Ok fin stop kill h k = h
-gives_none op (R.Fault f) fin stop kill h k = absurd cc
-gives_none op _ fin stop kill h k = refl
+gives_none : (op : Op) (reply : Reply) (case fin stop kill : Bool) → setting op ≡ [] → (not (is_ended reply) && (is_fault reply || case || fin || stop || kill)) ≡ false → gives op reply ≡ []
+gives_none op R.Ok case fin stop kill h k = h
+gives_none op (R.Fault f) case fin stop kill h k = absurd cc
+gives_none op _ case fin stop kill h k = refl
 
 -- what is known of an entry that finds component c in no phase that it changes
 record Quiet (own : Option Comp) (e : Entry) (c : ℕ) (p : Phase) : Type 0 where
@@ -104,7 +92,7 @@ phase_by false halt alive_type p k h = halted_if halt alive_type p h
 
 state_by : (kill halt on off : Bool) (start : Option Run) (vs : List Verdict) (s : ComponentState) → start ≡ None → vs ≡ [] → (kill ≡ true → is_killed s.phase ≡ true) → (halt ≡ true → is_running s.phase ≡ false) →
     (is_running s.phase ≡ true → s.excused ≡ false) →
-    record { phase = next_phase kill start halt s.alive_type s.phase; alive_type = s.alive_type; started = is_some start || s.started; excused = next_excused start (halt && on && off) s.phase s.excused; local = next_local vs s.local } ≡ s
+    record { phase = next_phase kill start halt s.alive_type s.phase; alive_type = s.alive_type; last = first_some start s.last; excused = next_excused start (halt && on && off) s.phase s.excused; local = next_local vs s.local } ≡ s
 state_by kill halt on off start vs s a b k h settled =
     let p : next_phase kill None halt s.alive_type s.phase ≡ s.phase = phase_by kill halt s.alive_type s.phase k h in
     let x : (if is_running s.phase then halt && on && off else s.excused) ≡ s.excused = excused_by (is_running s.phase) halt on off s.excused h settled in
@@ -122,7 +110,7 @@ quiet own caller (O.Stop G.All) reply states c d ends none within = record {
   kill = λ k. let e : kills (record { caller = caller; op = O.Stop G.All; reply = reply }) c ≡ false = rw ends (and_no (not (is_ended reply))) in absurd cc;
   halt = λ h. by_test (c == 0) refl h;
   start = if_same (is_ok reply) None;
-  given = gives_none (O.Stop G.All) reply false false false refl ends;
+  given = gives_none (O.Stop G.All) reply false false false false refl ends;
 }
   where
     by_test : (t : Bool) → (c == 0) ≡ t → halts own (record { caller = caller; op = O.Stop G.All; reply = reply }) c ≡ true → is_running (get_or states c d).phase ≡ false
@@ -132,7 +120,7 @@ quiet own caller (O.Kill G.All) reply states c d ends none within = record {
   kill = λ k. by_kill (c == 0) refl k;
   halt = λ h. by_halt (c == 0) refl h;
   start = if_same (is_ok reply) None;
-  given = gives_none (O.Kill G.All) reply false false false refl ends;
+  given = gives_none (O.Kill G.All) reply false false false false refl ends;
 }
   where
     by_kill : (t : Bool) → (c == 0) ≡ t → kills (record { caller = caller; op = O.Kill G.All; reply = reply }) c ≡ true → is_killed (get_or states c d).phase ≡ true
@@ -161,13 +149,13 @@ not_found own caller (O.Stop G.All) reply c p ends none = record {
   kill = λ k. let e : kills (record { caller = caller; op = O.Stop G.All; reply = reply }) c ≡ false = rw ends (and_no (not (is_ended reply))) in absurd cc;
   halt = λ h. none;
   start = if_same (is_ok reply) None;
-  given = gives_none (O.Stop G.All) reply false false false refl ends;
+  given = gives_none (O.Stop G.All) reply false false false false refl ends;
 }
 not_found own caller (O.Kill G.All) reply c p ends none = record {
   kill = λ k. not_false (is_killed p) none;
   halt = λ h. killed_is_still p (not_false (is_killed p) none);
   start = if_same (is_ok reply) None;
-  given = gives_none (O.Kill G.All) reply false false false refl ends;
+  given = gives_none (O.Kill G.All) reply false false false false refl ends;
 }
 not_found own caller (O.Stop (G.One i)) reply c p ends none = absurd cc
 not_found own caller (O.Kill (G.One i)) reply c p ends none = absurd cc

@@ -23,6 +23,7 @@ abbrev pub is_run_of : ℕ → Phase → Bool
 is_run_of b (P.Running run) = run.0 == b
 is_run_of b _ = false
 
+-- run b, which was started on this component if on any, is going on
 abbrev pub is_active_on : List Entry → ℕ → Option Comp → Bool
 is_active_on past b (Some c) = is_run_of b (phase past c.0)
 is_active_on past b None = false
@@ -31,10 +32,12 @@ is_active_on past b None = false
 unfoldable pub is_active : List Entry → ℕ → Bool
 is_active past b = is_active_on past b (comp_of past b)
 
+-- the reply to getverdict by a run on this component
 abbrev pub local_reply : List Entry → Option Comp → Reply
 local_reply past (Some c) = R.Local (local past c.0)
 local_reply past None = R.Ended
 
+-- the reply to a Wake by run b: the main component's run is told that the case is stuck
 abbrev pub wake_reply : List Entry → ℕ → Awaited → Reply
 wake_reply past b a =
     if holds past a then R.Matched else if (b == 0) && is_stuck past then R.Fault F.Stuck else R.Parked
@@ -45,6 +48,7 @@ plain_answer past b (O.Create a) = R.Made (record { 0 = components past })
 plain_answer past b (O.Start c run args) = R.Ok
 plain_answer past b (O.Stop g) = R.Ok
 plain_answer past b (O.Kill g) = R.Ok
+plain_answer past b O.StopCase = R.Ok
 plain_answer past b (O.Running t) = R.Answer (running past t)
 plain_answer past b (O.Alive t) = R.Answer (alive past t)
 plain_answer past b (O.Done t) = R.Answer (done past t)
@@ -55,6 +59,7 @@ plain_answer past b (O.SetVerdict v) = R.Ok
 plain_answer past b O.GetVerdict = local_reply past (comp_of past b)
 plain_answer past b O.Finish = R.Ok
 
+-- the error, if there is one, and else the reply
 abbrev pub answer_unless : Option Fault → Reply → Reply
 answer_unless (Some f) reply = R.Fault f
 answer_unless None reply = reply

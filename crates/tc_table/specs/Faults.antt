@@ -1,6 +1,8 @@
 -- The dynamic errors, in the order in which they are found. The eight errors are this project's own.
 use Rattle.std.specs.Prelude.{ℕ, ◌==◌, ◌&&◌, ◌||◌, not, nat_le, if◌then◌else◌, Bool, true, false, Option, Some, None, is_some, List, [], ◌∷◌, length}
 use Rattle.std.specs.List.{list_all}
+use Rattle.std.specs.Option.{option_map_or}
+use Rattle.tc_entry.specs.declared.limits.TheConstants.{COMPONENTS}
 use Rattle.tc_entry.specs.declared.comp.Comp.{Comp}
 use Rattle.tc_entry.specs.declared.entry.Entry.{Entry}
 use Rattle.tc_entry.specs.declared.op.Group.{Group}
@@ -15,47 +17,43 @@ use Rattle.tc_table.specs.History.{exists, comps, comp_of}
 use Rattle.tc_table.specs.Phases.{phase}
 use Rattle.tc_table.specs.Status.{is_running, is_killed}
 
+-- a group as a target
+abbrev pub group_target : Group → Target
+group_target (G.One c) = T.One c
+group_target G.All = T.All
+
+-- the target of a call that has one
+abbrev pub target_of : Op → Option Target
+target_of (O.Stop g) = Some (group_target g)
+target_of (O.Kill g) = Some (group_target g)
+target_of (O.Running t) = Some t
+target_of (O.Alive t) = Some t
+target_of (O.Done t) = Some t
+target_of (O.Killed t) = Some t
+target_of (O.Wait k t) = Some t
+target_of (O.Wake k t) = Some t
+target_of _ = None
+
+-- the component that a target names
 abbrev pub target_names : Target → List Comp
 target_names (T.One c) = c ∷ []
 target_names _ = []
 
-abbrev pub group_names : Group → List Comp
-group_names (G.One c) = c ∷ []
-group_names _ = []
-
 -- the components named in a call
 abbrev pub names : Op → List Comp
 names (O.Start c run args) = c ∷ args
-names (O.Stop g) = group_names g
-names (O.Kill g) = group_names g
-names (O.Running t) = target_names t
-names (O.Alive t) = target_names t
-names (O.Done t) = target_names t
-names (O.Killed t) = target_names t
-names (O.Wait k t) = target_names t
-names (O.Wake k t) = target_names t
-names _ = []
+names op = option_map_or target_names (target_of op) []
 
-abbrev pub is_group : Group → Bool
-is_group (G.One c) = false
-is_group G.All = true
-
+-- the target is Any or All
 abbrev pub is_many : Target → Bool
 is_many (T.One c) = false
 is_many _ = true
 
 -- the call is about Any or All
 abbrev pub asks_many : Op → Bool
-asks_many (O.Stop g) = is_group g
-asks_many (O.Kill g) = is_group g
-asks_many (O.Running t) = is_many t
-asks_many (O.Alive t) = is_many t
-asks_many (O.Done t) = is_many t
-asks_many (O.Killed t) = is_many t
-asks_many (O.Wait k t) = is_many t
-asks_many (O.Wake k t) = is_many t
-asks_many _ = false
+asks_many op = option_map_or is_many (target_of op) false
 
+-- each of these components exists
 unfoldable pub all_exist : List Entry → List Comp → Bool
 all_exist past cs = list_all (λ c. exists past c.0) cs
 
@@ -72,8 +70,9 @@ start_fault n past c b =
 unfoldable pub components : List Entry → ℕ
 components past = length (comps past)
 
+-- the error of a call that names components that exist: of a Create, and of a Start
 abbrev pub special_fault : ℕ → List Entry → Op → Option Fault
-special_fault n past (O.Create a) = if nat_le 1000 (components past) then Some F.TooMany else None
+special_fault n past (O.Create a) = if nat_le COMPONENTS (components past) then Some F.TooMany else None
 special_fault n past (O.Start c run args) = start_fault n past c.0 run.0
 special_fault n past _ = None
 

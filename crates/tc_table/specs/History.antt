@@ -12,6 +12,7 @@ use Rattle.tc_entry.specs.declared.op.Group.TheVariants as G
 use Rattle.tc_entry.specs.declared.reply.Reply.{Reply}
 use Rattle.tc_entry.specs.declared.reply.Reply.TheVariants as R
 
+-- a number is in a list
 abbrev pub is_in : ℕ → List ℕ → Bool
 is_in x [] = false
 is_in x (y ∷ ys) = (x == y) || is_in x ys
@@ -26,32 +27,32 @@ abbrev pub is_comp : Option Comp → ℕ → Bool
 is_comp (Some d) c = d.0 == c
 is_comp None c = false
 
--- the component that was made
-abbrev pub made : Reply → Option Comp
-made (R.Made c) = Some c
-made _ = None
-
 -- the component that a Create made
 abbrev pub created : Op → Reply → Option Comp
-created (O.Create alive) reply = made reply
-created _ reply = None
+created (O.Create alive) (R.Made c) = Some c
+created _ _ = None
 
+-- the operation is a Create
 abbrev pub is_create : Op → Bool
 is_create (O.Create alive) = true
 is_create _ = false
 
+-- the operation is a Create of an alive-type component
 abbrev pub is_alive_create : Op → Bool
 is_alive_create (O.Create alive) = alive
 is_alive_create _ = false
 
+-- the call was carried out
 abbrev pub is_ok : Reply → Bool
 is_ok R.Ok = true
 is_ok _ = false
 
+-- the caller was not the running run of its component
 abbrev pub is_ended : Reply → Bool
 is_ended R.Ended = true
 is_ended _ = false
 
+-- the call was a dynamic error
 abbrev pub is_fault : Reply → Bool
 is_fault (R.Fault f) = true
 is_fault _ = false
@@ -61,24 +62,36 @@ abbrev pub starts_run : Op → ℕ → Option Comp
 starts_run (O.Start c run args) b = if run.0 == b then Some c else None
 starts_run _ b = None
 
+-- the component on which the entry starts run b: a Start that was carried out
+abbrev pub started_on : Entry → ℕ → Option Comp
+started_on e b = if is_ok e.reply then starts_run e.op b else None
+
 -- the run that this operation starts on component c
 abbrev pub starts_on : Op → ℕ → Option Run
 starts_on (O.Start d run args) c = if d.0 == c then Some run else None
 starts_on _ c = None
 
+-- the operation is the end of a behaviour
 abbrev pub is_finish : Op → Bool
 is_finish O.Finish = true
 is_finish _ = false
 
--- component c is of the group: All is all parallel components
+-- the operation stops the test case
+abbrev pub is_stop_case : Op → Bool
+is_stop_case O.StopCase = true
+is_stop_case _ = false
+
+-- component c is of the group: All is all parallel components, that is all but the main one, 0
 abbrev pub is_of : Group → ℕ → Bool
 is_of (G.One d) c = d.0 == c
 is_of G.All c = not (c == 0)
 
+-- the operation is a Stop of component c
 abbrev pub is_stop_of : Op → ℕ → Bool
 is_stop_of (O.Stop group) c = is_of group c
 is_stop_of _ c = false
 
+-- the operation is a Kill of component c
 abbrev pub is_kill_of : Op → ℕ → Bool
 is_kill_of (O.Kill group) c = is_of group c
 is_kill_of _ c = false
@@ -97,6 +110,7 @@ comps (e ∷ past) = add_new (created e.op e.reply) (comps past)
 abbrev pub ptcs : List Entry → List ℕ
 ptcs past = drop 1 (comps past)
 
+-- component c exists
 unfoldable pub exists : List Entry → ℕ → Bool
 exists past c = is_in c (comps past)
 
@@ -109,13 +123,13 @@ is_alive_type (e ∷ past) c =
 -- the component that run b is on: that of the first Start of the run
 abbrev pub comp_of : List Entry → ℕ → Option Comp
 comp_of [] b = if b == 0 then Some (record { 0 = 0 }) else None
-comp_of (e ∷ past) b = first_some (comp_of past b) (if is_ok e.reply then starts_run e.op b else None)
+comp_of (e ∷ past) b = first_some (comp_of past b) (started_on e b)
 
--- the entry ends the test case
+-- the entry ends the test case: a dynamic error, the main component's Finish, its Stop or its Kill
 abbrev pub ends_case : Entry → Bool
 ends_case e =
     not (is_ended e.reply)
-    && (is_fault e.reply || (is_finish e.op && (e.caller.0 == 0)) || is_stop_of e.op 0 || is_kill_of e.op 0)
+    && (is_fault e.reply || is_stop_case e.op || (is_finish e.op && (e.caller.0 == 0)) || is_stop_of e.op 0 || is_kill_of e.op 0)
 
 -- the entry, whose caller is on component own, halts component c
 abbrev pub halts : Option Comp → Entry → ℕ → Bool

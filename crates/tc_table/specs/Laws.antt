@@ -1,5 +1,5 @@
 -- What holds of every legal history, and the definitions leave unsaid.
-use Rattle.std.specs.Prelude.{ℕ, ◌≡◌, ◌&&◌, if◌then◌else◌, Bool, true, false, Some, List, [], ◌∷◌, ◌++◌}
+use Rattle.std.specs.Prelude.{ℕ, ◌≡◌, ◌&&◌, ◌||◌, not, if◌then◌else◌, Bool, true, false, Option, Some, None, is_some, List, [], ◌∷◌, ◌++◌}
 use Rattle.tc_verdict.specs.declared.verdict.Verdict.{Verdict}
 use Rattle.tc_verdict.specs.Verdict.{worst}
 use Rattle.tc_entry.specs.declared.comp.Comp.{Comp}
@@ -10,10 +10,10 @@ use Rattle.tc_entry.specs.declared.op.Target.{Target}
 use Rattle.tc_entry.specs.declared.phase.Phase.TheVariants as P
 use Rattle.tc_entry.specs.declared.reply.Reply.{Reply}
 use Rattle.tc_entry.specs.declared.reply.Reply.TheVariants as R
-use Rattle.tc_table.specs.History.{comp_of, is_comp, is_ended, is_over}
+use Rattle.tc_table.specs.History.{comp_of, halts, is_comp, is_ended, is_fault, is_over, started_on}
 use Rattle.tc_table.specs.Phases.{phase, was_killed, was_halted}
 use Rattle.tc_table.specs.Local.{gives, local}
-use Rattle.tc_table.specs.Answers.{answer}
+use Rattle.tc_table.specs.Answers.{answer, is_active}
 use Rattle.tc_table.specs.Legal.{IsLegal, IsAllOver}
 use Rattle.tc_table.specs.Standing.{Kept, StandsFor}
 
@@ -51,13 +51,18 @@ abbrev pub LocalOfWhole : Type 0
 LocalOfWhole =
     (n : ℕ) (past : List Entry) (c : ℕ) → IsLegal n past → worst (verdicts_in past past c) ≡ local past c
 
+-- the operation is one that halts components where it is no error
+abbrev pub halting_op : Op → Bool
+halting_op (O.Stop group) = true
+halting_op (O.Kill group) = true
+halting_op O.StopCase = true
+halting_op O.Finish = true
+halting_op _ = false
+
 -- the operation starts, halts and kills nothing
 abbrev pub keeps_phases : Op → Bool
 keeps_phases (O.Start c run args) = false
-keeps_phases (O.Stop group) = false
-keeps_phases (O.Kill group) = false
-keeps_phases O.Finish = false
-keeps_phases _ = true
+keeps_phases op = not (halting_op op)
 
 -- after this reply the caller goes on
 abbrev pub lets_go_on : Reply → Bool
@@ -80,6 +85,27 @@ pub record WakesNobody (n : ℕ) (past : List Entry) (e : Entry) : Type 0 where
 abbrev pub QuietWakesNobody : Type 0
 QuietWakesNobody =
     (n : ℕ) (past : List Entry) (e : Entry) → IsLegal n (e ∷ past) → is_quiet e.op e.reply ≡ true → WakesNobody n past e
+
+-- a run that was started goes on after an entry exactly where it went on before it, and the entry does not halt its component
+abbrev pub HaltedByEntry : Type 0
+HaltedByEntry =
+    (n : ℕ) (past : List Entry) (e : Entry) (b : ℕ) (c : Comp) → IsLegal n (e ∷ past) → comp_of past b ≡ Some c →
+    is_active (e ∷ past) b ≡ (is_active past b && not (halts (comp_of past e.caller.0) e c.0))
+
+-- a run that was never started goes on after an entry exactly where the entry starts it
+abbrev pub StartedByEntry : Type 0
+StartedByEntry =
+    (n : ℕ) (past : List Entry) (e : Entry) (b : ℕ) → IsLegal n (e ∷ past) → comp_of past b ≡ None →
+    is_active (e ∷ past) b ≡ is_some (started_on e b)
+
+-- an entry of this operation and reply may halt runs
+abbrev pub may_halt : Op → Reply → Bool
+may_halt op reply = halting_op op || is_fault reply
+
+-- any other entry halts no component, whoever its caller is
+abbrev pub OthersHaltNothing : Type 0
+OthersHaltNothing =
+    (own : Option Comp) (e : Entry) (c : ℕ) → may_halt e.op e.reply ≡ false → halts own e c ≡ false
 
 -- a history that a state stands for is legal
 abbrev pub StandsForLegal : Type 0

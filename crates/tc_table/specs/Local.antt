@@ -11,11 +11,14 @@ use Rattle.tc_entry.specs.declared.reply.Reply.{Reply}
 use Rattle.tc_entry.specs.declared.reply.Reply.TheVariants as R
 use Rattle.tc_table.specs.History.{comps, comp_of, exists, is_comp}
 
+-- the verdict that an operation sets
 abbrev pub setting : Op → List Verdict
 setting (O.SetVerdict v) = given v ∷ []
+setting O.StopCase = V.Error ∷ []
 setting _ = []
 
--- the verdicts that an entry gives to its caller's component: what it sets, and error for a dynamic error
+-- the verdicts that an entry gives to its caller's component: what it sets, and error for a dynamic error or a stop of the
+-- test case
 abbrev pub gives : Op → Reply → List Verdict
 gives op R.Ok = setting op
 gives op (R.Fault f) = V.Error ∷ []
@@ -27,9 +30,11 @@ verdicts_of [] c = []
 verdicts_of (e ∷ past) c =
     if is_comp (comp_of past e.caller.0) c then gives e.op e.reply ++ verdicts_of past c else verdicts_of past c
 
+-- the local verdict of component c: the worst of those given to it
 unfoldable pub local : List Entry → ℕ → Verdict
 local past c = worst (verdicts_of past c)
 
+-- the verdict of the case: the worst of the local ones
 unfoldable pub overall : List Entry → Verdict
 overall past = worst (map (local past) (comps past))
 

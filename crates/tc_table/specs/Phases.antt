@@ -39,13 +39,11 @@ is_excused (e ∷ past) c =
     then is_excused past c
     else halts_from_outside (comp_of past e.caller.0) e c)
 
-abbrev pub phase_after_start : Run → Bool → Bool → Phase
-phase_after_start run halted alive_type =
-    if not halted then P.Running run else if alive_type then P.Stopped else P.Killed
-
+-- what a component is doing that no entry killed, by the run of its last start, if it was started
 abbrev pub phase_if_not_killed : Option Run → Bool → Bool → Phase
 phase_if_not_killed None halted alive_type = P.Inactive
-phase_if_not_killed (Some run) halted alive_type = phase_after_start run halted alive_type
+phase_if_not_killed (Some run) halted alive_type =
+    if not halted then P.Running run else if alive_type then P.Stopped else P.Killed
 
 -- what component c is doing
 unfoldable pub phase : List Entry → ℕ → Phase

@@ -1,9 +1,13 @@
 -- What contracts see of a case's state, and the histories that it stands for: a new state stands for no entries, a call
 -- adds its entry, and each answer is told of the entries. So nothing has to be known of what is kept.
-use Rattle.std.specs.Prelude.{ℕ, Bool, List}
+use Rattle.std.specs.Prelude.{ℕ, ◌≡◌, Bool, List, ◌∷◌}
+use Rattle.tc_verdict.specs.declared.run.Run.{Run}
 use Rattle.tc_entry.specs.declared.entry.Entry.{Entry}
+use Rattle.tc_entry.specs.declared.op.Op.{Op}
+use Rattle.tc_entry.specs.declared.reply.Reply.{Reply}
 use Rattle.tc_table.specs.declared.component_state.ComponentState.{ComponentState}
 use Rattle.tc_table.specs.declared.run_state.RunState.{RunState}
+use Rattle.tc_table.specs.Answers.{answer}
 use Rattle.tc_table.specs.Inside.Kept.{IsKept}
 
 -- what is kept of a test case beside its history
@@ -16,3 +20,11 @@ pub record Kept : Type 0 where
 -- this is what is kept after these entries, the newest first, each of whose replies is the table's
 unfoldable pub StandsFor : Kept → List Entry → Type 0
 StandsFor k past = IsKept k.behaviours past k.states k.runs k.over
+
+-- the table gives this reply to the call, whatever entries the state stands for
+abbrev pub IsReply : Kept → Run → Op → Reply → Type 0
+IsReply k caller op reply = (past : List Entry) → StandsFor k past → reply ≡ answer k.behaviours past caller.0 op
+
+-- the state after this entry stands for the entries that the one before it stands for, and for this one
+abbrev pub TakesIn : Kept → Entry → Kept → Type 0
+TakesIn before e after = (past : List Entry) → StandsFor before past → StandsFor after (e ∷ past)

@@ -14,11 +14,13 @@ use Rattle.tc_table.specs.History.{comps}
 use Rattle.tc_table.specs.Phases.{phase}
 use Rattle.tc_table.specs.Status.{done, killed}
 
+-- what a Wait or a Wake is for
 abbrev pub awaited : Op → Option Awaited
 awaited (O.Wait k t) = Some (record { killed = k; target = t })
 awaited (O.Wake k t) = Some (record { killed = k; target = t })
 awaited _ = None
 
+-- what the caller waits for after this call: a Wait or Wake replied Parked
 abbrev pub parks : Op → Reply → Option Awaited
 parks op R.Parked = awaited op
 parks op _ = None
@@ -28,9 +30,11 @@ abbrev pub waiting : List Entry → ℕ → Option Awaited
 waiting [] b = None
 waiting (e ∷ past) b = if e.caller.0 == b then parks e.op e.reply else waiting past b
 
+-- what is awaited has come
 unfoldable pub holds : List Entry → Awaited → Bool
 holds past a = if a.killed then killed past a.target else done past a.target
 
+-- it waits, and what it waits for has not come
 abbrev pub waits_in_vain : List Entry → Option Awaited → Bool
 waits_in_vain past None = false
 waits_in_vain past (Some a) = not (holds past a)

@@ -1,9 +1,8 @@
--- Worked cases: moves of one test case, the reply to each, and the overall verdict.
-use Rattle.std.specs.Prelude.{ℕ, ◌≡◌, true, false, List, [], ◌∷◌}
+-- Worked cases: the calls of one test case with the reply to each, and the overall verdict at the end.
+use Rattle.std.specs.Prelude.{ℕ, ◌≡◌, true, false, List, [], ◌∷◌, reverse}
 use Rattle.tc_verdict.specs.declared.verdict.Verdict.{Verdict}
 use Rattle.tc_verdict.specs.declared.verdict.Verdict.TheVariants as V
 use Rattle.tc_verdict.specs.declared.user_verdict.UserVerdict.TheVariants as U
-use Rattle.tc_verdict.specs.declared.run.Run.{Run}
 use Rattle.tc_entry.specs.declared.comp.Comp.{Comp}
 use Rattle.tc_entry.specs.declared.entry.Entry.{Entry}
 use Rattle.tc_entry.specs.declared.op.Group.TheVariants as G
@@ -14,118 +13,95 @@ use Rattle.tc_entry.specs.declared.op.Op.TheVariants as O
 use Rattle.tc_entry.specs.declared.reply.Reply.{Reply}
 use Rattle.tc_entry.specs.declared.reply.Reply.TheVariants as R
 use Rattle.tc_entry.specs.declared.reply.Fault.TheVariants as F
-use Rattle.tc_table.specs.Answers.{answer}
+use Rattle.tc_table.specs.Legal.{IsLegal}
 use Rattle.tc_table.specs.Local.{overall}
 
--- a call by a run
-pub record Move : Type 0 where
-  pub by : ℕ
-  pub does : Op
+-- among n behaviours the table gives the reply of each of these entries, the oldest first, and this is the overall verdict
+abbrev pub IsCase : ℕ → Verdict → List Entry → Type 0
+IsCase n verdict history = IsLegal n (reverse history) × (overall (reverse history) ≡ verdict)
 
--- the replies, and the overall verdict at the end
-pub record Played : Type 0 where
-  pub replies : List Reply
-  pub verdict : Verdict
+-- run b makes this call, and this is the reply
+abbrev pub call : ℕ → Op → Reply → Entry
+call b op reply = record { caller = record { 0 = b }; op = op; reply = reply }
 
-abbrev pub with_reply : Reply → Played → Played
-with_reply r p = record { replies = r ∷ p.replies; verdict = p.verdict }
-
-abbrev pub entry_of : ℕ → List Entry → Move → Entry
-entry_of n past m = record { caller = record { 0 = m.by }; op = m.does; reply = answer n past m.by m.does }
-
--- what the table replies to these moves after these entries, among n behaviours
-abbrev pub play_from : ℕ → List Entry → List Move → Played
-play_from n past [] = record { replies = []; verdict = overall past }
-play_from n past (m ∷ ms) =
-    let e = entry_of n past m in with_reply e.reply (play_from n (e ∷ past) ms)
-
+-- component c
 abbrev pub comp : ℕ → Comp
-comp i = record { 0 = i }
+comp c = record { 0 = c }
 
-abbrev pub run : ℕ → Run
-run i = record { 0 = i }
+-- the main component creates an ordinary component, which is c
+abbrev pub create : ℕ → Entry
+create c = call 0 (O.Create false) (R.Made (comp c))
 
--- this run makes this call
-abbrev pub call : ℕ → Op → Move
-call i op = record { by = i; does = op }
+-- the main component creates an alive-type component, which is c
+abbrev pub create_alive : ℕ → Entry
+create_alive c = call 0 (O.Create true) (R.Made (comp c))
 
-abbrev pub create : Op
-create = O.Create false
+-- the main component starts run b on component c, without arguments
+abbrev pub start : ℕ → ℕ → Reply → Entry
+start c b reply = call 0 (O.Start (comp c) (record { 0 = b }) []) reply
 
-abbrev pub create_alive : Op
-create_alive = O.Create true
-
-abbrev pub start : ℕ → ℕ → Op
-start i j = O.Start (comp i) (run j) []
-
+-- component c alone
 abbrev pub one : ℕ → Target
-one i = T.One (comp i)
+one c = T.One (comp c)
 
-abbrev pub gives : List Reply → Verdict → Played
-gives rs v = record { replies = rs; verdict = v }
-
--- each case, by its name: its moves, and what they give
+-- each case, by its name
 pub record WorkedCases : Type 0 where
   pub inconc_stays :
-      play_from 1 [] (call 0 (O.SetVerdict U.Inconc) ∷ call 0 (O.SetVerdict U.Pass) ∷ call 0 O.GetVerdict ∷ [])
-      ≡ gives (R.Ok ∷ R.Ok ∷ R.Local V.Inconc ∷ []) V.Inconc
+      IsCase 1 V.Inconc (call 0 (O.SetVerdict U.Inconc) R.Ok ∷ call 0 (O.SetVerdict U.Pass) R.Ok ∷ call 0 O.GetVerdict (R.Local V.Inconc) ∷ [])
   pub start_of_a_running_component :
-      play_from 3 [] (call 0 create ∷ call 0 (start 1 1) ∷ call 0 (start 1 2) ∷ call 1 O.GetVerdict ∷ [])
-      ≡ gives (R.Made (comp 1) ∷ R.Ok ∷ R.Fault F.AlreadyRunning ∷ R.Ended ∷ []) V.Error
+      IsCase 3 V.Error (create 1 ∷ start 1 1 R.Ok ∷ start 1 2 (R.Fault F.AlreadyRunning) ∷ call 1 O.GetVerdict R.Ended ∷ [])
   pub restart_keeps_fail :
-      play_from 3 [] (call 0 create_alive ∷ call 0 (start 1 1) ∷ call 1 (O.SetVerdict U.Fail) ∷ call 1 O.Finish ∷ call 0 (start 1 2) ∷ call 2 O.GetVerdict ∷ [])
-      ≡ gives (R.Made (comp 1) ∷ R.Ok ∷ R.Ok ∷ R.Ok ∷ R.Ok ∷ R.Local V.Fail ∷ []) V.Fail
+      IsCase 3 V.Fail (create_alive 1 ∷ start 1 1 R.Ok ∷ call 1 (O.SetVerdict U.Fail) R.Ok ∷ call 1 O.Finish R.Ok ∷ start 1 2 R.Ok
+      ∷ call 2 O.GetVerdict (R.Local V.Fail) ∷ [])
   pub stopped_ordinary_is_killed :
-      play_from 3 [] (call 0 create ∷ call 0 (start 1 1) ∷ call 0 (O.Stop (G.One (comp 1))) ∷ call 0 (O.Killed (one 1)) ∷ call 0 (start 1 2) ∷ [])
-      ≡ gives (R.Made (comp 1) ∷ R.Ok ∷ R.Ok ∷ R.Answer true ∷ R.Fault F.NotStartable ∷ []) V.Error
+      IsCase 3 V.Error (create 1 ∷ start 1 1 R.Ok ∷ call 0 (O.Stop (G.One (comp 1))) R.Ok ∷ call 0 (O.Killed (one 1)) (R.Answer true)
+      ∷ start 1 2 (R.Fault F.NotStartable) ∷ [])
   pub done_of_groups :
-      play_from 1 [] (call 0 (O.Done T.All) ∷ call 0 create ∷ call 0 (O.Done T.All) ∷ call 0 (O.Done T.Any) ∷ [])
-      ≡ gives (R.Answer true ∷ R.Made (comp 1) ∷ R.Answer true ∷ R.Answer false ∷ []) V.None
+      IsCase 1 V.None (call 0 (O.Done T.All) (R.Answer true) ∷ create 1 ∷ call 0 (O.Done T.All) (R.Answer true) ∷ call 0 (O.Done T.Any) (R.Answer false) ∷ [])
   pub ptc_asks_of_any :
-      play_from 2 [] (call 0 create ∷ call 0 (start 1 1) ∷ call 1 (O.Running T.Any) ∷ [])
-      ≡ gives (R.Made (comp 1) ∷ R.Ok ∷ R.Fault F.NotMain ∷ []) V.Error
+      IsCase 2 V.Error (create 1 ∷ start 1 1 R.Ok ∷ call 1 (O.Running T.Any) (R.Fault F.NotMain) ∷ [])
   pub stop_and_kill_of_an_inactive_component :
-      play_from 1 [] (call 0 create ∷ call 0 (O.Stop (G.One (comp 1))) ∷ call 0 (O.Alive (one 1)) ∷ call 0 (O.Kill (G.One (comp 1))) ∷ call 0 (O.Done (one 1)) ∷ [])
-      ≡ gives (R.Made (comp 1) ∷ R.Ok ∷ R.Answer true ∷ R.Ok ∷ R.Answer true ∷ []) V.None
+      IsCase 1 V.None (create 1 ∷ call 0 (O.Stop (G.One (comp 1))) R.Ok ∷ call 0 (O.Alive (one 1)) (R.Answer true) ∷ call 0 (O.Kill (G.One (comp 1))) R.Ok
+      ∷ call 0 (O.Done (one 1)) (R.Answer true) ∷ [])
   pub stopped_by_another_is_excused :
-      play_from 3 [] (call 0 create ∷ call 0 create ∷ call 0 (start 1 1) ∷ call 0 (start 2 2) ∷ call 0 (O.Stop (G.One (comp 1))) ∷ call 0 (O.Running T.All) ∷ call 2 O.Finish ∷ call 0 (O.Running T.All) ∷ [])
-      ≡ gives (R.Made (comp 1) ∷ R.Made (comp 2) ∷ R.Ok ∷ R.Ok ∷ R.Ok ∷ R.Answer true ∷ R.Ok ∷ R.Answer false ∷ []) V.None
+      IsCase 3 V.None (create 1 ∷ create 2 ∷ start 1 1 R.Ok ∷ start 2 2 R.Ok ∷ call 0 (O.Stop (G.One (comp 1))) R.Ok ∷ call 0 (O.Running T.All) (R.Answer true)
+      ∷ call 2 O.Finish R.Ok ∷ call 0 (O.Running T.All) (R.Answer false) ∷ [])
   pub waiting_alone_is_stuck :
-      play_from 1 [] (call 0 create ∷ call 0 (O.Wait false (one 1)) ∷ call 0 (O.Wake false (one 1)) ∷ [])
-      ≡ gives (R.Made (comp 1) ∷ R.Parked ∷ R.Fault F.Stuck ∷ []) V.Error
+      IsCase 1 V.Error (create 1 ∷ call 0 (O.Wait false (one 1)) R.Parked ∷ call 0 (O.Wake false (one 1)) (R.Fault F.Stuck) ∷ [])
   pub a_ptc_stops_the_main :
-      play_from 2 [] (call 0 create ∷ call 0 (start 1 1) ∷ call 1 (O.SetVerdict U.Pass) ∷ call 1 (O.Stop (G.One (comp 0))) ∷ call 0 O.GetVerdict ∷ call 1 O.GetVerdict ∷ [])
-      ≡ gives (R.Made (comp 1) ∷ R.Ok ∷ R.Ok ∷ R.Ok ∷ R.Ended ∷ R.Ended ∷ []) V.Pass
+      IsCase 2 V.Pass (create 1 ∷ start 1 1 R.Ok ∷ call 1 (O.SetVerdict U.Pass) R.Ok ∷ call 1 (O.Stop (G.One (comp 0))) R.Ok ∷ call 0 O.GetVerdict R.Ended
+      ∷ call 1 O.GetVerdict R.Ended ∷ [])
+  pub stop_of_a_case :
+      IsCase 2 V.Error (create 1 ∷ start 1 1 R.Ok ∷ call 1 (O.SetVerdict U.Pass) R.Ok ∷ call 1 O.StopCase R.Ok ∷ call 0 O.GetVerdict R.Ended ∷ [])
+  pub stop_of_a_case_by_the_main :
+      IsCase 1 V.Error (call 0 O.StopCase R.Ok ∷ call 0 O.GetVerdict R.Ended ∷ [])
+  pub stop_of_a_case_by_a_run_that_was_never_started :
+      IsCase 2 V.None (call 1 O.StopCase R.Ended ∷ [])
   pub settings_of_the_main :
-      play_from 1 [] (call 0 create ∷ call 0 (O.SetVerdict U.Pass) ∷ call 0 (O.SetVerdict U.None) ∷ call 0 O.GetVerdict ∷ call 0 O.Finish ∷ call 0 O.GetVerdict ∷ [])
-      ≡ gives (R.Made (comp 1) ∷ R.Ok ∷ R.Ok ∷ R.Local V.Pass ∷ R.Ok ∷ R.Ended ∷ []) V.Pass
+      IsCase 1 V.Pass (create 1 ∷ call 0 (O.SetVerdict U.Pass) R.Ok ∷ call 0 (O.SetVerdict U.None) R.Ok ∷ call 0 O.GetVerdict (R.Local V.Pass) ∷ call 0 O.Finish R.Ok
+      ∷ call 0 O.GetVerdict R.Ended ∷ [])
   pub order_of_faults :
-      play_from 2 [] (call 0 create ∷ call 0 (start 1 1) ∷ call 0 (start 1 9) ∷ [])
-      ≡ gives (R.Made (comp 1) ∷ R.Ok ∷ R.Fault F.AlreadyRunning ∷ []) V.Error
+      IsCase 2 V.Error (create 1 ∷ start 1 1 R.Ok ∷ start 1 9 (R.Fault F.AlreadyRunning) ∷ [])
   pub status_of_a_restarted_component :
-      play_from 3 [] (call 0 create_alive ∷ call 0 (start 1 1) ∷ call 1 O.Finish ∷ call 0 (O.Done (one 1)) ∷ call 0 (start 1 2) ∷ call 0 (O.Done (one 1)) ∷ call 0 (O.Running (one 1)) ∷ call 0 (O.Alive (one 1)) ∷ [])
-      ≡ gives (R.Made (comp 1) ∷ R.Ok ∷ R.Ok ∷ R.Answer true ∷ R.Ok ∷ R.Answer false ∷ R.Answer true ∷ R.Answer true ∷ []) V.None
+      IsCase 3 V.None (create_alive 1 ∷ start 1 1 R.Ok ∷ call 1 O.Finish R.Ok ∷ call 0 (O.Done (one 1)) (R.Answer true) ∷ start 1 2 R.Ok
+      ∷ call 0 (O.Done (one 1)) (R.Answer false) ∷ call 0 (O.Running (one 1)) (R.Answer true) ∷ call 0 (O.Alive (one 1)) (R.Answer true) ∷ [])
   pub two_waits_are_stuck :
-      play_from 2 [] (call 0 create ∷ call 0 (start 1 1) ∷ call 0 (O.Wait false (one 1)) ∷ call 1 (O.Wait true (one 1)) ∷ call 1 (O.Wake true (one 1)) ∷ call 0 (O.Wake false (one 1)) ∷ [])
-      ≡ gives (R.Made (comp 1) ∷ R.Ok ∷ R.Parked ∷ R.Parked ∷ R.Parked ∷ R.Fault F.Stuck ∷ []) V.Error
+      IsCase 2 V.Error (create 1 ∷ start 1 1 R.Ok ∷ call 0 (O.Wait false (one 1)) R.Parked ∷ call 1 (O.Wait true (one 1)) R.Parked
+      ∷ call 1 (O.Wake true (one 1)) R.Parked ∷ call 0 (O.Wake false (one 1)) (R.Fault F.Stuck) ∷ [])
   pub a_finish_wakes :
-      play_from 2 [] (call 0 create ∷ call 0 (start 1 1) ∷ call 0 (O.Wait false (one 1)) ∷ call 0 (O.Wake false (one 1)) ∷ call 1 O.Finish ∷ call 0 (O.Wake false (one 1)) ∷ [])
-      ≡ gives (R.Made (comp 1) ∷ R.Ok ∷ R.Parked ∷ R.Parked ∷ R.Ok ∷ R.Matched ∷ []) V.None
+      IsCase 2 V.None (create 1 ∷ start 1 1 R.Ok ∷ call 0 (O.Wait false (one 1)) R.Parked ∷ call 0 (O.Wake false (one 1)) R.Parked ∷ call 1 O.Finish R.Ok
+      ∷ call 0 (O.Wake false (one 1)) R.Matched ∷ [])
   pub groups_of_two :
-      play_from 3 [] (call 0 create ∷ call 0 create_alive ∷ call 0 (start 2 1) ∷ call 0 (O.Killed T.Any) ∷ call 0 (O.Stop G.All) ∷ call 0 (O.Done T.Any) ∷ call 0 (O.Killed T.All) ∷ call 0 (O.Alive T.All) ∷ call 0 (O.Kill G.All) ∷ call 0 (O.Killed T.All) ∷ call 0 (O.Alive T.Any) ∷ [])
-      ≡ gives (R.Made (comp 1) ∷ R.Made (comp 2) ∷ R.Ok ∷ R.Answer false ∷ R.Ok ∷ R.Answer true ∷ R.Answer false ∷ R.Answer true ∷ R.Ok ∷ R.Answer true ∷ R.Answer false ∷ []) V.None
+      IsCase 3 V.None (create 1 ∷ create_alive 2 ∷ start 2 1 R.Ok ∷ call 0 (O.Killed T.Any) (R.Answer false) ∷ call 0 (O.Stop G.All) R.Ok
+      ∷ call 0 (O.Done T.Any) (R.Answer true) ∷ call 0 (O.Killed T.All) (R.Answer false) ∷ call 0 (O.Alive T.All) (R.Answer true) ∷ call 0 (O.Kill G.All) R.Ok
+      ∷ call 0 (O.Killed T.All) (R.Answer true) ∷ call 0 (O.Alive T.Any) (R.Answer false) ∷ [])
   pub unknown_argument :
-      play_from 2 [] (call 0 create ∷ call 0 (O.Start (comp 1) (run 1) (comp 7 ∷ [])) ∷ [])
-      ≡ gives (R.Made (comp 1) ∷ R.Fault F.NoComponent ∷ []) V.Error
+      IsCase 2 V.Error (create 1 ∷ call 0 (O.Start (comp 1) (record { 0 = 1 }) (comp 7 ∷ [])) (R.Fault F.NoComponent) ∷ [])
   pub start_of_the_main :
-      play_from 2 [] (call 0 (start 0 1) ∷ [])
-      ≡ gives (R.Fault F.StartMain ∷ []) V.Error
+      IsCase 2 V.Error (start 0 1 (R.Fault F.StartMain) ∷ [])
   pub start_of_run_0 :
-      play_from 2 [] (call 0 create ∷ call 0 (start 1 0) ∷ [])
-      ≡ gives (R.Made (comp 1) ∷ R.Fault F.NoBehaviour ∷ []) V.Error
+      IsCase 2 V.Error (create 1 ∷ start 1 0 (R.Fault F.NoBehaviour) ∷ [])
   pub start_of_a_run_out_of_range :
-      play_from 2 [] (call 0 create ∷ call 0 (start 1 2) ∷ [])
-      ≡ gives (R.Made (comp 1) ∷ R.Fault F.NoBehaviour ∷ []) V.Error
+      IsCase 2 V.Error (create 1 ∷ start 1 2 (R.Fault F.NoBehaviour) ∷ [])
   pub start_of_a_run_started_before :
-      play_from 2 [] (call 0 create ∷ call 0 create ∷ call 0 (start 1 1) ∷ call 0 (start 2 1) ∷ [])
-      ≡ gives (R.Made (comp 1) ∷ R.Made (comp 2) ∷ R.Ok ∷ R.Fault F.NoBehaviour ∷ []) V.Error
+      IsCase 2 V.Error (create 1 ∷ create 2 ∷ start 1 1 R.Ok ∷ start 2 1 (R.Fault F.NoBehaviour) ∷ [])

@@ -1,3 +1,4 @@
+//! What a wait is for.
 use tc_entry::Target;
 
 /// What a wait is for: that its target is done, or that it is killed.

@@ -1,6 +1,8 @@
 //! Whether a list of entries is one that the table makes.
 ghost use Rattle.std.specs.Prelude.{◌≡◌, ◌≤◌, ◌↔◌, IsTrue, IfOk, IfErr, reverse};
+ghost use Rattle.tc_entry.specs.declared.limits.TheConstants.{BEHAVIOURS};
 ghost use Rattle.tc_table.specs.Legal.{IsLegal};
+ghost use Rattle.tc_table.specs.Standing.{StandsFor};
 ghost use Rattle.tc_table.specs.Check.{IsFaultOf};
 ghost use Rattle.tc_table.specs.Local as verdicts;
 
@@ -17,7 +19,7 @@ pub enum CheckFault {
     #[error("the entry at {at} has another reply than the table's")]
     Differs { at: usize, reply: Reply },
     /// Memory was refused.
-    #[error("no memory")]
+    #[error("{}", NoMemory)]
     NoMemory,
 }
 
@@ -38,11 +40,13 @@ fn is_same(a: Reply, b: Reply) -> bool
     a == b
 }
 
-/// The verdict of a list in which each reply is the table's; else the first place where it is not.
-pub fn replay_check(alloc: Global, behaviours: u16, list: &[Entry]) -> Result<Verdict, CheckFault>
+/// The state after a list in which each reply is the table's; else the first place where it is not.
+pub fn replay(alloc: Global, behaviours: u16, list: &[Entry]) -> Result<CaseState, CheckFault>
     requires some { 1 ≤ behaviours }
-    requires few { behaviours ≤ 64 }
-    ensures legal { IfOk result (λ v. IsLegal behaviours (reverse list.now) × (v ≡ verdicts.overall (reverse list.now))) }
+    requires few { behaviours ≤ BEHAVIOURS }
+    ensures behaviours { IfOk result (λ s. s.behaviours ≡ behaviours) }
+    ensures stands { IfOk result (λ s. StandsFor s (reverse list.now)) }
+    ensures legal { IfOk result (λ _. IsLegal behaviours (reverse list.now)) }
     ensures fault { IfErr result (λ f. IsFaultOf behaviours list.now f) }
 {
     let mut state = CaseState::new(alloc, behaviours)?;
@@ -52,5 +56,15 @@ pub fn replay_check(alloc: Global, behaviours: u16, list: &[Entry]) -> Result<Ve
             return Err(CheckFault::Differs { at, reply });
         }
     }
-    Ok(state.overall())
+    Ok(state)
+}
+
+/// The verdict of a list in which each reply is the table's; else the first place where it is not.
+pub fn replay_check(alloc: Global, behaviours: u16, list: &[Entry]) -> Result<Verdict, CheckFault>
+    requires some { 1 ≤ behaviours }
+    requires few { behaviours ≤ BEHAVIOURS }
+    ensures legal { IfOk result (λ v. IsLegal behaviours (reverse list.now) × (v ≡ verdicts.overall (reverse list.now))) }
+    ensures fault { IfErr result (λ f. IsFaultOf behaviours list.now f) }
+{
+    Ok(replay(alloc, behaviours, list)?.overall())
 }

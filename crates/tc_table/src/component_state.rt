@@ -4,14 +4,15 @@ ghost use Rattle.tc_table.specs.Status as status;
 ghost use Rattle.tc_table.specs.Inside.States as tests;
 
 use tc_entry::{Comp, Phase};
-use tc_verdict::Verdict;
+use tc_verdict::{Run, Verdict};
 
 /// What is known of a component.
 #[derive(Clone, Copy, Debug)]
 pub struct ComponentState {
     pub phase: Phase,
     pub alive_type: bool,
-    pub started: bool,
+    /// The last run on it.
+    pub last: Option<Run>,
     pub excused: bool,
     pub local: Verdict,
 }

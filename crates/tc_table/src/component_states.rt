@@ -1,5 +1,6 @@
 //! The states of all components, with what is counted over them.
-ghost use Rattle.std.specs.Prelude.{◌≡◌, ◌≤◌, ◌<◌, ◌+◌, ◌++◌, ◌&&◌, ◌∷◌, [], ℕ, drop, length, slice_index_or, slice_set, IfOk, OnOk, OnErr};
+ghost use Rattle.std.specs.Prelude.{◌≡◌, ◌≤◌, ◌<◌, ◌+◌, ◌++◌, ◌&&◌, ◌∷◌, [], drop, length, slice_index_or, slice_set, IfOk, OnOk, OnErr};
+ghost use Rattle.tc_entry.specs.declared.limits.TheConstants.{COMPONENTS};
 ghost use Rattle.tc_verdict.specs.Verdict.{level_of};
 ghost use Rattle.tc_table.specs.Inside.Counts.{bit, is_lapsed as lapsed_state, main_state, made_state};
 ghost use Rattle.tc_table.specs.Inside.States as tests;
@@ -37,7 +38,7 @@ impl Model for ComponentStates {
 fn is_lapsed(state: ComponentState) -> bool
     ensures { result ≡ lapsed_state state }
 {
-    state.started && !is_running(state.phase) && !state.excused
+    state.last.is_some() && !is_running(state.phase) && !state.excused
 }
 
 fn both(a: bool, b: bool) -> bool
@@ -49,7 +50,7 @@ fn both(a: bool, b: bool) -> bool
 /// A count, after one of the things that it is over has changed.
 fn recount(count: u32, was: bool, is: bool) -> u32
     requires had { bit was ≤ count }
-    requires few { count ≤ 1000 }
+    requires few { count ≤ COMPONENTS }
     ensures { result + bit was ≡ count + bit is }
 {
     if was {
@@ -72,7 +73,7 @@ impl ComponentStates {
             .push(ComponentState {
                 phase: Phase::Running(Run(0)),
                 alive_type: false,
-                started: true,
+                last: Some(Run(0)),
                 excused: false,
                 local: Verdict::None,
             })
@@ -90,7 +91,7 @@ impl ComponentStates {
     pub fn as_slice(&self) -> &[ComponentState]
         ensures same { result.now ≡ self.now }
         ensures some { 1 ≤ length self.now }
-        ensures few { length self.now ≤ 1000 }
+        ensures few { length self.now ≤ COMPONENTS }
     {
         self.states.as_slice()
     }
@@ -104,7 +105,7 @@ impl ComponentStates {
 
     /// Adds a component that is not yet started.
     pub fn add(&mut self, alive_type: bool) -> Result<(), AllocError>
-        requires { length self.old < 1000 }
+        requires { length self.old < COMPONENTS }
         ensures ok { OnOk result (self.new ≡ self.old ++ made_state alive_type ∷ []) }
         ensures err { OnErr result (self.new ≡ self.old) }
     {
@@ -112,7 +113,7 @@ impl ComponentStates {
             .push(ComponentState {
                 phase: Phase::Inactive,
                 alive_type,
-                started: false,
+                last: None,
                 excused: false,
                 local: Verdict::None,
             })

@@ -1,5 +1,5 @@
 //! What one entry says of the case, of a component and of a run.
-ghost use Rattle.std.specs.Prelude.{◌≡◌, if◌then◌else◌, None};
+ghost use Rattle.std.specs.Prelude.{◌≡◌};
 ghost use Rattle.tc_table.specs.History as history;
 ghost use Rattle.tc_table.specs.Phases as phases;
 ghost use Rattle.tc_table.specs.Waiting as waits;
@@ -31,6 +31,12 @@ pub fn is_finish(op: &Op) -> bool
     ensures { result ≡ history.is_finish op.now }
 {
     matches!(op, Op::Finish)
+}
+
+pub fn is_stop_case(op: &Op) -> bool
+    ensures { result ≡ history.is_stop_case op.now }
+{
+    matches!(op, Op::StopCase)
 }
 
 pub fn is_of(group: Group, comp: u32) -> bool
@@ -74,6 +80,7 @@ pub fn ends_case(entry: &Entry) -> bool
 {
     !is_ended(entry.reply)
         && (is_fault(entry.reply)
+            || is_stop_case(&entry.op)
             || (is_finish(&entry.op) && entry.caller.0 == 0)
             || is_stop_of(&entry.op, 0)
             || is_kill_of(&entry.op, 0))
@@ -120,11 +127,7 @@ pub fn awaited(op: &Op) -> Option<Awaited>
     ensures { result ≡ waits.awaited op.now }
 {
     match op {
-        Op::Wait { killed, target } => Some(Awaited {
-            killed: *killed,
-            target: *target,
-        }),
-        Op::Wake { killed, target } => Some(Awaited {
+        Op::Wait { killed, target } | Op::Wake { killed, target } => Some(Awaited {
             killed: *killed,
             target: *target,
         }),
@@ -141,8 +144,8 @@ pub fn parks(op: &Op, reply: Reply) -> Option<Awaited>
     }
 }
 
-pub fn starts_run(entry: &Entry, run: u16) -> Option<Comp>
-    ensures { result ≡ (if history.is_ok entry.now.reply then history.starts_run entry.now.op run else None) }
+pub fn started_on(entry: &Entry, run: u16) -> Option<Comp>
+    ensures { result ≡ history.started_on entry.now run }
 {
     if is_ok(entry.reply) {
         match &entry.op {

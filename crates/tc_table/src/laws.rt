@@ -49,3 +49,21 @@ pub fn stands_for_legal()
 pub fn worked_cases()
     ensures { WorkedCases }
 {}
+
+/// Which runs an entry halts: those that are going on, and whose component it halts.
+#[tactic(auto, using(crate::proofs::Going::halted_by_entry))]
+pub fn halted_by_entry()
+    ensures { laws.HaltedByEntry }
+{}
+
+/// An entry that is none of Stop, Kill, StopCase and Finish, and no error, halts nothing.
+#[tactic(auto, using(crate::proofs::Going::others_halt_nothing))]
+pub fn others_halt_nothing()
+    ensures { laws.OthersHaltNothing }
+{}
+
+/// Which run an entry starts.
+#[tactic(auto, using(crate::proofs::Going::started_by_entry))]
+pub fn started_by_entry()
+    ensures { laws.StartedByEntry }
+{}

@@ -13,7 +13,7 @@ mod step;
 mod table;
 
 pub use awaited::Awaited;
-pub use check::{CheckFault, replay_check};
+pub use check::{CheckFault, replay, replay_check};
 pub use state::CaseState;
 pub use table::Table;
 pub use tc_entry::{

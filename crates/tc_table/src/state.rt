@@ -1,13 +1,14 @@
 //! What is kept of a test case beside its history.
-ghost use Rattle.std.specs.Prelude.{◌≡◌, ◌<◌, ◌≤◌, ◌∷◌, [], List, length, IfOk, OnErr};
+ghost use Rattle.std.specs.Prelude.{◌≡◌, ◌<◌, ◌≤◌, [], false, List, IfOk, OnErr};
 ghost use Rattle.std.specs.Bool.{OnTrue};
+ghost use Rattle.std.specs.Result.{IsOk};
+ghost use Rattle.tc_entry.specs.declared.limits.TheConstants.{BEHAVIOURS};
 ghost use Rattle.tc_entry.specs.declared.entry.Entry.{Entry};
-ghost use Rattle.tc_table.specs.Standing.{StandsFor};
+ghost use Rattle.tc_table.specs.Standing.{StandsFor, IsReply, TakesIn};
 ghost use Rattle.tc_table.specs.History as history;
 ghost use Rattle.tc_table.specs.Phases as phases;
 ghost use Rattle.tc_table.specs.Local as verdicts;
 ghost use Rattle.tc_table.specs.Faults as faults;
-ghost use Rattle.tc_table.specs.Answers as answers;
 ghost use Rattle.tc_table.specs.Legal as legal;
 
 mod adding;
@@ -52,7 +53,7 @@ impl CaseState {
     /// A case of so many behaviours, at its opening.
     pub fn new(alloc: Global, behaviours: u16) -> Result<CaseState, NoMemory>
         requires some { 1 ≤ behaviours }
-        requires few { behaviours ≤ 64 }
+        requires few { behaviours ≤ BEHAVIOURS }
         ensures behaviours { IfOk result (λ s. s.behaviours ≡ behaviours) }
         ensures opening { IfOk result (λ s. StandsFor s []) }
     {
@@ -66,12 +67,23 @@ impl CaseState {
         })
     }
 
-    /// Makes a call, and answers its reply. Where memory is refused the state stays as it was.
+    /// How many behaviours the case has.
+    pub fn behaviours(&self) -> u16
+        ensures is { result ≡ self.now.behaviours }
+        ensures some { 1 ≤ result }
+        ensures few { result ≤ BEHAVIOURS }
+    {
+        self.behaviours
+    }
+
+    /// Makes a call, and answers its reply. Where memory is refused, as it may be to a Create alone, the state stays as
+    /// it was.
     pub fn play(&mut self, caller: Run, op: Op) -> Result<Reply, NoMemory>
         ensures behaviours { self.new.behaviours ≡ self.old.behaviours }
-        ensures reply { IfOk result (λ r. (past : List Entry) → StandsFor self.old past → r ≡ answers.answer self.old.behaviours past caller.0 op) }
-        ensures stands { IfOk result (λ r. (past : List Entry) → StandsFor self.old past → StandsFor self.new (record { caller = caller; op = op; reply = r } ∷ past)) }
+        ensures reply { IfOk result (λ r. IsReply self.old caller op r) }
+        ensures stands { IfOk result (λ r. TakesIn self.old (record { caller = caller; op = op; reply = r }) self.new) }
         ensures refused { OnErr result (self.new ≡ self.old) }
+        ensures sure { history.is_create op ≡ false → IsOk result }
     {
         let reply = self.would(caller, &op);
         let entry = Entry { caller, op, reply };
@@ -82,7 +94,7 @@ impl CaseState {
     /// The reply that `play` would give now.
     #[tactic(auto, using(crate::proofs::KeptLemmas::kept_rules, crate::proofs::KeptLemmas::wait_rules), unfolding(crate::specs::Answers::answer, crate::specs::Faults::fault, crate::specs::Standing::StandsFor))]
     pub fn would(&self, caller: Run, op: &Op) -> Reply
-        ensures { (past : List Entry) → StandsFor self.now past → result ≡ answers.answer self.now.behaviours past caller.0 op.now }
+        ensures { IsReply self.now caller op.now result }
     {
         match self.active_on(caller) {
             None => Reply::Ended,
@@ -100,6 +112,19 @@ impl CaseState {
         let states = self.states.as_slice();
         if (comp.0 as usize) < states.len() {
             Some(states[comp.0 as usize].phase)
+        } else {
+            None
+        }
+    }
+
+    /// The last run that was started on a component.
+    #[tactic(auto, using(crate::proofs::KeptLemmas::last_rules), unfolding(crate::specs::Standing::StandsFor))]
+    pub fn last_run(&self, comp: Comp) -> Option<Run>
+        ensures { (past : List Entry) → StandsFor self.now past → result ≡ phases.last_run past comp.0 }
+    {
+        let states = self.states.as_slice();
+        if (comp.0 as usize) < states.len() {
+            states[comp.0 as usize].last
         } else {
             None
         }

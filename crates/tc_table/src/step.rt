@@ -1,5 +1,5 @@
 //! What one more entry does to what is kept of components and runs.
-ghost use Rattle.std.specs.Prelude.{◌≡◌, ◌≢◌, ◌<◌, ℕ, false, length, slice_index_or};
+ghost use Rattle.std.specs.Prelude.{◌≡◌, ◌≢◌, ℕ, false, length, slice_index_or};
 ghost use Rattle.tc_table.specs.History as history;
 ghost use Rattle.tc_table.specs.Local as verdicts;
 ghost use Rattle.tc_table.specs.Inside.Step as step;
@@ -8,8 +8,8 @@ ghost use Rattle.tc_table.specs.declared.step.Scope.TheVariants as changed;
 use crate::component_state::{ComponentState, is_killed, is_running};
 use crate::component_states::ComponentStates;
 use crate::entries::{
-    ends_case, halts, halts_from_outside, is_comp, is_ended, kills, parks, start_in, started_run,
-    starts_run,
+    ends_case, halts, halts_from_outside, is_comp, is_ended, kills, parks, start_in, started_on,
+    started_run,
 };
 use crate::run_state::RunState;
 use tc_entry::{Comp, Entry, Group, Op, Phase, Reply};
@@ -66,9 +66,20 @@ fn next_local(op: &Op, reply: Reply, local: Verdict) -> Verdict
         Reply::Fault(_) => worse_of(local, Verdict::Error),
         Reply::Ok => match op {
             Op::SetVerdict(v) => worse_of(local, from_user(*v)),
+            Op::StopCase => worse_of(local, Verdict::Error),
             _ => local,
         },
         _ => local,
+    }
+}
+
+/// The run that is started, or else the last one before.
+fn later(start: Option<Run>, last: Option<Run>) -> Option<Run>
+    ensures { result ≡ history.first_some start last }
+{
+    match start {
+        Some(run) => Some(run),
+        None => last,
     }
 }
 
@@ -92,7 +103,7 @@ fn next_state(own: Option<Comp>, entry: &Entry, comp: u32, state: ComponentState
             state.phase,
         ),
         alive_type: state.alive_type,
-        started: start.is_some() || state.started,
+        last: later(start, state.last),
         excused: next_excused(
             start,
             halts_from_outside(own, entry, comp),
@@ -134,10 +145,8 @@ fn touched_by(own: Option<Comp>, op: &Op) -> Scope
 {
     match op {
         Op::Start { comp, .. } => Scope::One(*comp),
-        Op::Stop(group) => touched_group(*group),
-        Op::Kill(group) => touched_group(*group),
-        Op::SetVerdict(_) => touched_own(own),
-        Op::Finish => touched_own(own),
+        Op::Stop(group) | Op::Kill(group) => touched_group(*group),
+        Op::StopCase | Op::SetVerdict(_) | Op::Finish => touched_own(own),
         _ => Scope::Nothing,
     }
 }
@@ -157,7 +166,7 @@ fn touched(own: Option<Comp>, entry: &Entry) -> Scope
 /// Brings what is known of all components up to one more entry.
 fn take_in_all(states: &mut ComponentStates, own: Option<Comp>, entry: &Entry)
     ensures as_many { length states.new ≡ length states.old }
-    ensures each { (c : ℕ) (d : ComponentState) → c < length states.old → slice_index_or states.new c d ≡ step.next_state own entry.now c (slice_index_or states.old c d) }
+    ensures each { step.AreNext own entry.now states.old states.new }
 {
     let count = states.as_slice().len();
     for i in 0..count {
@@ -171,7 +180,7 @@ fn take_in_one(states: &mut ComponentStates, own: Option<Comp>, entry: &Entry, c
     requires settled { step.IsSettled states.old }
     requires touched { step.touched own entry.now ≡ changed.One comp }
     ensures as_many { length states.new ≡ length states.old }
-    ensures each { (c : ℕ) (d : ComponentState) → c < length states.old → slice_index_or states.new c d ≡ step.next_state own entry.now c (slice_index_or states.old c d) }
+    ensures each { step.AreNext own entry.now states.old states.new }
 {
     let i = comp.0 as usize;
     let count = states.as_slice().len();
@@ -208,7 +217,7 @@ fn take_in_found(states: &mut ComponentStates, own: Option<Comp>, entry: &Entry)
     requires settled { step.IsSettled states.old }
     requires goes_on { history.ends_case entry.now ≡ false }
     ensures as_many { length states.new ≡ length states.old }
-    ensures each { (c : ℕ) (d : ComponentState) → c < length states.old → slice_index_or states.new c d ≡ step.next_state own entry.now c (slice_index_or states.old c d) }
+    ensures each { step.AreNext own entry.now states.old states.new }
 {
     let count = states.as_slice().len();
     for i in 0..count {
@@ -223,7 +232,7 @@ fn take_in_found(states: &mut ComponentStates, own: Option<Comp>, entry: &Entry)
 fn take_in_many(states: &mut ComponentStates, own: Option<Comp>, entry: &Entry)
     requires settled { step.IsSettled states.old }
     ensures as_many { length states.new ≡ length states.old }
-    ensures each { (c : ℕ) (d : ComponentState) → c < length states.old → slice_index_or states.new c d ≡ step.next_state own entry.now c (slice_index_or states.old c d) }
+    ensures each { step.AreNext own entry.now states.old states.new }
 {
     if ends_case(entry) {
         take_in_all(states, own, entry);
@@ -237,7 +246,7 @@ fn take_in_many(states: &mut ComponentStates, own: Option<Comp>, entry: &Entry)
 pub fn take_in(states: &mut ComponentStates, own: Option<Comp>, entry: &Entry)
     requires settled { step.IsSettled states.old }
     ensures as_many { length states.new ≡ length states.old }
-    ensures each { (c : ℕ) (d : ComponentState) → c < length states.old → slice_index_or states.new c d ≡ step.next_state own entry.now c (slice_index_or states.old c d) }
+    ensures each { step.AreNext own entry.now states.old states.new }
 {
     match touched(own, entry) {
         Scope::Nothing => {}
@@ -262,7 +271,7 @@ fn next_run(entry: &Entry, run: u16, state: RunState) -> RunState
             waiting,
         },
         None => RunState {
-            comp: starts_run(entry, run),
+            comp: started_on(entry, run),
             waiting,
         },
     }
@@ -271,7 +280,7 @@ fn next_run(entry: &Entry, run: u16, state: RunState) -> RunState
 /// Brings what is known of one run up to one more entry.
 fn take_in_run(runs: &mut Vec<RunState>, entry: &Entry, run: Run)
     ensures as_many { length runs.new.items ≡ length runs.old.items }
-    ensures at { (d : RunState) → run.0 < length runs.old.items → slice_index_or runs.new.items run.0 d ≡ step.next_run entry.now run.0 (slice_index_or runs.old.items run.0 d) }
+    ensures at { step.IsNextRun entry.now run.0 runs.old.items runs.new.items }
     ensures others { (b : ℕ) (d : RunState) → b ≢ run.0 → slice_index_or runs.new.items b d ≡ slice_index_or runs.old.items b d }
 {
     let count = runs.as_slice().len();
@@ -284,7 +293,7 @@ fn take_in_run(runs: &mut Vec<RunState>, entry: &Entry, run: Run)
 /// Brings what is known of the runs up to one more entry: it changes its caller and the run that it starts.
 pub fn take_in_runs(runs: &mut Vec<RunState>, entry: &Entry)
     ensures as_many { length runs.new.items ≡ length runs.old.items }
-    ensures each { (b : ℕ) (d : RunState) → b < length runs.old.items → slice_index_or runs.new.items b d ≡ step.next_run entry.now b (slice_index_or runs.old.items b d) }
+    ensures each { (b : ℕ) → step.IsNextRun entry.now b runs.old.items runs.new.items }
 {
     take_in_run(runs, entry, entry.caller);
     match started_run(&entry.op) {

@@ -2,6 +2,7 @@
 ghost use Rattle.std.specs.Prelude.{◌≡◌, ◌<◌, ◌≤◌, ◌+◌, ◌++◌, ◌∷◌, [], false, IfOk, OnErr, OnOk};
 ghost use Rattle.std.specs.Bool.{OnTrue};
 ghost use Rattle.std.specs.Result.{IsOk};
+ghost use Rattle.tc_entry.specs.declared.limits.TheConstants.{BEHAVIOURS};
 ghost use Rattle.tc_table.specs.Case.{past_of};
 ghost use Rattle.tc_table.specs.History as history;
 ghost use Rattle.tc_table.specs.Phases as phases;
@@ -43,7 +44,7 @@ impl Table {
     /// A case of so many behaviours, at its opening.
     pub fn new(alloc: Global, behaviours: u16) -> Result<Table, NoMemory>
         requires some { 1 ≤ behaviours }
-        requires few { behaviours ≤ 64 }
+        requires few { behaviours ≤ BEHAVIOURS }
         ensures behaviours { IfOk result (λ t. t.behaviours ≡ behaviours) }
         ensures opening { IfOk result (λ t. t.history ≡ []) }
     {
@@ -51,6 +52,15 @@ impl Table {
             state: CaseState::new(alloc, behaviours)?,
             history: Vec::new(alloc),
         })
+    }
+
+    /// How many behaviours the case has.
+    pub fn behaviours(&self) -> u16
+        ensures is { result ≡ self.now.behaviours }
+        ensures some { 1 ≤ result }
+        ensures few { result ≤ BEHAVIOURS }
+    {
+        self.state.behaviours()
     }
 
     /// Makes a call: adds its entry, and answers its reply. Where memory is refused the history stays as it was.
@@ -103,6 +113,20 @@ impl Table {
         ensures legal { legal.IsLegal self.now.behaviours (past_of self.now) }
     {
         self.history.as_slice()
+    }
+
+    /// Whether a run is going on.
+    pub fn is_active(&self, run: Run) -> bool
+        ensures { result ≡ answers.is_active (past_of self.now) run.0 }
+    {
+        self.state.is_active(run)
+    }
+
+    /// The last run that was started on a component.
+    pub fn last_run(&self, comp: Comp) -> Option<Run>
+        ensures { result ≡ phases.last_run (past_of self.now) comp.0 }
+    {
+        self.state.last_run(comp)
     }
 
     /// What a component is doing.

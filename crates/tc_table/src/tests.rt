@@ -1,3 +1,4 @@
+//! Calls on a table and on a state, and lists of entries.
 use super::*;
 use std::test::Fail;
 
@@ -34,6 +35,9 @@ fn calls_on_a_table(rt: HostRuntime) -> Result<(), Fail> {
     for (caller, op, reply) in moves {
         assert_eq!(rt; table.play(Run(caller), op)?, reply);
     }
+    assert_eq!(rt; table.behaviours(), 2);
+    assert_eq!(rt; table.last_run(Comp(1)), Some(Run(1)));
+    assert!(rt; !table.is_active(Run(1)));
     assert_eq!(rt; table.components(), 2);
     assert_eq!(rt; table.phase_of(Comp(0)), Some(Phase::Running(Run(0))));
     assert_eq!(rt; table.phase_of(Comp(1)), Some(Phase::Stopped));
@@ -47,6 +51,31 @@ fn calls_on_a_table(rt: HostRuntime) -> Result<(), Fail> {
     assert!(rt; table.is_over());
     assert_eq!(rt; table.phase_of(Comp(1)), Some(Phase::Killed));
     assert_eq!(rt; table.play(Run(0), Op::Finish)?, Reply::Ended);
+    Ok(())
+}
+
+#[test]
+fn stop_of_a_case(rt: HostRuntime) -> Result<(), Fail> {
+    let mut state = CaseState::new(rt.alloc(), 2)?;
+    let moves = [
+        (1, Op::StopCase, Reply::Ended),
+        (0, Op::Create { alive: true }, Reply::Made(Comp(1))),
+        (0, start(1, 1), Reply::Ok),
+        (1, Op::SetVerdict(UserVerdict::Pass), Reply::Ok),
+        (1, Op::StopCase, Reply::Ok),
+        (0, Op::GetVerdict, Reply::Ended),
+        (1, Op::StopCase, Reply::Ended),
+    ];
+    for (caller, op, reply) in moves {
+        assert_eq!(rt; state.would(Run(caller), &op), reply);
+        assert_eq!(rt; state.play(Run(caller), op)?, reply);
+    }
+    assert!(rt; state.is_over());
+    assert_eq!(rt; state.phase_of(Comp(0)), Some(Phase::Killed));
+    assert_eq!(rt; state.phase_of(Comp(1)), Some(Phase::Killed));
+    assert_eq!(rt; state.local(Comp(0)), Some(Verdict::None));
+    assert_eq!(rt; state.local(Comp(1)), Some(Verdict::Error));
+    assert_eq!(rt; state.overall(), Verdict::Error);
     Ok(())
 }
 
@@ -131,6 +160,28 @@ fn replay_check_of_a_list(rt: HostRuntime) -> Result<(), Fail> {
         Ok(verdict) => assert_eq!(rt; verdict, Verdict::None),
         Err(_) => panic!(rt; "a parked wait was not found legal"),
     }
+    Ok(())
+}
+
+#[test]
+fn replay_of_a_restart(rt: HostRuntime) -> Result<(), Fail> {
+    let list = [
+        entry(Op::Create { alive: true }, Reply::Made(Comp(1))),
+        entry(start(1, 1), Reply::Ok),
+        entry(Op::Stop(Group::One(Comp(1))), Reply::Ok),
+        entry(start(1, 2), Reply::Ok),
+    ];
+    let Ok(state) = replay(rt.alloc(), 3, &list) else {
+        panic!(rt; "a restart was not found legal")
+    };
+    assert_eq!(rt; state.behaviours(), 3);
+    assert_eq!(rt; state.last_run(Comp(0)), Some(Run(0)));
+    assert_eq!(rt; state.last_run(Comp(1)), Some(Run(2)));
+    assert_eq!(rt; state.last_run(Comp(2)), None);
+    assert!(rt; state.is_active(Run(0)));
+    assert!(rt; !state.is_active(Run(1)));
+    assert!(rt; state.is_active(Run(2)));
+    assert_eq!(rt; state.local(Comp(1)), Some(Verdict::None));
     Ok(())
 }
 

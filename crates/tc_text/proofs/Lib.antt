@@ -1,3 +1,4 @@
+-- The lemmas of this crate.
 pub mod Digits
 pub mod Operands
 pub mod Verbs

@@ -4,7 +4,8 @@ use Rattle.std.specs.Fmt.{decimal}
 use Rattle.tc_entry.specs.declared.op.Op.{Op}
 use Rattle.tc_text.specs.Spelling.{move_text, IsOp}
 use Rattle.tc_text.specs.Lines.{lines_of}
-use Rattle.tc_text.specs.MoveList.{Move, move_line, behaviours_line, IsBehaviours, IsMove}
+use Rattle.tc_entry.specs.Limits.{IsBehaviours}
+use Rattle.tc_text.specs.MoveList.{Move, move_line, behaviours_line, IsMove}
 use Rattle.tc_text.specs.Reading.{EndsNumber, EndsMove, EndsReply, EndsLine}
 use Rattle.tc_text.proofs.Operands.{ends_nothing, IsThatNumber}
 use Rattle.tc_text.proofs.LinesOf.{line_ended, first_line}

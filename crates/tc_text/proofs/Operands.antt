@@ -2,6 +2,7 @@
 use Rattle.std.proofs.Common.{◌≡◌, ◌≢◌, ◌∙◌, ◌<◌, ◌≤◌, ◌+◌, ◌^◌, ℕ, List, [], ◌∷◌, ◌++◌, length, codes, sym, ap, arith, append_assoc}
 use Rattle.std.specs.Fmt.{decimal}
 use Rattle.std.proofs.lemmas.Grind.{common_steps}
+use Rattle.tc_entry.specs.declared.limits.TheConstants.{ARGUMENTS}
 use Rattle.tc_verdict.specs.declared.run.Run.{Run}
 use Rattle.tc_entry.specs.declared.comp.Comp.{Comp}
 use Rattle.tc_entry.specs.declared.op.Group.{Group}
@@ -9,8 +10,8 @@ use Rattle.tc_entry.specs.declared.op.Group.TheVariants as G
 use Rattle.tc_entry.specs.declared.op.Target.{Target}
 use Rattle.tc_entry.specs.declared.op.Target.TheVariants as T
 use Rattle.tc_entry.specs.declared.op.Op.TheVariants as O
-use Rattle.tc_text.specs.Spelling.{group_text, target_text, args_text, IsComp, IsGroup, IsTarget, AreComps}
-use Rattle.tc_text.specs.Reading.{EndsNumber, EndsMove, start_text}
+use Rattle.tc_text.specs.Spelling.{group_text, target_text, args_text, IsComp, IsGroup, IsTarget, AreComps, start_text}
+use Rattle.tc_text.specs.Reading.{EndsNumber, EndsMove}
 use Rattle.tc_text.proofs.Digits.{digit_first, no_letter}
 
 -- what reading a number tells: it is the number of each spelling that the text begins with
@@ -72,8 +73,8 @@ args_spelled text after behind result number old mid new space spelled low added
     (c ∷ cs, found.1 ∙ ap (λ l. l ++ cs) added ∙ append_assoc old (c ∷ []) cs, (low, found.2), space ∙ ap (λ l. 32 ∷ l) (spelled ∙ ap (λ l. decimal number ++ l) found.3) ∙ sym (args_assoc c cs result))
 
 pub args_only : (text after behind result : List ℕ) (number : ℕ) (old mid new : List Comp) → text ≡ 32 ∷ after → after ≡ decimal number ++ behind → number < 2 ^ 32 → mid ≡ old ++ record { 0 = number } ∷ [] → IsThatNumber after number behind
-    → ((cs : List Comp) (rest : List ℕ) → AreComps cs → length mid + length cs ≤ 4 → EndsMove rest → behind ≡ args_text cs ++ rest → (new ≡ mid ++ cs) × (result ≡ rest))
-    → (cs : List Comp) (rest : List ℕ) → AreComps cs → length old + length cs ≤ 4 → EndsMove rest → text ≡ args_text cs ++ rest → (new ≡ old ++ cs) × (result ≡ rest)
+    → ((cs : List Comp) (rest : List ℕ) → AreComps cs → length mid + length cs ≤ ARGUMENTS → EndsMove rest → behind ≡ args_text cs ++ rest → (new ≡ mid ++ cs) × (result ≡ rest))
+    → (cs : List Comp) (rest : List ℕ) → AreComps cs → length old + length cs ≤ ARGUMENTS → EndsMove rest → text ≡ args_text cs ++ rest → (new ≡ old ++ cs) × (result ≡ rest)
 args_only text after behind result number old mid new space spelled low added only more [] rest fits room ends e =
     let first = digit_first number low in
     let is : rest ≡ 32 ∷ first.0 ∷ (first.1.0 ++ behind) = sym e ∙ space ∙ ap (λ l. 32 ∷ l) (spelled ∙ ap (λ l. l ++ behind) first.1.1) in

@@ -16,7 +16,8 @@ use Rattle.tc_entry.specs.declared.op.Target.TheVariants as T
 use Rattle.tc_entry.specs.declared.op.Op.{Op}
 use Rattle.tc_entry.specs.declared.op.Op.TheVariants as O
 use Rattle.tc_text.specs.Spelling.{group_text, target_text, args_text, op_text, move_text, IsGroup, IsTarget, IsOp, AreComps}
-use Rattle.tc_text.specs.MoveList.{behaviours_line, IsBehaviours}
+use Rattle.tc_entry.specs.Limits.{IsBehaviours}
+use Rattle.tc_text.specs.MoveList.{behaviours_line}
 use Rattle.tc_text.proofs.Digits.{both, spelled_digits, digit_first}
 use Rattle.tc_text.proofs.LinesOf.{NoLf, no_lf-append}
 
@@ -66,6 +67,7 @@ op_plain (O.Wait true t) fits = no_lf-append (codes "wait killed ") (target_text
 op_plain (O.Wake false t) fits = no_lf-append (codes "wake done ") (target_text t) (search rules) (target_plain t fits)
 op_plain (O.Wake true t) fits = no_lf-append (codes "wake killed ") (target_text t) (search rules) (target_plain t fits)
 op_plain (O.SetVerdict v) fits = no_lf-append (codes "setverdict ") (name_of (given v)) (search rules) (setting_plain v)
+op_plain O.StopCase fits = search rules
 op_plain O.GetVerdict fits = search rules
 op_plain O.Finish fits = search rules
 

@@ -1,8 +1,9 @@
 -- How far a list of moves is read.
-use Rattle.std.proofs.Common.{◌≡◌, ◌≢◌, ◌∙◌, ◌+◌, ℕ, List, [], ◌∷◌, ◌++◌, length, map, sym, ap, refl, append_assoc}
-use Rattle.std.proofs.lemmas.List.{append-nil}
+use Rattle.std.proofs.Common.{◌≡◌, ◌≢◌, ◌∙◌, ◌+◌, ℕ, List, [], ◌∷◌, ◌++◌, length, map, sym, ap, refl, append_assoc, arith}
+use Rattle.std.proofs.lemmas.List.{append-nil, length-append}
 use Rattle.tc_text.specs.Lines.{lines_of}
-use Rattle.tc_text.specs.MoveList.{Move, behaviours_line, move_line, list_lines, IsBehaviours, IsMove, AreMoves, IsMoveList, IsBadFirstLine, IsBadMove}
+use Rattle.tc_entry.specs.Limits.{IsBehaviours}
+use Rattle.tc_text.specs.MoveList.{Move, behaviours_line, move_line, list_lines, IsMove, AreMoves, IsMoveList, IsMadeOf, IsBadFirstLine, IsBadMove}
 use Rattle.tc_text.proofs.LinesOf.{some_line}
 
 -- the moves are the ones read, and those that the rest spells
@@ -114,3 +115,41 @@ is_all text n moves rest so none k ms list =
     by_tail : (tail : List Move) → ms ≡ moves ++ tail → lines_of rest ≡ map move_line tail → moves ≡ ms
     by_tail [] parts spelled = sym (parts ∙ append-nil moves)
     by_tail (t ∷ ts) parts spelled = absurd (let e = sym (ap lines_of none) ∙ spelled in cc)
+
+-- ---- what the moves make
+
+-- some moves are read, and the value is what they make
+pub record IsMadeSoFar {T : Type 0} (stands : ℕ → List Move → T → Type 0) (text : List ℕ) (n line : ℕ) (rest : List ℕ) (value : T) : Type 0 where
+  pub moves : List Move
+  pub read : SoFar text n moves rest
+  pub made : stands n moves value
+  pub line_is : line ≡ length moves + 2
+
+pub made_none : {T : Type 0} (stands : ℕ → List Move → T → Type 0) (text : List ℕ) (n : ℕ) (rest : List ℕ) (value : T) → IsBehaviours n → lines_of text ≡ behaviours_line n ∷ lines_of rest →
+    IsThatNumberOfBehaviours text n rest → stands n [] value → IsMadeSoFar stands text n 2 rest value
+made_none stands text n rest value right lines only made = record { moves = []; read = begins text rest n right lines only; made = made; line_is = refl }
+
+pub made_more : {T : Type 0} (stands : ℕ → List Move → T → Type 0) (text : List ℕ) (n line : ℕ) (rest after : List ℕ) (value value' : T) (m : Move) → IsMadeSoFar stands text n line rest value →
+    lines_of rest ≡ move_line m ∷ lines_of after → IsMove m → IsThatMove rest m after →
+    ((k : ℕ) (moves : List Move) → stands k moves value → stands k (moves ++ m ∷ []) value') → IsMadeSoFar stands text n (line + 1) after value'
+made_more stands text n line rest after value value' m so spelled fits only takes =
+    let here = so.line_is in
+    record {
+      moves = so.moves ++ m ∷ [];
+      read = goes_on text n so.moves (so.moves ++ m ∷ []) rest after m so.read spelled fits only refl;
+      made = takes n so.moves so.made;
+      line_is = omega (arith, here, length-append so.moves (m ∷ []));
+    }
+
+pub made_all : {T : Type 0} (stands : ℕ → List Move → T → Type 0) (text : List ℕ) (n line : ℕ) (rest : List ℕ) (value : T) → IsMadeSoFar stands text n line rest value → rest ≡ [] → IsMadeOf stands text value
+made_all stands text n line rest value so none = record { behaviours = n; moves = so.moves; list = is_done text n so.moves rest so.read none; made = so.made }
+
+pub made_only : {T : Type 0} (stands : ℕ → List Move → T → Type 0) (text : List ℕ) (n line : ℕ) (rest : List ℕ) (value : T) → IsMadeSoFar stands text n line rest value → rest ≡ [] →
+    (k : ℕ) (ms : List Move) → IsMoveList text k ms → stands k ms value
+made_only stands text n line rest value so none k ms list =
+    let two = is_all text n so.moves rest so.read none k ms list in
+    let made = so.made in
+    rw two.0 at (rw two.1 at made)
+
+pub made_bad : {T : Type 0} (stands : ℕ → List Move → T → Type 0) (text : List ℕ) (n line : ℕ) (rest : List ℕ) (value : T) → IsMadeSoFar stands text n line rest value → rest ≢ [] → IsNoMove rest → IsBadMove text line
+made_bad stands text n line rest value so some never = rw so.line_is (bad_move text n (length so.moves) so.moves rest refl some so.read never)

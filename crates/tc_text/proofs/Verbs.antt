@@ -1,30 +1,14 @@
 -- The first words of operations.
-use Rattle.std.proofs.Common.{◌≡◌, ◌≢◌, ℕ, List, ◌++◌, codes, refl, true, false}
+use Rattle.std.proofs.Common.{◌≡◌, ◌≢◌, ℕ, List, ◌++◌, codes, append_assoc}
 use Rattle.tc_entry.specs.declared.op.Op.{Op}
-use Rattle.tc_entry.specs.declared.op.Op.TheVariants as O
 use Rattle.tc_text.specs.declared.verb.Status.{Status}
 use Rattle.tc_text.specs.declared.verb.Status.TheVariants as S
-use Rattle.tc_text.specs.Spelling.{op_text}
-use Rattle.tc_text.specs.Reading.{IsWait, status_text, verb_text, verb_of, operand_text}
+use Rattle.tc_text.specs.Spelling.{op_text, status_text, verb_text, verb_of, operand_text}
+use Rattle.tc_text.specs.Reading.{IsWait}
 
 -- an operation is its first words and what stands behind them
 pub op_parts : (op : Op) (rest : List ℕ) → op_text op ++ rest ≡ verb_text (verb_of op) ++ (operand_text op ++ rest)
-op_parts (O.Create false) rest = refl
-op_parts (O.Create true) rest = refl
-op_parts (O.Start c run args) rest = refl
-op_parts (O.Stop g) rest = refl
-op_parts (O.Kill g) rest = refl
-op_parts (O.Running t) rest = refl
-op_parts (O.Alive t) rest = refl
-op_parts (O.Done t) rest = refl
-op_parts (O.Killed t) rest = refl
-op_parts (O.Wait false t) rest = refl
-op_parts (O.Wait true t) rest = refl
-op_parts (O.Wake false t) rest = refl
-op_parts (O.Wake true t) rest = refl
-op_parts (O.SetVerdict v) rest = refl
-op_parts O.GetVerdict rest = refl
-op_parts O.Finish rest = refl
+op_parts op rest = append_assoc (verb_text (verb_of op)) (operand_text op) rest
 
 -- a text has the first words of a wait or a wake, or none of the four
 pub no_wait : (s : Status) (text rest : List ℕ)

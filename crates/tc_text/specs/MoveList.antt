@@ -1,6 +1,7 @@
 -- Lists of moves as texts, and what is wrong with other texts.
 use Rattle.std.specs.Prelude.{ℕ, ◌≡◌, ◌<◌, ◌≤◌, ◌+◌, ◌^◌, List, [], ◌∷◌, ◌++◌, length, map, codes}
 use Rattle.std.specs.Fmt.{decimal}
+use Rattle.tc_entry.specs.Limits.{IsBehaviours}
 use Rattle.tc_verdict.specs.declared.run.Run.{Run}
 use Rattle.tc_entry.specs.declared.op.Op.{Op}
 use Rattle.tc_text.specs.declared.fault.TextKind.{TextKind}
@@ -26,10 +27,6 @@ behaviours_line n = codes "behaviours " ++ decimal n
 abbrev pub list_lines : ℕ → List Move → List (List ℕ)
 list_lines n moves = behaviours_line n ∷ map move_line moves
 
--- a case has 1 to 64 behaviours
-abbrev pub IsBehaviours : ℕ → Type 0
-IsBehaviours n = (1 ≤ n) × (n ≤ 64)
-
 -- a move whose numbers are those of their types
 abbrev pub IsMove : Move → Type 0
 IsMove m = (m.0.0 < 2 ^ 16) × IsOp m.1
@@ -44,6 +41,13 @@ pub record IsMoveList (text : List ℕ) (n : ℕ) (moves : List Move) : Type 0 w
   pub behaviours : IsBehaviours n
   pub fits : AreMoves moves
   pub lines : lines_of text ≡ list_lines n moves
+
+-- the value is what the moves of the text make
+pub record IsMadeOf {T : Type 0} (stands : ℕ → List Move → T → Type 0) (text : List ℕ) (value : T) : Type 0 where
+  pub behaviours : ℕ
+  pub moves : List Move
+  pub list : IsMoveList text behaviours moves
+  pub made : stands behaviours moves value
 
 -- there is a first line, and it gives no number of behaviours
 pub record IsBadFirstLine (text : List ℕ) : Type 0 where

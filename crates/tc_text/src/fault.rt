@@ -1,8 +1,10 @@
 //! What is wrong with a text.
 ghost use Rattle.std.specs.Prelude.{◌≡◌, Some};
 ghost use Rattle.tc_text.specs.TextKind.{fault_text, kind_text};
+ghost use Rattle.tc_text.specs.declared.fault.TextFault.TheVariants as faults;
 
 use std::fmt;
+use tc_verdict::{EARLY_END, NoMemory};
 use thiserror::Error;
 
 /// What is wrong with a line of a text.
@@ -27,7 +29,7 @@ impl TextKind {
             TextKind::FirstLine => "bad first line",
             TextKind::Move => "bad move",
             TextKind::Entry => "bad entry",
-            TextKind::Early => "text ends too early",
+            TextKind::Early => EARLY_END,
         }
     }
 }
@@ -49,13 +51,33 @@ pub enum TextFault {
     NoMemory,
 }
 
+impl TextFault {
+    /// The fault of this kind in the line with this number.
+    pub fn at(line: usize, kind: TextKind) -> TextFault
+        ensures { result ≡ faults.At line kind }
+    {
+        Self::At { line, kind }
+    }
+}
+
 impl fmt::Display for TextFault {
     ghost output = { λ x. Some (fault_text x) };
 
     fn fmt<W: fmt::Write>(&self, f: &mut fmt::Formatter<W>) -> fmt::Result {
         match self {
             TextFault::At { line, kind } => write!(f, "line {line}: {kind}"),
-            TextFault::NoMemory => f.write_str("no memory"),
+            TextFault::NoMemory => NoMemory.fmt(f),
         }
+    }
+}
+
+impl From<NoMemory> for TextFault {
+    ghost use Rattle.std.specs.Prelude.{◌≡◌};
+    ghost use Rattle.tc_text.specs.declared.fault.TextFault.TheVariants as faults;
+
+    ghost from_gives = { λ _ f. f ≡ faults.NoMemory };
+
+    fn from(_: NoMemory) -> TextFault {
+        TextFault::NoMemory
     }
 }

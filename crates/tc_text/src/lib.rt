@@ -17,12 +17,11 @@ mod writing;
 pub use append::{append_number, append_text};
 pub use cursor::{after, take_line_end};
 pub use fault::{TextFault, TextKind};
-pub use move_list::{MoveList, as_behaviours, read_moves, take_first_line, take_move_line};
-pub use moves::{read_move, take_move};
+pub use move_list::{MoveList, TakesMoves, as_behaviours, read_moves, read_moves_into};
+pub use moves::{read_move, take_move, take_start_move};
 pub use number::{read_number, take_number};
-pub use reply::{read_reply, take_reply, write_reply};
+pub use reply::{name_of_fault, read_reply, take_reply, write_reply};
 pub use short::{ShortOp, take_short_move};
-pub use verb::Status;
 pub use verdict::take_verdict;
 pub use writing::{write_move, write_op};
 

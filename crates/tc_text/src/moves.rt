@@ -1,22 +1,26 @@
 //! The texts of moves.
-ghost use Rattle.std.specs.Prelude.{◌≡◌, ◌<◌, ◌^◌, ◌++◌, ℕ, List, Some, IfSome, MatchOption};
-ghost use Rattle.tc_text.specs.Spelling.{op_text, move_text, IsOp};
-ghost use Rattle.tc_text.specs.Reading.{EndsMove};
+ghost use Rattle.std.specs.Prelude.{◌≡◌, ◌<◌, ◌^◌, ◌++◌, ℕ, List, Some, IfSome};
+ghost use Rattle.tc_text.specs.Spelling.{move_text, IsOp, IsStart};
+ghost use Rattle.tc_text.specs.Reading.{EndsMove, Takes};
 ghost use Rattle.tc_entry.specs.declared.op.Op.{Op as AnyOp};
 
-use crate::cursor::after;
-use crate::operand::{take_operand, take_run};
-use crate::verb::take_verb;
+use crate::operand::{take_caller, take_start};
+use crate::short::take_short_move;
+use crate::verb::{Verb, behind};
 use tc_entry::{Op, Run};
 
-#[inline(always)]
-fn take_op(text: &[u8]) -> Option<(Op, &[u8])>
-    ensures spelled { IfSome result (λ r. text.now ≡ op_text r.0 ++ r.1.now) }
-    ensures fits { IfSome result (λ r. IsOp r.0) }
-    ensures only { (op : AnyOp) (rest : List ℕ) → IsOp op → EndsMove rest → text.now ≡ op_text op ++ rest → MatchOption result ⊥ (λ r. (r.0 ≡ op) × (r.1.now ≡ rest)) }
+/// The Start that the text begins with, as a move, and what stands behind it.
+#[inline(never)]
+pub fn take_start_move(text: &[u8]) -> Option<((Run, Op), &[u8])>
+    ensures spelled { IfSome result (λ r. text.now ≡ move_text r.0.0.0 r.0.1 ++ r.1.now) }
+    ensures fits { IfSome result (λ r. (r.0.0.0 < 2 ^ 16) × IsOp r.0.1) }
+    ensures only { (run : ℕ) (op : AnyOp) (rest : List ℕ) → IsStart op → run < 2 ^ 16 → IsOp op → EndsMove rest
+        → text.now ≡ move_text run op ++ rest → Takes result (record { 0 = run }, op) rest }
 {
-    let (verb, rest) = take_verb(text)?;
-    take_operand(verb, rest)
+    let (caller, rest) = take_caller(text)?;
+    let rest = behind(rest, Verb::Start)?;
+    let (op, rest) = take_start(rest)?;
+    Some(((caller, op), rest))
 }
 
 /// The move that the text begins with, and what stands behind it.
@@ -24,14 +28,13 @@ fn take_op(text: &[u8]) -> Option<(Op, &[u8])>
 pub fn take_move(text: &[u8]) -> Option<((Run, Op), &[u8])>
     ensures spelled { IfSome result (λ r. text.now ≡ move_text r.0.0.0 r.0.1 ++ r.1.now) }
     ensures fits { IfSome result (λ r. (r.0.0.0 < 2 ^ 16) × IsOp r.0.1) }
-    ensures only { (run : ℕ) (op : AnyOp) (rest : List ℕ) → run < 2 ^ 16 → IsOp op → EndsMove rest → text.now ≡ move_text run op ++ rest → MatchOption result ⊥ (λ r. (r.0 ≡ (record { 0 = run }, op)) × (r.1.now ≡ rest)) }
+    ensures only { (run : ℕ) (op : AnyOp) (rest : List ℕ) → run < 2 ^ 16 → IsOp op → EndsMove rest → text.now ≡ move_text run op ++ rest
+        → Takes result (record { 0 = run }, op) rest }
 {
-    let (run, rest) = take_run(text)?;
-    let rest = after(rest, b" ")?;
-    let Some((op, rest)) = take_op(rest) else {
-        return None;
-    };
-    Some(((run, op), rest))
+    match take_short_move(text) {
+        Some(((caller, op), rest)) => Some(((caller, op.op()), rest)),
+        None => take_start_move(text),
+    }
 }
 
 /// The move that the text spells: the caller's run, and its operation. None where it spells none.

@@ -1,7 +1,7 @@
 //! Numbers in their one spelling: decimal digits with no leading zero.
-ghost use Rattle.std.specs.Prelude.{◌≡◌, ◌<◌, ◌≤◌, ◌+◌, ◌^◌, ◌++◌, ◌⊎◌, ℕ, List, true, false, length, drop, slice_index, Some, IfSome, IfNone, MatchOption};
+ghost use Rattle.std.specs.Prelude.{◌≡◌, ◌<◌, ◌≤◌, ◌+◌, ◌^◌, ◌++◌, ◌⊎◌, ℕ, List, true, false, length, drop, slice_index, Some, IfSome, IfNone};
 ghost use Rattle.std.specs.Fmt.{decimal};
-ghost use Rattle.tc_text.specs.Reading.{NoDigitFirst, EndsNumber};
+ghost use Rattle.tc_text.specs.Reading.{NoDigitFirst, EndsNumber, Takes};
 
 // The value of the digit at a place of the text, where there is one.
 #[inline(always)]
@@ -34,7 +34,7 @@ fn is_spelling(digits: &[u8]) -> bool
 pub fn take_number(text: &[u8]) -> Option<(u32, &[u8])>
     ensures spelled { IfSome result (λ r. text.now ≡ decimal r.0 ++ r.1.now) }
     ensures fits { IfSome result (λ r. r.0 < 2 ^ 32) }
-    ensures only { (n : ℕ) (rest : List ℕ) → n < 2 ^ 32 → EndsNumber rest → text.now ≡ decimal n ++ rest → MatchOption result ⊥ (λ r. (r.0 ≡ n) × (r.1.now ≡ rest)) }
+    ensures only { (n : ℕ) (rest : List ℕ) → n < 2 ^ 32 → EndsNumber rest → text.now ≡ decimal n ++ rest → Takes result n rest }
 {
     let mut number = 0u64;
     let mut end = 0;

@@ -1,28 +1,28 @@
 //! What operations are about.
-ghost use Rattle.std.specs.Prelude.{◌≡◌, ◌<◌, ◌≤◌, ◌+◌, ◌^◌, ◌++◌, ℕ, Bool, List, length, IfSome, MatchOption};
+ghost use Rattle.std.specs.Prelude.{◌≡◌, ◌<◌, ◌≤◌, ◌+◌, ◌^◌, ◌++◌, ℕ, Bool, List, codes, length, IfSome, MatchOption};
+ghost use Rattle.tc_entry.specs.declared.limits.TheConstants.{ARGUMENTS};
 ghost use Rattle.tc_verdict.specs.UserVerdict.{given};
 ghost use Rattle.tc_verdict.specs.Verdict.{name_of};
-ghost use Rattle.tc_text.specs.Spelling.{group_text, target_text, args_text, IsGroup, IsTarget, IsOp, AreComps};
-ghost use Rattle.tc_text.specs.Reading.{EndsNumber, EndsMove, kind_text, start_text, verb_of, operand_text};
+ghost use Rattle.tc_text.specs.Spelling.{group_text, target_text, args_text, IsGroup, IsTarget, IsOp, AreComps, kind_text, start_text, verb_of, operand_text};
+ghost use Rattle.tc_text.specs.Reading.{EndsNumber, EndsMove, Takes};
 ghost use Rattle.std.specs.Fmt.{decimal};
 ghost use Rattle.tc_verdict.specs.declared.user_verdict.UserVerdict.{UserVerdict as AnySetting};
 ghost use Rattle.tc_entry.specs.declared.op.Group.{Group as AnyGroup};
 ghost use Rattle.tc_entry.specs.declared.op.Target.{Target as AnyTarget};
-ghost use Rattle.tc_entry.specs.declared.op.Op.{Op as AnyOp};
+ghost use Rattle.tc_text.specs.declared.verb.Verb.TheVariants as words;
 ghost use Rattle.tc_entry.specs.declared.op.Op.TheVariants.{Start as AnyStart};
 ghost use Rattle.tc_entry.specs.declared.comp.Comp.{Comp as AnyComp};
 ghost use Rattle.tc_verdict.specs.declared.run.Run.{Run as AnyRun};
 
 use crate::cursor::after;
 use crate::number::take_number;
-use crate::verb::{Verb, about};
 use tc_entry::{Args, Comp, Group, Op, Run, Target, UserVerdict};
 
 #[inline(always)]
 pub(crate) fn take_group(text: &[u8]) -> Option<(Group, &[u8])>
     ensures spelled { IfSome result (λ r. text.now ≡ group_text r.0 ++ r.1.now) }
     ensures fits { IfSome result (λ r. IsGroup r.0) }
-    ensures only { (g : AnyGroup) (rest : List ℕ) → IsGroup g → EndsNumber rest → text.now ≡ group_text g ++ rest → MatchOption result ⊥ (λ r. (r.0 ≡ g) × (r.1.now ≡ rest)) }
+    ensures only { (g : AnyGroup) (rest : List ℕ) → IsGroup g → EndsNumber rest → text.now ≡ group_text g ++ rest → Takes result g rest }
 {
     if let Some((number, rest)) = take_number(text) {
         return Some((Group::One(Comp(number)), rest));
@@ -35,7 +35,7 @@ pub(crate) fn take_group(text: &[u8]) -> Option<(Group, &[u8])>
 pub(crate) fn take_target(text: &[u8]) -> Option<(Target, &[u8])>
     ensures spelled { IfSome result (λ r. text.now ≡ target_text r.0 ++ r.1.now) }
     ensures fits { IfSome result (λ r. IsTarget r.0) }
-    ensures only { (t : AnyTarget) (rest : List ℕ) → IsTarget t → EndsNumber rest → text.now ≡ target_text t ++ rest → MatchOption result ⊥ (λ r. (r.0 ≡ t) × (r.1.now ≡ rest)) }
+    ensures only { (t : AnyTarget) (rest : List ℕ) → IsTarget t → EndsNumber rest → text.now ≡ target_text t ++ rest → Takes result t rest }
 {
     if let Some((number, rest)) = take_number(text) {
         return Some((Target::One(Comp(number)), rest));
@@ -50,7 +50,7 @@ pub(crate) fn take_target(text: &[u8]) -> Option<(Target, &[u8])>
 #[inline(always)]
 pub(crate) fn take_setting(text: &[u8]) -> Option<(UserVerdict, &[u8])>
     ensures spelled { IfSome result (λ r. text.now ≡ name_of (given r.0) ++ r.1.now) }
-    ensures only { (v : AnySetting) (rest : List ℕ) → text.now ≡ name_of (given v) ++ rest → MatchOption result ⊥ (λ r. (r.0 ≡ v) × (r.1.now ≡ rest)) }
+    ensures only { (v : AnySetting) (rest : List ℕ) → text.now ≡ name_of (given v) ++ rest → Takes result v rest }
 {
     if let Some(rest) = after(text, b"none") {
         Some((UserVerdict::None, rest))
@@ -70,13 +70,26 @@ pub(crate) fn take_setting(text: &[u8]) -> Option<(UserVerdict, &[u8])>
 pub(crate) fn take_run(text: &[u8]) -> Option<(Run, &[u8])>
     ensures spelled { IfSome result (λ r. text.now ≡ decimal r.0.0 ++ r.1.now) }
     ensures fits { IfSome result (λ r. r.0.0 < 2 ^ 16) }
-    ensures only { (n : ℕ) (rest : List ℕ) → n < 2 ^ 16 → EndsNumber rest → text.now ≡ decimal n ++ rest → MatchOption result ⊥ (λ r. (r.0.0 ≡ n) × (r.1.now ≡ rest)) }
+    ensures only { (n : ℕ) (rest : List ℕ) → n < 2 ^ 16 → EndsNumber rest → text.now ≡ decimal n ++ rest
+        → MatchOption result ⊥ (λ r. (r.0.0 ≡ n) × (r.1.now ≡ rest)) }
 {
     let (number, rest) = take_number(text)?;
     match u16::try_from(number) {
         Ok(number) => Some((Run(number), rest)),
         Err(_) => None,
     }
+}
+
+/// The number of a run, and a space, that the text begins with, and what stands behind them.
+#[inline(always)]
+pub(crate) fn take_caller(text: &[u8]) -> Option<(Run, &[u8])>
+    ensures spelled { IfSome result (λ r. text.now ≡ decimal r.0.0 ++ (codes " " ++ r.1.now)) }
+    ensures fits { IfSome result (λ r. r.0.0 < 2 ^ 16) }
+    ensures only { (n : ℕ) (rest : List ℕ) → n < 2 ^ 16 → text.now ≡ decimal n ++ (codes " " ++ rest)
+        → MatchOption result ⊥ (λ r. (r.0.0 ≡ n) × (r.1.now ≡ rest)) }
+{
+    let (run, rest) = take_run(text)?;
+    Some((run, after(rest, b" ")?))
 }
 
 // Whether the component that is created is alive-type.
@@ -95,8 +108,9 @@ pub(crate) fn take_kind(text: &[u8]) -> (bool, &[u8])
 // stands behind them.
 fn take_args<'a>(args: &mut Args, text: &'a [u8]) -> &'a [u8]
     ensures spelled { (cs : List AnyComp) × (args.new ≡ args.old ++ cs) × AreComps cs × (text.now ≡ args_text cs ++ result.now) }
-    ensures few { length args.old ≤ 4 → length args.new ≤ 4 }
-    ensures only { (cs : List AnyComp) (rest : List ℕ) → AreComps cs → length args.old + length cs ≤ 4 → EndsMove rest → text.now ≡ args_text cs ++ rest → (args.new ≡ args.old ++ cs) × (result.now ≡ rest) }
+    ensures few { length args.old ≤ ARGUMENTS → length args.new ≤ ARGUMENTS }
+    ensures only { (cs : List AnyComp) (rest : List ℕ) → AreComps cs → length args.old + length cs ≤ ARGUMENTS → EndsMove rest
+        → text.now ≡ args_text cs ++ rest → (args.new ≡ args.old ++ cs) × (result.now ≡ rest) }
 {
     let Some(rest) = after(text, b" ") else {
         return text;
@@ -110,11 +124,12 @@ fn take_args<'a>(args: &mut Args, text: &'a [u8]) -> &'a [u8]
     take_args(args, rest)
 }
 
-#[inline(always)]
-fn take_start(text: &[u8]) -> Option<(Op, &[u8])>
-    ensures spelled { IfSome result (λ r. (verb_of r.0 ≡ Verb.Start) × (text.now ≡ operand_text r.0 ++ r.1.now)) }
+/// The Start that goes on as the text begins behind its first word, and what stands behind it.
+pub(crate) fn take_start(text: &[u8]) -> Option<(Op, &[u8])>
+    ensures spelled { IfSome result (λ r. (verb_of r.0 ≡ words.Start) × (text.now ≡ operand_text r.0 ++ r.1.now)) }
     ensures fits { IfSome result (λ r. IsOp r.0) }
-    ensures only { (c : AnyComp) (run : AnyRun) (args : List AnyComp) (rest : List ℕ) → IsOp (AnyStart c run args) → EndsMove rest → text.now ≡ start_text c run args ++ rest → MatchOption result ⊥ (λ r. (r.0 ≡ AnyStart c run args) × (r.1.now ≡ rest)) }
+    ensures only { (c : AnyComp) (run : AnyRun) (args : List AnyComp) (rest : List ℕ) → IsOp (AnyStart c run args) → EndsMove rest
+        → text.now ≡ start_text c run args ++ rest → Takes result (AnyStart c run args) rest }
 {
     let (comp, rest) = take_number(text)?;
     let rest = after(rest, b" ")?;
@@ -129,38 +144,4 @@ fn take_start(text: &[u8]) -> Option<(Op, &[u8])>
         },
         rest,
     ))
-}
-
-/// The operation that begins with these words and goes on as the text begins, and what stands behind it.
-#[inline(always)]
-pub(crate) fn take_operand(verb: Verb, text: &[u8]) -> Option<(Op, &[u8])>
-    ensures spelled { IfSome result (λ r. (verb_of r.0 ≡ verb) × (text.now ≡ operand_text r.0 ++ r.1.now)) }
-    ensures fits { IfSome result (λ r. IsOp r.0) }
-    ensures only { (op : AnyOp) (rest : List ℕ) → verb_of op ≡ verb → IsOp op → EndsMove rest → text.now ≡ operand_text op ++ rest → MatchOption result ⊥ (λ r. (r.0 ≡ op) × (r.1.now ≡ rest)) }
-{
-    match verb {
-        Verb::Create => {
-            let (alive, rest) = take_kind(text);
-            Some((Op::Create { alive }, rest))
-        }
-        Verb::Start => take_start(text),
-        Verb::Stop => {
-            let (group, rest) = take_group(text)?;
-            Some((Op::Stop(group), rest))
-        }
-        Verb::Kill => {
-            let (group, rest) = take_group(text)?;
-            Some((Op::Kill(group), rest))
-        }
-        Verb::Status(status) => {
-            let (target, rest) = take_target(text)?;
-            Some((about(status, target), rest))
-        }
-        Verb::SetVerdict => {
-            let (setting, rest) = take_setting(text)?;
-            Some((Op::SetVerdict(setting), rest))
-        }
-        Verb::GetVerdict => Some((Op::GetVerdict, text)),
-        Verb::Finish => Some((Op::Finish, text)),
-    }
 }

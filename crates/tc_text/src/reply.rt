@@ -1,8 +1,8 @@
 //! The texts of replies.
-ghost use Rattle.std.specs.Prelude.{◌≡◌, ◌++◌, ℕ, List, codes, slice_get, Some, IfSome, MatchOption, OnOk, OnErr};
+ghost use Rattle.std.specs.Prelude.{◌≡◌, ◌++◌, ℕ, List, codes, slice_get, Some, IfSome, OnOk, OnErr};
 ghost use Rattle.std.specs.Io.{StartsWith};
 ghost use Rattle.tc_text.specs.Spelling.{reply_text, fault_name, IsReply};
-ghost use Rattle.tc_text.specs.Reading.{EndsReply};
+ghost use Rattle.tc_text.specs.Reading.{EndsReply, Takes};
 ghost use Rattle.tc_entry.specs.declared.reply.Fault.{Fault as AnyFault};
 ghost use Rattle.tc_entry.specs.declared.reply.Reply.{Reply as AnyReply};
 
@@ -15,7 +15,7 @@ use tc_verdict::name;
 // The name of a dynamic error that the text begins with, and what stands behind it.
 fn take_fault(text: &[u8]) -> Option<(Fault, &[u8])>
     ensures spelled { IfSome result (λ r. text.now ≡ fault_name r.0 ++ r.1.now) }
-    ensures only { (f : AnyFault) (rest : List ℕ) → text.now ≡ fault_name f ++ rest → MatchOption result ⊥ (λ r. (r.0 ≡ f) × (r.1.now ≡ rest)) }
+    ensures only { (f : AnyFault) (rest : List ℕ) → text.now ≡ fault_name f ++ rest → Takes result f rest }
 {
     if let Some(rest) = after(text, b"no-component") {
         Some((Fault::NoComponent, rest))
@@ -43,7 +43,7 @@ fn take_fault(text: &[u8]) -> Option<(Fault, &[u8])>
 fn take_end_or_error(text: &[u8]) -> Option<(Reply, &[u8])>
     ensures spelled { IfSome result (λ r. text.now ≡ reply_text r.0 ++ r.1.now) }
     ensures fits { IfSome result (λ r. IsReply r.0) }
-    ensures only { (r : AnyReply) (rest : List ℕ) → slice_get text.now 0 ≡ Some 101 → EndsReply rest → text.now ≡ reply_text r ++ rest → MatchOption result ⊥ (λ x. (x.0 ≡ r) × (x.1.now ≡ rest)) }
+    ensures only { (r : AnyReply) (rest : List ℕ) → slice_get text.now 0 ≡ Some 101 → EndsReply rest → text.now ≡ reply_text r ++ rest → Takes result r rest }
 {
     if let Some(rest) = after(text, b"ended") {
         return Some((Reply::Ended, rest));
@@ -60,7 +60,7 @@ fn take_end_or_error(text: &[u8]) -> Option<(Reply, &[u8])>
 pub fn take_reply(text: &[u8]) -> Option<(Reply, &[u8])>
     ensures spelled { IfSome result (λ r. text.now ≡ reply_text r.0 ++ r.1.now) }
     ensures fits { IfSome result (λ r. IsReply r.0) }
-    ensures only { (r : AnyReply) (rest : List ℕ) → IsReply r → EndsReply rest → text.now ≡ reply_text r ++ rest → MatchOption result ⊥ (λ x. (x.0 ≡ r) × (x.1.now ≡ rest)) }
+    ensures only { (r : AnyReply) (rest : List ℕ) → IsReply r → EndsReply rest → text.now ≡ reply_text r ++ rest → Takes result r rest }
 {
     match *text.first()? {
         b'o' => Some((Reply::Ok, after(text, b"ok")?)),
@@ -104,7 +104,8 @@ pub fn read_reply(text: &[u8]) -> Option<Reply>
     if rest.is_empty() { Some(reply) } else { None }
 }
 
-fn name_of_fault(fault: Fault) -> &'static str
+/// The name of a dynamic error.
+pub fn name_of_fault(fault: Fault) -> &'static str
     ensures { result.now ≡ fault_name fault }
 {
     match fault {

@@ -1,11 +1,10 @@
 //! Operations without arguments, which are small.
 ghost use Rattle.std.specs.Prelude.{◌≡◌, ◌<◌, ◌^◌, ◌++◌, ℕ, List, IfSome, MatchOption};
-ghost use Rattle.tc_text.specs.Spelling.{op_text, move_text, IsOp};
-ghost use Rattle.tc_text.specs.Reading.{EndsMove, op_of, operand_text, verb_of};
+ghost use Rattle.tc_text.specs.Spelling.{IsOp, IsStart, move_text, op_text, operand_text, verb_of};
+ghost use Rattle.tc_text.specs.Reading.{EndsMove, op_of};
 ghost use Rattle.tc_entry.specs.declared.op.Op.{Op as AnyOp};
 
-use crate::cursor::after;
-use crate::operand::{take_group, take_kind, take_run, take_setting, take_target};
+use crate::operand::{take_caller, take_group, take_kind, take_setting, take_target};
 use crate::verb::{Status, Verb, about, take_verb};
 use tc_entry::{Group, Op, Run, Target, UserVerdict};
 
@@ -15,6 +14,7 @@ pub enum ShortOp {
     Create(bool),
     Stop(Group),
     Kill(Group),
+    StopCase,
     Status(Status, Target),
     SetVerdict(UserVerdict),
     GetVerdict,
@@ -31,6 +31,7 @@ impl ShortOp {
             ShortOp::Create(alive) => Op::Create { alive },
             ShortOp::Stop(group) => Op::Stop(group),
             ShortOp::Kill(group) => Op::Kill(group),
+            ShortOp::StopCase => Op::StopCase,
             ShortOp::Status(status, target) => about(status, target),
             ShortOp::SetVerdict(setting) => Op::SetVerdict(setting),
             ShortOp::GetVerdict => Op::GetVerdict,
@@ -44,7 +45,8 @@ impl ShortOp {
 fn take_short_operand(verb: Verb, text: &[u8]) -> Option<(ShortOp, &[u8])>
     ensures spelled { IfSome result (λ r. (verb_of (op_of r.0) ≡ verb) × (text.now ≡ operand_text (op_of r.0) ++ r.1.now)) }
     ensures fits { IfSome result (λ r. IsOp (op_of r.0)) }
-    ensures only { (op : AnyOp) (rest : List ℕ) → verb_of op ≡ verb → IsOp op → EndsMove rest → text.now ≡ operand_text op ++ rest → MatchOption result (verb_of op ≡ Verb.Start) (λ r. (op_of r.0 ≡ op) × (r.1.now ≡ rest)) }
+    ensures only { (op : AnyOp) (rest : List ℕ) → verb_of op ≡ verb → IsOp op → EndsMove rest → text.now ≡ operand_text op ++ rest
+        → MatchOption result (IsStart op) (λ r. (op_of r.0 ≡ op) × (r.1.now ≡ rest)) }
 {
     match verb {
         Verb::Create => {
@@ -60,6 +62,7 @@ fn take_short_operand(verb: Verb, text: &[u8]) -> Option<(ShortOp, &[u8])>
             let (group, rest) = take_group(text)?;
             Some((ShortOp::Kill(group), rest))
         }
+        Verb::StopCase => Some((ShortOp::StopCase, text)),
         Verb::Status(status) => {
             let (target, rest) = take_target(text)?;
             Some((ShortOp::Status(status, target), rest))
@@ -73,11 +76,13 @@ fn take_short_operand(verb: Verb, text: &[u8]) -> Option<(ShortOp, &[u8])>
     }
 }
 
+// The operation that the text begins with, and what stands behind it; None also where it is a Start.
 #[inline(always)]
 fn take_short_op(text: &[u8]) -> Option<(ShortOp, &[u8])>
     ensures spelled { IfSome result (λ r. text.now ≡ op_text (op_of r.0) ++ r.1.now) }
     ensures fits { IfSome result (λ r. IsOp (op_of r.0)) }
-    ensures only { (op : AnyOp) (rest : List ℕ) → IsOp op → EndsMove rest → text.now ≡ op_text op ++ rest → MatchOption result (verb_of op ≡ Verb.Start) (λ r. (op_of r.0 ≡ op) × (r.1.now ≡ rest)) }
+    ensures only { (op : AnyOp) (rest : List ℕ) → IsOp op → EndsMove rest → text.now ≡ op_text op ++ rest
+        → MatchOption result (IsStart op) (λ r. (op_of r.0 ≡ op) × (r.1.now ≡ rest)) }
 {
     let (verb, rest) = take_verb(text)?;
     take_short_operand(verb, rest)
@@ -88,10 +93,10 @@ fn take_short_op(text: &[u8]) -> Option<(ShortOp, &[u8])>
 pub fn take_short_move(text: &[u8]) -> Option<((Run, ShortOp), &[u8])>
     ensures spelled { IfSome result (λ r. text.now ≡ move_text r.0.0.0 (op_of r.0.1) ++ r.1.now) }
     ensures fits { IfSome result (λ r. (r.0.0.0 < 2 ^ 16) × IsOp (op_of r.0.1)) }
-    ensures only { (run : ℕ) (op : AnyOp) (rest : List ℕ) → run < 2 ^ 16 → IsOp op → EndsMove rest → text.now ≡ move_text run op ++ rest → MatchOption result (verb_of op ≡ Verb.Start) (λ r. (r.0.0.0 ≡ run) × (op_of r.0.1 ≡ op) × (r.1.now ≡ rest)) }
+    ensures only { (run : ℕ) (op : AnyOp) (rest : List ℕ) → run < 2 ^ 16 → IsOp op → EndsMove rest → text.now ≡ move_text run op ++ rest
+        → MatchOption result (IsStart op) (λ r. (r.0.0.0 ≡ run) × (op_of r.0.1 ≡ op) × (r.1.now ≡ rest)) }
 {
-    let (run, rest) = take_run(text)?;
-    let rest = after(rest, b" ")?;
+    let (caller, rest) = take_caller(text)?;
     let (op, rest) = take_short_op(rest)?;
-    Some(((run, op), rest))
+    Some(((caller, op), rest))
 }

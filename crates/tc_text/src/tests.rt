@@ -1,3 +1,4 @@
+//! Texts of moves, replies and lists of moves.
 use super::*;
 use std::process::Abort;
 use std::test::Fail;
@@ -116,6 +117,7 @@ fn operations_without_a_target(rt: HostRuntime) -> Result<(), NoMemory> {
         "2 setverdict fail",
     )?;
     is_spelled(&rt, out, 2, Op::GetVerdict, "2 getverdict")?;
+    is_spelled(&rt, out, 2, Op::StopCase, "2 stopcase")?;
     is_spelled(&rt, out, 2, Op::Finish, "2 finish")
 }
 
@@ -371,18 +373,46 @@ fn parts_are_taken(rt: HostRuntime) {
 }
 
 #[test]
-fn short_moves_are_taken(rt: HostRuntime) {
-    let short = ShortOp::Status(Status::WaitKilled, Target::Any);
+fn moves_are_taken(rt: HostRuntime) {
+    let wait = Op::Wait {
+        killed: true,
+        target: Target::Any,
+    };
     assert_eq!(rt;
-        take_short_move(b"3 wait killed any -> ok"),
-        Some(((Run(3), short), b" -> ok".as_slice()))
+        take_move(b"3 wait killed any -> ok"),
+        Some(((Run(3), wait), b" -> ok".as_slice()))
     );
-    assert!(rt;
-        short.op().same(&Op::Wait {
-            killed: true,
-            target: Target::Any
-        })
+    let start = Op::Start {
+        comp: Comp(1),
+        run: Run(2),
+        args: Args::new(),
+    };
+    assert_eq!(rt;
+        take_move(b"0 start 1 2\n"),
+        Some(((Run(0), start), b"\n".as_slice()))
     );
-    assert_eq!(rt; take_short_move(b"0 start 1 2 3"), None);
-    assert_eq!(rt; take_short_move(b"0 stop any"), None);
+    assert_eq!(rt; take_move(b"0 stop any"), None);
+}
+
+#[test]
+fn a_start_is_no_short_move(rt: HostRuntime) {
+    let mut args = Args::new();
+    assert!(rt; args.push(Comp(7)));
+    let start = Op::Start {
+        comp: Comp(1),
+        run: Run(2),
+        args,
+    };
+    assert_eq!(rt;
+        take_start_move(b"0 start 1 2 7 -> ok"),
+        Some(((Run(0), start), b" -> ok".as_slice()))
+    );
+    assert_eq!(rt; take_start_move(b"0 stop 1"), None);
+    assert_eq!(rt; take_short_move(b"0 start 1 2"), None);
+    let Some(((run, short), rest)) = take_short_move(b"5 create alive\n") else {
+        panic!(rt; "a create was not read")
+    };
+    assert_eq!(rt; run, Run(5));
+    assert_eq!(rt; short.op(), Op::Create { alive: true });
+    assert_eq!(rt; rest, b"\n".as_slice());
 }

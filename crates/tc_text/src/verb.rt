@@ -1,6 +1,7 @@
 //! The first words of operations.
-ghost use Rattle.std.specs.Prelude.{◌≡◌, ◌++◌, ℕ, List, IfSome, MatchOption};
-ghost use Rattle.tc_text.specs.Reading.{IsWait, status_op, status_text, verb_text};
+ghost use Rattle.std.specs.Prelude.{◌≡◌, ◌≢◌, ◌++◌, ℕ, List, IfSome, MatchOption};
+ghost use Rattle.tc_text.specs.Spelling.{status_text, verb_of, verb_text};
+ghost use Rattle.tc_text.specs.Reading.{IsWait, status_op, Takes};
 ghost use Rattle.tc_text.specs.declared.verb.Status.{Status as AnyStatus};
 ghost use Rattle.tc_text.specs.declared.verb.Verb.{Verb as AnyVerb};
 
@@ -27,10 +28,74 @@ pub(crate) enum Verb {
     Start,
     Stop,
     Kill,
+    StopCase,
     Status(Status),
     SetVerdict,
     GetVerdict,
     Finish,
+}
+
+impl Status {
+    /// The words.
+    #[inline]
+    pub(crate) fn text(self) -> &'static str
+        ensures { result.now ≡ status_text self }
+    {
+        match self {
+            Status::Running => "running ",
+            Status::Alive => "alive ",
+            Status::Done => "done ",
+            Status::Killed => "killed ",
+            Status::WaitDone => "wait done ",
+            Status::WaitKilled => "wait killed ",
+            Status::WakeDone => "wake done ",
+            Status::WakeKilled => "wake killed ",
+        }
+    }
+}
+
+impl Verb {
+    /// The words.
+    #[inline]
+    pub(crate) fn text(self) -> &'static str
+        ensures { result.now ≡ verb_text self }
+    {
+        match self {
+            Verb::Create => "create",
+            Verb::Start => "start ",
+            Verb::Stop => "stop ",
+            Verb::Kill => "kill ",
+            Verb::StopCase => "stopcase",
+            Verb::Status(status) => status.text(),
+            Verb::SetVerdict => "setverdict ",
+            Verb::GetVerdict => "getverdict",
+            Verb::Finish => "finish",
+        }
+    }
+
+    /// The first words of the operation.
+    pub(crate) fn of(op: &Op) -> Verb
+        ensures { result ≡ verb_of op.now }
+    {
+        match op {
+            Op::Create { .. } => Verb::Create,
+            Op::Start { .. } => Verb::Start,
+            Op::Stop(_) => Verb::Stop,
+            Op::Kill(_) => Verb::Kill,
+            Op::StopCase => Verb::StopCase,
+            Op::Running(_) => Verb::Status(Status::Running),
+            Op::Alive(_) => Verb::Status(Status::Alive),
+            Op::Done(_) => Verb::Status(Status::Done),
+            Op::Killed(_) => Verb::Status(Status::Killed),
+            Op::Wait { killed: false, .. } => Verb::Status(Status::WaitDone),
+            Op::Wait { killed: true, .. } => Verb::Status(Status::WaitKilled),
+            Op::Wake { killed: false, .. } => Verb::Status(Status::WakeDone),
+            Op::Wake { killed: true, .. } => Verb::Status(Status::WakeKilled),
+            Op::SetVerdict(_) => Verb::SetVerdict,
+            Op::GetVerdict => Verb::GetVerdict,
+            Op::Finish => Verb::Finish,
+        }
+    }
 }
 
 /// The operation that begins so and is about the target.
@@ -62,20 +127,37 @@ pub(crate) fn about(status: Status, target: Target) -> Op
     }
 }
 
+/// What stands behind the words, where the text begins with them.
+#[inline(always)]
+pub(crate) fn behind(text: &[u8], verb: Verb) -> Option<&[u8]>
+    ensures { MatchOption result ((rest : List ℕ) → text.now ≢ verb_text verb ++ rest) (λ rest. text.now ≡ verb_text verb ++ rest.now) }
+{
+    after(text, verb.text().as_bytes())
+}
+
+// The words, where the text begins with them, and what stands behind them.
+#[inline(always)]
+fn take_words(text: &[u8], verb: Verb) -> Option<(Verb, &[u8])>
+    ensures { MatchOption result ((rest : List ℕ) → text.now ≢ verb_text verb ++ rest) (λ r. (r.0 ≡ verb) × (text.now ≡ verb_text verb ++ r.1.now)) }
+{
+    Some((verb, behind(text, verb)?))
+}
+
 // The first words of the wait or the wake that the text begins with, and what stands behind them.
 #[inline(always)]
-fn take_wait(text: &[u8]) -> Option<(Status, &[u8])>
-    ensures spelled { IfSome result (λ r. text.now ≡ status_text r.0 ++ r.1.now) }
-    ensures only { (s : AnyStatus) (rest : List ℕ) → IsWait s → text.now ≡ status_text s ++ rest → MatchOption result ⊥ (λ r. (r.0 ≡ s) × (r.1.now ≡ rest)) }
+fn take_wait(text: &[u8]) -> Option<(Verb, &[u8])>
+    ensures spelled { IfSome result (λ r. text.now ≡ verb_text r.0 ++ r.1.now) }
+    ensures only { (s : AnyStatus) (rest : List ℕ) → IsWait s → text.now ≡ status_text s ++ rest
+        → Takes result (Verb.Status s) rest }
 {
-    if let Some(rest) = after(text, b"wait done ") {
-        Some((Status::WaitDone, rest))
-    } else if let Some(rest) = after(text, b"wait killed ") {
-        Some((Status::WaitKilled, rest))
-    } else if let Some(rest) = after(text, b"wake done ") {
-        Some((Status::WakeDone, rest))
-    } else if let Some(rest) = after(text, b"wake killed ") {
-        Some((Status::WakeKilled, rest))
+    if let Some(found) = take_words(text, Verb::Status(Status::WaitDone)) {
+        Some(found)
+    } else if let Some(found) = take_words(text, Verb::Status(Status::WaitKilled)) {
+        Some(found)
+    } else if let Some(found) = take_words(text, Verb::Status(Status::WakeDone)) {
+        Some(found)
+    } else if let Some(found) = take_words(text, Verb::Status(Status::WakeKilled)) {
+        Some(found)
     } else {
         None
     }
@@ -85,39 +167,34 @@ fn take_wait(text: &[u8]) -> Option<(Status, &[u8])>
 #[inline(always)]
 pub(crate) fn take_verb(text: &[u8]) -> Option<(Verb, &[u8])>
     ensures spelled { IfSome result (λ r. text.now ≡ verb_text r.0 ++ r.1.now) }
-    ensures only { (v : AnyVerb) (rest : List ℕ) → text.now ≡ verb_text v ++ rest → MatchOption result ⊥ (λ r. (r.0 ≡ v) × (r.1.now ≡ rest)) }
+    ensures only { (v : AnyVerb) (rest : List ℕ) → text.now ≡ verb_text v ++ rest → Takes result v rest }
 {
     match *text.first()? {
         b's' => {
-            if let Some(rest) = after(text, b"start ") {
-                Some((Verb::Start, rest))
-            } else if let Some(rest) = after(text, b"stop ") {
-                Some((Verb::Stop, rest))
-            } else if let Some(rest) = after(text, b"setverdict ") {
-                Some((Verb::SetVerdict, rest))
+            if let Some(found) = take_words(text, Verb::Start) {
+                Some(found)
+            } else if let Some(found) = take_words(text, Verb::Stop) {
+                Some(found)
+            } else if let Some(found) = take_words(text, Verb::StopCase) {
+                Some(found)
             } else {
-                None
+                take_words(text, Verb::SetVerdict)
             }
         }
         b'k' => {
-            if let Some(rest) = after(text, b"kill ") {
-                Some((Verb::Kill, rest))
-            } else if let Some(rest) = after(text, b"killed ") {
-                Some((Verb::Status(Status::Killed), rest))
+            if let Some(found) = take_words(text, Verb::Kill) {
+                Some(found)
             } else {
-                None
+                take_words(text, Verb::Status(Status::Killed))
             }
         }
-        b'w' => {
-            let (status, rest) = take_wait(text)?;
-            Some((Verb::Status(status), rest))
-        }
-        b'c' => Some((Verb::Create, after(text, b"create")?)),
-        b'r' => Some((Verb::Status(Status::Running), after(text, b"running ")?)),
-        b'a' => Some((Verb::Status(Status::Alive), after(text, b"alive ")?)),
-        b'd' => Some((Verb::Status(Status::Done), after(text, b"done ")?)),
-        b'g' => Some((Verb::GetVerdict, after(text, b"getverdict")?)),
-        b'f' => Some((Verb::Finish, after(text, b"finish")?)),
+        b'w' => take_wait(text),
+        b'c' => take_words(text, Verb::Create),
+        b'r' => take_words(text, Verb::Status(Status::Running)),
+        b'a' => take_words(text, Verb::Status(Status::Alive)),
+        b'd' => take_words(text, Verb::Status(Status::Done)),
+        b'g' => take_words(text, Verb::GetVerdict),
+        b'f' => take_words(text, Verb::Finish),
         _ => None,
     }
 }

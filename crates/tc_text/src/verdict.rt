@@ -1,7 +1,8 @@
 //! The names of verdicts in a text.
-ghost use Rattle.std.specs.Prelude.{◌≡◌, ◌++◌, ℕ, List, IfSome, MatchOption};
+ghost use Rattle.std.specs.Prelude.{◌≡◌, ◌++◌, ℕ, List, IfSome};
 ghost use Rattle.tc_verdict.specs.Verdict.{name_of};
 ghost use Rattle.tc_verdict.specs.declared.verdict.Verdict.{Verdict as AnyVerdict};
+ghost use Rattle.tc_text.specs.Reading.{Takes};
 
 use crate::cursor::after;
 use tc_entry::Verdict;
@@ -10,7 +11,7 @@ use tc_entry::Verdict;
 #[inline(always)]
 pub fn take_verdict(text: &[u8]) -> Option<(Verdict, &[u8])>
     ensures spelled { IfSome result (λ r. text.now ≡ name_of r.0 ++ r.1.now) }
-    ensures only { (v : AnyVerdict) (rest : List ℕ) → text.now ≡ name_of v ++ rest → MatchOption result ⊥ (λ r. (r.0 ≡ v) × (r.1.now ≡ rest)) }
+    ensures only { (v : AnyVerdict) (rest : List ℕ) → text.now ≡ name_of v ++ rest → Takes result v rest }
 {
     match *text.first()? {
         b'n' => Some((Verdict::None, after(text, b"none")?)),

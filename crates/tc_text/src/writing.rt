@@ -1,30 +1,27 @@
 //! Writing moves.
 ghost use Rattle.std.specs.Prelude.{◌≡◌, ◌++◌, OnOk, OnErr};
 ghost use Rattle.std.specs.Io.{StartsWith};
-ghost use Rattle.tc_text.specs.Spelling.{move_text, op_text, group_text, target_text, args_text};
+ghost use Rattle.tc_text.specs.Spelling.{move_text, op_text, operand_text, group_text, target_text, args_text};
 
 use crate::append::{append_number, append_text};
+use crate::verb::Verb;
 use tc_entry::{Comp, Group, NoMemory, Op, Run, Target};
 use tc_verdict::{from_user, name};
 
-// Appends the words, and then what the operation is about.
-fn append_group(out: &mut Vec<u8>, words: &str, group: Group) -> Result<(), NoMemory>
-    ensures ok { OnOk result (out.new.items ≡ out.old.items ++ (words.now ++ group_text group)) }
+fn append_group(out: &mut Vec<u8>, group: Group) -> Result<(), NoMemory>
+    ensures ok { OnOk result (out.new.items ≡ out.old.items ++ group_text group) }
     ensures err { OnErr result (StartsWith out.new.items out.old.items) }
 {
-    append_text(out, words)?;
     match group {
         Group::One(comp) => append_number(out, u64::from(comp.0)),
         Group::All => append_text(out, "all"),
     }
 }
 
-// Appends the words, and then what the operation is about.
-fn append_target(out: &mut Vec<u8>, words: &str, target: Target) -> Result<(), NoMemory>
-    ensures ok { OnOk result (out.new.items ≡ out.old.items ++ (words.now ++ target_text target)) }
+fn append_target(out: &mut Vec<u8>, target: Target) -> Result<(), NoMemory>
+    ensures ok { OnOk result (out.new.items ≡ out.old.items ++ target_text target) }
     ensures err { OnErr result (StartsWith out.new.items out.old.items) }
 {
-    append_text(out, words)?;
     match target {
         Target::One(comp) => append_number(out, u64::from(comp.0)),
         Target::Any => append_text(out, "any"),
@@ -44,50 +41,36 @@ fn append_args(out: &mut Vec<u8>, args: &[Comp]) -> Result<(), NoMemory>
     append_args(out, rest)
 }
 
-// Appends the spelling of the operation; where memory is refused, a part of it.
-fn append_op(out: &mut Vec<u8>, op: &Op) -> Result<(), NoMemory>
-    ensures ok { OnOk result (out.new.items ≡ out.old.items ++ op_text op.now) }
+// Appends what stands behind the first words of the operation; where memory is refused, a part of it.
+fn append_operand(out: &mut Vec<u8>, op: &Op) -> Result<(), NoMemory>
+    ensures ok { OnOk result (out.new.items ≡ out.old.items ++ operand_text op.now) }
     ensures err { OnErr result (StartsWith out.new.items out.old.items) }
 {
     match op {
-        Op::Create { alive: false } => append_text(out, "create"),
-        Op::Create { alive: true } => append_text(out, "create alive"),
+        Op::Create { alive: false } | Op::StopCase | Op::GetVerdict | Op::Finish => Ok(()),
+        Op::Create { alive: true } => append_text(out, " alive"),
         Op::Start { comp, run, args } => {
-            append_text(out, "start ")?;
             append_number(out, u64::from(comp.0))?;
             append_text(out, " ")?;
             append_number(out, u64::from(run.0))?;
             append_args(out, args.as_slice())
         }
-        Op::Stop(group) => append_group(out, "stop ", *group),
-        Op::Kill(group) => append_group(out, "kill ", *group),
-        Op::Running(target) => append_target(out, "running ", *target),
-        Op::Alive(target) => append_target(out, "alive ", *target),
-        Op::Done(target) => append_target(out, "done ", *target),
-        Op::Killed(target) => append_target(out, "killed ", *target),
-        Op::Wait {
-            killed: false,
-            target,
-        } => append_target(out, "wait done ", *target),
-        Op::Wait {
-            killed: true,
-            target,
-        } => append_target(out, "wait killed ", *target),
-        Op::Wake {
-            killed: false,
-            target,
-        } => append_target(out, "wake done ", *target),
-        Op::Wake {
-            killed: true,
-            target,
-        } => append_target(out, "wake killed ", *target),
-        Op::SetVerdict(verdict) => {
-            append_text(out, "setverdict ")?;
-            append_text(out, name(from_user(*verdict)))
+        Op::Stop(group) | Op::Kill(group) => append_group(out, *group),
+        Op::Running(target) | Op::Alive(target) | Op::Done(target) | Op::Killed(target) => {
+            append_target(out, *target)
         }
-        Op::GetVerdict => append_text(out, "getverdict"),
-        Op::Finish => append_text(out, "finish"),
+        Op::Wait { target, .. } | Op::Wake { target, .. } => append_target(out, *target),
+        Op::SetVerdict(verdict) => append_text(out, name(from_user(*verdict))),
     }
+}
+
+// Appends the spelling of the operation; where memory is refused, a part of it.
+fn append_op(out: &mut Vec<u8>, op: &Op) -> Result<(), NoMemory>
+    ensures ok { OnOk result (out.new.items ≡ out.old.items ++ op_text op.now) }
+    ensures err { OnErr result (StartsWith out.new.items out.old.items) }
+{
+    append_text(out, Verb::of(op).text())?;
+    append_operand(out, op)
 }
 
 // Appends the spelling of the move; where memory is refused, a part of it.

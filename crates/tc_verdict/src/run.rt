@@ -1,3 +1,4 @@
+//! A run, by its number.
 ghost use Rattle.std.specs.Prelude.{◌≡◌};
 
 /// A run, by its number: one behaviour of the test case. Run 0 is that of the main test component.

@@ -1,3 +1,4 @@
+//! Verdicts, their names and their ranks.
 use super::*;
 use std::test::Fail;
 
@@ -55,5 +56,6 @@ fn names_and_ranks_are_read_back(rt: HostRuntime) {
 fn text_of_a_refusal(rt: HostRuntime) -> Result<(), Fail> {
     let text = format!(in rt.alloc(); "{NoMemory}")?;
     assert_eq!(rt; text.as_str(), "no memory");
+    assert_eq!(rt; NoMemory.text(), "no memory");
     Ok(())
 }

@@ -1,3 +1,4 @@
+//! Verdicts and their order.
 ghost use Rattle.std.specs.Prelude.{◌≡◌, ◌≢◌, ◌≤◌, [], ◌∷◌, ℕ, Some, IfSome, All, Contains};
 ghost use Rattle.tc_verdict.specs.UserVerdict.{given};
 ghost use Rattle.tc_verdict.specs.Verdict as order;

@@ -1,7 +1,7 @@
 -- The results of the test cases that were made of a script are those of the script.
 use Rattle.std.proofs.Common.{ℕ, zero, suc, ◌≡◌, ◌∙◌, List, [], ◌∷◌, Option, Result, Ok, Err, IfOk, IfErr, All, length, map, take, arith, refl, sym, ap, subst, inr}
 use Rattle.std.proofs.lemmas.List.{length-map}
-use Rattle.std.proofs.lemmas.List.Elements.{All-nil, All-cons}
+use Rattle.std.proofs.lemmas.List.Elements.{All-nil, All-cons, All-tail}
 use Rattle.std.specs.List.{AllZip}
 use Rattle.std.specs.Vec.{vec_len}
 use Rattle.std.specs.Prelude.{IfSome, slice_get}
@@ -9,10 +9,13 @@ use Rattle.std.specs.Io.KnownBytes.{Appends}
 use Rattle.tc_script.specs.Campaign.{campaign}
 use Rattle.tc_verdict.specs.declared.verdict.Verdict.{Verdict}
 use Rattle.tc_step.specs.Steps.{ScriptView}
-use Rattle.tc_behaviour.specs.Acts.{Acts}
+use Rattle.tc_behaviour.specs.Acts.{Acts, MakesItsCalls}
+use Rattle.tc_behaviour.proofs.Running.{run_grown}
+use Rattle.tc_behaviour.proofs.Spelled.{are_called, made_of_calls}
+use Rattle.tc_script.specs.Law.{IsCase}
 use Rattle.tc_book.specs.Passes.{PassState}
 use Rattle.tc_exec.specs.declared.job.Back.{Back}
-use Rattle.tc_exec.specs.Case.{AreCalled, IsMadeOf}
+use Rattle.tc_exec.specs.Case.{IsMadeOf}
 use Rattle.tc_exec.proofs.Logs.{logs_by}
 use Rattle.tc_report.specs.declared.results.Finished.{Finished}
 use Rattle.tc_report.specs.declared.results.Results.{Results}
@@ -27,6 +30,7 @@ use Rattle.ttrun.specs.Limits.{HasAtMost, script_limit}
 use Rattle.ttrun.specs.Give.{text_of, LeavesUnwritten}
 use Rattle.ttrun.specs.Run.{AreResults, IsRuleOf, IsRun, IsUnwritten}
 use Rattle.ttrun.specs.Program.{RunsScript, RefusesScriptRun}
+use Rattle.ttrun.specs.Streams.{Streams}
 use Rattle.ttrun.specs.Scripted.{CaseView, IsCaseOf, IsScripted, names_of, scripts_of, script_outline}
 
 count : (c : CaseView) (k : Case ScriptView) → IsCaseOf c k → vec_len k.jobs ≡ length c.1
@@ -54,62 +58,77 @@ outlines (c ∷ cs) [] each = absurd each
 outlines (c ∷ cs) (k ∷ ks) each = ap (λ o. o ∷ map outline_of ks) (same_outline c k each.0) ∙ ap (λ os. script_outline c ∷ os) (outlines cs ks each.1)
 
 -- a script hands back the pass of its own run
-own : (s : ScriptView) (p : PassState) (k : Back) → Acts s p k → k.pass.run ≡ p.run
-own s p k acts = ap (λ q. q.run) acts.grown.1
+own : (s : ScriptView) (p : PassState) (k : Back) → MakesItsCalls s p k → k.pass.run ≡ p.run
+own s p k is = ap (λ q. q.run) (run_grown s.steps p k.pass k.ending is.calls).1
 
-of_script : (c : CaseView) (k : Case ScriptView) (f : Finished) → IsCaseOf c k → IsReported (script_outline c) f → IsCalled Acts k f → IsScripted c f
-of_script c k f is report called =
-    let moved : AreCalled Acts (scripts_of c.1) f.report × IsMadeOf Acts (scripts_of c.1) f.report = subst (λ js. AreCalled Acts js f.report × IsMadeOf Acts js f.report) is.jobs called in
-    (moved.0, moved.1, logs_by Acts own f.report (scripts_of c.1) report.one_history (report.behaviours ∙ sym (length-map c.1 (λ b. b.1))) moved.1)
+of_script : (c : CaseView) (k : Case ScriptView) (f : Finished) → IsCase c.1 → IsCaseOf c k → IsReported (script_outline c) f → IsCalled Acts k f → IsScripted c f
+of_script c k f lawful is report called =
+    let made : IsMadeOf Acts (scripts_of c.1) f.report = subst (λ js. IsMadeOf Acts js f.report) is.jobs called.1 in
+    let calls : IsMadeOf MakesItsCalls (scripts_of c.1) f.report = made_of_calls c.1 f.report lawful report.one_history report.behaviours made in (
+      are_called c.1 f.report lawful report.one_history report.behaviours made,
+      calls,
+      logs_by MakesItsCalls own f.report (scripts_of c.1) report.one_history (report.behaviours ∙ sym (length-map c.1 (λ b. b.1))) calls,
+    )
 
-scripted : (n : ℕ) (cs : List CaseView) (ks : List (Case ScriptView)) (fs : List Finished) → AllZip IsCaseOf cs ks
+scripted : (n : ℕ) (cs : List CaseView) (ks : List (Case ScriptView)) (fs : List Finished) → All (λ c. IsCase c.1) cs → AllZip IsCaseOf cs ks
     → AllZip IsReported (take n (map script_outline cs)) fs → AllZip (IsCalled Acts) (take n ks) fs → AllZip IsScripted (take n cs) fs
-scripted zero cs ks [] each reports called = tt
-scripted zero cs ks (f ∷ fs) each reports called = absurd called
-scripted (suc n) [] [] [] each reports called = tt
-scripted (suc n) [] [] (f ∷ fs) each reports called = absurd called
-scripted (suc n) [] (k ∷ ks) fs each reports called = absurd each
-scripted (suc n) (c ∷ cs) [] fs each reports called = absurd each
-scripted (suc n) (c ∷ cs) (k ∷ ks) [] each reports called = absurd called
-scripted (suc n) (c ∷ cs) (k ∷ ks) (f ∷ fs) each reports called = (of_script c k f each.0 reports.0 called.0, scripted n cs ks fs each.1 reports.1 called.1)
+scripted zero cs ks [] lawful each reports called = tt
+scripted zero cs ks (f ∷ fs) lawful each reports called = absurd called
+scripted (suc n) [] [] [] lawful each reports called = tt
+scripted (suc n) [] [] (f ∷ fs) lawful each reports called = absurd called
+scripted (suc n) [] (k ∷ ks) fs lawful each reports called = absurd each
+scripted (suc n) (c ∷ cs) [] fs lawful each reports called = absurd each
+scripted (suc n) (c ∷ cs) (k ∷ ks) [] lawful each reports called = absurd called
+scripted (suc n) (c ∷ cs) (k ∷ ks) (f ∷ fs) lawful each reports called =
+    (of_script c k f (lawful 0 c (omega arith)) each.0 reports.0 called.0, scripted n cs ks fs (All-tail (λ c. IsCase c.1) c cs lawful) each.1 reports.1 called.1)
 
 -- right results of the test cases are right results of the script
-pub results : (cs : List CaseView) (ks : List (Case ScriptView)) (stop_on : Option Verdict) (r : Results) → AllZip IsCaseOf cs ks
+pub results : (cs : List CaseView) (ks : List (Case ScriptView)) (stop_on : Option Verdict) (r : Results) → All (λ c. IsCase c.1) cs → AllZip IsCaseOf cs ks
     → AreResults outline_of (IsCalled Acts) ks stop_on r → AreResults script_outline IsScripted cs stop_on r
-results cs ks stop_on r each are =
+results cs ks stop_on r lawful each are =
     let same = outlines cs ks each in
     let reports : AllZip IsReported (take (length r.finished) (map script_outline cs)) r.finished = subst (λ os. AllZip IsReported (take (length r.finished) os) r.finished) same are.reports in
     record {
       right = subst (λ os. IsRight os stop_on r) same are.right;
       reports = reports;
-      calls = scripted (length r.finished) cs ks r.finished each reports are.calls;
+      calls = scripted (length r.finished) cs ks r.finished lawful each reports are.calls;
       names = are.names;
       behaviours = are.behaviours;
       why = subst (λ os. IsWhy (slice_get os (length r.finished)) r.ending) same are.why;
     }
 
 -- a run of the test cases that were made of the script of an input is a run of that script
-pub run_done : (form : Form) (word input : Option (List ℕ)) (cs : List CaseView) (ks : List (Case ScriptView)) (options : Options) (before after untold told : Option (List ℕ)) (r : Result Outcome RunFault)
-    → IfSome input (λ text. campaign text ≡ Ok cs) → HasAtMost script_limit input → IsRuleOf word options.stop_on → options.form ≡ form → AllZip IsCaseOf cs ks
-    → IfOk r (IsRun outline_of (IsCalled Acts) ks options before after untold told) → IfOk r (RunsScript form word input before after untold told)
-run_done form word input cs ks options before after untold told (Err fault) spelled fits named same each run = tt
-run_done form word input cs ks options before after untold told (Ok outcome) spelled fits named same each run = record {
+pub run_done : (form : Form) (word input : Option (List ℕ)) (cs : List CaseView) (ks : List (Case ScriptView)) (options : Options) (streams : Streams) (r : Result Outcome RunFault)
+    → IfSome input (λ text. campaign text ≡ Ok cs) → All (λ c. IsCase c.1) cs → HasAtMost script_limit input → IsRuleOf word options.stop_on → options.form ≡ form → AllZip IsCaseOf cs ks
+    → IfOk r (IsRun outline_of (IsCalled Acts) ks options streams) → IfOk r (RunsScript form word input streams)
+run_done form word input cs ks options streams (Err fault) spelled lawful fits named same each run = tt
+run_done form word input cs ks options streams (Ok outcome) spelled lawful fits named same each run = record {
   cases = cs;
   rule = options.stop_on;
   spelled = spelled;
   fits = fits;
   named = named;
-  run = (run.0, results cs ks options.stop_on run.0 each run.1, run.2, subst (λ f. Appends before after (text_of f run.0)) same run.3, run.4);
+  run = record {
+    results = run.results;
+    right = results cs ks options.stop_on run.results lawful each run.right;
+    status = run.status;
+    written = subst (λ f. Appends streams.before streams.after (text_of f run.results)) same run.written;
+    told = run.told;
+  };
 }
 
 pub run_refused : (form : Form) (word input : Option (List ℕ)) (cs : List CaseView) (ks : List (Case ScriptView)) (options : Options) (before after : Option (List ℕ)) (r : Result Outcome RunFault)
-    → IfSome input (λ text. campaign text ≡ Ok cs) → IsRuleOf word options.stop_on → options.form ≡ form → AllZip IsCaseOf cs ks
+    → IfSome input (λ text. campaign text ≡ Ok cs) → All (λ c. IsCase c.1) cs → IsRuleOf word options.stop_on → options.form ≡ form → AllZip IsCaseOf cs ks
     → IfErr r (IsUnwritten outline_of (IsCalled Acts) ks options before after) → IfErr r (RefusesScriptRun form word input before after)
-run_refused form word input cs ks options before after (Ok outcome) spelled named same each run = tt
-run_refused form word input cs ks options before after (Err fault) spelled named same each run = inr (record {
+run_refused form word input cs ks options before after (Ok outcome) spelled lawful named same each run = tt
+run_refused form word input cs ks options before after (Err fault) spelled lawful named same each run = inr (record {
   cases = cs;
   rule = options.stop_on;
   spelled = spelled;
   named = named;
-  run = (run.0, results cs ks options.stop_on run.0 each run.1, subst (λ f. LeavesUnwritten before after (text_of f run.0) fault) same run.2);
+  run = record {
+    results = run.results;
+    right = results cs ks options.stop_on run.results lawful each run.right;
+    left = subst (λ f. LeavesUnwritten before after (text_of f run.results) fault) same run.left;
+  };
 })

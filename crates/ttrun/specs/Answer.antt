@@ -14,6 +14,7 @@ use Rattle.ttrun.specs.declared.fault.RunFault.{RunFault}
 use Rattle.ttrun.specs.declared.fault.RunFault.TheVariants as F
 use Rattle.ttrun.specs.declared.outcome.Outcome.{Outcome}
 use Rattle.ttrun.specs.Program.{IsCarriedOut}
+use Rattle.ttrun.specs.Streams.{Streams}
 use Rattle.ttrun.specs.Tell.{IsRefusal, IsSilent, IsTold}
 
 -- by this answer some text was written
@@ -25,10 +26,10 @@ abbrev pub IsMistake : ErrorKind → Type 0
 IsMistake kind = (kind ≢ Kinds.DisplayHelp) × (kind ≢ Kinds.DisplayVersion)
 
 -- help was asked for: its text was written and the status is 0, or the fault of the writer or the memory is told
-abbrev pub IsHelped : Option (List ℕ) → Option (List ℕ) → Option (List ℕ) → Option (List ℕ) → Outcome → Type 0
-IsHelped before after untold told outcome =
-    (shown : Result (Unit {0}) RunFault) × ShowsText before after shown
-    × IfOk shown (λ _. IsSilent untold told outcome 0) × IfErr shown (IsRefusal untold told outcome)
+abbrev pub IsHelped : Streams → Outcome → Type 0
+IsHelped s outcome =
+    (shown : Result (Unit {0}) RunFault) × ShowsText s.before s.after shown
+    × IfOk shown (λ _. IsSilent s.untold s.told outcome 0) × IfErr shown (IsRefusal s.untold s.told outcome)
 
 -- the words are refused with the status 3, and some text says why on standard error
 abbrev pub IsRefusedLine : Option (List ℕ) → Option (List ℕ) → Outcome → Type 0
@@ -45,11 +46,11 @@ IsUnread kind untold told outcome = (outcome.status ≡ 3) × IsTold untold told
 
 -- What the words are read as is what they ask for by the rules of the command line. They are a task, which was carried out; or they ask
 -- for no task: help or a refusal was shown, and the input was not read. For refused words nothing was written.
-pub record IsAnswered (words : List (List ℕ)) (input before after untold told : Option (List ℕ)) (Unread Unwritten : Type 0) (outcome : Outcome) : Type 0 where
+pub record IsAnswered (words : List (List ℕ)) (input : Option (List ℕ)) (streams : Streams) (Unread Unwritten : Type 0) (outcome : Outcome) : Type 0 where
   pub answer : Result Task Error
   pub asked : IfOk answer (λ task. asked_by (subcommand_of ttrun words) ≡ Some (asked_of task))
   pub refused : FailsBy (faults words) answer
-  pub task : IfOk answer (λ task. IsCarriedOut task input before after untold told outcome)
-  pub help : IfErr answer (λ error. kind_of error ≡ Kinds.DisplayHelp → IsHelped before after untold told outcome)
-  pub mistake : IfErr answer (λ error. IsMistake (kind_of error) → IsRefusedLine untold told outcome × Unwritten)
+  pub task : IfOk answer (λ task. IsCarriedOut task input streams outcome)
+  pub help : IfErr answer (λ error. kind_of error ≡ Kinds.DisplayHelp → IsHelped streams outcome)
+  pub mistake : IfErr answer (λ error. IsMistake (kind_of error) → IsRefusedLine streams.untold streams.told outcome × Unwritten)
   pub unread : OnErr answer Unread

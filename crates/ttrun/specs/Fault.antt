@@ -4,6 +4,8 @@ use Rattle.std.specs.Fmt.{decimal}
 use Rattle.std.specs.Io.KnownBytes.{Keeps}
 use Rattle.tc_stream.specs.declared.input.InputFault.{InputFault}
 use Rattle.tc_stream.specs.declared.input.InputFault.TheVariants as I
+use Rattle.tc_stream.specs.Fault.{input_text, write_text}
+use Rattle.tc_verdict.specs.Words.{memory_text}
 use Rattle.tc_text.specs.declared.fault.TextFault.{TextFault}
 use Rattle.tc_text.specs.declared.fault.TextFault.TheVariants as T
 use Rattle.tc_text.specs.MoveList.{IsListFault}
@@ -18,6 +20,11 @@ abbrev pub of_input : InputFault → RunFault
 of_input I.TooLong = F.TooLong
 of_input I.Read = F.Read
 of_input I.NoMemory = F.NoMemory
+
+-- the fault for a text that was refused
+abbrev pub of_text : TextFault → RunFault
+of_text (T.At line kind) = F.Text (T.At line kind)
+of_text T.NoMemory = F.NoMemory
 
 -- what a fault says of a text that was read and is refused; want of memory says nothing
 abbrev pub RefusesText : List ℕ → RunFault → Type 0
@@ -48,12 +55,12 @@ line_number F.StopOn = None
 
 -- the words that name a fault
 abbrev pub words_of : RunFault → List ℕ
-words_of F.TooLong = codes "input too long"
-words_of F.Read = codes "read fault"
-words_of F.Write = codes "write fault"
-words_of F.NoMemory = codes "no memory"
+words_of F.TooLong = input_text I.TooLong
+words_of F.Read = input_text I.Read
+words_of F.Write = write_text
+words_of F.NoMemory = memory_text
 words_of (F.Text (T.At line kind)) = kind_text kind
-words_of (F.Text T.NoMemory) = codes "no memory"
+words_of (F.Text T.NoMemory) = memory_text
 words_of (F.Script fault) = script_kind_text fault.kind
 words_of F.StopOn = codes "--stop-on takes none, pass, inconc, fail or error"
 

@@ -1,6 +1,8 @@
+-- The definitions that the contracts of this crate cite.
 pub mod Replay
 pub mod Fault
 pub mod Output
+pub mod Streams
 pub mod Give
 pub mod Limits
 pub mod Tell

@@ -17,19 +17,20 @@ use Rattle.ttrun.specs.Replay.{Replays}
 use Rattle.ttrun.specs.Check.{IsChecked}
 use Rattle.ttrun.specs.Run.{bytes_of, IsNoName, IsRuleOf, RefusesRun, IsRun, IsUnwritten}
 use Rattle.ttrun.specs.Scripted.{script_outline, IsScripted}
+use Rattle.ttrun.specs.Streams.{Streams}
 use Rattle.ttrun.specs.Tell.{IsRefusal, IsSilent}
 use Rattle.ttrun.specs.WrittenHistories.{FindsWrittenLegal}
 
 -- The campaign that the input spells was run under the rule that the word names: its right results were written in this form,
 -- and their status and the line of an aborted campaign are those of the outcome. Each report is of the test case at its place,
 -- and made of what its scripts do.
-pub record RunsScript (form : Form) (word input before after untold told : Option (List ℕ)) (outcome : Outcome) : Type 0 where
+pub record RunsScript (form : Form) (word input : Option (List ℕ)) (streams : Streams) (outcome : Outcome) : Type 0 where
   pub cases : CampaignView
   pub rule : Option Verdict
   pub spelled : IfSome input (λ text. campaign text ≡ Ok cases)
   pub fits : HasAtMost script_limit input
   pub named : IsRuleOf word rule
-  pub run : IsRun script_outline IsScripted cases (record { stop_on = rule; form = form }) before after untold told outcome
+  pub run : IsRun script_outline IsScripted cases (record { stop_on = rule; form = form }) streams outcome
 
 -- the campaign that the input spells was run so, and its right results were not written whole
 pub record LeavesRun (form : Form) (word input before after : Option (List ℕ)) (fault : RunFault) : Type 0 where
@@ -58,26 +59,24 @@ pub record AnswersCheck (input before after : Option (List ℕ)) (answer : Resul
   pub written : FindsWrittenLegal input before after answer
 
 -- what `run` answers
-pub record AnswersRun (form : Form) (word input before after untold told : Option (List ℕ)) (answer : Result Outcome RunFault) : Type 0 where
-  pub done : IfOk answer (RunsScript form word input before after untold told)
-  pub refused : IfErr answer (RefusesScriptRun form word input before after)
+pub record AnswersRun (form : Form) (word input : Option (List ℕ)) (streams : Streams) (answer : Result Outcome RunFault) : Type 0 where
+  pub done : IfOk answer (RunsScript form word input streams)
+  pub refused : IfErr answer (RefusesScriptRun form word input streams.before streams.after)
 
 -- a task was carried out with such an answer: what is done has such an outcome, and a fault is told and has the status 3
-pub record Ends {T : Type 0} (IsAnswer : Result T RunFault → Type 0) (IsOutcome : T → Type 0) (untold told : Option (List ℕ)) (outcome : Outcome) : Type 0 where
+pub record Ends {T : Type 0} (IsAnswer : Result T RunFault → Type 0) (IsOutcome : T → Type 0) (streams : Streams) (outcome : Outcome) : Type 0 where
   pub answer : Result T RunFault
   pub answered : IsAnswer answer
   pub done : IfOk answer IsOutcome
-  pub refused : IfErr answer (IsRefusal untold told outcome)
+  pub refused : IfErr answer (IsRefusal streams.untold streams.told outcome)
 
 -- what the program does with a task: to what it has read of its input, what it writes, what it tells, and its outcome
-abbrev pub IsCarriedOut : Task → Option (List ℕ) → Option (List ℕ) → Option (List ℕ) → Option (List ℕ) → Option (List ℕ) → Outcome → Type 0
-IsCarriedOut T.Replay input before after untold told outcome =
-    Ends (AnswersReplay input before after) (IsSilent untold told outcome) untold told outcome
-IsCarriedOut T.Check input before after untold told outcome =
-    Ends (AnswersCheck input before after) (IsSilent untold told outcome) untold told outcome
-IsCarriedOut (T.Run form word) input before after untold told outcome =
+abbrev pub IsCarriedOut : Task → Option (List ℕ) → Streams → Outcome → Type 0
+IsCarriedOut T.Replay input s outcome = Ends (AnswersReplay input s.before s.after) (IsSilent s.untold s.told outcome) s outcome
+IsCarriedOut T.Check input s outcome = Ends (AnswersCheck input s.before s.after) (IsSilent s.untold s.told outcome) s outcome
+IsCarriedOut (T.Run form word) input s outcome =
     let word : Option (List ℕ) = bytes_of (λ w. w.now) word in
-    Ends (AnswersRun form word input before after untold told) (λ ran. outcome ≡ ran) untold told outcome
+    Ends (AnswersRun form word input s) (λ ran. outcome ≡ ran) s outcome
 
 -- the task is a run, and its word names no verdict
 abbrev pub HasNoRule : Task → Type 0

@@ -16,6 +16,7 @@ use Rattle.ttrun.specs.declared.fault.RunFault.TheVariants as F
 use Rattle.ttrun.specs.declared.outcome.Outcome.{Outcome}
 use Rattle.ttrun.specs.Give.{text_of, LeavesUnwritten}
 use Rattle.ttrun.specs.Script.{RefusesScript}
+use Rattle.ttrun.specs.Streams.{Streams}
 use Rattle.ttrun.specs.Tell.{IsTold}
 
 -- the bytes of a word, where there is one
@@ -48,25 +49,31 @@ RefusesWord word fault = ⊥
 abbrev pub RefusesRun : Option (List ℕ) → ℕ → Option (List ℕ) → RunFault → Type 0
 RefusesRun word limit input fault = RefusesWord word fault ⊎ (HasRule word × RefusesScript limit input fault)
 
--- the results of a run of these cases under this stopping rule
-pub record AreResults {C : Type 0} (outline : C → Outline) (called : C → Finished → Type 0) (cases : List C) (stop_on : Option Verdict) (r : Results) : Type 0 where
-  pub right : IsRight (map outline cases) stop_on r
-  -- each report is of a case with as many behaviours, whose jobs were called
-  pub reports : AllZip IsReported (take (length r.finished) (map outline cases)) r.finished
-  pub calls : AllZip called (take (length r.finished) cases) r.finished
-  pub names : All IsNamed r.finished
-  pub behaviours : All HasBehaviours r.finished
-  pub why : IsWhy (slice_get (map outline cases) (length r.finished)) r.ending
+module _ {C : Type 0} (outline : C → Outline) (called : C → Finished → Type 0) where
+  -- the results of a run of these cases under this stopping rule
+  pub record AreResults (cases : List C) (stop_on : Option Verdict) (r : Results) : Type 0 where
+    pub right : IsRight (map outline cases) stop_on r
+    -- each report is of a case with as many behaviours, whose jobs were called
+    pub reports : AllZip IsReported (take (length r.finished) (map outline cases)) r.finished
+    pub calls : AllZip called (take (length r.finished) cases) r.finished
+    pub names : All IsNamed r.finished
+    pub behaviours : All HasBehaviours r.finished
+    pub why : IsWhy (slice_get (map outline cases) (length r.finished)) r.ending
 
--- The text of the results of these cases under these options was written, and the outcome has their status. The line for a
--- campaign that was aborted was told, as the outcome says; for another nothing was.
-abbrev pub IsRun : {C : Type 0} → (C → Outline) → (C → Finished → Type 0) → List C → Options →
-    Option (List ℕ) → Option (List ℕ) → Option (List ℕ) → Option (List ℕ) → Outcome → Type 0
-IsRun outline called cases options before after untold told outcome =
-    (r : Results) × AreResults outline called cases options.stop_on r × (outcome.status ≡ results_status r) × Appends before after (text_of options.form r)
-    × IsTold untold told (abort_text r.ending) outcome.told
+module _ {C : Type 0} (outline : C → Outline) (called : C → Finished → Type 0) (cases : List C) (options : Options) where
+  -- these cases were run under these options, and the results were given
+  pub record IsRun (streams : Streams) (outcome : Outcome) : Type 0 where
+    pub results : Results
+    pub right : AreResults outline called cases options.stop_on results
+    -- the outcome has their status
+    pub status : outcome.status ≡ results_status results
+    -- their text was written in the form asked for
+    pub written : Appends streams.before streams.after (text_of options.form results)
+    -- the line for a campaign that was aborted was told, as the outcome says; for another nothing was
+    pub told : IsTold streams.untold streams.told (abort_text results.ending) outcome.told
 
--- the text of the results of these cases under these options was not written whole
-abbrev pub IsUnwritten : {C : Type 0} → (C → Outline) → (C → Finished → Type 0) → List C → Options → Option (List ℕ) → Option (List ℕ) → RunFault → Type 0
-IsUnwritten outline called cases options before after fault =
-    (r : Results) × AreResults outline called cases options.stop_on r × LeavesUnwritten before after (text_of options.form r) fault
+  -- these cases were run under these options, and the text of the results was not written whole
+  pub record IsUnwritten (before after : Option (List ℕ)) (fault : RunFault) : Type 0 where
+    pub results : Results
+    pub right : AreResults outline called cases options.stop_on results
+    pub left : LeavesUnwritten before after (text_of options.form results) fault

@@ -3,7 +3,7 @@ use Rattle.std.specs.Prelude.{◌≡◌, List, length, map}
 use Rattle.tc_step.specs.Steps.{ScriptView}
 use Rattle.tc_exec.specs.Case.{AreCalled, IsMadeOf}
 use Rattle.tc_exec.specs.Logs.{AreLogsBy}
-use Rattle.tc_behaviour.specs.Acts.{Acts}
+use Rattle.tc_behaviour.specs.Acts.{MakesItsCalls}
 use Rattle.tc_script.specs.Names.{Word}
 use Rattle.tc_report.specs.declared.results.Finished.{Finished}
 use Rattle.tc_campaign.specs.declared.case.Case.{Case}
@@ -28,7 +28,8 @@ pub record IsCaseOf (c : CaseView) (ready : Case ScriptView) : Type 0 where
 abbrev pub script_outline : CaseView → Outline
 script_outline c = record { name = c.0; names = names_of c.1; jobs = length c.1 }
 
--- each behaviour of which the run was started did what its script does with a new pass of that run, the report is made of what these
--- passes have logged, and each of its logs is that of the script of its run
+-- each behaviour of which the run was started got as many arguments as its script has parameters, and made the calls of its steps with a new
+-- pass of that run; the report is made of what these passes have logged, and each of its logs is that of the script of its run
 abbrev pub IsScripted : CaseView → Finished → Type 0
-IsScripted c f = AreCalled Acts (scripts_of c.1) f.report × IsMadeOf Acts (scripts_of c.1) f.report × AreLogsBy Acts (scripts_of c.1) f.report
+IsScripted c f =
+    AreCalled MakesItsCalls (scripts_of c.1) f.report × IsMadeOf MakesItsCalls (scripts_of c.1) f.report × AreLogsBy MakesItsCalls (scripts_of c.1) f.report

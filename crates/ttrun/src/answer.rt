@@ -36,7 +36,7 @@ pub fn answer_no_task<W: Write, E: Write>(
     errors: &mut E,
 ) -> Outcome
     ensures help { kind_of error.now ≡ DisplayHelp → IsHelped
-        (W.contents writer.old) (W.contents writer.new) (E.contents errors.old) (E.contents errors.new) result }
+        (record { before = W.contents writer.old; after = W.contents writer.new; untold = E.contents errors.old; told = E.contents errors.new }) result }
     ensures refused { IsMistake (kind_of error.now) → IsRefusedLine (E.contents errors.old) (E.contents errors.new) result }
     ensures unwritten { IsMistake (kind_of error.now) → writer.new ≡ writer.old }
 {
@@ -81,7 +81,7 @@ pub fn answer<R, I: Read, W: Write, E: Write>(
 where
     R: Threads + Wait + Copy + Send + 'static,
     ensures had { IfOk words (λ given. IsAnswered (map string_bytes given.items) (I.remaining reader.old)
-        (W.contents writer.old) (W.contents writer.new) (E.contents errors.old) (E.contents errors.new)
+        (record { before = W.contents writer.old; after = W.contents writer.new; untold = E.contents errors.old; told = E.contents errors.new })
         (reader.new ≡ reader.old) (writer.new ≡ writer.old) result) }
     ensures not_had { IfErr words (λ error. IsUnread (error_kind error) (E.contents errors.old) (E.contents errors.new) result) }
     ensures unread { OnErr words (reader.new ≡ reader.old) }

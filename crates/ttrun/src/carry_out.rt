@@ -25,7 +25,7 @@ pub fn carry_out<R, I: Read, W: Write, E: Write>(
 where
     R: Threads + Wait + Copy + Send + 'static,
     ensures done { IsCarriedOut task.entry (I.remaining reader.old)
-        (W.contents writer.old) (W.contents writer.new) (E.contents errors.old) (E.contents errors.new) result }
+        (record { before = W.contents writer.old; after = W.contents writer.new; untold = E.contents errors.old; told = E.contents errors.new }) result }
     ensures unread { HasNoRule task.entry → reader.new ≡ reader.old }
 {
     match task {

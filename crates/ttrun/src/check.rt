@@ -1,9 +1,9 @@
 //! The subcommand `check`.
-ghost use Rattle.std.specs.Prelude.{◌≡◌, ◌≤◌, length, List, IfOk, IfErr, MatchResult, OnOk};
+ghost use Rattle.std.specs.Prelude.{◌≡◌, List, IfOk, IfErr, MatchResult, OnOk};
 ghost use Rattle.tc_history.specs.declared.read.Block.{Block as AnyBlock};
 ghost use Rattle.tc_history.specs.Text.{AreHistories, IsHistoryFault};
 ghost use Rattle.ttrun.specs.Check.{Checks, IsCheckOf, IsChecked};
-ghost use Rattle.ttrun.specs.Inside.{RefusesHistory};
+ghost use Rattle.ttrun.specs.Inside.{Feeds, IsPlayed, RefusesHistory};
 ghost use Rattle.ttrun.specs.Output.{Writes};
 ghost use Rattle.ttrun.specs.Fault.{Refuses};
 ghost use Rattle.ttrun.specs.Limits.{HasAtMost, history_limit};
@@ -11,42 +11,72 @@ ghost use Rattle.ttrun.specs.WrittenHistories.{FindsWrittenLegal};
 
 use crate::check_lines::append_judgement;
 use crate::fault::RunFault;
-use crate::judge::{fault_at, is_legal, judge_block};
+use crate::judge::{Playing, is_legal};
 use crate::outcome::REFUSED;
 use std::alloc::Global;
 use std::io::{Read, Write};
+use tc_history::{Header, TakesHistories, read_history_into};
 use tc_stream::{read_input, write_whole};
-use tc_table::TextKind;
+use tc_table::{Entry, NoMemory, Verdict};
 
 /// How many bytes a history text may have.
 const LIMIT: usize = 16_777_216;
 
+/// What is printed for histories, up to the first that is not legal.
+#[derive(Drop)]
+pub(crate) struct Checking {
+    out: Vec<u8>,
+    legal: bool,
+}
+
+impl TakesHistories for Checking {
+    type Begun = Playing;
+
+    ghost opens = { IsPlayed };
+
+    ghost stands = { λ blocks c. Feeds blocks c.out.items c.legal };
+
+    fn begin(alloc: Global) -> Checking {
+        Checking {
+            out: Vec::new(alloc),
+            legal: true,
+        }
+    }
+
+    fn start(alloc: Global, header: Header) -> Result<Playing, NoMemory> {
+        Playing::new(alloc, header)
+    }
+
+    fn take(begun: &mut Playing, line: usize, entry: Entry) -> Result<(), NoMemory> {
+        begun.play(line, entry)
+    }
+
+    fn close(
+        &mut self,
+        begun: Playing,
+        first_line: usize,
+        line: usize,
+        verdict: Verdict,
+    ) -> Result<(), NoMemory> {
+        if self.legal {
+            let judgement = begun.judge(first_line, line, verdict);
+            append_judgement(&mut self.out, &judgement)?;
+            self.legal = is_legal(&judgement);
+        }
+        Ok(())
+    }
+}
+
 // What is printed for the histories that the text spells, up to the first that is not legal, and whether all are; else
 // the text's first fault, or NoMemory. The text is read to its end also behind a history that is not legal.
 fn check_text(alloc: Global, text: &[u8]) -> Result<(Vec<u8>, bool), RunFault>
-    requires { length text.now ≤ history_limit }
     ensures done { IfOk result (λ r. IsCheckOf text.now r.0.items r.1) }
     ensures refused { IfErr result (RefusesHistory text.now) }
     ensures only { (blocks : List AnyBlock) → AreHistories text.now blocks
         → MatchResult result (λ r. Checks blocks r.0.items r.1) (λ e. e ≡ RunFault.NoMemory) }
 {
-    if text.is_empty() {
-        return Err(fault_at(1, TextKind::Early));
-    }
-    let mut out = Vec::new(alloc);
-    let mut legal = true;
-    let mut line = 1;
-    let mut rest = text;
-    while !rest.is_empty() {
-        let (judgement, next, behind) = judge_block(alloc, rest, line)?;
-        if legal {
-            append_judgement(&mut out, &judgement)?;
-            legal = is_legal(&judgement);
-        }
-        line = next;
-        rest = behind;
-    }
-    Ok((out, legal))
+    let checking: Checking = read_history_into(alloc, text)?;
+    Ok((checking.out, checking.legal))
 }
 
 /// Checks histories: replays each on a table of its own, writes which are legal, and answers the status: 0 where all are, else 3.

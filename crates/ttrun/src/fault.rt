@@ -91,12 +91,15 @@ impl<T: Drop> From<AllocFailed<T>> for RunFault {
 
 impl From<TextFault> for RunFault {
     ghost use Rattle.std.specs.Prelude.{◌≡◌};
-    ghost use Rattle.ttrun.specs.declared.fault.RunFault.TheVariants as faults;
+    ghost use Rattle.ttrun.specs.Fault.{of_text};
 
-    ghost from_gives = { λ fault r. r ≡ faults.Text fault };
+    ghost from_gives = { λ fault r. r ≡ of_text fault };
 
     fn from(fault: TextFault) -> RunFault {
-        RunFault::Text(fault)
+        match fault {
+            TextFault::At { .. } => RunFault::Text(fault),
+            TextFault::NoMemory => RunFault::NoMemory,
+        }
     }
 }
 
@@ -117,10 +120,10 @@ impl RunFault {
         ensures { result.now ≡ words_of self.now }
     {
         match self {
-            RunFault::TooLong => "input too long",
-            RunFault::Read => "read fault",
-            RunFault::Write => "write fault",
-            RunFault::NoMemory | RunFault::Text(TextFault::NoMemory) => "no memory",
+            RunFault::TooLong => InputFault::TooLong.text(),
+            RunFault::Read => InputFault::Read.text(),
+            RunFault::Write => WriteFault.text(),
+            RunFault::NoMemory | RunFault::Text(TextFault::NoMemory) => NoMemory.text(),
             RunFault::Text(TextFault::At { kind, .. }) => kind.text(),
             RunFault::Script(fault) => fault.kind.text(),
             RunFault::StopOn => "--stop-on takes none, pass, inconc, fail or error",

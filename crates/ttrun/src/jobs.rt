@@ -72,7 +72,7 @@ pub fn run_script<R, I: Read, W: Write, E: Write>(
 where
     R: Threads + Wait + Copy + Send + 'static,
     ensures done { IfOk result (RunsScript form (bytes_of (λ w. w.now) word.entry) (I.remaining reader.old)
-        (W.contents writer.old) (W.contents writer.new) (E.contents errors.old) (E.contents errors.new)) }
+        (record { before = W.contents writer.old; after = W.contents writer.new; untold = E.contents errors.old; told = E.contents errors.new })) }
     ensures refused { IfErr result (RefusesScriptRun form (bytes_of (λ w. w.now) word.entry) (I.remaining reader.old)
         (W.contents writer.old) (W.contents writer.new)) }
     ensures untouched { OnErr result (errors.new ≡ errors.old) }

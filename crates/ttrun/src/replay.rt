@@ -1,10 +1,9 @@
 //! The subcommand `replay`.
-ghost use Rattle.std.specs.Prelude.{◌≡◌, ◌++◌, ◌∷◌, [], List, IfOk, IfErr, OnOk};
-ghost use Rattle.tc_entry.specs.declared.entry.Entry.{Entry};
-ghost use Rattle.tc_table.specs.Standing.{StandsFor};
+ghost use Rattle.std.specs.Prelude.{◌≡◌, ◌++◌, ◌∷◌, [], IfOk, IfErr, OnOk};
 ghost use Rattle.tc_text.specs.MoveList.{IsListFault};
 ghost use Rattle.tc_text.specs.Spelling.{reply_text};
-ghost use Rattle.ttrun.specs.Replay.{IsReplayOf, Replays, next_entry, reply_line, verdict_line};
+ghost use Rattle.ttrun.specs.Replay.{IsReplayOf, Replays, verdict_line};
+ghost use Rattle.ttrun.specs.Inside.{ArePlayed};
 ghost use Rattle.ttrun.specs.Output.{Writes};
 ghost use Rattle.ttrun.specs.Fault.{Refuses, RefusesText};
 ghost use Rattle.ttrun.specs.Limits.{HasAtMost, move_list_limit};
@@ -14,10 +13,8 @@ use std::alloc::Global;
 use std::io::{Read, Write};
 use tc_report::verdict_status;
 use tc_stream::write_whole;
-use tc_table::{
-    CaseState, NoMemory, Op, Reply, Run, TextFault, TextKind, Verdict, read_input, write_reply,
-};
-use tc_text::{append_text, take_first_line, take_move_line};
+use tc_table::{CaseState, NoMemory, Op, Reply, Run, Verdict, read_input, write_reply};
+use tc_text::{TakesMoves, append_text, read_moves_into};
 use tc_verdict::name;
 
 /// How many bytes a move list may have.
@@ -42,22 +39,28 @@ fn append_verdict(out: &mut Vec<u8>, verdict: Verdict) -> Result<(), NoMemory>
     Ok(())
 }
 
-fn fault_at(line: usize, kind: TextKind) -> RunFault
-    ensures { result ≡ RunFault.Text (TextFault.At line kind) }
-{
-    RunFault::Text(TextFault::At { line, kind })
+/// A case whose moves are played as they are read, and the lines of their replies.
+#[derive(Drop)]
+pub(crate) struct Replaying {
+    state: CaseState,
+    out: Vec<u8>,
 }
 
-// Plays a move, and appends its reply's line.
-fn play_move(state: &mut CaseState, out: &mut Vec<u8>, one: (Run, Op)) -> Result<(), NoMemory>
-    ensures same { OnOk result (state.new.behaviours ≡ state.old.behaviours) }
-    ensures stands { OnOk result ((past : List Entry) → StandsFor state.old past → StandsFor state.new (next_entry state.old.behaviours past one ∷ past)) }
-    ensures line { OnOk result ((past : List Entry) → StandsFor state.old past → out.new.items ≡ out.old.items ++ reply_line (next_entry state.old.behaviours past one)) }
-{
-    let (caller, op) = one;
-    let reply = state.play(caller, op)?;
-    append_reply(out, reply)?;
-    Ok(())
+impl TakesMoves for Replaying {
+    ghost stands = { ArePlayed };
+
+    fn begin(alloc: Global, behaviours: u16) -> Result<Replaying, NoMemory> {
+        let state = CaseState::new(alloc, behaviours)?;
+        let out = Vec::new(alloc);
+        Ok(Replaying { state, out })
+    }
+
+    fn take(&mut self, one: (Run, Op)) -> Result<(), NoMemory> {
+        let (caller, op) = one;
+        let reply = self.state.play(caller, op)?;
+        append_reply(&mut self.out, reply)?;
+        Ok(())
+    }
 }
 
 // What is printed for the moves that the text spells, and the overall verdict; else the text's first fault, or NoMemory.
@@ -65,24 +68,9 @@ fn replay_text(alloc: Global, text: &[u8]) -> Result<(Vec<u8>, Verdict), RunFaul
     ensures done { IfOk result (λ r. IsReplayOf text.now r.0.items r.1) }
     ensures refused { IfErr result (RefusesText text.now) }
 {
-    if text.is_empty() {
-        return Err(fault_at(1, TextKind::Early));
-    }
-    let Some((behaviours, mut rest)) = take_first_line(text) else {
-        return Err(fault_at(1, TextKind::FirstLine));
-    };
-    let mut state = CaseState::new(alloc, behaviours)?;
-    let mut out = Vec::new(alloc);
-    let mut line = 2;
-    while !rest.is_empty() {
-        let Some((one, after)) = take_move_line(rest) else {
-            return Err(fault_at(line, TextKind::Move));
-        };
-        play_move(&mut state, &mut out, one)?;
-        line += 1;
-        rest = after;
-    }
-    let verdict = state.overall();
+    let replaying: Replaying = read_moves_into(alloc, text)?;
+    let verdict = replaying.state.overall();
+    let mut out = replaying.out;
     append_verdict(&mut out, verdict)?;
     Ok((out, verdict))
 }

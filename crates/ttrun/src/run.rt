@@ -4,6 +4,7 @@ ghost use Rattle.ttrun.specs.declared.fault.RunFault.TheVariants.{StopOn};
 ghost use Rattle.tc_campaign.specs.Outline.{HasNames, outline_of};
 ghost use Rattle.tc_campaign.specs.Campaign.{IsCalled};
 ghost use Rattle.tc_script.specs.Campaign.{campaign};
+ghost use Rattle.tc_script.specs.Law.{IsCase};
 ghost use Rattle.ttrun.specs.Limits.{HasAtMost, script_limit, worker_limit};
 ghost use Rattle.ttrun.specs.Run.{bytes_of, IsRuleOf, IsNoName, RefusesWord, RefusesRun, IsRun, IsUnwritten};
 
@@ -18,12 +19,13 @@ use std::sync::Wait;
 use std::thread::Threads;
 use tc_campaign::{Case, run_campaign};
 use tc_command::Form;
+use tc_entry::BEHAVIOURS;
 use tc_exec::Callable;
 use tc_script::Campaign;
 use tc_verdict::Verdict;
 
 /// How many workers a test case may have.
-const THREADS: u16 = 64;
+const THREADS: u16 = BEHAVIOURS as u16;
 
 /// How a campaign is run.
 #[derive(Clone, Copy, Debug, PartialEq, Eq)]
@@ -55,6 +57,7 @@ pub fn read_run<R: Read>(
     word: Option<&str>,
 ) -> Result<(Campaign, Options), RunFault>
     ensures spelled { IfOk result (λ r. IfSome (R.remaining reader.old) (λ text. campaign text ≡ Ok r.0)) }
+    ensures lawful { IfOk result (λ r. All (λ t. IsCase t.1) r.0) }
     ensures fits { OnOk result (HasAtMost script_limit (R.remaining reader.old)) }
     ensures rule { IfOk result (λ r. IsRuleOf (bytes_of (λ w. w.now) word.entry) r.1.stop_on) }
     ensures form { IfOk result (λ r. r.1.form ≡ form) }
@@ -79,7 +82,7 @@ where
     R: Threads + Wait + Copy + Send + 'static,
     requires names { All HasNames cases.items }
     ensures done { IfOk result (IsRun outline_of (IsCalled B.outcome) cases.items options
-        (W.contents writer.old) (W.contents writer.new) (E.contents errors.old) (E.contents errors.new)) }
+        (record { before = W.contents writer.old; after = W.contents writer.new; untold = E.contents errors.old; told = E.contents errors.new })) }
     ensures refused { IfErr result (IsUnwritten outline_of (IsCalled B.outcome) cases.items options
         (W.contents writer.old) (W.contents writer.new)) }
     ensures untouched { OnErr result (errors.new ≡ errors.old) }

@@ -1,6 +1,7 @@
 //! The script of a campaign, and the word of `--stop-on`.
-ghost use Rattle.std.specs.Prelude.{◌≡◌, IfOk, IfErr, IfSome, OnOk, Ok};
+ghost use Rattle.std.specs.Prelude.{◌≡◌, All, IfOk, IfErr, IfSome, OnOk, Ok};
 ghost use Rattle.tc_script.specs.Campaign.{campaign};
+ghost use Rattle.tc_script.specs.Law.{IsCase};
 ghost use Rattle.ttrun.specs.Limits.{HasAtMost, script_limit};
 ghost use Rattle.ttrun.specs.Script.{RefusesScript, IsStopWord};
 
@@ -17,6 +18,7 @@ const LIMIT: usize = 1_048_576;
 /// The campaign that the input spells.
 pub fn take_script<R: Read>(alloc: Global, reader: &mut R) -> Result<Campaign, RunFault>
     ensures spelled { IfOk result (λ c. IfSome (R.remaining reader.old) (λ text. campaign text ≡ Ok c)) }
+    ensures lawful { IfOk result (λ c. All (λ t. IsCase t.1) c) }
     ensures fits { OnOk result (HasAtMost script_limit (R.remaining reader.old)) }
     ensures refused { IfErr result (RefusesScript script_limit (R.remaining reader.old)) }
 {

@@ -1,38 +1,72 @@
 //! The close of a case, on the value behind the lock.
-ghost use Rattle.std.specs.Prelude.{◌≡◌, IfOk, IfErr};
+ghost use Rattle.std.specs.Prelude.{◌≡◌, IfOk, IfErr, map};
 ghost use Rattle.tc_book.specs.declared.closed.CloseFault.TheVariants as faults;
-ghost use Rattle.tc_book.specs.Closing.{IsWhole};
+ghost use Rattle.tc_book.specs.Closing.{run_log, merged, IsMerged};
 ghost use Rattle.tc_book.specs.Report.{IsOneHistory};
 
 use crate::book::Book;
-use crate::close::is_whole;
+use crate::close::{all_agreed, are_placed, have_together};
 use crate::closed::{CloseFault, Closed};
 use crate::left::Left;
-use crate::parts::parts_of;
+use crate::parts::{are_parts, logs_by_run};
 use crate::report::report;
 use std::alloc::Global;
+use tc_entry::Entry;
+use tc_merge::{RunLog, merge};
+use tc_table::{CheckFault, replay};
+use tc_verdict::NoMemory;
 
-#[tactic(auto, using(crate::proofs::Reporting::whole_logged))]
+/// The log of each run that left.
+fn run_logs(alloc: Global, lefts: Vec<Left>) -> Result<Vec<RunLog>, NoMemory>
+    ensures { IfOk result (λ v. v.items ≡ map run_log lefts.items) }
+{
+    let logs = lefts
+        .into_iter()
+        .map(|left| left.into_run_log())
+        .collect(alloc)?;
+    Ok(logs)
+}
+
+#[tactic(auto, using(crate::proofs::Reporting::whole_logged, crate::proofs::Skipping::starts_same))]
 impl Book {
-    /// The report of the case, where what came back is whole.
+    /// The report of the case, where the merge of its history with the logs of what came back is legal, what came back is
+    /// whole by it, and the word of each run agrees with its log.
     pub fn close(&self, alloc: Global, lefts: Vec<Left>) -> Result<Closed, CloseFault>
-        ensures whole { IfOk result (λ _. IsWhole self.now.behaviours self.now.history lefts.items) }
-        ensures torn { IfErr result (λ f. f ≡ faults.Torn → IsWhole self.now.behaviours self.now.history lefts.items → ⊥) }
+        ensures whole { IfOk result (λ _. IsMerged self.now.behaviours self.now.history self.now.words lefts.items) }
+        ensures torn { IfErr result (λ f. f ≡ faults.Torn → IsMerged self.now.behaviours self.now.history self.now.words lefts.items → ⊥) }
         ensures behaviours { IfOk result (λ c. c.behaviours ≡ self.now.behaviours) }
-        ensures history { IfOk result (λ c. c.history ≡ self.now.history) }
+        ensures history { IfOk result (λ c. c.history ≡ merged self.now.history lefts.items) }
         ensures report { IfOk result (λ c. IsOneHistory c) }
     {
-        let history = self.table.history();
         let behaviours = self.starts.len() as u16;
-        let Ok(parts) = parts_of(alloc, history, behaviours) else {
-            return Err(CloseFault::NoMemory);
-        };
-        if !is_whole(history, self.table.is_over(), &self.starts, &parts, &lefts) {
+        if !are_placed(behaviours, &self.starts, &lefts) || !all_agreed(&self.words, &lefts) {
             return Err(CloseFault::Torn);
         }
-        match report(alloc, &self.table, &self.starts, parts) {
+        let Ok(logs) = run_logs(alloc, lefts) else {
+            return Err(CloseFault::NoMemory);
+        };
+        let Ok(history) = merge(alloc, self.table.history(), &logs) else {
+            return Err(CloseFault::NoMemory);
+        };
+        let state = match replay(alloc, behaviours, &history) {
+            Ok(state) => state,
+            Err(CheckFault::Differs { .. }) => return Err(CloseFault::Torn),
+            Err(CheckFault::NoMemory) => return Err(CloseFault::NoMemory),
+        };
+        if !state.is_over() || !have_together(&logs, history.len()) {
+            return Err(CloseFault::Torn);
+        }
+        let Ok(parts) = logs_by_run(alloc, logs, behaviours) else {
+            return Err(CloseFault::NoMemory);
+        };
+        match are_parts(alloc, &parts, &history) {
+            Ok(true) => {}
+            Ok(false) => return Err(CloseFault::Torn),
+            Err(NoMemory) => return Err(CloseFault::NoMemory),
+        }
+        match report(alloc, &state, history, &self.starts, parts) {
             Ok(closed) => Ok(closed),
-            Err(_) => Err(CloseFault::NoMemory),
+            Err(NoMemory) => Err(CloseFault::NoMemory),
         }
     }
 }

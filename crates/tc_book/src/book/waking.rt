@@ -6,6 +6,7 @@ ghost use Rattle.tc_table.specs.Laws as laws;
 ghost use Rattle.tc_book.specs.OpenCase.{reply_to, with_entry, places_at, with_wake, without_wake};
 ghost use Rattle.tc_book.specs.Replies.{suits, is_parked};
 ghost use Rattle.tc_book.specs.Waking.{NobodyWakes, goes_on};
+ghost use Rattle.tc_merge.specs.Merge.{is_verdict_call};
 
 use crate::book::Book;
 use crate::until::Until;
@@ -18,7 +19,7 @@ fn keeps_phases(op: &Op) -> bool
 {
     !matches!(
         op,
-        Op::Start { .. } | Op::Stop(_) | Op::Kill(_) | Op::Finish
+        Op::Start { .. } | Op::Stop(_) | Op::Kill(_) | Op::StopCase | Op::Finish
     )
 }
 
@@ -39,6 +40,7 @@ fn tells(keeps_phases: bool, reply: Reply) -> bool
 impl Book {
     /// Adds a call as `record` does, and answers its reply, and whether one that waits may go on by it.
     pub fn call(&mut self, run: Run, op: Op) -> Result<(Reply, bool), NoMemory>
+        requires other { is_verdict_call op ≡ false }
         ensures behaviours { self.new.behaviours ≡ self.old.behaviours }
         ensures reply { IfOk result (λ r. r.0 ≡ reply_to self.old run op) }
         ensures suits { IfOk result (λ r. suits op r.0 ≡ true) }

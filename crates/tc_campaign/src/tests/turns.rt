@@ -5,8 +5,8 @@ ghost use Rattle.tc_campaign.specs.Outline.{HasNames};
 use crate::tests::{back, name};
 use crate::*;
 use std::alloc::Global;
+use std::sync::Arc;
 use std::sync::atomic::{AtomicU64, Ordering};
-use std::sync::{Arc, Wait};
 use std::test::Fail;
 use tc_book::Pass;
 use tc_entry::UserVerdict;
@@ -14,14 +14,13 @@ use tc_exec::{Back, Callable};
 
 /// Sets pass if so many test cases began before its own, and each of them has ended.
 #[derive(Drop)]
-struct Turn<R: Wait + Copy + Send + 'static> {
-    rt: R,
+struct Turn {
     before: u64,
     begun: Arc<AtomicU64>,
     ended: Arc<AtomicU64>,
 }
 
-impl<R: Wait + Copy + Send + 'static> Callable for Turn<R> {
+impl Callable for Turn {
     ghost outcome = { λ _ _ _. ⊤ };
 
     fn call(self, pass: Pass) -> Back {
@@ -33,18 +32,14 @@ impl<R: Wait + Copy + Send + 'static> Callable for Turn<R> {
         } else {
             UserVerdict::Fail
         };
-        let made = pass.set_verdict(&self.rt, verdict);
+        let made = pass.set_verdict(verdict);
         self.ended.fetch_add(1, Ordering::SeqCst);
         back(pass, made)
     }
 }
 
 /// A test case of one behaviour.
-fn case_of<R: Wait + Copy + Send + 'static>(
-    alloc: Global,
-    text: &str,
-    turn: Turn<R>,
-) -> Result<Case<Turn<R>>, Fail>
+fn case_of(alloc: Global, text: &str, turn: Turn) -> Result<Case<Turn>, Fail>
     ensures { IfOk result HasNames }
 {
     let mut case = Case {
@@ -63,9 +58,8 @@ fn one_case_after_the_other(rt: HostRuntime) -> Result<(), Fail> {
     let alloc = rt.alloc();
     let begun = Arc::new(alloc, AtomicU64::new(0))?;
     let ended = Arc::new(alloc, AtomicU64::new(0))?;
-    let turn = |before: u64| -> Result<Turn<HostRuntime>, Fail> {
+    let turn = |before: u64| -> Result<Turn, Fail> {
         Ok(Turn {
-            rt,
             before,
             begun: Arc::try_clone(&begun)?,
             ended: Arc::try_clone(&ended)?,

@@ -1,13 +1,15 @@
 //! Behaviours that do what they should not, and threads that are refused.
 ghost use Rattle.std.specs.Prelude.{⊤};
 
-use crate::tests::{Behaviour, back};
+use crate::tests::Behaviour;
 use crate::*;
-use std::fs;
+use std::alloc::Global;
 use std::rt::Files;
 use std::sync::atomic::{AtomicU64, Ordering};
 use std::sync::{Arc, Wait};
 use std::test::Fail;
+use std::time::{Clock, Duration};
+use std::{fs, thread};
 use tc_book::{Halt, Pass, open_case};
 use tc_entry::{Args, Comp, Group, Reply, Run, UserVerdict};
 use tc_table::replay_check;
@@ -36,7 +38,7 @@ fn gate_refuses_a_thread(rt: HostRuntime) -> Result<(), Fail> {
         let theirs = Arc::try_clone(&called)?;
         let run: Behaviour = Box::new(alloc, move |pass: Pass| {
             theirs.store(1, Ordering::SeqCst);
-            back(pass, Ok(()))
+            Back::after(pass, Ok(()))
         })?;
         jobs.push(Job::new(run))?;
     }
@@ -69,12 +71,12 @@ fn workers_end_before_a_refusal(rt: HostRuntime) -> Result<(), Fail> {
     let alloc = rt.alloc();
     let gone = Arc::new(alloc, AtomicU64::new(0))?;
     let lingers = Lingers(Arc::try_clone(&gone)?);
-    let first: Behaviour = Box::new(alloc, move |pass: Pass| back(pass, Ok(())))?;
+    let first: Behaviour = Box::new(alloc, move |pass: Pass| Back::after(pass, Ok(())))?;
     let second: Behaviour = Box::new(alloc, move |pass: Pass| {
         drop(lingers);
-        back(pass, Ok(()))
+        Back::after(pass, Ok(()))
     })?;
-    let third: Behaviour = Box::new(alloc, move |pass: Pass| back(pass, Ok(())))?;
+    let third: Behaviour = Box::new(alloc, move |pass: Pass| Back::after(pass, Ok(())))?;
     let jobs = vec![in alloc; Job::new(first), Job::new(second), Job::new(third)]?;
     let mut gate = Refuses {
         run: Run(2),
@@ -91,10 +93,13 @@ fn workers_end_before_want_of_memory(rt: HostRuntime) -> Result<(), Fail> {
     let alloc = rt.alloc();
     let gone = Arc::new(alloc, AtomicU64::new(0))?;
     let lingers = Lingers(Arc::try_clone(&gone)?);
-    let first: Behaviour = Box::new(alloc, move |pass: Pass| back(pass, Err(Halt::NoMemory)))?;
+    let first: Behaviour = Box::new(
+        alloc,
+        move |pass: Pass| Back::after(pass, Err(Halt::NoMemory)),
+    )?;
     let second: Behaviour = Box::new(alloc, move |pass: Pass| {
         drop(lingers);
-        back(pass, Ok(()))
+        Back::after(pass, Ok(()))
     })?;
     let jobs = vec![in alloc; Job::new(first), Job::new(second)]?;
     let refused = run_case(&rt, alloc, jobs, 1);
@@ -116,18 +121,17 @@ fn threads_now<R: Files + Alloc>(rt: &R) -> u64 {
     0
 }
 
-/// Looks at the number of threads until it is one of these, ten thousand times at most, and says whether it was.
-fn are_threads<R: Files + Alloc>(rt: &R, least: u64, most: u64) -> bool {
+/// Looks at the number of threads until it is this one, ten thousand times at most, and says whether it was.
+fn are_threads<R: Files + Alloc>(rt: &R, wanted: u64) -> bool {
     for _ in 0..10_000u32 {
-        let threads = threads_now(rt);
-        if least <= threads && threads <= most {
+        if threads_now(rt) == wanted {
             return true;
         }
     }
     false
 }
 
-/// Allows every worker, and keeps how many questions found a thread for each worker that was allowed before.
+/// Allows every worker, and keeps how many questions found one thread for each worker that was allowed before, and no more.
 #[derive(Drop)]
 struct Counts<R: Files + Alloc> {
     rt: R,
@@ -140,23 +144,23 @@ impl<R: Files + Alloc> Gate for Counts<R> {
 
     fn allow(&mut self, _run: Run) -> bool {
         self.asked = self.asked.saturating_add(1);
-        if are_threads(&self.rt, self.asked, 64) {
+        if are_threads(&self.rt, self.asked) {
             self.found = self.found.saturating_add(1);
         }
         true
     }
 }
 
-// Seven questions: when a worker is asked about, the threads of all before it are there.
+// Seven questions: when a worker is asked about, the threads of all before it are there, and its own is not.
 #[test]
 fn a_thread_lives_before_the_next_question(rt: HostRuntime) -> Result<(), Fail> {
     let alloc = rt.alloc();
     let mut jobs = Vec::new(alloc);
     for _ in 0..8 {
-        let run: Behaviour = Box::new(alloc, move |pass: Pass| back(pass, Ok(())))?;
+        let run: Behaviour = Box::new(alloc, move |pass: Pass| Back::after(pass, Ok(())))?;
         jobs.push(Job::new(run))?;
     }
-    assert!(rt; are_threads(&rt, 1, 1));
+    assert!(rt; are_threads(&rt, 1));
     let mut gate = Counts {
         rt,
         asked: 0,
@@ -194,55 +198,82 @@ fn pass_of_another_case(rt: HostRuntime) -> Result<(), Fail> {
     Ok(())
 }
 
-/// Starts run 1 on component 1 with component 2 as its argument, and kills all.
-fn kills_all<R: Wait>(rt: &R, pass: &mut Pass) -> Result<(), Halt> {
+/// Lets the other threads go on.
+fn pause<R: Clock>(rt: &R) {
+    thread::sleep(rt, Duration::from_millis(2));
+}
+
+/// Starts run 1 on component 1 with component 2 as its argument, and kills all, late or not.
+fn kills_all<R: Wait + Clock>(rt: &R, pass: &mut Pass, is_late: bool) -> Result<(), Halt> {
     let comp = pass.create(rt, true)?;
     let other = pass.create(rt, true)?;
     let mut args = Args::new();
     args.push(other);
     pass.start(rt, comp, Run(1), &args)?;
+    if is_late {
+        pause(rt);
+    }
     pass.kill(rt, Group::All)
 }
 
-/// Starts run 2 on the component that is the argument.
-fn starts_argument<R: Wait>(rt: &R, pass: Pass) -> Back {
+/// Starts run 2 on the component that is the argument, late or not.
+fn starts_argument<R: Wait + Clock>(rt: &R, pass: Pass, is_late: bool) -> Back {
     let mut pass = pass;
+    if is_late {
+        pause(rt);
+    }
     let made = match pass.args().first().copied() {
         Some(comp) => pass.start(rt, comp, Run(2), &Args::new()),
         None => Ok(()),
     };
-    back(pass, made)
+    Back::after(pass, made)
 }
 
+/// The reply to the Start by run 1, where the report is legal and tells rightly whether run 2 ran.
+fn reply_of_start(alloc: Global, report: &CaseReport, ran: bool) -> Option<Reply> {
+    let logs = report.logs.as_slice();
+    let is_told = logs.iter().any(|log| log.run == Run(2));
+    let verdict = replay_check(alloc, 3, report.history.as_slice()).ok()?;
+    if is_told != ran || verdict != report.verdict {
+        return None;
+    }
+    let start = logs.get(1)?.entries.as_slice().first()?;
+    Some(start.reply)
+}
+
+// 200 rounds, in 25 of which the Kill is late, and in 25 the Start: each was first in at least 20.
 #[test]
 fn start_against_kill(rt: HostRuntime) -> Result<(), Fail> {
     let alloc = rt.alloc();
-    for _ in 0..200 {
+    let (mut starts, mut kills) = (0u32, 0u32);
+    for round in 0..200u32 {
         let flag = Arc::new(alloc, AtomicU64::new(0))?;
         let theirs = Arc::try_clone(&flag)?;
         let first: Behaviour = Box::new(alloc, move |pass: Pass| {
             let mut pass = pass;
-            let made = kills_all(&rt, &mut pass);
-            back(pass, made)
+            let made = kills_all(&rt, &mut pass, round % 8 == 3);
+            Back::after(pass, made)
         })?;
-        let second: Behaviour = Box::new(alloc, move |pass: Pass| starts_argument(&rt, pass))?;
+        let second: Behaviour = Box::new(alloc, move |pass: Pass| {
+            starts_argument(&rt, pass, round % 8 == 7)
+        })?;
         let third: Behaviour = Box::new(alloc, move |pass: Pass| {
             let mut pass = pass;
             theirs.store(1, Ordering::SeqCst);
-            let made = pass.set_verdict(&rt, UserVerdict::Fail);
-            back(pass, made)
+            let made = pass.set_verdict(UserVerdict::Fail);
+            Back::after(pass, made)
         })?;
         let jobs = vec![in alloc; Job::new(first), Job::new(second), Job::new(third)]?;
         let report = run_case(&rt, alloc, jobs, 64)?;
-        let logs = report.logs.as_slice();
-        assert!(rt; logs.len() >= 2);
-        let start = logs[1].entries.as_slice();
-        assert!(rt; start.len() >= 1);
-        assert!(rt; matches!(start[0].reply, Reply::Ok | Reply::Ended));
-        let ran = flag.load(Ordering::SeqCst) == 1;
-        assert_eq!(rt; ran, logs.iter().any(|log| log.run == Run(2)));
-        let verdict = replay_check(alloc, 3, report.history.as_slice())?;
-        assert_eq!(rt; verdict, report.verdict);
+        match reply_of_start(alloc, &report, flag.load(Ordering::SeqCst) == 1) {
+            Some(Reply::Ok) => starts = starts.saturating_add(1),
+            Some(Reply::Ended) => kills = kills.saturating_add(1),
+            reply => panic!(rt; "round {round}: {reply:?}"),
+        }
     }
+    assert!(rt;
+        starts >= 20 && kills >= 20,
+        "{starts} starts and {kills} kills were first"
+    );
     Ok(())
 }

@@ -9,7 +9,7 @@ type Behaviour = Box<dyn FnOnce(Pass) -> Back + Send>;
 
 fn waits_alone<R: Wait>(rt: &R, pass: &mut Pass) -> Result<(), Halt> {
     let comp = pass.create(rt, false)?;
-    pass.set_verdict(rt, UserVerdict::Pass)?;
+    pass.set_verdict(UserVerdict::Pass)?;
     pass.wait_done(rt, Target::One(comp))
 }
 
@@ -17,7 +17,7 @@ fn stops_itself<R: Wait>(rt: &R, pass: &mut Pass) -> Result<(), Halt> {
     let comp = pass.create(rt, true)?;
     pass.kill(rt, Group::One(comp))?;
     pass.killed(rt, Target::All)?;
-    pass.get_verdict(rt)?;
+    pass.get_verdict()?;
     pass.stop(rt, Group::One(Comp(0)))
 }
 

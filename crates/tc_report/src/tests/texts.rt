@@ -1,3 +1,4 @@
+//! Reports of results, byte by byte.
 use super::*;
 use std::str;
 
@@ -201,6 +202,8 @@ fn words_of_refusals(rt: HostRuntime) -> Result<(), Fail> {
         (CaseError::Torn, "torn"),
     ];
     for (why, text) in words {
+        assert_eq!(rt; why.text(), text);
+        assert_eq!(rt; why.to_string(rt.alloc())?.as_str(), text);
         let results = Results {
             finished: Sequence::new(Vec::new(rt.alloc())),
             ending: CampaignEnd::Aborted {

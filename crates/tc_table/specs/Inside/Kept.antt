@@ -1,5 +1,7 @@
 -- What the table keeps beside its history, and how that follows from the history.
 use Rattle.std.specs.Prelude.{ℕ, zero, suc, ◌≡◌, ◌+◌, ◌<◌, ◌≤◌, ◌&&◌, Bool, true, false, None, Some, is_some, List, [], ◌∷◌, length, slice_index_or}
+use Rattle.tc_entry.specs.Limits.{IsBehaviours}
+use Rattle.tc_entry.specs.declared.limits.TheConstants.{COMPONENTS}
 use Rattle.tc_table.specs.declared.awaited.Awaited.{Awaited}
 use Rattle.tc_entry.specs.declared.comp.Comp.{Comp}
 use Rattle.tc_verdict.specs.declared.run.Run.{Run}
@@ -20,14 +22,14 @@ abbrev pub state_of : List Entry → ℕ → ComponentState
 state_of past c = record {
   phase = phase past c;
   alive_type = is_alive_type past c;
-  started = is_some (last_run past c);
+  last = last_run past c;
   excused = is_some (last_run past c) && is_excused past c;
   local = local past c;
 }
 
 -- what is kept of a component that is not yet made
 abbrev pub blank : ComponentState
-blank = record { phase = P.Inactive; alive_type = false; started = false; excused = false; local = V.None }
+blank = record { phase = P.Inactive; alive_type = false; last = None; excused = false; local = V.None }
 
 -- what the table keeps of run b
 abbrev pub run_of : List Entry → ℕ → RunState
@@ -39,11 +41,11 @@ numbers_from s zero = []
 numbers_from s (suc n) = s ∷ numbers_from (s + 1) n
 
 pub record IsKept (n : ℕ) (past : List Entry) (states : List ComponentState) (runs : List RunState) (over : Bool) : Type 0 where
-  pub behaviours : (1 ≤ n) × (n ≤ 64)
+  pub behaviours : IsBehaviours n
   pub as_many_runs : length runs ≡ n
   pub numbered : comps past ≡ numbers_from 0 (length states)
   pub some_state : 1 ≤ length states
-  pub not_too_many : length states ≤ 1000
+  pub not_too_many : length states ≤ COMPONENTS
   pub each_state : (c : ℕ) (d : ComponentState) → c < length states → slice_index_or states c d ≡ state_of past c
   pub fresh : (c : ℕ) → length states ≤ c → state_of past c ≡ blank
   pub each_run : (b : ℕ) (d : RunState) → b < n → slice_index_or runs b d ≡ run_of past b

@@ -1,5 +1,5 @@
 -- Tests on what is kept of components.
-use Rattle.std.specs.Prelude.{ℕ, ◌&&◌, ◌||◌, not, nat_lt, Bool, List, map}
+use Rattle.std.specs.Prelude.{ℕ, ◌≡◌, ◌&&◌, ◌||◌, not, nat_lt, Bool, true, false, Option, is_some, MatchOption, List, map}
 use Rattle.tc_verdict.specs.declared.verdict.Verdict.{Verdict}
 use Rattle.tc_verdict.specs.Verdict.{worst}
 use Rattle.std.specs.List.{list_any, list_all}
@@ -32,7 +32,7 @@ unfoldable pub any_done : List ComponentState → Bool
 any_done states = list_any (λ s. is_done s.phase) states
 
 unfoldable pub none_lapsed : List ComponentState → Bool
-none_lapsed states = list_all (λ s. not s.started || is_running s.phase || s.excused) states
+none_lapsed states = list_all (λ s. not (is_some s.last) || is_running s.phase || s.excused) states
 
 unfoldable pub all_below : List Comp → ℕ → Bool
 all_below cs count = list_all (λ c. nat_lt c.0 count) cs
@@ -40,6 +40,10 @@ all_below cs count = list_all (λ c. nat_lt c.0 count) cs
 -- run b is going on, and does not wait in vain
 unfoldable pub goes_on : List Entry → ℕ → Bool
 goes_on past b = is_active past b && not (waits_in_vain past (waiting past b))
+
+-- there is a component exactly where run b is going on
+abbrev pub IsThereIfActive : List Entry → ℕ → Option Comp → Type 0
+IsThereIfActive past b comp = MatchOption comp (is_active past b ≡ false) (λ c. is_active past b ≡ true)
 
 unfoldable pub worst_local : List ComponentState → Verdict
 worst_local states = worst (map (λ s. s.local) states)

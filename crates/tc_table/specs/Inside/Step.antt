@@ -1,5 +1,5 @@
 -- What one more entry does to what the table keeps.
-use Rattle.std.specs.Prelude.{ℕ, ◌≡◌, ◌<◌, length, slice_index_or, ◌==◌, ◌||◌, not, if◌then◌else◌, Bool, true, false, Option, Some, None, is_some, List, [], ◌∷◌, drop}
+use Rattle.std.specs.Prelude.{ℕ, ◌≡◌, ◌<◌, length, slice_index_or, ◌==◌, not, if◌then◌else◌, Bool, true, false, Option, Some, None, List, [], ◌∷◌, drop}
 use Rattle.tc_verdict.specs.declared.verdict.Verdict.{Verdict}
 use Rattle.tc_verdict.specs.declared.run.Run.{Run}
 use Rattle.tc_verdict.specs.Verdict.{worse}
@@ -15,7 +15,7 @@ use Rattle.tc_entry.specs.declared.op.Op.{Op}
 use Rattle.tc_entry.specs.declared.op.Op.TheVariants as O
 use Rattle.tc_table.specs.declared.step.Scope.{Scope}
 use Rattle.tc_table.specs.declared.step.Scope.TheVariants as T
-use Rattle.tc_table.specs.History.{is_ok, is_ended, ends_case, is_comp, halts, kills, starts_run, first_some}
+use Rattle.tc_table.specs.History.{is_ended, ends_case, is_comp, halts, kills, started_on, first_some}
 use Rattle.tc_table.specs.Phases.{start_in, halts_from_outside}
 use Rattle.tc_table.specs.Status.{is_running, is_killed}
 use Rattle.tc_table.specs.Local.{gives}
@@ -46,7 +46,7 @@ unfoldable pub next_state : Option Comp → Entry → ℕ → ComponentState →
 next_state own e c state = record {
   phase = next_phase (kills e c) (start_in e c) (halts own e c) state.alive_type state.phase;
   alive_type = state.alive_type;
-  started = is_some (start_in e c) || state.started;
+  last = first_some (start_in e c) state.last;
   excused = next_excused (start_in e c) (halts_from_outside own e c) state.phase state.excused;
   local = next_local (if is_comp own c then gives e.op e.reply else []) state.local;
 }
@@ -54,9 +54,19 @@ next_state own e c state = record {
 -- the state of run b after the entry
 unfoldable pub next_run : Entry → ℕ → RunState → RunState
 next_run e b state = record {
-  comp = first_some state.comp (if is_ok e.reply then starts_run e.op b else None);
+  comp = first_some state.comp (started_on e b);
   waiting = if e.caller.0 == b then parks e.op e.reply else state.waiting;
 }
+
+-- the states after the entry, whose caller is on component own, each by that before it
+abbrev pub AreNext : Option Comp → Entry → List ComponentState → List ComponentState → Type 0
+AreNext own e before after =
+    (c : ℕ) (d : ComponentState) → c < length before → slice_index_or after c d ≡ next_state own e c (slice_index_or before c d)
+
+-- the state of run b after the entry, by that before it
+abbrev pub IsNextRun : Entry → ℕ → List RunState → List RunState → Type 0
+IsNextRun e b before after =
+    (d : RunState) → b < length before → slice_index_or after b d ≡ next_run e b (slice_index_or before b d)
 
 -- which states an entry may change
 abbrev pub touched_own : Option Comp → Scope
@@ -72,6 +82,7 @@ touched_by own (O.Start c run args) = T.One c
 touched_by own (O.Stop group) = touched_group group
 touched_by own (O.Kill group) = touched_group group
 touched_by own (O.SetVerdict v) = touched_own own
+touched_by own O.StopCase = touched_own own
 touched_by own O.Finish = touched_own own
 touched_by own _ = T.Nothing
 

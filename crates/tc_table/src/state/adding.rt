@@ -1,10 +1,9 @@
 //! Taking in an entry, and what it does to all that is kept.
-ghost use Rattle.std.specs.Prelude.{◌≡◌, ◌∷◌, ◌||◌, false, Some, None, List, OnErr, OnOk};
+ghost use Rattle.std.specs.Prelude.{◌≡◌, ◌||◌, false, Some, None, List, OnErr, OnOk};
 ghost use Rattle.std.specs.Result.{IsOk};
 ghost use Rattle.tc_entry.specs.declared.entry.Entry.{Entry};
-ghost use Rattle.tc_table.specs.Standing.{StandsFor};
+ghost use Rattle.tc_table.specs.Standing.{StandsFor, IsReply, TakesIn};
 ghost use Rattle.tc_table.specs.History as history;
-ghost use Rattle.tc_table.specs.Answers as answers;
 
 use crate::entries::{created, ends_case, is_alive_create};
 use crate::state::CaseState;
@@ -17,11 +16,11 @@ impl CaseState {
     /// Takes in an entry that makes no component, by a run on component own.
     #[tactic(auto, using(crate::proofs::KeptLemmas::kept_rules, crate::proofs::Settled::settled_rules), unfolding(crate::specs::Standing::StandsFor))]
     pub(crate) fn add(&mut self, own: Option<Comp>, entry: &Entry)
-        requires legal { (past : List Entry) → StandsFor self.old past → entry.now.reply ≡ answers.answer self.old.behaviours past entry.now.caller.0 entry.now.op }
+        requires legal { IsReply self.old entry.now.caller entry.now.op entry.now.reply }
         requires on { (past : List Entry) → StandsFor self.old past → own ≡ history.comp_of past entry.now.caller.0 }
         requires makes_none { history.created entry.now.op entry.now.reply ≡ None }
         ensures behaviours { self.new.behaviours ≡ self.old.behaviours }
-        ensures stands { (past : List Entry) → StandsFor self.old past → StandsFor self.new (entry.now ∷ past) }
+        ensures stands { TakesIn self.old entry.now self.new }
     {
         take_in(&mut self.states, own, entry);
         take_in_runs(&mut self.runs, entry);
@@ -31,10 +30,10 @@ impl CaseState {
     /// Takes in an entry that makes a component.
     #[tactic(auto, using(crate::proofs::KeptLemmas::kept_rules, crate::proofs::Settled::settled_rules), unfolding(crate::specs::Standing::StandsFor))]
     pub(crate) fn make(&mut self, entry: &Entry, comp: Comp) -> Result<(), NoMemory>
-        requires legal { (past : List Entry) → StandsFor self.old past → entry.now.reply ≡ answers.answer self.old.behaviours past entry.now.caller.0 entry.now.op }
+        requires legal { IsReply self.old entry.now.caller entry.now.op entry.now.reply }
         requires makes { history.created entry.now.op entry.now.reply ≡ Some comp }
         ensures behaviours { self.new.behaviours ≡ self.old.behaviours }
-        ensures stands { OnOk result ((past : List Entry) → StandsFor self.old past → StandsFor self.new (entry.now ∷ past)) }
+        ensures stands { OnOk result (TakesIn self.old entry.now self.new) }
         ensures refused { OnErr result (self.new ≡ self.old) }
     {
         self.states.add(is_alive_create(&entry.op))?;
@@ -44,9 +43,9 @@ impl CaseState {
 
     /// Takes in an entry with the reply that is the answer to it. Where memory is refused, the state stays as it was.
     pub(crate) fn take(&mut self, entry: &Entry) -> Result<(), NoMemory>
-        requires legal { (past : List Entry) → StandsFor self.old past → entry.now.reply ≡ answers.answer self.old.behaviours past entry.now.caller.0 entry.now.op }
+        requires legal { IsReply self.old entry.now.caller entry.now.op entry.now.reply }
         ensures behaviours { self.new.behaviours ≡ self.old.behaviours }
-        ensures stands { OnOk result ((past : List Entry) → StandsFor self.old past → StandsFor self.new (entry.now ∷ past)) }
+        ensures stands { OnOk result (TakesIn self.old entry.now self.new) }
         ensures refused { OnErr result (self.new ≡ self.old) }
         ensures sure { history.is_create entry.now.op ≡ false → IsOk result }
     {

@@ -65,11 +65,12 @@ impl CaseState {
                 let states = self.states.as_slice();
                 Reply::Local(states[own.0 as usize].local)
             }
-            Op::Start { .. } => Reply::Ok,
-            Op::Stop(_) => Reply::Ok,
-            Op::Kill(_) => Reply::Ok,
-            Op::SetVerdict(_) => Reply::Ok,
-            Op::Finish => Reply::Ok,
+            Op::Start { .. }
+            | Op::Stop(_)
+            | Op::Kill(_)
+            | Op::StopCase
+            | Op::SetVerdict(_)
+            | Op::Finish => Reply::Ok,
         }
     }
 }

@@ -7,7 +7,7 @@ ghost use Rattle.tc_table.specs.Inside.States as tests;
 
 use crate::component_state::{all_below, is_killed, is_running};
 use crate::state::CaseState;
-use tc_entry::{Comp, Fault, Group, Op, Target};
+use tc_entry::{Comp, Fault, Group, Op, Target, may_create};
 use tc_verdict::Run;
 
 #[tactic(auto, using(crate::proofs::KeptLemmas::kept_rules, crate::proofs::KeptLemmas::below_rules), unfolding(crate::specs::Standing::StandsFor))]
@@ -25,18 +25,10 @@ impl CaseState {
     {
         match op {
             Op::Start { comp, args, .. } => self.exists(*comp) && self.all_exist(args.as_slice()),
-            Op::Stop(group) => self.group_exists(*group),
-            Op::Kill(group) => self.group_exists(*group),
-            Op::Running(target) => self.target_exists(*target),
-            Op::Alive(target) => self.target_exists(*target),
-            Op::Done(target) => self.target_exists(*target),
-            Op::Killed(target) => self.target_exists(*target),
-            Op::Wait { target, .. } => self.target_exists(*target),
-            Op::Wake { target, .. } => self.target_exists(*target),
-            Op::Create { .. } => true,
-            Op::SetVerdict(_) => true,
-            Op::GetVerdict => true,
-            Op::Finish => true,
+            _ => match target_of(op) {
+                Some(target) => self.target_exists(target),
+                None => true,
+            },
         }
     }
 
@@ -45,17 +37,7 @@ impl CaseState {
     {
         match target {
             Target::One(comp) => self.exists(comp),
-            Target::Any => true,
-            Target::All => true,
-        }
-    }
-
-    pub(crate) fn group_exists(&self, group: Group) -> bool
-        ensures { result ≡ tests.all_below (faults.group_names group) (length self.now.states) }
-    {
-        match group {
-            Group::One(comp) => self.exists(comp),
-            Group::All => true,
+            Target::Any | Target::All => true,
         }
     }
 
@@ -96,7 +78,7 @@ impl CaseState {
         }
         match op {
             Op::Create { .. } => {
-                if 1000 <= self.components() {
+                if !may_create(self.components() as usize) {
                     Some(Fault::TooMany)
                 } else {
                     None
@@ -108,30 +90,36 @@ impl CaseState {
     }
 }
 
-fn is_many(target: Target) -> bool
-    ensures { result ≡ faults.is_many target }
+fn group_target(group: Group) -> Target
+    ensures { result ≡ faults.group_target group }
 {
-    !matches!(target, Target::One(_))
+    match group {
+        Group::One(comp) => Target::One(comp),
+        Group::All => Target::All,
+    }
 }
 
-fn is_group(group: Group) -> bool
-    ensures { result ≡ faults.is_group group }
+/// The target of a call that has one.
+fn target_of(op: &Op) -> Option<Target>
+    ensures { result ≡ faults.target_of op.now }
 {
-    matches!(group, Group::All)
+    match op {
+        Op::Stop(group) | Op::Kill(group) => Some(group_target(*group)),
+        Op::Running(target) | Op::Alive(target) | Op::Done(target) | Op::Killed(target) => Some(
+            *target,
+        ),
+        Op::Wait { target, .. } | Op::Wake { target, .. } => Some(*target),
+        _ => None,
+    }
 }
 
+/// Whether a call is about Any or All.
 fn asks_many(op: &Op) -> bool
     ensures { result ≡ faults.asks_many op.now }
 {
-    match op {
-        Op::Stop(group) => is_group(*group),
-        Op::Kill(group) => is_group(*group),
-        Op::Running(target) => is_many(*target),
-        Op::Alive(target) => is_many(*target),
-        Op::Done(target) => is_many(*target),
-        Op::Killed(target) => is_many(*target),
-        Op::Wait { target, .. } => is_many(*target),
-        Op::Wake { target, .. } => is_many(*target),
-        _ => false,
+    match target_of(op) {
+        Some(Target::One(_)) => false,
+        Some(_) => true,
+        None => false,
     }
 }

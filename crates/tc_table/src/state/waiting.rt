@@ -1,5 +1,5 @@
 //! Which runs go on, which wait, and whether the case is stuck.
-ghost use Rattle.std.specs.Prelude.{◌≡◌, ◌<◌, true, false, Some, MatchOption, IfSome, List, length};
+ghost use Rattle.std.specs.Prelude.{◌≡◌, ◌<◌, true, Some, IfSome, List, length};
 ghost use Rattle.tc_entry.specs.declared.entry.Entry.{Entry};
 ghost use Rattle.tc_table.specs.Standing.{StandsFor};
 ghost use Rattle.tc_table.specs.History as history;
@@ -17,7 +17,7 @@ use tc_verdict::Run;
 impl CaseState {
     /// The component of a run that is going on.
     pub(crate) fn active_on(&self, caller: Run) -> Option<Comp>
-        ensures active { (past : List Entry) → StandsFor self.now past → MatchOption result (answers.is_active past caller.0 ≡ false) (λ c. answers.is_active past caller.0 ≡ true) }
+        ensures active { (past : List Entry) → StandsFor self.now past → tests.IsThereIfActive past caller.0 result }
         ensures on { (past : List Entry) → StandsFor self.now past → IfSome result (λ c. history.comp_of past caller.0 ≡ Some c) }
         ensures within { IfSome result (λ c. c.0 < length self.now.states) }
     {
@@ -28,6 +28,13 @@ impl CaseState {
         } else {
             None
         }
+    }
+
+    /// Whether a run is going on.
+    pub fn is_active(&self, run: Run) -> bool
+        ensures { (past : List Entry) → StandsFor self.now past → result ≡ answers.is_active past run.0 }
+    {
+        self.active_on(run).is_some()
     }
 
     /// Whether what is awaited has come.

@@ -83,6 +83,40 @@ fn one_script_run(rt: HostRuntime) -> Result<(), Fail> {
 }
 
 #[test]
+fn stop_of_a_case(rt: HostRuntime) -> Result<(), Fail> {
+    let alloc = rt.alloc();
+    let text = lines(
+        alloc,
+        "testcase s;behaviour main;stopcase;setverdict pass;end;end",
+    )?;
+    let mut written = Vec::new(alloc);
+    let mut told = Vec::new(alloc);
+    let outcome = run_script(
+        &rt,
+        alloc,
+        Form::Text,
+        None,
+        &mut text.as_slice(),
+        &mut written,
+        &mut told,
+    )?;
+    assert_eq!(rt;
+        outcome,
+        Outcome {
+            status: 2,
+            told: Ok(())
+        }
+    );
+    let wanted = lines(
+        alloc,
+        "testcase s;run 0 main on 0;  stopcase -> ok;local 0 error;verdict error;cases 1 none 0 pass 0 inconc 0 fail 0 error 1;complete",
+    )?;
+    assert_eq!(rt; written.as_slice(), wanted.as_slice());
+    assert!(rt; told.is_empty());
+    Ok(())
+}
+
+#[test]
 fn empty_case_is_told_of(rt: HostRuntime) -> Result<(), Fail> {
     let alloc = rt.alloc();
     for fails_at in 0..=ABORTED.len() {

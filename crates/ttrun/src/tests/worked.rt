@@ -107,6 +107,23 @@ fn a_ptc_stops_the_main(rt: HostRuntime) -> Result<(), Fail> {
 }
 
 #[test]
+fn stop_of_a_case(rt: HostRuntime) -> Result<(), Fail> {
+    replays(
+        &rt,
+        "behaviours 2;0 create;0 start 1 1;1 setverdict pass;1 stopcase;0 getverdict",
+        "made 1;ok;ok;ok;ended;verdict error",
+        2,
+    )?;
+    replays(
+        &rt,
+        "behaviours 1;0 stopcase;0 getverdict",
+        "ok;ended;verdict error",
+        2,
+    )?;
+    replays(&rt, "behaviours 2;1 stopcase", "ended;verdict none", 0)
+}
+
+#[test]
 fn settings_of_the_main(rt: HostRuntime) -> Result<(), Fail> {
     replays(
         &rt,

@@ -1,5 +1,6 @@
-use Rattle.std.proofs.Common.{◌≡◌, ◌+◌, take, length, sum_by}
+use Rattle.std.proofs.Common.{◌≡◌, ◌+◌, take}
+use Rattle.tc_book.specs.Parts.{logged}
 use Rattle.tc_book.proofs.close.have_together.Given as goal
 
-abbrev pub invariant-loop-left : goal.invariant-loop-left
-invariant-loop-left l = l.rest + sum_by (λ m. length m.log) (take l.left-index l.lefts) ≡ l.count
+abbrev pub invariant-loop-log : goal.invariant-loop-log
+invariant-loop-log l = l.rest + logged (take l.log-index l.logs) ≡ l.count

@@ -4,7 +4,7 @@ use Rattle.tc_exec.specs.Gates.{AreAllowed}
 use Rattle.std.proofs.lemmas.List.{length-map}
 use Rattle.std.specs.Vec.{vec_len}
 use Rattle.tc_exec.proofs.Lists.{moved, whole}
-use Rattle.tc_exec.proofs.Gates.{allowed_more}
+use Rattle.tc_exec.proofs.Gates.{allowed_more, asked_up_to}
 use Rattle.tc_exec.proofs.worker.make_workers.Goals as goal
 
 pub loop-behaviour-preserved : goal.loop-behaviour-preserved
@@ -21,28 +21,12 @@ loop-behaviour-preserved g c =
     )
 
 pub returns-then-not-allow-clause-stopped : goal.returns-then-not-allow-clause-stopped
-returns-then-not-allow-clause-stopped g c = λ _. record {
-  asked = map (λ w. w.promise.run) c.loop-behaviour.workers.items;
-  last = c.in-Some-next.ticket;
-  left = into_iter_items c.next-in-loop-behaviour.new.self;
-  prefix = sym c.loop-behaviour.invariant.3 ∙ ap (λ rs. map (λ w. w.promise.run) c.loop-behaviour.workers.items ++ rs) c.in-Some-next.ensures.cases.0;
-  between = c.loop-behaviour.gate;
-  allowed = c.loop-behaviour.invariant.5;
-  answer = c.allow.result;
-  at_last = subst (λ run. g.G.Gate.asks c.loop-behaviour.gate run c.allow.new.self c.allow.result) c.run.ensures c.allow.ensures;
-}
+returns-then-not-allow-clause-stopped g c = λ _. asked_up_to g.G.Gate.asks (λ w. w.promise.run) c.loop-behaviour.workers.items _ _ _ c.in-Some-next.ticket _ _ _ c.loop-behaviour.gate _
+    c.loop-behaviour.invariant.3 c.in-Some-next.ensures.cases.0 c.loop-behaviour.invariant.5 c.allow.ensures c.run.ensures
 
 pub returns-in_default-spawn_with-clause-stopped : goal.returns-in_default-spawn_with-clause-stopped
-returns-in_default-spawn_with-clause-stopped g c = λ _. record {
-  asked = map (λ w. w.promise.run) c.loop-behaviour.workers.items;
-  last = c.in-Some-next.ticket;
-  left = into_iter_items c.next-in-loop-behaviour.new.self;
-  prefix = sym c.loop-behaviour.invariant.3 ∙ ap (λ rs. map (λ w. w.promise.run) c.loop-behaviour.workers.items ++ rs) c.in-Some-next.ensures.cases.0;
-  between = c.loop-behaviour.gate;
-  allowed = c.loop-behaviour.invariant.5;
-  answer = c.allow.result;
-  at_last = subst (λ run. g.G.Gate.asks c.loop-behaviour.gate run c.allow.new.self c.allow.result) c.run.ensures c.allow.ensures;
-}
+returns-in_default-spawn_with-clause-stopped g c = λ _. asked_up_to g.G.Gate.asks (λ w. w.promise.run) c.loop-behaviour.workers.items _ _ _ c.in-Some-next.ticket _ _ _ c.loop-behaviour.gate _
+    c.loop-behaviour.invariant.3 c.in-Some-next.ensures.cases.0 c.loop-behaviour.invariant.5 c.allow.ensures c.run.ensures
 
 pub returns-clause-asked : goal.returns-clause-asked
 returns-clause-asked g c = λ _.

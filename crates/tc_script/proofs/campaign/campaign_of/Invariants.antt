@@ -1,5 +1,5 @@
 use Rattle.std.proofs.Common.{◌≡◌, ◌++◌, length}
-use Rattle.tc_script.specs.Building.{HaveFewArguments, AreCases}
+use Rattle.tc_script.specs.Inside.Building.{HaveFewArguments, AreCases}
 use Rattle.tc_script.specs.Campaign.{cases}
 use Rattle.tc_script.proofs.campaign.campaign_of.Given as goal
 

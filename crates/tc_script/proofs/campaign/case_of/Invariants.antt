@@ -1,5 +1,5 @@
 use Rattle.std.proofs.Common.{◌≡◌, ◌++◌, length}
-use Rattle.tc_script.specs.Building.{HaveFewArguments, AreScripts}
+use Rattle.tc_script.specs.Inside.Building.{HaveFewArguments, AreScripts}
 use Rattle.tc_script.specs.Campaign.{behaviours}
 use Rattle.tc_script.proofs.campaign.case_of.Given as goal
 

@@ -1,6 +1,7 @@
 use Rattle.std.proofs.Common.{◌≡◌, ◌≤◌, length, map, take}
+use Rattle.tc_entry.specs.declared.limits.TheConstants.{ARGUMENTS}
 use Rattle.tc_script.specs.Campaign.{place}
 use Rattle.tc_script.proofs.steps.places_of.Given as goal
 
-abbrev pub invariant-loop-reference : goal.invariant-loop-reference
-invariant-loop-reference l = (l.places ≡ map (place l.bound) (take l.reference-index l.references)) × (length l.references ≤ 4)
+abbrev pub invariant-loop-place : goal.invariant-loop-place
+invariant-loop-place l = (l.places ≡ map (place l.bound) (take l.place-index l.named)) × (length l.named ≤ ARGUMENTS)

@@ -1,6 +1,6 @@
 use Rattle.std.proofs.Common.{◌≡◌, ◌++◌, [], length}
 use Rattle.tc_script.specs.Names.{all_of}
-use Rattle.tc_script.specs.Building.{HaveFewArguments}
+use Rattle.tc_script.specs.Inside.Building.{HaveFewArguments}
 use Rattle.tc_script.specs.Campaign.{steps}
 use Rattle.tc_script.proofs.steps.steps_of.Given as goal
 

@@ -1,5 +1,5 @@
 use Rattle.std.proofs.Common.{◌∙◌, ◌++◌}
-use Rattle.tc_text.specs.Reading.{verb_of, operand_text}
+use Rattle.tc_text.specs.Spelling.{verb_of, operand_text}
 use Rattle.tc_text.proofs.Verbs.{op_parts}
 use Rattle.tc_text.proofs.short.take_short_op.Goals as goal
 

@@ -6,10 +6,10 @@ run_cases-requires-clause-names g c κs within = even c.in_ok-campaign.campaign 
 
 pub returns-clause-done : goal.returns-clause-done
 returns-clause-done g c =
-    run_done _ _ _ c.in_ok-campaign.campaign c.in_ok-cases.cases.items c.in_ok-campaign.options _ _ _ _ c.run_cases.result
-    c.in_ok-campaign.ensures.spelled c.in_ok-campaign.ensures.fits c.in_ok-campaign.ensures.rule c.in_ok-campaign.ensures.form c.in_ok-cases.ensures c.run_cases.ensures.done
+    run_done _ _ _ c.in_ok-campaign.campaign c.in_ok-cases.cases.items c.in_ok-campaign.options _ c.run_cases.result
+    c.in_ok-campaign.ensures.spelled c.in_ok-campaign.ensures.lawful c.in_ok-campaign.ensures.fits c.in_ok-campaign.ensures.rule c.in_ok-campaign.ensures.form c.in_ok-cases.ensures c.run_cases.ensures.done
 
 pub returns-clause-refused : goal.returns-clause-refused
 returns-clause-refused g c =
     run_refused _ _ _ c.in_ok-campaign.campaign c.in_ok-cases.cases.items c.in_ok-campaign.options _ _ c.run_cases.result
-    c.in_ok-campaign.ensures.spelled c.in_ok-campaign.ensures.rule c.in_ok-campaign.ensures.form c.in_ok-cases.ensures c.run_cases.ensures.refused
+    c.in_ok-campaign.ensures.spelled c.in_ok-campaign.ensures.lawful c.in_ok-campaign.ensures.rule c.in_ok-campaign.ensures.form c.in_ok-cases.ensures c.run_cases.ensures.refused

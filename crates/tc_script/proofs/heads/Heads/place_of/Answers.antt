@@ -1,6 +1,6 @@
 use Rattle.std.proofs.Common.{◌∙◌, sym}
 use Rattle.tc_line.specs.Words.{is_text}
-use Rattle.tc_script.proofs.Places.{absent_head_at_end}
+use Rattle.tc_script.proofs.Positions.{absent_head_at_end}
 use Rattle.tc_script.proofs.heads.Heads.place_of.Goals as goal
 
 pub returns-in-None-clause-place : goal.returns-in-None-clause-place

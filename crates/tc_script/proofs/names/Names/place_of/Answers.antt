@@ -1,6 +1,6 @@
 use Rattle.std.proofs.Common.{◌∙◌, sym}
 use Rattle.std.proofs.lemmas.List.Sums.{prefix_len-le-length}
-use Rattle.tc_script.proofs.Places.{absent_at_end}
+use Rattle.tc_script.proofs.Positions.{absent_at_end}
 use Rattle.tc_line.specs.Words.{is_text}
 use Rattle.tc_script.specs.Names.{index_of}
 use Rattle.tc_script.proofs.names.Names.place_of.Goals as goal

@@ -1,0 +1,34 @@
+#!/usr/bin/env bash
+# Times a logged setting on 1, 2 and 4 threads beside a plain Rust loop, and prints nanoseconds a setting: the least of seven rounds.
+# The program is proved, built and run in a temporary folder, beside a copy of the crates.
+set -eu
+here=$(cd "$(dirname "${BASH_SOURCE[0]}")" && pwd)
+top=$here/../..
+work=$(mktemp -d)
+trap 'rm -rf "$work"' EXIT
+
+mkdir -p "$work/crates/times/src"
+for crate in tc_verdict tc_stream tc_entry tc_text tc_table tc_merge tc_board tc_words tc_book tc_exec; do
+    cp -r "$top/crates/$crate" "$work/crates/"
+    grep "^$crate:" "$top/crates.txt" >> "$work/crates.txt"
+done
+printf 'times: tc_exec tc_book tc_entry tc_verdict\n' >> "$work/crates.txt"
+cp "$top/HANDLES" "$work/"
+cp "$here/times.rt.txt" "$work/crates/times/src/main.rt"
+
+(cd "$work/crates/times" && rt run) > "$work/ours.txt" 2> "$work/log.txt" || { cat "$work/log.txt"; exit 1; }
+rustc --edition 2024 -O -o "$work/rust_times" "$here/times.rs"
+"$work/rust_times" > "$work/theirs.txt"
+
+awk '
+    $2 ~ /^[0-9]+$/ {
+        key = $1 SUBSEP (FILENAME ~ /ours.txt$/ ? "ours" : "theirs")
+        if (!(key in least) || $2 < least[key]) least[key] = $2
+    }
+    END {
+        printf "%-24s %12s %8s\n", "nanoseconds a setting", "set_verdict", "Rust"
+        for (threads = 1; threads <= 4; threads *= 2) {
+            printf "%-24s %12.2f %8.2f\n", threads " threads", least[threads, "ours"] / 200000, least[threads, "theirs"] / 200000
+        }
+    }
+' "$work/ours.txt" "$work/theirs.txt"

@@ -1,0 +1,52 @@
+//! Cases, one after the other.
+ghost use Rattle.std.specs.Prelude.{◌≤◌};
+
+use crate::case::run_case;
+use crate::judge::complaint;
+use crate::met::Met;
+use crate::random::Random;
+use crate::task::Task;
+use std::alloc::Global;
+use std::sync::Wait;
+use std::thread::Threads;
+
+/// The case that is not as it should be, and why not.
+#[derive(Drop)]
+pub(crate) struct Refusal {
+    pub(crate) case: u32,
+    pub(crate) why: &'static str,
+}
+
+/// How many behaviours a case has: of 40 cases 10 have 64, and the others 2 to 40.
+fn behaviours_of(case: u32) -> u16
+    ensures some { 1 ≤ result }
+    ensures few { result ≤ 64 }
+{
+    let place = case % 40;
+    if place % 4 == 0 { 64 } else { 1 + place as u16 }
+}
+
+/// What the cases of a task met; the first that is not as it should be ends them. The choices of a case come from the
+/// seed and the number of the case.
+pub(crate) fn run_cases<R: Threads + Wait + Copy + Send + 'static>(
+    rt: &R,
+    alloc: Global,
+    task: Task,
+) -> Result<Met, Refusal> {
+    let mut met = Met::default();
+    for case in 0..task.cases {
+        let mut random = Random::new(task.seed.wrapping_add(u64::from(case)));
+        let behaviours = behaviours_of(case);
+        let why = match run_case(rt, alloc, &mut random, behaviours) {
+            Ok(closed) => {
+                met.count_all(closed.history.as_slice());
+                complaint(alloc, behaviours, &closed)
+            }
+            Err(fault) => Some(fault.text()),
+        };
+        if let Some(why) = why {
+            return Err(Refusal { case, why });
+        }
+    }
+    Ok(met)
+}

@@ -1,0 +1,75 @@
+//! What is wrong with the report of a case.
+ghost use Rattle.std.specs.Prelude.{◌≤◌};
+
+use std::alloc::Global;
+use tc_book::Closed;
+use tc_entry::{Comp, Entry, Op, Reply, Run, UserVerdict, Verdict};
+use tc_table::replay_check;
+use tc_verdict::overwrite;
+
+/// How many entries a case of so many behaviours has at least; one of a few may end soon after its starts.
+fn least(behaviours: u16) -> usize {
+    match behaviours {
+        64 => 200,
+        10..=63 => 3 * usize::from(behaviours),
+        _ => usize::from(behaviours),
+    }
+}
+
+/// Whether nine of ten runs of a case were started.
+fn has_started(behaviours: u16, started: usize) -> bool {
+    usize::from(behaviours) * 9 <= started.saturating_mul(10)
+}
+
+/// Whether the local verdict of the run's component is no better than a setting of the run.
+fn is_counted(comps: &[Comp; 64], locals: &[Verdict], run: Run, setting: UserVerdict) -> bool {
+    let Some(comp) = comps.get(usize::from(run.0)) else {
+        return false;
+    };
+    match locals.get(comp.0 as usize) {
+        Some(local) => overwrite(*local, setting) == *local,
+        None => false,
+    }
+}
+
+/// Whether each setting that was replied Ok is counted in the local verdict of its component.
+pub(crate) fn are_counted(history: &[Entry], locals: &[Verdict]) -> bool {
+    let mut comps = [Comp(0); 64];
+    for entry in history {
+        match (&entry.op, entry.reply) {
+            (Op::Start { comp, run, .. }, Reply::Ok) => {
+                if let Some(place) = comps.get_mut(usize::from(run.0)) {
+                    *place = *comp;
+                }
+            }
+            (Op::SetVerdict(setting), Reply::Ok) => {
+                if !is_counted(&comps, locals, entry.caller, *setting) {
+                    return false;
+                }
+            }
+            _ => {}
+        }
+    }
+    true
+}
+
+/// What is wrong with the report of a case of so many behaviours, if anything is.
+pub(crate) fn complaint(alloc: Global, behaviours: u16, closed: &Closed) -> Option<&'static str>
+    requires some { 1 ≤ behaviours }
+    requires few { behaviours ≤ 64 }
+{
+    let history = closed.history.as_slice();
+    if replay_check(alloc, behaviours, history).ok() != Some(closed.verdict) {
+        return Some("it is replayed otherwise");
+    }
+    if !are_counted(history, closed.locals.as_slice()) {
+        return Some("a setting is not counted");
+    }
+    if !has_started(behaviours, closed.logs.as_slice().len()) {
+        return Some("it started too few runs");
+    }
+    if history.len() < least(behaviours) {
+        return Some("it has too few entries");
+    }
+    None
+}

@@ -1,0 +1,59 @@
+//! Many cases with random calls, on as many threads as behaviours: each report is replayed, and what was met is counted.
+#![tactic(auto)]
+
+mod calls;
+mod case;
+mod cases;
+mod judge;
+mod lead;
+mod met;
+mod random;
+mod task;
+#[cfg(test)]
+mod tests;
+
+use crate::cases::run_cases;
+use crate::task::read_task;
+use std::alloc::Global;
+use std::process::ExitCode;
+use std::sync::Wait;
+use std::thread::Threads;
+use std::{env, io};
+
+/// The status: 0 where all is well, 1 where a report is not as it should be or too little was met, 3 where the words ask
+/// for nothing.
+fn run<R: Threads + Wait + Print + Eprint + Copy + Send + 'static>(
+    rt: &R,
+    alloc: Global,
+    words: &[String],
+) -> io::Result<u8> {
+    let Some(task) = read_task(words) else {
+        eprintln!(rt; "usage: random_cases [CASES [SEED]]")?;
+        return Ok(3);
+    };
+    match run_cases(rt, alloc, task) {
+        Ok(met) => Ok(if met.tell(rt, task.cases)? { 0 } else { 1 }),
+        Err(refusal) => {
+            println!(rt;
+                "case {} of seed {}: {}",
+                refusal.case, task.seed, refusal.why
+            )?;
+            Ok(1)
+        }
+    }
+}
+
+fn words(rt: &HostRuntime) -> io::Result<Vec<String>> {
+    Ok(env::args(rt)?.collect(rt.alloc())?)
+}
+
+fn main(rt: HostRuntime) -> ExitCode {
+    let answer = match words(&rt) {
+        Ok(words) => run(&rt, rt.alloc(), words.as_slice()),
+        Err(error) => Err(error),
+    };
+    match answer {
+        Ok(status) => ExitCode::from(status),
+        Err(_) => ExitCode::from(3),
+    }
+}

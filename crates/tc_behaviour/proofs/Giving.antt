@@ -1,0 +1,110 @@
+-- Each Start that a script makes gives as many arguments as the behaviour of its run has parameters, where its steps say so.
+use Rattle.std.proofs.Common.{◌≡◌, ◌∙◌, ◌==◌, inl, inr, Bool, true, false, Some, List, [], ◌∷◌, All, length, refl, sym, ap, subst, arith}
+use Rattle.std.specs.Prelude.{slice_get}
+use Rattle.std.specs.Option.{option_map}
+use Rattle.std.proofs.lemmas.List.{length-map}
+use Rattle.std.proofs.lemmas.List.Elements.{All-nil, All-cons, All-append, All-tail}
+use Rattle.std.proofs.lemmas.Bool.Decides.{nat_tests}
+use Rattle.tc_verdict.specs.declared.run.Run.{Run}
+use Rattle.tc_entry.specs.declared.comp.Comp.{Comp}
+use Rattle.tc_entry.specs.declared.entry.Entry.{Entry}
+use Rattle.tc_entry.specs.declared.op.Op.{Op}
+use Rattle.tc_entry.specs.declared.op.Op.TheVariants as O
+use Rattle.tc_entry.specs.declared.op.Target.{Target}
+use Rattle.tc_entry.specs.declared.reply.Reply.{Reply}
+use Rattle.tc_entry.specs.declared.reply.Reply.TheVariants as R
+use Rattle.tc_step.specs.declared.step.Status.{Status}
+use Rattle.tc_step.specs.declared.step.Status.TheVariants as Asks
+use Rattle.tc_step.specs.declared.step.Step.{Step}
+use Rattle.tc_step.specs.declared.step.Step.TheVariants as S
+use Rattle.tc_step.specs.Steps.{ScriptView}
+use Rattle.tc_script.specs.Scope.{Head}
+use Rattle.tc_script.specs.Law.{StartsOne}
+use Rattle.tc_book.specs.Passes.{PassState, LeftState, has_ended, added, entry_of}
+use Rattle.tc_exec.specs.declared.job.Back.{Back}
+use Rattle.tc_exec.specs.Workers.{HasLeft, IsLeftBy}
+use Rattle.tc_behaviour.specs.Acts.{Acts}
+use Rattle.tc_behaviour.specs.Calls.{Calls, HasCalled, none, one_more, operation, question, target, component}
+
+-- a Start is of a behaviour with as many parameters as it gives arguments
+abbrev pub GivesAll : List Head → Op → Type 0
+GivesAll hs (O.Start on run args) = option_map (λ h. h.1) (slice_get hs run.0) ≡ Some (length args)
+GivesAll hs _ = Unit {0}
+
+-- each Start among these entries is
+abbrev pub GiveAll : List Head → List Entry → Type 0
+GiveAll hs entries = All (λ e. GivesAll hs e.op) entries
+
+pub give_none : (hs : List Head) → GiveAll hs []
+give_none hs = All-nil (λ e. GivesAll hs e.op)
+
+question_gives : (hs : List Head) (status : Status) (t : Target) → GivesAll hs (question status t)
+question_gives hs Asks.Running t = tt
+question_gives hs Asks.Alive t = tt
+question_gives hs Asks.Done t = tt
+question_gives hs Asks.Killed t = tt
+
+operation_gives : (hs : List Head) (me : Comp) (bound : List Comp) (s : Step) → StartsOne hs s → GivesAll hs (operation me bound s)
+operation_gives hs me bound (S.Create alive) one = tt
+operation_gives hs me bound (S.Start on run args) one = one ∙ ap Some (sym (length-map args (component me bound)))
+operation_gives hs me bound (S.Stop g) one = tt
+operation_gives hs me bound (S.Kill g) one = tt
+operation_gives hs me bound (S.Ask status t) one = question_gives hs status (target me bound t)
+operation_gives hs me bound (S.Wait killed t) one = tt
+operation_gives hs me bound (S.SetVerdict v) one = tt
+operation_gives hs me bound S.StopCase one = tt
+operation_gives hs me bound S.GetVerdict one = tt
+
+-- one entry more
+added_gives : (hs : List Head) (p q : PassState) (op : Op) (r : Reply) → q ≡ added p op r → GivesAll hs op → GiveAll hs p.log → GiveAll hs q.log
+added_gives hs p q op r is one all =
+    let e = entry_of p.run op r in
+    let more : GiveAll hs (added p op r).log = All-append (λ e. GivesAll hs e.op) p.log (e ∷ []) all (All-cons (λ e. GivesAll hs e.op) e [] one (give_none hs)) in
+    subst (λ x. GiveAll hs x.log) (sym is) more
+
+-- the call of one step
+call_gives : (hs : List Head) (s : Step) (bound : List Comp) (p q : PassState) (r : Reply) → StartsOne hs s → Calls bound s p q r → GiveAll hs p.log → GiveAll hs q.log
+call_gives hs (S.Create alive) bound p q r one is all = added_gives hs p q (operation p.me bound (S.Create alive)) r is (operation_gives hs p.me bound (S.Create alive) one) all
+call_gives hs (S.Start on run args) bound p q r one is all =
+    added_gives hs p q (operation p.me bound (S.Start on run args)) r is (operation_gives hs p.me bound (S.Start on run args) one) all
+call_gives hs (S.Stop g) bound p q r one is all = added_gives hs p q (operation p.me bound (S.Stop g)) r is (operation_gives hs p.me bound (S.Stop g) one) all
+call_gives hs (S.Kill g) bound p q r one is all = added_gives hs p q (operation p.me bound (S.Kill g)) r is (operation_gives hs p.me bound (S.Kill g) one) all
+call_gives hs (S.Ask status t) bound p q r one is all = added_gives hs p q (operation p.me bound (S.Ask status t)) r is (operation_gives hs p.me bound (S.Ask status t) one) all
+call_gives hs (S.Wait killed t) bound p q r one (inl is) all = added_gives hs p q (O.Wait killed (target p.me bound t)) r is tt all
+call_gives hs (S.Wait killed t) bound p q r one (inr is) all =
+    let parked : PassState = added p (O.Wait killed (target p.me bound t)) R.Parked in
+    added_gives hs parked q (O.Wake killed (target p.me bound t)) r is tt (added_gives hs p parked (O.Wait killed (target p.me bound t)) R.Parked refl tt all)
+call_gives hs (S.SetVerdict v) bound p q r one is all = added_gives hs p q (O.SetVerdict v) r is tt all
+call_gives hs S.StopCase bound p q r one is all = added_gives hs p q O.StopCase r is tt all
+call_gives hs S.GetVerdict bound p q r one is all = added_gives hs p q O.GetVerdict r is tt all
+
+-- the calls of the first steps, and the steps that are left
+calls_give : (hs : List Head) (steps : List Step) (start : PassState) (left : List Step) (bound : List Comp) (now : PassState)
+    → HasCalled steps start left bound now → All (StartsOne hs) steps → GiveAll hs start.log → All (StartsOne hs) left × GiveAll hs now.log
+calls_give hs steps start _ _ _ none ones all = (ones, all)
+calls_give hs steps start _ _ _ (one_more s left bound before after reply called on calls) ones all =
+    let so_far = calls_give hs steps start (s ∷ left) bound before called ones all in
+    (All-tail (StartsOne hs) s left so_far.0, call_gives hs s bound before after reply (so_far.0 0 s (omega arith)) calls so_far.1)
+
+-- the pass that a script hands back
+back_gives : (hs : List Head) (s : ScriptView) (p : PassState) (b : Back) → All (StartsOne hs) s.steps → p.log ≡ [] → Acts s p b → GiveAll hs b.pass.log
+back_gives hs s p b ones new acts = by (length p.args == s.parameters) refl
+  where
+    empty : GiveAll hs p.log
+    empty = subst (GiveAll hs) (sym new) (give_none hs)
+
+    by : (t : Bool) → (length p.args == s.parameters) ≡ t → GiveAll hs b.pass.log
+    by true is = let run = acts.calls (grind (arith, nat_tests)) in (calls_give hs s.steps p run.left run.bound b.pass run.called ones empty).1
+    by false is = subst (λ q. GiveAll hs q.log) (sym (acts.other_count (grind (arith, nat_tests))).0) empty
+
+left_gives : (hs : List Head) (p : PassState) (l : LeftState) → HasLeft p l → GiveAll hs p.log → GiveAll hs l.log
+left_gives hs p l left all = by (has_ended p) refl
+  where
+    by : (t : Bool) → has_ended p ≡ t → GiveAll hs l.log
+    by true is = subst (GiveAll hs) (sym (left.ended is)) all
+    by false is = let f = left.finished is in subst (GiveAll hs) (sym f.1) (added_gives hs p (added p O.Finish f.0) O.Finish f.0 refl tt all)
+
+-- what the worker of a run left
+pub worker_gives : (hs : List Head) (run : Run) (s : ScriptView) (l : LeftState) → All (StartsOne hs) s.steps → IsLeftBy Acts run s l → GiveAll hs l.log
+worker_gives hs run s l ones (inl unstarted) = subst (GiveAll hs) (sym (ap (λ h. h.left.log) unstarted)) (give_none hs)
+worker_gives hs run s l ones (inr w) = left_gives hs w.called.back.pass l w.called.left (back_gives hs s w.pass w.called.back ones w.new w.called.outcome_of)

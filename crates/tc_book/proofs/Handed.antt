@@ -1,0 +1,53 @@
+-- The answers of a hand, as an entry is added to its log.
+use Rattle.std.proofs.Common.{ℕ, ◌≡◌, ◌≢◌, false, List, [], ◌∷◌, ◌++◌, refl, ap, sym, ◌∙◌, append_assoc}
+use Rattle.std.proofs.lemmas.List.{append-nil}
+use Rattle.tc_verdict.specs.declared.user_verdict.UserVerdict.{UserVerdict}
+use Rattle.tc_verdict.specs.declared.user_verdict.UserVerdict.TheVariants as U
+use Rattle.tc_verdict.specs.UserVerdict.{given}
+use Rattle.tc_entry.specs.declared.entry.Entry.{Entry}
+use Rattle.tc_entry.specs.declared.op.Op.{Op}
+use Rattle.tc_entry.specs.declared.op.Op.TheVariants as O
+use Rattle.tc_entry.specs.declared.reply.Reply.{Reply}
+use Rattle.tc_merge.specs.Merge.{is_verdict_call}
+use Rattle.tc_board.specs.declared.answer.Answer.TheVariants.{Met, Found}
+use Rattle.tc_board.specs.Hand.{HandView}
+use Rattle.tc_book.specs.Hands.{found_by, answer_in, answers_in, IsHandOf, Says}
+
+answers_end : (log : List Entry) (e : Entry) → answers_in (log ++ e ∷ []) ≡ answers_in log ++ answer_in e.op e.reply
+answers_end [] e = append-nil (answer_in e.op e.reply)
+answers_end (x ∷ log) e = ap (λ l. answer_in x.op x.reply ++ l) (answers_end log e) ∙ sym (append_assoc (answer_in x.op x.reply) (answers_in log) (answer_in e.op e.reply))
+
+no_answer : (op : Op) (reply : Reply) → is_verdict_call op ≡ false → answer_in op reply ≡ []
+no_answer (O.SetVerdict v) reply h = absurd cc
+no_answer O.GetVerdict reply h = absurd cc
+no_answer _ reply h = refl
+
+-- an entry of no verdict call
+pub hand_other : (hand : HandView) (run : ℕ) (log after : List Entry) (e : Entry) → is_verdict_call e.op ≡ false → after ≡ log ++ e ∷ [] → IsHandOf hand run log → IsHandOf hand run after
+hand_other hand run log after e other is h = record {
+  of_run = h.of_run;
+  answers = h.answers ∙ ap (λ l. Met ∷ l) (sym (ap answers_in is ∙ (answers_end log e ∙ (ap (λ l. answers_in log ++ l) (no_answer e.op e.reply other) ∙ append-nil (answers_in log)))));
+}
+
+-- an entry of a verdict call
+pub hand_said : (hand hand' : HandView) (run : ℕ) (log after : List Entry) (e : Entry) → Says e.op e.reply hand hand' → after ≡ log ++ e ∷ [] → IsHandOf hand run log → IsHandOf hand' run after
+hand_said hand hand' run log after e says is h = let x = says.0 in let said = says.1 in let given = says.2 in record {
+  of_run = ap (λ (k : HandView). k.run) given ∙ h.of_run;
+  answers = ap (λ (k : HandView). k.answers) given ∙ (ap (λ l. l ++ x ∷ []) h.answers
+      ∙ ap (λ l. Met ∷ l) (sym (ap answers_in is ∙ (answers_end log e ∙ ap (λ l. answers_in log ++ l) said))));
+}
+
+-- the log is as it was
+pub hand_same : (hand : HandView) (run : ℕ) (log after : List Entry) → after ≡ log → IsHandOf hand run log → IsHandOf hand run after
+hand_same hand run log after same h = rw same h
+
+pub found_given : (v : UserVerdict) → found_by (given v) ≡ Found v ∷ []
+found_given U.None = refl
+found_given U.Pass = refl
+found_given U.Inconc = refl
+found_given U.Fail = refl
+
+pub met_then : (hand : HandView) (run : ℕ) (log : List Entry) → IsHandOf hand run log → hand.answers ≢ []
+met_then hand run log h e = let q : Met ∷ answers_in log ≡ [] = sym h.answers ∙ e in absurd cc
+
+pub ruleset hand_rules = (hand_other, hand_said, hand_same, met_then)

@@ -1,0 +1,130 @@
+-- What came back is whole by the merged history, where it is one of each run and its logs are the parts of that history.
+use Rattle.std.proofs.Common.{ℕ, zero, suc, ◌≡◌, ◌+◌, ◌<◌, ◌≤◌, ◌==◌, cond, if◌then◌else◌, Bool, true, false, Option, List, [], ◌∷◌, length, reverse, map, sum_by, count_by, get_or, refl, sym, ap, ◌∙◌, subst, arith, eq-eqb}
+use Rattle.std.specs.List.{All}
+use Rattle.std.proofs.lemmas.Bool.Decides.{nat_tests}
+use Rattle.std.proofs.lemmas.List.Elements.{All-map}
+use Rattle.std.proofs.lemmas.List.Sums.{sum_by-cons}
+use Rattle.tc_entry.specs.declared.comp.Comp.{Comp}
+use Rattle.tc_entry.specs.declared.entry.Entry.{Entry}
+use Rattle.tc_table.specs.History.{is_over}
+use Rattle.tc_merge.specs.declared.run_log.RunLog.{RunLog}
+use Rattle.tc_book.specs.Passes.{LeftState}
+use Rattle.tc_merge.specs.Merge.{log_of}
+use Rattle.tc_merge.proofs.Kept.{others-merge}
+use Rattle.tc_board.specs.declared.record.Record.{Record}
+use Rattle.tc_book.specs.Closing.{is_of_run, IsFitting, IsWhole, IsMerged, run_log, merged}
+use Rattle.tc_book.proofs.Skipping.{starts_same}
+use Rattle.tc_book.specs.Parts.{part, logged}
+use Rattle.tc_book.specs.Inside.{ArePlaced, KnowsStarts, KnowsParts}
+use Rattle.tc_book.proofs.PartOf.{comp_known}
+
+logged_map : (lefts : List LeftState) → logged (map run_log lefts) ≡ sum_by (λ l. length l.log) lefts
+logged_map [] = refl
+logged_map (l ∷ lefts) = omega (arith, logged_map lefts, sum_by-cons (λ (r : RunLog). length r.entries) (run_log l) (map run_log lefts), sum_by-cons (λ (m : LeftState). length m.log) l lefts)
+
+-- the logs are of runs that there are
+pub within_logs : (n : ℕ) (starts : List (Option (Comp × List Comp))) (lefts : List LeftState) (logs : List RunLog) → ArePlaced n starts lefts → logs ≡ map run_log lefts → All (λ l. l.run.0 < n) logs
+within_logs n starts lefts logs placed are = rw are (All-map (λ (l : RunLog). l.run.0 < n) run_log lefts placed.one_each.within)
+
+-- a run that is there is counted
+counted : (lefts : List LeftState) (k : ℕ) (d : LeftState) → k < length lefts → 1 ≤ count_by (is_of_run (get_or lefts k d).run.0) lefts
+counted [] k d below = absurd (omega arith)
+counted (l ∷ lefts) zero d below =
+    let test : (l.run.0 == l.run.0) ≡ true = eq-eqb l.run.0 l.run.0 refl in
+    let one : ℕ = 1 in
+    let this : cond (is_of_run l.run.0 l) one 0 ≡ one = rw test refl in
+    omega (arith, this, sum_by-cons (λ (m : LeftState). cond (is_of_run l.run.0 m) 1 0) l lefts)
+counted (l ∷ lefts) (suc k) d below =
+    let b : ℕ = (get_or lefts k d).run.0 in
+    omega (arith, counted lefts k d (omega arith), sum_by-cons (λ (m : LeftState). cond (is_of_run b m) 1 0) l lefts)
+
+-- of what came back of one of each run, the log by a run's number is that of the run
+own_log : (lefts : List LeftState) (k : ℕ) (d : LeftState) → k < length lefts → count_by (is_of_run (get_or lefts k d).run.0) lefts ≡ 1 →
+    log_of (map run_log lefts) (get_or lefts k d).run.0 ≡ (get_or lefts k d).log
+own_log [] k d below one = absurd (omega arith)
+own_log (l ∷ lefts) zero d below one = let test : (l.run.0 == l.run.0) ≡ true = eq-eqb l.run.0 l.run.0 refl in rw test refl
+own_log (l ∷ lefts) (suc k) d below one =
+    by_test (l.run.0 == (get_or lefts k d).run.0) (counted lefts k d (omega arith)) (own_log lefts k d (omega arith)) (sum_by-cons (λ (m : LeftState). cond (is_of_run (get_or lefts k d).run.0 m) 1 0) l lefts)
+  where
+    by_test : (t : Bool) → 1 ≤ count_by (is_of_run (get_or lefts k d).run.0) lefts →
+        (count_by (is_of_run (get_or lefts k d).run.0) lefts ≡ 1 → log_of (map run_log lefts) (get_or lefts k d).run.0 ≡ (get_or lefts k d).log) →
+        count_by (is_of_run (get_or lefts k d).run.0) (l ∷ lefts) ≡ cond t 1 0 + count_by (is_of_run (get_or lefts k d).run.0) lefts →
+        (if t then l.log else log_of (map run_log lefts) (get_or lefts k d).run.0) ≡ (get_or lefts k d).log
+    by_test true there before count = absurd (omega (arith, one, there, count))
+    by_test false there before count = before (omega (arith, one, count))
+
+-- where what came back fits a history, the log by a run's number is the run's part of it
+log_of_fits : (h : List Entry) (lefts : List LeftState) (b : ℕ) → 1 ≤ count_by (is_of_run b) lefts → All (IsFitting h) lefts → log_of (map run_log lefts) b ≡ part h b
+log_of_fits h [] b some fits = absurd (omega arith)
+log_of_fits h (l ∷ lefts) b some fits =
+    by_test (l.run.0 == b) refl (λ more. log_of_fits h lefts b more (λ k d below. fits (suc k) d (omega arith))) (sum_by-cons (λ (m : LeftState). cond (is_of_run b m) 1 0) l lefts)
+  where
+    by_test : (t : Bool) → (l.run.0 == b) ≡ t → (1 ≤ count_by (is_of_run b) lefts → log_of (map run_log lefts) b ≡ part h b) →
+        count_by (is_of_run b) (l ∷ lefts) ≡ cond t 1 0 + count_by (is_of_run b) lefts →
+        (if t then l.log else log_of (map run_log lefts) b) ≡ part h b
+    by_test true same before count = let q : l.run.0 ≡ b = grind (arith, nat_tests) in (fits 0 l (omega arith)).part ∙ ap (part h) q
+    by_test false other before count = before (omega (arith, some, count))
+
+-- these lists are the logs that came back, each at the number of its run
+pub record AreLogs (n : ℕ) (parts : List (List Entry)) (logs : List RunLog) (lefts : List LeftState) : Type 0 where
+  pub as_many : length parts ≡ n
+  pub are : logs ≡ map run_log lefts
+  pub each : (b : ℕ) → b < n → get_or parts b [] ≡ log_of logs b
+
+-- where these are what is kept of the merged history, what came back is whole by it
+pub whole_by : (n : ℕ) (starts : List (Option (Comp × List Comp))) (parts : List (List Entry)) (h : List Entry) (lefts : List LeftState) (logs : List RunLog) →
+    KnowsStarts starts (reverse h) → KnowsParts parts h → AreLogs n parts logs lefts → ArePlaced n starts lefts → is_over (reverse h) ≡ true → length h ≡ logged logs → IsWhole n h lefts
+whole_by n starts parts h lefts logs known parts_known put placed over as_long =
+    record {
+      one_each = placed.one_each;
+      over = over;
+      fitting = λ k d q.
+          let l : LeftState = get_or lefts k d in
+          let place = placed.each k d q in
+          let within : l.run.0 < n = placed.one_each.within k d q in
+          let own : log_of logs l.run.0 ≡ l.log = ap (λ ls. log_of ls l.run.0) put.are ∙ own_log lefts k d q (placed.one_each.each l.run.0 within) in
+          record {
+            part = sym own ∙ (sym (put.each l.run.0 within) ∙ parts_known l.run.0 (let b : l.run.0 < length parts = rw put.as_many within in b));
+            started = λ some. place.started some ∙ known l.run.0;
+            unstarted = λ none. place.unstarted (comp_known starts (reverse h) l.run.0 known ∙ none);
+          };
+      as_long = as_long ∙ (ap logged put.are ∙ logged_map lefts);
+    }
+
+-- and only there
+pub whole_placed : (n : ℕ) (starts : List (Option (Comp × List Comp))) (h : List Entry) (lefts : List LeftState) → KnowsStarts starts (reverse h) → IsWhole n h lefts → ArePlaced n starts lefts
+whole_placed n starts h lefts known w = record {
+  one_each = w.one_each;
+  each = λ k d q.
+      let l : LeftState = get_or lefts k d in
+      let fit = w.fitting k d q in
+      record {
+        started = λ some. fit.started some ∙ sym (known l.run.0);
+        unstarted = λ none. fit.unstarted (sym (comp_known starts (reverse h) l.run.0 known) ∙ none);
+      };
+}
+
+pub whole_parts : (n : ℕ) (parts : List (List Entry)) (h : List Entry) (lefts : List LeftState) (logs : List RunLog) → AreLogs n parts logs lefts → IsWhole n h lefts → KnowsParts parts h
+whole_parts n parts h lefts logs put w b below =
+    let within : b < n = rw put.as_many at below in
+    put.each b within ∙ (ap (λ ls. log_of ls b) put.are ∙ log_of_fits h lefts b (omega (arith, w.one_each.each b within)) w.fitting)
+
+pub whole_together : (n : ℕ) (h : List Entry) (lefts : List LeftState) (logs : List RunLog) → logs ≡ map run_log lefts → IsWhole n h lefts → length h ≡ logged logs
+whole_together n h lefts logs are w = w.as_long ∙ (sym (logged_map lefts) ∙ ap logged (sym are))
+
+-- the starts of a book's history are those of the merged one
+pub merged_starts : (starts : List (Option (Comp × List Comp))) (k : List Entry) (lefts : List LeftState) → KnowsStarts starts (reverse k) → KnowsStarts starts (reverse (merged k lefts))
+merged_starts starts k lefts known = starts_same starts (merged k lefts) k (others-merge k (map run_log lefts)) known
+
+-- what is kept of a book and what came back, under the names that a caller has for it
+pub record AtClose (n n' : ℕ) (starts starts' : List (Option (Comp × List Comp))) (k k' : List Entry) (lefts lefts' : List LeftState) : Type 0 where
+  pub same_n : n' ≡ n
+  pub same_starts : starts' ≡ starts
+  pub same_history : k' ≡ k
+  pub same_lefts : lefts' ≡ lefts
+  pub known : KnowsStarts starts (reverse k)
+
+pub torn_placed : (n n' : ℕ) (starts starts' : List (Option (Comp × List Comp))) (k k' : List Entry) (words : List Record) (lefts lefts' : List LeftState) →
+    AtClose n n' starts starts' k k' lefts lefts' → IsMerged n k' words lefts → ArePlaced n' starts' lefts'
+torn_placed n n' starts starts' k k' words lefts lefts' a m =
+    rw (a.same_n, a.same_starts, a.same_lefts) (whole_placed n starts (merged k' lefts) lefts (subst (λ h. KnowsStarts starts (reverse (merged h lefts))) (sym a.same_history) (merged_starts starts k lefts a.known)) m.whole)

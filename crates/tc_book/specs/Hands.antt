@@ -1,0 +1,44 @@
+-- The answers that the hand of a pass had, by the verdict entries of its log.
+use Rattle.std.specs.Prelude.{ℕ, ◌≡◌, List, [], ◌∷◌, ◌++◌}
+use Rattle.tc_verdict.specs.declared.verdict.Verdict.{Verdict}
+use Rattle.tc_verdict.specs.declared.verdict.Verdict.TheVariants as V
+use Rattle.tc_verdict.specs.declared.user_verdict.UserVerdict.TheVariants as U
+use Rattle.tc_entry.specs.declared.entry.Entry.{Entry}
+use Rattle.tc_entry.specs.declared.op.Op.{Op}
+use Rattle.tc_entry.specs.declared.op.Op.TheVariants as O
+use Rattle.tc_entry.specs.declared.reply.Reply.{Reply}
+use Rattle.tc_entry.specs.declared.reply.Reply.TheVariants as R
+use Rattle.tc_board.specs.declared.answer.Answer.{Answer}
+use Rattle.tc_board.specs.declared.answer.Answer.TheVariants.{Met, Taken, Found, Shut}
+use Rattle.tc_board.specs.Hand.{HandView, answered}
+
+-- a verdict that was found; error is never in a word
+abbrev pub found_by : Verdict → List Answer
+found_by V.None = Found U.None ∷ []
+found_by V.Pass = Found U.Pass ∷ []
+found_by V.Inconc = Found U.Inconc ∷ []
+found_by V.Fail = Found U.Fail ∷ []
+found_by V.Error = []
+
+-- what the hand was answered for an entry: a setting replied Ok was taken, a get found its reply, and a call replied Ended found
+-- the word closed; for any other entry the hand is not asked
+abbrev pub answer_in : Op → Reply → List Answer
+answer_in (O.SetVerdict v) R.Ok = Taken v ∷ []
+answer_in (O.SetVerdict v) R.Ended = Shut ∷ []
+answer_in O.GetVerdict (R.Local v) = found_by v
+answer_in O.GetVerdict R.Ended = Shut ∷ []
+answer_in _ _ = []
+
+-- the same for the entries of a log, in their order
+abbrev pub answers_in : List Entry → List Answer
+answers_in [] = []
+answers_in (e ∷ log) = answer_in e.op e.reply ++ answers_in log
+
+-- a call of the hand had the answer of an entry with this reply
+abbrev pub Says : Op → Reply → HandView → HandView → Type 0
+Says op reply before after = (x : Answer) × (answer_in op reply ≡ x ∷ []) × (after ≡ answered before x)
+
+-- a hand of this run, which met its word and then had the answers of this log's verdict entries
+pub record IsHandOf (hand : HandView) (run : ℕ) (log : List Entry) : Type 0 where
+  pub of_run : hand.run ≡ run
+  pub answers : hand.answers ≡ Met ∷ answers_in log

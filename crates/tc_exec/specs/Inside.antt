@@ -1,0 +1,40 @@
+-- What the functions inside of a case say, which no public clause names.
+use Rattle.std.specs.Prelude.{ℕ, ◌≡◌, ◌≢◌, ◌<◌, ◌+◌, ◌++◌, false, None, List, length, map, slice_index_or}
+use Rattle.std.specs.declared.thread.PromisedHandle.{PromisedHandle}
+use Rattle.tc_verdict.specs.declared.run.Run.{Run}
+use Rattle.tc_book.specs.Passes.{PassState, LeftState}
+use Rattle.tc_exec.specs.declared.job.Back.{Back}
+use Rattle.tc_exec.specs.declared.gathered.Gathered.{Gathered}
+use Rattle.tc_exec.specs.declared.handed.Handed.{Handed}
+use Rattle.tc_exec.specs.declared.worker.Task.{Task}
+use Rattle.tc_exec.specs.Workers.{AreLeftBy}
+
+-- the runs of these workers
+abbrev pub runs_of : {B : Type 0} → List (PromisedHandle Handed (Task B)) → List Run
+runs_of workers = map (λ w. w.promise.run) workers
+
+-- the behaviours of these workers
+abbrev pub jobs_of : {B : Type 0} → List (PromisedHandle Handed (Task B)) → List B
+jobs_of workers = map (λ w. w.promise.behaviour.value) workers
+
+-- these are the runs above run 0, in their order
+abbrev pub AreAbove : List Run → Type 0
+AreAbove runs = (k : ℕ) (run : Run) → k < length runs → (slice_index_or runs k run).0 ≡ k + 1
+
+-- the first of what was left is that of a run that was started
+abbrev pub IsFirstStarted : List LeftState → Type 0
+IsFirstStarted lefts = (d : LeftState) → (slice_index_or lefts 0 d).started ≢ None
+
+-- what was left first is left first still
+abbrev pub KeepsFirst : List LeftState → List LeftState → Type 0
+KeepsFirst before after = (d : LeftState) → 0 < length before → slice_index_or after 0 d ≡ slice_index_or before 0 d
+
+module _ {B : Type 0} (outcome : B → PassState → Back → Type 0) where
+  -- unless memory was refused to a behaviour, what was gathered is what the workers of these runs left, each with its own behaviour
+  abbrev pub Gathers : List Run → List B → Gathered → Type 0
+  Gathers runs behaviours g = g.starved ≡ false → AreLeftBy outcome runs behaviours g.lefts.items
+
+  -- what these runs left, with their behaviours, was added to what was gathered, whichever runs that was of
+  abbrev pub GathersMore : List Run → List B → Gathered → Gathered → Type 0
+  GathersMore runs behaviours before after =
+      (others : List Run) (theirs : List B) → Gathers others theirs before → Gathers (others ++ runs) (theirs ++ behaviours) after

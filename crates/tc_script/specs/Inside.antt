@@ -1,0 +1,4 @@
+-- What only the two passes need: no public clause names a word of these files.
+pub mod Counts
+pub mod Passing
+pub mod Building

@@ -1,0 +1,32 @@
+-- What lines without a fault give: behaviours within their limits, whose references are bound.
+use Rattle.std.specs.Prelude.{◌≤◌, List, [], ◌∷◌, length}
+use Rattle.tc_entry.specs.declared.limits.TheConstants.{ARGUMENTS, BEHAVIOURS}
+use Rattle.tc_line.specs.declared.line.Line.{Line}
+use Rattle.tc_line.specs.declared.line.Line.TheVariants as L
+use Rattle.tc_step.specs.Steps.{IsScript}
+use Rattle.tc_script.specs.Names.{all_of}
+use Rattle.tc_script.specs.FirstPass.{given}
+use Rattle.tc_script.specs.Scope.{Head, heads}
+use Rattle.tc_script.specs.Campaign.{steps}
+
+-- a start gives no more arguments than a behaviour may have
+abbrev pub HasFewArguments : Line → Type 0
+HasFewArguments (L.Step call) = given call ≤ ARGUMENTS
+HasFewArguments _ = Unit {0}
+
+-- each start among these lines
+abbrev pub HaveFewArguments : List Line → Type 0
+HaveFewArguments [] = Unit {0}
+HaveFewArguments (l ∷ rest) = HasFewArguments l × HaveFewArguments rest
+
+-- each behaviour makes a script
+abbrev pub AreScripts : List Head → List Line → Type 0
+AreScripts hs [] = Unit {0}
+AreScripts hs (L.Behaviour n ps ∷ rest) = IsScript (length ps) (steps hs (all_of [] ps) rest) × AreScripts hs rest
+AreScripts hs (_ ∷ rest) = AreScripts hs rest
+
+-- each test case has few behaviours, and each of them makes a script
+abbrev pub AreCases : List Line → Type 0
+AreCases [] = Unit {0}
+AreCases (L.TestCase n ∷ rest) = (length (heads rest) ≤ BEHAVIOURS) × AreScripts (heads rest) rest × AreCases rest
+AreCases (_ ∷ rest) = AreCases rest

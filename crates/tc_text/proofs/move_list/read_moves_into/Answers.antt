@@ -1,0 +1,48 @@
+use Rattle.std.proofs.Common.{◌≡◌, ◌<◌, length, arith}
+use Rattle.std.proofs.lemmas.Grind.{common_steps}
+use Rattle.std.proofs.lemmas.List.{nil_from_length}
+use Rattle.tc_text.proofs.LinesOf.{not_empty}
+use Rattle.tc_text.proofs.SoFar.{bad_first, made_none, made_more, made_all, made_only, made_bad, no_list}
+use Rattle.tc_text.proofs.move_list.read_moves_into.Goals as goal
+
+pub returns-in_default-clause-fault : goal.returns-in_default-clause-fault
+returns-in_default-clause-fault g c =
+    let some : 0 < length c.args.text.now = grind (arith, common_steps) in
+    rw c.at-in_default.ensures (bad_first c.args.text.now (not_empty c.args.text.now some) c.in_default.ensures.only)
+
+pub returns-in_default-clause-only : goal.returns-in_default-clause-only
+returns-in_default-clause-only g c n ms list = absurd (c.in_default.ensures.only n _ list.behaviours list.lines)
+
+pub loop-rest-init : goal.loop-rest-init
+loop-rest-init g c =
+    let first = c.in-Some.ensures in
+    (made_none g.T.TakesMoves.stands c.args.text.now c.in-Some.behaviours c.in-Some.rest.now c.in_ok-made.made first.few first.spelled first.only c.in_ok-made.ensures, grind (arith, common_steps))
+
+pub returns-in_default-take_move_line-clause-fault : goal.returns-in_default-take_move_line-clause-fault
+returns-in_default-take_move_line-clause-fault g c =
+    let some : 0 < length c.loop-rest.rest.now = grind (arith, common_steps) in
+    rw c.at-in_default-take_move_line.ensures
+    (made_bad g.T.TakesMoves.stands c.args.text.now c.in-Some.behaviours c.loop-rest.line c.loop-rest.rest.now c.loop-rest.made c.loop-rest.invariant.0 (not_empty c.loop-rest.rest.now some) c.in_default-take_move_line.ensures.only)
+
+pub returns-in_default-take_move_line-clause-only : goal.returns-in_default-take_move_line-clause-only
+returns-in_default-take_move_line-clause-only g c n ms list =
+    let some : 0 < length c.loop-rest.rest.now = grind (arith, common_steps) in
+    absurd (no_list c.args.text.now c.in-Some.behaviours c.loop-rest.invariant.0.moves c.loop-rest.rest.now (not_empty c.loop-rest.rest.now some) c.loop-rest.invariant.0.read c.in_default-take_move_line.ensures.only n ms list)
+
+pub loop-rest-preserved : goal.loop-rest-preserved
+loop-rest-preserved g c =
+    let line = c.in-Some-take_move_line in (
+      made_more g.T.TakesMoves.stands c.args.text.now c.in-Some.behaviours c.loop-rest.line c.loop-rest.rest.now line.behind.now c.loop-rest.made c.take.new.self line.one c.loop-rest.invariant.0
+          line.ensures.spelled line.ensures.fits line.ensures.only c.in_ok-take.ensures,
+      grind (arith, common_steps),
+    )
+
+pub returns-clause-ok : goal.returns-clause-ok
+returns-clause-ok g c =
+    let none : length c.loop-rest.rest.now ≡ 0 = grind (arith, common_steps) in
+    made_all g.T.TakesMoves.stands c.args.text.now c.in-Some.behaviours c.loop-rest.line c.loop-rest.rest.now c.loop-rest.made c.loop-rest.invariant.0 (nil_from_length c.loop-rest.rest.now none)
+
+pub returns-clause-only : goal.returns-clause-only
+returns-clause-only g c n ms list =
+    let none : length c.loop-rest.rest.now ≡ 0 = grind (arith, common_steps) in
+    made_only g.T.TakesMoves.stands c.args.text.now c.in-Some.behaviours c.loop-rest.line c.loop-rest.rest.now c.loop-rest.made c.loop-rest.invariant.0 (nil_from_length c.loop-rest.rest.now none) n ms list

@@ -1,7 +1,0 @@
-use Rattle.std.proofs.Common.{◌∙◌, ◌++◌}
-use Rattle.tc_text.specs.Reading.{verb_of, operand_text}
-use Rattle.tc_text.proofs.Verbs.{op_parts}
-use Rattle.tc_text.proofs.moves.take_op.Goals as goal
-
-pub returns-in_err-verb-clause-only : goal.returns-in_err-verb-clause-only
-returns-in_err-verb-clause-only c op rest fits ends e = absurd (c.in_err-verb.ensures.only (verb_of op) (operand_text op ++ rest) (e ∙ op_parts op rest))

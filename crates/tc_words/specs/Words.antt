@@ -1,0 +1,90 @@
+-- The words of the verdict board beside a history without verdict entries: what was done with the word of each run.
+-- `past` lists the entries so far, the newest first, and `words` has the record of each run's word, by its number.
+use Rattle.std.specs.Prelude.{ℕ, ◌≡◌, ◌<◌, if◌then◌else◌, Bool, true, false, Option, Some, None, is_some, List, [], ◌∷◌, length, slice_index_or}
+use Rattle.tc_verdict.specs.declared.run.Run.{Run}
+use Rattle.tc_verdict.specs.declared.user_verdict.UserVerdict.{UserVerdict}
+use Rattle.tc_verdict.specs.declared.user_verdict.UserVerdict.TheVariants as U
+use Rattle.tc_entry.specs.declared.comp.Comp.{Comp}
+use Rattle.tc_entry.specs.declared.entry.Entry.{Entry}
+use Rattle.tc_entry.specs.declared.op.Op.{Op}
+use Rattle.tc_entry.specs.declared.op.Op.TheVariants as O
+use Rattle.tc_table.specs.History.{comp_of, is_ok, starts_run}
+use Rattle.tc_table.specs.Phases.{last_run}
+use Rattle.tc_table.specs.Answers.{is_active}
+use Rattle.tc_board.specs.declared.record.Record.{Record}
+use Rattle.tc_board.specs.declared.record.Record.TheVariants.{Unbegun, Open, Closed}
+
+-- the word was begun and not closed yet
+abbrev pub is_open : Record → Bool
+is_open (Open carried) = true
+is_open _ = false
+
+-- the word was begun and closed
+abbrev pub is_closed : Record → Bool
+is_closed (Closed carried counted) = true
+is_closed _ = false
+
+-- the verdict that the close of a word gave
+abbrev pub closing : Record → UserVerdict
+closing (Closed carried counted) = counted
+closing _ = U.None
+
+-- what was done with the word of run b
+abbrev pub record_at : List Record → ℕ → Record
+record_at words b = slice_index_or words b Unbegun
+
+-- what the close of this run's word gave: none where there is no run
+abbrev pub left_by : List Record → Option Run → UserVerdict
+left_by words (Some run) = closing (record_at words run.0)
+left_by words None = U.None
+
+-- the component on which the entry starts run b
+abbrev pub starts_on : Entry → ℕ → Option Comp
+starts_on e b = if is_ok e.reply then starts_run e.op b else None
+
+-- the last run on this component, if there is one
+abbrev pub last_on : List Entry → Option Comp → Option Run
+last_on past (Some c) = last_run past c.0
+last_on past None = None
+
+-- the run before run b on its component: the last on it as run b was started
+abbrev pub run_before : List Entry → ℕ → Option Run
+run_before [] b = None
+run_before (e ∷ past) b = if is_some (comp_of past b) then run_before past b else last_on past (starts_on e b)
+
+-- what the component of run b carried as the run was started: what the close of the word of the run before it gave
+abbrev pub carried : List Record → List Entry → ℕ → UserVerdict
+carried words past b = left_by words (run_before past b)
+
+-- the record of the word of a run, by the component that it was started on, whether it is going on, and both verdicts
+abbrev pub record_for : Option Comp → Bool → UserVerdict → UserVerdict → Record
+record_for None active u v = Unbegun
+record_for (Some c) true u v = Open u
+record_for (Some c) false u v = Closed u v
+
+-- The word of a run is unbegun where it was never started, open where it is going on, and closed where it was halted. It was
+-- begun with what the close of the word of the run before it on its component gave, or with none where there is no such run.
+pub record AreTold (n : ℕ) (past : List Entry) (words : List Record) : Type 0 where
+  pub as_many : length words ≡ n
+  pub each : (b : ℕ) → b < n → record_at words b ≡ record_for (comp_of past b) (is_active past b) (carried words past b) (closing (record_at words b))
+  -- the word of the run before another on its component is closed
+  pub before : (b : ℕ) (a : Run) → run_before past b ≡ Some a → is_closed (record_at words a.0) ≡ true
+
+-- a word that was closed stays as it was
+abbrev pub StayClosed : List Record → List Record → Type 0
+StayClosed before after = (b : ℕ) → is_closed (record_at before b) ≡ true → record_at after b ≡ record_at before b
+
+-- what the component carries on which this call would start a run
+abbrev pub carried_to : List Record → List Entry → Op → UserVerdict
+carried_to words past (O.Start c run args) = left_by words (last_run past c.0)
+carried_to words past _ = U.None
+
+-- the entries before the newest
+abbrev pub earlier : List Entry → List Entry
+earlier [] = []
+earlier (e ∷ past) = past
+
+-- what the component carried on which the newest entry would start a run
+abbrev pub carried_to_newest : List Record → List Entry → UserVerdict
+carried_to_newest words [] = U.None
+carried_to_newest words (e ∷ past) = carried_to words past e.op
