@@ -95,7 +95,7 @@ REFUSED_LISTS: List[Tuple[str, bytes, int, str]] = [
     ("a_tab", b"behaviours 1\n0\tcreate\n", 2, "bad move"),
     ("a_move_without_a_caller", text("behaviours 1;create"), 2, "bad move"),
     ("a_named_create", text("behaviours 1;0 create named pump"), 2, "bad move"),
-    ("a_stop_of_the_case_with_a_word_too_many", text("behaviours 1;0 stopcase all"), 2, "bad move"),
+    ("a_stop_of_a_case_with_a_word_too_many", text("behaviours 1;0 stopcase all"), 2, "bad move"),
 ]
 
 INACTIVE = "history 1 t 1;0 create -> made 1;0 stop 1 -> ok;0 alive 1 -> true;"
