@@ -6,7 +6,7 @@ ghost use Rattle.tc_line.specs.declared.line.Keyword.TheVariants as K;
 use crate::kind::{LineFault, ScriptKind};
 use crate::line::{Call, Keyword, Line};
 use crate::spelling::{is_word, read_keyword, read_verdict};
-use crate::text::words_of;
+use crate::text::read_words;
 use crate::word::read_name;
 use std::alloc::Global;
 use tc_entry::{Name, Sequence};
@@ -288,12 +288,16 @@ fn is_comment(word: &[u8]) -> bool
     }
 }
 
-/// What a line says.
+/// What a line says. The list holds its words meanwhile: given to the next line, it takes no memory anew.
 #[tactic(auto, unfolding(crate::specs::Line::line_of))]
-pub fn read_line(alloc: Global, line: &[u8]) -> Result<Line, LineFault>
+pub fn read_line<'t>(
+    alloc: Global,
+    line: &'t [u8],
+    words: &mut Vec<&'t [u8]>,
+) -> Result<Line, LineFault>
     ensures { Gives result (line_of line.now) }
 {
-    let words = words_of(alloc, line)?;
+    read_words(line, words)?;
     let Some((first, rest)) = words.as_slice().split_first() else {
         return Ok(Line::Skipped);
     };

@@ -4,7 +4,7 @@ use std::process::Abort;
 use std::test::Fail;
 
 fn kind_of<R: Abort + AllocGlobal>(rt: &R, line: &str) -> Option<ScriptKind> {
-    match read_line(rt.alloc(), line.as_bytes()) {
+    match read_line(rt.alloc(), line.as_bytes(), &mut Vec::new(rt.alloc())) {
         Ok(_) => None,
         Err(LineFault::Kind(kind)) => Some(kind),
         Err(LineFault::NoMemory) => panic!(rt; "no memory"),
@@ -92,7 +92,11 @@ fn is_bound<R: Abort>(rt: &R, reference: &Place<Name>, name: &str) {
 
 #[test]
 fn a_start_and_its_words(rt: HostRuntime) {
-    let Ok(line) = read_line(rt.alloc(), b" start p worker  mtc q self") else {
+    let Ok(line) = read_line(
+        rt.alloc(),
+        b" start p worker  mtc q self",
+        &mut Vec::new(rt.alloc()),
+    ) else {
         panic!(rt; "no line");
     };
     match &line {

@@ -1,15 +1,20 @@
 //! The lines of a text, and the words of a line.
-ghost use Rattle.std.specs.Prelude.{◌≡◌, IfOk, map};
+ghost use Rattle.std.specs.Prelude.{◌≡◌, IfOk, OnOk, map};
 ghost use Rattle.tc_line.specs.Text.{lines, words, parts, is_newline, without_end};
 
 use std::alloc::{AllocError, Global};
 
-/// The words of a line.
-pub fn words_of(alloc: Global, line: &[u8]) -> Result<Vec<&[u8]>, AllocError>
-    ensures { IfOk result (λ v. map (λ w. w.now) v.items ≡ words line.now) }
+/// Leaves the words of a line in the list, in place of what was there.
+pub fn read_words<'t>(line: &'t [u8], list: &mut Vec<&'t [u8]>) -> Result<(), AllocError>
+    ensures { OnOk result (map (λ w. w.now) list.new.items ≡ words line.now) }
 {
-    let parts = line.split(|byte| *byte == b' ');
-    parts.filter(|word| !word.is_empty()).collect(alloc)
+    list.clear();
+    for part in line.split(|byte| *byte == b' ') {
+        if !part.is_empty() {
+            list.push(part)?;
+        }
+    }
+    Ok(())
 }
 
 fn parts_of(alloc: Global, text: &[u8]) -> Result<Vec<&[u8]>, AllocError>

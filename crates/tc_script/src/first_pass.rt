@@ -14,15 +14,16 @@ use tc_line::{Line, LineFault, ScriptKind, lines_of, read_line};
 
 // The line of that number, and what is remembered behind it.
 #[tactic(auto, using(crate::proofs::FirstPass::parsing_rules))]
-fn parse_line(
+fn parse_line<'t>(
     alloc: Global,
     number: usize,
     counts: Counts,
-    text: &[u8],
+    text: &'t [u8],
+    words: &mut Vec<&'t [u8]>,
 ) -> Result<(Line, Counts), ReadFault>
     ensures { (past : List TheLine) → counts ≡ counts_of past → number ≡ length past + 1 → Takes past result (judged past text.now) }
 {
-    let line = match read_line(alloc, text) {
+    let line = match read_line(alloc, text, words) {
         Ok(line) => line,
         Err(LineFault::Kind(kind)) => {
             return Err(ReadFault::Script(ScriptFault { line: number, kind }));
@@ -52,8 +53,10 @@ fn parse_lines(alloc: Global, texts: &[&[u8]]) -> Result<Vec<Line>, ReadFault>
 {
     let mut lines = Vec::new(alloc);
     let mut counts = opening();
+    let mut words = Vec::new(alloc);
     for text in texts {
-        let (line, after) = match parse_line(alloc, lines.as_slice().len() + 1, counts, text) {
+        let number = lines.as_slice().len() + 1;
+        let (line, after) = match parse_line(alloc, number, counts, text, &mut words) {
             Ok(taken) => taken,
             Err(fault) => return Err(fault),
         };
