@@ -8,3 +8,4 @@ pub mod SecondPass
 pub mod Binding
 pub mod Lawful
 pub mod Sound
+pub mod Behind

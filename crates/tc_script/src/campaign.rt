@@ -1,7 +1,7 @@
 //! The campaign that a script spells: its test cases, and their behaviours.
 ghost use Rattle.std.specs.Prelude.{◌≡◌, ◌≤◌, [], ◌∷◌, ◌++◌, length, OnOk, OnErr, IfOk, MatchOption};
 ghost use Rattle.tc_entry.specs.declared.limits.TheConstants.{BEHAVIOURS};
-ghost use Rattle.tc_script.specs.Inside.Building.{HaveFewArguments, AreScripts, AreCases};
+ghost use Rattle.tc_script.specs.Inside.Building.{HaveFewArguments, AreScripts, AreCases, from_next_case};
 ghost use Rattle.tc_script.specs.Campaign.{behaviours, cases};
 
 use crate::heads::{Heads, heads_of};
@@ -90,31 +90,38 @@ impl Campaign {
     }
 }
 
-/// The behaviours up to the next test case.
-fn case_of(alloc: Global, heads: &Heads, lines: &[Line]) -> Result<CaseScript, AllocError>
+/// The behaviours up to the next test case, and the lines from it on.
+#[tactic(auto, using(crate::proofs::Behind::behind_rules))]
+fn case_of<'l>(
+    alloc: Global,
+    heads: &Heads,
+    lines: &'l [Line],
+) -> Result<(CaseScript, &'l [Line]), AllocError>
     requires few_heads { length heads.now ≤ BEHAVIOURS }
     requires few_arguments { HaveFewArguments lines.now }
     requires scripts { AreScripts heads.now lines.now }
-    ensures { IfOk result (λ c. c ≡ behaviours heads.now lines.now) }
+    ensures case { IfOk result (λ c. c.0 ≡ behaviours heads.now lines.now) }
+    ensures behind { IfOk result (λ c. c.1.now ≡ from_next_case lines.now) }
 {
     let mut found = CaseScript::new(alloc);
     let mut rest = lines;
     while let Some((line, others)) = rest.split_first() {
         match line {
-            Line::TestCase(_) => return Ok(found),
+            Line::TestCase(_) => return Ok((found, rest)),
             Line::Behaviour(name, parameters) => {
                 let parameters = parameters.as_slice();
-                let steps = steps_of(alloc, heads, parameters, others)?;
+                let (steps, behind) = steps_of(alloc, heads, parameters, others)?;
                 found.add(name.copy(), Script::new(parameters.len(), steps))?;
+                rest = behind;
             }
-            _ => {}
+            _ => rest = others,
         }
-        rest = others;
     }
-    Ok(found)
+    Ok((found, rest))
 }
 
 /// The campaign of lines without a fault.
+#[tactic(auto, using(crate::proofs::Behind::behind_rules))]
 pub fn campaign_of(alloc: Global, lines: &[Line]) -> Result<Campaign, AllocError>
     requires few_arguments { HaveFewArguments lines.now }
     requires cases { AreCases lines.now }
@@ -123,11 +130,13 @@ pub fn campaign_of(alloc: Global, lines: &[Line]) -> Result<Campaign, AllocError
     let mut found = Campaign::new(alloc);
     let mut rest = lines;
     while let Some((line, others)) = rest.split_first() {
+        rest = others;
         if let Line::TestCase(name) = line {
             let heads = heads_of(alloc, others)?;
-            found.add(name.copy(), case_of(alloc, &heads, others)?)?;
+            let (case, behind) = case_of(alloc, &heads, others)?;
+            found.add(name.copy(), case)?;
+            rest = behind;
         }
-        rest = others;
     }
     Ok(found)
 }

@@ -4,7 +4,7 @@ ghost use Rattle.tc_entry.specs.declared.limits.TheConstants.{ARGUMENTS, BEHAVIO
 ghost use Rattle.tc_script.specs.Campaign.{place as the_place, step_of, steps};
 ghost use Rattle.tc_script.specs.Names.{all_of};
 ghost use Rattle.tc_script.specs.FirstPass.{given};
-ghost use Rattle.tc_script.specs.Inside.Building.{HaveFewArguments};
+ghost use Rattle.tc_script.specs.Inside.Building.{HaveFewArguments, behind_steps};
 
 use crate::heads::Heads;
 use crate::names::Names;
@@ -63,16 +63,18 @@ fn step_at(heads: &Heads, bound: &Names, call: &Call) -> Step
     }
 }
 
-/// The steps up to the end of a behaviour with these parameters, whose lines these begin with.
-pub fn steps_of(
+/// The steps up to the end of a behaviour with these parameters, whose lines these begin with, and the lines from that
+/// end on.
+pub fn steps_of<'l>(
     alloc: Global,
     heads: &Heads,
     parameters: &[Name],
-    lines: &[Line],
-) -> Result<Vec<Step>, AllocError>
+    lines: &'l [Line],
+) -> Result<(Vec<Step>, &'l [Line]), AllocError>
     requires few_heads { length heads.now ≤ BEHAVIOURS }
     requires few_arguments { HaveFewArguments lines.now }
-    ensures { IfOk result (λ v. v.items ≡ steps heads.now (all_of [] parameters.now) lines.now) }
+    ensures steps { IfOk result (λ v. v.0.items ≡ steps heads.now (all_of [] parameters.now) lines.now) }
+    ensures behind { IfOk result (λ v. v.1.now ≡ behind_steps lines.now) }
 {
     let mut bound = bound_by(alloc, parameters)?;
     let mut found = Vec::new(alloc);
@@ -84,9 +86,9 @@ pub fn steps_of(
                 found.push(step_at(heads, &bound, call))?;
                 bind(&mut bound, call)?;
             }
-            _ => return Ok(found),
+            _ => return Ok((found, rest)),
         }
         rest = others;
     }
-    Ok(found)
+    Ok((found, rest))
 }

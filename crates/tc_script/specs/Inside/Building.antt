@@ -30,3 +30,15 @@ abbrev pub AreCases : List Line → Type 0
 AreCases [] = Unit {0}
 AreCases (L.TestCase n ∷ rest) = (length (heads rest) ≤ BEHAVIOURS) × AreScripts (heads rest) rest × AreCases rest
 AreCases (_ ∷ rest) = AreCases rest
+
+-- what stands behind the steps and the blank lines at the head of these lines
+abbrev pub behind_steps : List Line → List Line
+behind_steps (L.Step call ∷ rest) = behind_steps rest
+behind_steps (L.Skipped ∷ rest) = behind_steps rest
+behind_steps ls = ls
+
+-- the lines from the next test case on
+abbrev pub from_next_case : List Line → List Line
+from_next_case [] = []
+from_next_case (L.TestCase n ∷ rest) = L.TestCase n ∷ rest
+from_next_case (_ ∷ rest) = from_next_case rest

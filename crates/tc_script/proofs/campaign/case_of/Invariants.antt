@@ -1,10 +1,10 @@
 use Rattle.std.proofs.Common.{◌≡◌, ◌++◌, length}
-use Rattle.tc_script.specs.Inside.Building.{HaveFewArguments, AreScripts}
+use Rattle.tc_script.specs.Inside.Building.{HaveFewArguments, AreScripts, from_next_case}
 use Rattle.tc_script.specs.Campaign.{behaviours}
 use Rattle.tc_script.proofs.campaign.case_of.Given as goal
 
 abbrev pub invariant-loop-line : goal.invariant-loop-line
-invariant-loop-line l = (l.found ++ behaviours l.heads l.rest ≡ behaviours l.heads l.lines) × HaveFewArguments l.rest × AreScripts l.heads l.rest
+invariant-loop-line l = (l.found ++ behaviours l.heads l.rest ≡ behaviours l.heads l.lines) × HaveFewArguments l.rest × AreScripts l.heads l.rest × (from_next_case l.rest ≡ from_next_case l.lines)
 
 abbrev pub decreases-loop-line : goal.decreases-loop-line
 decreases-loop-line l = length l.rest
