@@ -23,7 +23,7 @@ from tree import SECONDS, Ran, Tree, hold
 Test = Callable[[Tree], None]
 TESTS: Dict[str, Test] = {}
 # There are no fewer tests.
-FEWEST = 40
+FEWEST = 42
 # A change so many seconds ago, by its file times, came before the program was built.
 OLD = 1000
 
@@ -296,6 +296,15 @@ def a_build_that_was_cut_before_its_stamp(tree: Tree) -> None:
 
 
 @test
+def a_source_that_is_changed_during_a_build(tree: Tree) -> None:
+    started = tree.start(["a"], FAKE_PAUSE="0.4")
+    wait_for(lambda: bool(tree.calls()), "rt runs")
+    tree.write("crates/tc_high/src/src of.rt", "-- changed\n", OLD)
+    hold(tree.ended(started).status == 0, "the first build")
+    hold(is_built_again(tree, lambda: None), "a source was changed during the build")
+
+
+@test
 def two_calls_at_once(tree: Tree) -> None:
     first = tree.start(["a"], FAKE_PAUSE="0.4")
     wait_for(lambda: bool(tree.calls()), "the first builds")
@@ -394,10 +403,16 @@ def a_line_for_each_crate(tree: Tree) -> None:
 @test
 def a_line_a_minute(tree: Tree) -> None:
     started = tree.start(["a"], FAKE_PAUSE="100")
+    wait_for(lambda: bool(tree.calls()), "rt runs")
+    second = tree.start(["b"])
     time.sleep(63)
     started.send_signal(signal.SIGTERM)
     lines = [it for it in tree.ended(started).lines() if "tc_low" in it]
     hold(len(lines) == 2 and "1 min " in lines[1], f"two lines in a minute are wanted: {lines}")
+    wait_for(lambda: tree.calls().count("run -- --help") == 2, "the second builds")
+    second.send_signal(signal.SIGTERM)
+    lines = tree.ended(second).lines()
+    hold(lines[1:3] == ["ttrun: still waiting for it", lines[2]] and "proving" in lines[2], f"{lines}")
 
 
 @test

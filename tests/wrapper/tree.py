@@ -149,7 +149,8 @@ class Tree:
     def environment(self, has_rt: bool = True, **more: str) -> Dict[str, str]:
         """The environment of a call; without rt there is no other either."""
         path = f"{self.bin}:/usr/bin:/bin" if has_rt else self.without_rt()
-        return {"PATH": path, "HOME": self.room, "TMPDIR": os.path.join(self.room, "tmp"), "FAKE_FOLDER": self.room, "TERM": "xterm", **more}
+        room = os.path.join(self.room, "tmp")
+        return {"PATH": path, "HOME": self.room, "TMPDIR": room, "FAKE_FOLDER": self.room, "TERM": "xterm", **more}
 
     def without_rt(self) -> str:
         """A folder with links to all tools but rt."""
