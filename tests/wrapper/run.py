@@ -18,7 +18,7 @@ from typing import Callable, Dict, List
 
 sys.dont_write_bytecode = True
 
-from tree import SECONDS, Ran, Tree, hold
+from tree import SECONDS, STARTING, Ran, Tree, hold
 
 Test = Callable[[Tree], None]
 TESTS: Dict[str, Test] = {}
@@ -192,7 +192,8 @@ def a_link_to_it(tree: Tree) -> None:
 
 @test
 def a_copy_of_it(tree: Tree) -> None:
-    shutil.copy2(tree.path("ttrun"), tree.bin)
+    with STARTING:
+        shutil.copy2(tree.path("ttrun"), tree.bin)
     hold_refused(tree.call("a", command=[os.path.join(tree.bin, "ttrun")]), "crates.txt", "link")
 
 
@@ -201,7 +202,8 @@ def a_restored_program_on_a_fresh_clone(tree: Tree) -> None:
     built(tree)
     clone = Tree()
     try:
-        shutil.copytree(tree.path("crates/ttrun/out"), clone.path("crates/ttrun/out"))
+        with STARTING:
+            shutil.copytree(tree.path("crates/ttrun/out"), clone.path("crates/ttrun/out"))
         for name in os.listdir(clone.path("crates/ttrun/out")):
             os.utime(clone.path(f"crates/ttrun/out/{name}"), (1, 1))
         hold_program(clone.call("a", has_rt="no"))
@@ -274,7 +276,7 @@ def a_program_without_a_stamp(tree: Tree) -> None:
 @test
 def a_program_that_was_exchanged(tree: Tree) -> None:
     built(tree)
-    with open(tree.program, "a", encoding="utf-8") as it:
+    with STARTING, open(tree.program, "a", encoding="utf-8") as it:
         it.write("echo exchanged\n")
     hold(is_built_again(tree, lambda: None), "the program was exchanged")
 
@@ -361,7 +363,7 @@ def a_build_that_leaves_no_program(tree: Tree) -> None:
 @test
 def a_program_that_does_not_run_here(tree: Tree) -> None:
     built(tree)
-    with open(tree.program, "wb") as it:
+    with STARTING, open(tree.program, "wb") as it:
         it.write(b"\x7fELF\x00\x00 of another machine")
     os.remove(f"{tree.program}.sources")
     ran = tree.call("a", has_rt="no")

@@ -19,6 +19,9 @@ TOP = os.path.dirname(os.path.dirname(os.path.dirname(os.path.abspath(__file__))
 # A call that has not ended after so many seconds is stopped, and its test has failed.
 SECONDS = 120
 NOBODY = 65534
+# Held while a file is written that is to be run, and while a call is started: a process that begins at that moment would
+# hold the file open for writing, and no such file runs.
+STARTING = threading.Lock()
 CRATES = "# Each crate.\ntc_low: thiserror\ntc_high: tc_low\nother: tc_low\nttrun: tc_high tc_low clap\n"
 # What rt says of each crate, and the program that it leaves. FAKE_PAUSE is how long each crate takes.
 RT = r"""#!/usr/bin/env bash
@@ -109,9 +112,10 @@ class Tree:
             for part, ending in (("src", "rt"), ("specs", "antt"), ("proofs", "antt"), ("must-fail", "edit")):
                 self.write(f"crates/{crate}/{part}/{part} of.{ending}", f"-- {crate} {part}\n")
         self.write("crates.txt", CRATES)
-        shutil.copy2(os.path.join(TOP, "ttrun"), self.path("ttrun"))
-        with open(os.path.join(self.bin, "rt"), "w", encoding="utf-8") as it:
-            it.write(RT)
+        with STARTING:
+            shutil.copy2(os.path.join(TOP, "ttrun"), self.path("ttrun"))
+            with open(os.path.join(self.bin, "rt"), "w", encoding="utf-8") as it:
+                it.write(RT)
         os.chmod(os.path.join(self.bin, "rt"), 0o755)
         self.program = self.path("crates/ttrun/out/ttrun")
 
@@ -166,8 +170,10 @@ class Tree:
         pipes = streams or {"stdin": subprocess.PIPE, "stdout": subprocess.PIPE, "stderr": subprocess.PIPE}
         has_rt = more.pop("has_rt", "yes") == "yes"
         folder = more.pop("folder", self.room)
-        return subprocess.Popen([*(command or [self.path("ttrun")]), *words], cwd=folder, env=self.environment(has_rt, **more),
-                                preexec_fn=as_user(drops), start_new_session=True, **pipes)
+        environment = self.environment(has_rt, **more)
+        with STARTING:
+            return subprocess.Popen([*(command or [self.path("ttrun")]), *words], cwd=folder, env=environment,
+                                    preexec_fn=as_user(drops), start_new_session=True, **pipes)
 
     def call(self, *words: str, given: bytes = b"", **how) -> Ran:
         """Calls the wrapper, and waits for its end."""
