@@ -25,6 +25,7 @@ import random_scripts
 import rows
 import scripts
 import sizes
+import terminal
 import words
 from case import Case, faults_of, run, shown_command
 from judged import Judgement
@@ -38,6 +39,7 @@ GROUPS = (
     ("words", words.cases, 60),
     ("devices", devices.cases, 75),
     ("sizes", sizes.cases, 29),
+    ("terminal", terminal.cases, 9),
     ("examples", examples.cases, 38),
     ("documents", documents_run.cases, 2),
 )

@@ -1,0 +1,531 @@
+#!/usr/bin/env python3
+"""The wrapper's tests: calls ./ttrun in trees of their own, over a stand-in for rt that proves nothing and writes a stand-in program.
+
+usage: tests/wrapper/run.py [--only WORD] [--list]
+
+The last line is 'N passed, M failed'; the status is 0 where nothing failed, else 1.
+"""
+from __future__ import annotations
+
+import argparse
+import os
+import shutil
+import signal
+import sys
+import time
+from concurrent.futures import ThreadPoolExecutor
+from typing import Callable, Dict, List
+
+sys.dont_write_bytecode = True
+
+from tree import SECONDS, STARTING, Ran, Tree, hold
+
+Test = Callable[[Tree], None]
+TESTS: Dict[str, Test] = {}
+# There are no fewer tests.
+FEWEST = 42
+# A change so many seconds ago, by its file times, came before the program was built.
+OLD = 1000
+
+
+def test(judge: Test) -> Test:
+    """Lists a test under its name."""
+    TESTS[judge.__name__] = judge
+    return judge
+
+
+def hold_refused(ran: Ran, *words: str) -> None:
+    """Holds a call to one line on standard error that has these words, and to status 3."""
+    hold(ran.status == 3, f"status {ran.status}: {ran.errors!r}")
+    hold(not ran.output and len(ran.lines()) == 1, f"one line is wanted: {ran.output!r} {ran.errors!r}")
+    hold(all(it in ran.lines()[0] for it in words), f"{words} are not all in {ran.lines()[0]!r}")
+
+
+def hold_program(ran: Ran, status: int = 0) -> None:
+    """Holds a call to what the stand-in program gives, and nothing of the wrapper's own."""
+    hold((ran.output, ran.errors, ran.status) == (b"<a>", b"told\n", status), f"no plain run of the program: {ran}")
+
+
+def hold_runs(tree: Tree, count: int) -> None:
+    """Holds the calls of rt to their number, and to no input."""
+    hold(tree.calls() == ["run -- --help"] * count, f"{count} calls of rt are wanted: {tree.calls()}")
+
+
+def built(tree: Tree) -> Tree:
+    """The tree with a program."""
+    ran = tree.call("a")
+    hold(ran.status == 0 and ran.output == b"<a>" and ran.lines()[-2].startswith("ttrun: built in "), f"not built: {ran}")
+    return tree
+
+
+def wait_for(is_so: Callable[[], bool], text: str) -> None:
+    """Waits until something is so."""
+    until = time.monotonic() + SECONDS
+    while not is_so():
+        hold(time.monotonic() < until, f"in vain: {text}")
+        time.sleep(0.05)
+
+
+@test
+def builds_once_and_runs(tree: Tree) -> None:
+    built(tree)
+    hold_program(tree.call("a"))
+    hold_runs(tree, 1)
+
+
+@test
+def words_and_bytes_pass_through(tree: Tree) -> None:
+    given = bytes(range(256)) * 5000
+    for _ in range(2):
+        ran = tree.call("a b", "", "*", "$x", "--help", given=given)
+        hold(ran.output == b"<a b><><*><$x><--help>" + given, f"{len(ran.output)} bytes came")
+    hold(ran.errors == b"told\n", f"{ran.errors!r}")
+    hold_runs(tree, 1)
+
+
+@test
+def every_status_passes_through(tree: Tree) -> None:
+    hold(tree.call("a", ENDS="2").status == 2, "the status of the first call")
+    for status in (0, 1, 2, 3, 77):
+        hold_program(tree.call("a", ENDS=str(status)), status)
+
+
+@test
+def the_program_takes_the_place_of_the_wrapper(tree: Tree) -> None:
+    for _ in range(2):
+        started = tree.start(["id"])
+        ran = tree.ended(started)
+        hold(ran.output == b"%d\n" % started.pid, f"{ran.output!r} is not {started.pid}")
+
+
+@test
+def the_program_inherits_nothing_of_the_wrapper(tree: Tree) -> None:
+    first = tree.call("state", folder=tree.bin)
+    plain = tree.ended(tree.start(["state"], command=[tree.program], folder=tree.bin))
+    hold(first.output == plain.output, f"after a build {first.output!r}, alone {plain.output!r}")
+    hold(tree.call("state", folder=tree.bin).output == plain.output, "without a build")
+    ignoring = ["sh", "-c", 'trap "" INT HUP; exec "$@"', "sh"]
+    os.remove(tree.program)
+    hold(tree.ended(tree.start(["state"], command=[*ignoring, tree.path("ttrun")])).output
+         == tree.ended(tree.start(["state"], command=[*ignoring, tree.program])).output, "with signals that are ignored")
+
+
+@test
+def rt_gets_no_input(tree: Tree) -> None:
+    ran = tree.call("a", given=b"all of it")
+    hold(ran.output == b"<a>all of it", f"{ran.output!r}")
+    hold_runs(tree, 1)
+
+
+@test
+def no_rt(tree: Tree) -> None:
+    hold_refused(tree.call("a", has_rt="no"), "no rt on the path")
+
+
+@test
+def no_rt_but_a_program(tree: Tree) -> None:
+    hold_program(built(tree).call("a", has_rt="no"))
+
+
+@test
+def no_folder_for_temporary_files(tree: Tree) -> None:
+    for room in (os.path.join(tree.room, "none"), "relative", tree.path("crates.txt")):
+        hold_refused(tree.call("a", TMPDIR=room), "temporary", room)
+    hold_runs(tree, 0)
+
+
+@test
+def a_folder_for_temporary_files_that_cannot_be_written(tree: Tree) -> None:
+    tree.open_to_all()
+    tree.close_to_writing("tmp")
+    hold_refused(tree.call("a", drops=True), "temporary", os.path.join(tree.room, "tmp"))
+    hold_runs(tree, 0)
+
+
+@test
+def no_folder_for_temporary_files_but_a_program(tree: Tree) -> None:
+    hold_program(built(tree).call("a", TMPDIR="/nowhere"))
+
+
+@test
+def a_tree_that_cannot_be_written(tree: Tree) -> None:
+    tree.open_to_all()
+    tree.close_to_writing("a tree")
+    hold_refused(tree.call("a", drops=True), "cannot be written", tree.path("crates"))
+    hold_runs(tree, 0)
+
+
+@test
+def a_library_that_cannot_be_written(tree: Tree) -> None:
+    tree.open_to_all()
+    os.makedirs(tree.path("crates/tc_low/out"))
+    tree.close_to_writing("a tree/crates/tc_low")
+    hold_refused(tree.call("a", drops=True), "cannot be written", tree.path("crates/tc_low/out"))
+
+
+@test
+def a_tree_that_cannot_be_written_with_a_program(tree: Tree) -> None:
+    tree.open_to_all()
+    built(tree)
+    tree.close_to_writing("a tree")
+    hold_program(tree.call("a", drops=True))
+    os.chmod(tree.path("crates/ttrun/out"), 0o755)
+    os.remove(f"{tree.program}.sources")
+    os.chmod(tree.path("crates/ttrun/out"), 0o555)
+    hold_program(tree.call("a", drops=True))
+
+
+@test
+def a_link_to_it(tree: Tree) -> None:
+    built(tree)
+    near, far, second = os.path.join(tree.bin, "near"), os.path.join(tree.room, "far"), os.path.join(tree.bin, "second")
+    os.symlink("../a tree/ttrun", near)
+    os.symlink(tree.path("ttrun"), far)
+    os.symlink("near", second)
+    for command in (near, far, second, "./far", "bin/second", "near", "a tree/ttrun"):
+        ran = tree.ended(tree.start(["a"], command=["sh", "-c", 'exec "$0" "$@"', command]))
+        hold_program(ran)
+    hold_program(tree.call("a", command=["./ttrun"], folder=tree.top))
+    hold_program(tree.call("a", command=["bash", "ttrun"], folder=tree.top))
+    hold_runs(tree, 1)
+
+
+@test
+def a_copy_of_it(tree: Tree) -> None:
+    with STARTING:
+        shutil.copy2(tree.path("ttrun"), tree.bin)
+    hold_refused(tree.call("a", command=[os.path.join(tree.bin, "ttrun")]), "crates.txt", "link")
+
+
+@test
+def a_restored_program_on_a_fresh_clone(tree: Tree) -> None:
+    built(tree)
+    clone = Tree()
+    try:
+        with STARTING:
+            shutil.copytree(tree.path("crates/ttrun/out"), clone.path("crates/ttrun/out"))
+        for name in os.listdir(clone.path("crates/ttrun/out")):
+            os.utime(clone.path(f"crates/ttrun/out/{name}"), (1, 1))
+        hold_program(clone.call("a", has_rt="no"))
+        clone.write("crates/tc_low/src/src of.rt", "-- another\n", OLD)
+        hold_refused(clone.call("a", has_rt="no"), "no rt")
+    finally:
+        clone.close()
+
+
+def is_built_again(tree: Tree, change: Callable[[], None]) -> bool:
+    """Whether a built program is built again after a change, once."""
+    before = len(tree.calls())
+    change()
+    first, second = tree.call("a"), tree.call("a")
+    hold(first.status == 0, f"{first}")
+    hold_program(second)
+    return len(tree.calls()) == before + 1
+
+
+@test
+def sources_that_were_changed(tree: Tree) -> None:
+    built(tree)
+    for name in ("tc_low/src/src of.rt", "tc_high/specs/specs of.antt", "ttrun/proofs/proofs of.antt"):
+        hold(is_built_again(tree, lambda it=name: tree.write(f"crates/{it}", "-- changed\n", OLD)), f"{name} was changed")
+    hold(is_built_again(tree, lambda: tree.write("crates.txt", "# Changed.\n" + open(tree.path("crates.txt")).read(), OLD)), "crates.txt")
+    hold(tree.call("sum").output == tree.ended(tree.start(["sum"], command=[tree.program])).output, "another program")
+
+
+@test
+def sources_that_were_added_and_deleted(tree: Tree) -> None:
+    built(tree)
+    name = "crates/tc_high/src/deep/more.rt"
+    hold(is_built_again(tree, lambda: tree.write(name, "-- more\n", OLD)), "a source was added")
+    hold(is_built_again(tree, lambda: os.remove(tree.path(name))), "a source was deleted")
+    hold(is_built_again(tree, lambda: shutil.rmtree(tree.path("crates/tc_low/proofs"))), "a folder was deleted")
+    path = tree.path("crates/tc_low/src/src of.rt")
+    hold(is_built_again(tree, lambda: os.rename(path, path + ".rt")), "a source has another name")
+
+
+@test
+def what_is_no_source_of_the_program(tree: Tree) -> None:
+    built(tree)
+    tree.write("crates/other/src/src of.rt", "-- changed\n")
+    tree.write("crates/tc_low/must-fail/must-fail of.edit", "-- changed\n")
+    tree.write("crates/tc_low/out/incremental/kept", "kept\n")
+    tree.write("README.md", "changed\n")
+    os.utime(tree.path("crates/tc_low/src/src of.rt"))
+    hold_program(tree.call("a", has_rt="no"))
+
+
+@test
+def a_program_without_a_stamp(tree: Tree) -> None:
+    stamp = f"{built(tree).program}.sources"
+    for name in ("tc_low/src/src of.rt", "ttrun/src/src of.rt"):
+        os.remove(stamp)
+        hold_program(tree.call("a", has_rt="no"))
+        later = time.time() + 5
+        os.utime(tree.path(f"crates/{name}"), (later, later))
+        hold_refused(tree.call("a", has_rt="no"), "no rt")
+        tree.write(f"crates/{name}", "-- changed\n", OLD)
+        os.remove(tree.program)
+        hold(tree.call("a").status == 0, "it is built again")
+    os.remove(stamp)
+    os.remove(tree.path("crates/tc_low/specs/specs of.antt"))
+    later = time.time() + 5
+    os.utime(tree.path("crates/tc_low/specs"), (later, later))
+    hold_refused(tree.call("a", has_rt="no"), "no rt")
+
+
+@test
+def a_program_that_was_exchanged(tree: Tree) -> None:
+    built(tree)
+    with STARTING, open(tree.program, "a", encoding="utf-8") as it:
+        it.write("echo exchanged\n")
+    hold(is_built_again(tree, lambda: None), "the program was exchanged")
+
+
+@test
+def a_build_that_was_cut_before_its_stamp(tree: Tree) -> None:
+    built(tree)
+    source = tree.path("crates/tc_low/src/src of.rt")
+    with open(source, encoding="utf-8") as it:
+        before, was = it.read(), tree.call("sum").output
+    tree.write("crates/tc_low/src/src of.rt", "-- changed\n")
+    started = tree.start(["a"], FAKE_LATE="yes")
+    wait_for(lambda: tree.ended(tree.start(["sum"], command=[tree.program])).output != was, "a new program")
+    os.killpg(started.pid, signal.SIGKILL)
+    tree.ended(started)
+    tree.write("crates/tc_low/src/src of.rt", before, OLD)
+    ran = tree.call("sum")
+    hold(ran.output == was and len(tree.calls()) == 3, f"the program of the other sources was run: {ran} {tree.calls()}")
+
+
+@test
+def a_source_that_is_changed_during_a_build(tree: Tree) -> None:
+    started = tree.start(["a"], FAKE_PAUSE="0.4")
+    wait_for(lambda: bool(tree.calls()), "rt runs")
+    tree.write("crates/tc_high/src/src of.rt", "-- changed\n", OLD)
+    hold(tree.ended(started).status == 0, "the first build")
+    hold(is_built_again(tree, lambda: None), "a source was changed during the build")
+
+
+@test
+def two_calls_at_once(tree: Tree) -> None:
+    first = tree.start(["a"], FAKE_PAUSE="0.4")
+    wait_for(lambda: bool(tree.calls()), "the first builds")
+    second, third = tree.start(["b"]), tree.start(["c"])
+    rans = [tree.ended(it) for it in (first, second, third)]
+    hold([it.output for it in rans] == [b"<a>", b"<b>", b"<c>"], f"{rans}")
+    hold_runs(tree, 1)
+    for it in rans[1:]:
+        hold(it.lines() == ["ttrun: waiting for another ttrun, which builds the program", "told"], f"{it.lines()}")
+
+
+@test
+def the_first_of_two_fails(tree: Tree) -> None:
+    first = tree.start(["a"], FAKE_PAUSE="0.3", FAKE_STATUS="1")
+    wait_for(lambda: bool(tree.calls()), "the first builds")
+    second = tree.start(["b"])
+    hold(tree.ended(first).status == 3, "the first fails")
+    ran = tree.ended(second)
+    hold(ran.output == b"<b>" and ran.status == 0, f"{ran}")
+    hold_runs(tree, 2)
+
+
+def hold_not_built(tree: Tree, ran: Ran, *words: str) -> None:
+    """Holds a call to a build that failed."""
+    log = f"{tree.program}.log"
+    hold(ran.status == 3 and ran.output == b"", f"{ran}")
+    hold("ttrun: the program was not built" in ran.lines()[-1] and log in ran.lines()[-1], f"{ran.lines()}")
+    hold(all(it in ran.errors.decode() for it in words), f"{words} are not all told: {ran.errors!r}")
+    with open(log, encoding="utf-8") as it:
+        hold("rt: chose --jobs 2 for tc_low" in it.read(), "the log is not whole")
+
+
+@test
+def a_build_that_fails(tree: Tree) -> None:
+    for status in ("1", "2", "3"):
+        hold_not_built(tree, tree.call("a", FAKE_STATUS=status), "error: ttrun::one is not proved", f"status {status}")
+    built(tree)
+    tree.write("crates/tc_low/src/src of.rt", "-- changed\n")
+    for _ in range(2):
+        hold_not_built(tree, tree.call("a", FAKE_STATUS="1"), "error: ttrun::one is not proved")
+    hold_runs(tree, 6)
+
+
+@test
+def a_build_that_is_killed(tree: Tree) -> None:
+    hold_not_built(tree, tree.call("a", FAKE_FAULT="yes"), "status 137")
+
+
+@test
+def a_build_that_leaves_no_program(tree: Tree) -> None:
+    hold_not_built(tree, tree.call("a", FAKE_NOTHING="yes"), "status 0")
+
+
+@test
+def a_program_that_does_not_run_here(tree: Tree) -> None:
+    built(tree)
+    with STARTING, open(tree.program, "wb") as it:
+        it.write(b"\x7fELF\x00\x00 of another machine")
+    os.remove(f"{tree.program}.sources")
+    ran = tree.call("a", has_rt="no")
+    hold(ran.status == 3 and "does not run on this machine" in ran.lines()[-1], f"{ran}")
+
+
+def is_stopped_by(tree: Tree, number: signal.Signals) -> None:
+    """Holds a call in the middle of a build to what a signal does."""
+    before = len(tree.calls())
+    started = tree.start(["a"], FAKE_PAUSE="50")
+    wait_for(lambda: len(tree.calls()) > before, "rt runs")
+    time.sleep(0.3)
+    began = time.monotonic()
+    started.send_signal(number)
+    ran = tree.ended(started)
+    hold(ran.status == -number and time.monotonic() - began < 10, f"{number!r}: {ran}")
+    hold(ran.output == b"" and ran.lines()[-1].startswith("ttrun: stopped"), f"{number!r}: {ran}")
+    wait_for(lambda: tree.calls()[-1] == "ended", f"{number!r} ends rt")
+
+
+@test
+def a_build_that_is_stopped(tree: Tree) -> None:
+    for number in (signal.SIGINT, signal.SIGTERM, signal.SIGHUP):
+        is_stopped_by(tree, number)
+    built(tree)
+
+
+@test
+def a_line_for_each_crate(tree: Tree) -> None:
+    ran = tree.call("a", FAKE_PAUSE="0.6")
+    lines = [it for it in ran.lines() if it.startswith("ttrun: crate ")]
+    wanted = ["crate 1 of 3, tc_low", "crate 2 of 3, tc_high", "crate 3 of 3, ttrun"]
+    hold([it[len("ttrun: "):].split(":")[0] for it in lines] == wanted, f"{ran.lines()}")
+    hold(all(it.split(": ")[2].startswith(("0 of 12 functions", "7 of 12 functions")) for it in lines), f"{lines}")
+    hold(b"\x1b" not in ran.errors and b"\r" not in ran.errors, "it writes over where there is no terminal")
+    hold(len(ran.lines()) <= len(lines) + 4, f"{ran.lines()}")
+
+
+@test
+def a_line_a_minute(tree: Tree) -> None:
+    started = tree.start(["a"], FAKE_PAUSE="100")
+    wait_for(lambda: bool(tree.calls()), "rt runs")
+    second = tree.start(["b"])
+    time.sleep(63)
+    started.send_signal(signal.SIGTERM)
+    lines = [it for it in tree.ended(started).lines() if "tc_low" in it]
+    hold(len(lines) == 2 and "1 min " in lines[1], f"two lines in a minute are wanted: {lines}")
+    wait_for(lambda: tree.calls().count("run -- --help") == 2, "the second builds")
+    second.send_signal(signal.SIGTERM)
+    lines = tree.ended(second).lines()
+    hold(lines[1:3] == ["ttrun: still waiting for it", lines[2]] and "proving" in lines[2], f"{lines}")
+
+
+@test
+def another_rt_works_in_the_tree(tree: Tree) -> None:
+    ran = tree.call("a", FAKE_WAITS="yes", FAKE_PAUSE="0.6")
+    hold(any("waiting for another rt, " in it for it in ran.lines()), f"{ran.lines()}")
+
+
+@test
+def a_build_at_a_terminal(tree: Tree) -> None:
+    ran = tree.at_terminal("sum", FAKE_PAUSE="0.8")
+    lines = ran.output.decode().split("\r\n")
+    hold(len(lines) == 4 and lines[3] == "" and lines[0].startswith("ttrun: proving"), f"{lines}")
+    parts = lines[1].split("\r\x1b[K")
+    hold(parts[0] == "" and parts[-1].startswith("ttrun: built in "), f"{parts}")
+    hold(len(parts) > 8 and all(len(it) < 80 for it in parts), f"{parts}")
+    for it in ("crate 1 of 3, tc_low: 0 of 12 functions, ", "crate 2 of 3, tc_high: 7 of 12 functions, ", "crate 3 of 3, ttrun: 7 of 12"):
+        hold(any(it in part for part in parts), f"{it!r} was not shown: {parts}")
+    hold(lines[2].encode() + b"\n" == tree.call("sum").output, f"{lines[2]!r} is not the program's")
+
+
+@test
+def a_narrow_terminal(tree: Tree) -> None:
+    parts = tree.at_terminal("sum", columns=30, FAKE_PAUSE="0.6").output.decode().split("\r\n")[1].split("\r\x1b[K")
+    hold(all(len(it) < 30 for it in parts[1:-1]), f"{parts}")
+
+
+@test
+def a_terminal_that_cannot_write_over(tree: Tree) -> None:
+    ran = tree.at_terminal("sum", TERM="dumb", FAKE_PAUSE="0.6")
+    hold(b"\x1b" not in ran.output and ran.output.count(b"ttrun: crate ") == 3, f"{ran}")
+
+
+@test
+def a_program_at_a_terminal(tree: Tree) -> None:
+    plain = built(tree).call("sum").output
+    ran = tree.at_terminal("sum")
+    hold(ran.output == plain.replace(b"\n", b"\r\n") and ran.status == 0, f"more than the program's: {ran}")
+
+
+@test
+def a_build_that_fails_at_a_terminal(tree: Tree) -> None:
+    ran = tree.at_terminal("a", FAKE_PAUSE="0.6", FAKE_STATUS="1")
+    lines = ran.output.decode().split("\r\n")
+    hold(ran.status == 3 and lines[1].endswith("\r\x1b[Krt: chose --jobs 2 for tc_low"), f"the line of progress stays: {lines}")
+
+
+@test
+def a_build_that_is_stopped_by_a_key(tree: Tree) -> None:
+    ran = tree.at_terminal("a", FAKE_PAUSE="50", keys="\x03")
+    hold(ran.status == -signal.SIGINT, f"{ran}")
+    hold(ran.output.decode().split("\r\x1b[K")[-1].startswith("ttrun: stopped"), f"{ran}")
+    wait_for(lambda: tree.calls()[-1] == "ended", "it ends rt")
+
+
+@test
+def standard_error_that_takes_nothing(tree: Tree) -> None:
+    for redirect in ("2>&-", "2>/dev/full"):
+        ran = tree.ended(tree.start(["sum"], command=["sh", "-c", f'exec "$@" {redirect}', "sh", tree.path("ttrun")]))
+        hold(ran.status == 0 and ran.output, f"{redirect}: {ran}")
+        os.remove(tree.program)
+        ran = tree.ended(tree.start(["sum"], command=["sh", "-c", f'exec "$@" {redirect}', "sh", tree.path("ttrun")], has_rt="no"))
+        hold(ran.status == 3, f"{redirect}: {ran}")
+
+
+@test
+def standard_error_that_nobody_reads(tree: Tree) -> None:
+    started = tree.start(["a"], FAKE_PAUSE="2")
+    wait_for(lambda: bool(tree.calls()), "rt runs")
+    started.stderr.close()
+    started.stdin.close()
+    started.wait(SECONDS)
+    hold(started.returncode == -signal.SIGPIPE, f"status {started.returncode}")
+    wait_for(lambda: tree.calls()[-1] == "ended", "it ends rt")
+    started.stdout.close()
+
+
+def faults_in(judge: Test) -> List[str]:
+    """What is wrong, nothing where the test passes."""
+    tree = Tree()
+    try:
+        judge(tree)
+        return []
+    except Exception as error:  # a test that breaks has failed, and the others go on
+        return [f"{type(error).__name__}: {error}"]
+    finally:
+        tree.close()
+
+
+def main() -> int:
+    """Runs the tests, several at a time."""
+    parser = argparse.ArgumentParser(description="calls ./ttrun over a stand-in for rt")
+    parser.add_argument("--only", default="", help="the tests with this in their names")
+    parser.add_argument("--list", action="store_true", help="prints the names of the tests")
+    given = parser.parse_args()
+    if len(TESTS) < FEWEST:
+        sys.exit(f"{len(TESTS)} tests are fewer than {FEWEST}")
+    chosen = [it for it in TESTS if given.only in it]
+    if given.list:
+        print("\n".join(chosen))
+        return 0
+    began = time.monotonic()
+    with ThreadPoolExecutor(8) as pool:
+        answers = list(pool.map(lambda it: faults_in(TESTS[it]), chosen))
+    failed = [(name, faults) for name, faults in zip(chosen, answers) if faults]
+    for name, faults in failed:
+        print("\n".join([f"FAILED {name}", *(f"  {it}" for it in faults)]))
+    print(f"the wrapper: {len(chosen)} tests in {time.monotonic() - began:.0f} seconds")
+    print(f"{len(chosen) - len(failed)} passed, {len(failed)} failed")
+    return 1 if failed or not chosen else 0
+
+
+if __name__ == "__main__":
+    sys.exit(main())

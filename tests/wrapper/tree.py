@@ -1,0 +1,235 @@
+"""A tree as the repository's, with the wrapper, three small crates and a stand-in for rt, in which a test calls the wrapper."""
+from __future__ import annotations
+
+import fcntl
+import os
+import pty
+import shutil
+import signal
+import struct
+import subprocess
+import tempfile
+import termios
+import threading
+import time
+from dataclasses import dataclass
+from typing import Callable, Dict, List, Optional, Sequence
+
+TOP = os.path.dirname(os.path.dirname(os.path.dirname(os.path.abspath(__file__))))
+# A call that has not ended after so many seconds is stopped, and its test has failed.
+SECONDS = 120
+NOBODY = 65534
+# Held while a file is written that is to be run, and while a call is started: a process that begins at that moment would
+# hold the file open for writing, and no such file runs.
+STARTING = threading.Lock()
+CRATES = "# Each crate.\ntc_low: thiserror\ntc_high: tc_low\nother: tc_low\nttrun: tc_high tc_low clap\n"
+# What rt says of each crate, and the program that it leaves. FAKE_PAUSE is how long each crate takes.
+RT = r"""#!/usr/bin/env bash
+echo "$*" >> "$FAKE_FOLDER/calls"
+[ ! -t 0 ] && [ "$(head -c 1 | wc -c)" = 0 ] || echo "rt was given input" >> "$FAKE_FOLDER/calls"
+trap 'echo ended >> "$FAKE_FOLDER/calls"; exit 1' INT TERM HUP
+[ -z "${FAKE_WAITS:-}" ] || { echo "rt: waiting for another rt to finish in $PWD" >&2; sleep 1.2; }
+for it in tc_low tc_high ttrun; do
+    echo "rt: chose --jobs 2 for $it" >&2
+    echo "by-macro: thiserror::Error blocks=9"
+    echo "so far: 0 of 12 functions checked; the verdict comes last"
+    sleep "${FAKE_PAUSE:-0}" & wait $!
+    echo "so far: 7 of 12 functions checked; the verdict comes last"
+    sleep "${FAKE_PAUSE:-0}" & wait $!
+    echo "fn $it::one: proved"
+done
+[ -z "${FAKE_FAULT:-}" ] || { echo "error: $it::one is not proved"; kill -9 $$; }
+[ "${FAKE_STATUS:-0}" = 0 ] || { echo "error: $it::one is not proved"; exit "$FAKE_STATUS"; }
+[ -z "${FAKE_NOTHING:-}" ] || exit 0
+mkdir -p out
+cat > out/ttrun.part <<PROGRAM
+#!/usr/bin/env bash
+built="$(cat ../tc_low/src/*.rt ../ttrun/src/*.rt | cksum | tr ' ' _)"
+PROGRAM
+cat >> out/ttrun.part <<'PROGRAM'
+case ${1:-} in
+    sum) echo "$built" ;;
+    id) echo "$$" ;;
+    state) ls /proc/$$/fd; grep -E 'Sig(Ign|Blk)' /proc/$$/status; pwd; umask ;;
+    *) printf '<%s>' "$@"; cat; echo told >&2; exit "${ENDS:-0}" ;;
+esac
+PROGRAM
+chmod +x out/ttrun.part && mv out/ttrun.part out/ttrun
+[ -z "${FAKE_LATE:-}" ] || sleep 30 & wait $!
+"""
+
+
+class Fault(Exception):
+    """Why a test has failed."""
+
+
+def hold(is_so: object, text: str) -> None:
+    """Fails the test unless it is so."""
+    if not is_so:
+        raise Fault(text)
+
+
+@dataclass
+class Ran:
+    """What a call gave. A status below 0 is the signal that ended it."""
+
+    output: bytes
+    errors: bytes
+    status: int
+
+    def lines(self) -> List[str]:
+        """The lines of standard error."""
+        return self.errors.decode().splitlines()
+
+
+def as_user(drops: bool) -> Callable[[], None]:
+    """What a call does before it begins: its terminal and signals as a shell gives them, and nobody's rights where they
+    are asked for."""
+
+    def begin() -> None:
+        signal.signal(signal.SIGINT, signal.SIG_DFL)
+        if os.isatty(0):
+            fcntl.ioctl(0, termios.TIOCSCTTY, 0)
+        if drops and os.geteuid() == 0:
+            os.setgroups([])
+            os.setgid(NOBODY)
+            os.setuid(NOBODY)
+
+    return begin
+
+
+class Tree:
+    """The tree, below a folder with a space in its name."""
+
+    def __init__(self) -> None:
+        self.room = tempfile.mkdtemp(prefix="wrapper test ")
+        os.chmod(self.room, 0o755)
+        self.top, self.bin, self.tools = (os.path.join(self.room, it) for it in ("a tree", "bin", "tools"))
+        for it in (self.bin, self.tools, os.path.join(self.room, "tmp")):
+            os.makedirs(it)
+        os.chmod(os.path.join(self.room, "tmp"), 0o777)
+        for crate in ("tc_low", "tc_high", "other", "ttrun"):
+            for part, ending in (("src", "rt"), ("specs", "antt"), ("proofs", "antt"), ("must-fail", "edit")):
+                self.write(f"crates/{crate}/{part}/{part} of.{ending}", f"-- {crate} {part}\n")
+        self.write("crates.txt", CRATES)
+        with STARTING:
+            shutil.copy2(os.path.join(TOP, "ttrun"), self.path("ttrun"))
+            with open(os.path.join(self.bin, "rt"), "w", encoding="utf-8") as it:
+                it.write(RT)
+        os.chmod(os.path.join(self.bin, "rt"), 0o755)
+        self.program = self.path("crates/ttrun/out/ttrun")
+
+    def close(self) -> None:
+        """Removes the tree; what was just stopped may still write there."""
+        for at, _, _ in os.walk(self.room):
+            os.chmod(at, 0o755)
+        for _ in range(50):
+            shutil.rmtree(self.room, ignore_errors=True)
+            if not os.path.exists(self.room):
+                break
+            time.sleep(0.1)
+
+    def path(self, name: str) -> str:
+        """The path of a file of the tree."""
+        return os.path.join(self.top, name)
+
+    def write(self, name: str, text: str, seconds: Optional[int] = None) -> None:
+        """Writes a file of the tree, with file times so long ago where they are given."""
+        os.makedirs(os.path.dirname(self.path(name)), exist_ok=True)
+        with open(self.path(name), "w", encoding="utf-8") as it:
+            it.write(text)
+        if seconds is not None:
+            now = os.stat(self.path(name)).st_mtime
+            os.utime(self.path(name), (now - seconds, now - seconds))
+
+    def calls(self) -> List[str]:
+        """The calls of rt, and what it saw."""
+        path = os.path.join(self.room, "calls")
+        if not os.path.exists(path):
+            return []
+        with open(path, encoding="utf-8") as it:
+            return it.read().splitlines()
+
+    def environment(self, has_rt: bool = True, **more: str) -> Dict[str, str]:
+        """The environment of a call; without rt there is no other either."""
+        path = f"{self.bin}:/usr/bin:/bin" if has_rt else self.without_rt()
+        room = os.path.join(self.room, "tmp")
+        return {"PATH": path, "HOME": self.room, "TMPDIR": room, "FAKE_FOLDER": self.room, "TERM": "xterm", **more}
+
+    def without_rt(self) -> str:
+        """A folder with links to all tools but rt."""
+        for folder in ("/bin", "/usr/bin"):
+            for name in os.listdir(folder):
+                if name != "rt" and not os.path.lexists(os.path.join(self.tools, name)):
+                    os.symlink(os.path.join(folder, name), os.path.join(self.tools, name))
+        return self.tools
+
+    def start(self, words: Sequence[str] = (), command: Optional[Sequence[str]] = None, drops: bool = False,
+              streams: Optional[Dict[str, int]] = None, **more: str) -> subprocess.Popen:
+        """Starts a call of the wrapper, or of another command in its place."""
+        pipes = streams or {"stdin": subprocess.PIPE, "stdout": subprocess.PIPE, "stderr": subprocess.PIPE}
+        has_rt = more.pop("has_rt", "yes") == "yes"
+        folder = more.pop("folder", self.room)
+        environment = self.environment(has_rt, **more)
+        with STARTING:
+            return subprocess.Popen([*(command or [self.path("ttrun")]), *words], cwd=folder, env=environment,
+                                    preexec_fn=as_user(drops), start_new_session=True, **pipes)
+
+    def call(self, *words: str, given: bytes = b"", **how) -> Ran:
+        """Calls the wrapper, and waits for its end."""
+        return self.ended(self.start(words, **how), given)
+
+    @staticmethod
+    def ended(started: subprocess.Popen, given: bytes = b"") -> Ran:
+        """Waits for the end of a call."""
+        try:
+            output, errors = started.communicate(given, timeout=SECONDS)
+        except subprocess.TimeoutExpired:
+            os.killpg(started.pid, signal.SIGKILL)
+            started.wait()
+            raise Fault(f"it had not ended after {SECONDS} seconds") from None
+        return Ran(output or b"", errors or b"", started.returncode)
+
+    def at_terminal(self, *words: str, columns: int = 80, keys: str = "", **more: str) -> Ran:
+        """Calls the wrapper with all it writes, and what it reads, at a terminal. Its output is what a person sees, who
+        presses the keys once the first crate is begun."""
+        return seen(lambda streams: self.start(words, streams=streams, **more), columns, keys.encode())
+
+    def open_to_all(self) -> None:
+        """Gives the whole tree to nobody, where the tests run as root."""
+        if os.geteuid() == 0:
+            for at, folders, files in os.walk(self.room):
+                for it in (at, *(os.path.join(at, name) for name in files)):
+                    os.chown(it, NOBODY, NOBODY, follow_symlinks=False)
+
+    def close_to_writing(self, name: str) -> None:
+        """Takes the right to write from all folders and files below one."""
+        for at, _, files in os.walk(os.path.join(self.room, name)):
+            for it in files:
+                os.chmod(os.path.join(at, it), os.stat(os.path.join(at, it)).st_mode & 0o555)
+            os.chmod(at, 0o555)
+
+
+def seen(start: Callable[[Dict[str, int]], subprocess.Popen], columns: int, keys: bytes) -> Ran:
+    """What a terminal gets of a command that starts there."""
+    master, slave = pty.openpty()
+    fcntl.ioctl(slave, termios.TIOCSWINSZ, struct.pack("HHHH", 24, columns, 0, 0))
+    started = start({"stdin": slave, "stdout": slave, "stderr": slave})
+    os.close(slave)
+    guard = threading.Timer(SECONDS, os.killpg, (started.pid, signal.SIGKILL))
+    guard.start()
+    parts: List[bytes] = []
+    try:
+        while True:
+            parts.append(os.read(master, 65536))
+            if not parts[-1]:
+                break
+            if keys and b"crate 1 of" in b"".join(parts):
+                os.write(master, keys)
+                keys = b""
+    except OSError:
+        pass
+    started.wait()
+    guard.cancel()
+    os.close(master)
+    return Ran(b"".join(parts), b"", started.returncode)
