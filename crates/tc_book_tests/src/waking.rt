@@ -1,5 +1,4 @@
 //! Who waits on a thread is woken, after each kind of entry by which it may go on, and does not spin.
-use crate::*;
 use std::alloc::Global;
 use std::sync::atomic::{AtomicBool, Ordering};
 use std::sync::{Arc, Wait};
@@ -7,6 +6,7 @@ use std::test::Fail;
 use std::thread;
 use std::thread::{JoinHandle, Threads};
 use std::time::{Clock, CpuClock, Duration};
+use tc_book::*;
 use tc_entry::{Args, Comp, Entry, Fault, Group, NoMemory, Op, Reply, Run, Target};
 
 const LATE: Target = Target::One(Comp(2));
