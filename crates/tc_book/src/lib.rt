@@ -32,6 +32,3 @@ pub use shared::Shared;
 pub use tc_entry::Sequence;
 pub use tc_merge::RunLog;
 pub use ticket::Ticket;
-
-#[cfg(test)]
-mod tests;

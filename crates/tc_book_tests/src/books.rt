@@ -1,14 +1,11 @@
 //! Books, passes and closes, on one thread and on two.
-mod verdicts;
-mod waking;
-
-use crate::laws::Book;
-use crate::*;
 use std::alloc::Global;
 use std::sync::{Arc, Wait};
 use std::test::Fail;
 use std::thread;
 use tc_board::{Board, Record};
+use tc_book::laws::Book;
+use tc_book::*;
 use tc_entry::{
     Args, Comp, Entry, Fault, Group, NoMemory, Op, Reply, Run, Target, UserVerdict, Verdict,
 };
@@ -77,47 +74,80 @@ fn quiet_calls(rt: HostRuntime) -> Result<(), Fail> {
     Ok(())
 }
 
+/// A case of two behaviours, in which run 0 has started run 1 on component 1 with component 0 as its argument.
+fn case_of_two<R: Wait>(rt: &R, alloc: Global) -> Result<(Shared, Pass, Pass), Fail> {
+    let (shared, pass, tickets) = open_case(alloc, 2)?;
+    let (mut main, mut tickets) = (pass, tickets);
+    let comp = main.create(rt, true)?;
+    let mut args = Args::new();
+    let _ = args.push(Comp(0));
+    main.start(rt, comp, Run(1), &args)?;
+    let other = tickets.remove(0).await_start(rt).map_err(|_| NoMemory)?;
+    Ok((shared, main, other))
+}
+
+/// Whether the pass is of this run, which was started on this component with these arguments.
+fn is_started(pass: &Pass, run: u16, comp: u32, args: &[Comp]) -> bool {
+    (pass.run(), pass.me()) == (Run(run), Comp(comp)) && pass.args() == args
+}
+
+/// What run 0 is told of component 1 while run 1 is going on, and the verdict that run 1 then sets and gets.
+fn going_on<R: Wait>(
+    rt: &R,
+    main: &mut Pass,
+    other: &mut Pass,
+) -> Result<(bool, bool, Verdict), Halt> {
+    let running = main.running(rt, one(1))?;
+    let alive = main.alive(rt, one(1))?;
+    other.set_verdict(UserVerdict::Inconc)?;
+    Ok((running, alive, other.get_verdict()?))
+}
+
+/// Stops component 1, and answers whether it is killed then.
+fn stopped<R: Wait>(rt: &R, main: &mut Pass) -> Result<bool, Halt> {
+    main.stop(rt, Group::One(Comp(1)))?;
+    main.killed(rt, one(1))
+}
+
+/// Whether run 1 has left three entries, and was started on component 1 with component 0 as its argument.
+fn is_left(left: &Left) -> bool {
+    let Some((comp, args)) = left.started() else {
+        return false;
+    };
+    left.run() == Run(1) && left.log().len() == 3 && comp == Comp(1) && args == [Comp(0)].as_slice()
+}
+
+/// Closes a case by what its two runs left.
+fn closed_of_two<R: Wait>(
+    rt: &R,
+    alloc: Global,
+    shared: Shared,
+    main: Left,
+    other: Left,
+) -> Result<Closed, Fail> {
+    let lefts = vec![in alloc; main, other]?;
+    Ok(close_case(rt, alloc, shared, lefts)?)
+}
+
 #[test]
 fn book_on_one_thread(rt: HostRuntime) -> Result<(), Fail> {
     let alloc = rt.alloc();
-    let (shared, pass, tickets) = open_case(alloc, 2)?;
-    let mut p = pass;
-    let mut tickets = tickets;
-    assert_eq!(rt; p.run(), Run(0));
-    assert_eq!(rt; p.me(), Comp(0));
-    assert_eq!(rt; p.create(&rt, true)?, Comp(1));
-    let mut args = Args::new();
-    assert!(rt; args.push(Comp(0)));
-    p.start(&rt, Comp(1), Run(1), &args)?;
-    let ticket = tickets.remove(0);
-    let Ok(pass) = ticket.await_start(&rt) else {
-        panic!(rt; "the run was started")
-    };
-    let mut q = pass;
-    assert_eq!(rt; q.run(), Run(1));
-    assert_eq!(rt; q.me(), Comp(1));
-    assert_eq!(rt; q.args(), [Comp(0)].as_slice());
-    assert!(rt; p.running(&rt, one(1))?);
-    assert!(rt; p.alive(&rt, one(1))?);
-    q.set_verdict(UserVerdict::Inconc)?;
-    assert_eq!(rt; q.get_verdict()?, Verdict::Inconc);
-    p.stop(&rt, Group::One(Comp(1)))?;
-    assert_eq!(rt; p.killed(&rt, one(1))?, false);
-    assert!(rt; !q.is_ended());
-    assert_eq!(rt; q.get_verdict(), Err(Halt::Ended));
-    assert!(rt; q.is_ended());
-    p.wait_done(&rt, one(1))?;
-    let mut lefts = vec![in alloc; p.leave(&rt)]?;
-    let left = q.leave(&rt);
-    assert_eq!(rt; left.run(), Run(1));
-    assert_eq!(rt; left.log().len(), 3);
-    let Some((comp, args)) = left.started() else {
-        panic!(rt; "the run was started")
-    };
-    assert_eq!(rt; comp, Comp(1));
-    assert_eq!(rt; args, [Comp(0)].as_slice());
-    lefts.push(left)?;
-    let closed = close_case(&rt, alloc, shared, lefts)?;
+    let (shared, main, other) = case_of_two(&rt, alloc)?;
+    let (mut main, mut other) = (main, other);
+    assert!(rt; is_started(&main, 0, 0, &[]));
+    assert!(rt; is_started(&other, 1, 1, &[Comp(0)]));
+    assert_eq!(rt;
+        going_on(&rt, &mut main, &mut other)?,
+        (true, true, Verdict::Inconc)
+    );
+    assert_eq!(rt; stopped(&rt, &mut main)?, false);
+    assert!(rt; !other.is_ended());
+    assert_eq!(rt; other.get_verdict(), Err(Halt::Ended));
+    assert!(rt; other.is_ended());
+    main.wait_done(&rt, one(1))?;
+    let (main, other) = (main.leave(&rt), other.leave(&rt));
+    assert!(rt; is_left(&other));
+    let closed = closed_of_two(&rt, alloc, shared, main, other)?;
     assert_eq!(rt; closed.behaviours, 2);
     assert_eq!(rt; closed.history.as_slice().len(), 11);
     assert_eq!(rt;
@@ -237,44 +267,79 @@ fn book_of_two(alloc: Global) -> Result<Book, NoMemory> {
     }
 }
 
+/// A Start of run 1 on component 1, without arguments.
+fn start() -> Op {
+    Op::Start {
+        comp: Comp(1),
+        run: Run(1),
+        args: Args::new(),
+    }
+}
+
+/// A wait until component 1 is done.
+fn wait() -> Op {
+    Op::Wait {
+        killed: false,
+        target: one(1),
+    }
+}
+
+/// Whether a book knows no start of run 1, and hasn't begun its word.
+fn is_unbegun(book: &Book) -> bool {
+    book.start_of(Run(1)).is_none() && book.word_of(Run(1)) == Record::Unbegun
+}
+
+/// Whether a book knows that run 1 was started on component 1 without arguments, and has begun its word.
+fn is_begun(book: &Book) -> bool {
+    let Some((comp, args)) = book.start_of(Run(1)) else {
+        return false;
+    };
+    comp == Comp(1)
+        && args.as_slice().is_empty()
+        && book.word_of(Run(1)) == Record::Open(UserVerdict::None)
+}
+
+/// The reply to a call on a book, which takes no verdict call.
+fn replied(book: &mut Book, run: u16, op: Op) -> Option<Reply> {
+    if matches!(op, Op::SetVerdict(_) | Op::GetVerdict) {
+        return None;
+    }
+    book.record(Run(run), op).ok()
+}
+
+/// The reply to the Wake of run 0, if it goes on.
+fn woken(book: &mut Book) -> Option<Reply> {
+    book.wake(Run(0), false, one(1))
+}
+
+/// The reply to the Finish of a run, if it had not left.
+fn finished(book: &mut Book, run: u16) -> Option<Option<Reply>> {
+    book.leave(Run(run), false)
+}
+
 /// The calls on the value behind the lock.
 #[test]
 fn calls_on_a_book(rt: HostRuntime) -> Result<(), Fail> {
     let alloc = rt.alloc();
     let mut book = book_of_two(alloc)?;
-    assert_eq!(rt;
-        book.record(Run(0), Op::Create { alive: false })?,
-        Reply::Made(Comp(1))
-    );
-    let start = Op::Start {
-        comp: Comp(1),
-        run: Run(1),
-        args: Args::new(),
-    };
-    assert!(rt; book.start_of(Run(1)).is_none());
-    assert_eq!(rt; book.word_of(Run(1)), Record::Unbegun);
-    assert_eq!(rt; book.record(Run(0), start)?, Reply::Ok);
-    let Some((comp, args)) = book.start_of(Run(1)) else {
-        panic!(rt; "the run was started")
-    };
-    assert_eq!(rt; comp, Comp(1));
-    assert_eq!(rt; args.as_slice().len(), 0);
-    assert_eq!(rt; book.word_of(Run(1)), Record::Open(UserVerdict::None));
-    let wait = Op::Wait {
-        killed: false,
-        target: one(1),
-    };
-    assert_eq!(rt; book.wake(Run(0), false, one(1)), None);
-    assert_eq!(rt; book.record(Run(0), wait)?, Reply::Parked);
-    assert_eq!(rt; book.wake(Run(0), false, one(1)), None);
-    assert_eq!(rt; book.leave(Run(1), false), Some(Some(Reply::Ok)));
+    let made = replied(&mut book, 0, Op::Create { alive: false });
+    assert_eq!(rt; made, Some(Reply::Made(Comp(1))));
+    assert!(rt; is_unbegun(&book));
+    assert_eq!(rt; replied(&mut book, 0, start()), Some(Reply::Ok));
+    assert!(rt; is_begun(&book));
+    assert_eq!(rt; woken(&mut book), None);
+    assert_eq!(rt; replied(&mut book, 0, wait()), Some(Reply::Parked));
+    assert_eq!(rt; woken(&mut book), None);
+    assert_eq!(rt; finished(&mut book, 1), Some(Some(Reply::Ok)));
     let closed = Record::Closed(UserVerdict::None, UserVerdict::None);
     assert_eq!(rt; book.word_of(Run(1)), closed);
-    assert_eq!(rt; book.leave(Run(1), false), None);
-    assert_eq!(rt; book.wake(Run(0), false, one(1)), Some(Reply::Matched));
-    assert!(rt; !book.is_over());
-    assert_eq!(rt; book.leave(Run(0), false), Some(Some(Reply::Ok)));
-    assert!(rt; book.is_over());
+    assert_eq!(rt; finished(&mut book, 1), None);
+    assert_eq!(rt; woken(&mut book), Some(Reply::Matched));
+    let alive = replied(&mut book, 0, Op::Alive(one(1)));
+    assert_eq!(rt; alive, Some(Reply::Answer(false)));
+    assert_eq!(rt; finished(&mut book, 0), Some(Some(Reply::Ok)));
+    let over = replied(&mut book, 0, Op::Alive(one(1)));
+    assert_eq!(rt; over, Some(Reply::Ended));
     assert!(rt; matches!(book.close(alloc, Vec::new(alloc)), Err(CloseFault::Torn)));
     Ok(())
 }
@@ -293,9 +358,12 @@ fn runs_of_a_case(rt: HostRuntime) -> Result<(), Fail> {
     Ok(())
 }
 
+/// A call on a book: its run and operation, the reply to it, and whether somebody who waits may go on by it.
+type Called = (Run, Op, Reply, bool);
+
 /// Whether each call on a book is answered with this reply, and says so whether somebody who waits may go on; none is a
 /// verdict call, which the book doesn't take.
-fn are_answered(book: &mut Book, calls: Vec<(Run, Op, Reply, bool)>) -> bool {
+fn are_answered(book: &mut Book, calls: Vec<Called>) -> bool {
     for (run, op, reply, wakes) in calls {
         if matches!(op, Op::SetVerdict(_) | Op::GetVerdict)
             || book.call(run, op).ok() != Some((reply, wakes))
@@ -306,55 +374,52 @@ fn are_answered(book: &mut Book, calls: Vec<(Run, Op, Reply, bool)>) -> bool {
     true
 }
 
+/// Calls up to the wait of run 0, which is parked.
+fn up_to_the_wait(alloc: Global) -> Result<Vec<Called>, NoMemory> {
+    let made = Reply::Made(Comp(1));
+    Ok(vec![in alloc;
+        (Run(0), Op::Create { alive: true }, made, false),
+        (Run(0), start(), Reply::Ok, true),
+        (Run(0), Op::Running(one(1)), Reply::Answer(true), false),
+        (Run(0), wait(), Reply::Parked, true),
+    ]?)
+}
+
+/// Calls up to the end of run 1.
+fn up_to_the_end(alloc: Global) -> Result<Vec<Called>, NoMemory> {
+    Ok(vec![in alloc;
+        (Run(1), Op::Alive(one(1)), Reply::Answer(true), false),
+        (Run(1), Op::Finish, Reply::Ok, true),
+    ]?)
+}
+
+/// Calls after that, the last of them a dynamic error.
+fn up_to_the_fault(alloc: Global) -> Result<Vec<Called>, NoMemory> {
+    let fault = Reply::Fault(Fault::NoComponent);
+    Ok(vec![in alloc;
+        (Run(1), Op::Running(one(1)), Reply::Ended, true),
+        (Run(0), Op::Stop(Group::All), Reply::Ok, true),
+        (Run(0), Op::Kill(Group::All), Reply::Ok, true),
+        (Run(0), Op::Alive(one(7)), fault, true),
+    ]?)
+}
+
+/// The answer to the Wake of a run.
+fn called_wake(book: &mut Book, run: u16) -> Option<(Reply, bool)> {
+    book.call_wake(Run(run), false, one(1))
+}
+
 /// 10 calls and 4 Wakes on a book: their replies, and by which of them somebody who waits may go on.
 #[test]
 fn calls_that_wake(rt: HostRuntime) -> Result<(), Fail> {
     let alloc = rt.alloc();
     let mut book = book_of_two(alloc)?;
-    let start = Op::Start {
-        comp: Comp(1),
-        run: Run(1),
-        args: Args::new(),
-    };
-    let wait = Op::Wait {
-        killed: false,
-        target: one(1),
-    };
-    let parked = vec![in alloc;
-        (
-            Run(0),
-            Op::Create { alive: true },
-            Reply::Made(Comp(1)),
-            false,
-        ),
-        (Run(0), start, Reply::Ok, true),
-        (Run(0), Op::Running(one(1)), Reply::Answer(true), false),
-        (Run(0), wait, Reply::Parked, true),
-    ]?;
-    assert!(rt; are_answered(&mut book, parked));
-    assert_eq!(rt; book.call_wake(Run(0), false, one(1)), None);
-    let finished = vec![in alloc;
-        (Run(1), Op::Alive(one(1)), Reply::Answer(true), false),
-        (Run(1), Op::Finish, Reply::Ok, true),
-    ]?;
-    assert!(rt; are_answered(&mut book, finished));
-    assert_eq!(rt; book.call_wake(Run(1), false, one(1)), None);
-    assert_eq!(rt;
-        book.call_wake(Run(0), false, one(1)),
-        Some((Reply::Matched, false))
-    );
-    assert_eq!(rt; book.call_wake(Run(0), false, one(1)), None);
-    let over = vec![in alloc;
-        (Run(1), Op::Running(one(1)), Reply::Ended, true),
-        (Run(0), Op::Stop(Group::All), Reply::Ok, true),
-        (Run(0), Op::Kill(Group::All), Reply::Ok, true),
-        (
-            Run(0),
-            Op::Alive(one(7)),
-            Reply::Fault(Fault::NoComponent),
-            true,
-        ),
-    ]?;
-    assert!(rt; are_answered(&mut book, over));
+    assert!(rt; are_answered(&mut book, up_to_the_wait(alloc)?));
+    assert_eq!(rt; called_wake(&mut book, 0), None);
+    assert!(rt; are_answered(&mut book, up_to_the_end(alloc)?));
+    assert_eq!(rt; called_wake(&mut book, 1), None);
+    assert_eq!(rt; called_wake(&mut book, 0), Some((Reply::Matched, false)));
+    assert_eq!(rt; called_wake(&mut book, 0), None);
+    assert!(rt; are_answered(&mut book, up_to_the_fault(alloc)?));
     Ok(())
 }

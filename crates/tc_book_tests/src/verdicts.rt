@@ -1,11 +1,11 @@
 //! Verdict calls, which take no lock: what is set while nobody halts counts, and every order of small cases closes.
-use crate::laws::merge;
-use crate::*;
 use std::alloc::Global;
 use std::sync::Wait;
 use std::test::Fail;
 use std::thread;
 use std::thread::{JoinHandle, Threads};
+use tc_book::laws::merge;
+use tc_book::*;
 use tc_entry::{Args, Comp, Entry, Group, NoMemory, Op, Reply, Run, Target, UserVerdict, Verdict};
 use tc_table::replay_check;
 use tc_verdict::from_user;

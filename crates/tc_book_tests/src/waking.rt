@@ -1,5 +1,4 @@
 //! Who waits on a thread is woken, after each kind of entry by which it may go on, and does not spin.
-use crate::*;
 use std::alloc::Global;
 use std::sync::atomic::{AtomicBool, Ordering};
 use std::sync::{Arc, Wait};
@@ -7,6 +6,7 @@ use std::test::Fail;
 use std::thread;
 use std::thread::{JoinHandle, Threads};
 use std::time::{Clock, CpuClock, Duration};
+use tc_book::*;
 use tc_entry::{Args, Comp, Entry, Fault, Group, NoMemory, Op, Reply, Run, Target};
 
 const LATE: Target = Target::One(Comp(2));
@@ -114,17 +114,19 @@ enum Cause {
     Kill,
     KillAll,
     Fault,
+    StopCase,
     End,
 }
 
-/// The call of the main run that is the cause, if it is one.
-fn call<R: Wait>(rt: &R, cause: Cause, main: &mut Pass) -> Result<(), Halt> {
+/// The call that is the cause, if it is one: of the main run, or of run 2 where that stops the test case.
+fn call<R: Wait>(rt: &R, cause: Cause, main: &mut Pass, late: &mut Pass) -> Result<(), Halt> {
     match cause {
         Cause::Finish | Cause::End => Ok(()),
         Cause::Stop => main.stop(rt, Group::One(Comp(2))),
         Cause::Kill => main.kill(rt, Group::One(Comp(2))),
         Cause::KillAll => main.kill(rt, Group::All),
         Cause::Fault => main.stop(rt, Group::One(Comp(7))),
+        Cause::StopCase => late.stop_case(rt),
     }
 }
 
@@ -135,8 +137,8 @@ fn happen<R: Wait + Clock>(
     passes: (Pass, Pass),
     woken: &AtomicBool,
 ) -> (bool, Left, Left) {
-    let (mut main, late) = passes;
-    let _ = call(rt, cause, &mut main);
+    let (mut main, mut late) = passes;
+    let _ = call(rt, cause, &mut main, &mut late);
     match cause {
         Cause::Finish => {
             let late = late.leave(rt);
@@ -187,7 +189,7 @@ fn complaint<R: Threads + Wait + Clock + Copy + Send + 'static>(
     }
 }
 
-/// One case for each of six causes, after which nothing is called until the waiter is seen to go on.
+/// One case for each of seven causes, after which nothing is called until the waiter is seen to go on.
 #[test]
 fn a_waiter_is_woken(rt: HostRuntime) -> Result<(), Fail> {
     let causes = [
@@ -196,6 +198,7 @@ fn a_waiter_is_woken(rt: HostRuntime) -> Result<(), Fail> {
         (Cause::Kill, Reply::Matched),
         (Cause::KillAll, Reply::Ended),
         (Cause::Fault, Reply::Ended),
+        (Cause::StopCase, Reply::Ended),
         (Cause::End, Reply::Ended),
     ];
     for (cause, reply) in causes {

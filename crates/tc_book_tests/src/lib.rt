@@ -1,0 +1,9 @@
+//! The tests of the book by its public calls, in a crate of their own: a check of them doesn't prove the book once more.
+#![tactic(auto)]
+
+#[cfg(test)]
+mod books;
+#[cfg(test)]
+mod verdicts;
+#[cfg(test)]
+mod waking;
