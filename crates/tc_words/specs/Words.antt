@@ -15,11 +15,6 @@ use Rattle.tc_table.specs.Answers.{is_active}
 use Rattle.tc_board.specs.declared.record.Record.{Record}
 use Rattle.tc_board.specs.declared.record.Record.TheVariants.{Unbegun, Open, Closed}
 
--- the word was begun and not closed yet
-abbrev pub is_open : Record → Bool
-is_open (Open carried) = true
-is_open _ = false
-
 -- the word was begun and closed
 abbrev pub is_closed : Record → Bool
 is_closed (Closed carried counted) = true
