@@ -105,7 +105,7 @@ abbrev pub comp_of : List Entry → ℕ → Option Comp
 comp_of [] b = if b == 0 then Some (record { 0 = 0 }) else None
 comp_of (e ∷ past) b = first_some (comp_of past b) (started_on e b)
 
--- the entry ends the test case: a dynamic error, the main component's Finish, its Stop or its Kill
+-- the entry ends the test case: a dynamic error, a StopCase, the main component's Finish, its Stop or its Kill
 abbrev pub ends_case : Entry → Bool
 ends_case e =
     not (is_ended e.reply)
