@@ -14,7 +14,8 @@ use Rattle.tc_entry.specs.declared.op.Op.{Op}
 use Rattle.tc_entry.specs.declared.op.Op.TheVariants as O
 use Rattle.tc_entry.specs.declared.reply.Reply.{Reply}
 use Rattle.tc_entry.specs.declared.reply.Reply.TheVariants as R
-use Rattle.tc_table.specs.History.{comp_of, first_some, is_ok}
+use Rattle.tc_entry.specs.Reply.{is_ok}
+use Rattle.tc_table.specs.History.{comp_of, first_some}
 use Rattle.tc_table.specs.Answers.{answer}
 use Rattle.tc_table.specs.Legal.{IsLegal}
 use Rattle.tc_step.specs.Steps.{ScriptView}

@@ -1,7 +1,5 @@
 //! The keeper, which opens and closes the words.
-ghost use Rattle.std.specs.Prelude.{◌≡◌, Contains, slice_get};
-ghost use Rattle.tc_verdict.specs.UserVerdict.{given};
-ghost use Rattle.tc_board.specs.declared.answer.AnswerList.{AnswerList};
+ghost use Rattle.std.specs.Prelude.{◌≡◌, slice_get};
 ghost use Rattle.tc_board.specs.declared.record.Record.{Record};
 ghost use Rattle.tc_board.specs.declared.record.Record.TheVariants.{Unbegun, Open as IsBegun, Closed as IsClosed};
 
@@ -20,21 +18,20 @@ pub struct Keeper {
 }
 
 impl Model for Keeper {
-    ghost use Rattle.std.specs.Prelude.{◌≡◌, [], length};
+    ghost use Rattle.std.specs.Prelude.{◌≡◌, length};
     ghost use Rattle.tc_board.specs.Keeper.{KeeperView};
-    ghost use Rattle.tc_board.specs.Inside.Seats.{keeper_view};
+    ghost use Rattle.tc_board.specs.Inside.Steps.{IsKeeper};
 
     ghost Value = { KeeperView };
 
     ghost view = { λ k. record { board = k.seat.table_id; records = k.seat.me.0.records; gathered = k.seat.me.0.lists } };
 
-    ghost invariant = { λ k. (k.seat.me ≡ (keeper_view k.seat.me.0.records k.seat.me.0.lists, [])) × (length k.seat.me.0.records ≡ k.seat.table_id.words) };
+    ghost invariant = { λ k. IsKeeper k.seat.me × (length k.seat.me.0.records ≡ k.seat.table_id.words) };
 }
 
 impl Keeper {
-    ghost use Rattle.tc_board.specs.Answers.{worst_of};
     ghost use Rattle.tc_board.specs.Rule.{Agrees};
-    ghost use Rattle.tc_board.specs.Keeper.{IsOpen, carried_by, recorded, gathered};
+    ghost use Rattle.tc_board.specs.Keeper.{CountsTaken, IsOpen, carried_by, recorded, gathered};
 
     /// Opens the word of a run, with the verdict that its component carries.
     pub fn begin(&mut self, board: &Board, run: Run, carried: UserVerdict)
@@ -55,7 +52,7 @@ impl Keeper {
         requires board { self.old.board ≡ board.now }
         requires open { IsOpen self.old.records run.0 }
         ensures closes { self.new ≡ recorded self.old run.0 (IsClosed (carried_by self.old.records run.0) result) }
-        ensures counts { (list : AnswerList) → Contains self.old.gathered list → list.run ≡ run.0 → given result ≡ worst_of (carried_by self.old.records run.0) list.answers }
+        ensures counts { CountsTaken self.old run.0 result }
     {
         let word = run.0 as usize;
         let found = board

@@ -4,7 +4,8 @@ use Rattle.tc_entry.specs.declared.comp.Comp.{Comp}
 use Rattle.tc_entry.specs.declared.entry.Entry.{Entry}
 use Rattle.tc_entry.specs.declared.op.Op.{Op}
 use Rattle.tc_entry.specs.declared.op.Op.TheVariants as O
-use Rattle.tc_table.specs.History.{comp_of, first_some, is_ok, starts_run}
+use Rattle.tc_entry.specs.Reply.{is_ok}
+use Rattle.tc_table.specs.History.{comp_of, first_some, starts_run}
 use Rattle.tc_book.specs.Starts.{starts_with, start_of}
 use Rattle.tc_book.specs.Inside.{comp_by}
 use Rattle.tc_book.specs.Parts.{part, is_by}

@@ -6,7 +6,8 @@ use Rattle.tc_entry.specs.declared.entry.Entry.{Entry}
 use Rattle.tc_entry.specs.declared.op.Op.{Op}
 use Rattle.tc_entry.specs.declared.op.Op.TheVariants as O
 use Rattle.tc_entry.specs.declared.reply.Reply.{Reply}
-use Rattle.tc_table.specs.History.{first_some, is_ok}
+use Rattle.tc_entry.specs.Reply.{is_ok}
+use Rattle.tc_table.specs.History.{first_some}
 use Rattle.tc_table.specs.Legal.{IsLegal}
 use Rattle.tc_table.specs.Laws.{keeps_phases, lets_go_on}
 use Rattle.tc_table.proofs.Quiet.{quiet_wakes_nobody}

@@ -5,7 +5,8 @@ use Rattle.tc_entry.specs.declared.entry.Entry.{Entry}
 use Rattle.tc_entry.specs.declared.op.Op.{Op}
 use Rattle.tc_entry.specs.declared.op.Op.TheVariants as O
 use Rattle.tc_entry.specs.declared.reply.Reply.{Reply}
-use Rattle.tc_table.specs.History.{is_ok, is_over, first_some}
+use Rattle.tc_entry.specs.Reply.{is_ok}
+use Rattle.tc_table.specs.History.{is_over, first_some}
 use Rattle.tc_table.specs.Legal.{IsLegal}
 
 -- the component and the arguments with which this operation starts run b

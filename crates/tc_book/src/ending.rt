@@ -3,23 +3,14 @@ ghost use Rattle.std.specs.Prelude.{◌≡◌, ◌||◌};
 ghost use Rattle.tc_table.specs.History as history;
 ghost use Rattle.tc_book.specs.Passes as passes;
 
-use tc_entry::{Comp, Entry, Group, Op, Reply};
-
-fn is_of(group: Group, comp: u32) -> bool
-    ensures { result ≡ history.is_of group comp }
-{
-    match group {
-        Group::One(c) => c.0 == comp,
-        Group::All => comp != 0,
-    }
-}
+use tc_entry::{Comp, Entry, Op, Reply};
 
 /// Whether the operation is a Stop or Kill of the component.
 fn is_end_of(op: &Op, comp: u32) -> bool
     ensures { result ≡ (history.is_stop_of op.now comp || history.is_kill_of op.now comp) }
 {
     match op {
-        Op::Stop(group) | Op::Kill(group) => is_of(*group, comp),
+        Op::Stop(group) | Op::Kill(group) => group.is_of(comp),
         _ => false,
     }
 }

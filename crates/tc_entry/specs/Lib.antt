@@ -1,3 +1,5 @@
 -- The definitions that the contracts of this crate cite.
 pub mod Limits
 pub mod Name
+pub mod Group
+pub mod Reply

@@ -1,5 +1,6 @@
 //! The operations of a behaviour, and which components they are about.
 ghost use Rattle.std.specs.Prelude.{◌≡◌, IsTrue, ◌↔◌};
+ghost use Rattle.tc_entry.specs.Group as group;
 
 use crate::args::Args;
 use crate::comp::Comp;
@@ -40,6 +41,18 @@ pub enum Op {
     SetVerdict(UserVerdict),
     GetVerdict,
     Finish,
+}
+
+impl Group {
+    /// Whether the component of this number is of the group: `All` is all parallel components, that is all but 0.
+    pub fn is_of(self, comp: u32) -> bool
+        ensures { result ≡ group.is_of self comp }
+    {
+        match self {
+            Group::One(one) => one.0 == comp,
+            Group::All => comp != 0,
+        }
+    }
 }
 
 fn same_group(a: Group, b: Group) -> bool

@@ -1,5 +1,6 @@
 //! The replies, and the dynamic errors among them.
 ghost use Rattle.std.specs.Prelude.{◌≡◌, IsTrue, ◌↔◌};
+ghost use Rattle.tc_entry.specs.Reply as reply;
 
 use crate::comp::Comp;
 use tc_verdict::Verdict;
@@ -59,5 +60,26 @@ impl Reply {
         ensures { IsTrue result ↔ (self.now ≡ other.now) }
     {
         *self == *other
+    }
+
+    /// Whether the call was carried out.
+    pub fn is_ok(self) -> bool
+        ensures { result ≡ reply.is_ok self }
+    {
+        matches!(self, Reply::Ok)
+    }
+
+    /// Whether the caller was not the running run of its component.
+    pub fn is_ended(self) -> bool
+        ensures { result ≡ reply.is_ended self }
+    {
+        matches!(self, Reply::Ended)
+    }
+
+    /// Whether the call was a dynamic error.
+    pub fn is_fault(self) -> bool
+        ensures { result ≡ reply.is_fault self }
+    {
+        matches!(self, Reply::Fault(_))
     }
 }

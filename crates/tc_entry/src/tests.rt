@@ -87,6 +87,29 @@ fn copies_are_the_same(rt: HostRuntime) {
 }
 
 #[test]
+fn kinds_of_replies(rt: HostRuntime) {
+    for reply in [
+        Reply::Ok,
+        Reply::Ended,
+        Reply::Fault(Fault::Stuck),
+        Reply::Parked,
+    ] {
+        assert_eq!(rt; reply.is_ok(), reply == Reply::Ok);
+        assert_eq!(rt; reply.is_ended(), reply == Reply::Ended);
+        assert_eq!(rt; reply.is_fault(), reply == Reply::Fault(Fault::Stuck));
+    }
+}
+
+#[test]
+fn members_of_a_group(rt: HostRuntime) {
+    assert!(rt; Group::One(Comp(2)).is_of(2));
+    assert!(rt; !Group::One(Comp(2)).is_of(1));
+    assert!(rt; Group::One(Comp(0)).is_of(0));
+    assert!(rt; Group::All.is_of(1));
+    assert!(rt; !Group::All.is_of(0));
+}
+
+#[test]
 fn sequences(rt: HostRuntime) -> Result<(), Fail> {
     let mut comps = Sequence::new(Vec::new(rt.alloc()));
     comps.push(Comp(1))?;

@@ -12,7 +12,8 @@ use Rattle.tc_text.proofs.LinesOf.{some_line}
 use Rattle.tc_history.specs.declared.header.Header.{Header}
 use Rattle.tc_history.specs.declared.read.Block.{Block}
 use Rattle.tc_history.specs.Block.{header_text, entry_text, end_text}
-use Rattle.tc_history.specs.Text.{IsEntry, AreEntries, IsHeader, IsBlock, header_of, open_lines, block_lines, Opens, IsBadStart, IsBadInside, IsCutInside}
+use Rattle.tc_history.specs.Text.{IsEntry, AreEntries, IsHeader, IsBlock, header_of, open_lines, block_lines}
+use Rattle.tc_history.specs.Inside.{Opens, IsBadStart, IsBadInside, IsCutInside}
 
 -- the first line is that of no entry
 abbrev pub IsNoEntryLine : List ℕ → Type 0

@@ -3,7 +3,7 @@ use Rattle.std.proofs.Common.{ℕ, ◌≡◌, ◌≢◌, ◌==◌, ◌+◌, ◌<
 use Rattle.std.proofs.lemmas.Bool.Decides.{nat_tests}
 use Rattle.std.proofs.lemmas.List.{take_more}
 use Rattle.tc_text.proofs.LinesOf.{NoLf}
-use Rattle.tc_history.specs.Cut.{Without}
+use Rattle.tc_history.specs.Inside.{Without}
 
 differs : (b byte : ℕ) → b ≢ byte → (b == byte) ≡ false
 differs b byte other = grind (arith, nat_tests)

@@ -9,7 +9,7 @@ use Rattle.tc_text.specs.Reading.{EndsLine}
 use Rattle.tc_text.proofs.LinesOf.{NoLf, no_lf-append, line_ended, first_line}
 use Rattle.tc_text.proofs.Plain.{number_plain}
 use Rattle.tc_history.specs.declared.header.Header.{Header}
-use Rattle.tc_history.specs.Cut.{Without}
+use Rattle.tc_history.specs.Inside.{Without}
 use Rattle.tc_history.specs.Block.{header_text}
 use Rattle.tc_history.specs.Text.{IsHeader}
 use Rattle.tc_history.proofs.Cutting.{IsCut, no_lf, same_cut}

@@ -9,8 +9,8 @@ use Rattle.tc_text.specs.Lines.{lines_of}
 use Rattle.tc_history.specs.declared.header.Header.{Header}
 use Rattle.tc_history.specs.declared.read.Block.{Block}
 use Rattle.tc_history.specs.Block.{header_text, entry_text, end_text}
-use Rattle.tc_history.specs.Text.{IsEntry, IsHeader, IsBlock, IsBadInside, IsCutInside, IsBlockFault, IsHistoryFault, IsMadeOf, AreHistories, block_lines, header_of}
-use Rattle.tc_history.specs.Inside.{IsTaken}
+use Rattle.tc_history.specs.Text.{IsEntry, IsHeader, IsBlock, IsHistoryFault, IsMadeOf, AreHistories, block_lines, header_of}
+use Rattle.tc_history.specs.Inside.{IsBadInside, IsCutInside, IsBlockFault, IsTaken}
 use Rattle.tc_history.proofs.Blocks.{IsNoEntryLine, IsNoEndLine, IsThatHeader, IsThatEntry, IsThatEnd, SoFar, begins, goes_on, ended_lines, ended_only, never_inside, never_cut, bad_inside, cut_inside}
 use Rattle.tc_history.proofs.Texts.{Read, none_read, one_read, all_read, all_only, first_fault, refused_only}
 

@@ -8,7 +8,8 @@ use Rattle.tc_text.specs.Lines.{lines_of}
 use Rattle.tc_text.proofs.LinesOf.{no_line}
 use Rattle.tc_history.specs.declared.read.Block.{Block}
 use Rattle.tc_history.specs.Block.{entry_text, end_text}
-use Rattle.tc_history.specs.Text.{IsBlock, AreBlocks, AreHistories, IsBlockFault, IsHistoryFault, open_lines, block_lines, all_lines}
+use Rattle.tc_history.specs.Text.{IsBlock, AreBlocks, AreHistories, IsHistoryFault, open_lines, block_lines, all_lines}
+use Rattle.tc_history.specs.Inside.{IsBlockFault}
 
 -- the blocks are the ones read, and those that the rest spells
 pub record Others (blocks : List Block) (rest : List ℕ) (line : ℕ) (all : List Block) : Type 0 where

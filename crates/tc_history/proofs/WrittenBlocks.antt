@@ -8,9 +8,9 @@ use Rattle.tc_verdict.specs.declared.verdict.Verdict.{Verdict}
 use Rattle.tc_verdict.specs.Verdict.{name_of}
 use Rattle.tc_entry.specs.Name.{is_name_byte}
 use Rattle.tc_entry.specs.declared.entry.Entry.{Entry}
-use Rattle.tc_text.specs.Lines.{lines_of, ended_lines}
+use Rattle.tc_text.specs.Lines.{lines_of}
 use Rattle.tc_text.specs.Spelling.{move_text, reply_text}
-use Rattle.tc_text.proofs.LinesOf.{NoLf, no_lf-append, lines-ended_lines}
+use Rattle.tc_text.proofs.LinesOf.{NoLf, ended_lines, no_lf-append, lines-ended_lines}
 use Rattle.tc_text.proofs.Plain.{number_plain, move_plain}
 use Rattle.tc_history.specs.declared.header.Header.{Header}
 use Rattle.tc_history.specs.declared.read.Block.{Block}

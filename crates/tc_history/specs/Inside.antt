@@ -1,8 +1,20 @@
--- What the reader of one block says of it, which no public clause names.
-use Rattle.std.specs.Prelude.{ℕ, ◌≡◌, ◌+◌, ◌≤◌, List, [], ◌∷◌, ◌++◌, length}
+-- What only the reader of one block says: no public clause names a word of this file.
+use Rattle.std.specs.Prelude.{ℕ, ◌≡◌, ◌≢◌, ◌==◌, ◌+◌, ◌≤◌, false, List, [], ◌∷◌, ◌++◌, length}
+use Rattle.tc_verdict.specs.declared.verdict.Verdict.{Verdict}
+use Rattle.tc_entry.specs.declared.entry.Entry.{Entry}
+use Rattle.tc_text.specs.declared.fault.TextFault.{TextFault}
+use Rattle.tc_text.specs.declared.fault.TextFault.TheVariants as F
+use Rattle.tc_text.specs.declared.fault.TextKind.TheVariants as K
 use Rattle.tc_text.specs.Lines.{lines_of}
+use Rattle.tc_history.specs.declared.header.Header.{Header}
 use Rattle.tc_history.specs.declared.read.Block.{Block}
-use Rattle.tc_history.specs.Text.{IsBlock, block_lines}
+use Rattle.tc_history.specs.Block.{header_text, entry_text, end_text}
+use Rattle.tc_history.specs.Text.{IsBlock, IsEntry, AreEntries, IsHeader, open_lines, block_lines}
+
+-- no byte of the text is this one
+abbrev pub Without : ℕ → List ℕ → Type 0
+Without byte [] = Unit {0}
+Without byte (b ∷ bs) = ((b == byte) ≡ false) × Without byte bs
 
 -- the text begins with a block whose first line has this number, with it the value before becomes the one after, and the rest begins with the next line
 pub record IsTaken {H : Type 0} (stands : List Block → H → Type 0) (text : List ℕ) (first_line : ℕ) (before after : H) (next : ℕ) (rest : List ℕ) : Type 0 where
@@ -14,3 +26,46 @@ pub record IsTaken {H : Type 0} (stands : List Block → H → Type 0) (text : L
   pub room : length block.entries + 2 + length rest ≤ length text
   -- and it begins with no other block
   pub only : (b : Block) (others : List (List ℕ)) → IsBlock first_line b → lines_of text ≡ block_lines b ++ others → (block ≡ b) × (lines_of rest ≡ others)
+
+-- the line is no first line of a block
+abbrev pub IsNoHeader : List ℕ → Type 0
+IsNoHeader line = (h : Header) → IsHeader h.name h.behaviours → line ≢ header_text h
+
+-- a first line and entries, and then these lines
+pub record Opens (text : List ℕ) (h : Header) (entries : List Entry) (others : List (List ℕ)) : Type 0 where
+  pub header_is : IsHeader h.name h.behaviours
+  pub right : AreEntries entries
+  pub lines : lines_of text ≡ open_lines h entries ++ others
+
+-- the first line of the text is no first line of a block
+pub record IsBadStart (text : List ℕ) : Type 0 where
+  pub bad_line : List ℕ
+  pub others : List (List ℕ)
+  pub lines : lines_of text ≡ bad_line ∷ others
+  pub bad : IsNoHeader bad_line
+
+-- a first line and some entries, and then, in the line of this number, neither an entry nor the end of the block
+pub record IsBadInside (text : List ℕ) (first_line line : ℕ) : Type 0 where
+  pub header : Header
+  pub entries : List Entry
+  pub bad_line : List ℕ
+  pub others : List (List ℕ)
+  pub opens : Opens text header entries (bad_line ∷ others)
+  pub number : line ≡ first_line + length entries + 1
+  pub no_entry : (e : Entry) → IsEntry e → bad_line ≢ entry_text e
+  pub no_end : (v : Verdict) → bad_line ≢ end_text v
+
+-- a first line and some entries, and nothing more
+pub record IsCutInside (text : List ℕ) (first_line line : ℕ) : Type 0 where
+  pub header : Header
+  pub entries : List Entry
+  pub opens : Opens text header entries []
+  pub number : line ≡ first_line + length entries + 1
+
+-- the first fault of a text that should begin with a block
+abbrev pub IsBlockFault : List ℕ → ℕ → TextFault → Type 0
+IsBlockFault text first_line (F.At line K.Early) = IsCutInside text first_line line
+IsBlockFault text first_line (F.At line K.FirstLine) = IsBadStart text × (line ≡ first_line)
+IsBlockFault text first_line (F.At line K.Entry) = IsBadInside text first_line line
+IsBlockFault text first_line (F.At line K.Move) = ⊥
+IsBlockFault text first_line F.NoMemory = Unit {0}

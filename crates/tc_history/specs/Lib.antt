@@ -1,6 +1,5 @@
 -- The definitions that the contracts of this crate cite.
 pub mod Block
 pub mod Text
-pub mod Cut
 pub mod Written
 pub mod Inside

@@ -1,6 +1,6 @@
 //! Cutting a text.
 ghost use Rattle.std.specs.Prelude.{◌≡◌, ◌++◌, ◌∷◌, ℕ, List};
-ghost use Rattle.tc_history.specs.Cut.{Without};
+ghost use Rattle.tc_history.specs.Inside.{Without};
 
 /// The bytes before the first such byte, and the others.
 pub(crate) fn cut(text: &[u8], byte: u8) -> (&[u8], &[u8])

@@ -1,7 +1,7 @@
 //! The first line of a block.
 ghost use Rattle.std.specs.Prelude.{◌≡◌, ◌<◌, ◌∷◌, ℕ, List, length, IfSome};
 ghost use Rattle.tc_text.specs.Lines.{lines_of};
-ghost use Rattle.tc_text.specs.Reading.{TakesLine};
+ghost use Rattle.tc_text.specs.Inside.{TakesLine};
 ghost use Rattle.tc_history.specs.declared.header.Header.{Header as AnyHeader};
 ghost use Rattle.tc_history.specs.Block.{header_text};
 ghost use Rattle.tc_history.specs.Text.{IsHeader};

@@ -4,7 +4,7 @@ ghost use Rattle.tc_verdict.specs.declared.verdict.Verdict.{Verdict as AnyVerdic
 ghost use Rattle.tc_entry.specs.declared.entry.Entry.{Entry as AnyEntry};
 ghost use Rattle.tc_entry.specs.declared.reply.Reply.{Reply as AnyReply};
 ghost use Rattle.tc_text.specs.Lines.{lines_of};
-ghost use Rattle.tc_text.specs.Reading.{TakesLine};
+ghost use Rattle.tc_text.specs.Inside.{TakesLine};
 ghost use Rattle.tc_text.specs.Spelling.{IsReply, IsStart};
 ghost use Rattle.tc_history.specs.Block.{end_text, entry_text, outcome_text};
 ghost use Rattle.tc_history.specs.Text.{IsEntry};

@@ -4,8 +4,8 @@ ghost use Rattle.tc_entry.specs.declared.entry.Entry.{Entry as AnyEntry};
 ghost use Rattle.tc_text.specs.Lines.{lines_of};
 ghost use Rattle.tc_history.specs.declared.header.Header.{Header as AnyHeader};
 ghost use Rattle.tc_history.specs.declared.read.Block.{Block as AnyBlock};
-ghost use Rattle.tc_history.specs.Text.{AreHistories, IsBlock, IsBlockFault, IsHeader, IsHistoryFault, IsMadeOf, block_lines, header_of};
-ghost use Rattle.tc_history.specs.Inside.{IsTaken};
+ghost use Rattle.tc_history.specs.Text.{AreHistories, IsBlock, IsHeader, IsHistoryFault, IsMadeOf, block_lines, header_of};
+ghost use Rattle.tc_history.specs.Inside.{IsBlockFault, IsTaken};
 
 use crate::header::{Header, take_header_line};
 use crate::line::{take_end_line, take_entry_line};

@@ -4,7 +4,7 @@ use Rattle.std.proofs.lemmas.List.{append-nil, reverse-append, reverse-reverse}
 use Rattle.std.proofs.lemmas.List.Elements.{filter-append}
 use Rattle.tc_verdict.specs.declared.run.Run.{Run}
 use Rattle.tc_entry.specs.declared.entry.Entry.{Entry}
-use Rattle.tc_table.specs.History.{is_ended}
+use Rattle.tc_entry.specs.Reply.{is_ended}
 use Rattle.tc_merge.specs.declared.run_log.RunLog.{RunLog}
 use Rattle.tc_merge.specs.Merge.{is_other, is_late, is_verdict_call, head, follows, head_at_start, started, in_place, late, log_of, end_of, merge}
 

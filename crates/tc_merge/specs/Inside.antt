@@ -1,7 +1,16 @@
 -- What only the way the merge is made needs: no public clause names a word of this file.
-use Rattle.std.specs.Prelude.{ℕ, ◌≡◌, ◌<◌, ◌≤◌, List, [], length, slice_index_or}
+use Rattle.std.specs.Prelude.{ℕ, ◌≡◌, ◌<◌, ◌≤◌, List, [], length, reverse, slice_index_or}
 use Rattle.std.specs.Borrow.{Bor}
 use Rattle.tc_entry.specs.declared.entry.Entry.{Entry}
+use Rattle.tc_merge.specs.Merge.{in_place}
+
+-- what the table has of run b, and this where it has no such run
+abbrev pub entries_of : List (Bor (List Entry)) → ℕ → Bor (List Entry) → List Entry
+entries_of table b d = (slice_index_or table b d).now
+
+-- the history with the verdict entries that are put in place; the history is in the order in which it was made
+abbrev pub placed : (ℕ → List Entry) → List Entry → List Entry
+placed log history = in_place log (reverse history)
 
 -- the table has the log of each run, by its number; the runs beyond it have none
 pub record Has (table : List (Bor (List Entry))) (log : ℕ → List Entry) : Type 0 where

@@ -5,7 +5,7 @@ use Rattle.tc_entry.specs.declared.entry.Entry.{Entry}
 use Rattle.tc_entry.specs.declared.op.Op.{Op}
 use Rattle.tc_entry.specs.declared.op.Op.TheVariants as O
 use Rattle.tc_verdict.specs.declared.run.Run.{Run}
-use Rattle.tc_table.specs.History.{is_ended, is_ok}
+use Rattle.tc_entry.specs.Reply.{is_ended, is_ok}
 use Rattle.tc_merge.specs.declared.run_log.RunLog.{RunLog}
 use Rattle.tc_merge.specs.Parts.{is_by}
 

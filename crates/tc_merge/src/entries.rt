@@ -1,21 +1,8 @@
 //! What one entry is to the merge.
 ghost use Rattle.std.specs.Prelude.{◌≡◌};
-ghost use Rattle.tc_table.specs.History as history;
 ghost use Rattle.tc_merge.specs.Merge as rules;
 
-use tc_entry::{Entry, Op, Reply, Run};
-
-fn is_ended(reply: Reply) -> bool
-    ensures { result ≡ history.is_ended reply }
-{
-    matches!(reply, Reply::Ended)
-}
-
-fn is_ok(reply: Reply) -> bool
-    ensures { result ≡ history.is_ok reply }
-{
-    matches!(reply, Reply::Ok)
-}
+use tc_entry::{Entry, Op, Run};
 
 fn is_verdict_call(op: &Op) -> bool
     ensures { result ≡ rules.is_verdict_call op.now }
@@ -34,7 +21,7 @@ pub(crate) fn is_other(entry: &Entry) -> bool
 pub(crate) fn is_late(entry: &Entry) -> bool
     ensures { result ≡ rules.is_late entry.now }
 {
-    is_verdict_call(&entry.op) && is_ended(entry.reply)
+    is_verdict_call(&entry.op) && entry.reply.is_ended()
 }
 
 fn run_of(op: &Op) -> Option<Run>
@@ -50,7 +37,7 @@ fn run_of(op: &Op) -> Option<Run>
 pub(crate) fn started(entry: &Entry) -> Option<Run>
     ensures { result ≡ rules.started entry.now }
 {
-    if is_ok(entry.reply) {
+    if entry.reply.is_ok() {
         run_of(&entry.op)
     } else {
         None

@@ -1,7 +1,7 @@
 //! The merge of a history with the logs of its runs.
-ghost use Rattle.std.specs.Prelude.{◌≡◌, ◌++◌, ℕ, IfOk, OnOk, filter, length, reverse};
+ghost use Rattle.std.specs.Prelude.{◌≡◌, ◌++◌, ℕ, IfOk, OnOk, filter, length};
 ghost use Rattle.tc_merge.specs.Merge as rules;
-ghost use Rattle.tc_merge.specs.Inside.{Has};
+ghost use Rattle.tc_merge.specs.Inside.{Has, placed};
 ghost use Rattle.tc_merge.specs.OneCase.{AreOfOneCase, IsOneEach};
 ghost use Rattle.tc_merge.specs.Parts.{part};
 
@@ -30,7 +30,7 @@ fn add_history(
     logs: &[&[Entry]],
     rests: &mut Vec<&[Entry]>,
 ) -> Result<(), NoMemory>
-    ensures { (log : _) → Has logs.now log → Has rests.old.items log → OnOk result (all.new.items ≡ all.old.items ++ rules.in_place log (reverse history.now)) }
+    ensures { (log : _) → Has logs.now log → Has rests.old.items log → OnOk result (all.new.items ≡ all.old.items ++ placed log history.now) }
 {
     add_head(all, at_run(logs, Run(0)))?;
     for entry in history {

@@ -16,7 +16,7 @@ pub use ending::abort_line;
 pub use fault::OutFault;
 pub use histories::write_history;
 pub use records::write_csv;
-pub use report::write_text;
+pub use report::{append_verdict, write_text};
 pub use results::{CampaignEnd, Finished, Results, Tally};
 pub use status::{status_of, verdict_status};
 

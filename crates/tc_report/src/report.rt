@@ -131,8 +131,8 @@ fn append_name(out: &mut Vec<u8>, name: &Name) -> Result<(), NoMemory>
     Ok(())
 }
 
-// Appends the line of an overall verdict.
-fn append_verdict(out: &mut Vec<u8>, verdict: Verdict) -> Result<(), NoMemory>
+/// Appends the line of an overall verdict; where memory is refused, a part of it.
+pub fn append_verdict(out: &mut Vec<u8>, verdict: Verdict) -> Result<(), NoMemory>
     ensures { OnOk result (out.new.items ≡ out.old.items ++ verdict_line verdict) }
 {
     append_text(out, "verdict ")?;

@@ -92,6 +92,8 @@ fn lines_of_a_script(rt: HostRuntime) -> Result<(), Fail> {
         ("\tgetverdict", Some((3, ScriptKind::BadByte))),
         ("#\t", None),
         ("behaviour b", Some((3, ScriptKind::BadPlace))),
+        ("stopcase", None),
+        ("stopcase self", Some((3, ScriptKind::BadLine))),
         (
             "start mtc w mtc mtc mtc mtc mtc",
             Some((3, ScriptKind::TooMany)),

@@ -1,8 +1,9 @@
 //! Readers and writers for tests: each moves one byte at a time, and fails at one call.
-ghost use Rattle.std.specs.Prelude.{◌≡◌, ◌≢◌, ◌<◌, ◌≤◌, ◌+◌, ◌^◌, ◌↔◌, [], Some, Ok, IfOk, IfErr, IsErr, IsErrAnd, IsOk, MatchResult, length, min};
+ghost use Rattle.std.specs.Prelude.{◌≡◌, ◌<◌, ◌≤◌, ◌+◌, ◌↔◌, [], Some, Ok, IfOk, IfErr, IsErr, IsErrAnd, IsOk, MatchResult, length, min};
 ghost use Rattle.std.specs.Io.{ReadsAtMost, WritesAtMost};
 ghost use Rattle.std.specs.IoError.{error_kind};
 ghost use Rattle.std.specs.Io.KnownBytes.{Keeps, ReadConsumes, WriteAppends};
+ghost use Rattle.tc_stream.specs.Devices.{FailsNext};
 
 use std::alloc::Global;
 use std::io;
@@ -44,7 +45,7 @@ impl Read for SlowReader<'_> {
         ensures one { IfOk result (λ n. n ≤ 1) }
         ensures fails { IsErr result ↔ (self.old.reads ≡ self.old.fails_at) }
         ensures kind { IfErr result (λ e. error_kind e ≡ ErrorKind.Interrupted) }
-        ensures counted { self.old.reads + 1 < 2 ^ 64 → self.new.reads ≡ self.old.reads + 1 }
+        ensures counted { self.old.reads < usize.MAX → self.new.reads ≡ self.old.reads + 1 }
         ensures same { self.new.fails_at ≡ self.old.fails_at }
     {
         let reads = self.reads;
@@ -111,10 +112,10 @@ impl Write for NarrowWriter {
     fn write(&mut self, buf: &[u8]) -> io::Result<usize>
         ensures bound { WritesAtMost result buf.now }
         ensures bytes { WriteAppends (Some self.old.taken.items) (Some self.new.taken.items) result buf.now }
-        ensures takes { self.old.writes ≢ self.old.fails_at → MatchResult result (λ n. n ≡ min 1 (length buf.now)) (λ e. error_kind e ≡ ErrorKind.OutOfMemory) }
-        ensures broken { self.old.writes ≡ self.old.fails_at → self.old.failure ≡ WriteFailure.Broken → IsErrAnd result (λ e. error_kind e ≡ ErrorKind.BrokenPipe) }
-        ensures full { self.old.writes ≡ self.old.fails_at → self.old.failure ≡ WriteFailure.Full → result ≡ Ok 0 }
-        ensures counted { self.old.writes + 1 < 2 ^ 64 → self.new.writes ≡ self.old.writes + 1 }
+        ensures takes { (FailsNext self.old → ⊥) → MatchResult result (λ n. n ≡ min 1 (length buf.now)) (λ e. error_kind e ≡ ErrorKind.OutOfMemory) }
+        ensures broken { FailsNext self.old → self.old.failure ≡ WriteFailure.Broken → IsErrAnd result (λ e. error_kind e ≡ ErrorKind.BrokenPipe) }
+        ensures full { FailsNext self.old → self.old.failure ≡ WriteFailure.Full → result ≡ Ok 0 }
+        ensures counted { self.old.writes < usize.MAX → self.new.writes ≡ self.old.writes + 1 }
         ensures same { (self.new.fails_at ≡ self.old.fails_at) × (self.new.failure ≡ self.old.failure) }
     {
         let writes = self.writes;

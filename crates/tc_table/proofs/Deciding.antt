@@ -6,7 +6,8 @@ use Rattle.tc_entry.specs.declared.op.Op.{Op}
 use Rattle.tc_entry.specs.declared.op.Op.TheVariants as O
 use Rattle.tc_entry.specs.declared.reply.Reply.{Reply}
 use Rattle.tc_entry.specs.declared.reply.Reply.TheVariants as R
-use Rattle.tc_table.specs.History.{first_some, is_comp, is_finish, is_kill_of, is_ok, is_stop_case, is_stop_of}
+use Rattle.tc_entry.specs.Reply.{is_ok}
+use Rattle.tc_table.specs.History.{first_some, is_comp, is_finish, is_kill_of, is_stop_case, is_stop_of}
 use Rattle.tc_table.specs.Laws.{halting_op}
 
 pub self_equal : (m : ℕ) → (m == m) ≡ true

@@ -16,7 +16,8 @@ use Rattle.tc_entry.specs.declared.reply.Reply.{Reply}
 use Rattle.tc_entry.specs.declared.reply.Reply.TheVariants as R
 use Rattle.tc_table.specs.declared.component_state.ComponentState.{ComponentState}
 use Rattle.tc_table.specs.declared.step.Scope.TheVariants as T
-use Rattle.tc_table.specs.History.{is_comp, is_ok, is_ended, is_fault, is_finish, is_stop_case, is_stop_of, is_kill_of, kills, halts, ends_case, starts_on, first_some}
+use Rattle.tc_entry.specs.Reply.{is_ended, is_fault, is_ok}
+use Rattle.tc_table.specs.History.{is_comp, is_finish, is_stop_case, is_stop_of, is_kill_of, kills, halts, ends_case, starts_on, first_some}
 use Rattle.tc_table.specs.Phases.{start_in, halts_from_outside}
 use Rattle.tc_table.specs.Status.{is_running}
 use Rattle.tc_table.specs.Local.{gives, setting}

@@ -9,7 +9,8 @@ use Rattle.tc_entry.specs.declared.phase.Phase.{Phase}
 use Rattle.tc_entry.specs.declared.phase.Phase.TheVariants as P
 use Rattle.tc_entry.specs.declared.reply.Fault.TheVariants as F
 use Rattle.tc_entry.specs.declared.reply.Reply.TheVariants as R
-use Rattle.tc_table.specs.History.{comp_of, exists, first_some, halts, is_alive_type, is_comp, is_ended, is_fault, is_finish, is_kill_of, is_ok, is_stop_case, is_stop_of, kills, starts_on, starts_run}
+use Rattle.tc_entry.specs.Reply.{is_ended, is_fault, is_ok}
+use Rattle.tc_table.specs.History.{comp_of, exists, first_some, halts, is_alive_type, is_comp, is_finish, is_kill_of, is_stop_case, is_stop_of, kills, starts_on, starts_run}
 use Rattle.tc_table.specs.Phases.{last_run, phase, start_in, was_halted, was_killed}
 use Rattle.tc_table.specs.Status.{is_running, is_killed}
 use Rattle.tc_table.specs.Faults.{start_fault}

@@ -6,7 +6,8 @@ use Rattle.tc_entry.specs.declared.comp.Comp.{Comp}
 use Rattle.tc_entry.specs.declared.entry.Entry.{Entry}
 use Rattle.tc_table.specs.declared.component_state.ComponentState.{ComponentState}
 use Rattle.tc_table.specs.declared.run_state.RunState.{RunState}
-use Rattle.tc_table.specs.History.{is_over, exists, comps, comp_of, created, add_new, is_comp, is_ok, is_in, ends_case, is_ended, is_finish, is_stop_of, is_kill_of, halts, kills, starts_run, first_some, is_alive_create}
+use Rattle.tc_entry.specs.Reply.{is_ended, is_ok}
+use Rattle.tc_table.specs.History.{is_over, exists, comps, comp_of, created, add_new, is_comp, is_in, ends_case, is_finish, is_stop_of, is_kill_of, halts, kills, starts_run, first_some, is_alive_create}
 use Rattle.tc_table.specs.Phases.{last_run, was_killed, was_halted, start_in}
 use Rattle.tc_table.specs.Answers.{answer}
 use Rattle.tc_table.specs.Faults.{all_exist, target_names}

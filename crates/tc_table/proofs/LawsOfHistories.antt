@@ -10,7 +10,8 @@ use Rattle.tc_entry.specs.declared.phase.Phase.{Phase}
 use Rattle.tc_entry.specs.declared.phase.Phase.TheVariants as P
 use Rattle.tc_entry.specs.declared.reply.Reply.{Reply}
 use Rattle.tc_entry.specs.declared.reply.Reply.TheVariants as R
-use Rattle.tc_table.specs.History.{comp_of, exists, halts, is_comp, is_ended, kills}
+use Rattle.tc_entry.specs.Reply.{is_ended}
+use Rattle.tc_table.specs.History.{comp_of, exists, halts, is_comp, kills}
 use Rattle.tc_table.specs.Phases.{phase, was_killed, was_halted, start_in}
 use Rattle.tc_table.specs.Local.{gives, local, verdicts_of}
 use Rattle.tc_table.specs.Faults.{fault}

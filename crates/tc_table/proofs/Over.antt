@@ -10,7 +10,8 @@ use Rattle.tc_entry.specs.declared.reply.Reply.TheVariants as R
 use Rattle.tc_entry.specs.declared.phase.Phase.TheVariants as P
 use Rattle.tc_table.specs.declared.component_state.ComponentState.{ComponentState}
 use Rattle.tc_table.specs.declared.run_state.RunState.{RunState}
-use Rattle.tc_table.specs.History.{comps, exists, comp_of, created, add_new, is_ok, is_in, is_over, ends_case, kills, is_kill_of, is_ended, starts_run, first_some}
+use Rattle.tc_entry.specs.Reply.{is_ended, is_ok}
+use Rattle.tc_table.specs.History.{comps, exists, comp_of, created, add_new, is_in, is_over, ends_case, kills, is_kill_of, starts_run, first_some}
 use Rattle.tc_table.specs.Phases.{phase, was_killed}
 use Rattle.tc_table.specs.Answers.{answer, is_active}
 use Rattle.tc_table.specs.Legal.{IsLegal, IsAllOver}

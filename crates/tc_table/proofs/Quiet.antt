@@ -14,7 +14,8 @@ use Rattle.tc_entry.specs.declared.reply.Fault.TheVariants as F
 use Rattle.tc_entry.specs.declared.reply.Reply.{Reply}
 use Rattle.tc_entry.specs.declared.reply.Reply.TheVariants as R
 use Rattle.tc_table.specs.declared.awaited.Awaited.{Awaited}
-use Rattle.tc_table.specs.History.{add_new, comp_of, comps, created, ends_case, exists, first_some, halts, is_alive_type, is_ended, is_fault, is_finish, is_in, is_ok, kills, starts_on, starts_run}
+use Rattle.tc_entry.specs.Reply.{is_ended, is_fault, is_ok}
+use Rattle.tc_table.specs.History.{add_new, comp_of, comps, created, ends_case, exists, first_some, halts, is_alive_type, is_finish, is_in, kills, starts_on, starts_run}
 use Rattle.tc_table.specs.Phases.{phase, phase_if_not_killed, last_run, start_in, was_halted, was_killed}
 use Rattle.tc_table.specs.Status.{done, is_done, is_killed, is_running, killed}
 use Rattle.tc_table.specs.Waiting.{holds, is_still, is_stuck, parks, waiting}

@@ -7,7 +7,8 @@ use Rattle.tc_entry.specs.declared.entry.Entry.{Entry}
 use Rattle.tc_entry.specs.declared.op.Op.{Op}
 use Rattle.tc_entry.specs.declared.op.Op.TheVariants as O
 use Rattle.tc_table.specs.declared.run_state.RunState.{RunState}
-use Rattle.tc_table.specs.History.{is_ok, starts_run}
+use Rattle.tc_entry.specs.Reply.{is_ok}
+use Rattle.tc_table.specs.History.{starts_run}
 use Rattle.tc_table.specs.Inside.Step.{next_run, started_run}
 use Rattle.tc_table.proofs.Deciding.{if_same, first_alone}
 

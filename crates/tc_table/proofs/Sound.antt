@@ -12,7 +12,8 @@ use Rattle.tc_entry.specs.declared.reply.Reply.{Reply}
 use Rattle.tc_entry.specs.declared.reply.Reply.TheVariants as R
 use Rattle.tc_entry.specs.declared.reply.Fault.{Fault}
 use Rattle.tc_entry.specs.declared.reply.Fault.TheVariants as F
-use Rattle.tc_table.specs.History.{exists, comp_of, is_ended, is_fault, is_ok, is_alive_type, kills, starts_on, starts_run, created, is_alive_create}
+use Rattle.tc_entry.specs.Reply.{is_ended, is_fault, is_ok}
+use Rattle.tc_table.specs.History.{exists, comp_of, is_alive_type, kills, starts_on, starts_run, created, is_alive_create}
 use Rattle.tc_table.specs.Phases.{phase, was_killed, last_run, was_halted, start_in}
 use Rattle.tc_table.specs.Status.{is_running, is_killed}
 use Rattle.tc_table.specs.Answers.{answer, answer_unless, plain_answer, is_active}

@@ -14,7 +14,8 @@ use Rattle.tc_entry.specs.declared.phase.Phase.TheVariants as P
 use Rattle.tc_entry.specs.declared.reply.Reply.{Reply}
 use Rattle.tc_entry.specs.declared.reply.Reply.TheVariants as R
 use Rattle.tc_table.specs.declared.component_state.ComponentState.{ComponentState}
-use Rattle.tc_table.specs.History.{is_comp, is_ok, is_ended, is_fault, is_stop_of, is_kill_of, ends_case, first_some, kills, halts}
+use Rattle.tc_entry.specs.Reply.{is_ended, is_fault, is_ok}
+use Rattle.tc_table.specs.History.{is_comp, is_stop_of, is_kill_of, ends_case, first_some, kills, halts}
 use Rattle.tc_table.specs.Phases.{start_in}
 use Rattle.tc_table.specs.Status.{is_running, is_killed}
 use Rattle.tc_table.specs.Local.{gives, setting}

@@ -7,10 +7,10 @@ use Rattle.tc_entry.specs.declared.comp.Comp.{Comp}
 use Rattle.tc_entry.specs.declared.entry.Entry.{Entry}
 use Rattle.tc_entry.specs.declared.op.Op.{Op}
 use Rattle.tc_entry.specs.declared.op.Op.TheVariants as O
-use Rattle.tc_entry.specs.declared.op.Group.{Group}
-use Rattle.tc_entry.specs.declared.op.Group.TheVariants as G
 use Rattle.tc_entry.specs.declared.reply.Reply.{Reply}
 use Rattle.tc_entry.specs.declared.reply.Reply.TheVariants as R
+use Rattle.tc_entry.specs.Group.{is_of}
+use Rattle.tc_entry.specs.Reply.{is_ended, is_fault, is_ok}
 
 -- a number is in a list
 abbrev pub is_in : ℕ → List ℕ → Bool
@@ -42,21 +42,6 @@ abbrev pub is_alive_create : Op → Bool
 is_alive_create (O.Create alive) = alive
 is_alive_create _ = false
 
--- the call was carried out
-abbrev pub is_ok : Reply → Bool
-is_ok R.Ok = true
-is_ok _ = false
-
--- the caller was not the running run of its component
-abbrev pub is_ended : Reply → Bool
-is_ended R.Ended = true
-is_ended _ = false
-
--- the call was a dynamic error
-abbrev pub is_fault : Reply → Bool
-is_fault (R.Fault f) = true
-is_fault _ = false
-
 -- the component on which this operation starts run b
 abbrev pub starts_run : Op → ℕ → Option Comp
 starts_run (O.Start c run args) b = if run.0 == b then Some c else None
@@ -80,11 +65,6 @@ is_finish _ = false
 abbrev pub is_stop_case : Op → Bool
 is_stop_case O.StopCase = true
 is_stop_case _ = false
-
--- component c is of the group: All is all parallel components, that is all but the main one, 0
-abbrev pub is_of : Group → ℕ → Bool
-is_of (G.One d) c = d.0 == c
-is_of G.All c = not (c == 0)
 
 -- the operation is a Stop of component c
 abbrev pub is_stop_of : Op → ℕ → Bool
@@ -125,7 +105,7 @@ abbrev pub comp_of : List Entry → ℕ → Option Comp
 comp_of [] b = if b == 0 then Some (record { 0 = 0 }) else None
 comp_of (e ∷ past) b = first_some (comp_of past b) (started_on e b)
 
--- the entry ends the test case: a dynamic error, the main component's Finish, its Stop or its Kill
+-- the entry ends the test case: a dynamic error, a StopCase, the main component's Finish, its Stop or its Kill
 abbrev pub ends_case : Entry → Bool
 ends_case e =
     not (is_ended e.reply)

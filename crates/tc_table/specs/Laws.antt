@@ -10,7 +10,8 @@ use Rattle.tc_entry.specs.declared.op.Target.{Target}
 use Rattle.tc_entry.specs.declared.phase.Phase.TheVariants as P
 use Rattle.tc_entry.specs.declared.reply.Reply.{Reply}
 use Rattle.tc_entry.specs.declared.reply.Reply.TheVariants as R
-use Rattle.tc_table.specs.History.{comp_of, halts, is_comp, is_ended, is_fault, is_over, started_on}
+use Rattle.tc_entry.specs.Reply.{is_ended, is_fault}
+use Rattle.tc_table.specs.History.{comp_of, halts, is_comp, is_over, started_on}
 use Rattle.tc_table.specs.Phases.{phase, was_killed, was_halted}
 use Rattle.tc_table.specs.Local.{gives, local}
 use Rattle.tc_table.specs.Answers.{answer, is_active}

@@ -5,7 +5,8 @@ use Rattle.tc_entry.specs.declared.comp.Comp.{Comp}
 use Rattle.tc_entry.specs.declared.entry.Entry.{Entry}
 use Rattle.tc_entry.specs.declared.phase.Phase.{Phase}
 use Rattle.tc_entry.specs.declared.phase.Phase.TheVariants as P
-use Rattle.tc_table.specs.History.{exists, is_alive_type, comp_of, is_ok, starts_on, first_some, is_comp, is_stop_of, is_kill_of, halts, kills}
+use Rattle.tc_entry.specs.Reply.{is_ok}
+use Rattle.tc_table.specs.History.{exists, is_alive_type, comp_of, starts_on, first_some, is_comp, is_stop_of, is_kill_of, halts, kills}
 
 -- an entry after its creation killed component c
 abbrev pub was_killed : List Entry → ℕ → Bool

@@ -6,26 +6,8 @@ ghost use Rattle.tc_table.specs.Waiting as waits;
 ghost use Rattle.tc_table.specs.Inside.Step as step;
 
 use crate::awaited::Awaited;
-use tc_entry::{Comp, Entry, Group, Op, Reply};
+use tc_entry::{Comp, Entry, Op, Reply};
 use tc_verdict::Run;
-
-pub fn is_ok(reply: Reply) -> bool
-    ensures { result ≡ history.is_ok reply }
-{
-    matches!(reply, Reply::Ok)
-}
-
-pub fn is_ended(reply: Reply) -> bool
-    ensures { result ≡ history.is_ended reply }
-{
-    matches!(reply, Reply::Ended)
-}
-
-pub fn is_fault(reply: Reply) -> bool
-    ensures { result ≡ history.is_fault reply }
-{
-    matches!(reply, Reply::Fault(_))
-}
 
 pub fn is_finish(op: &Op) -> bool
     ensures { result ≡ history.is_finish op.now }
@@ -39,20 +21,11 @@ pub fn is_stop_case(op: &Op) -> bool
     matches!(op, Op::StopCase)
 }
 
-pub fn is_of(group: Group, comp: u32) -> bool
-    ensures { result ≡ history.is_of group comp }
-{
-    match group {
-        Group::One(c) => c.0 == comp,
-        Group::All => comp != 0,
-    }
-}
-
 pub fn is_stop_of(op: &Op, comp: u32) -> bool
     ensures { result ≡ history.is_stop_of op.now comp }
 {
     match op {
-        Op::Stop(group) => is_of(*group, comp),
+        Op::Stop(group) => group.is_of(comp),
         _ => false,
     }
 }
@@ -61,7 +34,7 @@ pub fn is_kill_of(op: &Op, comp: u32) -> bool
     ensures { result ≡ history.is_kill_of op.now comp }
 {
     match op {
-        Op::Kill(group) => is_of(*group, comp),
+        Op::Kill(group) => group.is_of(comp),
         _ => false,
     }
 }
@@ -78,8 +51,8 @@ pub fn is_comp(own: Option<Comp>, comp: u32) -> bool
 pub fn ends_case(entry: &Entry) -> bool
     ensures { result ≡ history.ends_case entry.now }
 {
-    !is_ended(entry.reply)
-        && (is_fault(entry.reply)
+    !entry.reply.is_ended()
+        && (entry.reply.is_fault()
             || is_stop_case(&entry.op)
             || (is_finish(&entry.op) && entry.caller.0 == 0)
             || is_stop_of(&entry.op, 0)
@@ -89,14 +62,14 @@ pub fn ends_case(entry: &Entry) -> bool
 pub fn kills(entry: &Entry, comp: u32) -> bool
     ensures { result ≡ history.kills entry.now comp }
 {
-    ends_case(entry) || (!is_ended(entry.reply) && is_kill_of(&entry.op, comp))
+    ends_case(entry) || (!entry.reply.is_ended() && is_kill_of(&entry.op, comp))
 }
 
 pub fn halts(own: Option<Comp>, entry: &Entry, comp: u32) -> bool
     ensures { result ≡ history.halts own entry.now comp }
 {
     ends_case(entry)
-        || (!is_ended(entry.reply)
+        || (!entry.reply.is_ended()
             && ((is_finish(&entry.op) && is_comp(own, comp))
                 || is_stop_of(&entry.op, comp)
                 || is_kill_of(&entry.op, comp)))
@@ -113,7 +86,7 @@ pub fn halts_from_outside(own: Option<Comp>, entry: &Entry, comp: u32) -> bool
 pub fn start_in(entry: &Entry, comp: u32) -> Option<Run>
     ensures { result ≡ phases.start_in entry.now comp }
 {
-    if is_ok(entry.reply) {
+    if entry.reply.is_ok() {
         match &entry.op {
             Op::Start { comp: c, run, .. } => { if c.0 == comp { Some(*run) } else { None } }
             _ => None,
@@ -147,7 +120,7 @@ pub fn parks(op: &Op, reply: Reply) -> Option<Awaited>
 pub fn started_on(entry: &Entry, run: u16) -> Option<Comp>
     ensures { result ≡ history.started_on entry.now run }
 {
-    if is_ok(entry.reply) {
+    if entry.reply.is_ok() {
         match &entry.op {
             Op::Start { comp, run: b, .. } => { if b.0 == run { Some(*comp) } else { None } }
             _ => None,

@@ -8,8 +8,7 @@ ghost use Rattle.tc_table.specs.declared.step.Scope.TheVariants as changed;
 use crate::component_state::{ComponentState, is_killed, is_running};
 use crate::component_states::ComponentStates;
 use crate::entries::{
-    ends_case, halts, halts_from_outside, is_comp, is_ended, kills, parks, start_in, started_on,
-    started_run,
+    ends_case, halts, halts_from_outside, is_comp, kills, parks, start_in, started_on, started_run,
 };
 use crate::run_state::RunState;
 use tc_entry::{Comp, Entry, Group, Op, Phase, Reply};
@@ -156,7 +155,7 @@ fn touched(own: Option<Comp>, entry: &Entry) -> Scope
 {
     if ends_case(entry) {
         Scope::All
-    } else if is_ended(entry.reply) {
+    } else if entry.reply.is_ended() {
         Scope::Nothing
     } else {
         touched_by(own, &entry.op)

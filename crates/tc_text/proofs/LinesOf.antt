@@ -2,7 +2,7 @@
 use Rattle.std.proofs.Common.{◌≡◌, ◌≢◌, ◌∙◌, ◌==◌, inl, inr, ℕ, List, [], ◌∷◌, ◌++◌, Bool, true, false, if◌then◌else◌, length, ◌<◌, sym, ap, refl, arith}
 use Rattle.std.specs.List.{onto_first, AllByRecursion}
 use Rattle.std.proofs.lemmas.Bool.Decides.{nat_tests}
-use Rattle.tc_text.specs.Lines.{lines_of, ended_lines}
+use Rattle.tc_text.specs.Lines.{lines_of}
 use Rattle.tc_text.specs.Reading.{EndsLine}
 
 -- no byte is LF
@@ -98,6 +98,11 @@ same_behind rest a b (inr x) (inl y) = absurd (let e = sym y.0 ∙ x in cc)
 same_behind rest a b (inr x) (inr y) = let e = sym x ∙ y in cc
 
 -- ---- lines that are written are read again
+
+-- the text that ends each of these lines with LF
+abbrev pub ended_lines : List (List ℕ) → List ℕ
+ended_lines [] = []
+ended_lines (l ∷ ls) = l ++ 10 ∷ ended_lines ls
 
 pub lines-ended_lines : (ls : List (List ℕ)) → AllByRecursion NoLf ls → lines_of (ended_lines ls) ≡ ls
 lines-ended_lines [] plain = refl

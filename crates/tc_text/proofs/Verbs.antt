@@ -4,7 +4,7 @@ use Rattle.tc_entry.specs.declared.op.Op.{Op}
 use Rattle.tc_text.specs.declared.verb.Status.{Status}
 use Rattle.tc_text.specs.declared.verb.Status.TheVariants as S
 use Rattle.tc_text.specs.Spelling.{op_text, status_text, verb_text, verb_of, operand_text}
-use Rattle.tc_text.specs.Reading.{IsWait}
+use Rattle.tc_text.specs.Inside.{IsWait}
 
 -- an operation is its first words and what stands behind them
 pub op_parts : (op : Op) (rest : List ℕ) → op_text op ++ rest ≡ verb_text (verb_of op) ++ (operand_text op ++ rest)

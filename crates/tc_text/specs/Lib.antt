@@ -4,3 +4,4 @@ pub mod Lines
 pub mod TextKind
 pub mod MoveList
 pub mod Reading
+pub mod Inside

@@ -1,11 +1,9 @@
 -- What the readers of moves speak of among themselves.
-use Rattle.std.specs.Prelude.{ℕ, ◌≡◌, ◌≢◌, ◌<◌, ◌+◌, ◌-◌, ◌*◌, ◌⊎◌, true, false, List, [], ◌∷◌, Option, MatchOption}
+use Rattle.std.specs.Prelude.{ℕ, ◌≡◌, ◌≢◌, ◌<◌, ◌⊎◌, true, false, List, [], ◌∷◌, Option, MatchOption}
 use Rattle.std.specs.Borrow.{Bor}
-use Rattle.std.specs.Char.{is_ascii_digit}
 use Rattle.tc_entry.specs.declared.op.Target.{Target}
 use Rattle.tc_entry.specs.declared.op.Op.{Op}
 use Rattle.tc_entry.specs.declared.op.Op.TheVariants as O
-use Rattle.tc_text.specs.Lines.{lines_of}
 use Rattle.tc_text.specs.declared.verb.Status.{Status}
 use Rattle.tc_text.specs.declared.verb.Status.TheVariants as S
 use Rattle.tc_text.specs.declared.short.ShortOp.{ShortOp}
@@ -14,19 +12,6 @@ use Rattle.tc_text.specs.declared.short.ShortOp.TheVariants as H
 -- this value was read, and this stands behind it
 abbrev pub Takes : {A : Type 0} → Option (A × Bor (List ℕ)) → A → List ℕ → Type 0
 Takes found value behind = MatchOption found ⊥ (λ r. (r.0 ≡ value) × (r.1.now ≡ behind))
-
--- this value was read of a line, and these lines stand behind it
-abbrev pub TakesLine : {A : Type 0} → Option (A × Bor (List ℕ)) → A → List (List ℕ) → Type 0
-TakesLine found value others = MatchOption found ⊥ (λ r. (r.0 ≡ value) × (lines_of r.1.now ≡ others))
-
--- the number that digits write behind those of n
-abbrev pub read_on : ℕ → List ℕ → ℕ
-read_on n [] = n
-read_on n (c ∷ cs) = read_on (10 * n + (c - 48)) cs
-
--- no digit comes first
-abbrev pub NoDigitFirst : List ℕ → Type 0
-NoDigitFirst text = (b : ℕ) (rest : List ℕ) → text ≡ b ∷ rest → is_ascii_digit b ≡ true → ⊥
 
 -- what may stand behind a number: neither a digit nor a letter comes first
 abbrev pub EndsNumber : List ℕ → Type 0
@@ -41,14 +26,6 @@ pub record EndsMove (text : List ℕ) : Type 0 where
 pub record EndsReply (text : List ℕ) : Type 0 where
   pub number : EndsNumber text
   pub no_space : (rest : List ℕ) → text ≢ 32 ∷ rest
-
--- the first words of a wait or a wake
-abbrev pub IsWait : Status → Type 0
-IsWait S.WaitDone = Unit {0}
-IsWait S.WaitKilled = Unit {0}
-IsWait S.WakeDone = Unit {0}
-IsWait S.WakeKilled = Unit {0}
-IsWait _ = ⊥
 
 -- the operation that begins so and is about the target
 abbrev pub status_op : Status → Target → Op

@@ -6,7 +6,7 @@ ghost use Rattle.tc_text.specs.Spelling.{move_text, IsOp};
 ghost use Rattle.tc_entry.specs.Limits.{IsBehaviours};
 ghost use Rattle.tc_text.specs.MoveList.{Move as AnyMove, behaviours_line, move_line, list_lines, IsMadeOf, IsMove, AreMoves, IsMoveList, IsListFault};
 ghost use Rattle.tc_entry.specs.declared.op.Op.{Op as AnyOp};
-ghost use Rattle.tc_text.specs.Reading.{TakesLine};
+ghost use Rattle.tc_text.specs.Inside.{TakesLine};
 
 use crate::cursor::{after, take_line_end};
 use crate::fault::{TextFault, TextKind};

@@ -1,7 +1,8 @@
 //! Numbers in their one spelling: decimal digits with no leading zero.
 ghost use Rattle.std.specs.Prelude.{◌≡◌, ◌<◌, ◌≤◌, ◌+◌, ◌^◌, ◌++◌, ◌⊎◌, ℕ, List, true, false, length, drop, slice_index, Some, IfSome, IfNone};
 ghost use Rattle.std.specs.Fmt.{decimal};
-ghost use Rattle.tc_text.specs.Reading.{NoDigitFirst, EndsNumber, Takes};
+ghost use Rattle.tc_text.specs.Reading.{EndsNumber, Takes};
+ghost use Rattle.tc_text.specs.Inside.{NoDigitFirst};
 
 // The value of the digit at a place of the text, where there is one.
 #[inline(always)]

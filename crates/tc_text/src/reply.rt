@@ -1,8 +1,9 @@
 //! The texts of replies.
-ghost use Rattle.std.specs.Prelude.{◌≡◌, ◌++◌, ℕ, List, codes, slice_get, Some, IfSome, OnOk, OnErr};
+ghost use Rattle.std.specs.Prelude.{◌≡◌, ◌++◌, ℕ, List, codes, Some, IfSome, OnOk, OnErr};
 ghost use Rattle.std.specs.Io.{StartsWith};
 ghost use Rattle.tc_text.specs.Spelling.{reply_text, fault_name, IsReply};
 ghost use Rattle.tc_text.specs.Reading.{EndsReply, Takes};
+ghost use Rattle.tc_text.specs.Inside.{BeginsWithE};
 ghost use Rattle.tc_entry.specs.declared.reply.Fault.{Fault as AnyFault};
 ghost use Rattle.tc_entry.specs.declared.reply.Reply.{Reply as AnyReply};
 
@@ -43,7 +44,7 @@ fn take_fault(text: &[u8]) -> Option<(Fault, &[u8])>
 fn take_end_or_error(text: &[u8]) -> Option<(Reply, &[u8])>
     ensures spelled { IfSome result (λ r. text.now ≡ reply_text r.0 ++ r.1.now) }
     ensures fits { IfSome result (λ r. IsReply r.0) }
-    ensures only { (r : AnyReply) (rest : List ℕ) → slice_get text.now 0 ≡ Some 101 → EndsReply rest → text.now ≡ reply_text r ++ rest → Takes result r rest }
+    ensures only { (r : AnyReply) (rest : List ℕ) → BeginsWithE text.now → EndsReply rest → text.now ≡ reply_text r ++ rest → Takes result r rest }
 {
     if let Some(rest) = after(text, b"ended") {
         return Some((Reply::Ended, rest));

@@ -10,7 +10,8 @@ use Rattle.tc_entry.specs.declared.op.Op.{Op}
 use Rattle.tc_entry.specs.declared.op.Op.TheVariants as O
 use Rattle.tc_entry.specs.declared.reply.Reply.{Reply}
 use Rattle.tc_entry.specs.declared.reply.Reply.TheVariants as R
-use Rattle.tc_table.specs.History.{comp_of, is_ok, first_some, halts}
+use Rattle.tc_entry.specs.Reply.{is_ok}
+use Rattle.tc_table.specs.History.{comp_of, first_some, halts}
 use Rattle.tc_table.specs.Phases.{last_run, phase, start_in}
 use Rattle.tc_table.specs.Status.{is_running}
 use Rattle.tc_table.specs.Answers.{answer, is_active}

@@ -19,8 +19,8 @@ use Rattle.tc_table.proofs.Going.{halted_by_entry, started_by_entry, others_halt
 use Rattle.tc_table.proofs.Sound.{starts_fresh}
 use Rattle.tc_board.specs.declared.record.Record.{Record}
 use Rattle.tc_board.specs.declared.record.Record.TheVariants.{Open}
-use Rattle.tc_words.specs.Words.{record_at, record_for, is_closed, is_open, carried, carried_to, carried_to_newest, closing, earlier, AreTold, StayClosed}
-use Rattle.tc_words.specs.Inside.{ArePartlyTold, CanBegin, with_start}
+use Rattle.tc_words.specs.Words.{record_at, record_for, is_closed, carried, carried_to, carried_to_newest, closing, earlier, AreTold, StayClosed}
+use Rattle.tc_words.specs.Inside.{is_open, ArePartlyTold, CanBegin, with_start}
 use Rattle.tc_words.proofs.Settling.{all_told, at_other, stay_closed}
 use Rattle.tc_words.proofs.Lagging.{after_entry, can_begin, entry, same_test, start}
 

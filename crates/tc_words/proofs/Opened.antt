@@ -11,8 +11,8 @@ use Rattle.tc_board.specs.Keeper.{IsOpen, carried_by, carried_in}
 use Rattle.tc_table.specs.History.{comp_of}
 use Rattle.tc_table.specs.Phases.{phase}
 use Rattle.tc_table.specs.Answers.{is_active}
-use Rattle.tc_words.specs.Words.{record_at, record_for, carried, closing, is_open, AreTold}
-use Rattle.tc_words.specs.Inside.{opening}
+use Rattle.tc_words.specs.Words.{record_at, record_for, carried, closing, AreTold}
+use Rattle.tc_words.specs.Inside.{is_open, opening}
 
 unbegun_from : (k n : ℕ) → replicate n Unbegun ≡ first_records (suc k) n
 unbegun_from k zero = refl

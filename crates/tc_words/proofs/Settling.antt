@@ -9,8 +9,8 @@ use Rattle.tc_table.specs.History.{comp_of}
 use Rattle.tc_table.specs.Answers.{is_active}
 use Rattle.tc_board.specs.declared.record.Record.{Record}
 use Rattle.tc_board.specs.declared.record.Record.TheVariants.{Unbegun, Open, Closed}
-use Rattle.tc_words.specs.Words.{record_at, record_for, left_by, closing, is_closed, is_open, run_before, carried, AreTold, StayClosed}
-use Rattle.tc_words.specs.Inside.{opening, Lags, ArePartlyTold}
+use Rattle.tc_words.specs.Words.{record_at, record_for, left_by, closing, is_closed, run_before, carried, AreTold, StayClosed}
+use Rattle.tc_words.specs.Inside.{is_open, opening, Lags, ArePartlyTold}
 
 -- an open word is of a run that was started and that went on
 open_by : (c : Option Comp) (was : Bool) (u v : UserVerdict) (r : Record) → r ≡ record_for c was u v → is_open r ≡ true →

@@ -1,5 +1,5 @@
 -- What only the way the words are settled needs: no public clause names a word of this file.
-use Rattle.std.specs.Prelude.{ℕ, ◌≡◌, ◌<◌, Bool, true, Some, List, length, set}
+use Rattle.std.specs.Prelude.{ℕ, ◌≡◌, ◌<◌, Bool, true, false, Some, List, length, set}
 use Rattle.tc_verdict.specs.declared.run.Run.{Run}
 use Rattle.tc_verdict.specs.declared.user_verdict.UserVerdict.{UserVerdict}
 use Rattle.tc_verdict.specs.declared.user_verdict.UserVerdict.TheVariants as U
@@ -12,7 +12,12 @@ use Rattle.tc_table.specs.History.{comp_of}
 use Rattle.tc_table.specs.Answers.{is_active}
 use Rattle.tc_board.specs.declared.record.Record.{Record}
 use Rattle.tc_board.specs.declared.record.Record.TheVariants.{Unbegun, Open, Closed}
-use Rattle.tc_words.specs.Words.{record_at, record_for, carried, closing, is_open, is_closed, run_before}
+use Rattle.tc_words.specs.Words.{record_at, record_for, carried, closing, is_closed, run_before}
+
+-- the word was begun and not closed yet
+abbrev pub is_open : Record → Bool
+is_open (Open carried) = true
+is_open _ = false
 
 -- the verdict that a word was begun with
 abbrev pub opening : Record → UserVerdict

@@ -8,16 +8,12 @@ use Rattle.tc_entry.specs.declared.comp.Comp.{Comp}
 use Rattle.tc_entry.specs.declared.entry.Entry.{Entry}
 use Rattle.tc_entry.specs.declared.op.Op.{Op}
 use Rattle.tc_entry.specs.declared.op.Op.TheVariants as O
-use Rattle.tc_table.specs.History.{comp_of, is_ok, starts_run}
+use Rattle.tc_entry.specs.Reply.{is_ok}
+use Rattle.tc_table.specs.History.{comp_of, starts_run}
 use Rattle.tc_table.specs.Phases.{last_run}
 use Rattle.tc_table.specs.Answers.{is_active}
 use Rattle.tc_board.specs.declared.record.Record.{Record}
 use Rattle.tc_board.specs.declared.record.Record.TheVariants.{Unbegun, Open, Closed}
-
--- the word was begun and not closed yet
-abbrev pub is_open : Record → Bool
-is_open (Open carried) = true
-is_open _ = false
 
 -- the word was begun and closed
 abbrev pub is_closed : Record → Bool

@@ -6,6 +6,7 @@ ghost use Rattle.tc_board.specs.Board.{new_keeper};
 ghost use Rattle.tc_board.specs.declared.record.Record.TheVariants.{Unbegun, Open as IsOpen, Closed as IsClosed};
 ghost use Rattle.tc_words.specs.Words as rules;
 ghost use Rattle.tc_words.specs.Words.{AreTold, StayClosed};
+ghost use Rattle.tc_words.specs.Inside as inside;
 ghost use Rattle.tc_words.specs.Inside.{ArePartlyTold, CanBegin, opening, with_start};
 ghost use Rattle.tc_table.specs.Laws as laws;
 
@@ -38,7 +39,7 @@ impl Model for Words {
 }
 
 fn is_open(word: Record) -> bool
-    ensures { result ≡ rules.is_open word }
+    ensures { result ≡ inside.is_open word }
 {
     matches!(word, Record::Open(_))
 }
@@ -152,7 +153,7 @@ impl Words {
     /// Closes the word of a run, and keeps what the close gave.
     fn close(&mut self, run: Run) -> UserVerdict
         requires within { run.0 < length self.old }
-        requires open { rules.is_open (rules.record_at self.old run.0) ≡ true }
+        requires open { inside.is_open (rules.record_at self.old run.0) ≡ true }
         ensures { self.new ≡ set self.old run.0 (IsClosed (opening (rules.record_at self.old run.0)) result) }
     {
         let carried = opening_of(self.record_of(run));

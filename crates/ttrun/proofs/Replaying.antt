@@ -18,7 +18,8 @@ use Rattle.ttrun.specs.declared.replay.Replaying.{Replaying}
 use Rattle.ttrun.specs.Fault.{RefusesText, of_text}
 use Rattle.ttrun.specs.Inside.{ArePlayed}
 use Rattle.ttrun.specs.Output.{WritesPrefix}
-use Rattle.ttrun.specs.Replay.{move_of, reply_line, verdict_line, IsReplayOf, Replays}
+use Rattle.ttrun.specs.Replay.{move_of, reply_line, IsReplayOf, Replays}
+use Rattle.tc_report.specs.Report.{verdict_line}
 use Rattle.tc_report.specs.Status.{verdict_status}
 
 one_line : (h : List Entry) (e : Entry) → flat_map reply_line (h ++ e ∷ []) ≡ flat_map reply_line h ++ reply_line e

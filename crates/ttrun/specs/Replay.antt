@@ -1,14 +1,14 @@
 -- What `replay` prints for a move list.
-use Rattle.std.specs.Prelude.{ℕ, ◌≡◌, List, [], ◌∷◌, ◌++◌, map, reverse, codes}
+use Rattle.std.specs.Prelude.{ℕ, ◌≡◌, List, [], ◌∷◌, ◌++◌, map, reverse}
 use Rattle.std.specs.List.{flat_map}
 use Rattle.tc_verdict.specs.declared.verdict.Verdict.{Verdict}
-use Rattle.tc_verdict.specs.Verdict.{name_of}
 use Rattle.tc_entry.specs.declared.entry.Entry.{Entry}
 use Rattle.tc_text.specs.Spelling.{reply_text}
 use Rattle.tc_text.specs.MoveList.{Move, IsMoveList}
 use Rattle.tc_table.specs.Answers.{answer}
 use Rattle.tc_table.specs.Legal.{IsLegal}
 use Rattle.tc_table.specs.Local.{overall}
+use Rattle.tc_report.specs.Report.{verdict_line}
 use Rattle.tc_report.specs.Status.{verdict_status}
 
 -- who called, and what
@@ -22,10 +22,6 @@ next_entry n past m = record { caller = m.0; op = m.1; reply = answer n past m.0
 -- the line of a reply
 abbrev pub reply_line : Entry → List ℕ
 reply_line e = reply_text e.reply ++ (10 ∷ [])
-
--- the last line
-abbrev pub verdict_line : Verdict → List ℕ
-verdict_line v = codes "verdict " ++ (name_of v ++ (10 ∷ []))
 
 -- a line for each reply, and then the overall verdict
 abbrev pub replay_text : List Entry → List ℕ

@@ -2,7 +2,7 @@
 ghost use Rattle.std.specs.Prelude.{◌≡◌, ◌++◌, ◌∷◌, [], IfOk, IfErr, OnOk};
 ghost use Rattle.tc_text.specs.MoveList.{IsListFault};
 ghost use Rattle.tc_text.specs.Spelling.{reply_text};
-ghost use Rattle.ttrun.specs.Replay.{IsReplayOf, Replays, verdict_line};
+ghost use Rattle.ttrun.specs.Replay.{IsReplayOf, Replays};
 ghost use Rattle.ttrun.specs.Inside.{ArePlayed};
 ghost use Rattle.ttrun.specs.Output.{Writes};
 ghost use Rattle.ttrun.specs.Fault.{Refuses, RefusesText};
@@ -11,11 +11,10 @@ ghost use Rattle.ttrun.specs.Limits.{HasAtMost, move_list_limit};
 use crate::fault::RunFault;
 use std::alloc::Global;
 use std::io::{Read, Write};
-use tc_report::verdict_status;
+use tc_report::{append_verdict, verdict_status};
 use tc_stream::write_whole;
 use tc_table::{CaseState, NoMemory, Op, Reply, Run, Verdict, read_input, write_reply};
-use tc_text::{TakesMoves, append_text, read_moves_into};
-use tc_verdict::name;
+use tc_text::{TakesMoves, read_moves_into};
 
 /// How many bytes a move list may have.
 const LIMIT: usize = 1_048_576;
@@ -25,16 +24,6 @@ fn append_reply(out: &mut Vec<u8>, reply: Reply) -> Result<(), NoMemory>
     ensures { OnOk result (out.new.items ≡ out.old.items ++ (reply_text reply ++ 10 ∷ [])) }
 {
     write_reply(out, &reply)?;
-    out.push(b'\n')?;
-    Ok(())
-}
-
-// Appends the last line; where memory is refused, a part of it.
-fn append_verdict(out: &mut Vec<u8>, verdict: Verdict) -> Result<(), NoMemory>
-    ensures { OnOk result (out.new.items ≡ out.old.items ++ verdict_line verdict) }
-{
-    append_text(out, "verdict ")?;
-    append_text(out, name(verdict))?;
     out.push(b'\n')?;
     Ok(())
 }

@@ -15,11 +15,15 @@ use Rattle.tc_board.specs.declared.rule.View.{View}
 use Rattle.tc_board.specs.Answers.{worst_of}
 use Rattle.tc_board.specs.Rule.{Fits}
 use Rattle.tc_board.specs.Keeper.{carried_by}
-use Rattle.tc_board.specs.Inside.Seats.{answers_of}
+use Rattle.tc_board.specs.Inside.Seats.{answers_of, keeper_view}
 
 -- a seat's view, and the slots that it holds: none
 abbrev pub Seated : Type 0
 Seated = Me (Unit {0}) View
+
+-- a seat with the view of the keeper
+abbrev pub IsKeeper : Seated → Type 0
+IsKeeper me = me ≡ (keeper_view me.0.records me.0.lists, [])
 
 -- the step: its word and its operand
 abbrev At : Type 0

@@ -15,7 +15,8 @@ use Rattle.tc_entry.specs.declared.op.Op.{Op}
 use Rattle.tc_entry.specs.declared.op.Op.TheVariants as O
 use Rattle.tc_table.specs.declared.step.Scope.{Scope}
 use Rattle.tc_table.specs.declared.step.Scope.TheVariants as T
-use Rattle.tc_table.specs.History.{is_ended, ends_case, is_comp, halts, kills, started_on, first_some}
+use Rattle.tc_entry.specs.Reply.{is_ended}
+use Rattle.tc_table.specs.History.{ends_case, is_comp, halts, kills, started_on, first_some}
 use Rattle.tc_table.specs.Phases.{start_in, halts_from_outside}
 use Rattle.tc_table.specs.Status.{is_running, is_killed}
 use Rattle.tc_table.specs.Local.{gives}

@@ -1,5 +1,5 @@
 use Rattle.std.proofs.Common.{take}
-use Rattle.tc_history.specs.Cut.{Without}
+use Rattle.tc_history.specs.Inside.{Without}
 use Rattle.tc_history.proofs.cut.cut.Given as goal
 
 abbrev pub invariant-loop-place : goal.invariant-loop-place

@@ -2,8 +2,8 @@ use Rattle.std.proofs.Common.{◌≡◌, true, false, sym, ap, ◌∙◌, arith}
 use Rattle.tc_table.specs.Case.{past_of}
 use Rattle.tc_table.specs.Answers.{is_active}
 use Rattle.tc_board.specs.declared.record.Record.TheVariants.{Closed}
-use Rattle.tc_words.specs.Words.{is_open, record_at}
-use Rattle.tc_words.specs.Inside.{opening}
+use Rattle.tc_words.specs.Words.{record_at}
+use Rattle.tc_words.specs.Inside.{is_open, opening}
 use Rattle.tc_words.proofs.Settling.{close_one, open_unclosed, stay_closed}
 use Rattle.tc_words.proofs.words.Words.settle_one.Goals as goal
 

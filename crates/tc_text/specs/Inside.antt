@@ -1,0 +1,27 @@
+-- What only the way the texts are read needs: no public clause names a word of this file.
+use Rattle.std.specs.Prelude.{ℕ, ◌≡◌, true, List, ◌∷◌, Option, Some, MatchOption, slice_get}
+use Rattle.std.specs.Borrow.{Bor}
+use Rattle.std.specs.Char.{is_ascii_digit}
+use Rattle.tc_text.specs.Lines.{lines_of}
+use Rattle.tc_text.specs.declared.verb.Status.{Status}
+use Rattle.tc_text.specs.declared.verb.Status.TheVariants as S
+
+-- this value was read of a line, and these lines stand behind it
+abbrev pub TakesLine : {A : Type 0} → Option (A × Bor (List ℕ)) → A → List (List ℕ) → Type 0
+TakesLine found value others = MatchOption found ⊥ (λ r. (r.0 ≡ value) × (lines_of r.1.now ≡ others))
+
+-- the first letter is an e
+abbrev pub BeginsWithE : List ℕ → Type 0
+BeginsWithE text = slice_get text 0 ≡ Some 101
+
+-- no digit comes first
+abbrev pub NoDigitFirst : List ℕ → Type 0
+NoDigitFirst text = (b : ℕ) (rest : List ℕ) → text ≡ b ∷ rest → is_ascii_digit b ≡ true → ⊥
+
+-- the first words of a wait or a wake
+abbrev pub IsWait : Status → Type 0
+IsWait S.WaitDone = Unit {0}
+IsWait S.WaitKilled = Unit {0}
+IsWait S.WakeDone = Unit {0}
+IsWait S.WakeKilled = Unit {0}
+IsWait _ = ⊥
