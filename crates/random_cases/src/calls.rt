@@ -89,16 +89,35 @@ pub(crate) fn behave<R: Wait>(
     Ok(())
 }
 
-/// What a run above run 0 calls: it halts only components whose runs were started before it, and the last may err.
+/// A behaviour that only asks, and then stops the test case.
+fn stop_late<R: Wait>(
+    rt: &R,
+    pass: &mut Pass,
+    random: &mut Random,
+    comps: u32,
+) -> Result<(), Halt> {
+    for _ in 0..80 {
+        let target = target(random, comps, false);
+        ask(rt, pass, random, target)?;
+    }
+    pass.stop_case(rt)
+}
+
+/// What a run above run 0 calls: it halts only components whose runs were started before it. The last may err, or stop
+/// the test case.
 pub(crate) fn follow<R: Wait>(
     rt: &R,
     pass: &mut Pass,
     random: &mut Random,
     behaviours: u16,
 ) -> Result<(), Halt> {
-    let run = pass.run().0;
-    behave(rt, pass, random, u32::from(behaviours), u32::from(run))?;
-    if run == behaviours.saturating_sub(1) && random.below(2) == 0 {
+    let (run, comps) = (pass.run().0, u32::from(behaviours));
+    let is_last = run == behaviours.saturating_sub(1);
+    if is_last && random.below(6) == 0 {
+        return stop_late(rt, pass, random, comps);
+    }
+    behave(rt, pass, random, comps, u32::from(run))?;
+    if is_last && random.below(2) == 0 {
         return err(rt, pass, random);
     }
     Ok(())

@@ -1,5 +1,6 @@
 //! One case on as many threads as behaviours.
 ghost use Rattle.std.specs.Prelude.{◌≤◌};
+ghost use Rattle.tc_entry.specs.declared.limits.TheConstants.{BEHAVIOURS};
 
 use crate::calls::follow;
 use crate::lead::lead;
@@ -51,7 +52,7 @@ pub(crate) fn run_case<R: Threads + Wait + Copy + Send + 'static>(
     behaviours: u16,
 ) -> Result<Closed, CloseFault>
     requires some { 1 ≤ behaviours }
-    requires few { behaviours ≤ 64 }
+    requires few { behaviours ≤ BEHAVIOURS }
 {
     let Ok((shared, pass, tickets)) = open_case(alloc, behaviours) else {
         return Err(CloseFault::NoMemory);

@@ -1,5 +1,6 @@
 //! Cases, one after the other.
 ghost use Rattle.std.specs.Prelude.{◌≤◌};
+ghost use Rattle.tc_entry.specs.declared.limits.TheConstants.{BEHAVIOURS};
 
 use crate::case::run_case;
 use crate::judge::complaint;
@@ -9,6 +10,7 @@ use crate::task::Task;
 use std::alloc::Global;
 use std::sync::Wait;
 use std::thread::Threads;
+use tc_entry::BEHAVIOURS;
 
 /// The case that is not as it should be, and why not.
 #[derive(Drop)]
@@ -17,13 +19,17 @@ pub(crate) struct Refusal {
     pub(crate) why: &'static str,
 }
 
-/// How many behaviours a case has: of 40 cases 10 have 64, and the others 2 to 40.
+/// How many behaviours a case has: of 40 cases 10 have as many as a case may have, and the others 2 to 40.
 fn behaviours_of(case: u32) -> u16
     ensures some { 1 ≤ result }
-    ensures few { result ≤ 64 }
+    ensures few { result ≤ BEHAVIOURS }
 {
     let place = case % 40;
-    if place % 4 == 0 { 64 } else { 1 + place as u16 }
+    if place % 4 == 0 {
+        BEHAVIOURS as u16
+    } else {
+        1 + place as u16
+    }
 }
 
 /// What the cases of a task met; the first that is not as it should be ends them. The choices of a case come from the

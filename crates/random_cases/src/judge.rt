@@ -1,18 +1,19 @@
 //! What is wrong with the report of a case.
 ghost use Rattle.std.specs.Prelude.{◌≤◌};
+ghost use Rattle.tc_entry.specs.declared.limits.TheConstants.{BEHAVIOURS};
 
 use std::alloc::Global;
 use tc_book::Closed;
-use tc_entry::{Comp, Entry, Op, Reply, Run, UserVerdict, Verdict};
+use tc_entry::{BEHAVIOURS, Comp, Entry, Op, Reply, Run, UserVerdict, Verdict};
 use tc_table::replay_check;
 use tc_verdict::overwrite;
 
 /// How many entries a case of so many behaviours has at least; one of a few may end soon after its starts.
 fn least(behaviours: u16) -> usize {
-    match behaviours {
-        64 => 200,
-        10..=63 => 3 * usize::from(behaviours),
-        _ => usize::from(behaviours),
+    match usize::from(behaviours) {
+        BEHAVIOURS => 200,
+        few if few < 10 => few,
+        some => 3 * some,
     }
 }
 
@@ -22,7 +23,12 @@ fn has_started(behaviours: u16, started: usize) -> bool {
 }
 
 /// Whether the local verdict of the run's component is no better than a setting of the run.
-fn is_counted(comps: &[Comp; 64], locals: &[Verdict], run: Run, setting: UserVerdict) -> bool {
+fn is_counted(
+    comps: &[Comp; BEHAVIOURS],
+    locals: &[Verdict],
+    run: Run,
+    setting: UserVerdict,
+) -> bool {
     let Some(comp) = comps.get(usize::from(run.0)) else {
         return false;
     };
@@ -34,7 +40,7 @@ fn is_counted(comps: &[Comp; 64], locals: &[Verdict], run: Run, setting: UserVer
 
 /// Whether each setting that was replied Ok is counted in the local verdict of its component.
 pub(crate) fn are_counted(history: &[Entry], locals: &[Verdict]) -> bool {
-    let mut comps = [Comp(0); 64];
+    let mut comps = [Comp(0); BEHAVIOURS];
     for entry in history {
         match (&entry.op, entry.reply) {
             (Op::Start { comp, run, .. }, Reply::Ok) => {
@@ -56,7 +62,7 @@ pub(crate) fn are_counted(history: &[Entry], locals: &[Verdict]) -> bool {
 /// What is wrong with the report of a case of so many behaviours, if anything is.
 pub(crate) fn complaint(alloc: Global, behaviours: u16, closed: &Closed) -> Option<&'static str>
     requires some { 1 ≤ behaviours }
-    requires few { behaviours ≤ 64 }
+    requires few { behaviours ≤ BEHAVIOURS }
 {
     let history = closed.history.as_slice();
     if replay_check(alloc, behaviours, history).ok() != Some(closed.verdict) {

@@ -23,13 +23,14 @@ fn start_run<R: Wait>(
     pass.start(rt, comp, Run(run), &args)
 }
 
-/// How run 0 ends: by itself, by an error, or after it halted all or waited for all.
+/// How run 0 ends: by itself, by an error, by a stop of the test case, or after it halted all or waited for all.
 fn end<R: Wait>(rt: &R, pass: &mut Pass, random: &mut Random) -> Result<(), Halt> {
-    match random.below(5) {
+    match random.below(6) {
         0 => pass.stop(rt, Group::All),
         1 => pass.kill(rt, Group::All),
         2 => pass.wait_done(rt, Target::All),
         3 => err(rt, pass, random),
+        4 => pass.stop_case(rt),
         _ => Ok(()),
     }
 }

@@ -14,6 +14,7 @@ pub(crate) struct Met {
     kills: u64,
     parked: u64,
     faults: u64,
+    stopped_cases: u64,
 }
 
 /// How often something was met, and how often it has to be met in 40 cases.
@@ -47,6 +48,7 @@ impl Met {
             (_, Reply::Fault(_)) => add(&mut self.faults),
             (Op::SetVerdict(_), Reply::Ok) => add(&mut self.settings),
             (Op::SetVerdict(_) | Op::GetVerdict, Reply::Ended) => add(&mut self.late),
+            (Op::StopCase, Reply::Ok) => add(&mut self.stopped_cases),
             (Op::Stop(_), Reply::Ok) => add(&mut self.stops),
             (Op::Kill(_), Reply::Ok) => add(&mut self.kills),
             (Op::Wait { .. }, Reply::Parked) => add(&mut self.parked),
@@ -67,7 +69,7 @@ impl Met {
         }
     }
 
-    fn rows(&self) -> [Row; 9] {
+    fn rows(&self) -> [Row; 10] {
         [
             Row::new("runs started", self.starts, 1_100),
             Row::new("restarts", self.restarts, 100),
@@ -78,6 +80,7 @@ impl Met {
             Row::new("kills", self.kills, 100),
             Row::new("parked waits", self.parked, 400),
             Row::new("dynamic errors", self.faults, 12),
+            Row::new("cases ended by testcase.stop", self.stopped_cases, 1),
         ]
     }
 

@@ -13,5 +13,6 @@ pub record Outline : Type 0 where
   pub names : List (List ℕ)
   pub jobs : ℕ
 
+-- the outline of a case
 abbrev pub outline_of : {B : Type 0} → Case B → Outline
 outline_of c = record { name = c.name; names = c.names.items; jobs = vec_len c.jobs }

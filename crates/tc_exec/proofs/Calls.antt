@@ -18,7 +18,8 @@ use Rattle.tc_exec.specs.declared.refusal.CaseError.TheVariants.{NoMemory}
 use Rattle.tc_exec.specs.declared.job.Ending.{Ending}
 use Rattle.tc_exec.specs.declared.job.Ending.TheVariants as E
 use Rattle.tc_exec.specs.Case.{AreCalled, IsMadeOf}
-use Rattle.tc_exec.specs.Workers.{IsWorked, WasCalled, WasCalledFor, IsLeftBy, AreLeftBy, is_starved, opening}
+use Rattle.tc_exec.specs.Workers.{IsWorked, WasCalled, WasCalledFor, IsLeftBy, AreLeftBy, opening}
+use Rattle.tc_exec.specs.Inside.{is_starved}
 
 -- memory was refused neither before nor now
 pub neither : (before now after : Bool) → after ≡ (before || now) → after ≡ false → (before ≡ false) × (now ≡ false)

@@ -1,13 +1,29 @@
 -- What the functions inside of a case say, which no public clause names.
-use Rattle.std.specs.Prelude.{ℕ, ◌≡◌, ◌≢◌, ◌<◌, ◌+◌, ◌++◌, false, None, List, length, map, slice_index_or}
+use Rattle.std.specs.Prelude.{ℕ, ◌≡◌, ◌≢◌, ◌<◌, ◌+◌, ◌++◌, Bool, true, false, None, List, Result, Ok, Err, length, map, slice_index_or}
 use Rattle.std.specs.declared.thread.PromisedHandle.{PromisedHandle}
 use Rattle.tc_verdict.specs.declared.run.Run.{Run}
+use Rattle.tc_book.specs.declared.closed.Closed.{Closed}
+use Rattle.tc_book.specs.declared.closed.CloseFault.{CloseFault}
 use Rattle.tc_book.specs.Passes.{PassState, LeftState}
+use Rattle.tc_exec.specs.declared.refusal.CaseError.{CaseError}
 use Rattle.tc_exec.specs.declared.job.Back.{Back}
+use Rattle.tc_exec.specs.declared.job.Ending.{Ending}
+use Rattle.tc_exec.specs.declared.job.Ending.TheVariants as E
 use Rattle.tc_exec.specs.declared.gathered.Gathered.{Gathered}
 use Rattle.tc_exec.specs.declared.handed.Handed.{Handed}
 use Rattle.tc_exec.specs.declared.worker.Task.{Task}
+use Rattle.tc_exec.specs.Refusals.{of_close}
 use Rattle.tc_exec.specs.Workers.{AreLeftBy}
+
+-- what the close of a case is answered by: the report as it is, or the refusal
+abbrev pub handed_on : Result Closed CloseFault → Result Closed CaseError
+handed_on (Ok c) = Ok c
+handed_on (Err fault) = Err (of_close fault)
+
+-- memory was refused to the behaviour
+abbrev pub is_starved : Ending → Bool
+is_starved E.Starved = true
+is_starved E.Returned = false
 
 -- the runs of these workers
 abbrev pub runs_of : {B : Type 0} → List (PromisedHandle Handed (Task B)) → List Run

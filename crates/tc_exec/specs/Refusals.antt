@@ -1,8 +1,7 @@
 -- Why a case has no report.
-use Rattle.std.specs.Prelude.{ℕ, List, Result, Ok, Err, codes}
+use Rattle.std.specs.Prelude.{ℕ, List, codes}
 use Rattle.tc_verdict.specs.Words.{memory_text}
 use Rattle.tc_book.specs.Fault.{close_text}
-use Rattle.tc_book.specs.declared.closed.Closed.{Closed}
 use Rattle.tc_book.specs.declared.closed.CloseFault.{CloseFault}
 use Rattle.tc_book.specs.declared.closed.CloseFault.TheVariants as F
 use Rattle.tc_exec.specs.declared.refusal.CaseError.{CaseError}
@@ -20,8 +19,3 @@ refusal_text E.Torn = close_text F.Torn
 abbrev pub of_close : CloseFault → CaseError
 of_close F.Torn = E.Torn
 of_close F.NoMemory = E.NoMemory
-
--- what the close of a case is answered by: the report as it is, or the refusal
-abbrev pub handed_on : Result Closed CloseFault → Result Closed CaseError
-handed_on (Ok c) = Ok c
-handed_on (Err fault) = Err (of_close fault)

@@ -1,12 +1,11 @@
 -- What a worker does with its box.
-use Rattle.std.specs.Prelude.{◌≡◌, ◌⊎◌, ◌∷◌, [], Bool, true, false, Some, None, List}
+use Rattle.std.specs.Prelude.{◌≡◌, ◌⊎◌, ◌∷◌, [], true, false, Some, None, List}
 use Rattle.tc_verdict.specs.declared.run.Run.{Run}
 use Rattle.tc_entry.specs.declared.op.Op.TheVariants as O
 use Rattle.tc_entry.specs.declared.reply.Reply.{Reply}
 use Rattle.tc_book.specs.Passes.{PassState, LeftState, has_ended, added}
 use Rattle.tc_book.specs.Replies.{suits}
 use Rattle.tc_exec.specs.declared.job.Back.{Back}
-use Rattle.tc_exec.specs.declared.job.Ending.{Ending}
 use Rattle.tc_exec.specs.declared.job.Ending.TheVariants as E
 use Rattle.tc_exec.specs.declared.handed.Handed.{Handed}
 
@@ -44,11 +43,6 @@ pub record WasStarted (run : Run) (outcome : PassState → Back → Type 0) (h :
 -- pass of the run, and what was handed back came of that call
 abbrev pub IsWorked : Run → (PassState → Back → Type 0) → Handed → Type 0
 IsWorked run outcome h = (h ≡ unstarted run) ⊎ WasStarted run outcome h
-
--- memory was refused to the behaviour
-abbrev pub is_starved : Ending → Bool
-is_starved E.Starved = true
-is_starved E.Returned = false
 
 -- a behaviour was called with a new pass of this run, which of run 0 is the opening's
 pub record WasCalledFor (run : Run) (outcome : PassState → Back → Type 0) : Type 0 where

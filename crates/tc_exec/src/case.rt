@@ -3,9 +3,8 @@ ghost use Rattle.std.specs.Prelude.{◌≡◌, ◌≢◌, ◌↔◌, ◌<◌, �
 ghost use Rattle.std.specs.Vec.{vec_len, vec_capacity};
 ghost use Rattle.tc_entry.specs.declared.limits.TheConstants.{BEHAVIOURS};
 ghost use Rattle.tc_book.specs.Closing.{IsWhole};
-ghost use Rattle.tc_exec.specs.Inside.{AreAbove, Gathers, IsFirstStarted, jobs_of, runs_of};
+ghost use Rattle.tc_exec.specs.Inside.{AreAbove, Gathers, IsFirstStarted, handed_on, jobs_of, runs_of};
 ghost use Rattle.tc_exec.specs.Workers.{WasCalledFor, opening};
-ghost use Rattle.tc_exec.specs.Refusals.{handed_on};
 ghost use Rattle.tc_exec.specs.Gates.{IsPassed, IsStopped};
 ghost use Rattle.tc_exec.specs.Case.{IsCaseReport, AreCalled, IsMadeOf};
 ghost use Rattle.tc_exec.specs.declared.refusal.CaseError.TheVariants.{NoBehaviours, TooManyBehaviours, NoMemory, NoThread};

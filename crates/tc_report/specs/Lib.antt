@@ -4,6 +4,6 @@ pub mod Status
 pub mod Ending
 pub mod Report
 pub mod Csv
-pub mod Writing
 pub mod Histories
 pub mod Output
+pub mod Inside

@@ -6,7 +6,7 @@ ghost use Rattle.csv.specs.Records.{fields_of, partial_of};
 ghost use Rattle.tc_entry.specs.Name.{IsName};
 ghost use Rattle.tc_report.specs.Csv.{counts_of, csv_text, record_fields, record_line};
 ghost use Rattle.tc_report.specs.Output.{LeavesPrefix};
-ghost use Rattle.tc_report.specs.Writing.{IsBetweenRecords, IsStarted, written_by};
+ghost use Rattle.tc_report.specs.Inside.{IsBetweenRecords, IsStarted, written_by};
 
 use crate::counts::count_of;
 use crate::fault::OutFault;

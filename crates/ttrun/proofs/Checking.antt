@@ -10,8 +10,7 @@ use Rattle.tc_history.specs.Text.{IsMadeOf, IsHistoryFault}
 use Rattle.ttrun.specs.declared.check.Checking.{Checking}
 use Rattle.ttrun.specs.Output.{WritesPrefix}
 use Rattle.ttrun.specs.Check.{IsJudgement, judges_legal, judgement_line, Checks, IsCheckOf, IsChecked}
-use Rattle.ttrun.specs.Inside.{Feeds, RefusesHistory}
-use Rattle.ttrun.specs.Fault.{of_text}
+use Rattle.ttrun.specs.Inside.{Feeds, RefusesHistory, of_text}
 
 behind : (blocks more : List Block) (b : Block) → (blocks ++ b ∷ []) ++ more ≡ blocks ++ (b ∷ more)
 behind blocks more b = append_assoc blocks (b ∷ []) more

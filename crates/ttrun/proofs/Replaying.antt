@@ -15,8 +15,7 @@ use Rattle.tc_table.specs.Standing.{StandsFor}
 use Rattle.tc_table.proofs.Standing.{legal_for}
 use Rattle.tc_table.specs.Local.{overall}
 use Rattle.ttrun.specs.declared.replay.Replaying.{Replaying}
-use Rattle.ttrun.specs.Fault.{RefusesText, of_text}
-use Rattle.ttrun.specs.Inside.{ArePlayed}
+use Rattle.ttrun.specs.Inside.{ArePlayed, RefusesText, of_text}
 use Rattle.ttrun.specs.Output.{WritesPrefix}
 use Rattle.ttrun.specs.Replay.{move_of, reply_line, IsReplayOf, Replays}
 use Rattle.tc_report.specs.Report.{verdict_line}

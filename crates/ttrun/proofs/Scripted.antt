@@ -29,9 +29,10 @@ use Rattle.ttrun.specs.declared.outcome.Outcome.{Outcome}
 use Rattle.ttrun.specs.Limits.{HasAtMost, script_limit}
 use Rattle.ttrun.specs.Give.{text_of, LeavesUnwritten}
 use Rattle.ttrun.specs.Run.{AreResults, IsRuleOf, IsRun, IsUnwritten}
-use Rattle.ttrun.specs.Program.{RunsScript, RefusesScriptRun}
+use Rattle.ttrun.specs.Program.{FailsRun, RunsScript}
 use Rattle.ttrun.specs.Streams.{Streams}
-use Rattle.ttrun.specs.Scripted.{CaseView, IsCaseOf, IsScripted, names_of, scripts_of, script_outline}
+use Rattle.ttrun.specs.Scripted.{CaseView, IsScripted, names_of, scripts_of, script_outline}
+use Rattle.ttrun.specs.Inside.{IsCaseOf}
 
 count : (c : CaseView) (k : Case ScriptView) → IsCaseOf c k → vec_len k.jobs ≡ length c.1
 count c k is = omega (arith, ap length is.jobs, length-map c.1 (λ b. b.1))
@@ -119,7 +120,7 @@ run_done form word input cs ks options streams (Ok outcome) spelled lawful fits 
 
 pub run_refused : (form : Form) (word input : Option (List ℕ)) (cs : List CaseView) (ks : List (Case ScriptView)) (options : Options) (before after : Option (List ℕ)) (r : Result Outcome RunFault)
     → IfSome input (λ text. campaign text ≡ Ok cs) → All (λ c. IsCase c.1) cs → IsRuleOf word options.stop_on → options.form ≡ form → AllZip IsCaseOf cs ks
-    → IfErr r (IsUnwritten outline_of (IsCalled Acts) ks options before after) → IfErr r (RefusesScriptRun form word input before after)
+    → IfErr r (IsUnwritten outline_of (IsCalled Acts) ks options before after) → IfErr r (FailsRun form word input before after)
 run_refused form word input cs ks options before after (Ok outcome) spelled lawful named same each run = tt
 run_refused form word input cs ks options before after (Err fault) spelled lawful named same each run = inr (record {
   cases = cs;

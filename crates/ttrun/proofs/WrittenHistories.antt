@@ -22,7 +22,8 @@ use Rattle.tc_campaign.specs.Campaign.{IsReported}
 use Rattle.ttrun.specs.declared.judge.Judgement.{Judgement}
 use Rattle.ttrun.specs.declared.judge.Judgement.TheVariants as J
 use Rattle.ttrun.specs.Check.{IsJudgement, Checks, judges_legal, judgement_line, legal_line}
-use Rattle.ttrun.specs.WrittenHistories.{WasRun, WereRun, legal_case, legal_cases, AreFoundLegal, AreReported, FitsItsTypes}
+use Rattle.ttrun.specs.WrittenHistories.{WasRun, WereRun, legal_case, legal_cases, AreFoundLegal, AreReported}
+use Rattle.ttrun.specs.Inside.{FitsItsTypes}
 
 -- the block of a finished test case
 abbrev pub block_of : ℕ → Finished → Block

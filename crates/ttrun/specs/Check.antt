@@ -1,5 +1,5 @@
 -- What `check` prints for histories.
-use Rattle.std.specs.Prelude.{ℕ, ◌≡◌, ◌≢◌, ◌+◌, Bool, true, false, if◌then◌else◌, List, [], ◌∷◌, ◌++◌, length, reverse, codes, slice_index_or}
+use Rattle.std.specs.Prelude.{ℕ, ◌≡◌, ◌≢◌, ◌+◌, Bool, true, false, if◌then◌else◌, Option, List, [], ◌∷◌, ◌++◌, length, reverse, codes, slice_index_or}
 use Rattle.std.specs.Fmt.{decimal}
 use Rattle.tc_verdict.specs.declared.verdict.Verdict.{Verdict}
 use Rattle.tc_verdict.specs.Verdict.{name_of}
@@ -10,8 +10,10 @@ use Rattle.tc_table.specs.Legal.{IsLegal}
 use Rattle.tc_table.specs.Local.{overall}
 use Rattle.tc_table.specs.Check.{DiffersAt}
 use Rattle.tc_history.specs.declared.read.Block.{Block}
-use Rattle.tc_history.specs.Text.{AreHistories}
-use Rattle.ttrun.specs.Fault.{place_text}
+use Rattle.tc_history.specs.Text.{AreHistories, IsHistoryFault}
+use Rattle.ttrun.specs.declared.fault.RunFault.{RunFault}
+use Rattle.ttrun.specs.Fault.{Refuses, place_text}
+use Rattle.ttrun.specs.Limits.{history_limit}
 use Rattle.ttrun.specs.declared.judge.Judgement.{Judgement}
 use Rattle.ttrun.specs.declared.judge.Judgement.TheVariants as J
 
@@ -71,3 +73,7 @@ pub record IsChecked (text out : List ℕ) (status : ℕ) : Type 0 where
   pub legal : Bool
   pub check : IsCheckOf text out legal
   pub status_is : status ≡ (if legal then 0 else 3)
+
+-- what a fault of `check` says of the input and of the output before and after
+abbrev pub RefusesCheck : Option (List ℕ) → Option (List ℕ) → Option (List ℕ) → RunFault → Type 0
+RefusesCheck = Refuses IsHistoryFault IsChecked history_limit

@@ -2,35 +2,16 @@
 use Rattle.std.specs.Prelude.{ℕ, ◌<◌, List, [], ◌∷◌, ◌++◌, Option, Some, None, IfSome, length, codes}
 use Rattle.std.specs.Fmt.{decimal}
 use Rattle.std.specs.Io.KnownBytes.{Keeps}
-use Rattle.tc_stream.specs.declared.input.InputFault.{InputFault}
 use Rattle.tc_stream.specs.declared.input.InputFault.TheVariants as I
 use Rattle.tc_stream.specs.Fault.{input_text, write_text}
 use Rattle.tc_verdict.specs.Words.{memory_text}
 use Rattle.tc_text.specs.declared.fault.TextFault.{TextFault}
 use Rattle.tc_text.specs.declared.fault.TextFault.TheVariants as T
-use Rattle.tc_text.specs.MoveList.{IsListFault}
 use Rattle.tc_text.specs.TextKind.{kind_text}
 use Rattle.tc_line.specs.ScriptKind.{kind_text as script_kind_text}
 use Rattle.ttrun.specs.declared.fault.RunFault.{RunFault}
 use Rattle.ttrun.specs.declared.fault.RunFault.TheVariants as F
 use Rattle.ttrun.specs.Output.{WritesPrefix}
-
--- the fault for an input that could not be read whole
-abbrev pub of_input : InputFault → RunFault
-of_input I.TooLong = F.TooLong
-of_input I.Read = F.Read
-of_input I.NoMemory = F.NoMemory
-
--- the fault for a text that was refused
-abbrev pub of_text : TextFault → RunFault
-of_text (T.At line kind) = F.Text (T.At line kind)
-of_text T.NoMemory = F.NoMemory
-
--- what a fault says of a text that was read and is refused; want of memory says nothing
-abbrev pub RefusesText : List ℕ → RunFault → Type 0
-RefusesText text (F.Text fault) = IsListFault text fault
-RefusesText text F.NoMemory = Unit {0}
-RefusesText text fault = ⊥
 
 -- what a fault of a command says: of an input of at most so many bytes, and of the output
 abbrev pub Refuses : (List ℕ → TextFault → Type 0) → (List ℕ → List ℕ → ℕ → Type 0) → ℕ → Option (List ℕ) → Option (List ℕ) → Option (List ℕ) → RunFault → Type 0

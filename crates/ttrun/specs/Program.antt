@@ -1,21 +1,18 @@
 -- What the program does with what it is asked for: what it writes, its statuses, and its lines on standard error.
-use Rattle.std.specs.Prelude.{ℕ, ◌≡◌, ◌⊎◌, List, Option, IfSome, IfOk, IfErr, OnOk, Result, Ok}
+use Rattle.std.specs.Prelude.{ℕ, ◌≡◌, ◌⊎◌, List, Option, IfSome, IfOk, IfErr, OnOk, Result, Ok, option_copied}
 use Rattle.std.specs.Io.KnownBytes.{Keeps}
 use Rattle.tc_verdict.specs.declared.verdict.Verdict.{Verdict}
-use Rattle.tc_text.specs.MoveList.{IsListFault}
-use Rattle.tc_history.specs.Text.{IsHistoryFault}
 use Rattle.tc_script.specs.Campaign.{CampaignView, campaign}
 use Rattle.ttrun.specs.declared.fault.RunFault.{RunFault}
 use Rattle.tc_command.specs.declared.task.Task.{Task}
 use Rattle.tc_command.specs.declared.task.Task.TheVariants as T
 use Rattle.tc_command.specs.declared.task.Form.{Form}
 use Rattle.ttrun.specs.declared.outcome.Outcome.{Outcome}
-use Rattle.ttrun.specs.Fault.{Refuses}
 use Rattle.ttrun.specs.Limits.{HasAtMost, history_limit, move_list_limit, script_limit}
 use Rattle.ttrun.specs.Output.{Writes}
-use Rattle.ttrun.specs.Replay.{Replays}
-use Rattle.ttrun.specs.Check.{IsChecked}
-use Rattle.ttrun.specs.Run.{bytes_of, IsNoName, IsRuleOf, RefusesRun, IsRun, IsUnwritten}
+use Rattle.ttrun.specs.Replay.{RefusesReplay, Replays}
+use Rattle.ttrun.specs.Check.{IsChecked, RefusesCheck}
+use Rattle.ttrun.specs.Run.{IsNoName, IsRuleOf, RefusesRun, IsRun, IsUnwritten}
 use Rattle.ttrun.specs.Scripted.{script_outline, IsScripted}
 use Rattle.ttrun.specs.Streams.{Streams}
 use Rattle.ttrun.specs.Tell.{IsRefusal, IsSilent}
@@ -41,27 +38,27 @@ pub record LeavesRun (form : Form) (word input before after : Option (List ℕ))
   pub run : IsUnwritten script_outline IsScripted cases (record { stop_on = rule; form = form }) before after fault
 
 -- what a fault of a run says: the word or the input is refused, and nothing was written; or the results were not written whole
-abbrev pub RefusesScriptRun : Form → Option (List ℕ) → Option (List ℕ) → Option (List ℕ) → Option (List ℕ) → RunFault → Type 0
-RefusesScriptRun form word input before after fault =
+abbrev pub FailsRun : Form → Option (List ℕ) → Option (List ℕ) → Option (List ℕ) → Option (List ℕ) → RunFault → Type 0
+FailsRun form word input before after fault =
     (RefusesRun word script_limit input fault × Keeps before after) ⊎ LeavesRun form word input before after fault
 
 -- what `replay` answers
 pub record AnswersReplay (input before after : Option (List ℕ)) (answer : Result ℕ RunFault) : Type 0 where
   pub done : IfOk answer (Writes Replays input before after)
   pub fits : OnOk answer (HasAtMost move_list_limit input)
-  pub refused : IfErr answer (Refuses IsListFault Replays move_list_limit input before after)
+  pub refused : IfErr answer (RefusesReplay input before after)
 
 -- what `check` answers
 pub record AnswersCheck (input before after : Option (List ℕ)) (answer : Result ℕ RunFault) : Type 0 where
   pub done : IfOk answer (Writes IsChecked input before after)
   pub fits : OnOk answer (HasAtMost history_limit input)
-  pub refused : IfErr answer (Refuses IsHistoryFault IsChecked history_limit input before after)
+  pub refused : IfErr answer (RefusesCheck input before after)
   pub written : FindsWrittenLegal input before after answer
 
 -- what `run` answers
 pub record AnswersRun (form : Form) (word input : Option (List ℕ)) (streams : Streams) (answer : Result Outcome RunFault) : Type 0 where
   pub done : IfOk answer (RunsScript form word input streams)
-  pub refused : IfErr answer (RefusesScriptRun form word input streams.before streams.after)
+  pub refused : IfErr answer (FailsRun form word input streams.before streams.after)
 
 -- a task was carried out with such an answer: what is done has such an outcome, and a fault is told and has the status 3
 pub record Ends {T : Type 0} (IsAnswer : Result T RunFault → Type 0) (IsOutcome : T → Type 0) (streams : Streams) (outcome : Outcome) : Type 0 where
@@ -75,10 +72,9 @@ abbrev pub IsCarriedOut : Task → Option (List ℕ) → Streams → Outcome →
 IsCarriedOut T.Replay input s outcome = Ends (AnswersReplay input s.before s.after) (IsSilent s.untold s.told outcome) s outcome
 IsCarriedOut T.Check input s outcome = Ends (AnswersCheck input s.before s.after) (IsSilent s.untold s.told outcome) s outcome
 IsCarriedOut (T.Run form word) input s outcome =
-    let word : Option (List ℕ) = bytes_of (λ w. w.now) word in
-    Ends (AnswersRun form word input s) (λ ran. outcome ≡ ran) s outcome
+    Ends (AnswersRun form (option_copied word) input s) (λ ran. outcome ≡ ran) s outcome
 
 -- the task is a run, and its word names no verdict
 abbrev pub HasNoRule : Task → Type 0
-HasNoRule (T.Run form word) = IsNoName (bytes_of (λ w. w.now) word)
+HasNoRule (T.Run form word) = IsNoName (option_copied word)
 HasNoRule task = ⊥

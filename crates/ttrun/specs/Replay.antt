@@ -1,23 +1,21 @@
 -- What `replay` prints for a move list.
-use Rattle.std.specs.Prelude.{ℕ, ◌≡◌, List, [], ◌∷◌, ◌++◌, map, reverse}
+use Rattle.std.specs.Prelude.{ℕ, ◌≡◌, Option, List, [], ◌∷◌, ◌++◌, map, reverse}
 use Rattle.std.specs.List.{flat_map}
 use Rattle.tc_verdict.specs.declared.verdict.Verdict.{Verdict}
 use Rattle.tc_entry.specs.declared.entry.Entry.{Entry}
 use Rattle.tc_text.specs.Spelling.{reply_text}
-use Rattle.tc_text.specs.MoveList.{Move, IsMoveList}
-use Rattle.tc_table.specs.Answers.{answer}
+use Rattle.tc_text.specs.MoveList.{Move, IsListFault, IsMoveList}
 use Rattle.tc_table.specs.Legal.{IsLegal}
 use Rattle.tc_table.specs.Local.{overall}
 use Rattle.tc_report.specs.Report.{verdict_line}
 use Rattle.tc_report.specs.Status.{verdict_status}
+use Rattle.ttrun.specs.declared.fault.RunFault.{RunFault}
+use Rattle.ttrun.specs.Fault.{Refuses}
+use Rattle.ttrun.specs.Limits.{move_list_limit}
 
 -- who called, and what
 abbrev pub move_of : Entry → Move
 move_of e = (e.caller, e.op)
-
--- the entry that the move adds to these, among n behaviours
-abbrev pub next_entry : ℕ → List Entry → Move → Entry
-next_entry n past m = record { caller = m.0; op = m.1; reply = answer n past m.0.0 m.1 }
 
 -- the line of a reply
 abbrev pub reply_line : Entry → List ℕ
@@ -47,3 +45,7 @@ pub record Replays (text out : List ℕ) (status : ℕ) : Type 0 where
   pub verdict : Verdict
   pub replay : IsReplayOf text out verdict
   pub status_is : status ≡ verdict_status verdict
+
+-- what a fault of `replay` says of the input and of the output before and after
+abbrev pub RefusesReplay : Option (List ℕ) → Option (List ℕ) → Option (List ℕ) → RunFault → Type 0
+RefusesReplay = Refuses IsListFault Replays move_list_limit

@@ -19,11 +19,6 @@ use Rattle.ttrun.specs.Script.{RefusesScript}
 use Rattle.ttrun.specs.Streams.{Streams}
 use Rattle.ttrun.specs.Tell.{IsTold}
 
--- the bytes of a word, where there is one
-abbrev pub bytes_of : {X : Type 0} → (X → List ℕ) → Option X → Option (List ℕ)
-bytes_of bytes None = None
-bytes_of bytes (Some word) = Some (bytes word)
-
 -- the stopping rule is the verdict that the word names; without a word there is none
 abbrev pub IsRuleOf : Option (List ℕ) → Option Verdict → Type 0
 IsRuleOf None None = Unit {0}

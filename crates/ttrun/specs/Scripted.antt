@@ -1,30 +1,26 @@
 -- The test cases of a script: what is run of them, and what their reports say.
-use Rattle.std.specs.Prelude.{◌≡◌, List, length, map}
+use Rattle.std.specs.Prelude.{List, length, map}
 use Rattle.tc_step.specs.Steps.{ScriptView}
 use Rattle.tc_exec.specs.Case.{AreCalled, IsMadeOf}
 use Rattle.tc_exec.specs.Logs.{AreLogsBy}
 use Rattle.tc_behaviour.specs.Acts.{MakesItsCalls}
 use Rattle.tc_script.specs.Names.{Word}
 use Rattle.tc_report.specs.declared.results.Finished.{Finished}
-use Rattle.tc_campaign.specs.declared.case.Case.{Case}
 use Rattle.tc_campaign.specs.Outline.{Outline}
 
 -- a test case of a script: its name, and its behaviours by name
 abbrev pub CaseView : Type 0
 CaseView = Word × List (Word × ScriptView)
 
+-- the names of behaviours
 abbrev pub names_of : List (Word × ScriptView) → List Word
 names_of bs = map (λ b. b.0) bs
 
+-- their scripts, without the names
 abbrev pub scripts_of : List (Word × ScriptView) → List ScriptView
 scripts_of bs = map (λ b. b.1) bs
 
--- a test case is ready to be run: it has the names of this one, and its jobs are the scripts
-pub record IsCaseOf (c : CaseView) (ready : Case ScriptView) : Type 0 where
-  pub name : ready.name ≡ c.0
-  pub names : ready.names.items ≡ names_of c.1
-  pub jobs : ready.jobs.items ≡ scripts_of c.1
-
+-- the outline of a test case: each behaviour is one job
 abbrev pub script_outline : CaseView → Outline
 script_outline c = record { name = c.0; names = names_of c.1; jobs = length c.1 }
 

@@ -4,7 +4,6 @@ use Rattle.std.specs.List.{AllZip, flat_map}
 use Rattle.std.specs.Fmt.{decimal}
 use Rattle.std.specs.Io.KnownBytes.{Appends}
 use Rattle.tc_verdict.specs.Verdict.{name_of}
-use Rattle.tc_entry.specs.Name.{IsName}
 use Rattle.tc_history.specs.Text.{IsHeader, AreEntries}
 use Rattle.tc_book.specs.Report.{IsOneHistory}
 use Rattle.tc_report.specs.declared.results.Finished.{Finished}
@@ -15,10 +14,6 @@ use Rattle.tc_campaign.specs.Campaign.{HasBehaviours, IsReported}
 use Rattle.ttrun.specs.Check.{IsChecked}
 use Rattle.ttrun.specs.declared.fault.RunFault.{RunFault}
 use Rattle.ttrun.specs.declared.fault.RunFault.TheVariants as F
-
--- the name of the test case is a name, and the numbers in its history are those of their types
-abbrev pub FitsItsTypes : Finished → Type 0
-FitsItsTypes f = IsName f.name × AreEntries f.report.history
 
 -- a test case that was run to its end
 pub record WasRun (f : Finished) : Type 0 where

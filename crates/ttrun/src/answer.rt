@@ -4,6 +4,7 @@ ghost use Rattle.std.specs.IoError.{error_kind};
 ghost use Rattle.clap.specs.Values.{kind_of};
 ghost use Rattle.clap.specs.declared.error.kind.ErrorKind.TheVariants.{DisplayHelp};
 ghost use Rattle.ttrun.specs.Answer.{IsAnswered, IsHelped, IsMistake, IsRefusedLine, IsUnread, ShowsText};
+ghost use Rattle.ttrun.specs.Streams.{held};
 
 use crate::carry_out::carry_out;
 use crate::fault::RunFault;
@@ -35,8 +36,7 @@ pub fn answer_no_task<W: Write, E: Write>(
     writer: &mut W,
     errors: &mut E,
 ) -> Outcome
-    ensures help { kind_of error.now ≡ DisplayHelp → IsHelped
-        (record { before = W.contents writer.old; after = W.contents writer.new; untold = E.contents errors.old; told = E.contents errors.new }) result }
+    ensures help { kind_of error.now ≡ DisplayHelp → IsHelped (held W.contents writer.old writer.new E.contents errors.old errors.new) result }
     ensures refused { IsMistake (kind_of error.now) → IsRefusedLine (E.contents errors.old) (E.contents errors.new) result }
     ensures unwritten { IsMistake (kind_of error.now) → writer.new ≡ writer.old }
 {
@@ -81,7 +81,7 @@ pub fn answer<R, I: Read, W: Write, E: Write>(
 where
     R: Threads + Wait + Copy + Send + 'static,
     ensures had { IfOk words (λ given. IsAnswered (map string_bytes given.items) (I.remaining reader.old)
-        (record { before = W.contents writer.old; after = W.contents writer.new; untold = E.contents errors.old; told = E.contents errors.new })
+        (held W.contents writer.old writer.new E.contents errors.old errors.new)
         (reader.new ≡ reader.old) (writer.new ≡ writer.old) result) }
     ensures not_had { IfErr words (λ error. IsUnread (error_kind error) (E.contents errors.old) (E.contents errors.new) result) }
     ensures unread { OnErr words (reader.new ≡ reader.old) }

@@ -1,6 +1,7 @@
 //! What the program does with a task.
 ghost use Rattle.std.specs.Prelude.{◌≡◌};
 ghost use Rattle.ttrun.specs.Program.{HasNoRule, IsCarriedOut};
+ghost use Rattle.ttrun.specs.Streams.{held};
 
 use crate::check::check;
 use crate::jobs::run_script;
@@ -24,8 +25,7 @@ pub fn carry_out<R, I: Read, W: Write, E: Write>(
 ) -> Outcome
 where
     R: Threads + Wait + Copy + Send + 'static,
-    ensures done { IsCarriedOut task.entry (I.remaining reader.old)
-        (record { before = W.contents writer.old; after = W.contents writer.new; untold = E.contents errors.old; told = E.contents errors.new }) result }
+    ensures done { IsCarriedOut task.entry (I.remaining reader.old) (held W.contents writer.old writer.new E.contents errors.old errors.new) result }
     ensures unread { HasNoRule task.entry → reader.new ≡ reader.old }
 {
     match task {

@@ -1,11 +1,8 @@
 //! The subcommand `check`.
-ghost use Rattle.std.specs.Prelude.{◌≡◌, List, IfOk, IfErr, MatchResult, OnOk};
-ghost use Rattle.tc_history.specs.declared.read.Block.{Block as AnyBlock};
-ghost use Rattle.tc_history.specs.Text.{AreHistories, IsHistoryFault};
-ghost use Rattle.ttrun.specs.Check.{Checks, IsCheckOf, IsChecked};
-ghost use Rattle.ttrun.specs.Inside.{Feeds, IsPlayed, RefusesHistory};
+ghost use Rattle.std.specs.Prelude.{IfOk, IfErr, OnOk};
+ghost use Rattle.ttrun.specs.Check.{IsCheckOf, IsChecked, RefusesCheck};
+ghost use Rattle.ttrun.specs.Inside.{ChecksText, Feeds, IsPlayed, RefusesHistory};
 ghost use Rattle.ttrun.specs.Output.{Writes};
-ghost use Rattle.ttrun.specs.Fault.{Refuses};
 ghost use Rattle.ttrun.specs.Limits.{HasAtMost, history_limit};
 ghost use Rattle.ttrun.specs.WrittenHistories.{FindsWrittenLegal};
 
@@ -72,8 +69,7 @@ impl TakesHistories for Checking {
 fn check_text(alloc: Global, text: &[u8]) -> Result<(Vec<u8>, bool), RunFault>
     ensures done { IfOk result (λ r. IsCheckOf text.now r.0.items r.1) }
     ensures refused { IfErr result (RefusesHistory text.now) }
-    ensures only { (blocks : List AnyBlock) → AreHistories text.now blocks
-        → MatchResult result (λ r. Checks blocks r.0.items r.1) (λ e. e ≡ RunFault.NoMemory) }
+    ensures only { ChecksText text.now result }
 {
     let checking: Checking = read_history_into(alloc, text)?;
     Ok((checking.out, checking.legal))
@@ -89,8 +85,7 @@ pub fn check<R: Read, W: Write>(
 ) -> Result<u8, RunFault>
     ensures done { IfOk result (Writes IsChecked (R.remaining reader.old) (W.contents writer.old) (W.contents writer.new)) }
     ensures fits { OnOk result (HasAtMost history_limit (R.remaining reader.old)) }
-    ensures refused { IfErr result (Refuses IsHistoryFault IsChecked history_limit (R.remaining reader.old)
-        (W.contents writer.old) (W.contents writer.new)) }
+    ensures refused { IfErr result (RefusesCheck (R.remaining reader.old) (W.contents writer.old) (W.contents writer.new)) }
     ensures written { FindsWrittenLegal (R.remaining reader.old) (W.contents writer.old) (W.contents writer.new) result }
 {
     let text = read_input(alloc, reader, LIMIT)?;

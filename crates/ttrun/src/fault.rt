@@ -32,7 +32,7 @@ pub enum RunFault {
 
 impl From<InputFault> for RunFault {
     ghost use Rattle.std.specs.Prelude.{◌≡◌};
-    ghost use Rattle.ttrun.specs.Fault.{of_input};
+    ghost use Rattle.ttrun.specs.Inside.{of_input};
 
     ghost from_gives = { λ fault r. r ≡ of_input fault };
 
@@ -91,7 +91,7 @@ impl<T: Drop> From<AllocFailed<T>> for RunFault {
 
 impl From<TextFault> for RunFault {
     ghost use Rattle.std.specs.Prelude.{◌≡◌};
-    ghost use Rattle.ttrun.specs.Fault.{of_text};
+    ghost use Rattle.ttrun.specs.Inside.{of_text};
 
     ghost from_gives = { λ fault r. r ≡ of_text fault };
 

@@ -1,10 +1,11 @@
 //! The test cases of a campaign, ready to be run.
-ghost use Rattle.std.specs.Prelude.{◌≡◌, IfOk, IfErr, OnErr, Err};
+ghost use Rattle.std.specs.Prelude.{◌≡◌, IfOk, IfErr, OnErr, Err, option_copied};
 ghost use Rattle.std.specs.List.{AllZip};
-ghost use Rattle.ttrun.specs.Program.{RunsScript, RefusesScriptRun};
+ghost use Rattle.ttrun.specs.Program.{FailsRun, RunsScript};
 ghost use Rattle.ttrun.specs.declared.fault.RunFault.TheVariants.{StopOn};
-ghost use Rattle.ttrun.specs.Run.{bytes_of, IsNoName};
-ghost use Rattle.ttrun.specs.Scripted.{IsCaseOf};
+ghost use Rattle.ttrun.specs.Run.{IsNoName};
+ghost use Rattle.ttrun.specs.Inside.{IsCaseOf};
+ghost use Rattle.ttrun.specs.Streams.{held};
 
 use crate::fault::RunFault;
 use crate::outcome::Outcome;
@@ -43,7 +44,7 @@ fn case_of<R: Wait + Copy + Send + 'static>(
 }
 
 /// The test cases of a campaign.
-pub fn cases_of<R: Wait + Copy + Send + 'static>(
+fn cases_of<R: Wait + Copy + Send + 'static>(
     rt: &R,
     alloc: Global,
     campaign: Campaign,
@@ -71,12 +72,12 @@ pub fn run_script<R, I: Read, W: Write, E: Write>(
 ) -> Result<Outcome, RunFault>
 where
     R: Threads + Wait + Copy + Send + 'static,
-    ensures done { IfOk result (RunsScript form (bytes_of (λ w. w.now) word.entry) (I.remaining reader.old)
-        (record { before = W.contents writer.old; after = W.contents writer.new; untold = E.contents errors.old; told = E.contents errors.new })) }
-    ensures refused { IfErr result (RefusesScriptRun form (bytes_of (λ w. w.now) word.entry) (I.remaining reader.old)
+    ensures done { IfOk result (RunsScript form (option_copied word.entry) (I.remaining reader.old)
+        (held W.contents writer.old writer.new E.contents errors.old errors.new)) }
+    ensures refused { IfErr result (FailsRun form (option_copied word.entry) (I.remaining reader.old)
         (W.contents writer.old) (W.contents writer.new)) }
     ensures untouched { OnErr result (errors.new ≡ errors.old) }
-    ensures unread { IsNoName (bytes_of (λ w. w.now) word.entry) → (result ≡ Err StopOn) × (reader.new ≡ reader.old) }
+    ensures unread { IsNoName (option_copied word.entry) → (result ≡ Err StopOn) × (reader.new ≡ reader.old) }
 {
     let (campaign, options) = read_run(alloc, reader, form, word)?;
     let cases = cases_of(rt, alloc, campaign)?;

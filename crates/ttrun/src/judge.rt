@@ -1,11 +1,8 @@
 //! What the table says of a history.
-ghost use Rattle.std.specs.Prelude.{◌≡◌, ◌+◌, ◌<◌, ◌++◌, ◌∷◌, [], length, List, ℕ, IfOk, OnOk};
-ghost use Rattle.tc_entry.specs.declared.entry.Entry.{Entry as AnyEntry};
-ghost use Rattle.tc_history.specs.declared.header.Header.{Header as AnyHeader};
-ghost use Rattle.tc_history.specs.declared.read.Block.{Block as AnyBlock};
-ghost use Rattle.tc_history.specs.Text.{IsHeader, header_of};
-ghost use Rattle.ttrun.specs.Check.{IsJudgement, judges_legal};
-ghost use Rattle.ttrun.specs.Inside.{IsPlayed};
+ghost use Rattle.std.specs.Prelude.{◌≡◌, ◌<◌, [], ℕ, IfOk, OnOk};
+ghost use Rattle.tc_history.specs.Text.{IsHeader};
+ghost use Rattle.ttrun.specs.Check.{judges_legal};
+ghost use Rattle.ttrun.specs.Inside.{IsPlayed, JudgesPlayed, PlaysNext};
 
 use std::alloc::Global;
 use tc_entry::Name;
@@ -79,8 +76,7 @@ impl Playing {
     /// Plays the entry of this line, unless the table gave another reply to one before it.
     #[inline(never)]
     pub(crate) fn play(&mut self, line: usize, entry: Entry) -> Result<(), NoMemory>
-        ensures { OnOk result ((first_line : ℕ) (h : AnyHeader) (entries : List AnyEntry) → line ≡ first_line + length entries + 1
-            → IsPlayed first_line h entries self.old → IsPlayed first_line h (entries ++ entry ∷ []) self.new) }
+        ensures { OnOk result (PlaysNext line entry self.old self.new) }
     {
         if self.difference.is_some() {
             return Ok(());
@@ -96,8 +92,7 @@ impl Playing {
     /// What the table says of the history whose first and last lines have these numbers, and which gives this verdict.
     pub(crate) fn judge(self, first_line: usize, line: usize, given: Verdict) -> Judgement
         requires { first_line < line }
-        ensures { (b : AnyBlock) → IsPlayed b.first_line (header_of b) b.entries self → first_line ≡ b.first_line
-            → line ≡ b.first_line + length b.entries + 1 → given ≡ b.verdict → IsJudgement b result }
+        ensures { JudgesPlayed self first_line line given result }
     {
         let Playing {
             header,

@@ -1,7 +1,8 @@
 //! What the program's parts say together: each function changes nothing, and its contract is the law.
 ghost use Rattle.std.specs.Prelude.{All, List};
 ghost use Rattle.tc_campaign.specs.Outline.{Outline};
-ghost use Rattle.ttrun.specs.WrittenHistories.{AreFoundLegal, AreReported, FitsItsTypes, WereRun};
+ghost use Rattle.ttrun.specs.Inside.{FitsItsTypes};
+ghost use Rattle.ttrun.specs.WrittenHistories.{AreFoundLegal, AreReported, WereRun};
 
 use tc_campaign::{Finished, Results};
 use tc_history::laws::entries_fit;

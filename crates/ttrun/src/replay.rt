@@ -1,11 +1,9 @@
 //! The subcommand `replay`.
 ghost use Rattle.std.specs.Prelude.{◌≡◌, ◌++◌, ◌∷◌, [], IfOk, IfErr, OnOk};
-ghost use Rattle.tc_text.specs.MoveList.{IsListFault};
 ghost use Rattle.tc_text.specs.Spelling.{reply_text};
-ghost use Rattle.ttrun.specs.Replay.{IsReplayOf, Replays};
-ghost use Rattle.ttrun.specs.Inside.{ArePlayed};
+ghost use Rattle.ttrun.specs.Replay.{IsReplayOf, RefusesReplay, Replays};
+ghost use Rattle.ttrun.specs.Inside.{ArePlayed, RefusesText};
 ghost use Rattle.ttrun.specs.Output.{Writes};
-ghost use Rattle.ttrun.specs.Fault.{Refuses, RefusesText};
 ghost use Rattle.ttrun.specs.Limits.{HasAtMost, move_list_limit};
 
 use crate::fault::RunFault;
@@ -74,8 +72,7 @@ pub fn replay<R: Read, W: Write>(
 ) -> Result<u8, RunFault>
     ensures done { IfOk result (Writes Replays (R.remaining reader.old) (W.contents writer.old) (W.contents writer.new)) }
     ensures fits { OnOk result (HasAtMost move_list_limit (R.remaining reader.old)) }
-    ensures refused { IfErr result (Refuses IsListFault Replays move_list_limit (R.remaining reader.old)
-        (W.contents writer.old) (W.contents writer.new)) }
+    ensures refused { IfErr result (RefusesReplay (R.remaining reader.old) (W.contents writer.old) (W.contents writer.new)) }
 {
     let text = read_input(alloc, reader, LIMIT)?;
     let (out, verdict) = replay_text(alloc, text.as_slice())?;

@@ -1,12 +1,13 @@
 //! A run of a campaign: what is read for it, how it is carried out, and what is written of it.
-ghost use Rattle.std.specs.Prelude.{◌≡◌, All, IfOk, IfErr, IfSome, OnOk, OnErr, Ok, Err};
+ghost use Rattle.std.specs.Prelude.{◌≡◌, All, IfOk, IfErr, IfSome, OnOk, OnErr, Ok, Err, option_copied};
 ghost use Rattle.ttrun.specs.declared.fault.RunFault.TheVariants.{StopOn};
 ghost use Rattle.tc_campaign.specs.Outline.{HasNames, outline_of};
 ghost use Rattle.tc_campaign.specs.Campaign.{IsCalled};
 ghost use Rattle.tc_script.specs.Campaign.{campaign};
 ghost use Rattle.tc_script.specs.Law.{IsCase};
 ghost use Rattle.ttrun.specs.Limits.{HasAtMost, script_limit, worker_limit};
-ghost use Rattle.ttrun.specs.Run.{bytes_of, IsRuleOf, IsNoName, RefusesWord, RefusesRun, IsRun, IsUnwritten};
+ghost use Rattle.ttrun.specs.Run.{IsRuleOf, IsNoName, RefusesWord, RefusesRun, IsRun, IsUnwritten};
+ghost use Rattle.ttrun.specs.Streams.{held};
 
 use crate::fault::RunFault;
 use crate::give::give;
@@ -39,9 +40,9 @@ pub struct Options {
 /// The verdict of the word of `--stop-on`, where there is one. It takes no memory.
 #[tactic(auto, using(crate::proofs::Running::refused_word))]
 fn rule_of(word: Option<&str>) -> Result<Option<Verdict>, RunFault>
-    ensures taken { IfOk result (IsRuleOf (bytes_of (λ w. w.now) word.entry)) }
-    ensures refused { IfErr result (RefusesWord (bytes_of (λ w. w.now) word.entry)) }
-    ensures judged { IsNoName (bytes_of (λ w. w.now) word.entry) → result ≡ Err StopOn }
+    ensures taken { IfOk result (IsRuleOf (option_copied word.entry)) }
+    ensures refused { IfErr result (RefusesWord (option_copied word.entry)) }
+    ensures judged { IsNoName (option_copied word.entry) → result ≡ Err StopOn }
 {
     match word {
         Some(word) => Ok(Some(stop_word(word)?)),
@@ -59,10 +60,10 @@ pub fn read_run<R: Read>(
     ensures spelled { IfOk result (λ r. IfSome (R.remaining reader.old) (λ text. campaign text ≡ Ok r.0)) }
     ensures lawful { IfOk result (λ r. All (λ t. IsCase t.1) r.0) }
     ensures fits { OnOk result (HasAtMost script_limit (R.remaining reader.old)) }
-    ensures rule { IfOk result (λ r. IsRuleOf (bytes_of (λ w. w.now) word.entry) r.1.stop_on) }
+    ensures rule { IfOk result (λ r. IsRuleOf (option_copied word.entry) r.1.stop_on) }
     ensures form { IfOk result (λ r. r.1.form ≡ form) }
-    ensures refused { IfErr result (RefusesRun (bytes_of (λ w. w.now) word.entry) script_limit (R.remaining reader.old)) }
-    ensures unread { IsNoName (bytes_of (λ w. w.now) word.entry) → (result ≡ Err StopOn) × (reader.new ≡ reader.old) }
+    ensures refused { IfErr result (RefusesRun (option_copied word.entry) script_limit (R.remaining reader.old)) }
+    ensures unread { IsNoName (option_copied word.entry) → (result ≡ Err StopOn) × (reader.new ≡ reader.old) }
 {
     let stop_on = rule_of(word)?;
     let campaign = take_script(alloc, reader)?;
@@ -82,7 +83,7 @@ where
     R: Threads + Wait + Copy + Send + 'static,
     requires names { All HasNames cases.items }
     ensures done { IfOk result (IsRun outline_of (IsCalled B.outcome) cases.items options
-        (record { before = W.contents writer.old; after = W.contents writer.new; untold = E.contents errors.old; told = E.contents errors.new })) }
+        (held W.contents writer.old writer.new E.contents errors.old errors.new)) }
     ensures refused { IfErr result (IsUnwritten outline_of (IsCalled B.outcome) cases.items options
         (W.contents writer.old) (W.contents writer.new)) }
     ensures untouched { OnErr result (errors.new ≡ errors.old) }

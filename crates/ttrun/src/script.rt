@@ -1,9 +1,11 @@
 //! The script of a campaign, and the word of `--stop-on`.
-ghost use Rattle.std.specs.Prelude.{◌≡◌, All, IfOk, IfErr, IfSome, OnOk, Ok};
+ghost use Rattle.std.specs.Prelude.{◌≡◌, All, IfOk, IfErr, IfSome, OnOk, Ok, Some};
+ghost use Rattle.tc_verdict.specs.Verdict.{name_of};
 ghost use Rattle.tc_script.specs.Campaign.{campaign};
 ghost use Rattle.tc_script.specs.Law.{IsCase};
 ghost use Rattle.ttrun.specs.Limits.{HasAtMost, script_limit};
-ghost use Rattle.ttrun.specs.Script.{RefusesScript, IsStopWord};
+ghost use Rattle.ttrun.specs.Run.{RefusesWord};
+ghost use Rattle.ttrun.specs.Script.{RefusesScript};
 
 use crate::fault::RunFault;
 use std::alloc::Global;
@@ -32,7 +34,8 @@ pub fn take_script<R: Read>(alloc: Global, reader: &mut R) -> Result<Campaign, R
 
 /// The verdict of this name. It takes no memory.
 pub fn stop_word(word: &str) -> Result<Verdict, RunFault>
-    ensures { IsStopWord word.now result }
+    ensures taken { IfOk result (λ v. word.now ≡ name_of v) }
+    ensures refused { IfErr result (RefusesWord (Some word.now)) }
 {
     match read_name(word) {
         Some(verdict) => Ok(verdict),

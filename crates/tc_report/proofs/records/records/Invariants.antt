@@ -1,7 +1,7 @@
 use Rattle.std.proofs.Common.{◌≡◌, ◌++◌, take}
 use Rattle.std.specs.List.{flat_map}
 use Rattle.tc_report.specs.Csv.{header_text, record_line}
-use Rattle.tc_report.specs.Writing.{written_by, IsBetweenRecords}
+use Rattle.tc_report.specs.Inside.{written_by, IsBetweenRecords}
 use Rattle.tc_report.proofs.records.records.Given as goal
 
 abbrev pub invariant-loop-case : goal.invariant-loop-case

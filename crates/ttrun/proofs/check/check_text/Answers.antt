@@ -1,7 +1,6 @@
 use Rattle.std.proofs.Common.{◌≡◌, ap, rules}
 use Rattle.ttrun.specs.declared.fault.RunFault.TheVariants as F
-use Rattle.ttrun.specs.Fault.{of_text}
-use Rattle.ttrun.specs.Inside.{RefusesHistory}
+use Rattle.ttrun.specs.Inside.{RefusesHistory, of_text}
 use Rattle.ttrun.proofs.Checking.{all_checked, refused, whole}
 use Rattle.ttrun.proofs.check.check_text.Goals as goal
 

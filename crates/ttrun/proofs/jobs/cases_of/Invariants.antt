@@ -1,5 +1,5 @@
 use Rattle.std.proofs.Common.{length}
-use Rattle.ttrun.specs.Scripted.{IsCaseOf}
+use Rattle.ttrun.specs.Inside.{IsCaseOf}
 use Rattle.tc_campaign.specs.Inside.{AreDone}
 use Rattle.ttrun.proofs.jobs.cases_of.Given as goal
 

@@ -1,7 +1,7 @@
 use Rattle.std.proofs.Common.{All, subst}
 use Rattle.std.proofs.lemmas.List.{take_all}
 use Rattle.std.proofs.lemmas.List.Elements.{All-more}
-use Rattle.ttrun.specs.WrittenHistories.{FitsItsTypes}
+use Rattle.ttrun.specs.Inside.{FitsItsTypes}
 use Rattle.ttrun.proofs.laws.cases_fit.Goals as goal
 
 pub loop-case-preserved : goal.loop-case-preserved

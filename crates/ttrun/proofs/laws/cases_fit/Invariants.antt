@@ -1,5 +1,5 @@
 use Rattle.std.proofs.Common.{All, take}
-use Rattle.ttrun.specs.WrittenHistories.{FitsItsTypes}
+use Rattle.ttrun.specs.Inside.{FitsItsTypes}
 use Rattle.ttrun.proofs.laws.cases_fit.Given as goal
 
 -- those so far fit

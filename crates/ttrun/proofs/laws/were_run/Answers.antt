@@ -1,5 +1,5 @@
 use Rattle.std.proofs.Common.{All, subst}
-use Rattle.ttrun.specs.WrittenHistories.{FitsItsTypes}
+use Rattle.ttrun.specs.Inside.{FitsItsTypes}
 use Rattle.ttrun.proofs.WrittenHistories.{reported_were_run}
 use Rattle.ttrun.proofs.laws.were_run.Goals as goal
 

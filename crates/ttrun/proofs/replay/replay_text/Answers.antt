@@ -1,5 +1,5 @@
 use Rattle.std.proofs.Common.{rules}
-use Rattle.ttrun.specs.Fault.{RefusesText, of_text}
+use Rattle.ttrun.specs.Inside.{RefusesText, of_text}
 use Rattle.ttrun.proofs.Replaying.{all_played, refused}
 use Rattle.ttrun.proofs.replay.replay_text.Goals as goal
 

@@ -1,4 +1,4 @@
--- What a CSV writer over memory has written.
+-- What a CSV writer over memory has written, which no public clause names.
 use Rattle.std.specs.Prelude.{ℕ, ◌≡◌, false, List, ◌++◌}
 use Rattle.std.specs.Global.{Vec}
 use Rattle.csv.specs.declared.writer.Writer.{Writer}
