@@ -20,10 +20,30 @@ fn lead_calls<R: Wait>(rt: &R, pass: &mut Pass) -> Result<(), Halt> {
     pass.set_verdict(UserVerdict::Pass)
 }
 
-/// The behaviour of run 1: it sets inconc if the component that is its argument is running.
+/// From how many degrees on the device is in danger.
+const TOO_HOT: u32 = 90;
+
+/// How hot the device is, in degrees: here always the same, where a test would ask its device.
+fn degrees() -> u32 {
+    40
+}
+
+/// Ends the test case if the device is too hot to go on.
+pub(crate) fn guard<R: Wait>(rt: &R, pass: &mut Pass, degrees: u32) -> Result<(), Halt> {
+    if degrees < TOO_HOT {
+        return Ok(());
+    }
+    pass.stop_case(rt)
+}
+
+/// The behaviour of run 1: it ends the test case if the device is too hot, and sets inconc if the component that is its
+/// argument is running.
 pub(crate) fn probe<R: Wait>(rt: &R, pass: Pass) -> Back {
     let mut pass = pass;
-    let made = probe_calls(rt, &mut pass);
+    let made = match guard(rt, &mut pass, degrees()) {
+        Ok(()) => probe_calls(rt, &mut pass),
+        Err(halt) => Err(halt),
+    };
     Back::after(pass, made)
 }
 

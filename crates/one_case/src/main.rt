@@ -2,6 +2,8 @@
 #![tactic(auto)]
 
 mod behaviours;
+#[cfg(test)]
+mod tests;
 
 use behaviours::{lead, probe};
 use std::io;

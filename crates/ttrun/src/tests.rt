@@ -1,5 +1,6 @@
 //! Worked cases, each a whole input with its whole output.
 use crate::carry_out::carry_out;
+use crate::check::check;
 use crate::fault::{RunFault, fault_line};
 use crate::outcome::Outcome;
 use crate::replay::replay;
@@ -29,6 +30,54 @@ fn lines(alloc: Global, text: &str) -> Result<Vec<u8>, AllocError> {
     Ok(bytes)
 }
 
+// A command that reads an input, writes an output and answers a status.
+#[derive(Clone, Copy)]
+enum Command {
+    Replay,
+    Check,
+}
+
+impl Command {
+    fn answer(self, alloc: Global, input: &[u8], written: &mut Vec<u8>) -> Result<u8, RunFault> {
+        let mut reader = input;
+        match self {
+            Command::Replay => replay(alloc, &mut reader, written),
+            Command::Check => check(alloc, &mut reader, written),
+        }
+    }
+
+    // Gives it the input, and compares the output and the status.
+    fn answers<R: Abort + AllocGlobal>(
+        self,
+        rt: &R,
+        input: &str,
+        output: &str,
+        status: u8,
+    ) -> Result<(), Fail> {
+        let given = lines(rt.alloc(), input)?;
+        let wanted = lines(rt.alloc(), output)?;
+        let mut written = Vec::new(rt.alloc());
+        let answer = self.answer(rt.alloc(), given.as_slice(), &mut written)?;
+        assert_eq!(rt; answer, status, "{input}");
+        assert_eq!(rt; written.as_slice(), wanted.as_slice(), "{input}");
+        Ok(())
+    }
+
+    // Gives it the input, and compares the fault's line; nothing may be written.
+    fn refuses<R: Abort + AllocGlobal>(self, rt: &R, input: &[u8], line: &str) -> Result<(), Fail> {
+        let mut written = Vec::new(rt.alloc());
+        let mut told = Vec::new(rt.alloc());
+        match self.answer(rt.alloc(), input, &mut written) {
+            Ok(_) => panic!(rt; "{line}: the input was taken"),
+            Err(fault) => fault_line(&fault, &mut told)?,
+        }
+        let wanted = lines(rt.alloc(), line)?;
+        assert_eq!(rt; told.as_slice(), wanted.as_slice());
+        assert!(rt; written.is_empty(), "{line}");
+        Ok(())
+    }
+}
+
 // Replays the input, and compares the output and the status.
 fn replays<R: Abort + AllocGlobal>(
     rt: &R,
@@ -36,32 +85,12 @@ fn replays<R: Abort + AllocGlobal>(
     output: &str,
     status: u8,
 ) -> Result<(), Fail> {
-    let given = lines(rt.alloc(), input)?;
-    let wanted = lines(rt.alloc(), output)?;
-    let mut reader = given.as_slice();
-    let mut written = Vec::new(rt.alloc());
-    assert_eq!(rt;
-        replay(rt.alloc(), &mut reader, &mut written)?,
-        status,
-        "{input}"
-    );
-    assert_eq!(rt; written.as_slice(), wanted.as_slice(), "{input}");
-    Ok(())
+    Command::Replay.answers(rt, input, output, status)
 }
 
 // Gives the input to `replay`, and compares the fault's line; nothing may be written.
 fn refuses<R: Abort + AllocGlobal>(rt: &R, input: &[u8], line: &str) -> Result<(), Fail> {
-    let mut reader = input;
-    let mut written = Vec::new(rt.alloc());
-    let mut told = Vec::new(rt.alloc());
-    match replay(rt.alloc(), &mut reader, &mut written) {
-        Ok(_) => panic!(rt; "{line}: the input was taken"),
-        Err(fault) => fault_line(&fault, &mut told)?,
-    }
-    let wanted = lines(rt.alloc(), line)?;
-    assert_eq!(rt; told.as_slice(), wanted.as_slice());
-    assert!(rt; written.is_empty(), "{line}");
-    Ok(())
+    Command::Replay.refuses(rt, input, line)
 }
 
 // The words of a command line, which has a space between each two.

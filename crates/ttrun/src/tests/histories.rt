@@ -1,6 +1,5 @@
 //! Histories that are checked.
 use super::*;
-use crate::check::check;
 
 // Checks the text, and compares the output and the status.
 fn checks<R: Abort + AllocGlobal>(
@@ -9,32 +8,12 @@ fn checks<R: Abort + AllocGlobal>(
     output: &str,
     status: u8,
 ) -> Result<(), Fail> {
-    let given = lines(rt.alloc(), input)?;
-    let wanted = lines(rt.alloc(), output)?;
-    let mut reader = given.as_slice();
-    let mut written = Vec::new(rt.alloc());
-    assert_eq!(rt;
-        check(rt.alloc(), &mut reader, &mut written)?,
-        status,
-        "{input}"
-    );
-    assert_eq!(rt; written.as_slice(), wanted.as_slice(), "{input}");
-    Ok(())
+    Command::Check.answers(rt, input, output, status)
 }
 
 // Gives the text to `check`, and compares the fault's line; nothing may be written.
 fn refuses_history<R: Abort + AllocGlobal>(rt: &R, input: &[u8], line: &str) -> Result<(), Fail> {
-    let mut reader = input;
-    let mut written = Vec::new(rt.alloc());
-    let mut told = Vec::new(rt.alloc());
-    match check(rt.alloc(), &mut reader, &mut written) {
-        Ok(_) => panic!(rt; "{line}: the text was taken"),
-        Err(fault) => fault_line(&fault, &mut told)?,
-    }
-    let wanted = lines(rt.alloc(), line)?;
-    assert_eq!(rt; told.as_slice(), wanted.as_slice());
-    assert!(rt; written.is_empty(), "{line}");
-    Ok(())
+    Command::Check.refuses(rt, input, line)
 }
 
 #[test]
