@@ -1,15 +1,24 @@
-//! measure NAME COUNT ROUNDS INPUT OURS.. -- THEIRS..: a row of times of two programs on the same input, run in turn, and
-//! their peak memory. COUNT is how many calls, entries or components a run is divided by.
+//! measure NAME COUNT ROUNDS INPUT OURS.. -- THEIRS..: a row of processor times of two programs on the same input, run in
+//! turn, and their peak memory. COUNT is how many calls, entries or components a run is divided by.
 use std::fs::File;
 use std::process::{Command, Stdio};
-use std::time::Instant;
 
 #[repr(C)]
 #[derive(Default)]
 struct Usage {
-    times: [i64; 4],
+    user_seconds: i64,
+    user_microseconds: i64,
+    system_seconds: i64,
+    system_microseconds: i64,
     peak_kib: i64,
     others: [i64; 13],
+}
+
+impl Usage {
+    fn milliseconds(&self) -> f64 {
+        (self.user_seconds + self.system_seconds) as f64 * 1000.0
+            + (self.user_microseconds + self.system_microseconds) as f64 / 1000.0
+    }
 }
 
 unsafe extern "C" {
@@ -25,7 +34,6 @@ struct Measured {
 impl Measured {
     fn run_once(&mut self, words: &[String], input: &str) {
         let given = File::open(input).expect("the input is read");
-        let begin = Instant::now();
         let child = Command::new(&words[0])
             .args(&words[1..])
             .stdin(Stdio::from(given))
@@ -35,7 +43,7 @@ impl Measured {
         let mut usage = Usage::default();
         let mut status = 0;
         unsafe { wait4(child.id() as i32, &mut status, 0, &mut usage) };
-        self.milliseconds.push(begin.elapsed().as_secs_f64() * 1000.0);
+        self.milliseconds.push(usage.milliseconds());
         self.peak_mib = self.peak_mib.max(usage.peak_kib as f64 / 1024.0);
     }
 
