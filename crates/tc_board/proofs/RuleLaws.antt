@@ -1,10 +1,7 @@
 -- The laws of the rule.
-use Rattle.std.proofs.Common.{◌≡◌, ℕ, List, None, refl, sym, ap, ◌∙◌}
+use Rattle.std.proofs.Common.{◌≡◌, None, refl, sym, ap, ◌∙◌}
 use Rattle.std.specs.Prelude.{slice_get}
-use Rattle.tc_board.specs.declared.answer.Answer.{Answer}
-use Rattle.tc_board.specs.declared.record.Record.{Record}
 use Rattle.tc_board.specs.declared.record.Record.TheVariants.{Unbegun, Open, Closed}
-use Rattle.tc_board.specs.Rule.{Fits}
 use Rattle.tc_board.specs.Laws.{OpenIsNeverShut, ShutIsClosed}
 
 pub open_is_never_shut : OpenIsNeverShut

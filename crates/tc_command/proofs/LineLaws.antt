@@ -1,23 +1,23 @@
 -- What command lines ask for, computed from the definitions.
-use Rattle.std.proofs.Common.{◌≡◌, ◌∙◌, ◌≢◌, ◌&&◌, ℕ, refl, sym, ap, ap₂, Bool, true, false, List, [], ◌∷◌, ◌++◌, drop, Option, Some, None, codes, is_some, nat_eq, ne_eqb}
+use Rattle.std.proofs.Common.{◌≡◌, ◌∙◌, ◌&&◌, ℕ, refl, sym, ap, ap₂, false, List, [], ◌∷◌, ◌++◌, drop, Option, Some, None, codes, is_some, nat_eq, ne_eqb}
 use Rattle.std.specs.Prelude.{if◌then◌else◌, fold, is_none, option_and_then}
 use Rattle.std.specs.Option.{option_map_or}
 use Rattle.std.specs.Str.{bytes_eq}
-use Rattle.clap.specs.Words.{Rule, Text, fault_of, subcommand_of}
+use Rattle.clap.specs.Words.{Text, subcommand_of}
 use Rattle.clap.specs.Kinds.{Kinds, or_else}
 use Rattle.clap.specs.Lexer.{long_of, long_of_rest, short_of, short_of_rest, strip_byte}
 use Rattle.clap.specs.Faults.{bundle_fault, check_fault, defaults_fault, entered_fault, flag_word_fault, other_fault, settle_fault, step_fault, turn_fault, walk_fault}
-use Rattle.clap.specs.Simple.{App, Shape, built, built_leaf, entered, inherited, marked_built, names_of, on_top, with_leaf_noted}
+use Rattle.clap.specs.Simple.{Shape, built, built_leaf, entered, inherited, marked_built, names_of, on_top, with_leaf_noted}
 use Rattle.clap.specs.Walk.{Held, Names, Step, Walk, after_step, finished, long_or_other, nothing_held, option, plain_word, settled, short_or_plain, trailing, walk, walk_from, walked, word_met}
 use Rattle.clap.specs.declared.error.kind.ErrorKind.TheVariants.{ArgumentConflict, DisplayHelp}
 use Rattle.clap.proofs.OnLiterals.{clap_on_literals}
 use Rattle.clap.proofs.WalkLemmas.{walk_stopped}
 use Rattle.tc_command.specs.declared.task.Form.{Form}
 use Rattle.tc_command.specs.declared.task.Form.TheVariants as form
-use Rattle.tc_command.specs.Asked.{Asked, asked_by, check, faults, replay, run, run_by}
+use Rattle.tc_command.specs.Asked.{Asked, asked_by, faults, run, run_by}
 use Rattle.tc_command.specs.Command.{ttrun}
 use Rattle.tc_command.specs.Command.{run as run_app}
-use Rattle.tc_command.specs.Lines.{AsksFor, AsksForBoth, AsksHelp, IsHelp, IsName, IsPlain, SpellsRule, form_words}
+use Rattle.tc_command.specs.Lines.{AsksFor, AsksForBoth, AsksHelp, IsHelp, IsName, IsPlain, form_words}
 use Rattle.tc_command.specs.Lines.{no_word, checks, replays, form_first, rule_first, no_rule, next_word, same_word, long, short, run_name, check_name, replay_name, of_program, of_subcommand, csv_first, history_first}
 
 -- the words behind the program's name are taken, and ask for this

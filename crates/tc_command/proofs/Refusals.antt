@@ -1,7 +1,7 @@
 -- When the words are refused, by what the parse answered.
-use Rattle.std.proofs.Common.{◌≡◌, ◌∙◌, Bool, true, sym, ap, subst, List, [], ◌∷◌, Option, Some}
+use Rattle.std.proofs.Common.{◌≡◌, ◌∙◌, true, sym, ap, subst, List, [], ◌∷◌, Option, Some}
 use Rattle.std.specs.Prelude.{is_none, if◌then◌else◌}
-use Rattle.clap.specs.Words.{App, HasKind, Kinds, Text, fault_of, is_simple_and_free, kind_of, subcommand_of}
+use Rattle.clap.specs.Words.{App, HasKind, Text, fault_of, is_simple_and_free, kind_of, subcommand_of}
 use Rattle.clap.specs.declared.error.Error.{Error}
 use Rattle.clap.specs.declared.error.kind.ErrorKind.TheVariants.{ArgumentConflict}
 use Rattle.clap.proofs.FaultLemmas.{first_fails, past}

@@ -1,7 +1,7 @@
-use Rattle.std.proofs.Common.{◌≡◌, ◌∙◌, ap, map, string_bytes}
+use Rattle.std.proofs.Common.{◌∙◌, ap}
 use Rattle.clap.specs.Simple.{is_simple}
 use Rattle.clap.proofs.FaultLemmas.{failed_up}
-use Rattle.tc_command.specs.Asked.{asked, asked_by, faults}
+use Rattle.tc_command.specs.Asked.{asked, asked_by}
 use Rattle.tc_command.proofs.Refusals.{all_taken, parse_refuses}
 use Rattle.tc_command.proofs.read.read_task.Goals as goal
 

@@ -1,8 +1,8 @@
-use Rattle.std.proofs.Common.{◌≡◌, ◌∙◌, ap, Some, codes}
+use Rattle.std.proofs.Common.{◌∙◌, ap, Some, codes}
 use Rattle.std.specs.Prelude.{option_map}
 use Rattle.clap.specs.Words.{first_of, found_of, rows_of}
 use Rattle.clap.proofs.WalkLemmas.{first_value-rows}
-use Rattle.tc_command.specs.Asked.{Asked, run}
+use Rattle.tc_command.specs.Asked.{run}
 use Rattle.tc_command.specs.declared.task.Form.{Form}
 use Rattle.tc_command.proofs.read.run_task.Goals as goal
 
