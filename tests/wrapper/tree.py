@@ -87,7 +87,8 @@ def as_user(drops: bool) -> Callable[[], None]:
     are asked for."""
 
     def begin() -> None:
-        signal.signal(signal.SIGINT, signal.SIG_DFL)
+        for it in (signal.SIGINT, signal.SIGTERM, signal.SIGHUP, signal.SIGPIPE):
+            signal.signal(it, signal.SIG_DFL)
         if os.isatty(0):
             fcntl.ioctl(0, termios.TIOCSCTTY, 0)
         if drops and os.geteuid() == 0:
