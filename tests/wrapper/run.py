@@ -393,7 +393,7 @@ def a_build_that_is_stopped(tree: Tree) -> None:
 
 @test
 def a_line_for_each_crate(tree: Tree) -> None:
-    ran = tree.call("a", FAKE_PAUSE="0.6")
+    ran = tree.call("a", FAKE_PAUSE="1.5")
     lines = [it for it in ran.lines() if it.startswith("ttrun: crate ")]
     wanted = ["crate 1 of 3, tc_low", "crate 2 of 3, tc_high", "crate 3 of 3, ttrun"]
     hold([it[len("ttrun: "):].split(":")[0] for it in lines] == wanted, f"{ran.lines()}")

@@ -50,7 +50,7 @@ cat >> out/ttrun.part <<'PROGRAM'
 case ${1:-} in
     sum) echo "$built" ;;
     id) echo "$$" ;;
-    state) ls /proc/$$/fd; grep -E 'Sig(Ign|Blk)' /proc/$$/status; pwd; umask ;;
+    state) ls /proc/self/fd; grep -E 'Sig(Ign|Blk)' /proc/self/status; pwd; umask ;;
     *) printf '<%s>' "$@"; cat; echo told >&2; exit "${ENDS:-0}" ;;
 esac
 PROGRAM
