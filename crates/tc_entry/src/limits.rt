@@ -3,7 +3,7 @@ ghost use Rattle.std.specs.Prelude.{◌<◌, ◌↔◌, IsTrue};
 ghost use Rattle.tc_entry.specs.Limits.{IsBehaviours};
 
 /// The most behaviours of a test case.
-pub const BEHAVIOURS: usize = 64;
+pub const BEHAVIOURS: usize = 256;
 
 /// The most components of a test case, the main test component among them.
 pub const COMPONENTS: usize = 1000;

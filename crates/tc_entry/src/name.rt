@@ -1,4 +1,4 @@
-//! The name of a test case or a behaviour.
+//! The name of a test case, a behaviour or a component.
 ghost use Rattle.std.specs.Prelude.{◌≡◌, ◌↔◌, IsSome, IfSome, IsTrue};
 ghost use Rattle.tc_entry.specs.Name.{IsName, is_name_byte as is_allowed};
 
@@ -6,7 +6,7 @@ use crate::limits::NAME_BYTES;
 use arrayvec::ArrayVec;
 use std::marker::Model;
 
-/// A name of a test case or a behaviour: 1 to `NAME_BYTES` bytes, held in place.
+/// A name of a test case, a behaviour or a component: 1 to `NAME_BYTES` bytes, held in place.
 #[derive(PartialEq, Eq, Hash, Debug, Drop)]
 pub struct Name {
     bytes: ArrayVec<u8, NAME_BYTES>,

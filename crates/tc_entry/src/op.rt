@@ -4,6 +4,7 @@ ghost use Rattle.tc_entry.specs.Group as group;
 
 use crate::args::Args;
 use crate::comp::Comp;
+use crate::name::Name;
 use tc_verdict::{Run, UserVerdict};
 
 /// Which components a status operation or a wait is about: one, any parallel one, all parallel ones.
@@ -27,7 +28,8 @@ pub enum Group {
 /// parked, a later `Wake`. `Finish` is the end of a behaviour. `StopCase` is the standard's testcase.stop.
 #[derive(PartialEq, Eq, Debug, Drop)]
 pub enum Op {
-    Create { alive: bool },
+    /// Makes a component, alive-type or ordinary; a name is for whoever reads the report, and refers to nothing.
+    Create { alive: bool, name: Option<Name> },
     Start { comp: Comp, run: Run, args: Args },
     Stop(Group),
     Kill(Group),
@@ -55,6 +57,16 @@ impl Group {
     }
 }
 
+fn same_name(a: &Option<Name>, b: &Option<Name>) -> bool
+    ensures { IsTrue result ↔ (a.now ≡ b.now) }
+{
+    match (a, b) {
+        (Some(a), Some(b)) => a.same(b),
+        (None, None) => true,
+        _ => false,
+    }
+}
+
 fn same_group(a: Group, b: Group) -> bool
     ensures { IsTrue result ↔ (a ≡ b) }
 {
@@ -79,7 +91,10 @@ impl Op {
         ensures { result ≡ self.now }
     {
         match self {
-            Op::Create { alive } => Op::Create { alive: *alive },
+            Op::Create { alive, name } => Op::Create {
+                alive: *alive,
+                name: name.as_ref().map(Name::copy),
+            },
             Op::Start { comp, run, args } => Op::Start {
                 comp: *comp,
                 run: *run,
@@ -111,7 +126,9 @@ impl Op {
         ensures { IsTrue result ↔ (self.now ≡ other.now) }
     {
         match (self, other) {
-            (Op::Create { alive: a }, Op::Create { alive: b }) => *a == *b,
+            (Op::Create { alive, name }, Op::Create { alive: a, name: n }) => {
+                *alive == *a && same_name(name, n)
+            }
             (
                 Op::Start { comp, run, args },
                 Op::Start {

@@ -19,8 +19,8 @@ fn arguments_are_at_most_four(rt: HostRuntime) {
 fn limits(rt: HostRuntime) {
     assert!(rt; !is_behaviours(0));
     assert!(rt; is_behaviours(1));
-    assert!(rt; is_behaviours(64));
-    assert!(rt; !is_behaviours(65));
+    assert!(rt; is_behaviours(256));
+    assert!(rt; !is_behaviours(257));
     assert!(rt; may_create(999));
     assert!(rt; !may_create(1000));
     assert_eq!(rt; NAME_BYTES, 32);
@@ -51,6 +51,31 @@ fn names(rt: HostRuntime) {
         assert!(rt; Name::read(text).is_none(), "{text}");
         assert!(rt; Name::of_bytes(text.as_bytes()).is_none(), "{text}");
     }
+}
+
+#[test]
+fn named_creates_are_told_apart(rt: HostRuntime) -> Result<(), Fail> {
+    let pump = Name::read("pump").ok_or("a name")?;
+    let valve = Name::read("valve").ok_or("a name")?;
+    let named = Op::Create {
+        alive: true,
+        name: Some(pump),
+    };
+    assert!(rt; named.same(&named.copy()));
+    for other in [
+        Op::Create {
+            alive: true,
+            name: None,
+        },
+        Op::Create {
+            alive: true,
+            name: Some(valve),
+        },
+    ] {
+        assert!(rt; !named.same(&other));
+        assert!(rt; !other.same(&named));
+    }
+    Ok(())
 }
 
 #[test]
