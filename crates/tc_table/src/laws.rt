@@ -67,3 +67,9 @@ pub fn others_halt_nothing()
 pub fn started_by_entry()
     ensures { laws.StartedByEntry }
 {}
+
+/// The names of components change no reply and no verdict.
+#[tactic(auto, using(crate::proofs::Named::names_say_nothing))]
+pub fn names_say_nothing()
+    ensures { laws.NamesSayNothing }
+{}
