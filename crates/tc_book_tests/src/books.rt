@@ -322,7 +322,7 @@ fn finished(book: &mut Book, run: u16) -> Option<Option<Reply>> {
 fn calls_on_a_book(rt: HostRuntime) -> Result<(), Fail> {
     let alloc = rt.alloc();
     let mut book = book_of_two(alloc)?;
-    let made = replied(&mut book, 0, Op::Create { alive: false });
+    let made = replied(&mut book, 0, Op::Create { alive: false, name: None });
     assert_eq!(rt; made, Some(Reply::Made(Comp(1))));
     assert!(rt; is_unbegun(&book));
     assert_eq!(rt; replied(&mut book, 0, start()), Some(Reply::Ok));
@@ -378,7 +378,7 @@ fn are_answered(book: &mut Book, calls: Vec<Called>) -> bool {
 fn up_to_the_wait(alloc: Global) -> Result<Vec<Called>, NoMemory> {
     let made = Reply::Made(Comp(1));
     Ok(vec![in alloc;
-        (Run(0), Op::Create { alive: true }, made, false),
+        (Run(0), Op::Create { alive: true, name: None }, made, false),
         (Run(0), start(), Reply::Ok, true),
         (Run(0), Op::Running(one(1)), Reply::Answer(true), false),
         (Run(0), wait(), Reply::Parked, true),
