@@ -16,7 +16,7 @@ const WHOLE_TABLE: &str =
     "testcase,components,none,pass,inconc,fail,error,verdict;a,1,0,1,0,0,0,pass;b,1,0,0,0,1,0,fail;c,1,0,1,0,0,0,pass";
 
 const HISTORIES: &str =
-    "history 1 a 1;0 setverdict pass -> ok;0 finish -> ok;end pass;history 1 b 1;0 setverdict fail -> ok;0 finish -> ok;end fail;history 1 c 1;0 setverdict pass -> ok;0 finish -> ok;end pass";
+    "history 2 a 1;0 setverdict pass -> ok;0 finish -> ok;end pass;history 2 b 1;0 setverdict fail -> ok;0 finish -> ok;end fail;history 2 c 1;0 setverdict pass -> ok;0 finish -> ok;end pass";
 
 const REPORT: &str =
     "testcase a;run 0 main on 0;  setverdict pass -> ok;  finish -> ok;local 0 pass;verdict pass;testcase b;run 0 main on 0;  setverdict fail -> ok;  finish -> ok;local 0 fail;verdict fail;testcase c;run 0 main on 0;  setverdict pass -> ok;  finish -> ok;local 0 pass;verdict pass;cases 3 none 0 pass 2 inconc 0 fail 1 error 0;complete";
@@ -39,7 +39,7 @@ const RESTART_REPORT: &str =
 const STUCK: &str = "testcase solo;behaviour main;create p;setverdict pass;wait done p;end;end";
 
 const STUCK_HISTORY: &str =
-    "history 1 solo 1;0 create -> made 1;0 setverdict pass -> ok;0 wait done 1 -> parked;0 wake done 1 -> error stuck;end error";
+    "history 2 solo 1;0 create -> made 1;0 setverdict pass -> ok;0 wait done 1 -> parked;0 wake done 1 -> error stuck;end error";
 
 const NO_VERDICT: &str = "ttrun: --stop-on takes none, pass, inconc, fail or error";
 
@@ -234,15 +234,15 @@ fn words_of_stop_on(rt: HostRuntime) -> Result<(), Fail> {
     Ok(())
 }
 
-// A test case of 64 behaviours: the first makes 63 components, starts the others on them, and waits for them.
-fn sixty_four(alloc: Global) -> Result<String, Fail> {
+// A test case of so many behaviours: the first makes a component for each other one, starts it there, and waits for all.
+fn case_of(alloc: Global, behaviours: u16) -> Result<String, Fail> {
     let mut text = "testcase t\nbehaviour main\n".to_string(alloc)?;
-    for number in 1..64 {
+    for number in 1..behaviours {
         let steps = format!(in alloc; "create p{number}\nstart p{number} b{number}\n")?;
         text.push_str(steps.as_str())?;
     }
     text.push_str("wait done all\nend\n")?;
-    for number in 1..64 {
+    for number in 1..behaviours {
         let behaviour = format!(in alloc; "behaviour b{number}\nsetverdict pass\nend\n")?;
         text.push_str(behaviour.as_str())?;
     }
@@ -250,11 +250,16 @@ fn sixty_four(alloc: Global) -> Result<String, Fail> {
     Ok(text)
 }
 
-#[test]
-fn a_case_of_sixty_four_behaviours(rt: HostRuntime) -> Result<(), Fail> {
-    let text = sixty_four(rt.alloc())?;
+// Such a case is run, and its table is this one.
+fn has_its_workers<R: Abort + Threads + Wait + Copy + Send + 'static>(
+    rt: &R,
+    alloc: Global,
+    behaviours: u16,
+    written: &'static str,
+) -> Result<(), Fail> {
+    let text = case_of(alloc, behaviours)?;
     let wanted = Wanted {
-        written: "testcase,components,none,pass,inconc,fail,error,verdict;t,64,1,63,0,0,0,pass",
+        written,
         told: "",
         status: 0,
     };
@@ -262,5 +267,19 @@ fn a_case_of_sixty_four_behaviours(rt: HostRuntime) -> Result<(), Fail> {
         form: Form::Csv,
         stop_on: None,
     };
-    carries_out(&rt, rt.alloc(), task, text.as_bytes(), wanted)
+    carries_out(rt, alloc, task, text.as_bytes(), wanted)
+}
+
+#[test]
+fn a_case_of_sixty_four_behaviours(rt: HostRuntime) -> Result<(), Fail> {
+    let written =
+        "testcase,components,none,pass,inconc,fail,error,verdict;t,64,1,63,0,0,0,pass";
+    has_its_workers(&rt, rt.alloc(), 64, written)
+}
+
+#[test]
+fn a_case_of_256_behaviours(rt: HostRuntime) -> Result<(), Fail> {
+    let written =
+        "testcase,components,none,pass,inconc,fail,error,verdict;t,256,1,255,0,0,0,pass";
+    has_its_workers(&rt, rt.alloc(), 256, written)
 }
