@@ -69,7 +69,6 @@ pub fn started_by_entry()
 {}
 
 /// The names of components change no reply and no verdict.
-#[tactic(auto, using(crate::proofs::Named::names_say_nothing))]
 pub fn names_say_nothing()
     ensures { laws.NamesSayNothing }
 {}

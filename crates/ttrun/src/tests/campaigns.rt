@@ -234,15 +234,15 @@ fn words_of_stop_on(rt: HostRuntime) -> Result<(), Fail> {
     Ok(())
 }
 
-// A test case of so many behaviours: the first makes a component for each other one, starts it there, and waits for all.
-fn case_of(alloc: Global, behaviours: u16) -> Result<String, Fail> {
+// A test case of 256 behaviours: the first makes 255 components, starts the others on them, and waits for them.
+fn many_behaviours(alloc: Global) -> Result<String, Fail> {
     let mut text = "testcase t\nbehaviour main\n".to_string(alloc)?;
-    for number in 1..behaviours {
+    for number in 1..256 {
         let steps = format!(in alloc; "create p{number}\nstart p{number} b{number}\n")?;
         text.push_str(steps.as_str())?;
     }
     text.push_str("wait done all\nend\n")?;
-    for number in 1..behaviours {
+    for number in 1..256 {
         let behaviour = format!(in alloc; "behaviour b{number}\nsetverdict pass\nend\n")?;
         text.push_str(behaviour.as_str())?;
     }
@@ -250,16 +250,11 @@ fn case_of(alloc: Global, behaviours: u16) -> Result<String, Fail> {
     Ok(text)
 }
 
-// Such a case is run, and its table is this one.
-fn has_its_workers<R: Abort + Threads + Wait + Copy + Send + 'static>(
-    rt: &R,
-    alloc: Global,
-    behaviours: u16,
-    written: &'static str,
-) -> Result<(), Fail> {
-    let text = case_of(alloc, behaviours)?;
+#[test]
+fn a_case_of_256_behaviours(rt: HostRuntime) -> Result<(), Fail> {
+    let text = many_behaviours(rt.alloc())?;
     let wanted = Wanted {
-        written,
+        written: "testcase,components,none,pass,inconc,fail,error,verdict;t,256,1,255,0,0,0,pass",
         told: "",
         status: 0,
     };
@@ -267,19 +262,5 @@ fn has_its_workers<R: Abort + Threads + Wait + Copy + Send + 'static>(
         form: Form::Csv,
         stop_on: None,
     };
-    carries_out(rt, alloc, task, text.as_bytes(), wanted)
-}
-
-#[test]
-fn a_case_of_sixty_four_behaviours(rt: HostRuntime) -> Result<(), Fail> {
-    let written =
-        "testcase,components,none,pass,inconc,fail,error,verdict;t,64,1,63,0,0,0,pass";
-    has_its_workers(&rt, rt.alloc(), 64, written)
-}
-
-#[test]
-fn a_case_of_256_behaviours(rt: HostRuntime) -> Result<(), Fail> {
-    let written =
-        "testcase,components,none,pass,inconc,fail,error,verdict;t,256,1,255,0,0,0,pass";
-    has_its_workers(&rt, rt.alloc(), 256, written)
+    carries_out(&rt, rt.alloc(), task, text.as_bytes(), wanted)
 }
