@@ -59,7 +59,7 @@ def written_is_checked(stem: str, count: int) -> Judgement:
         campaign = campaign_of(stem)
         ran = run(Case("", ("run", "--history"), bytes_of(f"{stem}.script")), program)
         faults = difference("standard error", b"", ran.errors) + faults_of_history(campaign, ran.output)
-        if ran.output.count(b"history 1 ") != count:
+        if ran.output.count(b"history 2 ") != count:
             faults.append(f"{count} histories are wanted: {ran.output[:300]!r}")
         if ran.status != status_in("history", ran.output or b"end error"):
             faults.append(f"status {ran.status}")

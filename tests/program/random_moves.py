@@ -8,7 +8,7 @@ from typing import List, Tuple
 from case import Case, difference, run
 from judged import Judgement
 from table import FAULTS, MOST_COMPONENTS, STATUSES, VERDICTS, Op, Table, Target
-from texts import Judged, check, replay
+from texts import FORMATS, Judged, check, replay
 
 USER_VERDICTS = VERDICTS[:4]
 OPERATIONS = ("create", "start", "stop", "kill", *STATUSES, "wait", "wake", "setverdict", "getverdict", "finish", "stopcase")
@@ -16,6 +16,7 @@ WEIGHTS = (10, 12, 5, 4, 3, 3, 3, 3, 8, 8, 8, 6, 4, 1)
 REPLIES = ("made", "ok", "true", "false", "none", "pass", "inconc", "fail", "matched", "parked", "ended")
 LISTS = 700
 TEXTS = 250
+NAMES = ("pump", "valve", "named", "alive", "create", "p_1", "A" * 32)
 
 
 def target_of(chance: random.Random, table: Table, caller: int, groups: Tuple[str, ...]) -> Target:
@@ -27,11 +28,11 @@ def target_of(chance: random.Random, table: Table, caller: int, groups: Tuple[st
     return chance.randrange(len(table.components))
 
 
-def drawn_op(chance: random.Random, table: Table, caller: int) -> Op:
-    """An operation; a wake is mostly that of the wait before it."""
+def drawn_op(chance: random.Random, table: Table, caller: int, names: Tuple[str, ...]) -> Op:
+    """An operation; a wake is mostly that of the wait before it, and a create may have one of the names."""
     verb = chance.choices(OPERATIONS, WEIGHTS)[0]
     if verb == "create":
-        return Op("create", alive=chance.random() < 0.6)
+        return Op("create", alive=chance.random() < 0.6, name=chance.choice((*names, "")))
     if verb == "start":
         args = tuple(target_of(chance, table, caller, ()) for _ in range(chance.choice((0, 0, 0, 1, 2, 4))))
         unused = [it for it in range(table.behaviours) if it not in table.component_of_run]
@@ -58,14 +59,15 @@ def ends_case(op: Op, caller: int, reply: str) -> bool:
 def kind_of(op: Op) -> str:
     """The name under which an operation is counted."""
     group = f" {op.target}" if isinstance(op.target, str) else ""
-    return f"{op.verb} {op.awaited}{op.verdict}".strip() + (" alive" if op.alive else "") + group
+    return f"{op.verb} {op.awaited}{op.verdict}".strip() + " alive" * op.alive + " named" * (op.name != "") + group
 
 
 class MoveList:
     """A random test case: its moves, and their replies by the table."""
 
     def __init__(self, chance: random.Random, met: Counter, is_crowded: bool) -> None:
-        self.behaviours = chance.choice((1, 2, 3, 4, 6, 9, 64))
+        self.behaviours = chance.choice((1, 2, 3, 4, 6, 9, 64, 256))
+        self.names = chance.choice(((), NAMES))
         self.table = Table(self.behaviours)
         self.moves: List[Tuple[int, Op]] = []
         self.replies: List[str] = []
@@ -87,7 +89,7 @@ class MoveList:
         """A move, mostly of a run that goes on."""
         going_on = [it for it in self.table.component_of_run if self.table.is_going_on(it)]
         caller = chance.choice(going_on) if going_on and chance.random() < 0.95 else chance.choice((0, 1, 2, 65_535))
-        return caller, drawn_op(chance, self.table, caller)
+        return caller, drawn_op(chance, self.table, caller, self.names)
 
     def play_fault(self, chance: random.Random, fault: str) -> None:
         """Adds a move that is answered by this error, where one is soon drawn, and then one more."""
@@ -108,10 +110,14 @@ class MoveList:
         lines = [f"behaviours {self.behaviours}", *(f"{caller} {op.text()}" for caller, op in self.moves)]
         return "".join(f"{it}\n" for it in lines).encode()
 
-    def history_lines(self, name: str) -> List[str]:
-        """The history, legal."""
+    def may_be_of_format_1(self) -> bool:
+        """Whether format 1 can tell the history."""
+        return self.behaviours <= FORMATS["1"] and not any(op.name for _, op in self.moves)
+
+    def history_lines(self, name: str, format_of_block: str) -> List[str]:
+        """The history, legal where the format can tell it."""
         entries = [f"{caller} {op.text()} -> {reply}" for (caller, op), reply in zip(self.moves, self.replies)]
-        return [f"history 1 {name} {self.behaviours}", *entries, f"end {self.table.overall()}"]
+        return [f"history {format_of_block} {name} {self.behaviours}", *entries, f"end {self.table.overall()}"]
 
 
 def mutated(chance: random.Random, text: bytes) -> bytes:
@@ -163,7 +169,7 @@ def list_floors() -> List[Tuple[str, int]]:
     """How often each operation, reply and error is met at least by the random lists of one test."""
     groups = [f"{status} {group}" for status in STATUSES for group in ("any", "all")] + ["stop all", "kill all"]
     waits = [f"{verb} {awaited}{group}" for verb in ("wait", "wake") for awaited in ("done", "killed") for group in ("", " any", " all")]
-    plain = ["create", "create alive", "start", "stop", "kill", *STATUSES, "stopcase", "getverdict", "finish"]
+    plain = ["create", "create alive", "create named", "create alive named", "start", "stop", "kill", *STATUSES, "stopcase", "getverdict", "finish"]
     floors = [(name, 60) for name in plain] + [(name, 25) for name in groups + waits]
     floors += [(f"setverdict {it}", 60) for it in USER_VERDICTS] + [(f"reply {it}", 40) for it in REPLIES]
     return floors + [(f"reply error {it}", 1 if it == "too-many" else 4) for it in FAULTS]
@@ -207,16 +213,21 @@ def changed_lists_are_judged(seed: int) -> Judgement:
 
 
 def histories_are_checked(seed: int) -> Judgement:
-    """Random histories: legal ones, ones with another reply or verdict, and ones with a byte or a line changed."""
+    """Random histories of both formats: legal ones, ones with another reply or verdict, ones with a byte or a line changed, and ones that
+    format 1 cannot tell in it."""
 
     def judge(program: str) -> List[str]:
         chance, met = random.Random(f"histories {seed}"), Counter()
         for _ in range(TEXTS):
             lines: List[str] = []
-            what = chance.choice(("legal", "falsified", "falsified", "changed"))
+            what = chance.choice(("legal", "falsified", "falsified", "changed", "format 1"))
             for at in range(chance.randrange(1, 9)):
-                block = MoveList(chance, Counter(), is_crowded=False).history_lines(f"t{at}")
+                drawn = MoveList(chance, Counter(), is_crowded=False)
+                is_first = what == "format 1" if not drawn.may_be_of_format_1() else chance.random() < 0.6
+                block = drawn.history_lines(f"t{at}", "1" if is_first else "2")
                 met["histories"] += 1
+                met[f"format {block[0].split()[1]}"] += 1
+                met["named"] += sum(" named " in it for it in block)
                 if what == "falsified" and chance.random() < 0.3:
                     falsified(chance, block)
                 lines += block
@@ -228,7 +239,8 @@ def histories_are_checked(seed: int) -> Judgement:
             faults = compared(program, "check", text, wanted)
             if faults:
                 return faults
-        return below(met, [("histories", 800), ("legal", 50), ("not legal", 50), ("bad entry", 20)])
+        floors = [("histories", 800), ("format 1", 250), ("format 2", 250), ("named", 500)]
+        return below(met, floors + [("legal", 40), ("not legal", 50), ("bad entry", 20), ("bad first line", 3)])
 
     return Judgement(f"random_histories_are_checked_{seed}", "ttrun check < (random histories)", judge)
 

@@ -55,6 +55,9 @@ REPLAYED: List[Tuple[str, str, str, int]] = [
      "behaviours 3;0 create;0 create alive;0 start 2 1;0 killed any;0 stop all;0 done any;0 killed all;0 alive all;"
      "0 kill all;0 killed all;0 alive any",
      "made 1;made 2;ok;false;ok;true;false;true;ok;true;false;verdict none", 0),
+    ("a_named_create", "behaviours 1;0 create named pump;0 create alive named pump;0 create named named;0 stop 2;0 alive 2",
+     "made 1;made 2;made 3;ok;true;verdict none", 0),
+    ("a_name_as_long_as_may_be", f"behaviours 1;0 create named {'a' * 32}", "made 1;verdict none", 0),
     ("a_run_that_was_never_started", "behaviours 2;1 setverdict fail;9 finish", "ended;ended;verdict none", 0),
     ("self_stop_is_not_excused", "behaviours 2;0 create;0 start 1 1;1 stop 1;0 running all", "made 1;ok;ok;false;verdict none", 0),
     ("the_main_is_asked_about", "behaviours 1;0 running 0;0 alive 0;0 done 0;0 killed 0", "true;true;false;false;verdict none", 0),
@@ -65,7 +68,7 @@ REPLAYED: List[Tuple[str, str, str, int]] = [
      "made 1;ok;ok;ok;ended;verdict error", 2),
     ("stop_of_a_case_by_the_main", "behaviours 1;0 stopcase;0 getverdict", "ok;ended;verdict error", 2),
     ("stop_of_a_case_by_a_run_that_was_never_started", "behaviours 2;1 stopcase", "ended;verdict none", 0),
-    ("largest_numbers", "behaviours 64;65535 finish;0 running 4294967295", "ended;error no-component;verdict error", 2),
+    ("largest_numbers", "behaviours 256;65535 finish;0 running 4294967295", "ended;error no-component;verdict error", 2),
 ]
 
 # Name, moves, line, fault.
@@ -75,7 +78,7 @@ REFUSED_LISTS: List[Tuple[str, bytes, int, str]] = [
     ("refused_move_lists_two_spaces", text("behaviours 1;0  getverdict"), 2, "bad move"),
     ("refused_move_lists_empty", b"", 1, "text ends too early"),
     ("an_empty_line", b"\n", 1, "bad first line"),
-    ("sixty_five_behaviours", text("behaviours 65"), 1, "bad first line"),
+    ("a_list_of_257_behaviours", text("behaviours 257"), 1, "bad first line"),
     ("a_number_with_a_zero_in_front", text("behaviours 01"), 1, "bad first line"),
     ("no_number", text("behaviours"), 1, "bad first line"),
     ("a_space_behind_the_number", text("behaviours 1 "), 1, "bad first line"),
@@ -94,7 +97,11 @@ REFUSED_LISTS: List[Tuple[str, bytes, int, str]] = [
     ("a_byte_above_127", b"behaviours 1\n0 cr\xe9ate\n", 2, "bad move"),
     ("a_tab", b"behaviours 1\n0\tcreate\n", 2, "bad move"),
     ("a_move_without_a_caller", text("behaviours 1;create"), 2, "bad move"),
-    ("a_named_create", text("behaviours 1;0 create named pump"), 2, "bad move"),
+    ("a_create_named_mtc", text("behaviours 1;0 create named mtc"), 2, "bad move"),
+    ("a_create_named_and_no_name", text("behaviours 1;0 create named"), 2, "bad move"),
+    ("a_create_named_before_alive", text("behaviours 1;0 create named pump alive"), 2, "bad move"),
+    ("a_create_of_two_names", text("behaviours 1;0 create named pump named valve"), 2, "bad move"),
+    ("a_create_of_a_name_too_long", text(f"behaviours 1;0 create named {'a' * 33}"), 2, "bad move"),
     ("a_stop_of_a_case_with_a_word_too_many", text("behaviours 1;0 stopcase all"), 2, "bad move"),
 ]
 
@@ -106,6 +113,17 @@ CHECKED: List[Tuple[str, str, str, int]] = [
     ("check_of_histories_legal", INACTIVE + "0 wait done 1 -> parked;end none", "legal t 4 none", 0),
     ("check_of_histories_other_verdict", INACTIVE + "0 wait done 1 -> parked;end pass", "line 6: pass, table gives none", 3),
     ("a_case_without_entries", "history 1 t 64;end none", "legal t 0 none", 0),
+    ("histories_refused_and_checked_format_2", "history 2 t 1;end none", "legal t 0 none", 0),
+    ("two_history_formats", "history 1 a 1;0 create -> made 1;end none;history 2 b 1;0 create named pump -> made 1;end none",
+     "legal a 1 none;legal b 1 none", 0),
+    ("two_history_formats_in_the_other_order",
+     "history 2 b 1;0 create alive named pump -> made 1;end none;history 1 a 1;0 create -> made 1;end none",
+     "legal b 1 none;legal a 1 none", 0),
+    ("a_history_of_256", "history 2 t 256;0 create named p -> made 1;0 start 1 255 -> ok;255 finish -> ok;end none",
+     "legal t 3 none", 0),
+    ("a_history_of_sixty_five_in_format_2", "history 2 t 65;end none", "legal t 0 none", 0),
+    ("a_named_create_is_judged", "history 2 t 1;0 create named p -> made 1;0 create alive named p -> made 1;end none",
+     "line 3: made 1, table gives made 2", 3),
     ("two_histories_of_one_name", "history 1 t 1;end none;history 1 t 1;end none", "legal t 0 none;legal t 0 none", 0),
     ("nothing_behind_an_illegal_history",
      "history 1 a 1;end none;history 1 b 1;0 finish -> ended;end none;history 1 c 1;end none",
@@ -127,7 +145,19 @@ CHECKED: List[Tuple[str, str, str, int]] = [
 # Name, histories, line, fault.
 REFUSED_HISTORIES: List[Tuple[str, bytes, int, str]] = [
     ("histories_refused_and_checked_no_behaviours", text("history 1 t 0"), 1, "bad first line"),
-    ("histories_refused_and_checked_format_2", text("history 2 t 1;end none"), 1, "bad first line"),
+    ("histories_refused_and_checked_format_3", text("history 3 t 1;end none"), 1, "bad first line"),
+    ("two_history_formats_a_name_in_format_1",
+     text("history 1 a 1;0 create -> made 1;end none;history 1 b 1;0 create named pump -> made 1;end none"), 5, "bad entry"),
+    ("a_name_in_format_1_behind_format_2",
+     text("history 2 a 1;0 create named pump -> made 1;end none;history 1 b 1;0 create alive named pump -> made 1;end none"),
+     5, "bad entry"),
+    ("a_history_of_257", text("history 2 t 257;end none"), 1, "bad first line"),
+    ("a_history_of_none_in_format_2", text("history 2 t 0;end none"), 1, "bad first line"),
+    ("a_history_of_format_0", text("history 0 t 1;end none"), 1, "bad first line"),
+    ("a_history_of_format_02", text("history 02 t 1;end none"), 1, "bad first line"),
+    ("a_history_without_a_format", text("history t 1;end none"), 1, "bad first line"),
+    ("a_create_named_mtc_in_a_history", text("history 2 t 1;0 create named mtc -> made 1;end none"), 2, "bad entry"),
+    ("a_create_named_and_no_name_in_a_history", text("history 2 t 1;0 create named -> made 1;end none"), 2, "bad entry"),
     ("histories_refused_and_checked_made_01", text("history 1 t 1;0 create -> made 01;end none"), 2, "bad entry"),
     ("histories_refused_and_checked_cut", text("history 1 t 1;0 create -> made 1"), 3, "text ends too early"),
     ("histories_refused_and_checked_empty", b"", 1, "text ends too early"),
@@ -303,7 +333,7 @@ def csv_of_verdict(name: str, verdict: str) -> str:
 def history_of_verdict(name: str, verdict: str) -> str:
     """The history of such a test case."""
     calls = "0 start 0 0 -> error start-main" if verdict == "error" else f"0 setverdict {verdict} -> ok\n0 finish -> ok"
-    return f"history 1 {name} 1\n{calls}\nend {verdict}\n"
+    return f"history 2 {name} 1\n{calls}\nend {verdict}\n"
 
 
 def stopping_cases() -> Iterator[Case]:
@@ -342,7 +372,7 @@ def run_cases() -> Iterator[Case]:
                (CSV_HEADER + "a,1,0,1,0,0,0,pass\nb,1,0,0,0,1,0,fail\nc,1,0,1,0,0,0,pass\n").encode(), status=1)
     yield Case("not_met_by_a_better_verdict", ("run", "--csv", "--stop-on", "error"), three,
                (CSV_HEADER + "a,1,0,1,0,0,0,pass\nb,1,0,0,0,1,0,fail\nc,1,0,1,0,0,0,pass\n").encode(), status=1)
-    solo = text("history 1 solo 1;0 create -> made 1;0 setverdict pass -> ok;0 wait done 1 -> parked;"
+    solo = text("history 2 solo 1;0 create -> made 1;0 setverdict pass -> ok;0 wait done 1 -> parked;"
                 "0 wake done 1 -> error stuck;end error")
     yield Case("history_of_a_stuck_case", ("run", "--history"), text(SOLO), solo, status=2)
     yield Case("check_of_the_history_of_a_stuck_case", ("check",), solo, b"legal solo 4 error\n")

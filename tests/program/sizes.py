@@ -29,7 +29,7 @@ def longest_list() -> Tuple[bytes, bytes]:
 def longest_history() -> Tuple[bytes, bytes]:
     """A history text that has as many bytes as may be, and what is printed for it."""
     name, line, tail = b"t" * 21, b"0 getverdict -> none\n", b"end none\n"
-    head = b"history 1 " + name + b" 1\n"
+    head = b"history 2 " + name + b" 1\n"
     count, rest = divmod(MOST_BYTES_OF_A_HISTORY - len(head) - len(tail), len(line))
     assert rest == 0
     return head + line * count + tail, b"legal %s %d none\n" % (name, count)
@@ -124,7 +124,7 @@ def refused() -> Iterator[Case]:
     yield Case("no_thread", ("run",), ABORTED, first, line, status=3, limit="-v 40000")
     yield Case("no_thread_csv", ("run", "--csv"), ABORTED, PASSED, line, status=3, limit="-v 40000")
     yield Case("no_thread_history", ("run", "--history"), ABORTED, status=3, limit="-v 40000", errors=line,
-               output=text("history 1 t 1;0 setverdict pass -> ok;0 finish -> ok;end pass"))
+               output=text("history 2 t 1;0 setverdict pass -> ok;0 finish -> ok;end pass"))
     yield Case("no_thread_and_no_output", ("run",), ABORTED, errors=b"ttrun: write fault\n", status=3, limit="-v 40000",
                redirect=">/dev/full")
     yield Case("no_thread_untold", ("run",), ABORTED, first, status=3, limit="-v 40000", redirect="2>/dev/full")

@@ -10,7 +10,7 @@ FAULTS = (
     "no-component", "not-main", "start-main", "already-running",
     "not-startable", "no-behaviour", "too-many", "stuck",
 )
-MOST_BEHAVIOURS = 64
+MOST_BEHAVIOURS = 256
 MOST_COMPONENTS = 1000
 MOST_ARGUMENTS = 4
 
@@ -25,7 +25,9 @@ def worst(one: str, other: str) -> str:
 
 @dataclass(frozen=True)
 class Op:
-    """An operation. `target` is the component of a start, the group of a stop or kill, or what is asked or waited for."""
+    """An operation. `target` is the component of a start, the group of a stop or kill, or what is asked or waited for.
+
+    `name` is what a create calls the component, empty where it has no name: no reply goes by it."""
 
     verb: str
     target: Target = 0
@@ -34,12 +36,13 @@ class Op:
     args: Tuple[int, ...] = ()
     awaited: str = ""
     verdict: str = ""
+    name: str = ""
 
     def text(self) -> str:
         """The text of the move without its caller."""
         words: List[str] = [self.verb]
         if self.verb == "create":
-            words += ["alive"] * self.alive
+            words += ["alive"] * self.alive + ["named", self.name] * (self.name != "")
         elif self.verb == "start":
             words += [str(self.target), str(self.run), *map(str, self.args)]
         elif self.verb in ("wait", "wake"):

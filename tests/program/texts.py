@@ -15,11 +15,13 @@ NUMBER = "(?:0|[1-9][0-9]*)"
 NAME = "[A-Za-z][A-Za-z0-9_]{0,31}"
 NO_NAMES = ("all", "any", "mtc", "self")
 MOST_RUN = 65_535
+# The formats of a history, each with its most behaviours.
+FORMATS = {"1": 64, "2": MOST_BEHAVIOURS}
 MOST_COMPONENT = 4_294_967_295
 
 MOVE = re.compile(
     rf"(?P<caller>{NUMBER}) (?:"
-    rf"(?P<create>create)(?P<alive> alive)?"
+    rf"(?P<create>create)(?P<alive> alive)?(?: named (?P<name>{NAME}))?"
     rf"|(?P<start>start) (?P<on>{NUMBER}) (?P<run>{NUMBER})(?P<args>(?: {NUMBER}){{0,4}})"
     rf"|(?P<halt>stop|kill) (?P<group>{NUMBER}|all)"
     rf"|(?P<status>running|alive|done|killed) (?P<asked>{NUMBER}|any|all)"
@@ -72,7 +74,7 @@ def read_move(text: str) -> Optional[Tuple[int, Op]]:
         return None
     targets = [component_of(it) for it in (found["on"] or found["group"] or found["asked"] or found["target"] or "0",)]
     args = [component_of(it) for it in (found["args"] or "").split()]
-    if None in targets + args or int(found["run"] or 0) > MOST_RUN:
+    if None in targets + args or int(found["run"] or 0) > MOST_RUN or found["name"] in NO_NAMES:
         return None
     verb = next(found[it] for it in ("create", "start", "halt", "status", "wait", "set", "plain") if found[it])
     op = Op(
@@ -83,6 +85,7 @@ def read_move(text: str) -> Optional[Tuple[int, Op]]:
         args=tuple(args),
         awaited=found["awaited"] or "",
         verdict=found["verdict"] or "",
+        name=found["name"] or "",
     )
     return int(found["caller"]), op
 
@@ -139,6 +142,7 @@ class Entry:
 class Block:
     """The history of one test case, with the number of its last line."""
 
+    format: str
     name: str
     behaviours: int
     entries: List[Entry]
@@ -146,29 +150,31 @@ class Block:
     verdict: str
 
 
-def read_header(line: str) -> Optional[Tuple[str, int]]:
-    """The name and the number of behaviours in the first line of a block."""
+def read_header(line: str) -> Optional[Tuple[str, str, int]]:
+    """The format, the name and the number of behaviours in the first line of a block."""
     words = line.split(" ")
-    if len(words) != 4 or words[:2] != ["history", "1"] or not is_name(words[2]):
+    if len(words) != 4 or words[0] != "history" or words[1] not in FORMATS or not is_name(words[2]):
         return None
     behaviours = behaviours_of(words[3])
-    return None if behaviours is None else (words[2], behaviours)
+    if behaviours is None or behaviours > FORMATS[words[1]]:
+        return None
+    return words[1], words[2], behaviours
 
 
-def read_entry(line: int, text: str) -> Optional[Entry]:
-    """The entry that the text spells."""
+def read_entry(line: int, text: str, format_of_block: str) -> Optional[Entry]:
+    """The entry that the text spells in a block of this format."""
     move_text, arrow, reply = text.partition(" -> ")
     move = read_move(move_text)
     if not arrow or move is None or not is_reply(reply):
         return None
-    return Entry(line, *move, reply)
+    return None if move[1].name and format_of_block == "1" else Entry(line, *move, reply)
 
 
 def read_history(text: bytes) -> Tuple[List[Block], Optional[Judged]]:
     """The blocks of a history text, or the refusal of its first fault."""
     lines = lines_of(text)
     blocks: List[Block] = []
-    header: Optional[Tuple[str, int]] = None
+    header: Optional[Tuple[str, str, int]] = None
     entries: List[Entry] = []
     for number, line in enumerate(lines, 1):
         if header is None:
@@ -179,7 +185,7 @@ def read_history(text: bytes) -> Tuple[List[Block], Optional[Judged]]:
             blocks.append(Block(*header, entries, number, line[4:]))
             header = None
         else:
-            entry = read_entry(number, line)
+            entry = read_entry(number, line, header[0])
             if entry is None:
                 return [], refused(number, "bad entry")
             entries.append(entry)

@@ -42,7 +42,7 @@ fn put_case(out: &mut Vec<u8>, case: &Case, report: &Report) {
 
 /// The history of a case, as `run --history` writes it.
 fn put_history(out: &mut Vec<u8>, case: &Case, report: &Report) {
-    put(out, "history 1 ");
+    put(out, "history 2 ");
     put(out, case.name);
     put(out, " ");
     put_number(out, case.behaviours.len() as u32);

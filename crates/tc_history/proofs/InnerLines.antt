@@ -10,13 +10,16 @@ use Rattle.tc_entry.specs.declared.reply.Fault.{Fault}
 use Rattle.tc_entry.specs.declared.reply.Fault.TheVariants as F
 use Rattle.tc_entry.specs.declared.reply.Reply.{Reply}
 use Rattle.tc_entry.specs.declared.reply.Reply.TheVariants as R
+use Rattle.tc_text.specs.declared.short.ShortOp.{ShortOp}
+use Rattle.tc_text.specs.declared.short.ShortOp.TheVariants as H
+use Rattle.tc_text.specs.declared.verb.Status.TheVariants as S
 use Rattle.tc_text.specs.Lines.{lines_of}
-use Rattle.tc_text.specs.Reading.{EndsMove, EndsLine}
+use Rattle.tc_text.specs.Reading.{EndsMove, EndsLine, op_of}
 use Rattle.tc_text.specs.Spelling.{move_text, fault_name, reply_text, IsReply}
 use Rattle.tc_text.proofs.LinesOf.{NoLf, no_lf-append, line_ended, first_line, same_behind}
 use Rattle.tc_text.proofs.Plain.{number_plain, move_plain, some_move}
 use Rattle.tc_history.specs.Block.{entry_text, end_text, outcome_text}
-use Rattle.tc_history.specs.Text.{IsEntry}
+use Rattle.tc_history.specs.Text.{IsEntry, IsUnnamed}
 
 pub verdict_plain : (v : Verdict) → NoLf (name_of v)
 verdict_plain V.None = search rules
@@ -88,9 +91,9 @@ first_part : (xs ys : List ℕ) → xs ++ ys ≡ [] → xs ≡ []
 first_part [] ys e = refl
 first_part (x ∷ xs) ys e = absurd cc
 
-pub entry_spelled : (text r1 r2 r3 behind : List ℕ) (e : Entry) → text ≡ move_text e.caller.0 e.op ++ r1 → r1 ≡ codes " -> " ++ r2 → r2 ≡ reply_text e.reply ++ r3 → EndsLine r3 behind → IsEntry e →
+pub entry_spelled : (text r1 r2 r3 behind : List ℕ) (f : ℕ) (e : Entry) → text ≡ move_text e.caller.0 e.op ++ r1 → r1 ≡ codes " -> " ++ r2 → r2 ≡ reply_text e.reply ++ r3 → EndsLine r3 behind → IsEntry f e →
     lines_of text ≡ entry_text e ∷ lines_of behind
-entry_spelled text r1 r2 r3 behind e moved arrow replied ends fits =
+entry_spelled text r1 r2 r3 behind f e moved arrow replied ends fits =
     ap lines_of (moved ∙ (ap (λ l. move_text e.caller.0 e.op ++ l) (arrow ∙ ap (λ l. codes " -> " ++ l) replied) ∙ sym (entry_assoc e r3)))
     ∙ line_ended (entry_text e) r3 behind (λ none. some_move e.caller.0 e.op fits.caller (first_part (move_text e.caller.0 e.op) _ none))
     (no_lf-append (move_text e.caller.0 e.op) _ (move_plain e.caller.0 e.op fits.caller fits.op) (no_lf-append (codes " -> ") (reply_text e.reply) (search rules) (reply_plain e.reply fits.reply))) ends
@@ -152,8 +155,8 @@ pub record BeginsWithMove (text : List ℕ) (e : Entry) (others : List (List ℕ
   pub ends : EndsMove rest
   pub lines : lines_of rest ≡ outcome_text e.reply ∷ others
 
-pub begins_with_move : (text : List ℕ) (e : Entry) (others : List (List ℕ)) → IsEntry e → lines_of text ≡ entry_text e ∷ others → BeginsWithMove text e others
-begins_with_move text e others fits lines =
+pub begins_with_move : (text : List ℕ) (f : ℕ) (e : Entry) (others : List (List ℕ)) → IsEntry f e → lines_of text ≡ entry_text e ∷ others → BeginsWithMove text e others
+begins_with_move text f e others fits lines =
     let begins = begins_with_entry text e others lines in
     let behind = reply_text e.reply ++ begins.rest in
     record {
@@ -164,10 +167,10 @@ begins_with_move text e others fits lines =
     }
 
 -- a move, and the rest of its line
-pub entry_and_outcome : (text rest after : List ℕ) (e : Entry) → text ≡ move_text e.caller.0 e.op ++ rest → lines_of rest ≡ outcome_text e.reply ∷ lines_of after → IsEntry e → lines_of text ≡ entry_text e ∷ lines_of after
-entry_and_outcome text rest after e moved lines fits =
+pub entry_and_outcome : (text rest after : List ℕ) (f : ℕ) (e : Entry) → text ≡ move_text e.caller.0 e.op ++ rest → lines_of rest ≡ outcome_text e.reply ∷ lines_of after → IsEntry f e → lines_of text ≡ entry_text e ∷ lines_of after
+entry_and_outcome text rest after f e moved lines fits =
     let begins = begins_with_outcome rest e.reply (lines_of after) lines in
-    entry_spelled text rest (reply_text e.reply ++ begins.rest) begins.rest begins.behind e moved begins.parts refl begins.ends fits ∙ ap (λ l. entry_text e ∷ l) begins.lines
+    entry_spelled text rest (reply_text e.reply ++ begins.rest) begins.rest begins.behind f e moved begins.parts refl begins.ends fits ∙ ap (λ l. entry_text e ∷ l) begins.lines
 
 abbrev make : Run → Op → Reply → Entry
 make run op reply = record { caller = run; op = op; reply = reply }
@@ -181,3 +184,21 @@ same_entry run op reply e moved replied =
 pub same_parts : (run : Run) (op : Op) (reply : Reply) (e : Entry) → run.0 ≡ e.caller.0 → op ≡ e.op → reply ≡ e.reply → ◌≡◌ {A = Entry} (record { caller = run; op = op; reply = reply }) e
 same_parts run op reply e caller operation replied =
     ap (λ (n : ℕ). make (record { 0 = n }) op reply) caller ∙ ap (λ (x : Op). make e.caller x reply) operation ∙ ap (λ (x : Reply). make e.caller e.op x) replied
+
+-- a short operation gives no component a name
+pub short_unnamed : (s : ShortOp) → IsUnnamed (op_of s)
+short_unnamed (H.Create alive) = tt
+short_unnamed (H.Stop g) = tt
+short_unnamed (H.Kill g) = tt
+short_unnamed H.StopCase = tt
+short_unnamed (H.Status S.Running t) = tt
+short_unnamed (H.Status S.Alive t) = tt
+short_unnamed (H.Status S.Done t) = tt
+short_unnamed (H.Status S.Killed t) = tt
+short_unnamed (H.Status S.WaitDone t) = tt
+short_unnamed (H.Status S.WaitKilled t) = tt
+short_unnamed (H.Status S.WakeDone t) = tt
+short_unnamed (H.Status S.WakeKilled t) = tt
+short_unnamed (H.SetVerdict v) = tt
+short_unnamed H.GetVerdict = tt
+short_unnamed H.Finish = tt

@@ -1,8 +1,7 @@
 -- The lemmas of this crate.
 pub mod Blocks
-pub mod Cutting
+pub mod Headers
 pub mod InnerLines
-pub mod Names
 pub mod Prefixes
 pub mod Texts
 pub mod WrittenBlocks

@@ -15,32 +15,35 @@ use Rattle.tc_history.proofs.Blocks.{IsNoEntryLine, IsNoEndLine, IsThatHeader, I
 use Rattle.tc_history.proofs.Texts.{Read, none_read, one_read, all_read, all_only, first_fault, refused_only}
 
 -- a first line and some entries are read, and the value is what they make
-pub record IsOpenSoFar {O : Type 0} (opens : ℕ → Header → List Entry → O → Type 0) (text : List ℕ) (first_line : ℕ) (rest : List ℕ) (line : ℕ) (value : O) : Type 0 where
+pub record IsOpenSoFar {O : Type 0} (opens : ℕ → Header → List Entry → O → Type 0) (text : List ℕ) (first_line : ℕ) (rest : List ℕ) (line format : ℕ) (value : O) : Type 0 where
   pub header : Header
+  pub format_is : header.format ≡ format
   pub entries : List Entry
   pub read : SoFar text first_line header entries rest
   pub opened : opens first_line header entries value
   pub line_is : line ≡ first_line + length entries + 1
 
-pub open_none : {O : Type 0} (opens : ℕ → Header → List Entry → O → Type 0) (text : List ℕ) (first_line : ℕ) (rest : List ℕ) (value : O) (h : Header) → lines_of text ≡ header_text h ∷ lines_of rest → IsHeader h.name h.behaviours →
-    IsThatHeader text h rest → length rest < length text → ((line : ℕ) → opens line h [] value) → IsOpenSoFar opens text first_line rest (first_line + 1) value
+pub open_none : {O : Type 0} (opens : ℕ → Header → List Entry → O → Type 0) (text : List ℕ) (first_line : ℕ) (rest : List ℕ) (value : O) (h : Header) → lines_of text ≡ header_text h ∷ lines_of rest → IsHeader h →
+    IsThatHeader text h rest → length rest < length text → ((line : ℕ) → opens line h [] value) → IsOpenSoFar opens text first_line rest (first_line + 1) h.format value
 open_none opens text first_line rest value h lines header only less opened = record {
   header = h;
+  format_is = refl;
   entries = [];
   read = begins text rest first_line h [] lines header only less refl;
   opened = opened first_line;
   line_is = omega arith;
 }
 
-pub open_more : {O : Type 0} (opens : ℕ → Header → List Entry → O → Type 0) (text : List ℕ) (first_line : ℕ) (rest after : List ℕ) (line : ℕ) (value value' : O) (e : Entry) → IsOpenSoFar opens text first_line rest line value →
-    lines_of rest ≡ entry_text e ∷ lines_of after → IsEntry e → IsNoEndLine rest → IsThatEntry rest e after → length after < length rest →
-    ((first : ℕ) (h : Header) (entries : List Entry) → line ≡ first + length entries + 1 → opens first h entries value → opens first h (entries ++ e ∷ []) value') → IsOpenSoFar opens text first_line after (line + 1) value'
-open_more opens text first_line rest after line value value' e so spelled fits no_end only less takes =
+pub open_more : {O : Type 0} (opens : ℕ → Header → List Entry → O → Type 0) (text : List ℕ) (first_line : ℕ) (rest after : List ℕ) (line format : ℕ) (value value' : O) (e : Entry) → IsOpenSoFar opens text first_line rest line format value →
+    lines_of rest ≡ entry_text e ∷ lines_of after → IsEntry format e → IsNoEndLine rest → IsThatEntry format rest e after → length after < length rest →
+    ((first : ℕ) (h : Header) (entries : List Entry) → line ≡ first + length entries + 1 → opens first h entries value → opens first h (entries ++ e ∷ []) value') → IsOpenSoFar opens text first_line after (line + 1) format value'
+open_more opens text first_line rest after line format value value' e so spelled fits no_end only less takes =
     let longer : length (so.entries ++ e ∷ []) ≡ length so.entries + 1 = omega (arith, length-append so.entries (e ∷ [])) in
     record {
       header = so.header;
+      format_is = so.format_is;
       entries = so.entries ++ e ∷ [];
-      read = goes_on text first_line so.header so.entries (so.entries ++ e ∷ []) rest after e so.read spelled fits no_end only less refl longer;
+      read = goes_on text first_line so.header so.entries (so.entries ++ e ∷ []) rest after e so.read spelled (rw so.format_is fits) no_end (rw so.format_is only) less refl longer;
       opened = takes first_line so.header so.entries so.line_is so.opened;
       line_is = let here = so.line_is in omega (arith, here, longer);
     }
@@ -50,10 +53,10 @@ abbrev pub Closes : {O H : Type 0} → (ℕ → Header → List Entry → O → 
 Closes opens stands first_line line v value before after = (blocks : List Block) (b : Block) → first_line ≡ b.first_line → line ≡ b.first_line + length b.entries + 1 →
     v ≡ b.verdict → opens b.first_line (header_of b) b.entries value → stands blocks before → stands (blocks ++ b ∷ []) after
 
-pub is_taken : {O H : Type 0} (opens : ℕ → Header → List Entry → O → Type 0) (stands : List Block → H → Type 0) (text : List ℕ) (first_line : ℕ) (rest behind : List ℕ) (line : ℕ) (value : O) (before after : H) (v : Verdict) →
-    IsOpenSoFar opens text first_line rest line value → lines_of rest ≡ end_text v ∷ lines_of behind → length behind < length rest → IsThatEnd rest v behind →
+pub is_taken : {O H : Type 0} (opens : ℕ → Header → List Entry → O → Type 0) (stands : List Block → H → Type 0) (text : List ℕ) (first_line : ℕ) (rest behind : List ℕ) (line format : ℕ) (value : O) (before after : H) (v : Verdict) →
+    IsOpenSoFar opens text first_line rest line format value → lines_of rest ≡ end_text v ∷ lines_of behind → length behind < length rest → IsThatEnd rest v behind →
     Closes opens stands first_line line v value before after → IsTaken stands text first_line before after (line + 1) behind
-is_taken opens stands text first_line rest behind line value before after v so spelled less only closes = record {
+is_taken opens stands text first_line rest behind line format value before after v so spelled less only closes = record {
   block = block;
   fits = record { header = so.read.opens.header_is; entries = so.read.opens.right; first = refl };
   lines = ended_lines text block rest behind so.read.opens spelled;
@@ -64,22 +67,23 @@ is_taken opens stands text first_line rest behind line value before after v so s
 }
   where
     block : Block
-    block = record { name = so.header.name; behaviours = so.header.behaviours; first_line = first_line; entries = so.entries; verdict = v }
+    block = record { format = so.header.format; name = so.header.name; behaviours = so.header.behaviours; first_line = first_line; entries = so.entries; verdict = v }
 
-pub bad_line : {O : Type 0} (opens : ℕ → Header → List Entry → O → Type 0) (text : List ℕ) (first_line : ℕ) (rest : List ℕ) (line : ℕ) (value : O) → IsOpenSoFar opens text first_line rest line value → rest ≢ [] →
-    IsNoEntryLine rest → IsNoEndLine rest → IsBadInside text first_line line
-bad_line opens text first_line rest line value so some no_entry no_end = bad_inside text first_line line so.header so.entries rest some so.read.opens no_entry no_end so.line_is
+pub bad_line : {O : Type 0} (opens : ℕ → Header → List Entry → O → Type 0) (text : List ℕ) (first_line : ℕ) (rest : List ℕ) (line format : ℕ) (value : O) → IsOpenSoFar opens text first_line rest line format value → rest ≢ [] →
+    IsNoEntryLine format rest → IsNoEndLine rest → IsBadInside text first_line line
+bad_line opens text first_line rest line format value so some no_entry no_end =
+    bad_inside text first_line line so.header so.entries rest some so.read.opens (rw so.format_is no_entry) no_end so.line_is
 
-pub never_bad : {O : Type 0} (opens : ℕ → Header → List Entry → O → Type 0) (text : List ℕ) (first_line : ℕ) (rest : List ℕ) (line : ℕ) (value : O) → IsOpenSoFar opens text first_line rest line value → IsNoEntryLine rest → IsNoEndLine rest →
+pub never_bad : {O : Type 0} (opens : ℕ → Header → List Entry → O → Type 0) (text : List ℕ) (first_line : ℕ) (rest : List ℕ) (line format : ℕ) (value : O) → IsOpenSoFar opens text first_line rest line format value → IsNoEntryLine format rest → IsNoEndLine rest →
     (b : Block) (others : List (List ℕ)) → IsBlock first_line b → lines_of text ≡ block_lines b ++ others → ⊥
-never_bad opens text first_line rest line value so = never_inside text first_line so.header so.entries rest so.read
+never_bad opens text first_line rest line format value so no_entry = never_inside text first_line so.header so.entries rest so.read (rw so.format_is no_entry)
 
-pub cut_off : {O : Type 0} (opens : ℕ → Header → List Entry → O → Type 0) (text : List ℕ) (first_line : ℕ) (rest : List ℕ) (line : ℕ) (value : O) → IsOpenSoFar opens text first_line rest line value → rest ≡ [] → IsCutInside text first_line line
-cut_off opens text first_line rest line value so nothing = cut_inside text first_line line so.header so.entries rest so.read.opens nothing so.line_is
+pub cut_off : {O : Type 0} (opens : ℕ → Header → List Entry → O → Type 0) (text : List ℕ) (first_line : ℕ) (rest : List ℕ) (line format : ℕ) (value : O) → IsOpenSoFar opens text first_line rest line format value → rest ≡ [] → IsCutInside text first_line line
+cut_off opens text first_line rest line format value so nothing = cut_inside text first_line line so.header so.entries rest so.read.opens nothing so.line_is
 
-pub never_cut_off : {O : Type 0} (opens : ℕ → Header → List Entry → O → Type 0) (text : List ℕ) (first_line : ℕ) (rest : List ℕ) (line : ℕ) (value : O) → IsOpenSoFar opens text first_line rest line value → rest ≡ [] →
+pub never_cut_off : {O : Type 0} (opens : ℕ → Header → List Entry → O → Type 0) (text : List ℕ) (first_line : ℕ) (rest : List ℕ) (line format : ℕ) (value : O) → IsOpenSoFar opens text first_line rest line format value → rest ≡ [] →
     (b : Block) (others : List (List ℕ)) → IsBlock first_line b → lines_of text ≡ block_lines b ++ others → ⊥
-never_cut_off opens text first_line rest line value so = never_cut text first_line so.header so.entries rest so.read
+never_cut_off opens text first_line rest line format value so = never_cut text first_line so.header so.entries rest so.read
 
 -- ---- one block after the other
 

@@ -1,41 +1,24 @@
 -- Blocks that are written are read again.
-use Rattle.std.proofs.Common.{ℕ, ◌≡◌, ◌∙◌, ◌==◌, ◌+◌, true, false, IsTrue, All, List, [], ◌∷◌, ◌++◌, codes, length, map, refl, ap, sym, append_assoc, arith, rules}
-use Rattle.std.specs.Fmt.{decimal}
+use Rattle.std.proofs.Common.{ℕ, ◌≡◌, ◌∙◌, ◌+◌, List, [], ◌∷◌, ◌++◌, codes, length, map, refl, ap, sym, append_assoc, rules}
 use Rattle.std.specs.List.{flat_map, AllByRecursion}
-use Rattle.std.proofs.lemmas.Bool.Decides.{nat_tests}
-use Rattle.std.proofs.lemmas.List.Elements.{All-head, All-tail}
 use Rattle.tc_verdict.specs.declared.verdict.Verdict.{Verdict}
 use Rattle.tc_verdict.specs.Verdict.{name_of}
-use Rattle.tc_entry.specs.Name.{is_name_byte}
 use Rattle.tc_entry.specs.declared.entry.Entry.{Entry}
 use Rattle.tc_text.specs.Lines.{lines_of}
 use Rattle.tc_text.specs.Spelling.{move_text, reply_text}
 use Rattle.tc_text.proofs.LinesOf.{NoLf, ended_lines, no_lf-append, lines-ended_lines}
-use Rattle.tc_text.proofs.Plain.{number_plain, move_plain}
-use Rattle.tc_history.specs.declared.header.Header.{Header}
+use Rattle.tc_text.proofs.Plain.{move_plain}
 use Rattle.tc_history.specs.declared.read.Block.{Block}
 use Rattle.tc_history.specs.Block.{header_text, entry_text, end_text, entry_line}
 use Rattle.tc_history.specs.Text.{IsEntry, AreEntries, IsHeader, AreBlocks, header_of, block_lines, all_lines}
 use Rattle.tc_history.specs.Written.{text_of_block, text_of_blocks, WrittenIsRead}
+use Rattle.tc_history.proofs.Headers.{header_plain}
 use Rattle.tc_history.proofs.InnerLines.{verdict_plain, reply_plain}
 
 -- ---- no line of a block has an LF
 
-name_byte_plain : (b : ℕ) → is_name_byte b ≡ true → (b == 10) ≡ false
-name_byte_plain b allowed = grind (arith, nat_tests)
-
-name_plain : (bs : List ℕ) → All (λ b. IsTrue (is_name_byte b)) bs → NoLf bs
-name_plain [] all = tt
-name_plain (b ∷ bs) all = (name_byte_plain b (All-head (λ x. IsTrue (is_name_byte x)) b bs all), name_plain bs (All-tail (λ x. IsTrue (is_name_byte x)) b bs all))
-
-header_plain : (h : Header) → IsHeader h.name h.behaviours → NoLf (header_text h)
-header_plain h header =
-    let most = header.few.1 in
-    no_lf-append (codes "history 1 ") _ (search rules)
-    (no_lf-append h.name (codes " " ++ decimal h.behaviours) (name_plain h.name header.name_is.allowed) (refl, number_plain h.behaviours (omega (arith, most))))
-
-entry_plain : (e : Entry) → IsEntry e → NoLf (entry_text e)
-entry_plain e fits =
+entry_plain : (f : ℕ) (e : Entry) → IsEntry f e → NoLf (entry_text e)
+entry_plain f e fits =
     no_lf-append (move_text e.caller.0 e.op) _ (move_plain e.caller.0 e.op fits.caller fits.op)
     (no_lf-append (codes " -> ") (reply_text e.reply) (search rules) (reply_plain e.reply fits.reply))
 
@@ -46,13 +29,13 @@ all_plain-append : (xs ys : List (List ℕ)) → AllByRecursion NoLf xs → AllB
 all_plain-append [] ys plain others = others
 all_plain-append (x ∷ xs) ys plain others = (plain.0, all_plain-append xs ys plain.1 others)
 
-entries_plain : (es : List Entry) → AreEntries es → AllByRecursion NoLf (map entry_text es)
-entries_plain [] fits = tt
-entries_plain (e ∷ es) fits = (entry_plain e fits.0, entries_plain es fits.1)
+entries_plain : (f : ℕ) (es : List Entry) → AreEntries f es → AllByRecursion NoLf (map entry_text es)
+entries_plain f [] fits = tt
+entries_plain f (e ∷ es) fits = (entry_plain f e fits.0, entries_plain f es fits.1)
 
-block_plain : (b : Block) → IsHeader b.name b.behaviours → AreEntries b.entries → AllByRecursion NoLf (block_lines b)
+block_plain : (b : Block) → IsHeader (header_of b) → AreEntries b.format b.entries → AllByRecursion NoLf (block_lines b)
 block_plain b header entries =
-    (header_plain (header_of b) header, all_plain-append (map entry_text b.entries) (end_text b.verdict ∷ []) (entries_plain b.entries entries) (end_plain b.verdict, tt))
+    (header_plain (header_of b) header, all_plain-append (map entry_text b.entries) (end_text b.verdict ∷ []) (entries_plain b.format b.entries entries) (end_plain b.verdict, tt))
 
 blocks_plain : (line : ℕ) (bs : List Block) → AreBlocks line bs → AllByRecursion NoLf (all_lines bs)
 blocks_plain line [] are = tt

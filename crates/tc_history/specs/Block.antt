@@ -1,5 +1,5 @@
 -- The text of a test case's history; it is this project's own.
-use Rattle.std.specs.Prelude.{ℕ, List, [], ◌∷◌, ◌++◌, codes}
+use Rattle.std.specs.Prelude.{ℕ, ◌==◌, if◌then◌else◌, List, [], ◌∷◌, ◌++◌, codes}
 use Rattle.std.specs.List.{flat_map}
 use Rattle.std.specs.Fmt.{decimal}
 use Rattle.tc_verdict.specs.declared.verdict.Verdict.{Verdict}
@@ -9,9 +9,13 @@ use Rattle.tc_entry.specs.declared.reply.Reply.{Reply}
 use Rattle.tc_text.specs.Spelling.{move_text, reply_text}
 use Rattle.tc_history.specs.declared.header.Header.{Header}
 
--- the first line, without its LF: the name of the case, and how many behaviours it has
+-- the words of a first line, which say its format: 1 or 2
+abbrev pub format_text : ℕ → List ℕ
+format_text f = if f == 1 then codes "history 1 " else codes "history 2 "
+
+-- the first line, without its LF: the format, the name of the case, and how many behaviours it has
 abbrev pub header_text : Header → List ℕ
-header_text h = codes "history 1 " ++ (h.name ++ (codes " " ++ decimal h.behaviours))
+header_text h = format_text h.format ++ (h.name ++ (codes " " ++ decimal h.behaviours))
 
 -- what stands behind the move of an entry
 abbrev pub outcome_text : Reply → List ℕ
@@ -30,5 +34,5 @@ abbrev pub entry_line : Entry → List ℕ
 entry_line e = entry_text e ++ (10 ∷ [])
 
 -- a first line, a line for each entry, and a last line
-abbrev pub block_text : List ℕ → ℕ → List Entry → Verdict → List ℕ
-block_text name n entries v = header_text (record { name = name; behaviours = n }) ++ (10 ∷ (flat_map entry_line entries ++ (end_text v ++ (10 ∷ []))))
+abbrev pub block_text : ℕ → List ℕ → ℕ → List Entry → Verdict → List ℕ
+block_text f name n entries v = header_text (record { format = f; name = name; behaviours = n }) ++ (10 ∷ (flat_map entry_line entries ++ (end_text v ++ (10 ∷ []))))

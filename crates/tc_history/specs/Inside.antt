@@ -1,5 +1,5 @@
 -- What only the reader of one block says: no public clause names a word of this file.
-use Rattle.std.specs.Prelude.{ℕ, ◌≡◌, ◌≢◌, ◌==◌, ◌+◌, ◌≤◌, false, List, [], ◌∷◌, ◌++◌, length}
+use Rattle.std.specs.Prelude.{ℕ, ◌≡◌, ◌≢◌, ◌+◌, ◌≤◌, ◌⊎◌, List, [], ◌∷◌, ◌++◌, length}
 use Rattle.tc_verdict.specs.declared.verdict.Verdict.{Verdict}
 use Rattle.tc_entry.specs.declared.entry.Entry.{Entry}
 use Rattle.tc_text.specs.declared.fault.TextFault.{TextFault}
@@ -11,10 +11,9 @@ use Rattle.tc_history.specs.declared.read.Block.{Block}
 use Rattle.tc_history.specs.Block.{header_text, entry_text, end_text}
 use Rattle.tc_history.specs.Text.{IsBlock, IsEntry, AreEntries, IsHeader, open_lines, block_lines}
 
--- no byte of the text is this one
-abbrev pub Without : ℕ → List ℕ → Type 0
-Without byte [] = Unit {0}
-Without byte (b ∷ bs) = ((b == byte) ≡ false) × Without byte bs
+-- a format of histories
+abbrev pub IsSomeFormat : ℕ → Type 0
+IsSomeFormat f = (f ≡ 1) ⊎ (f ≡ 2)
 
 -- the text begins with a block whose first line has this number, with it the value before becomes the one after, and the rest begins with the next line
 pub record IsTaken {H : Type 0} (stands : List Block → H → Type 0) (text : List ℕ) (first_line : ℕ) (before after : H) (next : ℕ) (rest : List ℕ) : Type 0 where
@@ -29,12 +28,12 @@ pub record IsTaken {H : Type 0} (stands : List Block → H → Type 0) (text : L
 
 -- the line is no first line of a block
 abbrev pub IsNoHeader : List ℕ → Type 0
-IsNoHeader line = (h : Header) → IsHeader h.name h.behaviours → line ≢ header_text h
+IsNoHeader line = (h : Header) → IsHeader h → line ≢ header_text h
 
 -- a first line and entries, and then these lines
 pub record Opens (text : List ℕ) (h : Header) (entries : List Entry) (others : List (List ℕ)) : Type 0 where
-  pub header_is : IsHeader h.name h.behaviours
-  pub right : AreEntries entries
+  pub header_is : IsHeader h
+  pub right : AreEntries h.format entries
   pub lines : lines_of text ≡ open_lines h entries ++ others
 
 -- the first line of the text is no first line of a block
@@ -52,7 +51,7 @@ pub record IsBadInside (text : List ℕ) (first_line line : ℕ) : Type 0 where
   pub others : List (List ℕ)
   pub opens : Opens text header entries (bad_line ∷ others)
   pub number : line ≡ first_line + length entries + 1
-  pub no_entry : (e : Entry) → IsEntry e → bad_line ≢ entry_text e
+  pub no_entry : (e : Entry) → IsEntry header.format e → bad_line ≢ entry_text e
   pub no_end : (v : Verdict) → bad_line ≢ end_text v
 
 -- a first line and some entries, and nothing more

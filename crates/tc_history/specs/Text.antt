@@ -1,8 +1,10 @@
 -- Histories as texts, and what is wrong with other texts.
-use Rattle.std.specs.Prelude.{ℕ, ◌≡◌, ◌≢◌, ◌<◌, ◌+◌, ◌^◌, ◌⊎◌, List, [], ◌∷◌, ◌++◌, length, map}
+use Rattle.std.specs.Prelude.{ℕ, ◌≡◌, ◌≢◌, ◌<◌, ◌≤◌, ◌+◌, ◌^◌, ◌⊎◌, Some, List, [], ◌∷◌, ◌++◌, length, map}
 use Rattle.tc_verdict.specs.declared.verdict.Verdict.{Verdict}
 use Rattle.tc_entry.specs.Name.{IsName}
 use Rattle.tc_entry.specs.declared.entry.Entry.{Entry}
+use Rattle.tc_entry.specs.declared.op.Op.{Op}
+use Rattle.tc_entry.specs.declared.op.Op.TheVariants as O
 use Rattle.tc_text.specs.declared.fault.TextFault.{TextFault}
 use Rattle.tc_text.specs.declared.fault.TextFault.TheVariants as F
 use Rattle.tc_text.specs.declared.fault.TextKind.{TextKind}
@@ -16,18 +18,24 @@ use Rattle.tc_history.specs.Block.{header_text, entry_text, end_text}
 
 -- what the first line of a block says
 abbrev pub header_of : Block → Header
-header_of b = record { name = b.name; behaviours = b.behaviours }
+header_of b = record { format = b.format; name = b.name; behaviours = b.behaviours }
 
--- an entry whose numbers are those of their types
-pub record IsEntry (e : Entry) : Type 0 where
+-- the operation gives no component a name
+abbrev pub IsUnnamed : Op → Type 0
+IsUnnamed (O.Create alive (Some name)) = ⊥
+IsUnnamed _ = Unit {0}
+
+-- an entry of a block of this format: its numbers are those of their types, and format 1 has no names of components
+pub record IsEntry (f : ℕ) (e : Entry) : Type 0 where
   pub caller : e.caller.0 < 2 ^ 16
   pub op : IsOp e.op
   pub reply : IsReply e.reply
+  pub names : f ≡ 1 → IsUnnamed e.op
 
--- entries whose numbers are those of their types
-abbrev pub AreEntries : List Entry → Type 0
-AreEntries [] = Unit {0}
-AreEntries (e ∷ es) = IsEntry e × AreEntries es
+-- entries of a block of this format
+abbrev pub AreEntries : ℕ → List Entry → Type 0
+AreEntries f [] = Unit {0}
+AreEntries f (e ∷ es) = IsEntry f e × AreEntries f es
 
 -- a first line and entries, which no line ends yet
 abbrev pub open_lines : Header → List Entry → List (List ℕ)
@@ -42,15 +50,20 @@ abbrev pub all_lines : List Block → List (List ℕ)
 all_lines [] = []
 all_lines (b ∷ bs) = block_lines b ++ all_lines bs
 
--- a name, and a number of behaviours that a case may have
-pub record IsHeader (name : List ℕ) (n : ℕ) : Type 0 where
-  pub name_is : IsName name
-  pub few : IsBehaviours n
+-- a format that a block of so many behaviours may have: format 1 has at most 64 of them
+abbrev pub IsFormat : ℕ → ℕ → Type 0
+IsFormat f n = ((f ≡ 1) × (n ≤ 64)) ⊎ (f ≡ 2)
+
+-- a name, a number of behaviours that a case may have, and a format for it
+pub record IsHeader (h : Header) : Type 0 where
+  pub name_is : IsName h.name
+  pub few : IsBehaviours h.behaviours
+  pub format : IsFormat h.format h.behaviours
 
 -- a block whose first line is the line of this number
 pub record IsBlock (line : ℕ) (b : Block) : Type 0 where
-  pub header : IsHeader b.name b.behaviours
-  pub entries : AreEntries b.entries
+  pub header : IsHeader (header_of b)
+  pub entries : AreEntries b.format b.entries
   pub first : b.first_line ≡ line
 
 -- blocks whose first one begins in the line of this number
@@ -78,7 +91,7 @@ pub record IsBadHeader (text : List ℕ) (line : ℕ) : Type 0 where
   pub fits : AreBlocks 1 blocks
   pub lines : lines_of text ≡ all_lines blocks ++ bad_line ∷ others
   pub number : line ≡ length (all_lines blocks) + 1
-  pub bad : (h : Header) → IsHeader h.name h.behaviours → bad_line ≢ header_text h
+  pub bad : (h : Header) → IsHeader h → bad_line ≢ header_text h
 
 -- some blocks, a first line and some entries, and then, in the line of this number, neither an entry nor the end of the block
 pub record IsBadEntry (text : List ℕ) (line : ℕ) : Type 0 where
@@ -88,11 +101,11 @@ pub record IsBadEntry (text : List ℕ) (line : ℕ) : Type 0 where
   pub bad_line : List ℕ
   pub others : List (List ℕ)
   pub fits : AreBlocks 1 blocks
-  pub header_is : IsHeader header.name header.behaviours
-  pub right : AreEntries entries
+  pub header_is : IsHeader header
+  pub right : AreEntries header.format entries
   pub lines : lines_of text ≡ all_lines blocks ++ (open_lines header entries ++ bad_line ∷ others)
   pub number : line ≡ length (all_lines blocks) + (length entries + 2)
-  pub no_entry : (e : Entry) → IsEntry e → bad_line ≢ entry_text e
+  pub no_entry : (e : Entry) → IsEntry header.format e → bad_line ≢ entry_text e
   pub no_end : (v : Verdict) → bad_line ≢ end_text v
 
 -- some blocks, a first line and some entries, and nothing more
@@ -101,8 +114,8 @@ pub record IsOpen (text : List ℕ) : Type 0 where
   pub header : Header
   pub entries : List Entry
   pub fits : AreBlocks 1 blocks
-  pub header_is : IsHeader header.name header.behaviours
-  pub right : AreEntries entries
+  pub header_is : IsHeader header
+  pub right : AreEntries header.format entries
   pub lines : lines_of text ≡ all_lines blocks ++ open_lines header entries
 
 -- the first fault of the text is of this kind and in this line

@@ -5,9 +5,9 @@ use Rattle.tc_history.specs.declared.read.Block.{Block}
 use Rattle.tc_history.specs.Block.{block_text}
 use Rattle.tc_history.specs.Text.{AreBlocks, AreHistories}
 
--- the text of a block
+-- the text of a block, in its own format
 abbrev pub text_of_block : Block → List ℕ
-text_of_block b = block_text b.name b.behaviours b.entries b.verdict
+text_of_block b = block_text b.format b.name b.behaviours b.entries b.verdict
 
 -- the texts of blocks, one after the other
 abbrev pub text_of_blocks : List Block → List ℕ

@@ -8,12 +8,12 @@ use tc_entry::{Entry, Name, NoMemory, Verdict};
 use tc_text::{append_number, append_text, write_move, write_reply};
 use tc_verdict::name as name_of;
 
-// Appends the first line; where memory is refused, a part of it.
+// Appends the first line, in format 2; where memory is refused, a part of it.
 fn append_header(out: &mut Vec<u8>, name: &Name, behaviours: u16) -> Result<(), NoMemory>
-    ensures ok { OnOk result (out.new.items ≡ out.old.items ++ (header_text (record { name = name.now; behaviours = behaviours }) ++ (10 ∷ []))) }
+    ensures ok { OnOk result (out.new.items ≡ out.old.items ++ (header_text (record { format = 2; name = name.now; behaviours = behaviours }) ++ (10 ∷ []))) }
     ensures err { OnErr result (StartsWith out.new.items out.old.items) }
 {
-    append_text(out, "history 1 ")?;
+    append_text(out, "history 2 ")?;
     out.extend_from_slice(name.bytes())?;
     append_text(out, " ")?;
     append_number(out, u64::from(behaviours))?;
@@ -55,8 +55,8 @@ fn append_end(out: &mut Vec<u8>, verdict: Verdict) -> Result<(), NoMemory>
     Ok(())
 }
 
-/// Appends the history of a test case: its name, the number of its behaviours, its entries and its overall verdict.
-/// Where memory is refused, nothing is appended.
+/// Appends the history of a test case, in format 2: its name, the number of its behaviours, its entries and its overall
+/// verdict. Where memory is refused, nothing is appended.
 pub fn write_block(
     out: &mut Vec<u8>,
     name: &Name,
@@ -64,7 +64,7 @@ pub fn write_block(
     entries: &[Entry],
     verdict: Verdict,
 ) -> Result<(), NoMemory>
-    ensures ok { OnOk result (out.new.items ≡ out.old.items ++ block_text name.now behaviours entries.now verdict) }
+    ensures ok { OnOk result (out.new.items ≡ out.old.items ++ block_text 2 name.now behaviours entries.now verdict) }
     ensures err { OnErr result (out.new.items ≡ out.old.items) }
 {
     let start = out.len();

@@ -1,9 +1,11 @@
 //! Laws of histories and their texts: each function changes nothing, and its contract is the law.
+ghost use Rattle.std.specs.Prelude.{IfSome};
+ghost use Rattle.tc_entry.specs.Name.{IsName};
 ghost use Rattle.tc_text.specs.Spelling.{AreComps, IsComp, IsGroup, IsOp, IsReply, IsTarget};
 ghost use Rattle.tc_history.specs.Text.{AreEntries, IsEntry};
 ghost use Rattle.tc_history.specs.Written as laws;
 
-use tc_entry::{Comp, Entry, Group, Op, Reply, Target};
+use tc_entry::{Comp, Entry, Group, Name, Op, Reply, Target};
 
 /// What is written of blocks is read as these blocks.
 #[tactic(auto, using(crate::proofs::WrittenBlocks::written_histories))]
@@ -42,6 +44,14 @@ fn target_fits(target: &Target)
     }
 }
 
+fn name_fits(name: &Option<Name>)
+    ensures { IfSome name.now IsName }
+{
+    if let Some(name) = name {
+        let _bytes = name.bytes();
+    }
+}
+
 fn op_fits(op: &Op)
     ensures { IsOp op.now }
 {
@@ -56,7 +66,8 @@ fn op_fits(op: &Op)
             target_fits(target)
         }
         Op::Wait { target, .. } | Op::Wake { target, .. } => target_fits(target),
-        Op::Create { .. } | Op::StopCase | Op::SetVerdict(_) | Op::GetVerdict | Op::Finish => (),
+        Op::Create { name, .. } => name_fits(name),
+        Op::StopCase | Op::SetVerdict(_) | Op::GetVerdict | Op::Finish => (),
     }
 }
 
@@ -69,16 +80,16 @@ fn reply_fits(reply: &Reply)
 }
 
 fn entry_fits(entry: &Entry)
-    ensures { IsEntry entry.now }
+    ensures { IsEntry 2 entry.now }
 {
     let _number = entry.caller.0;
     op_fits(&entry.op);
     reply_fits(&entry.reply);
 }
 
-/// The numbers of entries are those of their types.
+/// The numbers of entries are those of their types, and so they are entries of format 2.
 pub fn entries_fit(entries: &[Entry])
-    ensures { AreEntries entries.now }
+    ensures { AreEntries 2 entries.now }
 {
     let mut rest = entries;
     while let Some((entry, others)) = rest.split_first() {

@@ -2,14 +2,13 @@
 #![tactic(auto)]
 
 mod block;
-mod cut;
 mod header;
 pub mod laws;
 mod line;
 mod read;
 
 pub use block::write_block;
-pub use header::Header;
+pub use header::{FORMAT_1_BEHAVIOURS, Header};
 pub use read::{BegunBlock, Block, TakesHistories, read_history, read_history_into};
 
 #[cfg(test)]

@@ -1,16 +1,16 @@
 //! The lines inside a block.
-ghost use Rattle.std.specs.Prelude.{◌≡◌, ◌<◌, ◌∷◌, ℕ, List, length, IfSome};
+ghost use Rattle.std.specs.Prelude.{◌≡◌, ◌<◌, ◌↔◌, ◌∷◌, ℕ, List, length, IfSome, IsTrue};
 ghost use Rattle.tc_verdict.specs.declared.verdict.Verdict.{Verdict as AnyVerdict};
 ghost use Rattle.tc_entry.specs.declared.entry.Entry.{Entry as AnyEntry};
 ghost use Rattle.tc_entry.specs.declared.reply.Reply.{Reply as AnyReply};
 ghost use Rattle.tc_text.specs.Lines.{lines_of};
 ghost use Rattle.tc_text.specs.Inside.{TakesLine};
-ghost use Rattle.tc_text.specs.Spelling.{IsReply, IsStart};
+ghost use Rattle.tc_text.specs.Spelling.{IsLong, IsReply};
 ghost use Rattle.tc_history.specs.Block.{end_text, entry_text, outcome_text};
-ghost use Rattle.tc_history.specs.Text.{IsEntry};
+ghost use Rattle.tc_history.specs.Text.{IsEntry, IsUnnamed};
 
-use tc_entry::{Entry, Reply, Verdict};
-use tc_text::{after, take_line_end, take_reply, take_short_move, take_start_move, take_verdict};
+use tc_entry::{Entry, Op, Reply, Verdict};
+use tc_text::{after, take_line_end, take_long_move, take_reply, take_short_move, take_verdict};
 
 /// The overall verdict, where the first line is the last one of a block, and what stands behind that line.
 #[inline(always)]
@@ -40,31 +40,44 @@ fn take_outcome(text: &[u8]) -> Option<(Reply, &[u8])>
     Some((reply, rest))
 }
 
-// The entry of a Start that the first line spells, and what stands behind that line.
+// Whether an entry of a block of this format may have the operation.
+fn may_have(format: u16, op: &Op) -> bool
+    ensures { IsTrue result ↔ (format ≡ 1 → IsUnnamed op.now) }
+{
+    match op {
+        Op::Create { name: Some(_), .. } => format != 1,
+        _ => true,
+    }
+}
+
+// The entry with a long operation that the first line spells, and what stands behind that line.
 #[inline(never)]
-fn take_start_line(text: &[u8]) -> Option<(Entry, &[u8])>
+fn take_long_line(format: u16, text: &[u8]) -> Option<(Entry, &[u8])>
     ensures spelled { IfSome result (λ r. lines_of text.now ≡ entry_text r.0 ∷ lines_of r.1.now) }
-    ensures fits { IfSome result (λ r. IsEntry r.0) }
+    ensures fits { IfSome result (λ r. IsEntry format r.0) }
     ensures less { IfSome result (λ r. length r.1.now < length text.now) }
-    ensures only { (e : AnyEntry) (others : List (List ℕ)) → IsStart e.op → IsEntry e → lines_of text.now ≡ entry_text e ∷ others
+    ensures only { (e : AnyEntry) (others : List (List ℕ)) → IsLong e.op → IsEntry format e → lines_of text.now ≡ entry_text e ∷ others
         → TakesLine result e others }
 {
-    let ((caller, op), rest) = take_start_move(text)?;
+    let ((caller, op), rest) = take_long_move(text)?;
+    if !may_have(format, &op) {
+        return None;
+    }
     let (reply, rest) = take_outcome(rest)?;
     Some((Entry { caller, op, reply }, rest))
 }
 
-/// The entry that the first line spells, and what stands behind that line.
+/// The entry of a block of this format that the first line spells, and what stands behind that line.
 #[inline(never)]
-pub fn take_entry_line(text: &[u8]) -> Option<(Entry, &[u8])>
+pub fn take_entry_line(format: u16, text: &[u8]) -> Option<(Entry, &[u8])>
     ensures spelled { IfSome result (λ r. lines_of text.now ≡ entry_text r.0 ∷ lines_of r.1.now) }
-    ensures fits { IfSome result (λ r. IsEntry r.0) }
+    ensures fits { IfSome result (λ r. IsEntry format r.0) }
     ensures less { IfSome result (λ r. length r.1.now < length text.now) }
-    ensures only { (e : AnyEntry) (others : List (List ℕ)) → IsEntry e → lines_of text.now ≡ entry_text e ∷ others
+    ensures only { (e : AnyEntry) (others : List (List ℕ)) → IsEntry format e → lines_of text.now ≡ entry_text e ∷ others
         → TakesLine result e others }
 {
     let Some(((caller, short), rest)) = take_short_move(text) else {
-        return take_start_line(text);
+        return take_long_line(format, text);
     };
     let (reply, rest) = take_outcome(rest)?;
     let entry = Entry {

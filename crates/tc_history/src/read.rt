@@ -16,6 +16,8 @@ use tc_text::{TextFault, TextKind};
 /// The history of a test case, as a text gave it.
 #[derive(Drop)]
 pub struct Block {
+    /// The format of the block.
+    pub format: u16,
     /// The name of the test case.
     pub name: Name,
     /// How many behaviours it had.
@@ -44,7 +46,7 @@ pub trait TakesHistories: Sized {
 
     /// What a first line makes.
     fn start(alloc: Global, header: Header) -> Result<Self::Begun, NoMemory>
-        requires { IsHeader header.name header.behaviours }
+        requires { IsHeader header }
         ensures { IfOk result (λ begun. (first_line : ℕ) → opens first_line header [] begun) };
 
     /// Takes the next entry of the history, which stands in this line.
@@ -104,6 +106,7 @@ impl TakesHistories for Vec<Block> {
     ) -> Result<(), NoMemory> {
         let BegunBlock { header, entries } = begun;
         let block = Block {
+            format: header.format,
             name: header.name,
             behaviours: header.behaviours,
             first_line,
@@ -132,6 +135,7 @@ fn take_block<'a, H: TakesHistories>(
     let Some((header, mut rest)) = take_header_line(text) else {
         return Err(TextFault::at(first_line, TextKind::FirstLine));
     };
+    let format = header.format;
     let mut begun = H::start(alloc, header)?;
     let mut line = first_line + 1;
     while !rest.is_empty() {
@@ -139,7 +143,7 @@ fn take_block<'a, H: TakesHistories>(
             made.close(begun, first_line, line, verdict)?;
             return Ok((line + 1, behind));
         }
-        let Some((entry, behind)) = take_entry_line(rest) else {
+        let Some((entry, behind)) = take_entry_line(format, rest) else {
             return Err(TextFault::at(line, TextKind::Entry));
         };
         H::take(&mut begun, line, entry)?;

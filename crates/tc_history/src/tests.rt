@@ -19,11 +19,24 @@ fn entry(op: Op, reply: Reply) -> Entry {
     }
 }
 
+/// A Create without a name.
+fn create(alive: bool) -> Op {
+    Op::Create { alive, name: None }
+}
+
+/// A Create with the name, where the text is one.
+fn named(alive: bool, name: &str) -> Op {
+    Op::Create {
+        alive,
+        name: Name::read(name),
+    }
+}
+
 #[test]
 fn history_of_a_stuck_case(rt: HostRuntime) -> Result<(), Fail> {
     let target = Target::One(Comp(1));
     let entries = [
-        entry(Op::Create { alive: false }, Reply::Made(Comp(1))),
+        entry(create(false), Reply::Made(Comp(1))),
         entry(Op::SetVerdict(UserVerdict::Pass), Reply::Ok),
         entry(
             Op::Wait {
@@ -45,7 +58,7 @@ fn history_of_a_stuck_case(rt: HostRuntime) -> Result<(), Fail> {
     write_block(&mut out, &name, 1, &entries, Verdict::Error)?;
     assert_eq!(rt;
         out.as_slice(),
-        b"history 1 solo 1\n0 create -> made 1\n0 setverdict pass -> ok\n0 wait done 1 -> parked\n0 wake done 1 -> error stuck\nend error\n".as_slice()
+        b"history 2 solo 1\n0 create -> made 1\n0 setverdict pass -> ok\n0 wait done 1 -> parked\n0 wake done 1 -> error stuck\nend error\n".as_slice()
     );
     Ok(())
 }
@@ -70,6 +83,7 @@ end error";
     assert_eq!(rt; blocks.len(), 2);
     let first = blocks.first().ok_or("a block")?;
     assert_eq!(rt; first.name.bytes(), b"t".as_slice());
+    assert_eq!(rt; first.format, 1);
     assert_eq!(rt; first.behaviours, 1);
     assert_eq!(rt; first.first_line, 1);
     assert_eq!(rt; first.entries.as_slice().len(), 4);
@@ -98,7 +112,11 @@ fn histories_are_refused(rt: HostRuntime) {
     for header in [
         "history 1 t 0\n",
         "history 1 t 65\n",
-        "history 2 t 1\nend none\n",
+        "history 2 t 0\n",
+        "history 2 t 257\n",
+        "history 3 t 1\nend none\n",
+        "history 0 t 1\nend none\n",
+        "history t 1\nend none\n",
         "history 1 mtc 1\nend none\n",
         "history 1 t 01\nend none\n",
         "history 1 t  1\nend none\n",
@@ -112,6 +130,11 @@ fn histories_are_refused(rt: HostRuntime) {
         "history 1 t 1\n0 create-> made 1\nend none\n",
         "history 1 t 1\nend maybe\n",
         "history 1 t 1\n\nend none\n",
+        "history 1 t 1\n0 create named pump -> made 1\nend none\n",
+        "history 1 t 1\n0 create alive named pump -> made 1\nend none\n",
+        "history 2 t 1\n0 create named -> made 1\nend none\n",
+        "history 2 t 1\n0 create named mtc -> made 1\nend none\n",
+        "history 2 t 1\n0 create named pump alive -> made 1\nend none\n",
     ] {
         is_refused(&rt, inside, 2, TextKind::Entry);
     }
@@ -131,10 +154,58 @@ fn histories_are_refused(rt: HostRuntime) {
     );
 }
 
+// A block of format 1 between two of format 2: each is read by its own format.
+#[test]
+fn histories_of_both_formats(rt: HostRuntime) -> Result<(), Fail> {
+    let text = "history 2 a 256
+0 create named pump -> made 1
+0 create alive named named -> made 2
+255 getverdict -> none
+end none
+history 1 b 64
+0 create -> made 1
+end none
+history 2 c 1
+0 create alive -> made 1
+0 create named pump -> made 2
+end none
+";
+    let blocks = read_history(rt.alloc(), text.as_bytes()).map_err(|_| "histories")?;
+    assert_eq!(rt; blocks.len(), 3);
+    for (block, (format, behaviours, first_line)) in blocks
+        .as_slice()
+        .iter()
+        .zip([(2, 256, 1), (1, 64, 6), (2, 1, 9)].iter())
+    {
+        assert_eq!(rt; block.format, *format);
+        assert_eq!(rt; block.behaviours, *behaviours);
+        assert_eq!(rt; block.first_line, *first_line);
+    }
+    let first = blocks.get(0).ok_or("a block")?.entries.as_slice();
+    let pump = entry(named(false, "pump"), Reply::Made(Comp(1)));
+    assert!(rt; first.get(0).ok_or("an entry")?.same(&pump));
+    let other = entry(named(true, "named"), Reply::Made(Comp(2)));
+    assert!(rt; first.get(1).ok_or("an entry")?.same(&other));
+    assert_eq!(rt; FORMAT_1_BEHAVIOURS, 64);
+    is_refused(
+        &rt,
+        "history 2 a 1\n0 create named pump -> made 1\nend none\nhistory 1 b 1\n0 create named pump -> made 1\nend none\n",
+        5,
+        TextKind::Entry,
+    );
+    is_refused(
+        &rt,
+        "history 2 a 65\nend none\nhistory 1 b 65\nend none\n",
+        3,
+        TextKind::FirstLine,
+    );
+    Ok(())
+}
+
 #[test]
 fn a_written_history_is_read(rt: HostRuntime) -> Result<(), Fail> {
     let first = [
-        entry(Op::Create { alive: true }, Reply::Made(Comp(1))),
+        entry(create(true), Reply::Made(Comp(1))),
         entry(
             Op::Start {
                 comp: Comp(1),
@@ -148,13 +219,14 @@ fn a_written_history_is_read(rt: HostRuntime) -> Result<(), Fail> {
     let one = Name::read("first").ok_or("a name")?;
     let other = Name::read("t_2").ok_or("a name")?;
     let mut out = Vec::new(rt.alloc());
-    write_block(&mut out, &one, 64, &first, Verdict::Inconc)?;
+    write_block(&mut out, &one, 256, &first, Verdict::Inconc)?;
     write_block(&mut out, &other, 1, &[], Verdict::None)?;
     let blocks = read_history(rt.alloc(), out.as_slice()).map_err(|_| "histories")?;
     assert_eq!(rt; blocks.len(), 2);
     let block = blocks.get(0).ok_or("a block")?;
     assert!(rt; block.name.same(&one));
-    assert_eq!(rt; block.behaviours, 64);
+    assert_eq!(rt; block.format, 2);
+    assert_eq!(rt; block.behaviours, 256);
     assert_eq!(rt; block.first_line, 1);
     assert_eq!(rt; block.entries.as_slice().len(), 3);
     for (read, written) in block.entries.as_slice().iter().zip(first.iter()) {
@@ -171,16 +243,28 @@ fn a_written_history_is_read(rt: HostRuntime) -> Result<(), Fail> {
 #[test]
 fn lines_are_taken(rt: HostRuntime) -> Result<(), Fail> {
     let (header, rest) = take_header_line(b"history 1 t_1 64\nend none\n").ok_or("a first line")?;
+    assert_eq!(rt; header.format, 1);
     assert_eq!(rt; header.name.bytes(), b"t_1".as_slice());
     assert_eq!(rt; header.behaviours, 64);
     assert_eq!(rt; take_end_line(rest), Some((Verdict::None, b"".as_slice())));
-    let (taken, rest) = take_entry_line(b"0 create -> made 1\nend").ok_or("an entry")?;
-    let created = entry(Op::Create { alive: false }, Reply::Made(Comp(1)));
+    let (taken, rest) = take_entry_line(1, b"0 create -> made 1\nend").ok_or("an entry")?;
+    let created = entry(create(false), Reply::Made(Comp(1)));
     assert!(rt; taken.same(&created));
     assert_eq!(rt; rest, b"end".as_slice());
     assert!(rt; take_header_line(b"history 1 t_1 65\n").is_none());
     assert!(rt; take_end_line(b"end none \n").is_none());
-    assert!(rt; take_entry_line(b"0 create -> made 1 \n").is_none());
+    assert!(rt; take_entry_line(1, b"0 create -> made 1 \n").is_none());
+    let pump = b"0 create named pump -> made 1\nend";
+    assert!(rt; take_entry_line(1, pump).is_none());
+    let (taken, rest) = take_entry_line(2, pump).ok_or("an entry")?;
+    let created = entry(named(false, "pump"), Reply::Made(Comp(1)));
+    assert!(rt; taken.same(&created));
+    assert_eq!(rt; rest, b"end".as_slice());
+    let (header, _) = take_header_line(b"history 2 t_1 256\n").ok_or("a first line")?;
+    assert_eq!(rt; header.format, 2);
+    assert_eq!(rt; header.behaviours, 256);
+    assert!(rt; take_header_line(b"history 2 t_1 257\n").is_none());
+    assert!(rt; take_header_line(b"history 3 t_1 1\n").is_none());
     Ok(())
 }
 
@@ -192,7 +276,7 @@ fn names_of_thirty_two_letters(rt: HostRuntime) -> Result<(), Fail> {
     let name = Name::read(longest).ok_or("a name")?;
     let mut out = Vec::new(rt.alloc());
     write_block(&mut out, &name, 1, &[], Verdict::None)?;
-    let text = format!(in rt.alloc(); "history 1 {longest} 1\nend none\n")?;
+    let text = format!(in rt.alloc(); "history 2 {longest} 1\nend none\n")?;
     assert_eq!(rt; out.as_slice(), text.as_bytes());
     let blocks = read_history(rt.alloc(), text.as_bytes()).map_err(|_| "a history")?;
     let block = blocks.first().ok_or("a block")?;
@@ -203,15 +287,17 @@ fn names_of_thirty_two_letters(rt: HostRuntime) -> Result<(), Fail> {
 }
 
 // The operations and their texts: each in each of its forms once.
-fn operations() -> [(Op, &'static str); 21] {
+fn operations() -> [(Op, &'static str); 23] {
     let one = Target::One(Comp(4294967295));
     let mut args = Args::new();
     for comp in [0, 1, 2, 3] {
         let _ = args.push(Comp(comp));
     }
     [
-        (Op::Create { alive: false }, "create"),
-        (Op::Create { alive: true }, "create alive"),
+        (create(false), "create"),
+        (create(true), "create alive"),
+        (named(false, "alive"), "create named alive"),
+        (named(true, "pump"), "create alive named pump"),
         (
             Op::Start {
                 comp: Comp(1),
@@ -291,7 +377,7 @@ fn replies() -> [(Reply, &'static str); 20] {
     ]
 }
 
-// Each operation with each reply, 420 lines between the first and the last one: written, compared line by line, and read.
+// Each operation with each reply, 460 lines between the first and the last one: written, compared line by line, and read.
 #[test]
 fn lines_of_a_written_history(rt: HostRuntime) -> Result<(), Fail> {
     let name = Name::read("t").ok_or("a name")?;
@@ -306,9 +392,9 @@ fn lines_of_a_written_history(rt: HostRuntime) -> Result<(), Fail> {
     let mut out = Vec::new(rt.alloc());
     write_block(&mut out, &name, 64, entries.as_slice(), Verdict::Fail)?;
     let text = str::from_utf8(out.as_slice()).map_err(|_| "a text")?;
-    assert_eq!(rt; text.lines().count(), 422);
+    assert_eq!(rt; text.lines().count(), 462);
     let mut lines = text.lines();
-    assert_eq!(rt; lines.next(), Some("history 1 t 64"));
+    assert_eq!(rt; lines.next(), Some("history 2 t 64"));
     for (_, op) in operations.iter() {
         for (_, reply) in replies.iter() {
             let wanted = format!(in rt.alloc(); "0 {op} -> {reply}")?;
@@ -318,7 +404,7 @@ fn lines_of_a_written_history(rt: HostRuntime) -> Result<(), Fail> {
     assert_eq!(rt; lines.next(), Some("end fail"));
     let blocks = read_history(rt.alloc(), out.as_slice()).map_err(|_| "a history")?;
     let block = blocks.first().ok_or("a block")?;
-    assert_eq!(rt; block.entries.as_slice().len(), 420);
+    assert_eq!(rt; block.entries.as_slice().len(), 460);
     for (read, written) in block.entries.as_slice().iter().zip(entries.as_slice()) {
         assert!(rt; read.same(written));
     }

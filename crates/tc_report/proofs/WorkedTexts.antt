@@ -43,7 +43,7 @@ case_of name entries v = record {
 -- the main component waits alone
 abbrev stuck : Finished
 stuck = case_of (codes "solo")
-    (call (O.Create false) (R.Made (record { 0 = 1 })) ∷ call (O.SetVerdict U.Pass) R.Ok ∷ call (O.Wait false (T.One (record { 0 = 1 }))) R.Parked ∷
+    (call (O.Create false None) (R.Made (record { 0 = 1 })) ∷ call (O.SetVerdict U.Pass) R.Ok ∷ call (O.Wait false (T.One (record { 0 = 1 }))) R.Parked ∷
     call (O.Wake false (T.One (record { 0 = 1 }))) (R.Fault F.Stuck) ∷ []) V.Error
 
 abbrev results : List Finished → CampaignEnd → Results
@@ -59,7 +59,7 @@ d2 : decimal 2 ≡ codes "2"
 d2 = decimal_digit 2 (omega arith)
 
 history_of_a_stuck_case : histories_text (results (stuck ∷ []) E.Complete)
-    ≡ codes "history 1 solo 1\n0 create -> made 1\n0 setverdict pass -> ok\n0 wait done 1 -> parked\n0 wake done 1 -> error stuck\nend error\n"
+    ≡ codes "history 2 solo 1\n0 create -> made 1\n0 setverdict pass -> ok\n0 wait done 1 -> parked\n0 wake done 1 -> error stuck\nend error\n"
 history_of_a_stuck_case = simp (d0, d1)
 
 -- the parked entry is not shown, and the Wake is shown as a Wait

@@ -1,5 +1,5 @@
 -- Written histories are legal.
-use Rattle.std.proofs.Common.{ℕ, ◌≡◌, ◌≢◌, ◌∙◌, ◌+◌, ◌<◌, Bool, true, false, All, Option, Some, None, IfSome, if◌then◌else◌, List, [], ◌∷◌, ◌++◌, length, reverse, take, drop, get_or, refl, ap, sym, arith}
+use Rattle.std.proofs.Common.{ℕ, ◌≡◌, ◌≢◌, ◌∙◌, ◌+◌, ◌<◌, Bool, true, false, All, Option, Some, None, IfSome, if◌then◌else◌, inr, List, [], ◌∷◌, ◌++◌, length, reverse, take, drop, get_or, refl, ap, sym, arith}
 use Rattle.std.specs.List.{AllZip, flat_map}
 use Rattle.std.specs.Io.KnownBytes.{Appends}
 use Rattle.std.proofs.lemmas.List.{reverse-append, take_more, take-append-drop}
@@ -27,7 +27,7 @@ use Rattle.ttrun.specs.Inside.{FitsItsTypes}
 
 -- the block of a finished test case
 abbrev pub block_of : ℕ → Finished → Block
-block_of line f = record { name = f.name; behaviours = f.report.behaviours; first_line = line; entries = f.report.history; verdict = f.report.verdict }
+block_of line f = record { format = 2; name = f.name; behaviours = f.report.behaviours; first_line = line; entries = f.report.history; verdict = f.report.verdict }
 
 -- the blocks of finished test cases, the first of which begins in this line
 abbrev pub blocks_of : ℕ → List Finished → List Block
@@ -162,7 +162,7 @@ reported_were_run cases r fit reported = record {
   each = λ k d within.
       let fits = fit k d within in
       record {
-        header = record { name_is = fits.0; few = reported.behaviours k d within };
+        header = record { name_is = fits.0; few = reported.behaviours k d within; format = inr refl };
         entries = fits.1;
         report = have_histories (take (length r.finished) cases) r.finished reported.reports k d within;
       };

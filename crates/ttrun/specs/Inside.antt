@@ -51,9 +51,9 @@ pub record IsCaseOf (c : CaseView) (ready : Case ScriptView) : Type 0 where
   pub names : ready.names.items ≡ names_of c.1
   pub jobs : ready.jobs.items ≡ scripts_of c.1
 
--- the name of the test case is a name, and the numbers in its history are those of their types
+-- the name of the test case is a name, and the numbers in its history are those of their types, so they are entries of format 2
 abbrev pub FitsItsTypes : Finished → Type 0
-FitsItsTypes f = IsName f.name × AreEntries f.report.history
+FitsItsTypes f = IsName f.name × AreEntries 2 f.report.history
 
 -- these moves of a case of n behaviours are played: the state stands for their entries, and the lines of the replies are written
 pub record ArePlayed (n : ℕ) (moves : List Move) (r : Replaying) : Type 0 where

@@ -18,9 +18,9 @@ use Rattle.ttrun.specs.declared.fault.RunFault.TheVariants as F
 -- a test case that was run to its end
 pub record WasRun (f : Finished) : Type 0 where
   -- it has a name, and as many behaviours as a case may have
-  pub header : IsHeader f.name f.report.behaviours
+  pub header : IsHeader (record { format = 2; name = f.name; behaviours = f.report.behaviours })
   -- the numbers in its history are those of their types
-  pub entries : AreEntries f.report.history
+  pub entries : AreEntries 2 f.report.history
   -- its report is one history of one thread
   pub report : IsOneHistory f.report
 

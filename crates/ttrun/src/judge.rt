@@ -62,7 +62,7 @@ pub(crate) struct Playing {
 impl Playing {
     /// A history with this first line, with no entry yet.
     pub(crate) fn new(alloc: Global, header: Header) -> Result<Playing, NoMemory>
-        requires { IsHeader header.name header.behaviours }
+        requires { IsHeader header }
         ensures { IfOk result (λ p. (first_line : ℕ) → IsPlayed first_line header [] p) }
     {
         let state = CaseState::new(alloc, header.behaviours)?;

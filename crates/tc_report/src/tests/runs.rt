@@ -56,13 +56,13 @@ fn histories_of_run_cases(rt: HostRuntime) -> Result<(), Fail> {
     };
     let mut out = Vec::new(alloc);
     assert_eq!(rt; write_history(alloc, &results, &mut out), Ok(()));
-    let wanted = "history 1 solo 1
+    let wanted = "history 2 solo 1
 0 create -> made 1
 0 setverdict pass -> ok
 0 wait done 1 -> parked
 0 wake done 1 -> error stuck
 end error
-history 1 stopped 1
+history 2 stopped 1
 0 create alive -> made 1
 0 kill 1 -> ok
 0 killed all -> true

@@ -142,13 +142,13 @@ fn history_of_a_stuck_case(rt: HostRuntime) -> Result<(), Fail> {
     };
     let mut out = Vec::new(rt.alloc());
     assert_eq!(rt; write_history(rt.alloc(), &results, &mut out), Ok(()));
-    let wanted = "history 1 solo 1
+    let wanted = "history 2 solo 1
 0 create -> made 1
 0 setverdict pass -> ok
 0 wait done 1 -> parked
 0 wake done 1 -> error stuck
 end error
-history 1 b 1
+history 2 b 1
 0 setverdict fail -> ok
 0 finish -> ok
 end fail

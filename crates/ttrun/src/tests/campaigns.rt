@@ -16,7 +16,7 @@ const WHOLE_TABLE: &str =
     "testcase,components,none,pass,inconc,fail,error,verdict;a,1,0,1,0,0,0,pass;b,1,0,0,0,1,0,fail;c,1,0,1,0,0,0,pass";
 
 const HISTORIES: &str =
-    "history 1 a 1;0 setverdict pass -> ok;0 finish -> ok;end pass;history 1 b 1;0 setverdict fail -> ok;0 finish -> ok;end fail;history 1 c 1;0 setverdict pass -> ok;0 finish -> ok;end pass";
+    "history 2 a 1;0 setverdict pass -> ok;0 finish -> ok;end pass;history 2 b 1;0 setverdict fail -> ok;0 finish -> ok;end fail;history 2 c 1;0 setverdict pass -> ok;0 finish -> ok;end pass";
 
 const REPORT: &str =
     "testcase a;run 0 main on 0;  setverdict pass -> ok;  finish -> ok;local 0 pass;verdict pass;testcase b;run 0 main on 0;  setverdict fail -> ok;  finish -> ok;local 0 fail;verdict fail;testcase c;run 0 main on 0;  setverdict pass -> ok;  finish -> ok;local 0 pass;verdict pass;cases 3 none 0 pass 2 inconc 0 fail 1 error 0;complete";
@@ -39,7 +39,7 @@ const RESTART_REPORT: &str =
 const STUCK: &str = "testcase solo;behaviour main;create p;setverdict pass;wait done p;end;end";
 
 const STUCK_HISTORY: &str =
-    "history 1 solo 1;0 create -> made 1;0 setverdict pass -> ok;0 wait done 1 -> parked;0 wake done 1 -> error stuck;end error";
+    "history 2 solo 1;0 create -> made 1;0 setverdict pass -> ok;0 wait done 1 -> parked;0 wake done 1 -> error stuck;end error";
 
 const NO_VERDICT: &str = "ttrun: --stop-on takes none, pass, inconc, fail or error";
 

@@ -19,7 +19,7 @@ const REPORT: &str =
 
 const TABLE: &str = "testcase,components,none,pass,inconc,fail,error,verdict;t,1,0,0,0,1,0,fail";
 
-const WRITTEN_HISTORY: &str = "history 1 t 1;0 setverdict fail -> ok;0 finish -> ok;end fail";
+const WRITTEN_HISTORY: &str = "history 2 t 1;0 setverdict fail -> ok;0 finish -> ok;end fail";
 
 const INCONC: &str = "behaviours 1;0 setverdict inconc;0 setverdict pass;0 getverdict";
 

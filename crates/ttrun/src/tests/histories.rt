@@ -47,11 +47,15 @@ fn check_of_histories(rt: HostRuntime) -> Result<(), Fail> {
 #[test]
 fn histories_refused_and_checked(rt: HostRuntime) -> Result<(), Fail> {
     refuses_history(&rt, b"history 1 t 0\n", "ttrun: line 1: bad first line")?;
-    refuses_history(
-        &rt,
-        b"history 2 t 1\nend none\n",
-        "ttrun: line 1: bad first line",
-    )?;
+    for header in [
+        b"history 3 t 1\nend none\n".as_slice(),
+        b"history 1 t 65\nend none\n",
+        b"history 2 t 257\nend none\n",
+    ] {
+        refuses_history(&rt, header, "ttrun: line 1: bad first line")?;
+    }
+    checks(&rt, "history 2 t 1;end none", "legal t 0 none", 0)?;
+    checks(&rt, "history 2 t 256;end none", "legal t 0 none", 0)?;
     refuses_history(
         &rt,
         b"history 1 t 1\n0 create -> made 01\nend none\n",
@@ -79,6 +83,28 @@ fn histories_refused_and_checked(rt: HostRuntime) -> Result<(), Fail> {
         &rt,
         "history 1 a 1;0 finish -> ok;end none;history 1 b 1;0 finish -> ended;end none;history 1 c 1;end none",
         "legal a 1 none;line 5: ended, table gives ok",
+        3,
+    )
+}
+
+// A component has a name in the second block, which is of format 2; in one of format 1 it is a fault.
+#[test]
+fn two_history_formats(rt: HostRuntime) -> Result<(), Fail> {
+    checks(
+        &rt,
+        "history 1 a 1;0 create -> made 1;end none;history 2 b 1;0 create named pump -> made 1;end none",
+        "legal a 1 none;legal b 1 none",
+        0,
+    )?;
+    refuses_history(
+        &rt,
+        b"history 1 a 1\n0 create -> made 1\nend none\nhistory 1 b 1\n0 create named pump -> made 1\nend none\n",
+        "ttrun: line 5: bad entry",
+    )?;
+    checks(
+        &rt,
+        "history 2 t 1;0 create alive named pump -> made 1;0 create named pump -> made 3;end none",
+        "line 3: made 3, table gives made 2",
         3,
     )
 }

@@ -4,7 +4,7 @@ use Rattle.tc_history.proofs.laws.entries_fit.Given as goal
 
 -- where those that are left fit, all fit
 abbrev pub invariant-loop-entry : goal.invariant-loop-entry
-invariant-loop-entry l = AreEntries l.rest → AreEntries l.entries
+invariant-loop-entry l = AreEntries 2 l.rest → AreEntries 2 l.entries
 
 abbrev pub decreases-loop-entry : goal.decreases-loop-entry
 decreases-loop-entry l = length l.rest

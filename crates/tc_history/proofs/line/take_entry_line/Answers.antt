@@ -1,18 +1,18 @@
 use Rattle.std.proofs.Common.{◌∙◌, ap}
 use Rattle.tc_text.specs.Lines.{lines_of}
 use Rattle.tc_text.specs.Reading.{op_of}
-use Rattle.tc_history.proofs.InnerLines.{begins_with_move, entry_and_outcome, same_parts}
+use Rattle.tc_history.proofs.InnerLines.{begins_with_move, entry_and_outcome, same_parts, short_unnamed}
 use Rattle.tc_history.proofs.line.take_entry_line.Goals as goal
 
 pub returns-in_default-clause-only : goal.returns-in_default-clause-only
 returns-in_default-clause-only c e others fits lines =
-    let begins = begins_with_move c.args.text.now e others fits lines in
-    let start = c.in_default.ensures.only e.caller.0 e.op begins.rest fits.caller fits.op begins.ends begins.parts in
-    c.take_start_line.ensures.only e others start fits lines
+    let begins = begins_with_move c.args.text.now c.args.format e others fits lines in
+    let long = c.in_default.ensures.only e.caller.0 e.op begins.rest fits.caller fits.op begins.ends begins.parts in
+    c.take_long_line.ensures.only e others long fits lines
 
 pub returns-in_err-reply-clause-only : goal.returns-in_err-reply-clause-only
 returns-in_err-reply-clause-only c e others fits lines =
-    let begins = begins_with_move c.args.text.now e others fits lines in
+    let begins = begins_with_move c.args.text.now c.args.format e others fits lines in
     let moved = c.in-Some.ensures.only e.caller.0 e.op begins.rest fits.caller fits.op begins.ends begins.parts in
     absurd (c.in_err-reply.ensures.only e.reply others fits.reply (ap lines_of moved.2 ∙ begins.lines))
 
@@ -21,19 +21,19 @@ returns-clause-spelled c =
     let moved = c.in-Some.ensures in
     let replied = c.in_ok-reply.ensures in
     rw c.op.ensures
-    (entry_and_outcome c.args.text.now c.in-Some.rest.now c.in_ok-reply.rest.now
+    (entry_and_outcome c.args.text.now c.in-Some.rest.now c.in_ok-reply.rest.now c.args.format
     (record { caller = c.in-Some.caller; op = op_of c.in-Some.short; reply = c.in_ok-reply.reply }) moved.spelled replied.spelled
-    (record { caller = moved.fits.0; op = moved.fits.1; reply = replied.fits }))
+    (record { caller = moved.fits.0; op = moved.fits.1; reply = replied.fits; names = λ one. short_unnamed c.in-Some.short }))
 
 pub returns-clause-fits : goal.returns-clause-fits
 returns-clause-fits c =
     let moved = c.in-Some.ensures in
     let replied = c.in_ok-reply.ensures in
-    rw c.op.ensures (record { caller = moved.fits.0; op = moved.fits.1; reply = replied.fits })
+    rw c.op.ensures (record { caller = moved.fits.0; op = moved.fits.1; reply = replied.fits; names = λ one. short_unnamed c.in-Some.short })
 
 pub returns-clause-only : goal.returns-clause-only
 returns-clause-only c e others fits lines =
-    let begins = begins_with_move c.args.text.now e others fits lines in
+    let begins = begins_with_move c.args.text.now c.args.format e others fits lines in
     let moved = c.in-Some.ensures.only e.caller.0 e.op begins.rest fits.caller fits.op begins.ends begins.parts in
     let replied = c.in_ok-reply.ensures.only e.reply others fits.reply (ap lines_of moved.2 ∙ begins.lines) in
     (same_parts c.in-Some.caller c.op.result c.in_ok-reply.reply e moved.0 (c.op.ensures ∙ moved.1) replied.0, replied.1)
