@@ -397,6 +397,7 @@ fn time_cases(what: &str, behaviours: u16, cases: u32) {
 }
 
 fn main() {
+    time_cases("all", 256, 50);
     time_cases("sixty_four", 64, 200);
     time_cases("two", 2, 2000);
 }
