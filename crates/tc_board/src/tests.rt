@@ -51,6 +51,20 @@ fn the_carried_verdict_counts(rt: HostRuntime) -> Result<(), Fail> {
     Ok(())
 }
 
+#[test]
+fn many_behaviours(rt: HostRuntime) -> Result<(), Fail> {
+    let (board, mut keeper, mut hands) = Board::new(rt.alloc(), 256)?;
+    assert_eq!(rt; hands.len(), 256);
+    let Some(mut last) = hands.pop() else {
+        panic!(rt; "a hand for each run")
+    };
+    keeper.begin(&board, Run(255), UserVerdict::Pass);
+    assert!(rt; last.meet(&board));
+    assert_eq!(rt; last.get(&board), Some(UserVerdict::Pass));
+    assert_eq!(rt; keeper.close(&board, Run(255)), UserVerdict::Pass);
+    Ok(())
+}
+
 /// How settings of inconc were answered, up to 1,000 that were made after the close.
 #[derive(Clone, Copy)]
 struct Tally {

@@ -31,7 +31,7 @@ plain_suits : (past : List Entry) (b : ℕ) (op : Op) → suits op (plain_answer
 plain_suits past b (O.Wait k t) = wait_suits k t (holds past (record { killed = k; target = t }))
 plain_suits past b (O.Wake k t) = wake_suits k t (holds past (record { killed = k; target = t })) ((b == 0) && is_stuck past)
 plain_suits past b O.GetVerdict = local_suits past (comp_of past b)
-plain_suits past b (O.Create a) = refl
+plain_suits past b (O.Create alive name) = refl
 plain_suits past b (O.Start c run args) = refl
 plain_suits past b (O.Stop g) = refl
 plain_suits past b (O.Kill g) = refl

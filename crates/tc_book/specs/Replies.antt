@@ -44,7 +44,7 @@ is_of_wait _ = false
 
 -- the reply is of the kind that the operation gets where it is neither Ended nor an error
 abbrev pub suits_plainly : Op → Reply → Bool
-suits_plainly (O.Create a) r = is_made r
+suits_plainly (O.Create alive name) r = is_made r
 suits_plainly (O.Running t) r = is_answer r
 suits_plainly (O.Alive t) r = is_answer r
 suits_plainly (O.Done t) r = is_answer r

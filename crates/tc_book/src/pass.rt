@@ -15,7 +15,7 @@ use crate::shared::Shared;
 use std::marker::Model;
 use std::sync::Wait;
 use tc_board::Hand;
-use tc_entry::{Args, Comp, Entry, Group, Op, Reply, Target};
+use tc_entry::{Args, Comp, Entry, Group, Name, Op, Reply, Target};
 use tc_verdict::{NoMemory, Run, UserVerdict, Verdict};
 
 /// What the behaviour of a started run calls the case by, with the log of its calls and the run's hand on the verdict board.
@@ -117,14 +117,34 @@ impl Pass {
         }
     }
 
-    /// Creates a component, ordinary or alive-type (ES 201 873-1, the create operation).
-    pub fn create<R: Wait>(&mut self, rt: &R, alive: bool) -> Result<Comp, Halt>
-        ensures { IsCall replies.Made (ops.Create alive) self.old self.new result }
+    // Creates a component with this name, or without one.
+    fn make<R: Wait>(&mut self, rt: &R, alive: bool, name: Option<Name>) -> Result<Comp, Halt>
+        ensures { IsCall replies.Made (ops.Create alive name) self.old self.new result }
     {
-        match self.call(rt, Op::Create { alive })? {
+        match self.call(rt, Op::Create { alive, name })? {
             Reply::Made(comp) => Ok(comp),
             _ => unreachable!(),
         }
+    }
+
+    /// Creates a component, ordinary or alive-type, without a name (ES 201 873-1, the create operation).
+    pub fn create<R: Wait>(&mut self, rt: &R, alive: bool) -> Result<Comp, Halt>
+        ensures { IsCall replies.Made (ops.Create alive None) self.old self.new result }
+    {
+        self.make(rt, alive, None)
+    }
+
+    /// Creates a component, ordinary or alive-type, with a name (ES 201 873-1, the create operation). The name stands in the
+    /// log, the report and the history; several components may have the same, and no call takes it for a component.
+    pub fn create_named<R: Wait>(
+        &mut self,
+        rt: &R,
+        alive: bool,
+        name: Name,
+    ) -> Result<Comp, Halt>
+        ensures { IsCall replies.Made (ops.Create alive (Some name)) self.old self.new result }
+    {
+        self.make(rt, alive, Some(name))
     }
 
     /// Starts a run on a component (ES 201 873-1, the start test component operation).

@@ -7,7 +7,7 @@ use tc_board::{Board, Record};
 use tc_book::laws::Book;
 use tc_book::*;
 use tc_entry::{
-    Args, Comp, Entry, Fault, Group, NoMemory, Op, Reply, Run, Target, UserVerdict, Verdict,
+    Args, Comp, Entry, Fault, Group, Name, NoMemory, Op, Reply, Run, Target, UserVerdict, Verdict,
 };
 use tc_table::{Table, replay_check};
 
@@ -71,6 +71,27 @@ fn quiet_calls(rt: HostRuntime) -> Result<(), Fail> {
             }
         )
     );
+    Ok(())
+}
+
+/// Names stand in the log and in the report; two components may have the same, and none is an error.
+#[test]
+fn components_with_names(rt: HostRuntime) -> Result<(), Fail> {
+    let alloc = rt.alloc();
+    let pump = Name::read("pump").ok_or("a name")?;
+    let (shared, pass, _) = open_case(alloc, 1)?;
+    let mut pass = pass;
+    assert_eq!(rt; pass.create_named(&rt, false, pump.copy()), Ok(Comp(1)));
+    assert_eq!(rt; pass.create_named(&rt, true, pump.copy()), Ok(Comp(2)));
+    assert_eq!(rt; pass.create(&rt, false), Ok(Comp(3)));
+    let lefts = vec![in alloc; pass.leave(&rt)]?;
+    let closed = close_case(&rt, alloc, shared, lefts)?;
+    let named = [(false, Some(pump.copy())), (true, Some(pump)), (false, None)];
+    for ((alive, name), entry) in named.into_iter().zip(closed.history.as_slice()) {
+        assert!(rt; entry.op.same(&Op::Create { alive, name }));
+    }
+    assert_eq!(rt; closed.history.as_slice().len(), 4);
+    assert_eq!(rt; closed.verdict, Verdict::None);
     Ok(())
 }
 
@@ -322,7 +343,7 @@ fn finished(book: &mut Book, run: u16) -> Option<Option<Reply>> {
 fn calls_on_a_book(rt: HostRuntime) -> Result<(), Fail> {
     let alloc = rt.alloc();
     let mut book = book_of_two(alloc)?;
-    let made = replied(&mut book, 0, Op::Create { alive: false });
+    let made = replied(&mut book, 0, Op::Create { alive: false, name: None });
     assert_eq!(rt; made, Some(Reply::Made(Comp(1))));
     assert!(rt; is_unbegun(&book));
     assert_eq!(rt; replied(&mut book, 0, start()), Some(Reply::Ok));
@@ -378,7 +399,7 @@ fn are_answered(book: &mut Book, calls: Vec<Called>) -> bool {
 fn up_to_the_wait(alloc: Global) -> Result<Vec<Called>, NoMemory> {
     let made = Reply::Made(Comp(1));
     Ok(vec![in alloc;
-        (Run(0), Op::Create { alive: true }, made, false),
+        (Run(0), Op::Create { alive: true, name: None }, made, false),
         (Run(0), start(), Reply::Ok, true),
         (Run(0), Op::Running(one(1)), Reply::Answer(true), false),
         (Run(0), wait(), Reply::Parked, true),

@@ -234,14 +234,14 @@ fn started_with<R: Wait>(rt: &R, ticket: Ticket, woken: &AtomicBool) -> Option<(
     Some((pass.run(), pass.me(), arg))
 }
 
-/// The last of 64 runs waits for its start, is woken by it, and has its component and its argument.
+/// The last of 256 runs waits for its start, is woken by it, and has its component and its argument.
 #[test]
 fn the_last_run_waits_for_its_start(rt: HostRuntime) -> Result<(), Fail> {
     let alloc = rt.alloc();
-    let (_, main, tickets) = open_case(alloc, 64)?;
+    let (_, main, tickets) = open_case(alloc, 256)?;
     let (mut main, mut tickets) = (main, tickets);
     let woken = Arc::new(alloc, AtomicBool::new(false))?;
-    let (flag, ticket) = (Arc::try_clone(&woken)?, tickets.remove(62));
+    let (flag, ticket) = (Arc::try_clone(&woken)?, tickets.remove(254));
     let waiter = thread::spawn(&rt, move || started_with(&rt, ticket, &flag))?;
     main.create(&rt, false)?;
     main.create(&rt, false)?;
@@ -249,9 +249,9 @@ fn the_last_run_waits_for_its_start(rt: HostRuntime) -> Result<(), Fail> {
     assert!(rt; !woken.load(Ordering::SeqCst), "it is not yet started");
     let mut args = Args::new();
     assert!(rt; args.push(Comp(1)));
-    main.start(&rt, Comp(2), Run(63), &args)?;
+    main.start(&rt, Comp(2), Run(255), &args)?;
     assert!(rt; is_set_soon(&rt, &woken), "the start wakes nobody");
-    assert_eq!(rt; waiter.join(&rt), Some((Run(63), Comp(2), Comp(1))));
+    assert_eq!(rt; waiter.join(&rt), Some((Run(255), Comp(2), Comp(1))));
     Ok(())
 }
 

@@ -30,7 +30,7 @@ pub record IsOfCase (c : Outline) (f : Finished) : Type 0 where
 abbrev pub IsReported : Outline → Finished → Type 0
 IsReported c f = IsCaseReport (c.jobs) f.report
 
--- a finished case has 1 to 64 behaviours
+-- a finished case has 1 to 256 behaviours
 abbrev pub HasBehaviours : Finished → Type 0
 HasBehaviours f = IsBehaviours f.report.behaviours
 

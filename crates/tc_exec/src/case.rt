@@ -168,7 +168,7 @@ fn run_jobs<R: Threads + Wait + Copy + Send + 'static, B: Callable, G: Gate>(
 /// calling thread, and all are joined before the call is answered.
 ///
 /// The report is one history of one thread, and each job of which the run was started was called with a new pass of that
-/// run. Refused are a case without jobs, one of more than 64, and one that needs more workers than `threads`; then,
+/// run. Refused are a case without jobs, one of more than 256, and one that needs more workers than `threads`; then,
 /// where no job is called, for want of memory or of a worker that could not be made; then for memory refused to a job;
 /// and then what the jobs handed back, if it is not whole. Jobs and workers are this project's own.
 pub fn run_case<R: Threads + Wait + Copy + Send + 'static>(

@@ -14,7 +14,7 @@ use thiserror::Error;
 pub enum CaseError {
     /// There is no behaviour.
     NoBehaviours,
-    /// There are more than 64 behaviours.
+    /// There are more than 256 behaviours.
     TooManyBehaviours,
     /// Memory was refused, to the executor or to a behaviour.
     NoMemory,

@@ -6,7 +6,7 @@ use std::sync::atomic::{AtomicU64, Ordering};
 use std::sync::{Arc, Wait};
 use std::test::Fail;
 use tc_book::{CloseFault, Halt, Pass, open_case};
-use tc_entry::{Args, Entry, Fault, Group, Op, Reply, Run, Target, UserVerdict, Verdict};
+use tc_entry::{Args, Comp, Entry, Fault, Group, Name, Op, Reply, Run, Target, UserVerdict, Verdict};
 
 type Behaviour = Box<dyn FnOnce(Pass) -> Back + Send>;
 
@@ -214,7 +214,8 @@ fn refused_cases(rt: HostRuntime) -> Result<(), Fail> {
     assert!(rt; matches!(none, Err(CaseError::NoBehaviours)));
     let called = Arc::new(alloc, AtomicU64::new(0))?;
     for (count, threads, refusal) in [
-        (65u16, 0u16, CaseError::TooManyBehaviours),
+        (257u16, 0u16, CaseError::TooManyBehaviours),
+        (65, 0, CaseError::NoThread),
         (3, 1, CaseError::NoThread),
     ] {
         let mut jobs = Vec::new(alloc);
@@ -241,26 +242,58 @@ fn refused_cases(rt: HostRuntime) -> Result<(), Fail> {
     Ok(())
 }
 
-#[test]
-fn sixty_four_jobs(rt: HostRuntime) -> Result<(), Fail> {
+/// A case of so many behaviours: the first starts the others, each on a component of its own, and each of those sets pass.
+fn judged_by_all(rt: &HostRuntime, behaviours: u16) -> Result<(), Fail> {
     let alloc = rt.alloc();
+    let theirs = *rt;
     let first: Behaviour = Box::new(alloc, move |pass: Pass| {
         let mut pass = pass;
-        let made = starts_all(&rt, &mut pass, 64);
+        let made = starts_all(&theirs, &mut pass, behaviours);
         Back::after(pass, made)
     })?;
     let mut jobs = vec![in alloc; Job::new(first)]?;
-    for _ in 1..64 {
+    for _ in 1..behaviours {
         let run: Behaviour = Box::new(alloc, move |pass: Pass| sets_pass(pass))?;
         jobs.push(Job::new(run))?;
     }
-    let report = run_case(&rt, alloc, jobs, 63)?;
-    assert_eq!(rt; report.logs.as_slice().len(), 64);
+    let report = run_case(rt, alloc, jobs, behaviours.saturating_sub(1))?;
+    assert_eq!(rt; report.logs.as_slice().len(), usize::from(behaviours));
     assert_eq!(rt; report.verdict, Verdict::Pass);
     let locals = report.locals.as_slice();
-    assert_eq!(rt; locals.len(), 64);
+    assert_eq!(rt; locals.len(), usize::from(behaviours));
     assert_eq!(rt; locals[0], Verdict::None);
     assert!(rt; locals[1..].iter().all(|local| *local == Verdict::Pass));
+    Ok(())
+}
+
+#[test]
+fn sixty_four_jobs(rt: HostRuntime) -> Result<(), Fail> {
+    judged_by_all(&rt, 64)
+}
+
+#[test]
+fn two_hundred_and_fifty_six_jobs(rt: HostRuntime) -> Result<(), Fail> {
+    judged_by_all(&rt, 256)
+}
+
+#[test]
+fn names_stand_in_the_log(rt: HostRuntime) -> Result<(), Fail> {
+    let alloc = rt.alloc();
+    let pump = Name::read("pump").ok_or("a name")?;
+    let wanted = Op::Create {
+        alive: false,
+        name: Some(pump.copy()),
+    };
+    let main: Behaviour = Box::new(alloc, move |pass: Pass| {
+        let mut pass = pass;
+        let made = pass.create_named(&rt, false, pump.copy()).map(|_| ());
+        Back::after(pass, made)
+    })?;
+    let report = run_case(&rt, alloc, vec![in alloc; Job::new(main)]?, 0)?;
+    let first = report.history.as_slice().first().ok_or("an entry")?;
+    assert!(rt; first.op.same(&wanted));
+    assert_eq!(rt; first.reply, Reply::Made(Comp(1)));
+    assert_eq!(rt; report.verdict, Verdict::None);
     Ok(())
 }
 

@@ -42,7 +42,7 @@ abbrev get : ℕ → Reply → Entry
 get b r = entry b O.GetVerdict r
 
 abbrev create : Entry
-create = entry 0 (O.Create true) (R.Made (comp 1))
+create = entry 0 (O.Create true None) (R.Made (comp 1))
 
 abbrev start : ℕ → Entry
 start b = entry 0 (O.Start (comp 1) (run b) []) R.Ok

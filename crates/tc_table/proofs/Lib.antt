@@ -15,6 +15,8 @@ pub mod Runs
 pub mod Over
 pub mod Stuck
 pub mod Counting
+pub mod Determined
+pub mod Named
 pub mod Elsewhere
 pub mod Unchanged
 pub mod LawsOfHistories

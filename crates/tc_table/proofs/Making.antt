@@ -34,13 +34,13 @@ use Rattle.tc_table.specs.Inside.Counts.{made_state}
 use Rattle.tc_table.proofs.Sound.{next}
 use Rattle.tc_table.proofs.Deciding.{other_comp}
 
-abbrev create : Run → Bool → Comp → Entry
-create caller alive d = record { caller = caller; op = O.Create alive; reply = R.Made d }
+abbrev create : Run → Bool → Option (List ℕ) → Comp → Entry
+create caller alive name d = record { caller = caller; op = O.Create alive name; reply = R.Made d }
 
 -- such an entry changes no state
-quiet : (caller : Run) (alive : Bool) (d : Comp) (own : Option Comp) (c : ℕ) (s : ComponentState) → (is_running s.phase ≡ true → s.excused ≡ false) → next_state own (create caller alive d) c s ≡ s
+quiet : (caller : Run) (alive : Bool) (name : Option (List ℕ)) (d : Comp) (own : Option Comp) (c : ℕ) (s : ComponentState) → (is_running s.phase ≡ true → s.excused ≡ false) → next_state own (create caller alive name d) c s ≡ s
 unfolding next_state
-quiet caller alive d own c s h = same (is_comp own c) (is_running s.phase) s h
+quiet caller alive name d own c s h = same (is_comp own c) (is_running s.phase) s h
   where
     same : (t r : Bool) (s : ComponentState) → (r ≡ true → s.excused ≡ false) → record s { excused = if r then false else s.excused; local = next_local (if t then [] else []) s.local } ≡ s
     same true true s h = let e = sym (h refl) in ap (λ x. record s { excused = x }) e
@@ -112,11 +112,11 @@ entry_ext : {op op' : Op} {r r' : Reply} (caller : Run) → op ≡ op' → r ≡
 entry_ext caller a b = cc
 
 module _ {n : ℕ} {past : List Entry} {states : List ComponentState} {runs : List RunState} {over : Bool} where
-  created_lit : (caller : Run) (alive : Bool) (d : Comp) (runs' : List RunState) → IsKept n past states runs over → R.Made d ≡ answer n past caller.0 (O.Create alive) → d.0 ≡ length states → length states < COMPONENTS →
-      length runs' ≡ length runs → ((b : ℕ) (v : RunState) → b < n → get_or runs' b v ≡ next_run (create caller alive d) b (get_or runs b v)) →
-      IsKept n (create caller alive d ∷ past) (states ++ made_state alive ∷ []) runs' over
-  created_lit caller alive d runs' kept legal number few as_many_runs changed_runs =
-      let e : Entry = create caller alive d in
+  created_lit : (caller : Run) (alive : Bool) (name : Option (List ℕ)) (d : Comp) (runs' : List RunState) → IsKept n past states runs over → R.Made d ≡ answer n past caller.0 (O.Create alive name) → d.0 ≡ length states → length states < COMPONENTS →
+      length runs' ≡ length runs → ((b : ℕ) (v : RunState) → b < n → get_or runs' b v ≡ next_run (create caller alive name d) b (get_or runs b v)) →
+      IsKept n (create caller alive name d ∷ past) (states ++ made_state alive ∷ []) runs' over
+  created_lit caller alive name d runs' kept legal number few as_many_runs changed_runs =
+      let e : Entry = create caller alive name d in
       let out : exists past d.0 ≡ false = exists_unless d.0 kept (omega arith) in
       let grown : comps (e ∷ past) ≡ comps past ++ d.0 ∷ [] = add_one d (comps past) (not_in past d.0 out) in
       let more : (c : ℕ) → exists past c ≡ true → exists (e ∷ past) c ≡ true = exists_more past e d.0 grown in
@@ -132,7 +132,7 @@ module _ {n : ℕ} {past : List Entry} {states : List ComponentState} {runs : Li
             (λ k less w.
             get_or_append_left states (made_state alive ∷ []) w k less
             ∙ (kept.each_state k w less
-            ∙ (sym (quiet caller alive d (comp_of past caller.0) k (state_of past k) (running_not_excused past k))
+            ∙ (sym (quiet caller alive name d (comp_of past caller.0) k (state_of past k) (running_not_excused past k))
             ∙ sym (state_step past e k (exists_if k kept less) (kept.halted_if_killed k) (λ s. absurd cc)))))
             (λ w.
             get_or-append_seam states (made_state alive) [] w
@@ -166,13 +166,13 @@ makes_entry v k past e d states' runs' same stands legal made grown as_many_runs
     let kept : StandsFor v past = stands_by k v past (sym same) stands in
     let legal' : e.reply ≡ answer v.behaviours past e.caller.0 e.op = legal ∙ ap (λ (w : Kept). answer w.behaviours past e.caller.0 e.op) (sym same) in
     let f = next v.behaviours past e d legal' made in
-    let l : e ≡ create e.caller (is_alive_create e.op) d = entry_ext e.caller f.is_create f.is_made in
-    let made_legal : R.Made d ≡ answer v.behaviours past e.caller.0 (O.Create (is_alive_create e.op)) = sym f.is_made ∙ legal' ∙ ap (answer v.behaviours past e.caller.0) f.is_create in
+    let l : e ≡ create e.caller (is_alive_create e.op) f.given_name d = entry_ext e.caller f.is_create f.is_made in
+    let made_legal : R.Made d ≡ answer v.behaviours past e.caller.0 (O.Create (is_alive_create e.op) f.given_name) = sym f.is_made ∙ legal' ∙ ap (answer v.behaviours past e.caller.0) f.is_create in
     let size : components past ≡ length v.states = components_kept kept in
     let number : d.0 ≡ length v.states = f.number ∙ size in
     let few : length v.states < COMPONENTS = omega (arith, f.few) in
     let as_many_kept : length v.runs ≡ v.behaviours = kept.as_many_runs in
     rw grown
     (subst (λ (x : Entry). IsKept v.behaviours (x ∷ past) (v.states ++ made_state (is_alive_create e.op) ∷ []) runs' v.over) (sym l)
-    (created_lit e.caller (is_alive_create e.op) d runs' kept made_legal number few as_many_runs
+    (created_lit e.caller (is_alive_create e.op) f.given_name d runs' kept made_legal number few as_many_runs
     (λ b w h. changed_runs b w (omega arith) ∙ ap (λ x. next_run x b (get_or v.runs b w)) l)))

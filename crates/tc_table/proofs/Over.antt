@@ -62,8 +62,8 @@ on_existing n (e ∷ past) b c legal h =
     (λ s. (runs_on n past e b c legal.0 s).known) h)
 
 ends_makes_none : (op : Op) (reply : Reply) (caller : Run) → ends_case (record { caller = caller; op = op; reply = reply }) ≡ true → created op reply ≡ None
-ends_makes_none (O.Create alive) (R.Made d) caller h = absurd cc
-ends_makes_none (O.Create alive) _ caller h = refl
+ends_makes_none (O.Create alive name) (R.Made d) caller h = absurd cc
+ends_makes_none (O.Create alive name) _ caller h = refl
 ends_makes_none _ reply caller h = refl
 
 same_exist : (past : List Entry) (e : Entry) (c : ℕ) → created e.op e.reply ≡ None → exists (e ∷ past) c ≡ exists past c
@@ -84,7 +84,7 @@ unfolding answer
 all_ended n past b op h = rw h
 
 ended_makes_none : (op : Op) (reply : Reply) → reply ≡ R.Ended → created op reply ≡ None
-ended_makes_none (O.Create alive) reply h = rw h
+ended_makes_none (O.Create alive name) reply h = rw h
 ended_makes_none _ reply h = refl
 
 now_killed : (ends x w : Bool) → ends ≡ true → ((true && (ends || x)) || w) ≡ true

@@ -173,7 +173,8 @@ no_parks n past e legal none = let q : e.reply ≡ R.Ended = rw none at legal in
 pub record IsNext (past : List Entry) (op : Op) (reply : Reply) (d : Comp) : Type 0 where
   pub number : d.0 ≡ components past
   pub few : components past < COMPONENTS
-  pub is_create : op ≡ O.Create (is_alive_create op)
+  pub given_name : Option (List ℕ)
+  pub is_create : op ≡ O.Create (is_alive_create op) given_name
   pub is_made : reply ≡ R.Made d
 
 few_by : (over : Bool) → (if over then Some F.TooMany else None) ≡ None → over ≡ false
@@ -181,16 +182,16 @@ few_by true h = absurd cc
 few_by false h = refl
 
 next_of : (n : ℕ) (past : List Entry) (b : ℕ) (op : Op) (reply : Reply) (d : Comp) → reply ≡ answer n past b op → created op reply ≡ Some d → IsNext past op reply d
-next_of n past b (O.Create alive) (R.Made m) d legal h =
-    let plain = plain_if n past b (O.Create alive) (R.Made m) refl refl legal in
+next_of n past b (O.Create alive name) (R.Made m) d legal h =
+    let plain = plain_if n past b (O.Create alive name) (R.Made m) refl refl legal in
     let same : m ≡ d = cc in
     let number : m.0 ≡ components past = made_number m (components past) plain.is in
-    let few : nat_le COMPONENTS (components past) ≡ false = few_by (nat_le COMPONENTS (components past)) (no_special n past b (O.Create alive) plain.no_fault) in
-    record { number = rw (← same) number; few = grind (arith, nat_tests); is_create = refl; is_made = ap R.Made same }
+    let few : nat_le COMPONENTS (components past) ≡ false = few_by (nat_le COMPONENTS (components past)) (no_special n past b (O.Create alive name) plain.no_fault) in
+    record { number = rw (← same) number; few = grind (arith, nat_tests); given_name = name; is_create = refl; is_made = ap R.Made same }
   where
     made_number : (m : Comp) (k : ℕ) → R.Made m ≡ R.Made (record { 0 = k }) → m.0 ≡ k
     made_number m k e = let q : m ≡ record { 0 = k } = cc in ap (λ x. x.0) q
-next_of n past b (O.Create alive) _ d legal h = absurd cc
+next_of n past b (O.Create alive name) _ d legal h = absurd cc
 next_of n past b _ reply d legal h = absurd cc
 
 pub next : (n : ℕ) (past : List Entry) (e : Entry) (d : Comp) → e.reply ≡ answer n past e.caller.0 e.op → created e.op e.reply ≡ Some d → IsNext past e.op e.reply d

@@ -36,4 +36,5 @@ worked_cases = record {
   start_of_run_0 = ((refl, (refl, tt)), refl);
   start_of_a_run_out_of_range = ((refl, (refl, tt)), refl);
   start_of_a_run_started_before = ((refl, (refl, (refl, (refl, tt)))), refl);
+  many_behaviours = ((refl, (refl, (refl, (refl, tt)))), refl);
 }

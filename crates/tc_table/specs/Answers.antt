@@ -44,7 +44,7 @@ wake_reply past b a =
 
 -- the reply to a call that is no error
 abbrev pub plain_answer : List Entry → ℕ → Op → Reply
-plain_answer past b (O.Create a) = R.Made (record { 0 = components past })
+plain_answer past b (O.Create alive name) = R.Made (record { 0 = components past })
 plain_answer past b (O.Start c run args) = R.Ok
 plain_answer past b (O.Stop g) = R.Ok
 plain_answer past b (O.Kill g) = R.Ok

@@ -72,7 +72,7 @@ components past = length (comps past)
 
 -- the error of a call that names components that exist: of a Create, and of a Start
 abbrev pub special_fault : ℕ → List Entry → Op → Option Fault
-special_fault n past (O.Create a) = if nat_le COMPONENTS (components past) then Some F.TooMany else None
+special_fault n past (O.Create alive name) = if nat_le COMPONENTS (components past) then Some F.TooMany else None
 special_fault n past (O.Start c run args) = start_fault n past c.0 run.0
 special_fault n past _ = None
 

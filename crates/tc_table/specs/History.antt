@@ -29,17 +29,17 @@ is_comp None c = false
 
 -- the component that a Create made
 abbrev pub created : Op → Reply → Option Comp
-created (O.Create alive) (R.Made c) = Some c
+created (O.Create alive name) (R.Made c) = Some c
 created _ _ = None
 
 -- the operation is a Create
 abbrev pub is_create : Op → Bool
-is_create (O.Create alive) = true
+is_create (O.Create alive name) = true
 is_create _ = false
 
 -- the operation is a Create of an alive-type component
 abbrev pub is_alive_create : Op → Bool
-is_alive_create (O.Create alive) = alive
+is_alive_create (O.Create alive name) = alive
 is_alive_create _ = false
 
 -- the component on which this operation starts run b

@@ -1,5 +1,5 @@
 -- What holds of every legal history, and the definitions leave unsaid.
-use Rattle.std.specs.Prelude.{ℕ, ◌≡◌, ◌&&◌, ◌||◌, not, if◌then◌else◌, Bool, true, false, Option, Some, None, is_some, List, [], ◌∷◌, ◌++◌}
+use Rattle.std.specs.Prelude.{ℕ, ◌≡◌, ◌&&◌, ◌||◌, not, if◌then◌else◌, ◌↔◌, Bool, true, false, Option, Some, None, is_some, List, [], ◌∷◌, ◌++◌, map}
 use Rattle.tc_verdict.specs.declared.verdict.Verdict.{Verdict}
 use Rattle.tc_verdict.specs.Verdict.{worst}
 use Rattle.tc_entry.specs.declared.comp.Comp.{Comp}
@@ -13,7 +13,7 @@ use Rattle.tc_entry.specs.declared.reply.Reply.TheVariants as R
 use Rattle.tc_entry.specs.Reply.{is_ended, is_fault}
 use Rattle.tc_table.specs.History.{comp_of, halts, is_comp, is_over, started_on}
 use Rattle.tc_table.specs.Phases.{phase, was_killed, was_halted}
-use Rattle.tc_table.specs.Local.{gives, local}
+use Rattle.tc_table.specs.Local.{gives, local, overall}
 use Rattle.tc_table.specs.Answers.{answer, is_active}
 use Rattle.tc_table.specs.Legal.{IsLegal, IsAllOver}
 use Rattle.tc_table.specs.Standing.{Kept, StandsFor}
@@ -111,3 +111,22 @@ OthersHaltNothing =
 -- a history that a state stands for is legal
 abbrev pub StandsForLegal : Type 0
 StandsForLegal = (k : Kept) (past : List Entry) → StandsFor k past → IsLegal k.behaviours past
+
+-- the operation, without the name that a Create may give
+abbrev pub unnamed_op : Op → Op
+unnamed_op (O.Create alive name) = O.Create alive None
+unnamed_op op = op
+
+-- the entry, without the name that it may give
+abbrev pub unnamed : Entry → Entry
+unnamed e = record e { op = unnamed_op e.op }
+
+-- two histories are both legal or neither, and give the same verdicts
+pub record AgreeInVerdicts (n : ℕ) (h g : List Entry) : Type 0 where
+  pub legal : IsLegal n h ↔ IsLegal n g
+  pub locals : (c : ℕ) → local h c ≡ local g c
+  pub overalls : overall h ≡ overall g
+
+-- histories that are the same but for the names of components agree in all that
+abbrev pub NamesSayNothing : Type 0
+NamesSayNothing = (n : ℕ) (h g : List Entry) → map unnamed h ≡ map unnamed g → AgreeInVerdicts n h g

@@ -1,5 +1,5 @@
 -- Worked cases: the calls of one test case with the reply to each, and the overall verdict at the end.
-use Rattle.std.specs.Prelude.{ℕ, ◌≡◌, true, false, List, [], ◌∷◌, reverse}
+use Rattle.std.specs.Prelude.{ℕ, ◌≡◌, true, false, Some, None, List, [], ◌∷◌, reverse, codes}
 use Rattle.tc_verdict.specs.declared.verdict.Verdict.{Verdict}
 use Rattle.tc_verdict.specs.declared.verdict.Verdict.TheVariants as V
 use Rattle.tc_verdict.specs.declared.user_verdict.UserVerdict.TheVariants as U
@@ -30,11 +30,11 @@ comp c = record { 0 = c }
 
 -- the main component creates an ordinary component, which is c
 abbrev pub create : ℕ → Entry
-create c = call 0 (O.Create false) (R.Made (comp c))
+create c = call 0 (O.Create false None) (R.Made (comp c))
 
 -- the main component creates an alive-type component, which is c
 abbrev pub create_alive : ℕ → Entry
-create_alive c = call 0 (O.Create true) (R.Made (comp c))
+create_alive c = call 0 (O.Create true None) (R.Made (comp c))
 
 -- the main component starts run b on component c, without arguments
 abbrev pub start : ℕ → ℕ → Reply → Entry
@@ -105,3 +105,6 @@ pub record WorkedCases : Type 0 where
       IsCase 2 V.Error (create 1 ∷ start 1 2 (R.Fault F.NoBehaviour) ∷ [])
   pub start_of_a_run_started_before :
       IsCase 2 V.Error (create 1 ∷ create 2 ∷ start 1 1 R.Ok ∷ start 2 1 (R.Fault F.NoBehaviour) ∷ [])
+  pub many_behaviours :
+      IsCase 256 V.Pass (call 0 (O.Create false (Some (codes "pump"))) (R.Made (comp 1)) ∷ call 0 (O.Create true (Some (codes "pump"))) (R.Made (comp 2)) ∷ start 1 255 R.Ok
+      ∷ call 255 (O.SetVerdict U.Pass) R.Ok ∷ [])

@@ -158,7 +158,7 @@ pub fn is_alive_create(op: &Op) -> bool
     ensures { result ≡ history.is_alive_create op.now }
 {
     match op {
-        Op::Create { alive } => *alive,
+        Op::Create { alive, .. } => *alive,
         _ => false,
     }
 }

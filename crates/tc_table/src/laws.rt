@@ -67,3 +67,8 @@ pub fn others_halt_nothing()
 pub fn started_by_entry()
     ensures { laws.StartedByEntry }
 {}
+
+/// The names of components change no reply and no verdict.
+pub fn names_say_nothing()
+    ensures { laws.NamesSayNothing }
+{}

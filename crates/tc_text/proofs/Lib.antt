@@ -4,6 +4,7 @@ pub mod Operands
 pub mod Verbs
 pub mod Filling
 pub mod LinesOf
+pub mod Naming
 pub mod Plain
 pub mod MoveLines
 pub mod SoFar

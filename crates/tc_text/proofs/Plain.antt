@@ -1,5 +1,5 @@
 -- The texts of moves have no LF.
-use Rattle.std.proofs.Common.{◌≡◌, ◌≢◌, ◌∙◌, ◌<◌, ◌==◌, ◌^◌, ℕ, List, [], ◌∷◌, ◌++◌, codes, true, false, refl, ap, sym, arith, rules}
+use Rattle.std.proofs.Common.{◌≡◌, ◌≢◌, ◌∙◌, ◌<◌, ◌==◌, ◌^◌, ℕ, List, [], ◌∷◌, ◌++◌, codes, true, false, Some, None, refl, ap, sym, arith, rules}
 use Rattle.std.specs.Fmt.{decimal}
 use Rattle.std.specs.Char.{is_ascii_digit}
 use Rattle.std.specs.Str.{all_ascii_digits}
@@ -20,6 +20,7 @@ use Rattle.tc_entry.specs.Limits.{IsBehaviours}
 use Rattle.tc_text.specs.MoveList.{behaviours_line}
 use Rattle.tc_text.proofs.Digits.{both, spelled_digits, digit_first}
 use Rattle.tc_text.proofs.LinesOf.{NoLf, no_lf-append}
+use Rattle.tc_text.proofs.Naming.{name_plain}
 
 digit_plain : (b : ℕ) → is_ascii_digit b ≡ true → (b == 10) ≡ false
 digit_plain b digit = grind (arith, nat_tests)
@@ -51,8 +52,10 @@ setting_plain U.Inconc = search rules
 setting_plain U.Fail = search rules
 
 op_plain : (op : Op) → IsOp op → NoLf (op_text op)
-op_plain (O.Create false) fits = search rules
-op_plain (O.Create true) fits = search rules
+op_plain (O.Create false None) fits = search rules
+op_plain (O.Create true None) fits = search rules
+op_plain (O.Create false (Some name)) fits = no_lf-append (codes "create named ") name (search rules) (name_plain name fits)
+op_plain (O.Create true (Some name)) fits = no_lf-append (codes "create alive named ") name (search rules) (name_plain name fits)
 op_plain (O.Start c run args) fits =
     no_lf-append (codes "start ") _ (search rules)
     (no_lf-append (decimal c.0) _ (number_plain c.0 fits.0) (refl, no_lf-append (decimal run.0) (args_text args) (number_plain run.0 (let low = fits.1 in omega (arith, low))) (args_plain args fits.3)))

@@ -1,5 +1,5 @@
 -- What only the way the texts are read needs: no public clause names a word of this file.
-use Rattle.std.specs.Prelude.{ℕ, ◌≡◌, true, List, ◌∷◌, Option, Some, MatchOption, slice_get}
+use Rattle.std.specs.Prelude.{ℕ, ◌≡◌, ◌≢◌, ◌≤◌, ◌++◌, codes, true, List, [], ◌∷◌, Option, Some, MatchOption, slice_get}
 use Rattle.std.specs.Borrow.{Bor}
 use Rattle.std.specs.Char.{is_ascii_digit}
 use Rattle.tc_text.specs.Lines.{lines_of}
@@ -25,3 +25,12 @@ IsWait S.WaitKilled = Unit {0}
 IsWait S.WakeDone = Unit {0}
 IsWait S.WakeKilled = Unit {0}
 IsWait _ = ⊥
+
+-- no byte of the text comes before the digits
+abbrev pub NoLow : List ℕ → Type 0
+NoLow [] = Unit {0}
+NoLow (b ∷ bs) = (48 ≤ b) × NoLow bs
+
+-- what may stand behind the kind of a component: it does not begin with the word of a kind
+abbrev pub EndsKind : List ℕ → Type 0
+EndsKind text = (rest : List ℕ) → text ≢ codes " alive" ++ rest

@@ -1,5 +1,5 @@
 -- What the readers of moves speak of among themselves.
-use Rattle.std.specs.Prelude.{ℕ, ◌≡◌, ◌≢◌, ◌<◌, ◌⊎◌, true, false, List, [], ◌∷◌, Option, MatchOption}
+use Rattle.std.specs.Prelude.{ℕ, ◌≡◌, ◌≢◌, ◌<◌, ◌⊎◌, true, false, List, [], ◌∷◌, Option, None, MatchOption}
 use Rattle.std.specs.Borrow.{Bor}
 use Rattle.tc_entry.specs.declared.op.Target.{Target}
 use Rattle.tc_entry.specs.declared.op.Op.{Op}
@@ -13,7 +13,7 @@ use Rattle.tc_text.specs.declared.short.ShortOp.TheVariants as H
 abbrev pub Takes : {A : Type 0} → Option (A × Bor (List ℕ)) → A → List ℕ → Type 0
 Takes found value behind = MatchOption found ⊥ (λ r. (r.0 ≡ value) × (r.1.now ≡ behind))
 
--- what may stand behind a number: neither a digit nor a letter comes first
+-- what may stand behind a number or a name: neither a digit nor a letter comes first
 abbrev pub EndsNumber : List ℕ → Type 0
 EndsNumber text = (b : ℕ) (rest : List ℕ) → text ≡ b ∷ rest → b < 48
 
@@ -40,7 +40,7 @@ status_op S.WakeKilled t = O.Wake true t
 
 -- the operation that a short one is
 abbrev pub op_of : ShortOp → Op
-op_of (H.Create alive) = O.Create alive
+op_of (H.Create alive) = O.Create alive None
 op_of (H.Stop g) = O.Stop g
 op_of (H.Kill g) = O.Kill g
 op_of H.StopCase = O.StopCase

@@ -1,7 +1,8 @@
 -- The one spelling of each move and each reply; it is this project's own.
-use Rattle.std.specs.Prelude.{ℕ, ◌≡◌, ◌<◌, ◌≤◌, ◌^◌, Bool, true, false, List, [], ◌∷◌, ◌++◌, length, codes}
+use Rattle.std.specs.Prelude.{ℕ, ◌≡◌, ◌<◌, ◌≤◌, ◌^◌, Bool, true, false, Option, Some, None, IfSome, List, [], ◌∷◌, ◌++◌, length, codes}
 use Rattle.std.specs.Fmt.{decimal}
 use Rattle.tc_entry.specs.declared.limits.TheConstants.{ARGUMENTS}
+use Rattle.tc_entry.specs.Name.{IsName}
 use Rattle.tc_verdict.specs.UserVerdict.{given}
 use Rattle.tc_verdict.specs.Verdict.{name_of}
 use Rattle.tc_verdict.specs.declared.run.Run.{Run}
@@ -62,7 +63,7 @@ verb_text V.Finish = codes "finish"
 
 -- the first words that an operation has
 abbrev pub verb_of : Op → Verb
-verb_of (O.Create _) = V.Create
+verb_of (O.Create _ _) = V.Create
 verb_of (O.Start _ _ _) = V.Start
 verb_of (O.Stop _) = V.Stop
 verb_of (O.Kill _) = V.Kill
@@ -79,14 +80,20 @@ verb_of (O.SetVerdict _) = V.SetVerdict
 verb_of O.GetVerdict = V.GetVerdict
 verb_of O.Finish = V.Finish
 
--- an operation that starts a behaviour
-abbrev pub IsStart : Op → Type 0
-IsStart op = verb_of op ≡ V.Start
+-- an operation with more to it than others: a start, and a create with a name
+abbrev pub IsLong : Op → Type 0
+IsLong (O.Start c run args) = Unit {0}
+IsLong (O.Create alive (Some name)) = Unit {0}
+IsLong _ = ⊥
 
--- what stands behind `create`
+-- what stands behind `create` of the component's kind
 abbrev pub kind_text : Bool → List ℕ
 kind_text false = []
 kind_text true = codes " alive"
+
+-- the same, and the component's name
+abbrev pub named_text : Bool → List ℕ → List ℕ
+named_text alive name = kind_text alive ++ (codes " named " ++ name)
 
 -- what stands behind `start `
 abbrev pub start_text : Comp → Run → List Comp → List ℕ
@@ -94,7 +101,8 @@ start_text c run args = decimal c.0 ++ (codes " " ++ (decimal run.0 ++ args_text
 
 -- what stands behind the first words
 abbrev pub operand_text : Op → List ℕ
-operand_text (O.Create alive) = kind_text alive
+operand_text (O.Create alive None) = kind_text alive
+operand_text (O.Create alive (Some name)) = named_text alive name
 operand_text (O.Start c run args) = start_text c run args
 operand_text (O.Stop g) = group_text g
 operand_text (O.Kill g) = group_text g
@@ -159,8 +167,9 @@ abbrev pub AreComps : List Comp → Type 0
 AreComps [] = Unit {0}
 AreComps (c ∷ cs) = IsComp c × AreComps cs
 
--- an operation whose numbers are those of their types, with at most four arguments
+-- an operation whose numbers are those of their types, with at most four arguments, and whose name is one
 abbrev pub IsOp : Op → Type 0
+IsOp (O.Create alive name) = IfSome name IsName
 IsOp (O.Start c run args) = IsComp c × (run.0 < 2 ^ 16) × (length args ≤ ARGUMENTS) × AreComps args
 IsOp (O.Stop g) = IsGroup g
 IsOp (O.Kill g) = IsGroup g

@@ -15,7 +15,7 @@ use crate::number::take_number;
 use std::alloc::Global;
 use tc_entry::{NoMemory, Op, Run, is_behaviours};
 
-/// How many behaviours the case has, 1 to 64, and the moves.
+/// How many behaviours the case has, 1 to 256, and the moves.
 #[derive(Debug, Drop)]
 pub struct MoveList {
     pub behaviours: u16,

@@ -1,25 +1,36 @@
 //! The texts of moves.
 ghost use Rattle.std.specs.Prelude.{◌≡◌, ◌<◌, ◌^◌, ◌++◌, ℕ, List, Some, IfSome};
-ghost use Rattle.tc_text.specs.Spelling.{move_text, IsOp, IsStart};
+ghost use Rattle.tc_text.specs.Spelling.{move_text, op_text, IsLong, IsOp};
 ghost use Rattle.tc_text.specs.Reading.{EndsMove, Takes};
 ghost use Rattle.tc_entry.specs.declared.op.Op.{Op as AnyOp};
 
-use crate::operand::{take_caller, take_start};
+use crate::operand::{take_caller, take_named, take_start};
 use crate::short::take_short_move;
 use crate::verb::{Verb, behind};
 use tc_entry::{Op, Run};
 
-/// The Start that the text begins with, as a move, and what stands behind it.
+// The long operation that the text begins with, and what stands behind it.
+fn take_long_op(text: &[u8]) -> Option<(Op, &[u8])>
+    ensures spelled { IfSome result (λ r. text.now ≡ op_text r.0 ++ r.1.now) }
+    ensures fits { IfSome result (λ r. IsOp r.0) }
+    ensures only { (op : AnyOp) (rest : List ℕ) → IsLong op → IsOp op → EndsMove rest → text.now ≡ op_text op ++ rest → Takes result op rest }
+{
+    match behind(text, Verb::Start) {
+        Some(rest) => take_start(rest),
+        None => take_named(behind(text, Verb::Create)?),
+    }
+}
+
+/// The move of a Start, or of a Create with a name, that the text begins with, and what stands behind it.
 #[inline(never)]
-pub fn take_start_move(text: &[u8]) -> Option<((Run, Op), &[u8])>
+pub fn take_long_move(text: &[u8]) -> Option<((Run, Op), &[u8])>
     ensures spelled { IfSome result (λ r. text.now ≡ move_text r.0.0.0 r.0.1 ++ r.1.now) }
     ensures fits { IfSome result (λ r. (r.0.0.0 < 2 ^ 16) × IsOp r.0.1) }
-    ensures only { (run : ℕ) (op : AnyOp) (rest : List ℕ) → IsStart op → run < 2 ^ 16 → IsOp op → EndsMove rest
+    ensures only { (run : ℕ) (op : AnyOp) (rest : List ℕ) → IsLong op → run < 2 ^ 16 → IsOp op → EndsMove rest
         → text.now ≡ move_text run op ++ rest → Takes result (record { 0 = run }, op) rest }
 {
     let (caller, rest) = take_caller(text)?;
-    let rest = behind(rest, Verb::Start)?;
-    let (op, rest) = take_start(rest)?;
+    let (op, rest) = take_long_op(rest)?;
     Some(((caller, op), rest))
 }
 
@@ -33,7 +44,7 @@ pub fn take_move(text: &[u8]) -> Option<((Run, Op), &[u8])>
 {
     match take_short_move(text) {
         Some(((caller, op), rest)) => Some(((caller, op.op()), rest)),
-        None => take_start_move(text),
+        None => take_long_move(text),
     }
 }
 

@@ -1,20 +1,23 @@
 //! What operations are about.
-ghost use Rattle.std.specs.Prelude.{◌≡◌, ◌<◌, ◌≤◌, ◌+◌, ◌^◌, ◌++◌, ℕ, Bool, List, codes, length, IfSome, MatchOption};
+ghost use Rattle.std.specs.Prelude.{◌≡◌, ◌<◌, ◌≤◌, ◌+◌, ◌^◌, ◌++◌, ℕ, Bool, List, codes, length, Some, IfSome, MatchOption};
 ghost use Rattle.tc_entry.specs.declared.limits.TheConstants.{ARGUMENTS};
 ghost use Rattle.tc_verdict.specs.UserVerdict.{given};
 ghost use Rattle.tc_verdict.specs.Verdict.{name_of};
-ghost use Rattle.tc_text.specs.Spelling.{group_text, target_text, args_text, IsGroup, IsTarget, IsOp, AreComps, kind_text, start_text, verb_of, operand_text};
+ghost use Rattle.tc_text.specs.Spelling.{group_text, target_text, args_text, IsGroup, IsTarget, IsOp, AreComps, kind_text, named_text, start_text, verb_of, operand_text};
+ghost use Rattle.tc_entry.specs.Name.{IsName};
+ghost use Rattle.tc_text.specs.Inside.{EndsKind};
 ghost use Rattle.tc_text.specs.Reading.{EndsNumber, EndsMove, Takes};
 ghost use Rattle.std.specs.Fmt.{decimal};
 ghost use Rattle.tc_verdict.specs.declared.user_verdict.UserVerdict.{UserVerdict as AnySetting};
 ghost use Rattle.tc_entry.specs.declared.op.Group.{Group as AnyGroup};
 ghost use Rattle.tc_entry.specs.declared.op.Target.{Target as AnyTarget};
 ghost use Rattle.tc_text.specs.declared.verb.Verb.TheVariants as words;
-ghost use Rattle.tc_entry.specs.declared.op.Op.TheVariants.{Start as AnyStart};
+ghost use Rattle.tc_entry.specs.declared.op.Op.TheVariants.{Create as AnyCreate, Start as AnyStart};
 ghost use Rattle.tc_entry.specs.declared.comp.Comp.{Comp as AnyComp};
 ghost use Rattle.tc_verdict.specs.declared.run.Run.{Run as AnyRun};
 
 use crate::cursor::after;
+use crate::name::take_name;
 use crate::number::take_number;
 use tc_entry::{Args, Comp, Group, Op, Run, Target, UserVerdict};
 
@@ -96,12 +99,31 @@ pub(crate) fn take_caller(text: &[u8]) -> Option<(Run, &[u8])>
 #[inline(always)]
 pub(crate) fn take_kind(text: &[u8]) -> (bool, &[u8])
     ensures spelled { text.now ≡ kind_text result.0 ++ result.1.now }
-    ensures only { (alive : Bool) (rest : List ℕ) → EndsMove rest → text.now ≡ kind_text alive ++ rest → (result.0 ≡ alive) × (result.1.now ≡ rest) }
+    ensures only { (alive : Bool) (rest : List ℕ) → EndsKind rest → text.now ≡ kind_text alive ++ rest → (result.0 ≡ alive) × (result.1.now ≡ rest) }
 {
     match after(text, b" alive") {
         Some(rest) => (true, rest),
         None => (false, text),
     }
+}
+
+/// What stands in front of a component's name.
+pub(crate) const NAMED: &[u8] = b" named ";
+
+/// The Create with a name that goes on as the text begins behind its first word, and what stands behind it.
+pub(crate) fn take_named(text: &[u8]) -> Option<(Op, &[u8])>
+    ensures spelled { IfSome result (λ r. (verb_of r.0 ≡ words.Create) × (text.now ≡ operand_text r.0 ++ r.1.now)) }
+    ensures fits { IfSome result (λ r. IsOp r.0) }
+    ensures only { (alive : Bool) (name : List ℕ) (rest : List ℕ) → IsName name → EndsNumber rest → text.now ≡ named_text alive name ++ rest
+        → Takes result (AnyCreate alive (Some name)) rest }
+{
+    let (alive, rest) = take_kind(text);
+    let (name, rest) = take_name(after(rest, NAMED)?)?;
+    let op = Op::Create {
+        alive,
+        name: Some(name),
+    };
+    Some((op, rest))
 }
 
 // Appends the components that the text begins with, each with a space in front, as far as there is room; gives what

@@ -1,14 +1,15 @@
-//! Operations without arguments, which are small.
+//! Operations with neither arguments nor a name, which are small.
 ghost use Rattle.std.specs.Prelude.{◌≡◌, ◌<◌, ◌^◌, ◌++◌, ℕ, List, IfSome, MatchOption};
-ghost use Rattle.tc_text.specs.Spelling.{IsOp, IsStart, move_text, op_text, operand_text, verb_of};
+ghost use Rattle.tc_text.specs.Spelling.{IsLong, IsOp, move_text, op_text, operand_text, verb_of};
 ghost use Rattle.tc_text.specs.Reading.{EndsMove, op_of};
 ghost use Rattle.tc_entry.specs.declared.op.Op.{Op as AnyOp};
 
-use crate::operand::{take_caller, take_group, take_kind, take_setting, take_target};
+use crate::cursor::after;
+use crate::operand::{NAMED, take_caller, take_group, take_kind, take_setting, take_target};
 use crate::verb::{Status, Verb, about, take_verb};
 use tc_entry::{Group, Op, Run, Target, UserVerdict};
 
-/// An operation but a Start: what has no arguments is small, and quickly handed on.
+/// An operation but a Start and a Create with a name: what has neither arguments nor a name is small, and quickly handed on.
 #[derive(Clone, Copy, PartialEq, Eq, Debug)]
 pub enum ShortOp {
     Create(bool),
@@ -28,7 +29,7 @@ impl ShortOp {
         ensures { result ≡ op_of self }
     {
         match self {
-            ShortOp::Create(alive) => Op::Create { alive },
+            ShortOp::Create(alive) => Op::Create { alive, name: None },
             ShortOp::Stop(group) => Op::Stop(group),
             ShortOp::Kill(group) => Op::Kill(group),
             ShortOp::StopCase => Op::StopCase,
@@ -40,18 +41,21 @@ impl ShortOp {
     }
 }
 
-// The operation that begins with these words and goes on as the text begins, and what stands behind it; None for a Start.
+// The operation that begins with these words and goes on as the text begins, and what stands behind it; None for a long one.
 #[inline(always)]
 fn take_short_operand(verb: Verb, text: &[u8]) -> Option<(ShortOp, &[u8])>
     ensures spelled { IfSome result (λ r. (verb_of (op_of r.0) ≡ verb) × (text.now ≡ operand_text (op_of r.0) ++ r.1.now)) }
     ensures fits { IfSome result (λ r. IsOp (op_of r.0)) }
     ensures only { (op : AnyOp) (rest : List ℕ) → verb_of op ≡ verb → IsOp op → EndsMove rest → text.now ≡ operand_text op ++ rest
-        → MatchOption result (IsStart op) (λ r. (op_of r.0 ≡ op) × (r.1.now ≡ rest)) }
+        → MatchOption result (IsLong op) (λ r. (op_of r.0 ≡ op) × (r.1.now ≡ rest)) }
 {
     match verb {
         Verb::Create => {
             let (alive, rest) = take_kind(text);
-            Some((ShortOp::Create(alive), rest))
+            match after(rest, NAMED) {
+                Some(_) => None,
+                None => Some((ShortOp::Create(alive), rest)),
+            }
         }
         Verb::Start => None,
         Verb::Stop => {
@@ -76,25 +80,26 @@ fn take_short_operand(verb: Verb, text: &[u8]) -> Option<(ShortOp, &[u8])>
     }
 }
 
-// The operation that the text begins with, and what stands behind it; None also where it is a Start.
+// The operation that the text begins with, and what stands behind it; None also where it is a long one.
 #[inline(always)]
 fn take_short_op(text: &[u8]) -> Option<(ShortOp, &[u8])>
     ensures spelled { IfSome result (λ r. text.now ≡ op_text (op_of r.0) ++ r.1.now) }
     ensures fits { IfSome result (λ r. IsOp (op_of r.0)) }
     ensures only { (op : AnyOp) (rest : List ℕ) → IsOp op → EndsMove rest → text.now ≡ op_text op ++ rest
-        → MatchOption result (IsStart op) (λ r. (op_of r.0 ≡ op) × (r.1.now ≡ rest)) }
+        → MatchOption result (IsLong op) (λ r. (op_of r.0 ≡ op) × (r.1.now ≡ rest)) }
 {
     let (verb, rest) = take_verb(text)?;
     take_short_operand(verb, rest)
 }
 
-/// The move that the text begins with, and what stands behind it; None also where it is a Start.
+/// The move that the text begins with, and what stands behind it; None also where its operation is a Start, or a Create with
+/// a name.
 #[inline(always)]
 pub fn take_short_move(text: &[u8]) -> Option<((Run, ShortOp), &[u8])>
     ensures spelled { IfSome result (λ r. text.now ≡ move_text r.0.0.0 (op_of r.0.1) ++ r.1.now) }
     ensures fits { IfSome result (λ r. (r.0.0.0 < 2 ^ 16) × IsOp (op_of r.0.1)) }
     ensures only { (run : ℕ) (op : AnyOp) (rest : List ℕ) → run < 2 ^ 16 → IsOp op → EndsMove rest → text.now ≡ move_text run op ++ rest
-        → MatchOption result (IsStart op) (λ r. (r.0.0.0 ≡ run) × (op_of r.0.1 ≡ op) × (r.1.now ≡ rest)) }
+        → MatchOption result (IsLong op) (λ r. (r.0.0.0 ≡ run) × (op_of r.0.1 ≡ op) × (r.1.now ≡ rest)) }
 {
     let (caller, rest) = take_caller(text)?;
     let (op, rest) = take_short_op(rest)?;

@@ -2,7 +2,7 @@
 use super::*;
 use std::process::Abort;
 use std::test::Fail;
-use tc_entry::{Args, Comp, Fault, Group, NoMemory, Op, Reply, Run, Target, UserVerdict, Verdict};
+use tc_entry::{Args, Comp, Fault, Group, Name, NoMemory, Op, Reply, Run, Target, UserVerdict, Verdict};
 
 fn is_spelled(
     rt: &impl Abort,
@@ -64,12 +64,65 @@ fn single_texts(rt: HostRuntime) -> Result<(), NoMemory> {
     Ok(())
 }
 
+/// Some name, where the text is one.
+fn named(alive: bool, name: &str) -> Op {
+    Op::Create {
+        alive,
+        name: Name::read(name),
+    }
+}
+
+#[test]
+fn created_components_with_names(rt: HostRuntime) -> Result<(), NoMemory> {
+    let mut buffer = Vec::new(rt.alloc());
+    let out = &mut buffer;
+    let longest = "abcdefghijklmnopqrstuvwxyz_ABC12";
+    is_spelled(&rt, out, 0, named(false, "pump"), "0 create named pump")?;
+    is_spelled(&rt, out, 7, named(true, "pump"), "7 create alive named pump")?;
+    is_spelled(&rt, out, 0, named(false, "named"), "0 create named named")?;
+    is_spelled(&rt, out, 0, named(false, "alive"), "0 create named alive")?;
+    is_spelled(
+        &rt,
+        out,
+        0,
+        named(true, longest),
+        "0 create alive named abcdefghijklmnopqrstuvwxyz_ABC12",
+    )?;
+    for text in [
+        "0 create named",
+        "0 create named ",
+        "0 create named mtc",
+        "0 create named 1",
+        "0 create named _a",
+        "0 create named a-b",
+        "0 create named pump alive",
+        "0 create named pump named valve",
+        "0 create  named pump",
+        "0 create named  pump",
+        "0 create named pump ",
+        "0 create named abcdefghijklmnopqrstuvwxyz_ABC123",
+    ] {
+        assert!(rt; read_move(text.as_bytes()).is_none(), "{text}");
+    }
+    assert_eq!(rt; take_short_move(b"0 create named pump"), None);
+    assert_eq!(rt;
+        take_move(b"0 create named pump -> made 1"),
+        Some(((Run(0), named(false, "pump")), b" -> made 1".as_slice()))
+    );
+    assert_eq!(rt;
+        take_name(b"t_1 64\n"),
+        Name::read("t_1").map(|name| (name, b" 64\n".as_slice()))
+    );
+    assert_eq!(rt; take_name(b"all 64"), None);
+    Ok(())
+}
+
 #[test]
 fn operations_without_a_target(rt: HostRuntime) -> Result<(), NoMemory> {
     let mut buffer = Vec::new(rt.alloc());
     let out = &mut buffer;
-    is_spelled(&rt, out, 0, Op::Create { alive: false }, "0 create")?;
-    is_spelled(&rt, out, 63, Op::Create { alive: true }, "63 create alive")?;
+    is_spelled(&rt, out, 0, Op::Create { alive: false, name: None }, "0 create")?;
+    is_spelled(&rt, out, 63, Op::Create { alive: true, name: None }, "63 create alive")?;
     is_spelled(
         &rt,
         out,
@@ -259,7 +312,7 @@ fn refused_move_lists(rt: HostRuntime) {
         kind: TextKind::Move,
     });
     assert_eq!(rt; fault_of(&rt, b"behaviours 0\n"), first(1));
-    assert_eq!(rt; fault_of(&rt, b"behaviours 65\n"), first(1));
+    assert_eq!(rt; fault_of(&rt, b"behaviours 257\n"), first(1));
     assert_eq!(rt; fault_of(&rt, b"\n"), first(1));
     assert_eq!(rt;
         fault_of(&rt, b"behaviours 1\n0 setverdict error\n"),
@@ -279,14 +332,14 @@ fn refused_move_lists(rt: HostRuntime) {
 #[test]
 fn move_lists(rt: HostRuntime) -> Result<(), Fail> {
     for (text, behaviours) in [
-        (b"behaviours 64\n0 create\n63 finish\n".as_slice(), 64),
-        (b"behaviours 1\n0 create\n63 finish".as_slice(), 1),
+        (b"behaviours 256\n0 create\n255 finish\n".as_slice(), 256),
+        (b"behaviours 1\n0 create\n255 finish".as_slice(), 1),
     ] {
         let list = read_moves(rt.alloc(), text).ok().ok_or("a list")?;
         assert_eq!(rt; list.behaviours, behaviours);
         assert_eq!(rt; list.moves.len(), 2);
-        assert!(rt; list.moves[0].1.same(&Op::Create { alive: false }));
-        assert_eq!(rt; list.moves[1].0, Run(63));
+        assert!(rt; list.moves[0].1.same(&Op::Create { alive: false, name: None }));
+        assert_eq!(rt; list.moves[1].0, Run(255));
         assert!(rt; list.moves[1].1.same(&Op::Finish));
     }
     let list = read_moves(rt.alloc(), b"behaviours 7")
@@ -347,8 +400,8 @@ fn parts_are_taken(rt: HostRuntime) {
     assert_eq!(rt; take_line_end(b" \n"), None);
     assert_eq!(rt; take_number(b"10 "), Some((10, b" ".as_slice())));
     assert_eq!(rt; take_number(b"010"), None);
-    assert_eq!(rt; as_behaviours(64), Some(64));
-    assert_eq!(rt; as_behaviours(65), None);
+    assert_eq!(rt; as_behaviours(256), Some(256));
+    assert_eq!(rt; as_behaviours(257), None);
     assert_eq!(rt;
         take_verdict(b"inconc\n"),
         Some((Verdict::Inconc, b"\n".as_slice()))
@@ -404,15 +457,15 @@ fn a_start_is_no_short_move(rt: HostRuntime) {
         args,
     };
     assert_eq!(rt;
-        take_start_move(b"0 start 1 2 7 -> ok"),
+        take_long_move(b"0 start 1 2 7 -> ok"),
         Some(((Run(0), start), b" -> ok".as_slice()))
     );
-    assert_eq!(rt; take_start_move(b"0 stop 1"), None);
+    assert_eq!(rt; take_long_move(b"0 stop 1"), None);
     assert_eq!(rt; take_short_move(b"0 start 1 2"), None);
     let Some(((run, short), rest)) = take_short_move(b"5 create alive\n") else {
         panic!(rt; "a create was not read")
     };
     assert_eq!(rt; run, Run(5));
-    assert_eq!(rt; short.op(), Op::Create { alive: true });
+    assert_eq!(rt; short.op(), Op::Create { alive: true, name: None });
     assert_eq!(rt; rest, b"\n".as_slice());
 }

@@ -1,11 +1,12 @@
 //! Writing moves.
 ghost use Rattle.std.specs.Prelude.{◌≡◌, ◌++◌, OnOk, OnErr};
 ghost use Rattle.std.specs.Io.{StartsWith};
+ghost use Rattle.tc_entry.specs.declared.op.Op.TheVariants as ops;
 ghost use Rattle.tc_text.specs.Spelling.{move_text, op_text, operand_text, group_text, target_text, args_text};
 
 use crate::append::{append_number, append_text};
 use crate::verb::Verb;
-use tc_entry::{Comp, Group, NoMemory, Op, Run, Target};
+use tc_entry::{Comp, Group, Name, NoMemory, Op, Run, Target};
 use tc_verdict::{from_user, name};
 
 fn append_group(out: &mut Vec<u8>, group: Group) -> Result<(), NoMemory>
@@ -41,14 +42,29 @@ fn append_args(out: &mut Vec<u8>, args: &[Comp]) -> Result<(), NoMemory>
     append_args(out, rest)
 }
 
+// Appends what stands behind `create`; where memory is refused, a part of it.
+fn append_created(out: &mut Vec<u8>, alive: bool, name: &Option<Name>) -> Result<(), NoMemory>
+    ensures ok { OnOk result (out.new.items ≡ out.old.items ++ operand_text (ops.Create alive name.now)) }
+    ensures err { OnErr result (StartsWith out.new.items out.old.items) }
+{
+    if alive {
+        append_text(out, " alive")?;
+    }
+    if let Some(name) = name {
+        append_text(out, " named ")?;
+        out.extend_from_slice(name.bytes())?;
+    }
+    Ok(())
+}
+
 // Appends what stands behind the first words of the operation; where memory is refused, a part of it.
 fn append_operand(out: &mut Vec<u8>, op: &Op) -> Result<(), NoMemory>
     ensures ok { OnOk result (out.new.items ≡ out.old.items ++ operand_text op.now) }
     ensures err { OnErr result (StartsWith out.new.items out.old.items) }
 {
     match op {
-        Op::Create { alive: false } | Op::StopCase | Op::GetVerdict | Op::Finish => Ok(()),
-        Op::Create { alive: true } => append_text(out, " alive"),
+        Op::Create { alive, name } => append_created(out, *alive, name),
+        Op::StopCase | Op::GetVerdict | Op::Finish => Ok(()),
         Op::Start { comp, run, args } => {
             append_number(out, u64::from(comp.0))?;
             append_text(out, " ")?;

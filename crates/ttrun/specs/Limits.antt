@@ -15,7 +15,7 @@ history_limit = 16777216
 
 -- the workers of a test case
 abbrev pub worker_limit : ℕ
-worker_limit = 64
+worker_limit = 256
 
 -- an input that is known has at most so many bytes
 abbrev pub HasAtMost : ℕ → Option (List ℕ) → Type 0

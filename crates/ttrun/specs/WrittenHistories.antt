@@ -29,7 +29,7 @@ pub record WereRun (r : Results) : Type 0 where
   pub some : r.finished ≢ []
   pub each : All WasRun r.finished
 
--- what `run_campaign` says of its results, where some test case is finished: each finished one has the report of its case, and 1 to 64 behaviours
+-- what `run_campaign` says of its results, where some test case is finished: each finished one has the report of its case, and 1 to 256 behaviours
 pub record AreReported (cases : List Outline) (r : Results) : Type 0 where
   pub some : r.finished ≢ []
   pub reports : AllZip IsReported (take (length r.finished) cases) r.finished

@@ -234,15 +234,15 @@ fn words_of_stop_on(rt: HostRuntime) -> Result<(), Fail> {
     Ok(())
 }
 
-// A test case of 64 behaviours: the first makes 63 components, starts the others on them, and waits for them.
-fn sixty_four(alloc: Global) -> Result<String, Fail> {
+// A test case of 256 behaviours: the first makes 255 components, starts the others on them, and waits for them.
+fn many_behaviours(alloc: Global) -> Result<String, Fail> {
     let mut text = "testcase t\nbehaviour main\n".to_string(alloc)?;
-    for number in 1..64 {
+    for number in 1..256 {
         let steps = format!(in alloc; "create p{number}\nstart p{number} b{number}\n")?;
         text.push_str(steps.as_str())?;
     }
     text.push_str("wait done all\nend\n")?;
-    for number in 1..64 {
+    for number in 1..256 {
         let behaviour = format!(in alloc; "behaviour b{number}\nsetverdict pass\nend\n")?;
         text.push_str(behaviour.as_str())?;
     }
@@ -251,10 +251,10 @@ fn sixty_four(alloc: Global) -> Result<String, Fail> {
 }
 
 #[test]
-fn a_case_of_sixty_four_behaviours(rt: HostRuntime) -> Result<(), Fail> {
-    let text = sixty_four(rt.alloc())?;
+fn a_case_of_256_behaviours(rt: HostRuntime) -> Result<(), Fail> {
+    let text = many_behaviours(rt.alloc())?;
     let wanted = Wanted {
-        written: "testcase,components,none,pass,inconc,fail,error,verdict;t,64,1,63,0,0,0,pass",
+        written: "testcase,components,none,pass,inconc,fail,error,verdict;t,256,1,255,0,0,0,pass",
         told: "",
         status: 0,
     };

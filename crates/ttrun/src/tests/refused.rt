@@ -7,7 +7,7 @@ use tc_table::{TextFault, TextKind};
 fn refused_move_lists(rt: HostRuntime) -> Result<(), Fail> {
     let cases = [
         ("behaviours 0\n", "ttrun: line 1: bad first line"),
-        ("behaviours 65\n", "ttrun: line 1: bad first line"),
+        ("behaviours 257\n", "ttrun: line 1: bad first line"),
         (
             "behaviours 1\n0 setverdict error\n",
             "ttrun: line 2: bad move",

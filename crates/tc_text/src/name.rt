@@ -1,0 +1,32 @@
+//! Names in a text.
+ghost use Rattle.std.specs.Prelude.{◌≡◌, ◌++◌, ℕ, List, IfSome};
+ghost use Rattle.tc_entry.specs.Name.{IsName};
+ghost use Rattle.tc_text.specs.Inside.{NoLow};
+ghost use Rattle.tc_text.specs.Reading.{EndsNumber, Takes};
+
+use tc_entry::Name;
+
+// The bytes before the first one that comes before the digits, and the others.
+fn cut_low(text: &[u8]) -> (&[u8], &[u8])
+    ensures parts { text.now ≡ result.0.now ++ result.1.now }
+    ensures before { NoLow result.0.now }
+    ensures behind { EndsNumber result.1.now }
+{
+    for (place, byte) in text.iter().enumerate() {
+        if *byte < b'0' {
+            return text.split_at(place);
+        }
+    }
+    text.split_at(text.len())
+}
+
+/// The name that the text begins with, and what stands behind it. No digit or letter may stand there.
+#[inline(never)]
+pub fn take_name(text: &[u8]) -> Option<(Name, &[u8])>
+    ensures spelled { IfSome result (λ r. text.now ≡ r.0 ++ r.1.now) }
+    ensures fits { IfSome result (λ r. IsName r.0) }
+    ensures only { (name : List ℕ) (rest : List ℕ) → IsName name → EndsNumber rest → text.now ≡ name ++ rest → Takes result name rest }
+{
+    let (name, rest) = cut_low(text);
+    Some((Name::of_bytes(name)?, rest))
+}
