@@ -301,8 +301,8 @@ end
         }
     }
     assert_eq!(rt;
-        main.steps()[5],
-        Step::Stop(GroupPlace::One(Place::Bound(2)))
+        main.steps().last(),
+        Some(&Step::Stop(GroupPlace::One(Place::Bound(2))))
     );
     Ok(())
 }
