@@ -1,31 +1,47 @@
 //! The arguments of a Start.
-ghost use Rattle.std.specs.Prelude.{◌≡◌, ◌<◌, ◌≤◌, [], ◌∷◌, ◌++◌, length, IsTrue, ◌↔◌};
+ghost use Rattle.std.specs.Prelude.{◌≡◌, ◌<◌, ◌≤◌, [], ◌∷◌, ◌++◌, length, IsTrue, ◌↔◌, nat_eq};
 ghost use Rattle.std.specs.Bool.{OnTrue, OnFalse};
+ghost use Rattle.std.specs.Cmp.{on_equiv, on_per, nat_eq_equiv, partial_equiv_from_equiv};
+ghost use Rattle.std.specs.Cmp.Lexicographic.{pointwise, lists_equiv, lists_per};
+ghost use Rattle.std.specs.Ordering.{on};
 ghost use Rattle.tc_entry.specs.declared.limits.TheConstants.{ARGUMENTS};
 
 use crate::comp::{Comp, same_comps};
 use crate::limits::ARGUMENTS;
-use arrayvec::ArrayVec;
 use std::marker::Model;
 
-/// The arguments of a Start: at most `ARGUMENTS` components, held in place.
-#[derive(PartialEq, Eq, Debug, Drop)]
+/// The arguments of a Start: at most `ARGUMENTS` components, held in place. Their number is a byte, since each entry of a
+/// history has room for them.
+#[derive(Debug, Drop)]
 pub struct Args {
-    comps: ArrayVec<Comp, ARGUMENTS>,
+    comps: [Comp; ARGUMENTS],
+    count: u8,
 }
 
 impl Model for Args {
-    ghost use Rattle.std.specs.Prelude.{List, length, ◌≤◌};
+    ghost use Rattle.std.specs.Prelude.{List, take, ◌≤◌};
     ghost use Rattle.tc_entry.specs.declared.comp.Comp.{Comp};
     ghost use Rattle.tc_entry.specs.declared.limits.TheConstants.{ARGUMENTS};
 
     ghost Value = { List Comp };
 
-    ghost view = { λ a. a.comps.items };
+    ghost view = { λ a. take a.count a.comps };
 
-    ghost invariant = { λ a. length a.comps.items ≤ ARGUMENTS };
+    ghost invariant = { λ a. a.count ≤ ARGUMENTS };
+}
 
-    ghost inverse = { λ xs. record { comps = record { items = xs } } };
+impl PartialEq for Args {
+    ghost eq = { pointwise (on (λ c. c.0) nat_eq) };
+
+    ghost laws = { lists_per (on_per (λ c. c.0) (partial_equiv_from_equiv nat_eq_equiv)) };
+
+    fn eq(&self, other: &Args) -> bool {
+        self.as_slice() == other.as_slice()
+    }
+}
+
+impl Eq for Args {
+    ghost laws = { lists_equiv (on_equiv (λ c. c.0) nat_eq_equiv) };
 }
 
 impl Args {
@@ -34,7 +50,8 @@ impl Args {
         ensures { result ≡ [] }
     {
         Args {
-            comps: ArrayVec::new(),
+            comps: [Comp(0); ARGUMENTS],
+            count: 0,
         }
     }
 
@@ -44,7 +61,13 @@ impl Args {
         ensures full { OnFalse result (self.new ≡ self.old) }
         ensures answer { IsTrue result ↔ (length self.old < 4) }
     {
-        self.comps.try_push(comp).is_ok()
+        let place = usize::from(self.count);
+        if place >= ARGUMENTS {
+            return false;
+        }
+        self.comps[place] = comp;
+        self.count += 1;
+        true
     }
 
     /// The components, in their order.
@@ -52,24 +75,23 @@ impl Args {
         ensures same { result.now ≡ self.now }
         ensures few { length self.now ≤ ARGUMENTS }
     {
-        self.comps.as_slice()
+        &self.comps[..usize::from(self.count)]
     }
 
     /// An equal value.
     pub fn copy(&self) -> Args
         ensures { result ≡ self.now }
     {
-        let mut comps = ArrayVec::new();
-        for comp in self.comps.as_slice() {
-            let _ = comps.try_push(*comp);
+        Args {
+            comps: self.comps,
+            count: self.count,
         }
-        Args { comps }
     }
 
     /// Whether both are the same list.
     pub fn same(&self, other: &Args) -> bool
         ensures { IsTrue result ↔ (self.now ≡ other.now) }
     {
-        same_comps(self.comps.as_slice(), other.comps.as_slice())
+        same_comps(self.as_slice(), other.as_slice())
     }
 }

@@ -1,34 +1,63 @@
 //! The name of a test case, a behaviour or a component.
-ghost use Rattle.std.specs.Prelude.{◌≡◌, ◌↔◌, IsSome, IfSome, IsTrue};
+ghost use Rattle.std.specs.Prelude.{◌≡◌, ◌↔◌, IsSome, IfSome, IsTrue, nat_eq};
+ghost use Rattle.std.proofs.Common.{rules};
+ghost use Rattle.std.specs.Cmp.{partial_equiv_from_equiv};
+ghost use Rattle.std.specs.Cmp.Lexicographic.{pointwise, nat_list_eq_equiv};
+ghost use Rattle.std.specs.Cmp.Rules.{hashing};
+ghost use Rattle.std.specs.Hash as fed;
 ghost use Rattle.tc_entry.specs.Name.{IsName, is_name_byte as is_allowed};
 
 use crate::limits::NAME_BYTES;
-use arrayvec::ArrayVec;
+use std::hash::{Hash, Hasher};
 use std::marker::Model;
 
-/// A name of a test case, a behaviour or a component: 1 to `NAME_BYTES` bytes, held in place.
-#[derive(PartialEq, Eq, Hash, Debug, Drop)]
+/// A name of a test case, a behaviour or a component: 1 to `NAME_BYTES` bytes, held in place. Their number is a byte, since
+/// each entry of a history has room for a name.
+#[derive(Debug, Drop)]
 pub struct Name {
-    bytes: ArrayVec<u8, NAME_BYTES>,
+    bytes: [u8; NAME_BYTES],
+    length: u8,
 }
 
 impl Model for Name {
-    ghost use Rattle.std.specs.Prelude.{List, ℕ};
+    ghost use Rattle.std.specs.Prelude.{List, ℕ, take, ◌≤◌};
     ghost use Rattle.tc_entry.specs.Name.{IsName};
 
     ghost Value = { List ℕ };
 
-    ghost view = { λ n. n.bytes.items };
+    ghost view = { λ n. take n.length n.bytes };
 
-    ghost invariant = { λ n. IsName n.bytes.items };
-
-    ghost inverse = { λ bs. record { bytes = record { items = bs } } };
+    ghost invariant = { λ n. (n.length ≤ 32) × IsName (take n.length n.bytes) };
 }
 
 fn is_name_byte(byte: u8) -> bool
     ensures { result ≡ is_allowed byte }
 {
     byte.is_ascii_alphanumeric() || byte == b'_'
+}
+
+impl PartialEq for Name {
+    ghost eq = { pointwise nat_eq };
+
+    ghost laws = { partial_equiv_from_equiv nat_list_eq_equiv };
+
+    fn eq(&self, other: &Name) -> bool {
+        self.bytes() == other.bytes()
+    }
+}
+
+impl Eq for Name {
+    ghost laws = { nat_list_eq_equiv };
+}
+
+impl Hash for Name {
+    ghost hash_input = { fed.slice fed.u8 };
+
+    ghost respects_eq = { Prim.search (hashing, rules) };
+
+    fn hash<H: Hasher>(&self, state: &mut H) {
+        self.bytes().hash(state);
+    }
 }
 
 impl Name {
@@ -56,8 +85,16 @@ impl Name {
         {
             return None;
         }
-        let bytes = ArrayVec::try_from(bytes).ok()?;
-        Some(Name { bytes })
+        let length = bytes.len();
+        if length > NAME_BYTES {
+            return None;
+        }
+        let mut own = [0; NAME_BYTES];
+        own[..length].copy_from_slice(bytes);
+        Some(Name {
+            bytes: own,
+            length: length as u8,
+        })
     }
 
     /// The name's spelling.
@@ -65,7 +102,7 @@ impl Name {
         ensures bytes { result.now ≡ self.now }
         ensures name { IsName self.now }
     {
-        self.bytes.as_slice()
+        &self.bytes[..usize::from(self.length)]
     }
 
     /// An equal value.
@@ -73,7 +110,8 @@ impl Name {
         ensures { result ≡ self.now }
     {
         Name {
-            bytes: self.bytes.clone().unwrap(),
+            bytes: self.bytes,
+            length: self.length,
         }
     }
 
@@ -81,6 +119,6 @@ impl Name {
     pub fn same(&self, other: &Name) -> bool
         ensures { IsTrue result ↔ (self.now ≡ other.now) }
     {
-        self.bytes.as_slice() == other.bytes.as_slice()
+        self.bytes() == other.bytes()
     }
 }
