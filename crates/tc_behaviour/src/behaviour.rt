@@ -18,7 +18,8 @@ pub trait Behaviour {
     ghost script: { Self → ScriptView };
 
     /// Makes the call of each step in order, and hands back the pass: Returned after the last step and once the pass has
-    /// ended (a call was answered Ended or by a dynamic error, or the run stopped itself), Starved where memory was refused.
+    /// ended (a call was answered Ended or by a dynamic error, stopped or killed the run's own component or the main one,
+    /// or stopped the test case), Starved where memory was refused.
     ///
     /// Where the pass has another number of arguments than the script has parameters, it makes no call and comes back Returned.
     fn run<R: Wait>(self, rt: &R, alloc: Global, pass: Pass) -> Back

@@ -26,7 +26,8 @@ pub struct Closed {
 /// Why a case was not closed.
 #[derive(Clone, Copy, PartialEq, Eq, Debug, Error)]
 pub enum CloseFault {
-    /// What came back is not whole: not one of each run, the case not over, or a log that is not its run's part.
+    /// What came back is not whole: not one of each run, a log that its run's word has not counted, a reply that is not the
+    /// table's, the case not over, or a log that is not its run's part.
     Torn,
     /// Memory was refused.
     NoMemory,

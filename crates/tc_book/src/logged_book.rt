@@ -1,13 +1,13 @@
 //! The book behind the lock. Whatever is added to its history is added to the log of its caller in the same call.
-ghost use Rattle.std.specs.Prelude.{◌≡◌, ◌≢◌, ◌≤◌, ◌+◌, [], true, false, IfOk, OnOk, OnErr, IfErr, IfSome, IfNone, OnSome, IsTrue, IsFalse, Some, None, is_none, replicate, set, slice_index_or};
+ghost use Rattle.std.specs.Prelude.{◌≡◌, ◌≢◌, ◌≤◌, ◌+◌, [], true, false, if◌then◌else◌, IfOk, OnOk, OnErr, IfErr, IfSome, IfNone, OnSome, IsTrue, IsFalse, Some, None, is_none, replicate, set, slice_index_or};
 ghost use Rattle.tc_entry.specs.declared.op.Op.TheVariants as ops;
 ghost use Rattle.tc_entry.specs.declared.reply.Reply.TheVariants as replies;
 ghost use Rattle.tc_table.specs.History as history;
 ghost use Rattle.tc_book.specs.declared.closed.CloseFault.TheVariants as faults;
 ghost use Rattle.tc_book.specs.Closing.{IsWhole, IsMerged, merged};
 ghost use Rattle.tc_book.specs.Logs.{is_closed, with_own};
-ghost use Rattle.tc_book.specs.OpenCase.{past_of, places_at, reply_to, with_entry, without_leave, without_wake};
-ghost use Rattle.tc_book.specs.Replies.{suits};
+ghost use Rattle.tc_book.specs.OpenCase.{past_of, places_at, reply_to, with_entry, with_wake, without_leave, without_wake};
+ghost use Rattle.tc_book.specs.Replies.{suits, is_parked};
 ghost use Rattle.tc_book.specs.Report.{IsOneHistory};
 ghost use Rattle.tc_book.specs.Starts as starts;
 ghost use Rattle.tc_book.specs.Waking.{NobodyWakes, wakes};
@@ -78,8 +78,11 @@ impl LoggedBook {
         requires going_on { is_closed log.old ≡ false }
         ensures run { log.new.run ≡ log.old.run }
         ensures own { log.new.own ≡ log.old.own }
+        ensures waiting { self.new.waiting.items ≡ self.old.waiting.items }
+        ensures behaviours { self.new.book.behaviours ≡ self.old.book.behaviours }
         ensures reply { IfOk result (λ r. r.0 ≡ reply_to self.old.book log.old.run op) }
         ensures suits { IfOk result (λ r. suits op r.0 ≡ true) }
+        ensures places { IfOk result (λ r. self.new.book.places ≡ (if is_parked r.0 then set self.old.book.places log.old.run.0 (with_wake (places_at self.old.book.places log.old.run)) else self.old.book.places)) }
         ensures silent { IfOk result (λ r. r.1.anyone ≡ false → NobodyWakes self.old.book self.new.book) }
         ensures history { IfOk result (λ r. self.new.book.history ≡ with_entry self.old.book log.old.run op r.0) }
         ensures entries { IfOk result (λ r. log.new.entries ≡ with_own log.old op r.0) }
@@ -104,6 +107,11 @@ impl LoggedBook {
         requires room { 1 ≤ log.old.room }
         ensures none { IfNone result (self.new.book ≡ self.old.book) }
         ensures none_logged { IfNone result (log.new ≡ log.old) }
+        ensures waits_on { IfNone result (self.new.waiting.items ≡ self.old.waiting.items) }
+        ensures asleep { IfNone result (IsTrue (places_at self.old.book.places log.old.run).wake → reply_to self.old.book log.old.run (ops.Wake killed target) ≡ replies.Parked) }
+        ensures waits_no_more { OnSome result (self.new.waiting.items ≡ set self.old.waiting.items log.old.run.0 None) }
+        ensures behaviours { self.new.book.behaviours ≡ self.old.book.behaviours }
+        ensures places { OnSome result (IsTrue (places_at self.old.book.places log.old.run).wake × (self.new.book.places ≡ set self.old.book.places log.old.run.0 (without_wake (places_at self.old.book.places log.old.run)))) }
         ensures run { log.new.run ≡ log.old.run }
         ensures own { log.new.own ≡ log.old.own }
         ensures awake { IfSome result (λ r. r.0 ≢ replies.Parked) }
@@ -128,7 +136,9 @@ impl LoggedBook {
         ensures own { log.new.own ≡ log.old.own }
         ensures silent { IfSome result (λ f. f.1.anyone ≡ false → NobodyWakes self.old.book self.new.book) }
         ensures ended { IfSome result (λ f. is_none f.0 ≡ is_closed log.old) }
-        ensures places { IfSome result (λ _. self.new.book.places ≡ set self.old.book.places log.old.run.0 (without_leave (places_at self.old.book.places log.old.run))) }
+        ensures waiting { self.new.waiting.items ≡ self.old.waiting.items }
+        ensures behaviours { self.new.book.behaviours ≡ self.old.book.behaviours }
+        ensures places { OnSome result (IsTrue (places_at self.old.book.places log.old.run).leave × (self.new.book.places ≡ set self.old.book.places log.old.run.0 (without_leave (places_at self.old.book.places log.old.run)))) }
         ensures quiet { IfSome result (λ f. IfNone f.0 ((self.new.book.history ≡ self.old.book.history) × (log.new ≡ log.old))) }
         ensures reply { IfSome result (λ f. IfSome f.0 (λ r. r ≡ reply_to self.old.book log.old.run ops.Finish)) }
         ensures suits { IfSome result (λ f. IfSome f.0 (λ r. suits ops.Finish r ≡ true)) }
@@ -148,6 +158,8 @@ impl LoggedBook {
         ensures history { self.new.book.history ≡ self.old.book.history }
         ensures kept { result ≡ (places_at self.old.book.places run).leave }
         ensures places { IsTrue result → self.new.book.places ≡ set self.old.book.places run.0 (without_leave (places_at self.old.book.places run)) }
+        ensures gone { IsFalse result → self.new.book ≡ self.old.book }
+        ensures waiting { self.new.waiting.items ≡ self.old.waiting.items }
     {
         self.book.leave(run, true).is_some()
     }
@@ -162,6 +174,8 @@ impl LoggedBook {
         ensures book { self.new.book ≡ self.old.book }
         ensures waits { IfNone result (starts.start_of (past_of self.old.book) run.0 ≡ None → history.is_over (past_of self.old.book) ≡ false) }
         ensures unmet { IfNone result (hand.new ≡ hand.old) }
+        ensures waits_on { IfNone result (self.new.waiting.items ≡ self.old.waiting.items) }
+        ensures waits_no_more { OnSome result (self.new.waiting.items ≡ set self.old.waiting.items run.0 None) }
         ensures met { IfSome result (λ s. OnSome s (hand.new ≡ answered hand.old Met)) }
         ensures answers { IfSome result (λ s. starts.IsAwaitedIn self.old.book.behaviours (past_of self.old.book) run.0 s) }
     {

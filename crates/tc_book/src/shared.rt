@@ -1,4 +1,4 @@
-//! The lock and the condition of a case: each entry is added in one hold.
+//! The lock and the conditions of a case: each entry but those of verdict calls is added in one hold.
 ghost use Rattle.std.specs.Prelude.{◌≡◌, ◌≢◌, ◌≤◌, ◌+◌, true, false, IfOk, OnOk, OnErr, IfSome, IfNone, OnSome, is_none};
 ghost use Rattle.tc_entry.specs.declared.op.Op.TheVariants as ops;
 ghost use Rattle.tc_entry.specs.declared.reply.Reply.TheVariants as replies;

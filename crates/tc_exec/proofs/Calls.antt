@@ -14,10 +14,10 @@ use Rattle.tc_book.specs.Passes.{PassState, LeftState}
 use Rattle.tc_exec.specs.declared.handed.Handed.{Handed}
 use Rattle.tc_exec.specs.declared.job.Back.{Back}
 use Rattle.tc_exec.specs.declared.refusal.CaseError.{CaseError}
-use Rattle.tc_exec.specs.declared.refusal.CaseError.TheVariants.{NoMemory}
+use Rattle.tc_exec.specs.declared.refusal.CaseError.TheVariants.{NoMemory, Torn}
 use Rattle.tc_exec.specs.declared.job.Ending.{Ending}
 use Rattle.tc_exec.specs.declared.job.Ending.TheVariants as E
-use Rattle.tc_exec.specs.Case.{AreCalled, IsMadeOf}
+use Rattle.tc_exec.specs.Case.{AreCalled, IsHandedBack, IsMadeOf}
 use Rattle.tc_exec.specs.Workers.{IsWorked, WasCalled, WasCalledFor, IsLeftBy, AreLeftBy, opening}
 use Rattle.tc_exec.specs.Inside.{is_starved}
 
@@ -156,6 +156,16 @@ module _ {B : Type 0} (outcome : B → PassState → Back → Type 0) where
       ((k : ℕ) (run : Run) → k < length runs → (get_or runs k run).0 ≡ k) →
       (starved ≡ false → (l : LeftState) → (get_or ls 0 l).started ≢ None) →
       IfOk result (λ c. IsWhole c.behaviours c.history ls) → IfOk result (IsMadeOf outcome bs)
-  report_made (Ok c) false runs bs ls refused all number main whole = record { runs = runs; lefts = ls; numbered = number; left = all refl; main = main refl; whole = whole }
+  report_made (Ok c) false runs bs ls refused all number main whole = record { back = record { runs = runs; lefts = ls; numbered = number; left = all refl; main = main refl }; whole = whole }
   report_made (Ok c) true runs bs ls refused all number main whole = let bad = refused refl in absurd cc
   report_made (Err e) starved runs bs ls refused all number main whole = tt
+
+  -- where a case is torn, memory was refused to no behaviour
+  pub torn_handed : (result : Result Closed CaseError) (starved : Bool) (runs : List Run) (bs : List B) (ls : List LeftState) →
+      (starved ≡ true → result ≡ Err NoMemory) → (starved ≡ false → AreLeftBy outcome runs bs ls) →
+      ((k : ℕ) (run : Run) → k < length runs → (get_or runs k run).0 ≡ k) →
+      (starved ≡ false → (l : LeftState) → (get_or ls 0 l).started ≢ None) →
+      result ≡ Err Torn → IsHandedBack outcome bs
+  torn_handed result false runs bs ls refused all number main torn = record { runs = runs; lefts = ls; numbered = number; left = all refl; main = main refl }
+  torn_handed (Err e) true runs bs ls refused all number main torn = let bad = refused refl in absurd cc
+  torn_handed (Ok c) true runs bs ls refused all number main torn = absurd cc

@@ -1,13 +1,13 @@
 //! The run of a case.
-ghost use Rattle.std.specs.Prelude.{◌≡◌, ◌≢◌, ◌↔◌, ◌<◌, ◌≤◌, ◌+◌, ◌-◌, ◌∷◌, [], true, IfOk, OnOk, Err};
+ghost use Rattle.std.specs.Prelude.{◌≡◌, ◌≢◌, ◌↔◌, ◌<◌, ◌≤◌, ◌+◌, ◌-◌, ◌∷◌, ◌⊎◌, [], true, IfOk, OnOk, Err};
 ghost use Rattle.std.specs.Vec.{vec_len, vec_capacity};
 ghost use Rattle.tc_entry.specs.declared.limits.TheConstants.{BEHAVIOURS};
 ghost use Rattle.tc_book.specs.Closing.{IsWhole};
 ghost use Rattle.tc_exec.specs.Inside.{AreAbove, Gathers, IsFirstStarted, handed_on, jobs_of, runs_of};
 ghost use Rattle.tc_exec.specs.Workers.{WasCalledFor, opening};
 ghost use Rattle.tc_exec.specs.Gates.{IsPassed, IsStopped};
-ghost use Rattle.tc_exec.specs.Case.{IsCaseReport, AreCalled, IsMadeOf};
-ghost use Rattle.tc_exec.specs.declared.refusal.CaseError.TheVariants.{NoBehaviours, TooManyBehaviours, NoMemory, NoThread};
+ghost use Rattle.tc_exec.specs.Case.{IsCaseReport, AreCalled, IsHandedBack, IsMadeOf};
+ghost use Rattle.tc_exec.specs.declared.refusal.CaseError.TheVariants.{NoBehaviours, TooManyBehaviours, NoMemory, NoThread, Torn};
 
 use crate::callable::Callable;
 use crate::gate::{Everyone, Gate};
@@ -28,6 +28,7 @@ fn behaviours_of(jobs: usize, threads: u16) -> Result<u16, CaseError>
     ensures many { (BEHAVIOURS < jobs) ↔ (result ≡ Err TooManyBehaviours) }
     ensures threads { ((0 < jobs) × (jobs ≤ BEHAVIOURS) × (threads < jobs - 1)) ↔ (result ≡ Err NoThread) }
     ensures count { IfOk result (λ n. n ≡ jobs) }
+    ensures kind { (result ≢ Err NoMemory) × (result ≢ Err Torn) }
 {
     if jobs == 0 {
         return Err(CaseError::NoBehaviours);
@@ -124,6 +125,7 @@ fn run_made<R: Threads + Wait, B: Callable>(
     ensures report { IfOk result (IsCaseReport (vec_len workers + 1)) }
     ensures called { IfOk result (AreCalled B.outcome (first ∷ jobs_of workers.items)) }
     ensures made { IfOk result (IsMadeOf B.outcome (first ∷ jobs_of workers.items)) }
+    ensures torn { result ≡ Err Torn → IsHandedBack B.outcome (first ∷ jobs_of workers.items) }
 {
     let gathered = gather(rt, pass, first, workers, gathered);
     close(rt, alloc, shared, gathered)
@@ -147,6 +149,9 @@ fn run_jobs<R: Threads + Wait + Copy + Send + 'static, B: Callable, G: Gate>(
     ensures made { IfOk result (IsMadeOf B.outcome jobs.items) }
     ensures asked { OnOk result (IsPassed G.asks behaviours gate.old gate.new) }
     ensures stopped { result ≡ Err NoThread → IsStopped G.asks behaviours gate.old gate.new }
+    ensures torn { result ≡ Err Torn → IsHandedBack B.outcome jobs.items }
+    ensures asked_torn { result ≡ Err Torn → IsPassed G.asks behaviours gate.old gate.new }
+    ensures asked_refused { result ≡ Err NoMemory → (gate.new ≡ gate.old) ⊎ IsPassed G.asks behaviours gate.old gate.new }
 {
     let count = usize::from(behaviours);
     let (shared, pass, tickets) = open_case(alloc, behaviours)?;
@@ -184,6 +189,7 @@ pub fn run_case<R: Threads + Wait + Copy + Send + 'static>(
     ensures report { IfOk result (IsCaseReport (vec_len jobs)) }
     ensures called { IfOk result (AreCalled ⟦<Job as Callable>⟧.outcome jobs.items) }
     ensures made { IfOk result (IsMadeOf ⟦<Job as Callable>⟧.outcome jobs.items) }
+    ensures torn { result ≡ Err Torn → IsHandedBack ⟦<Job as Callable>⟧.outcome jobs.items }
 {
     run_case_with(rt, alloc, jobs, threads, &mut Everyone)
 }
@@ -206,6 +212,10 @@ pub fn run_case_with<R: Threads + Wait + Copy + Send + 'static, B: Callable, G: 
     ensures made { IfOk result (IsMadeOf B.outcome jobs.items) }
     ensures asked { OnOk result (IsPassed G.asks (vec_len jobs) gate.old gate.new) }
     ensures stopped { result ≡ Err NoThread → vec_len jobs ≤ threads + 1 → IsStopped G.asks (vec_len jobs) gate.old gate.new }
+    ensures torn { result ≡ Err Torn → IsHandedBack B.outcome jobs.items }
+    ensures asked_torn { result ≡ Err Torn → IsPassed G.asks (vec_len jobs) gate.old gate.new }
+    ensures asked_refused { result ≡ Err NoMemory → (gate.new ≡ gate.old) ⊎ IsPassed G.asks (vec_len jobs) gate.old gate.new }
+    ensures unasked { (vec_len jobs ≡ 0) ⊎ (BEHAVIOURS < vec_len jobs) ⊎ (threads + 1 < vec_len jobs) → gate.new ≡ gate.old }
 {
     let behaviours = behaviours_of(jobs.len(), threads)?;
     run_jobs(rt, alloc, behaviours, jobs, gate)

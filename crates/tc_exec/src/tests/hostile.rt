@@ -11,7 +11,7 @@ use std::test::Fail;
 use std::time::{Clock, Duration};
 use std::{fs, thread};
 use tc_book::{Halt, Pass, open_case};
-use tc_entry::{Args, Comp, Group, Reply, Run, UserVerdict};
+use tc_entry::{Args, Comp, Group, Reply, Run, UserVerdict, Verdict};
 use tc_table::replay_check;
 
 /// Allows no worker of one run, and keeps the runs that it was asked for.
@@ -194,6 +194,24 @@ fn pass_of_another_case(rt: HostRuntime) -> Result<(), Fail> {
             panic!(rt; "what came back is not whole")
         };
         assert_eq!(rt; error, refusal);
+    }
+    Ok(())
+}
+
+// Where each allocation of this test fails in turn, memory is what is told of: never that a whole case is torn.
+#[test]
+fn a_whole_case_is_never_torn(rt: HostRuntime) -> Result<(), Fail> {
+    let alloc = rt.alloc();
+    let first: Behaviour = Box::new(alloc, move |pass: Pass| {
+        let mut pass = pass;
+        let made = pass.set_verdict(UserVerdict::Pass);
+        Back::after(pass, made)
+    })?;
+    let second: Behaviour = Box::new(alloc, move |pass: Pass| Back::after(pass, Ok(())))?;
+    let jobs = vec![in alloc; Job::new(first), Job::new(second)]?;
+    match run_case(&rt, alloc, jobs, 1) {
+        Ok(report) => assert_eq!(rt; report.verdict, Verdict::Pass),
+        Err(why) => assert_eq!(rt; why, CaseError::NoMemory),
     }
     Ok(())
 }

@@ -1,6 +1,6 @@
 use Rattle.std.proofs.Common.{◌∷◌}
 use Rattle.tc_exec.specs.Inside.{jobs_of, runs_of}
-use Rattle.tc_exec.proofs.Calls.{numbered, report_called, report_made}
+use Rattle.tc_exec.proofs.Calls.{numbered, report_called, report_made, torn_handed}
 use Rattle.tc_exec.proofs.case.run_made.Goals as goal
 
 pub returns-clause-called : goal.returns-clause-called
@@ -18,3 +18,11 @@ returns-clause-made g c =
     let bs = jobs_of c.args.workers.items in
     report_made outcome c.close.result c.gather-gathered.result.starved (record { 0 = 0 } ∷ runs) (c.args.first ∷ bs) c.gather-gathered.result.lefts.items
     c.close.ensures.starved c.gather-gathered.ensures.lefts (numbered outcome runs c.requires.runs) (λ none. c.gather-gathered.ensures.first) c.close.ensures.whole
+
+pub returns-clause-torn : goal.returns-clause-torn
+returns-clause-torn g c =
+    let outcome = g.B.Callable.outcome in
+    let runs = runs_of c.args.workers.items in
+    let bs = jobs_of c.args.workers.items in
+    torn_handed outcome c.close.result c.gather-gathered.result.starved (record { 0 = 0 } ∷ runs) (c.args.first ∷ bs) c.gather-gathered.result.lefts.items
+    c.close.ensures.starved c.gather-gathered.ensures.lefts (numbered outcome runs c.requires.runs) (λ none. c.gather-gathered.ensures.first)
