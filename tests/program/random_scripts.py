@@ -9,7 +9,7 @@ from case import Case, Ran, difference, run
 from examples import faults_of_history
 from judged import Judgement
 from random_moves import below, mutated
-from script_reader import read_script
+from script_reader import Campaign, given_name, read_script
 from script_run import NotInTurn, report_of, run_in_turn, status_of_all, table_of
 from table import STATUSES, VERDICTS
 from texts import Judged, check
@@ -26,6 +26,12 @@ WORDS = (
     "testcase", "behaviour", "end", "create", "start", "stop", "kill", "running", "alive", "done", "killed", "wait", "setverdict",
     "stopcase", "getverdict", "pass", "error", "mtc", "self", "any", "all", "b0", "b1", "p", "q", "1x", "zz", "#", "_", "named",
 )
+
+
+def named_creates(campaign: Campaign) -> int:
+    """How many steps of the campaign create a component and give it a name."""
+    steps = [words for case in campaign for behaviour in case.behaviours for words in behaviour.steps]
+    return sum(words[0] == "create" and given_name(words) != "" for words in steps)
 
 
 class Writer:
@@ -72,9 +78,12 @@ class Writer:
             self.lines.append(f"wait {self.chance.choice(('done', 'killed'))} {self.chance.choice([on, 'all'])}")
 
     def create(self) -> None:
-        """Creates a component under a new name."""
+        """Creates a component under a new name, and may give it a name that binds nothing: also one that is bound, or bound later."""
         name = f"p{len(self.bound)}"
-        self.lines.append(f"create {name}" + (" alive" if self.chance.random() < 0.5 else ""))
+        words = ["create", name] + ["alive"] * (self.chance.random() < 0.5)
+        if self.chance.random() < 0.4:
+            words += ["named", self.chance.choice(("pump", "named", "alive", "p2", "p3", "a0", "b1", "t0", name))]
+        self.lines.append(" ".join(words))
         self.bound.append(name)
 
     def target(self, at: int, groups: Tuple[str, ...]) -> str:
@@ -121,7 +130,9 @@ def changed(chance: random.Random, text: bytes) -> bytes:
     if chance.random() < 0.3:
         return mutated(chance, text)
     lines = text.decode().split("\n")
-    at = chance.randrange(len(lines))
+    # the first line of a behaviour is rare, and has faults of its own
+    heads = [at for at, line in enumerate(lines) if line.split()[:1] == ["behaviour"]]
+    at = chance.choice(heads) if chance.random() < 0.15 else chance.randrange(len(lines))
     words = lines[at].split()
     for _ in range(chance.choice((1, 1, 1, 4))):
         place, what = chance.randrange(len(words) + 1), chance.randrange(6)
@@ -188,9 +199,10 @@ def reports_of_scripts_in_turn(seed: int) -> Judgement:
             met["reports"] += 1
             met[ending.split()[0]] += 1
             met["runs"] += sum(len(it.logs) for it in finished)
+            met["named"] += sum(" named " in line for it in finished for log in it.logs.values() for line in log)
             met.update(it.table.overall() for it in finished)
             met.update("reply " + (it if it.startswith("error") else it.split()[0]) for one in finished for it in one.replies)
-        floors = [("runs", 500), ("complete", 50), ("stopped", 30), ("reply ended", 5), ("reply matched", 100)]
+        floors = [("runs", 500), ("named", 150), ("complete", 50), ("stopped", 30), ("reply ended", 5), ("reply matched", 100)]
         return below(met, floors + [(it, 5) for it in VERDICTS] + [(f"reply error {it}", 3) for it in ("stuck", "not-main")])
 
     return Judgement(f"reports_of_random_scripts_in_turn_{seed}", "ttrun run [--csv] [--stop-on V] < (random scripts)", judge)
@@ -207,7 +219,8 @@ def histories_of_scripts(seed: int) -> Judgement:
             if faults:
                 return [*faults, f"the script: {text[:3000].decode()}"]
             met["starts"] += text.count(b"start ")
-        return below(met, [("starts", 200)])
+            met["named"] += named_creates(read_script(text))
+        return below(met, [("starts", 200), ("named", 200)])
 
     return Judgement(f"histories_of_random_scripts_{seed}", "ttrun run --history < (random scripts) | ttrun check", judge)
 
@@ -225,10 +238,11 @@ def changed_scripts_are_judged(seed: int) -> Judgement:
                 faults = faults_against(run_words(program, text), b"", read.errors, 3)
             else:
                 met["accepted"] += 1
+                met["named"] += named_creates(read)
                 faults = faults_of_histories(program, text)
             if faults:
                 return [*faults, f"the script: {text[:3000]!r}"]
-        return below(met, [("accepted", 40), *((it, 1) for it in KINDS)])
+        return below(met, [("accepted", 40), ("named", 100), *((it, 1) for it in KINDS)])
 
     return Judgement(f"changed_scripts_are_judged_{seed}", "ttrun run < (changed scripts)", judge)
 

@@ -35,7 +35,7 @@ Test = Union[Case, Judgement]
 # Each group with the fewest tests that it may have.
 GROUPS = (
     ("rows", rows.cases, 130),
-    ("scripts", scripts.cases, 85),
+    ("scripts", scripts.cases, 100),
     ("words", words.cases, 60),
     ("devices", devices.cases, 75),
     ("sizes", sizes.cases, 29),

@@ -55,7 +55,9 @@ def has_form(words: List[str]) -> bool:
     """Whether the words are of a form, any word being taken in the place of a name or a component."""
     verb, rest = words[0], words[1:]
     if verb == "create":
-        return len(rest) == 1 or len(rest) == 2 and rest[1] == "alive"
+        options = rest[1:]
+        is_named = options[:-1] in (["named"], ["alive", "named"])
+        return bool(rest) and (options in ([], ["alive"]) or is_named)
     if verb in ("behaviour", "start"):
         return len(rest) >= (1 if verb == "behaviour" else 2)
     if verb == "wait":
@@ -77,17 +79,30 @@ def references_of(words: List[str]) -> List[str]:
     return words[1:] if verb in ("stop", "kill", *STATUSES) else []
 
 
+def given_name(words: List[str]) -> str:
+    """The name that a create gives the component that it makes, which is bound under another; empty where it gives none."""
+    return words[-1] if len(words) > 3 else ""
+
+
+def names_of(words: List[str]) -> List[str]:
+    """The words that stand in the place of a name, but for the components that a step refers to."""
+    verb = words[0]
+    if verb in ("testcase", "behaviour"):
+        return words[1:]
+    if verb == "create":
+        return [it for it in (words[1], given_name(words)) if it]
+    return words[2:3] if verb == "start" else []
+
+
 def has_good_names(words: List[str]) -> bool:
     """Whether each word in the place of a name or a component is allowed there."""
     verb = words[0]
-    names = words[1:] if verb in ("testcase", "behaviour") else words[1:2] if verb == "create" else []
-    names = words[2:3] if verb == "start" else names
     groups = ["mtc", "self"]
     if verb in ("stop", "kill"):
         groups += ["all"]
     elif verb in ("wait", *STATUSES):
         groups += ["any", "all"]
-    return all(map(is_name, names)) and all(it in groups or is_name(it) for it in references_of(words))
+    return all(map(is_name, names_of(words))) and all(it in groups or is_name(it) for it in references_of(words))
 
 
 class Grammar:

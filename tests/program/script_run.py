@@ -4,7 +4,7 @@ from __future__ import annotations
 from dataclasses import dataclass
 from typing import Dict, Iterator, List, Optional, Tuple
 
-from script_reader import Behaviour, Campaign, TestCase
+from script_reader import Behaviour, Campaign, TestCase, given_name
 from table import VERDICTS, Op, Table, Target
 from texts import Block, Entry, judge_block, status_of
 
@@ -20,7 +20,7 @@ class Scope:
         """The call of a step."""
         verb = words[0]
         if verb == "create":
-            return Op("create", alive=len(words) == 3)
+            return Op("create", alive=words[2:3] == ["alive"], name=given_name(words))
         if verb == "start":
             run = next(at for at, it in enumerate(case.behaviours) if it.name == words[2])
             return Op("start", self.known[words[1]], run=run, args=tuple(self.known[it] for it in words[3:]))

@@ -4,7 +4,7 @@ from __future__ import annotations
 from typing import List, Tuple
 
 from case import Case
-from rows import text
+from rows import CSV_HEADER, text
 
 FRAME = "testcase t;behaviour main;{};end;behaviour w a;end;end"
 
@@ -29,7 +29,15 @@ THIRD_LINES: List[Tuple[str, str, str]] = [
     ("wait_without_a_target", "wait done", "line not understood"),
     ("words_in_capitals", "GETVERDICT", "line not understood"),
     ("a_stop_of_the_case_with_a_word_too_many", "stopcase all", "line not understood"),
-    ("a_named_create_in_a_script", "create p named l", "line not understood"),
+    ("a_named_create_without_a_name", "create p named", "line not understood"),
+    ("a_named_create_of_alive_without_a_name", "create p alive named", "line not understood"),
+    ("a_word_behind_the_name_of_a_create", "create p named l alive", "line not understood"),
+    ("alive_misspelt_before_a_name", "create p living named l", "line not understood"),
+    ("named_misspelt", "create p alive called l", "line not understood"),
+    ("a_create_named_mtc_in_a_script", "create p named mtc", "bad name"),
+    ("an_alive_create_named_all_in_a_script", "create p alive named all", "bad name"),
+    ("a_create_with_a_name_of_33_bytes", "create p named " + "l" * 33, "bad name"),
+    ("a_named_create_of_self", "create self named l", "bad name"),
     ("kill_of_any", "kill any", "bad name"),
     ("create_of_mtc", "create mtc", "bad name"),
     ("create_of_self", "create self", "bad name"),
@@ -50,6 +58,7 @@ THIRD_LINES: List[Tuple[str, str, str]] = [
     # the first kind that applies
     ("byte_before_line", "foo\t", "byte not allowed"),
     ("line_before_name", "create 1x 2x", "line not understood"),
+    ("line_before_the_name_of_a_create", "create 1x called mtc", "line not understood"),
     ("name_before_place", "behaviour all", "bad name"),
     ("place_before_many", "behaviour b p q r s u", "not allowed here"),
     ("reference_before_behaviour", "start x zz", "unbound reference"),
@@ -97,6 +106,10 @@ REFUSED: List[Tuple[str, bytes, int, str]] = [
     ("two_test_cases_of_one_name", text("testcase t;behaviour main;end;end;testcase t;behaviour main;end;end"), 5,
      "name already used"),
     ("a_component_bound_twice", text("testcase t;behaviour main;create p;create p;end;end"), 4, "name already used"),
+    ("a_component_bound_twice_with_two_names", text("testcase t;behaviour main;create p named l;create p named m;end;end"), 4,
+     "name already used"),
+    ("a_name_of_a_create_is_not_bound", text("testcase t;behaviour main;create p named l;kill l;end;end"), 4, "unbound reference"),
+    ("a_name_of_a_create_before_names", text("testcase t;behaviour main;create p;create p named mtc;end;end"), 4, "bad name"),
     ("a_parameter_bound_twice", text("testcase t;behaviour main;end;behaviour w a a;end;end"), 4, "name already used"),
     ("a_component_named_as_a_parameter", text("testcase t;behaviour main;end;behaviour w a;create a;end;end"), 5,
      "name already used"),
@@ -118,6 +131,18 @@ REFUSED: List[Tuple[str, bytes, int, str]] = [
 ]
 
 
+# Name, line 3 of the frame, the call of that line.
+NAMED_CREATES: List[Tuple[str, str, str]] = [
+    ("a_create_with_the_name_of_its_component", "create named named named", "create named named"),
+    ("a_create_with_the_name_alive", "create p named alive", "create named alive"),
+    ("an_alive_create_with_the_name_alive", "create p alive named alive", "create alive named alive"),
+    ("a_create_with_a_name_of_32_bytes", "create p named " + "l" * 32, "create named " + "l" * 32),
+]
+
+# Names of components that are those of others, or bound.
+SHARED_NAMES = text("testcase t;behaviour main;create p named q;create q alive named q;create r named t;kill q;end;end")
+
+
 def cases() -> List[Case]:
     """All of them. A refused script is refused alike in each form."""
     thirds = [(name, text(FRAME.format(line)), 3, fault) for name, line, fault in THIRD_LINES]
@@ -128,4 +153,10 @@ def cases() -> List[Case]:
         count = " ".join(f"{it} {int(it == verdict)}" for it in ("none", "pass", "inconc", "fail", "error"))
         output = text(f"testcase t;run 0 main on 0;  {calls};local 0 {verdict};verdict {verdict};cases 1 {count};complete")
         found.append(Case(name, ("run",), text(FRAME.format(line)), output, status=status))
+    for name, line, call in NAMED_CREATES:
+        output = text(f"testcase t;run 0 main on 0;  {call} -> made 1;  finish -> ok;local 0 none;local 1 none;verdict none;"
+                      "cases 1 none 1 pass 0 inconc 0 fail 0 error 0;complete")
+        found.append(Case(name, ("run",), text(FRAME.format(line)), output))
+    found.append(Case("names_of_components_are_not_distinct", ("run", "--csv"), SHARED_NAMES,
+                      (CSV_HEADER + "t,4,4,0,0,0,0,none\n").encode()))
     return found

@@ -1,5 +1,5 @@
 -- What the answer to a step's call says of the pass behind it.
-use Rattle.std.proofs.Common.{ℕ, ◌≡◌, ◌∙◌, inl, inr, ◌++◌, Bool, true, false, not, is_ok, List, [], ◌∷◌, length, Result, Ok, Err, refl, sym, ap}
+use Rattle.std.proofs.Common.{ℕ, ◌≡◌, ◌∙◌, inl, inr, ◌++◌, Bool, true, false, not, is_ok, Option, List, [], ◌∷◌, length, Result, Ok, Err, refl, sym, ap}
 use Rattle.std.proofs.lemmas.List.Folds.{list_any-append}
 use Rattle.std.proofs.lemmas.Bool.{or_left, or_right}
 use Rattle.std.specs.List.{list_any}
@@ -35,7 +35,7 @@ carried said P Q same same-new (Err H.NoMemory) (Err e) by is more less = less b
 
 -- a step's call changes no argument
 args_same : (s : Step) (bound : List Comp) (p q : PassState) (r : Reply) → Calls bound s p q r → q.args ≡ p.args
-args_same (S.Create alive) bound p q r is = ap (λ x. x.args) is
+args_same (S.Create alive name) bound p q r is = ap (λ x. x.args) is
 args_same (S.Start on run args) bound p q r is = ap (λ x. x.args) is
 args_same (S.Stop g) bound p q r is = ap (λ x. x.args) is
 args_same (S.Kill g) bound p q r is = ap (λ x. x.args) is
@@ -47,7 +47,7 @@ args_same S.StopCase bound p q r is = ap (λ x. x.args) is
 args_same S.GetVerdict bound p q r is = ap (λ x. x.args) is
 
 binds_none : (s : Step) (r : Reply) (bound : List Comp) → creates s ≡ false → bound_behind s r bound ≡ bound
-binds_none (S.Create alive) r bound is = absurd (cc)
+binds_none (S.Create alive name) r bound is = absurd (cc)
 binds_none (S.Start on run args) r bound is = refl
 binds_none (S.Stop g) r bound is = refl
 binds_none (S.Kill g) r bound is = refl
@@ -58,7 +58,7 @@ binds_none S.StopCase r bound is = refl
 binds_none S.GetVerdict r bound is = refl
 
 counts_none : (s : Step) (n : ℕ) → creates s ≡ false → count_after n s ≡ n
-counts_none (S.Create alive) n is = absurd (cc)
+counts_none (S.Create alive name) n is = absurd (cc)
 counts_none (S.Start on run args) n is = refl
 counts_none (S.Stop g) n is = refl
 counts_none (S.Kill g) n is = refl
@@ -69,7 +69,7 @@ counts_none S.StopCase n is = refl
 counts_none S.GetVerdict n is = refl
 
 calls_plain : (s : Step) (bound : List Comp) (p q : PassState) (r : Reply) → waits s ≡ false → q ≡ added p (operation p.me bound s) r → Calls bound s p q r
-calls_plain (S.Create alive) bound p q r other is = is
+calls_plain (S.Create alive name) bound p q r other is = is
 calls_plain (S.Start on run args) bound p q r other is = is
 calls_plain (S.Stop g) bound p q r other is = is
 calls_plain (S.Kill g) bound p q r other is = is
@@ -123,22 +123,22 @@ unfolding ends_pass
 fault_ends own run op f = refl
 
 -- a create that was answered Ended, or by a dynamic error
-halted_at : (alive : Bool) (made : List Comp) (p q : PassState) (r : Reply) → bound_behind (S.Create alive) r (p.args ++ made) ≡ p.args ++ made
-    → ends_pass p.me (entry_of p.run (O.Create alive) r) ≡ true → q ≡ added p (O.Create alive) r → IsStepped (S.Create alive) (p.args ++ made) p (q.args ++ made) q r
-halted_at alive made p q r same ends is = record {
+halted_at : (alive : Bool) (name : Option (List ℕ)) (made : List Comp) (p q : PassState) (r : Reply) → bound_behind (S.Create alive name) r (p.args ++ made) ≡ p.args ++ made
+    → ends_pass p.me (entry_of p.run (O.Create alive name) r) ≡ true → q ≡ added p (O.Create alive name) r → IsStepped (S.Create alive name) (p.args ++ made) p (q.args ++ made) q r
+halted_at alive name made p q r same ends is = record {
   called = is;
   binds = ap (λ x. x.args ++ made) is ∙ sym same;
-  counts = λ on. let over : has_ended q ≡ true = ap has_ended is ∙ ended_by_last p (O.Create alive) r ends in absurd (cc);
+  counts = λ on. let over : has_ended q ≡ true = ap has_ended is ∙ ended_by_last p (O.Create alive name) r ends in absurd (cc);
 }
 
-pub create_halted : (alive : Bool) (made made-new : List Comp) (p q : PassState) (h : Halt) (result : Result (Unit {0}) NoMemory) → is_ok result ≡ not (is_refused {A = Comp} (Err h))
-    → has_ended p ≡ false → IsCall R.Made (O.Create alive) p q (Err h) → made-new ≡ made
-    → Carried (IsStepped (S.Create alive) (p.args ++ made) p (q.args ++ made-new) q) ((q ≡ p) × (made-new ≡ made)) result
-create_halted alive made made-new p q H.NoMemory (Err e) is on call same = (call.heard on, same)
-create_halted alive made made-new p q H.NoMemory (Ok u) is on call same = absurd (cc)
-create_halted alive made made-new p q H.Ended (Ok u) is on call same =
-    rw same (R.Ended, halted_at alive made p q R.Ended refl (ended_ends p.me p.run (O.Create alive)) (call.heard on))
-create_halted alive made made-new p q H.Ended (Err e) is on call same = absurd (cc)
-create_halted alive made made-new p q (H.Fault f) (Ok u) is on call same =
-    rw same (R.Fault f, halted_at alive made p q (R.Fault f) refl (fault_ends p.me p.run (O.Create alive) f) (call.heard on))
-create_halted alive made made-new p q (H.Fault f) (Err e) is on call same = absurd (cc)
+pub create_halted : (alive : Bool) (name : Option (List ℕ)) (made made-new : List Comp) (p q : PassState) (h : Halt) (result : Result (Unit {0}) NoMemory) → is_ok result ≡ not (is_refused {A = Comp} (Err h))
+    → has_ended p ≡ false → IsCall R.Made (O.Create alive name) p q (Err h) → made-new ≡ made
+    → Carried (IsStepped (S.Create alive name) (p.args ++ made) p (q.args ++ made-new) q) ((q ≡ p) × (made-new ≡ made)) result
+create_halted alive name made made-new p q H.NoMemory (Err e) is on call same = (call.heard on, same)
+create_halted alive name made made-new p q H.NoMemory (Ok u) is on call same = absurd (cc)
+create_halted alive name made made-new p q H.Ended (Ok u) is on call same =
+    rw same (R.Ended, halted_at alive name made p q R.Ended refl (ended_ends p.me p.run (O.Create alive name)) (call.heard on))
+create_halted alive name made made-new p q H.Ended (Err e) is on call same = absurd (cc)
+create_halted alive name made made-new p q (H.Fault f) (Ok u) is on call same =
+    rw same (R.Fault f, halted_at alive name made p q (R.Fault f) refl (fault_ends p.me p.run (O.Create alive name) f) (call.heard on))
+create_halted alive name made made-new p q (H.Fault f) (Err e) is on call same = absurd (cc)

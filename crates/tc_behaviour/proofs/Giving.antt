@@ -45,7 +45,7 @@ question_gives hs Asks.Done t = tt
 question_gives hs Asks.Killed t = tt
 
 operation_gives : (hs : List Head) (me : Comp) (bound : List Comp) (s : Step) → StartsOne hs s → GivesAll hs (operation me bound s)
-operation_gives hs me bound (S.Create alive) one = tt
+operation_gives hs me bound (S.Create alive name) one = tt
 operation_gives hs me bound (S.Start on run args) one = one ∙ ap Some (sym (length-map args (component me bound)))
 operation_gives hs me bound (S.Stop g) one = tt
 operation_gives hs me bound (S.Kill g) one = tt
@@ -64,7 +64,7 @@ added_gives hs p q op r is one all =
 
 -- the call of one step
 call_gives : (hs : List Head) (s : Step) (bound : List Comp) (p q : PassState) (r : Reply) → StartsOne hs s → Calls bound s p q r → GiveAll hs p.log → GiveAll hs q.log
-call_gives hs (S.Create alive) bound p q r one is all = added_gives hs p q (operation p.me bound (S.Create alive)) r is (operation_gives hs p.me bound (S.Create alive) one) all
+call_gives hs (S.Create alive name) bound p q r one is all = added_gives hs p q (operation p.me bound (S.Create alive name)) r is (operation_gives hs p.me bound (S.Create alive name) one) all
 call_gives hs (S.Start on run args) bound p q r one is all =
     added_gives hs p q (operation p.me bound (S.Start on run args)) r is (operation_gives hs p.me bound (S.Start on run args) one) all
 call_gives hs (S.Stop g) bound p q r one is all = added_gives hs p q (operation p.me bound (S.Stop g)) r is (operation_gives hs p.me bound (S.Stop g) one) all

@@ -23,7 +23,7 @@ grown_more p q z one two =
     (one.0 ++ two.0, two.1 ∙ ap (λ x. with_log x (x.log ++ two.0)) one.1 ∙ ap (with_log p) (append_assoc p.log one.0 two.0))
 
 calls_grow : (s : Step) (bound : List Comp) (p q : PassState) (r : Reply) → Calls bound s p q r → HasGrown p q
-calls_grow (S.Create alive) bound p q r is = (entry_of p.run (O.Create alive) r ∷ [], is)
+calls_grow (S.Create alive name) bound p q r is = (entry_of p.run (O.Create alive name) r ∷ [], is)
 calls_grow (S.Start on run args) bound p q r is = (entry_of p.run (operation p.me bound (S.Start on run args)) r ∷ [], is)
 calls_grow (S.Stop g) bound p q r is = (entry_of p.run (operation p.me bound (S.Stop g)) r ∷ [], is)
 calls_grow (S.Kill g) bound p q r is = (entry_of p.run (operation p.me bound (S.Kill g)) r ∷ [], is)

@@ -54,7 +54,7 @@ question Asks.Killed t = O.Killed t
 
 -- the operation that a step calls
 abbrev pub operation : Comp → List Comp → Step → Op
-operation me bound (S.Create alive) = O.Create alive
+operation me bound (S.Create alive name) = O.Create alive name
 operation me bound (S.Start on run args) = O.Start (component me bound on) run (map (component me bound) args)
 operation me bound (S.Stop g) = O.Stop (group me bound g)
 operation me bound (S.Kill g) = O.Kill (group me bound g)
@@ -71,7 +71,7 @@ Calls bound s before after reply = after ≡ added before (operation before.me b
 
 -- the components that are bound behind a step: a Create binds what it made
 abbrev pub bound_behind : Step → Reply → List Comp → List Comp
-bound_behind (S.Create alive) (R.Made c) bound = bound ++ c ∷ []
+bound_behind (S.Create alive name) (R.Made c) bound = bound ++ c ∷ []
 bound_behind _ _ bound = bound
 
 -- the calls of these steps up to those that are left, each on a pass that had not ended: what is bound then, and the pass.

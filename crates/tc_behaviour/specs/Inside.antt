@@ -24,7 +24,7 @@ Carried P same (Ok u) = (reply : Reply) × P reply
 Carried P same (Err e) = same
 
 abbrev pub creates : Step → Bool
-creates (S.Create alive) = true
+creates (S.Create alive name) = true
 creates _ = false
 
 abbrev pub waits : Step → Bool

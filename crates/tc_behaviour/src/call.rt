@@ -1,5 +1,6 @@
 //! The call of one step.
 ghost use Rattle.std.specs.Prelude.{◌≡◌, ◌++◌, All, IsErr, false, length, IsTrue, ◌↔◌, is_ok, not};
+ghost use Rattle.tc_entry.specs.declared.op.Op.TheVariants as ops;
 ghost use Rattle.tc_entry.specs.declared.reply.Reply.TheVariants as replies;
 ghost use Rattle.tc_book.specs.Passes.{has_ended, IsCall, IsWait};
 ghost use Rattle.tc_step.specs.declared.step.Step.TheVariants as steps;
@@ -10,7 +11,7 @@ ghost use Rattle.tc_behaviour.specs.Inside.{is_refused, IsCarriedOut};
 use crate::bound::{arguments, component, group, target};
 use std::sync::Wait;
 use tc_book::{Halt, Pass};
-use tc_entry::{Comp, Target};
+use tc_entry::{Comp, Name, Target};
 use tc_step::{Status, Step};
 use tc_verdict::NoMemory;
 
@@ -24,20 +25,31 @@ fn carried_out<T: Drop>(answer: Result<T, Halt>) -> Result<(), NoMemory>
     }
 }
 
+/// Creates a component, and gives it a name if there is one.
+fn make<R: Wait>(rt: &R, pass: &mut Pass, alive: bool, name: &Option<Name>) -> Result<Comp, Halt>
+    ensures { IsCall replies.Made (ops.Create alive name.now) pass.old pass.new result }
+{
+    match name {
+        Some(name) => pass.create_named(rt, alive, name.copy()),
+        None => pass.create(rt, alive),
+    }
+}
+
 /// Creates a component, which is bound then. The room for it is made first.
 fn create<R: Wait>(
     rt: &R,
     pass: &mut Pass,
     made: &mut Vec<Comp>,
     alive: bool,
+    name: &Option<Name>,
 ) -> Result<(), NoMemory>
     requires { has_ended pass.old ≡ false }
-    ensures { IsCarriedOut (steps.Create alive) pass.old made.old.items pass.new made.new.items result }
+    ensures { IsCarriedOut (steps.Create alive name.now) pass.old made.old.items pass.new made.new.items result }
 {
     if made.reserve(1).is_err() {
         return Err(NoMemory);
     }
-    match pass.create(rt, alive) {
+    match make(rt, pass, alive, name) {
         Ok(comp) => {
             made.push_reserved(comp);
             Ok(())
@@ -82,7 +94,7 @@ pub(crate) fn call<R: Wait>(
     ensures { IsCarriedOut step.now pass.old made.old.items pass.new made.new.items result }
 {
     match step {
-        Step::Create { alive } => create(rt, pass, made, *alive),
+        Step::Create { alive, name } => create(rt, pass, made, *alive, name),
         Step::Start { on, run, args } => {
             let comp = component(pass, made, *on);
             let args = arguments(pass, made, args);

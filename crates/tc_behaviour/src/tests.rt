@@ -7,7 +7,9 @@ use std::process::Abort;
 use std::sync::Wait;
 use std::test::Fail;
 use tc_book::{Pass, RunLog, open_case};
-use tc_entry::{Args, Comp, Entry, Fault, Group, Op, Reply, Run, Target, UserVerdict, Verdict};
+use tc_entry::{
+    Args, Comp, Entry, Fault, Group, Name, Op, Reply, Run, Target, UserVerdict, Verdict,
+};
 use tc_exec::{CaseReport, Everyone, Job, run_case, run_case_with};
 use tc_script::read_campaign;
 use tc_step::{GroupPlace, Place, Places, Status, Step, TargetPlace};
@@ -100,7 +102,10 @@ fn each_step_of_the_main_behaviour(rt: HostRuntime) -> Result<(), Fail> {
     let alloc = rt.alloc();
     let (_, pass, _) = open_case(alloc, 2)?;
     let steps = vec![in alloc;
-        Step::Create { alive: true },
+        Step::Create {
+            alive: true,
+            name: Name::read("pump")
+        },
         Step::Start {
             on: Place::Bound(0),
             run: Run(1),
@@ -126,7 +131,13 @@ fn each_step_of_the_main_behaviour(rt: HostRuntime) -> Result<(), Fail> {
     let back = back_of(&rt, alloc, script(&rt, 0, steps), pass);
     let comp = Target::One(Comp(1));
     let calls = vec![in alloc;
-        (Op::Create { alive: true }, Reply::Made(Comp(1))),
+        (
+            Op::Create {
+                alive: true,
+                name: Name::read("pump")
+            },
+            Reply::Made(Comp(1))
+        ),
         (
             Op::Start {
                 comp: Comp(1),
@@ -170,8 +181,14 @@ fn places_stand_for_components(rt: HostRuntime) -> Result<(), Fail> {
     let (_, pass, tickets) = open_case(alloc, 2)?;
     let mut tickets = tickets;
     let steps = vec![in alloc;
-        Step::Create { alive: false },
-        Step::Create { alive: true },
+        Step::Create {
+            alive: false,
+            name: None
+        },
+        Step::Create {
+            alive: true,
+            name: None
+        },
         Step::Start {
             on: Place::Bound(1),
             run: Run(1),
@@ -185,7 +202,10 @@ fn places_stand_for_components(rt: HostRuntime) -> Result<(), Fail> {
     };
     let steps = vec![in alloc;
         Step::Kill(GroupPlace::One(Place::Bound(0))),
-        Step::Create { alive: false },
+        Step::Create {
+            alive: false,
+            name: None
+        },
         Step::Ask(Status::Alive, one(2)),
         Step::Ask(Status::Running, TargetPlace::One(Place::Own)),
         Step::Ask(Status::Alive, TargetPlace::One(Place::Main)),
@@ -198,7 +218,13 @@ fn places_stand_for_components(rt: HostRuntime) -> Result<(), Fail> {
     let back = script(&rt, 2, steps).run(&rt, alloc, pass);
     let calls = vec![in alloc;
         (Op::Kill(Group::One(Comp(1))), Reply::Ok),
-        (Op::Create { alive: false }, Reply::Made(Comp(3))),
+        (
+            Op::Create {
+                alive: false,
+                name: None
+            },
+            Reply::Made(Comp(3))
+        ),
         (Op::Alive(Target::One(Comp(3))), Reply::Answer(true)),
         (Op::Running(Target::One(Comp(2))), Reply::Answer(true)),
         (Op::Alive(Target::One(Comp(0))), Reply::Answer(true)),
@@ -222,7 +248,10 @@ fn a_script_ends_with_its_pass(rt: HostRuntime) -> Result<(), Fail> {
     let (_, pass, tickets) = open_case(alloc, 2)?;
     let mut tickets = tickets;
     let steps = vec![in alloc;
-        Step::Create { alive: true },
+        Step::Create {
+            alive: true,
+            name: None
+        },
         Step::Start {
             on: Place::Bound(0),
             run: Run(1),
@@ -251,7 +280,13 @@ fn a_script_ends_with_its_pass(rt: HostRuntime) -> Result<(), Fail> {
     let Ok(pass) = tickets.remove(0).await_start(&rt) else {
         panic!(rt; "the run was started")
     };
-    let steps = vec![in alloc; Step::GetVerdict, Step::Create { alive: false }]?;
+    let steps = vec![in alloc;
+        Step::GetVerdict,
+        Step::Create {
+            alive: false,
+            name: None
+        },
+    ]?;
     let back = script(&rt, 0, steps).run(&rt, alloc, pass);
     assert_eq!(rt; back.ending, Ending::Returned);
     assert!(rt; has_logged(&back, Run(1), &[(Op::GetVerdict, Reply::Ended)]));
@@ -280,10 +315,13 @@ fn stop_of_a_case(rt: HostRuntime) -> Result<(), Fail> {
     Ok(())
 }
 
-/// The script that creates a component, starts run 1 on it with these arguments, and waits for it.
+/// The script that creates a component called probe, starts run 1 on it with these arguments, and waits for it.
 fn leads<R: Abort>(rt: &R, alloc: Global, args: &[Place]) -> Result<Script, Fail> {
     let steps = vec![in alloc;
-        Step::Create { alive: false },
+        Step::Create {
+            alive: false,
+            name: Name::read("probe")
+        },
         Step::Start {
             on: Place::Bound(0),
             run: Run(1),
@@ -346,7 +384,11 @@ fn is_led(report: &CaseReport) -> bool {
         killed: true,
         target: Target::One(Comp(1)),
     };
-    let led = [Op::Create { alive: false }, started, waits, Op::Finish];
+    let create = Op::Create {
+        alive: false,
+        name: Name::read("probe"),
+    };
+    let led = [create, started, waits, Op::Finish];
     let failed = [
         Op::Alive(Target::One(Comp(0))),
         Op::SetVerdict(UserVerdict::Fail),
@@ -401,7 +443,10 @@ fn each_step_of_a_long_script(rt: HostRuntime) -> Result<(), Fail> {
     for _ in 0..999 {
         steps.push(Step::GetVerdict)?;
     }
-    steps.push(Step::Create { alive: true })?;
+    steps.push(Step::Create {
+        alive: true,
+        name: None,
+    })?;
     let back = script(&rt, 0, steps).run(&rt, alloc, pass);
     assert_eq!(rt; back.ending, Ending::Returned);
     let log = back.pass.log();

@@ -60,9 +60,16 @@ target word =
     else if is_text word (codes "all") then Ok T.All
     else reference word >>= λ r. Ok (T.One r)
 
--- the line of a create of this name
+-- the line of a create that binds the word r, and gives the component no name
 abbrev pub create : List ℕ → Bool → Result Line ScriptKind
-create r alive = named r >>= λ n. Ok (L.Step (C.Create n alive))
+create r alive = named r >>= λ n. Ok (L.Step (C.Create n alive None))
+
+-- the line of a create that binds the word r, and gives the component the name l
+abbrev pub create_named : List ℕ → Bool → List ℕ → Result Line ScriptKind
+create_named r alive l = do
+  n ← named r
+  m ← named l
+  Ok (L.Step (C.Create n alive (Some m)))
 
 -- the line of a wait on this word
 abbrev pub wait : List ℕ → Bool → Result Line ScriptKind
@@ -78,6 +85,9 @@ form K.Behaviour (n ∷ ps) = do
 form K.End [] = Ok L.End
 form K.Create (r ∷ []) = create r false
 form K.Create (r ∷ w ∷ []) = if is_text w (codes "alive") then create r true else Err F.BadLine
+form K.Create (r ∷ w ∷ l ∷ []) = if is_text w (codes "named") then create_named r false l else Err F.BadLine
+form K.Create (r ∷ w ∷ v ∷ l ∷ []) =
+    if is_text w (codes "alive") && is_text v (codes "named") then create_named r true l else Err F.BadLine
 form K.Start (x ∷ b ∷ as_given) = do
   on ← reference x
   m ← named b

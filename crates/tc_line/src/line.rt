@@ -19,12 +19,14 @@ pub enum Keyword {
     GetVerdict,
 }
 
-/// A call, as a line writes it. A component that is bound has the name of a parameter, or that which a create gave.
+/// A call, as a line writes it. A component that is bound has the name of a parameter, or that which a create bound.
 #[derive(Drop)]
 pub enum Call {
+    /// Binds `name`; the given name is what the component is called in the report, and binds nothing.
     Create {
         name: Name,
         alive: bool,
+        given_name: Option<Name>,
     },
     Start {
         on: Place<Name>,

@@ -1,6 +1,6 @@
 //! A line is read as its form, or by its first fault.
 ghost use Rattle.std.specs.Prelude.{◌≡◌, map};
-ghost use Rattle.tc_line.specs.Line.{named, reference, group, target, form, line_of, printable, is_comment as comment, each, Gives};
+ghost use Rattle.tc_line.specs.Line.{named, reference, group, target, create, create_named, form, line_of, printable, is_comment as comment, each, Gives};
 ghost use Rattle.tc_line.specs.declared.line.Keyword.TheVariants as K;
 
 use crate::kind::{LineFault, ScriptKind};
@@ -74,21 +74,55 @@ fn read_test_case(words: &[&[u8]]) -> Result<Line, ScriptKind>
     }
 }
 
+fn read_unnamed_create(word: &[u8], alive: bool) -> Result<Line, ScriptKind>
+    ensures { result ≡ create word.now alive }
+{
+    let name = read_named(word)?;
+    Ok(Line::Step(Call::Create {
+        name,
+        alive,
+        given_name: None,
+    }))
+}
+
+fn read_named_create(word: &[u8], alive: bool, given: &[u8]) -> Result<Line, ScriptKind>
+    ensures { result ≡ create_named word.now alive given.now }
+{
+    let name = read_named(word)?;
+    let given_name = read_named(given)?;
+    Ok(Line::Step(Call::Create {
+        name,
+        alive,
+        given_name: Some(given_name),
+    }))
+}
+
 #[tactic(auto, unfolding(crate::specs::Line::form))]
 fn read_create(words: &[&[u8]]) -> Result<Line, ScriptKind>
     ensures { result ≡ form K.Create (map (λ w. w.now) words.now) }
 {
     match words {
-        [word] => {
-            let name = read_named(word)?;
-            Ok(Line::Step(Call::Create { name, alive: false }))
-        }
+        [word] => read_unnamed_create(word, false),
         [word, second] => {
             if !is_word(second, b"alive") {
                 return Err(ScriptKind::BadLine);
             }
-            let name = read_named(word)?;
-            Ok(Line::Step(Call::Create { name, alive: true }))
+            read_unnamed_create(word, true)
+        }
+        [word, second, given] => {
+            if !is_word(second, b"named") {
+                return Err(ScriptKind::BadLine);
+            }
+            read_named_create(word, false, given)
+        }
+        [word, second, third, given] => {
+            if !is_word(second, b"alive") {
+                return Err(ScriptKind::BadLine);
+            }
+            if !is_word(third, b"named") {
+                return Err(ScriptKind::BadLine);
+            }
+            read_named_create(word, true, given)
         }
         _ => Err(ScriptKind::BadLine),
     }

@@ -41,6 +41,11 @@ fn faults_of_a_line(rt: HostRuntime) {
         ("testcase t", None),
         ("behaviour b p q r s t", None),
         ("create  p   alive", None),
+        ("create named named named", None),
+        ("create p named alive", None),
+        ("create p alive named alive", None),
+        ("create alive alive named named", None),
+        ("create  p  named  all_pumps ", None),
         ("start mtc b self p", None),
         ("stop all", None),
         ("kill self", None),
@@ -63,6 +68,18 @@ fn faults_of_a_line(rt: HostRuntime) {
         ("behaviour", Some(ScriptKind::BadLine)),
         ("create p dead", Some(ScriptKind::BadLine)),
         ("create 1 dead", Some(ScriptKind::BadLine)),
+        ("create", Some(ScriptKind::BadLine)),
+        ("create p named", Some(ScriptKind::BadLine)),
+        ("create named named", Some(ScriptKind::BadLine)),
+        ("create p alive named", Some(ScriptKind::BadLine)),
+        ("create p alive alive", Some(ScriptKind::BadLine)),
+        ("create p called l", Some(ScriptKind::BadLine)),
+        ("create p named l alive", Some(ScriptKind::BadLine)),
+        ("create p named named l", Some(ScriptKind::BadLine)),
+        ("create p dead named l", Some(ScriptKind::BadLine)),
+        ("create p alive called l", Some(ScriptKind::BadLine)),
+        ("create p alive named l m", Some(ScriptKind::BadLine)),
+        ("create 1 called mtc", Some(ScriptKind::BadLine)),
         ("start p", Some(ScriptKind::BadLine)),
         ("wait running p", Some(ScriptKind::BadLine)),
         ("setverdict error", Some(ScriptKind::BadLine)),
@@ -72,6 +89,11 @@ fn faults_of_a_line(rt: HostRuntime) {
         ("testcase all", Some(ScriptKind::BadName)),
         ("behaviour b mtc", Some(ScriptKind::BadName)),
         ("create self", Some(ScriptKind::BadName)),
+        ("create mtc named l", Some(ScriptKind::BadName)),
+        ("create p named mtc", Some(ScriptKind::BadName)),
+        ("create p named 1", Some(ScriptKind::BadName)),
+        ("create 1 alive named l", Some(ScriptKind::BadName)),
+        ("create p alive named all", Some(ScriptKind::BadName)),
         ("start all b", Some(ScriptKind::BadName)),
         ("start p mtc", Some(ScriptKind::BadName)),
         ("start p b any", Some(ScriptKind::BadName)),
@@ -119,7 +141,52 @@ fn a_start_and_its_words(rt: HostRuntime) {
     }
 }
 
-// The longest name, and a name with one letter more, in each of the sixteen places of a name.
+fn is_create<R: Abort + AllocGlobal>(
+    rt: &R,
+    text: &str,
+    bound: &str,
+    is_alive: bool,
+    given: Option<&str>,
+) {
+    match read_line(rt.alloc(), text.as_bytes(), &mut Vec::new(rt.alloc())) {
+        Ok(
+            Line::Step(
+                Call::Create {
+                    name,
+                    alive,
+                    given_name,
+                },
+            ),
+        ) => {
+            assert_eq!(rt; name.bytes(), bound.as_bytes(), "{text}");
+            assert_eq!(rt; alive, is_alive, "{text}");
+            let found = given_name.as_ref().map(Name::bytes);
+            assert_eq!(rt; found, given.map(str::as_bytes), "{text}");
+        }
+        _ => panic!(rt; "{text}"),
+    }
+}
+
+#[test]
+fn creates_and_the_names_that_they_give(rt: HostRuntime) {
+    is_create(&rt, "create p", "p", false, None);
+    is_create(&rt, "create named", "named", false, None);
+    is_create(&rt, "create p alive", "p", true, None);
+    is_create(&rt, "create p named l", "p", false, Some("l"));
+    is_create(&rt, "create p alive named l", "p", true, Some("l"));
+    is_create(&rt, "create p named p", "p", false, Some("p"));
+    is_create(
+        &rt,
+        "create named named named",
+        "named",
+        false,
+        Some("named"),
+    );
+    is_create(&rt, "create p named alive", "p", false, Some("alive"));
+    is_create(&rt, "create p alive named alive", "p", true, Some("alive"));
+}
+
+// The longest name, and a name with one letter more, in each of the twenty places of a name.
 #[test]
 fn names_of_thirty_two_letters(rt: HostRuntime) -> Result<(), Fail> {
     let places = [
@@ -128,6 +195,10 @@ fn names_of_thirty_two_letters(rt: HostRuntime) -> Result<(), Fail> {
         ("behaviour b p ", " q"),
         ("create ", ""),
         ("create ", " alive"),
+        ("create ", " named l"),
+        ("create p named ", ""),
+        ("create ", " alive named l"),
+        ("create p alive named ", ""),
         ("start ", " b"),
         ("start p ", ""),
         ("start p b ", " mtc"),

@@ -144,11 +144,11 @@ are_bound hs past (L.TestCase n ∷ rest) named = tt
 are_bound hs past (L.Behaviour n ps ∷ rest) named = tt
 are_bound hs past (L.End ∷ rest) named = tt
 are_bound hs past (L.Skipped ∷ rest) named = are_bound hs (L.Skipped ∷ past) rest (named_next past L.Skipped rest named).1
-are_bound hs past (L.Step (C.Create n alive) ∷ rest) named =
-    let two = named_next past (L.Step (C.Create n alive)) rest named in
+are_bound hs past (L.Step (C.Create n alive given_name) ∷ rest) named =
+    let two = named_next past (L.Step (C.Create n alive given_name)) rest named in
     let new : add n (bound past) ≡ bound past ++ n ∷ [] = add_new n (bound past) (no_fault _ F.Twice two.0) in
     let long : length (add n (bound past)) ≡ length (bound past) + 1 = ap length new ∙ one_longer n (bound past) in
-    (search rules, rw (← long) (are_bound hs (L.Step (C.Create n alive) ∷ past) rest two.1))
+    (search rules, rw (← long) (are_bound hs (L.Step (C.Create n alive given_name) ∷ past) rest two.1))
 are_bound hs past (L.Step (C.Start on b args) ∷ rest) named =
     let two = named_next past (L.Step (C.Start on b args)) rest named in
     (all_bound (bound past) (on ∷ args) (start_is_bound _ _ _ two.0), are_bound hs (L.Step (C.Start on b args) ∷ past) rest two.1)

@@ -38,7 +38,7 @@ of_start false (Some expected) given = by (not (given == expected))
 
 of_call : (s : ScopeView) (call : Call) → call_fault s call ≡ name_fault s (L.Step call)
 unfolding uses_twice has_unbound starts_unknown is_main_with_parameters has_other_count
-of_call s (C.Create n alive) = twice_alone (among n s.bound)
+of_call s (C.Create n alive given_name) = twice_alone (among n s.bound)
 of_call s (C.Start on b args) = of_start (any_unbound s (on ∷ args)) (parameters_of b s.heads) (length args)
 of_call s (C.Stop g) = unbound_alone (any_unbound s (of_group g))
 of_call s (C.Kill g) = unbound_alone (any_unbound s (of_group g))

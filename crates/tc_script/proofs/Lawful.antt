@@ -91,7 +91,7 @@ unfolding step_of
 starts_at hs ns past (C.Start on b args) rest same named =
     let given = right_count _ (parameters_of b (heads_around past (L.Step (C.Start on b args) ∷ rest))) (length args) (named_next past (L.Step (C.Start on b args)) rest named).0 in
     at_place b hs (length args) (ap (parameters_of b) (sym same) ∙ given) ∙ ap Some (sym (length-of_map (place ns) args))
-starts_at hs ns past (C.Create n alive) rest same named = tt
+starts_at hs ns past (C.Create n alive given_name) rest same named = tt
 starts_at hs ns past (C.Stop g) rest same named = tt
 starts_at hs ns past (C.Kill g) rest same named = tt
 starts_at hs ns past (C.Ask s t) rest same named = tt

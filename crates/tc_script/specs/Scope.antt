@@ -24,11 +24,11 @@ behaviours_before (_ ∷ past) = behaviours_before past
 
 -- the names that are bound behind a call
 abbrev pub with_bound : Call → List Word → List Word
-with_bound (C.Create n alive) ns = add n ns
+with_bound (C.Create n alive given_name) ns = add n ns
 with_bound _ ns = ns
 
--- the names that are bound in the behaviour that is open: its parameters, and then the names of the creates before, in the order of the
--- text
+-- the names that are bound in the behaviour that is open: its parameters, and then what the creates before bind, in the order of the text;
+-- the name that a create gives its component binds nothing
 abbrev pub bound : List Line → List Word
 bound [] = []
 bound (L.Behaviour n ps ∷ past) = all_of [] ps

@@ -35,7 +35,7 @@ is_unbound ns _ = false
 unfoldable pub uses_twice : ScopeView → Line → Bool
 uses_twice s (L.TestCase n) = among n s.cases
 uses_twice s (L.Behaviour n ps) = among n s.behaviours || has_twice ps
-uses_twice s (L.Step (C.Create n alive)) = among n s.bound
+uses_twice s (L.Step (C.Create n alive given_name)) = among n s.bound
 uses_twice s _ = false
 
 -- a reference that is not bound

@@ -60,7 +60,7 @@ pub fn bound_by(alloc: Global, parameters: &[Name]) -> Result<Names, AllocError>
     Ok(names)
 }
 
-/// Binds the name of a create.
+/// Binds the component of a create.
 pub fn bind(bound: &mut Names, call: &Call) -> Result<(), AllocError>
     ensures { OnOk result (bound.new ≡ with_bound call.now bound.old) }
 {

@@ -40,7 +40,14 @@ fn step_at(heads: &Heads, bound: &Names, call: &Call) -> Step
     ensures { result ≡ step_of heads.now bound.now call.now }
 {
     match call {
-        Call::Create { alive, .. } => Step::Create { alive: *alive },
+        Call::Create {
+            alive,
+            given_name,
+            ..
+        } => Step::Create {
+            alive: *alive,
+            name: given_name.as_ref().map(Name::copy),
+        },
         Call::Start {
             on,
             behaviour,

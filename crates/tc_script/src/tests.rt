@@ -87,6 +87,11 @@ fn answer<R: Abort + AllocGlobal>(
 fn lines_of_a_script(rt: HostRuntime) -> Result<(), Fail> {
     let lines = [
         ("create 1x", Some((3, ScriptKind::BadName))),
+        ("create named named named", None),
+        ("create p named alive", None),
+        ("create p alive named alive", None),
+        ("create p named", Some((3, ScriptKind::BadLine))),
+        ("create p named mtc", Some((3, ScriptKind::BadName))),
         ("stop any", Some((3, ScriptKind::BadName))),
         ("setverdict error", Some((3, ScriptKind::BadLine))),
         ("\tgetverdict", Some((3, ScriptKind::BadByte))),
@@ -184,7 +189,13 @@ fn is_first_case<R: Abort>(rt: &R, case: &mut CaseScript) -> Option<()> {
     let [create, start, wait, ask] = main.steps() else {
         return None;
     };
-    assert_eq!(rt; *create, Step::Create { alive: false });
+    assert_eq!(rt;
+        *create,
+        Step::Create {
+            alive: false,
+            name: None
+        }
+    );
     is_start(rt, start, Place::Bound(0), 1, &[Place::Main]);
     let target = TargetPlace::One(Place::Bound(0));
     assert_eq!(rt;
@@ -210,7 +221,13 @@ fn is_second_case<R: Abort>(rt: &R, case: &mut CaseScript) -> Option<()> {
     let [create, start, _, again, _, kill, killed] = main.steps() else {
         return None;
     };
-    assert_eq!(rt; *create, Step::Create { alive: true });
+    assert_eq!(rt;
+        *create,
+        Step::Create {
+            alive: true,
+            name: None
+        }
+    );
     is_start(rt, start, Place::Bound(0), 1, &[]);
     is_start(rt, again, Place::Bound(0), 2, &[Place::Bound(0)]);
     assert_eq!(rt; *kill, Step::Kill(GroupPlace::All));
@@ -251,6 +268,46 @@ fn steps_of_the_stored_run(rt: HostRuntime) {
 }
 
 #[test]
+fn a_create_gives_its_name_to_the_step(rt: HostRuntime) -> Result<(), Fail> {
+    let text = b"testcase t
+behaviour main
+create named named named
+create p named alive
+create q alive named alive
+create alive
+create r alive
+stop q
+end
+end
+"
+        .as_slice();
+    let mut campaign = read_campaign(rt.alloc(), text)?;
+    let (_, mut case) = campaign.take_first().ok_or("a test case")?;
+    let main = script_of(&rt, &mut case, "main", 0, 6).ok_or("main")?;
+    let expected = [
+        (false, Name::read("named")),
+        (false, Name::read("alive")),
+        (true, Name::read("alive")),
+        (false, None),
+        (true, None),
+    ];
+    for (step, (is_alive, given)) in main.steps().iter().zip(&expected) {
+        match step {
+            Step::Create { alive, name } => {
+                assert_eq!(rt; *alive, *is_alive);
+                assert_eq!(rt; *name, *given);
+            }
+            _ => panic!(rt; "{step:?}"),
+        }
+    }
+    assert_eq!(rt;
+        main.steps().last(),
+        Some(&Step::Stop(GroupPlace::One(Place::Bound(2))))
+    );
+    Ok(())
+}
+
+#[test]
 fn names_are_bound_line_by_line(rt: HostRuntime) {
     let texts = [
         // a create is bound behind its own line, to the end of its behaviour
@@ -265,6 +322,19 @@ fn names_are_bound_line_by_line(rt: HostRuntime) {
         (
             "testcase t\nbehaviour m\ncreate p\nend\nbehaviour w\nstop p\nend\nend",
             Some((6, ScriptKind::NoReference)),
+        ),
+        // the name that a create gives binds nothing, and is never used already
+        (
+            "testcase t\nbehaviour m\ncreate p named q\nstop q\nend\nend",
+            Some((4, ScriptKind::NoReference)),
+        ),
+        (
+            "testcase t\nbehaviour m\ncreate p named q\ncreate q named q\ncreate r alive named p\nstop q\nend\nend",
+            None,
+        ),
+        (
+            "testcase t\nbehaviour m\ncreate p named q\ncreate p named r\nend\nend",
+            Some((4, ScriptKind::Twice)),
         ),
         // a parameter in its whole behaviour
         (
@@ -316,6 +386,14 @@ fn the_first_group_of_faults_comes_first(rt: HostRuntime) {
     // more than one fault on a line: the first kind
     is_refused(&rt, "end \u{e9}\n", 1, ScriptKind::BadByte);
     is_refused(&rt, "create 1\n", 1, ScriptKind::BadName);
+    is_refused(&rt, "create p named 1\n", 1, ScriptKind::BadName);
+    is_refused(&rt, "create p named p\n", 1, ScriptKind::BadPlace);
+    is_refused(
+        &rt,
+        "testcase t\nbehaviour m\ncreate p\ncreate p named mtc\nend\nend\n",
+        4,
+        ScriptKind::BadName,
+    );
     is_refused(
         &rt,
         "testcase t\nbehaviour m\nstart p zz self\nend\nend\n",
@@ -383,7 +461,13 @@ fn names_of_exactly_thirty_two_letters(rt: HostRuntime) -> Result<(), Fail> {
     );
     let main = script_of(&rt, &mut case, "mxxxxxxxxxxxxxxxxxxxxxxxxxxxxxxx", 0, 2).ok_or("main")?;
     let worker = script_of(&rt, &mut case, "wxxxxxxxxxxxxxxxxxxxxxxxxxxxxxxx", 1, 1).ok_or("w")?;
-    assert_eq!(rt; main.steps().first(), Some(&Step::Create { alive: false }));
+    assert_eq!(rt;
+        main.steps().first(),
+        Some(&Step::Create {
+            alive: false,
+            name: None
+        })
+    );
     assert_eq!(rt;
         worker.steps().first(),
         Some(&Step::Stop(GroupPlace::One(Place::Bound(0))))
@@ -414,13 +498,13 @@ fn many<R: Abort + AllocGlobal>(
     Ok(fault_of(rt, text.as_slice()))
 }
 
-// Each limit met, and passed by one; the largest script has 64,000 behaviours.
+// Each limit met, and passed by one; the largest script has 64,000 behaviours, more than the bytes of a script have room for.
 #[test]
 fn limits_of_a_script(rt: HostRuntime) -> Result<(), Fail> {
     assert_eq!(rt; many(&rt, 1, 1, 1000)?, None);
     assert_eq!(rt; many(&rt, 1, 1, 1001)?, Some((1003, ScriptKind::TooMany)));
-    assert_eq!(rt; many(&rt, 1, 64, 0)?, None);
-    assert_eq!(rt; many(&rt, 1, 65, 0)?, Some((130, ScriptKind::TooMany)));
+    assert_eq!(rt; many(&rt, 1, 256, 0)?, None);
+    assert_eq!(rt; many(&rt, 1, 257, 0)?, Some((514, ScriptKind::TooMany)));
     assert_eq!(rt; many(&rt, 1000, 1, 0)?, None);
     assert_eq!(rt; many(&rt, 1001, 1, 0)?, Some((4001, ScriptKind::TooMany)));
     assert_eq!(rt; many(&rt, 1000, 64, 0)?, None);

@@ -41,7 +41,7 @@ IsBound count _ = Unit {0}
 
 -- how many components are bound behind a step
 abbrev pub count_after : ℕ → Step → ℕ
-count_after count (S.Create alive) = count + 1
+count_after count (S.Create alive name) = count + 1
 count_after count _ = count
 
 -- each place of each step is bound where the step stands, so many components being bound before the first step

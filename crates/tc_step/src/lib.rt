@@ -12,6 +12,7 @@ pub use place::{GroupPlace, Place, TargetPlace};
 pub use places::Places;
 pub use script::Script;
 pub use step::{Status, Step};
+pub use tc_entry::Name;
 pub use tc_verdict::{Run, UserVerdict};
 
 #[cfg(test)]

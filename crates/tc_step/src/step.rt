@@ -4,6 +4,7 @@ ghost use Rattle.tc_step.specs.Steps.{IsBound, of_group, of_target, places};
 
 use crate::place::{GroupPlace, Place, TargetPlace};
 use crate::places::Places;
+use tc_entry::Name;
 use tc_verdict::{Run, UserVerdict};
 
 /// What is asked of components (ES 201 873-1, test component operations).
@@ -18,8 +19,8 @@ pub enum Status {
 /// A step of a scripted behaviour: the call of an operation, with places for its components.
 #[derive(PartialEq, Eq, Debug, Drop)]
 pub enum Step {
-    /// Creates a component, which is bound from here on.
-    Create { alive: bool },
+    /// Creates a component, which is bound from here on. A name is what it is called in the report; it binds nothing.
+    Create { alive: bool, name: Option<Name> },
     /// Starts a run on a component.
     Start { on: Place, run: Run, args: Places },
     /// Stops components.

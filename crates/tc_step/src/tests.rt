@@ -18,7 +18,7 @@ fn start(on: Place, args: &[Place]) -> Step {
 fn a_script_of_bound_places(rt: HostRuntime) -> Result<(), Fail> {
     let alloc = rt.alloc();
     let steps = vec![in alloc;
-        Step::Create { alive: true },
+        Step::Create { alive: true, name: Name::read("pump") },
         start(Place::Bound(1), &[Place::Bound(0), Place::Main, Place::Own]),
         Step::Wait {
             killed: false,
@@ -37,6 +37,13 @@ fn a_script_of_bound_places(rt: HostRuntime) -> Result<(), Fail> {
     assert_eq!(rt; script.parameters(), 1);
     assert_eq!(rt; script.steps().len(), 8);
     assert_eq!(rt; script.steps()[3], Step::Kill(GroupPlace::All));
+    for (name, is_same) in [("pump", true), ("valve", false), ("", false)] {
+        let other = Step::Create {
+            alive: true,
+            name: Name::read(name),
+        };
+        assert_eq!(rt; script.steps()[0] == other, is_same, "{name}");
+    }
     Ok(())
 }
 
@@ -45,11 +52,11 @@ fn places_are_bound_before_they_are_named(rt: HostRuntime) -> Result<(), Fail> {
     let alloc = rt.alloc();
     let before = vec![in alloc;
         Step::Stop(GroupPlace::One(Place::Bound(0))),
-        Step::Create { alive: false },
+        Step::Create { alive: false, name: None },
     ]?;
     assert!(rt; !Script::is_script(0, before.as_slice()));
     let after = vec![in alloc;
-        Step::Create { alive: false },
+        Step::Create { alive: false, name: None },
         Step::Stop(GroupPlace::One(Place::Bound(0))),
     ]?;
     assert!(rt; Script::is_script(0, after.as_slice()));

@@ -18,7 +18,10 @@ use tc_step::{Place, Places, Status, Step, TargetPlace};
 fn starts_all<R: Abort>(rt: &R, alloc: Global) -> Result<Script, Fail> {
     let mut steps = Vec::new(alloc);
     for run in 1..64u16 {
-        steps.push(Step::Create { alive: false })?;
+        steps.push(Step::Create {
+            alive: false,
+            name: None,
+        })?;
         let mut args = Places::new();
         args.push(Place::Main);
         steps.push(Step::Start {

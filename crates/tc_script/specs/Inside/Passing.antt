@@ -45,7 +45,7 @@ any_unbound s rs = list_any (is_unbound s.bound) rs
 
 -- of a call
 abbrev pub call_fault : ScopeView → Call → Option ScriptKind
-call_fault s (C.Create n alive) = fault_where (among n s.bound) F.Twice
+call_fault s (C.Create n alive given_name) = fault_where (among n s.bound) F.Twice
 call_fault s (C.Start on b args) = start_fault (any_unbound s (on ∷ args)) (parameters_of b s.heads) (length args)
 call_fault s (C.Stop g) = fault_where (any_unbound s (of_group g)) F.NoReference
 call_fault s (C.Kill g) = fault_where (any_unbound s (of_group g)) F.NoReference
