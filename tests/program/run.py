@@ -34,13 +34,13 @@ Test = Union[Case, Judgement]
 
 # Each group with the fewest tests that it may have.
 GROUPS = (
-    ("rows", rows.cases, 130),
+    ("rows", rows.cases, 150),
     ("scripts", scripts.cases, 100),
     ("words", words.cases, 60),
     ("devices", devices.cases, 75),
     ("sizes", sizes.cases, 29),
     ("terminal", terminal.cases, 9),
-    ("examples", examples.cases, 38),
+    ("examples", examples.cases, 42),
     ("documents", documents_run.cases, 2),
 )
 

@@ -1,5 +1,5 @@
 -- Texts of small results, computed from the definitions alone.
-use Rattle.std.proofs.Common.{ℕ, ◌≡◌, List, [], ◌∷◌, ◌++◌, codes, false, refl, arith}
+use Rattle.std.proofs.Common.{ℕ, ◌≡◌, None, List, [], ◌∷◌, ◌++◌, codes, false, refl, arith}
 use Rattle.std.specs.Fmt.{decimal}
 use Rattle.std.proofs.lemmas.Fmt.{decimal_digit}
 use Rattle.tc_verdict.specs.declared.verdict.Verdict.{Verdict}
