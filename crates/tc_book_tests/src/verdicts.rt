@@ -235,6 +235,7 @@ enum Call {
     Stop(u32),
     Kill(u32),
     KillAll,
+    StopCase,
 }
 
 /// A case of three runs and two components: the calls of each run, whose order among one another is open. Before them run 0
@@ -303,6 +304,7 @@ fn make<R: Wait>(rt: &R, pass: &mut Pass, call: Call) -> Result<Option<u16>, Hal
         Call::Stop(comp) => pass.stop(rt, Group::One(Comp(comp))).map(|_| None),
         Call::Kill(comp) => pass.kill(rt, Group::One(Comp(comp))).map(|_| None),
         Call::KillAll => pass.kill(rt, Group::All).map(|_| None),
+        Call::StopCase => pass.stop_case(rt).map(|_| None),
     }
 }
 
@@ -476,9 +478,9 @@ fn play<R: Wait>(rt: &R, alloc: Global, small: &Small, order: &mut Order) -> Res
 }
 
 /// The small cases: a stop and a restart; a Kill of all; a Stop of the main component; a Start that is an error where the
-/// run before is still going on.
-fn small_cases() -> [Small; 4] {
-    use Call::{Get, Kill, KillAll, Set, Start, Stop};
+/// run before is still going on; a StopCase by each run.
+fn small_cases() -> [Small; 5] {
+    use Call::{Get, Kill, KillAll, Set, Start, Stop, StopCase};
     [
         [
             [Stop(1), Start(1, 2), Set(UserVerdict::Pass)],
@@ -500,14 +502,32 @@ fn small_cases() -> [Small; 4] {
             [Set(UserVerdict::Pass), Get, Set(UserVerdict::Inconc)],
             [Get, Set(UserVerdict::Pass), Kill(1)],
         ],
+        [
+            [Start(2, 2), StopCase, Get],
+            [Set(UserVerdict::Pass), StopCase, Get],
+            [Set(UserVerdict::Fail), Get, StopCase],
+        ],
     ]
 }
 
-/// Every order of the calls of each small case, on one thread: each closes, with a legal history. They are 8,686 orders.
+/// Counts, for the run that ended the case by a StopCase, one more; for a case that ended in another way nothing.
+fn count_stop(stopped: &mut [usize; 3], history: &[Entry]) {
+    for entry in history {
+        if let (Op::StopCase, Reply::Ok) = (&entry.op, entry.reply) {
+            if let Some(count) = stopped.get_mut(usize::from(entry.caller.0)) {
+                *count = count.saturating_add(1);
+            }
+        }
+    }
+}
+
+/// Every order of the calls of each small case, on one thread: each closes, with a legal history. They are 9,469 orders,
+/// in 783 of which a StopCase ends the case.
 #[test]
 fn every_order_of_small_cases(rt: HostRuntime) -> Result<(), Fail> {
     let alloc = rt.alloc();
     let mut orders = 0usize;
+    let mut stopped = [0usize; 3];
     for small in small_cases() {
         let mut order = Order::first(alloc);
         for _ in 0..100_000u32 {
@@ -515,11 +535,16 @@ fn every_order_of_small_cases(rt: HostRuntime) -> Result<(), Fail> {
             let replayed = replay_check(alloc, 3, closed.history.as_slice())?;
             assert_eq!(rt; replayed, closed.verdict);
             orders = orders.saturating_add(1);
+            count_stop(&mut stopped, closed.history.as_slice());
             if !order.advance() {
                 break;
             }
         }
     }
-    assert!(rt; orders >= 8_600, "{orders} orders");
+    assert!(rt;
+        stopped.iter().all(|count| *count >= 100),
+        "StopCase ended the case: {stopped:?}"
+    );
+    assert!(rt; orders >= 9_400, "{orders} orders");
     Ok(())
 }

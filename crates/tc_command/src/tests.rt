@@ -139,6 +139,19 @@ fn no_words_at_all(rt: HostRuntime) -> Result<(), Fail> {
 }
 
 #[test]
+fn both_forms_are_refused_by_name(rt: HostRuntime) -> Result<(), Fail> {
+    let alloc = rt.alloc();
+    for line in ["ttrun run --csv --history", "ttrun run --history --csv"] {
+        let words = words(alloc, line)?;
+        let refusal = read_task(alloc, words.as_slice()).err().ok_or("refused")?;
+        let text = refusal.to_string(alloc)?;
+        let told = "error: the argument '--csv' cannot be used with '--history'\n";
+        assert!(rt; text.as_str().starts_with(told), "{line}: {text}");
+    }
+    Ok(())
+}
+
+#[test]
 fn the_help_says_what_each_word_does(rt: HostRuntime) -> Result<(), Fail> {
     let alloc = rt.alloc();
     let lines = [
