@@ -141,49 +141,38 @@ fn a_start_and_its_words(rt: HostRuntime) {
     }
 }
 
-fn is_create<R: Abort + AllocGlobal>(
-    rt: &R,
-    text: &str,
-    bound: &str,
-    is_alive: bool,
-    given: Option<&str>,
-) {
-    match read_line(rt.alloc(), text.as_bytes(), &mut Vec::new(rt.alloc())) {
-        Ok(
-            Line::Step(
-                Call::Create {
-                    name,
-                    alive,
-                    given_name,
-                },
-            ),
+fn is_create<R: Abort + AllocGlobal>(rt: &R, text: &str, bound: &str, is_alive: bool, given: &str) {
+    let Ok(line) = read_line(rt.alloc(), text.as_bytes(), &mut Vec::new(rt.alloc())) else {
+        panic!(rt; "{text}");
+    };
+    match &line {
+        Line::Step(
+            Call::Create {
+                name,
+                alive,
+                given_name,
+            },
         ) => {
             assert_eq!(rt; name.bytes(), bound.as_bytes(), "{text}");
-            assert_eq!(rt; alive, is_alive, "{text}");
-            let found = given_name.as_ref().map(Name::bytes);
-            assert_eq!(rt; found, given.map(str::as_bytes), "{text}");
+            assert_eq!(rt; *alive, is_alive, "{text}");
+            assert_eq!(rt; *given_name, Name::read(given), "{text}");
         }
         _ => panic!(rt; "{text}"),
     }
 }
 
+// No name is empty, so an empty text stands for none.
 #[test]
 fn creates_and_the_names_that_they_give(rt: HostRuntime) {
-    is_create(&rt, "create p", "p", false, None);
-    is_create(&rt, "create named", "named", false, None);
-    is_create(&rt, "create p alive", "p", true, None);
-    is_create(&rt, "create p named l", "p", false, Some("l"));
-    is_create(&rt, "create p alive named l", "p", true, Some("l"));
-    is_create(&rt, "create p named p", "p", false, Some("p"));
-    is_create(
-        &rt,
-        "create named named named",
-        "named",
-        false,
-        Some("named"),
-    );
-    is_create(&rt, "create p named alive", "p", false, Some("alive"));
-    is_create(&rt, "create p alive named alive", "p", true, Some("alive"));
+    is_create(&rt, "create p", "p", false, "");
+    is_create(&rt, "create named", "named", false, "");
+    is_create(&rt, "create p alive", "p", true, "");
+    is_create(&rt, "create p named l", "p", false, "l");
+    is_create(&rt, "create p alive named l", "p", true, "l");
+    is_create(&rt, "create p named p", "p", false, "p");
+    is_create(&rt, "create named named named", "named", false, "named");
+    is_create(&rt, "create p named alive", "p", false, "alive");
+    is_create(&rt, "create p alive named alive", "p", true, "alive");
 }
 
 // The longest name, and a name with one letter more, in each of the twenty places of a name.
