@@ -1,0 +1,5 @@
+use Rattle.tc_explore.specs.Found.{IsOn}
+use Rattle.tc_explore.proofs.moves.with_quiet.Given as goal
+
+abbrev pub invariant-loop : goal.invariant-loop
+invariant-loop l = IsOn l.scripts l.course

@@ -1,0 +1,151 @@
+-- Courses of a test case whose behaviours are scripts: what each run has called, and what it calls next.
+-- As in the component table's definitions `past` lists entries, the newest first, and runs go by their numbers.
+use Rattle.std.specs.Prelude.{ℕ, ◌≡◌, ◌==◌, ◌<◌, ◌+◌, ◌++◌, ◌||◌, if◌then◌else◌, Bool, true, false, Option, Some, None, List, [], ◌∷◌, length, slice_get}
+use Rattle.tc_verdict.specs.declared.run.Run.{Run}
+use Rattle.tc_entry.specs.declared.comp.Comp.{Comp}
+use Rattle.tc_entry.specs.declared.entry.Entry.{Entry}
+use Rattle.tc_entry.specs.declared.op.Op.{Op}
+use Rattle.tc_entry.specs.declared.op.Op.TheVariants as O
+use Rattle.tc_entry.specs.declared.reply.Reply.{Reply}
+use Rattle.tc_entry.specs.declared.reply.Reply.TheVariants as R
+use Rattle.tc_step.specs.declared.step.Step.{Step}
+use Rattle.tc_step.specs.Steps.{ScriptView}
+use Rattle.tc_table.specs.History.{created, started_on}
+use Rattle.tc_table.specs.Answers.{answer}
+use Rattle.tc_behaviour.specs.Calls.{operation}
+use Rattle.tc_book.specs.Passes.{ends_pass}
+
+-- ---- what is known of one run
+
+-- the component that it is on, once it was started; the components that are bound in it; how many of its steps it has called;
+-- whether its pass has ended; and the Wake to come, where its last call was parked
+pub record Stand : Type 0 where
+  pub comp : Option Comp
+  pub bound : List Comp
+  pub called : ℕ
+  pub left : Bool
+  pub wake : Option Op
+
+-- at the opening run 0 is on the main component, and no other run is started
+abbrev pub opening : ℕ → Stand
+opening b = record { comp = if b == 0 then Some (record { 0 = 0 }) else None; bound = []; called = 0; left = false; wake = None }
+
+-- the operation is a Wake
+abbrev pub is_wake : Op → Bool
+is_wake (O.Wake killed target) = true
+is_wake _ = false
+
+-- the Wake that follows a parked call
+abbrev pub wake_for : Op → Option Op
+wake_for (O.Wait killed target) = Some (O.Wake killed target)
+wake_for (O.Wake killed target) = Some (O.Wake killed target)
+wake_for _ = None
+
+-- the Wake to come after this call
+abbrev pub wake_if : Op → Reply → Option Op
+wake_if op R.Parked = wake_for op
+wake_if op _ = None
+
+-- the arguments with which this operation starts run b
+abbrev pub arguments : Op → ℕ → List Comp
+arguments (O.Start c run args) b = if run.0 == b then args else []
+arguments _ b = []
+
+-- the component, if there is one
+abbrev pub as_list : Option Comp → List Comp
+as_list (Some c) = c ∷ []
+as_list None = []
+
+-- the entry, by a run on this component, ends its pass
+abbrev pub ends : Option Comp → Entry → Bool
+ends (Some own) e = ends_pass own e
+ends None e = false
+
+-- after an entry of its own
+abbrev pub after_own : Entry → Stand → Stand
+after_own e s = record {
+  comp = s.comp;
+  bound = s.bound ++ as_list (created e.op e.reply);
+  called = if is_wake e.op then s.called else s.called + 1;
+  left = s.left || ends s.comp e;
+  wake = wake_if e.op e.reply;
+}
+
+-- started on this component with these arguments, if on any
+abbrev pub started : Option Comp → List Comp → Stand → Stand
+started (Some c) args s = record s { comp = Some c; bound = args }
+started None args s = s
+
+-- after an entry of another run: the first Start of run b that is replied Ok starts it
+abbrev pub after_other_by : Option Comp → Entry → ℕ → Stand → Stand
+after_other_by (Some c) e b s = s
+after_other_by None e b s = started (started_on e b) (arguments e.op b) s
+
+-- after one more entry
+abbrev pub next : Entry → ℕ → Stand → Stand
+next e b s = if e.caller.0 == b then after_own e s else after_other_by s.comp e b s
+
+-- what is known of run b
+abbrev pub stand : List Entry → ℕ → Stand
+stand [] b = opening b
+stand (e ∷ past) b = next e b (stand past b)
+
+-- ---- what a run calls next
+
+-- the call of a step; behind the last step the behaviour ends
+abbrev pub call_of : Comp → List Comp → Option Step → Op
+call_of me bound (Some s) = operation me bound s
+call_of me bound None = O.Finish
+
+-- the Wake to come, if there is one, before the other call
+abbrev pub wake_or : Option Op → Op → Op
+wake_or (Some wake) op = wake
+wake_or None op = op
+
+-- what a run on this component calls next
+abbrev pub turn_on : Option Comp → List Step → Stand → Option Op
+turn_on (Some me) steps s = if s.left then None else Some (wake_or s.wake (call_of me s.bound (slice_get steps s.called)))
+turn_on None steps s = None
+
+-- the steps of a script, if there is one
+abbrev pub steps_in : Option ScriptView → List Step
+steps_in (Some script) = script.steps
+steps_in None = []
+
+-- the script of run b
+abbrev pub script_of : List ScriptView → ℕ → Option ScriptView
+script_of scripts b = slice_get scripts b
+
+-- what run b calls next, if it was started and its pass has not ended
+unfoldable pub turn : List ScriptView → List Entry → ℕ → Option Op
+turn scripts past b = let s = stand past b in turn_on s.comp (steps_in (script_of scripts b)) s
+
+-- ---- courses
+
+-- a Wake that is parked again
+abbrev pub is_idle_by : Op → Reply → Bool
+is_idle_by op R.Parked = is_wake op
+is_idle_by op _ = false
+
+-- the entry is a Wake that is parked again; none is recorded
+abbrev pub is_idle : Entry → Bool
+is_idle e = is_idle_by e.op e.reply
+
+-- the entry is what its caller calls next, with the component table's reply
+pub record IsTurn (scripts : List ScriptView) (past : List Entry) (e : Entry) : Type 0 where
+  pub turn : turn scripts past e.caller.0 ≡ Some e.op
+  pub reply : e.reply ≡ answer (length scripts) past e.caller.0 e.op
+  pub not_idle : is_idle e ≡ false
+
+-- the entry of this call, with the component table's reply
+abbrev pub taken : ℕ → List Entry → Run → Op → Entry
+taken n past run op = record { caller = run; op = op; reply = answer n past run.0 op }
+
+-- a course of the test case whose run b has the b-th of these scripts
+abbrev pub IsCourse : List ScriptView → List Entry → Type 0
+IsCourse scripts [] = Unit {0}
+IsCourse scripts (e ∷ past) = IsTurn scripts past e × IsCourse scripts past
+
+-- it is complete: no run has a call left
+abbrev pub IsComplete : List ScriptView → List Entry → Type 0
+IsComplete scripts past = (b : ℕ) → b < length scripts → turn scripts past b ≡ None

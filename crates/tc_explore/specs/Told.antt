@@ -1,0 +1,54 @@
+-- What is told of a test case that was explored.
+use Rattle.std.specs.Prelude.{ℕ, ◌==◌, ◌+◌, if◌then◌else◌, nat_lt, Bool, true, false, List, [], ◌∷◌, ◌++◌, codes}
+use Rattle.std.specs.List.{flat_map, list_any}
+use Rattle.std.specs.Fmt.{decimal}
+use Rattle.tc_verdict.specs.declared.verdict.Verdict.{Verdict}
+use Rattle.tc_verdict.specs.declared.verdict.Verdict.TheVariants as V
+use Rattle.tc_verdict.specs.Verdict.{level_of, name_of}
+use Rattle.tc_history.specs.Block.{block_text}
+use Rattle.tc_explore.specs.declared.witness.Witness.{Witness}
+use Rattle.tc_explore.specs.declared.search.Explored.{Explored}
+
+-- the verdict is that of some witness
+abbrev pub is_found : List Witness → Verdict → Bool
+is_found found v = list_any (λ w. level_of w.verdict == level_of v) found
+
+-- one for a verdict that was found
+abbrev pub found_once : List Witness → Verdict → ℕ
+found_once found v = if is_found found v then 1 else 0
+
+-- how many verdicts were found
+abbrev pub verdict_count : List Witness → ℕ
+verdict_count found =
+    found_once found V.None + (found_once found V.Pass + (found_once found V.Inconc + (found_once found V.Fail + found_once found V.Error)))
+
+-- the status of a test case: 0 where one verdict was found, 1 where more were; 3 where the search did not come to its end
+abbrev pub explored_status : Explored → ℕ
+explored_status e =
+    if e.is_whole then (if verdict_count e.found == 1 then 0 else if nat_lt 1 (verdict_count e.found) then 1 else 3) else 3
+
+-- the name of a verdict behind a space, if it was found
+abbrev pub verdict_word : List Witness → Verdict → List ℕ
+verdict_word found v = if is_found found v then codes " " ++ name_of v else []
+
+-- the names of the verdicts that were found, in the order of the verdicts
+abbrev pub verdict_words : List Witness → List ℕ
+verdict_words found =
+    verdict_word found V.None ++ (verdict_word found V.Pass ++ (verdict_word found V.Inconc ++ (verdict_word found V.Fail ++ verdict_word found V.Error)))
+
+-- whether the search came to its end by itself, and how many states it looked at
+abbrev pub ending_words : Bool → ℕ → List ℕ
+ending_words true states = codes " looked at " ++ (decimal states ++ codes " states")
+ending_words false states = codes " undecided after " ++ (decimal states ++ codes " states")
+
+-- the line of a test case of this name
+abbrev pub explored_line : List ℕ → Explored → List ℕ
+explored_line name e = name ++ (verdict_words e.found ++ (ending_words e.is_whole e.states ++ (10 ∷ [])))
+
+-- the history of a witness, in a test case of this name and of n behaviours
+abbrev pub witness_text : List ℕ → ℕ → Witness → List ℕ
+witness_text name n w = block_text name n w.history w.verdict
+
+-- the histories of all witnesses
+abbrev pub witnesses_text : List ℕ → ℕ → Explored → List ℕ
+witnesses_text name n e = flat_map (witness_text name n) e.found

@@ -1,0 +1,233 @@
+//! A course: what is known of a case after some turns.
+ghost use Rattle.std.specs.Prelude.{◌≡◌, ◌≤◌, ◌<◌, ◌∷◌, ℕ, [], IfOk, Some, length, slice_index_or};
+ghost use Rattle.tc_entry.specs.declared.limits.TheConstants.{BEHAVIOURS};
+ghost use Rattle.tc_table.specs.Case.{past_of};
+ghost use Rattle.tc_table.specs.Answers as answers;
+ghost use Rattle.tc_table.specs.Local as verdicts;
+ghost use Rattle.tc_explore.specs.Course as courses;
+ghost use Rattle.tc_explore.specs.Found as found;
+
+use crate::entries::created;
+use crate::standing::Standing;
+use crate::told::level;
+use std::alloc::Global;
+use std::marker::Model;
+use tc_entry::{Comp, Entry, Op, Phase, Reply};
+use tc_step::{Script, Step};
+use tc_table::Table;
+use tc_verdict::{NoMemory, Run, Verdict};
+
+/// The entries of a case so far, what is known of each run by them, and which components are alive-type. Contracts see
+/// the case as that of its table.
+#[derive(Drop)]
+pub(crate) struct Course {
+    table: Table,
+    standings: Vec<Standing>,
+    alive_types: Vec<bool>,
+}
+
+impl Model for Course {
+    ghost use Rattle.tc_table.specs.Case.{Case};
+    ghost use Rattle.tc_explore.specs.Found.{IsKept};
+
+    ghost Value = { Case };
+
+    ghost view = { λ c. c.table };
+
+    ghost invariant = { λ c. IsKept c.table c.standings.items };
+}
+
+// The standings of n runs at the opening.
+fn opening_standings(alloc: Global, n: u16) -> Result<Vec<Standing>, NoMemory>
+    ensures as_many { IfOk result (λ v. length v.items ≡ n) }
+    ensures each { IfOk result (λ v. (b : ℕ) (d : courses.Stand) → b < n → slice_index_or v.items b d ≡ courses.stand [] b) }
+{
+    let mut standings = Vec::new(alloc);
+    for b in 0..n {
+        standings.push(Standing::opening(alloc, b))?;
+    }
+    Ok(standings)
+}
+
+// Takes one more entry in.
+fn take_in_all(standings: &mut Vec<Standing>, entry: &Entry) -> Result<(), NoMemory>
+    ensures as_many { length standings.new.items ≡ length standings.old.items }
+    ensures each { found.OnOkEach result (λ b. (d : courses.Stand) → b < length standings.old.items → slice_index_or standings.new.items b d ≡ courses.next entry.now b (slice_index_or standings.old.items b d)) }
+{
+    let count = standings.len();
+    for i in 0..count {
+        let Ok(run) = u16::try_from(i) else {
+            return Err(NoMemory);
+        };
+        standings[i].take_in(entry, run)?;
+    }
+    Ok(())
+}
+
+// The steps of a run.
+fn steps_of(scripts: &[Script], run: Run) -> &[Step]
+    ensures { result.now ≡ courses.steps_in (courses.script_of scripts.now run.0) }
+{
+    let at = usize::from(run.0);
+    if at < scripts.len() {
+        scripts[at].steps()
+    } else {
+        &[]
+    }
+}
+
+// What a component is doing, as a number.
+fn phase_key(phase: Option<Phase>) -> u16 {
+    match phase {
+        None => 0,
+        Some(Phase::Inactive) => 1,
+        Some(Phase::Stopped) => 2,
+        Some(Phase::Killed) => 3,
+        Some(Phase::Running(run)) => run.0.saturating_add(4),
+    }
+}
+
+impl Course {
+    /// The course in which nothing was called.
+    pub(crate) fn opening(alloc: Global, behaviours: u16) -> Result<Course, NoMemory>
+        requires some { 1 ≤ behaviours }
+        requires few { behaviours ≤ BEHAVIOURS }
+        ensures behaviours { IfOk result (λ c. c.behaviours ≡ behaviours) }
+        ensures opening { IfOk result (λ c. past_of c ≡ []) }
+    {
+        let table = Table::new(alloc, behaviours)?;
+        let standings = opening_standings(alloc, behaviours)?;
+        Ok(Course {
+            table,
+            standings,
+            alive_types: Vec::new(alloc),
+        })
+    }
+
+    /// What a run calls next.
+    #[tactic(auto, unfolding(crate::specs::Course::turn))]
+    pub(crate) fn turn(&self, scripts: &[Script], run: Run) -> Option<Op>
+        requires { run.0 < self.now.behaviours }
+        ensures { result ≡ courses.turn scripts.now (past_of self.now) run.0 }
+    {
+        self.standings[usize::from(run.0)].turn(steps_of(scripts, run))
+    }
+
+    /// The reply that a call would have.
+    pub(crate) fn would(&self, run: Run, op: &Op) -> Reply
+        ensures { result ≡ answers.answer self.now.behaviours (past_of self.now) run.0 op.now }
+    {
+        self.table.would(run, op)
+    }
+
+    /// The course with one more call. Where memory is refused it is lost.
+    pub(crate) fn with(self, run: Run, op: Op) -> Result<Course, NoMemory>
+        ensures behaviours { IfOk result (λ c. c.behaviours ≡ self.behaviours) }
+        ensures added { IfOk result (λ c. past_of c ≡ courses.taken self.behaviours (past_of self) run op ∷ past_of self) }
+    {
+        let Course {
+            table,
+            standings,
+            alive_types,
+        } = self;
+        let mut table = table;
+        let mut standings = standings;
+        let mut alive_types = alive_types;
+        let entry_op = op.copy();
+        let reply = table.play(run, op)?;
+        let entry = Entry {
+            caller: run,
+            op: entry_op,
+            reply,
+        };
+        take_in_all(&mut standings, &entry)?;
+        if let Op::Create { alive, .. } = &entry.op {
+            if created(&entry).is_some() {
+                alive_types.push(*alive)?;
+            }
+        }
+        Ok(Course {
+            table,
+            standings,
+            alive_types,
+        })
+    }
+
+    /// Whether the case is over.
+    pub(crate) fn is_over(&self) -> bool {
+        self.table.is_over()
+    }
+
+    /// The component that a run is running on, if it goes on.
+    pub(crate) fn comp_of(&self, run: Run) -> Option<Comp> {
+        let at = usize::from(run.0);
+        if at >= self.standings.len() {
+            return None;
+        }
+        let comp = self.standings[at].comp()?;
+        match self.table.phase_of(comp) {
+            Some(Phase::Running(now)) if now.0 == run.0 => Some(comp),
+            _ => None,
+        }
+    }
+
+    /// The next call of a run that goes on, behind its quiet ones.
+    pub(crate) fn loud_turn(&self, scripts: &[Script], run: Run) -> Option<Op> {
+        let _comp = self.comp_of(run)?;
+        let at = usize::from(run.0);
+        if at >= self.standings.len() {
+            return None;
+        }
+        self.standings[at].loud_turn(steps_of(scripts, run), run.0)
+    }
+
+    /// Whether a run goes on, and sets a verdict of this rank in one of its quiet calls to come.
+    pub(crate) fn may_set(&self, scripts: &[Script], run: Run, value: u64) -> bool {
+        let at = usize::from(run.0);
+        at < self.standings.len()
+            && self.comp_of(run).is_some()
+            && self.standings[at].may_set(steps_of(scripts, run), run.0, value)
+    }
+
+    /// All that what can still come depends on, as numbers.
+    pub(crate) fn key(&self, alloc: Global) -> Result<Vec<u16>, NoMemory> {
+        let mut key = Vec::new(alloc);
+        key.push(level(self.verdict()) as u16)?;
+        for (at, standing) in self.standings.iter().enumerate() {
+            let Ok(run) = u16::try_from(at) else {
+                return Err(NoMemory);
+            };
+            standing.add_key(&mut key, self.comp_of(Run(run)).is_some())?;
+        }
+        for comp in 0..self.table.components() {
+            key.push(phase_key(self.table.phase_of(Comp(comp))))?;
+        }
+        for alive in &self.alive_types {
+            key.push(if *alive { 1 } else { 0 })?;
+        }
+        Ok(key)
+    }
+
+    /// Who called, one after the other.
+    pub(crate) fn schedule(&self, alloc: Global) -> Result<Vec<u16>, NoMemory> {
+        let mut schedule = Vec::with_capacity(alloc, self.history().len())?;
+        for entry in self.history() {
+            schedule.push(entry.caller.0)?;
+        }
+        Ok(schedule)
+    }
+
+    /// The overall verdict.
+    pub(crate) fn verdict(&self) -> Verdict
+        ensures { result ≡ verdicts.overall (past_of self.now) }
+    {
+        self.table.overall()
+    }
+
+    /// The entries, the oldest first.
+    pub(crate) fn history(&self) -> &[Entry]
+        ensures { result.now ≡ self.now.history }
+    {
+        self.table.history()
+    }
+}

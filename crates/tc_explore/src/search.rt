@@ -1,0 +1,275 @@
+//! The search for the verdicts of a test case.
+ghost use Rattle.std.specs.Prelude.{◌≡◌, ◌≤◌, IfOk, IfSome, length};
+ghost use Rattle.tc_entry.specs.declared.limits.TheConstants.{BEHAVIOURS};
+ghost use Rattle.tc_explore.specs.Found.{IsOn, IsWitness, AreWitnesses, AreLegal};
+
+use crate::course::Course;
+use crate::moves::{
+    Before, Move, WORST, moves_of, with_before, with_next, with_quiet, with_victims,
+};
+use crate::told::is_found;
+use crate::turns::{follow, is_complete, next_call, step, step_all};
+use crate::witness::Witness;
+use indexmap::IndexSet;
+use std::alloc::Global;
+use tc_entry::{Entry, Reply, Sequence};
+use tc_step::Script;
+use tc_verdict::{NoMemory, Run};
+
+/// What a search has found.
+#[derive(Drop)]
+pub struct Explored {
+    /// A witness of each overall verdict that was found.
+    pub found: Sequence<Witness>,
+    /// How many states were looked at.
+    pub states: usize,
+    /// Whether the search came to its end within its limit.
+    pub is_whole: bool,
+}
+
+// The states that were met, at most so many, and for those that are still to be looked at who called, one after the other.
+#[derive(Drop)]
+struct Search {
+    seen: IndexSet<Vec<u16>>,
+    left: Vec<Vec<u16>>,
+    limit: usize,
+    is_cut: bool,
+}
+
+fn copied(alloc: Global, history: &[Entry]) -> Result<Vec<Entry>, NoMemory>
+    ensures { IfOk result (λ v. v.items ≡ history.now) }
+{
+    let mut all = Vec::with_capacity(alloc, history.len())?;
+    for entry in history {
+        all.push(entry.copy())?;
+    }
+    Ok(all)
+}
+
+// The witness that a course is, if no run has a call left.
+fn witness_of(
+    alloc: Global,
+    scripts: &[Script],
+    course: &Course,
+) -> Result<Option<Witness>, NoMemory>
+    requires few { length scripts.now ≤ BEHAVIOURS }
+    requires on { IsOn scripts.now course.now }
+    ensures { IfOk result (λ witness. IfSome witness (λ w. IsWitness scripts.now w.history w.verdict)) }
+{
+    if !is_complete(course, scripts) {
+        return Ok(None);
+    }
+    let verdict = course.verdict();
+    let history = Sequence::new(copied(alloc, course.history())?);
+    Ok(Some(Witness { verdict, history }))
+}
+
+// Notes the verdict of a case that is over, if it is new; each run makes its last call first, which is answered Ended.
+fn note(
+    alloc: Global,
+    scripts: &[Script],
+    course: Course,
+    found: &mut Vec<Witness>,
+) -> Result<(), NoMemory>
+    requires few { length scripts.now ≤ BEHAVIOURS }
+    requires on { IsOn scripts.now course }
+    requires found { AreWitnesses scripts.now found.old.items }
+    ensures { AreWitnesses scripts.now found.new.items }
+{
+    if is_found(found, course.verdict()) {
+        return Ok(());
+    }
+    let course = step_all(course, scripts)?;
+    let Some(witness) = witness_of(alloc, scripts, &course)? else {
+        return Ok(());
+    };
+    found.push(witness)?;
+    Ok(())
+}
+
+impl Search {
+    // Keeps the state of a course for later, if it is new; behind the limit it is left out.
+    fn keep(&mut self, alloc: Global, course: &Course) -> Result<(), NoMemory> {
+        let key = course.key(alloc)?;
+        if self.seen.contains(&key) {
+            return Ok(());
+        }
+        if self.seen.len() >= self.limit {
+            self.is_cut = true;
+            return Ok(());
+        }
+        let schedule = course.schedule(alloc)?;
+        self.seen.insert(key)?;
+        self.left.push(schedule)?;
+        Ok(())
+    }
+}
+
+// Takes a course that was reached: notes its verdict where the case is over, else keeps its state.
+fn offer(
+    alloc: Global,
+    scripts: &[Script],
+    course: Course,
+    search: &mut Search,
+    found: &mut Vec<Witness>,
+) -> Result<(), NoMemory>
+    requires few { length scripts.now ≤ BEHAVIOURS }
+    requires on { IsOn scripts.now course }
+    requires found { AreWitnesses scripts.now found.old.items }
+    ensures { AreWitnesses scripts.now found.new.items }
+{
+    if course.is_over() {
+        note(alloc, scripts, course, found)
+    } else {
+        search.keep(alloc, &course)
+    }
+}
+
+// Makes a move, and answers whether it could be made: a wait is not made while its target does not hold.
+fn go(
+    alloc: Global,
+    scripts: &[Script],
+    course: Course,
+    way: Move,
+    search: &mut Search,
+    found: &mut Vec<Witness>,
+) -> Result<bool, NoMemory>
+    requires few { length scripts.now ≤ BEHAVIOURS }
+    requires on { IsOn scripts.now course }
+    requires found { AreWitnesses scripts.now found.old.items }
+    ensures { AreWitnesses scripts.now found.new.items }
+{
+    let course = with_before(course, scripts, way.before)?;
+    let course = with_quiet(course, scripts, way.run, WORST)?;
+    let Some(op) = next_call(&course, scripts, way.run) else {
+        return Ok(false);
+    };
+    if matches!(course.would(way.run, &op), Reply::Parked) {
+        return Ok(false);
+    }
+    let course = with_victims(course, scripts, way.run, way.most)?;
+    let course = step(course, scripts, way.run)?;
+    offer(alloc, scripts, course, search, found)?;
+    Ok(true)
+}
+
+// Makes these moves from the state of a schedule, and answers whether one could be made.
+fn go_all(
+    alloc: Global,
+    scripts: &[Script],
+    schedule: &[u16],
+    moves: &[Move],
+    search: &mut Search,
+    found: &mut Vec<Witness>,
+) -> Result<bool, NoMemory>
+    requires some { 1 ≤ length scripts.now }
+    requires few { length scripts.now ≤ BEHAVIOURS }
+    requires found { AreWitnesses scripts.now found.old.items }
+    ensures { AreWitnesses scripts.now found.new.items }
+{
+    let mut any = false;
+    for way in moves {
+        let course = follow(alloc, scripts, schedule)?;
+        if go(alloc, scripts, course, *way, search, found)? {
+            any = true;
+        }
+    }
+    Ok(any)
+}
+
+// The end of a case in which no run can go on: all wait, and the main component's Wake is a dynamic error.
+fn with_stuck(course: Course, scripts: &[Script]) -> Result<Course, NoMemory>
+    requires few { length scripts.now ≤ BEHAVIOURS }
+    requires on { IsOn scripts.now course }
+    ensures { IfOk result (IsOn scripts.now) }
+{
+    let mut course = with_before(course, scripts, Before::All)?;
+    for run in 0..scripts.len() as u16 {
+        if course.comp_of(Run(run)).is_some() {
+            course = with_next(course, scripts, Run(run))?;
+        }
+    }
+    step(course, scripts, Run(0))
+}
+
+// Looks at a state: makes each of its moves, or ends the case where there is none.
+fn expand(
+    alloc: Global,
+    scripts: &[Script],
+    schedule: &[u16],
+    search: &mut Search,
+    found: &mut Vec<Witness>,
+) -> Result<(), NoMemory>
+    requires some { 1 ≤ length scripts.now }
+    requires few { length scripts.now ≤ BEHAVIOURS }
+    requires found { AreWitnesses scripts.now found.old.items }
+    ensures { AreWitnesses scripts.now found.new.items }
+{
+    let course = follow(alloc, scripts, schedule)?;
+    let mut moves = moves_of(alloc, &course, scripts)?;
+    let mut any = false;
+    if let Some(way) = moves.pop() {
+        any = go(alloc, scripts, course, way, search, found)?;
+    }
+    if go_all(alloc, scripts, schedule, &moves, search, found)? || any {
+        return Ok(());
+    }
+    let course = with_stuck(follow(alloc, scripts, schedule)?, scripts)?;
+    note(alloc, scripts, course, found)
+}
+
+// Looks at states until none is left, or so many were looked at; it answers how many were.
+fn look(
+    alloc: Global,
+    scripts: &[Script],
+    limit: usize,
+    search: &mut Search,
+    found: &mut Vec<Witness>,
+) -> Result<usize, NoMemory>
+    requires some { 1 ≤ length scripts.now }
+    requires few { length scripts.now ≤ BEHAVIOURS }
+    requires found { AreWitnesses scripts.now found.old.items }
+    ensures found { AreWitnesses scripts.now found.new.items }
+    ensures within { IfOk result (λ states. states ≤ limit) }
+{
+    for states in 0..limit {
+        let Some(schedule) = search.left.pop() else {
+            return Ok(states);
+        };
+        expand(alloc, scripts, &schedule, search, found)?;
+    }
+    Ok(limit)
+}
+
+/// Looks for the overall verdicts that the courses of a test case give, each with a complete course that gives it. It looks
+/// at so many states at most, and keeps no more. A test case without behaviours is left undecided.
+#[tactic(auto, using(crate::proofs::Legality::legal_rules))]
+pub fn explore(alloc: Global, scripts: &[Script], limit: usize) -> Result<Explored, NoMemory>
+    requires few { length scripts.now ≤ BEHAVIOURS }
+    ensures sound { IfOk result (λ e. AreWitnesses scripts.now e.found) }
+    ensures legal { IfOk result (λ e. AreLegal scripts.now e.found) }
+    ensures within { IfOk result (λ e. e.states ≤ limit) }
+{
+    let mut found = Vec::new(alloc);
+    if scripts.is_empty() {
+        return Ok(Explored {
+            found: Sequence::new(found),
+            states: 0,
+            is_whole: false,
+        });
+    }
+    let mut search = Search {
+        seen: IndexSet::new(alloc),
+        left: Vec::new(alloc),
+        limit,
+        is_cut: false,
+    };
+    let opening = follow(alloc, scripts, &[])?;
+    search.keep(alloc, &opening)?;
+    let states = look(alloc, scripts, limit, &mut search, &mut found)?;
+    Ok(Explored {
+        found: Sequence::new(found),
+        states,
+        is_whole: search.left.is_empty() && !search.is_cut,
+    })
+}

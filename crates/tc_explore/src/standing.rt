@@ -1,0 +1,180 @@
+//! What is known of one run.
+ghost use Rattle.std.specs.Prelude.{◌≡◌, ◌++◌, OnOk};
+ghost use Rattle.tc_explore.specs.Course as courses;
+
+use crate::call::call_at;
+use crate::entries::{arguments, created, ends, is_wake, started_on, wake_after};
+use crate::quiet::is_quiet;
+use std::alloc::Global;
+use std::marker::Model;
+use tc_entry::{Comp, Entry, Op};
+use tc_step::Step;
+use tc_verdict::{NoMemory, rank};
+
+/// What is known of a run by the entries so far.
+#[derive(Drop)]
+pub(crate) struct Standing {
+    comp: Option<Comp>,
+    bound: Vec<Comp>,
+    called: usize,
+    left: bool,
+    wake: Option<Op>,
+}
+
+impl Model for Standing {
+    ghost use Rattle.tc_explore.specs.Course.{Stand};
+
+    ghost Value = { Stand };
+
+    ghost view = { λ s. record { comp = s.comp; bound = s.bound.items; called = s.called; left = s.left; wake = s.wake } };
+}
+
+impl Standing {
+    /// At the opening of the case run 0 is on the main component.
+    pub(crate) fn opening(alloc: Global, run: u16) -> Standing
+        ensures { result ≡ courses.opening run }
+    {
+        Standing {
+            comp: if run == 0 { Some(Comp(0)) } else { None },
+            bound: Vec::new(alloc),
+            called: 0,
+            left: false,
+            wake: None,
+        }
+    }
+
+    // Takes in an entry of the run itself.
+    fn take_own(&mut self, entry: &Entry) -> Result<(), NoMemory>
+        ensures { OnOk result (self.new ≡ courses.after_own entry.now self.old) }
+    {
+        if let Some(comp) = created(entry) {
+            self.bound.push(comp)?;
+        }
+        if !is_wake(&entry.op) {
+            self.called = self.called.checked_add(1).ok_or(NoMemory)?;
+        }
+        if ends(self.comp, entry) {
+            self.left = true;
+        }
+        self.wake = wake_after(entry);
+        Ok(())
+    }
+
+    // Takes in an entry of another run.
+    fn take_other(&mut self, entry: &Entry, run: u16) -> Result<(), NoMemory>
+        ensures { OnOk result (self.new ≡ courses.after_other_by self.old.comp entry.now run self.old) }
+    {
+        if self.comp.is_some() {
+            return Ok(());
+        }
+        if let Some(comp) = started_on(entry, run) {
+            self.comp = Some(comp);
+            self.bound.clear();
+            self.bound.extend_from_slice(arguments(&entry.op, run))?;
+        }
+        Ok(())
+    }
+
+    /// Takes in one more entry. Where memory is refused the standing is of no more use.
+    pub(crate) fn take_in(&mut self, entry: &Entry, run: u16) -> Result<(), NoMemory>
+        ensures { OnOk result (self.new ≡ courses.next entry.now run self.old) }
+    {
+        if entry.caller.0 == run {
+            self.take_own(entry)
+        } else {
+            self.take_other(entry, run)
+        }
+    }
+
+    /// What the run calls next, if it was started and its pass has not ended.
+    pub(crate) fn turn(&self, steps: &[Step]) -> Option<Op>
+        ensures { result ≡ courses.turn_on self.now.comp steps.now self.now }
+    {
+        let me = self.comp?;
+        if self.left {
+            return None;
+        }
+        match &self.wake {
+            Some(wake) => Some(wake.copy()),
+            None => Some(call_at(me, &self.bound, steps, self.called)),
+        }
+    }
+
+    /// The component of the run, if it was started and its pass has not ended.
+    pub(crate) fn comp(&self) -> Option<Comp> {
+        if self.left { None } else { self.comp }
+    }
+
+    /// The next call that is not quiet.
+    pub(crate) fn loud_turn(&self, steps: &[Step], run: u16) -> Option<Op> {
+        let me = self.comp()?;
+        if let Some(wake) = &self.wake {
+            return Some(wake.copy());
+        }
+        for at in self.called..steps.len() {
+            let op = call_at(me, &self.bound, steps, at);
+            if !is_quiet(&op, run) {
+                return Some(op);
+            }
+        }
+        Some(Op::Finish)
+    }
+
+    /// Whether a setting of this rank stands among the quiet calls before the next other one.
+    pub(crate) fn may_set(&self, steps: &[Step], run: u16, value: u64) -> bool {
+        let Some(me) = self.comp() else {
+            return false;
+        };
+        if self.wake.is_some() {
+            return false;
+        }
+        for at in self.called..steps.len() {
+            let op = call_at(me, &self.bound, steps, at);
+            if !is_quiet(&op, run) {
+                return false;
+            }
+            if is_setting(&op, value) {
+                return true;
+            }
+        }
+        false
+    }
+
+    /// All that what the run can still call depends on, as numbers.
+    pub(crate) fn add_key(&self, key: &mut Vec<u16>, goes_on: bool) -> Result<(), NoMemory> {
+        let Some(comp) = self.comp else {
+            key.push(NOT_STARTED)?;
+            return Ok(());
+        };
+        if !goes_on {
+            key.push(HALTED)?;
+            return Ok(());
+        }
+        key.push((comp.0 % MOST) as u16)?;
+        key.push((self.called % 60_000) as u16)?;
+        key.push(if self.wake.is_some() { 1 } else { 0 })?;
+        for comp in &self.bound {
+            key.push((comp.0 % MOST) as u16)?;
+        }
+        key.push(END_OF_BOUND)?;
+        Ok(())
+    }
+}
+
+// No component has so great a number.
+const MOST: u32 = 60_000;
+
+// In a key no number of a component is as great as these.
+const NOT_STARTED: u16 = 65_535;
+
+const HALTED: u16 = 65_534;
+
+const END_OF_BOUND: u16 = 65_533;
+
+// Whether the call sets a verdict of this rank.
+fn is_setting(op: &Op, value: u64) -> bool {
+    match op {
+        Op::SetVerdict(setting) => rank(*setting) == value,
+        _ => false,
+    }
+}

@@ -1,0 +1,215 @@
+//! Test cases with one verdict and with several.
+use super::*;
+use std::alloc::Global;
+use std::process::Abort;
+use std::test::Fail;
+use tc_entry::{Name, Op, Reply};
+use tc_step::{GroupPlace, Place, Places, Script, Step, TargetPlace};
+use tc_verdict::{Run, UserVerdict, Verdict};
+
+const P: Place = Place::Bound(0);
+
+const Q: Place = Place::Bound(1);
+
+const MANY: usize = 10_000;
+
+fn create(alive: bool) -> Step {
+    Step::Create { alive }
+}
+
+fn start(on: Place, run: u16) -> Step {
+    Step::Start {
+        on,
+        run: Run(run),
+        args: Places::new(),
+    }
+}
+
+fn wait(target: TargetPlace) -> Step {
+    Step::Wait {
+        killed: false,
+        target,
+    }
+}
+
+fn script<R: Abort>(rt: &R, steps: Vec<Step>) -> Script {
+    assert!(rt; Script::is_script(0, steps.as_slice()));
+    Script::new(0, steps)
+}
+
+// The verdicts of a search that came to its end, as they were found.
+fn verdicts<R: Abort>(rt: &R, alloc: Global, scripts: &[Script]) -> Result<Vec<Verdict>, Fail> {
+    assert!(rt; scripts.len() <= 64);
+    let explored = explore(alloc, scripts, MANY)?;
+    assert!(rt; explored.is_whole);
+    let mut verdicts = Vec::new(alloc);
+    for witness in explored.found.as_slice() {
+        verdicts.push(witness.verdict)?;
+    }
+    Ok(verdicts)
+}
+
+// A main behaviour that starts one on a component, with this step behind.
+fn leading<R: Abort>(rt: &R, alloc: Global, last: Step) -> Result<Script, Fail> {
+    let steps = vec![in alloc; create(false), start(P, 1), last]?;
+    Ok(script(rt, steps))
+}
+
+fn setting<R: Abort>(rt: &R, alloc: Global, verdict: UserVerdict) -> Result<Script, Fail> {
+    let steps = vec![in alloc; Step::GetVerdict, Step::SetVerdict(verdict)]?;
+    Ok(script(rt, steps))
+}
+
+#[test]
+fn who_waits_has_one_verdict(rt: HostRuntime) -> Result<(), Fail> {
+    let alloc = rt.alloc();
+    let scripts = vec![in alloc;
+        leading(&rt, alloc, wait(TargetPlace::One(P)))?,
+        setting(&rt, alloc, UserVerdict::Pass)?,
+    ]?;
+    let explored = explore(alloc, scripts.as_slice(), MANY)?;
+    assert!(rt; explored.is_whole && explored.states >= 1);
+    assert_eq!(rt; explored.found.as_slice().len(), 1);
+    let witness = &explored.found.as_slice()[0];
+    assert_eq!(rt; witness.verdict, Verdict::Pass);
+    let history = witness.history.as_slice();
+    let callers = [0, 0, 1, 1, 1, 0, 0];
+    assert_eq!(rt; history.len(), callers.len());
+    for (entry, caller) in history.iter().zip(&callers) {
+        assert_eq!(rt; entry.caller, Run(*caller));
+    }
+    assert!(rt; history[5].reply.same(&Reply::Matched));
+    assert!(rt; history[6].op.same(&Op::Finish));
+    Ok(())
+}
+
+#[test]
+fn who_does_not_wait_has_two(rt: HostRuntime) -> Result<(), Fail> {
+    let alloc = rt.alloc();
+    let scripts = vec![in alloc;
+        leading(&rt, alloc, Step::GetVerdict)?,
+        setting(&rt, alloc, UserVerdict::Fail)?,
+    ]?;
+    let found = verdicts(&rt, alloc, scripts.as_slice())?;
+    assert_eq!(rt; found.len(), 2);
+    assert!(rt; found.contains(&Verdict::None) && found.contains(&Verdict::Fail));
+    Ok(())
+}
+
+#[test]
+fn a_kill_comes_before_or_after_each_setting(rt: HostRuntime) -> Result<(), Fail> {
+    let alloc = rt.alloc();
+    let steps = vec![in alloc;
+        Step::SetVerdict(UserVerdict::Pass),
+        Step::SetVerdict(UserVerdict::Inconc),
+        Step::SetVerdict(UserVerdict::Pass),
+        Step::SetVerdict(UserVerdict::Fail),
+    ]?;
+    let scripts = vec![in alloc;
+        leading(&rt, alloc, Step::Kill(GroupPlace::All))?,
+        script(&rt, steps),
+    ]?;
+    let found = verdicts(&rt, alloc, scripts.as_slice())?;
+    assert_eq!(rt; found.len(), 4);
+    assert!(rt; !found.contains(&Verdict::Error));
+    Ok(())
+}
+
+#[test]
+fn who_waits_in_vain_is_stuck(rt: HostRuntime) -> Result<(), Fail> {
+    let alloc = rt.alloc();
+    let steps = vec![in alloc; create(true), wait(TargetPlace::One(P))]?;
+    let scripts = vec![in alloc; script(&rt, steps)]?;
+    let found = verdicts(&rt, alloc, scripts.as_slice())?;
+    assert!(rt; found.len() == 1 && found[0] == Verdict::Error);
+    Ok(())
+}
+
+#[test]
+fn a_stop_of_the_case_is_an_error(rt: HostRuntime) -> Result<(), Fail> {
+    let alloc = rt.alloc();
+    let steps = vec![in alloc; Step::SetVerdict(UserVerdict::Pass), Step::StopCase]?;
+    let scripts = vec![in alloc;
+        leading(&rt, alloc, wait(TargetPlace::All))?,
+        script(&rt, steps),
+    ]?;
+    let found = verdicts(&rt, alloc, scripts.as_slice())?;
+    assert!(rt; found.len() == 1 && found[0] == Verdict::Error);
+    Ok(())
+}
+
+// The component is started again once its first run has ended, or too early, which is an error.
+#[test]
+fn a_restart_comes_too_early_or_not(rt: HostRuntime) -> Result<(), Fail> {
+    let alloc = rt.alloc();
+    let steps = vec![in alloc;
+        create(true),
+        create(false),
+        start(P, 1),
+        start(Q, 2),
+        wait(TargetPlace::One(Q)),
+        start(P, 3),
+        wait(TargetPlace::All),
+    ]?;
+    let scripts = vec![in alloc;
+        script(&rt, steps),
+        setting(&rt, alloc, UserVerdict::None)?,
+        setting(&rt, alloc, UserVerdict::None)?,
+        setting(&rt, alloc, UserVerdict::Inconc)?,
+    ]?;
+    let found = verdicts(&rt, alloc, scripts.as_slice())?;
+    assert_eq!(rt; found.len(), 2);
+    assert!(rt; found.contains(&Verdict::Inconc) && found.contains(&Verdict::Error));
+    Ok(())
+}
+
+#[test]
+fn a_search_ends_at_its_limit(rt: HostRuntime) -> Result<(), Fail> {
+    let alloc = rt.alloc();
+    let scripts = vec![in alloc;
+        leading(&rt, alloc, Step::GetVerdict)?,
+        setting(&rt, alloc, UserVerdict::Fail)?,
+    ]?;
+    for limit in 0..3 {
+        let explored = explore(alloc, scripts.as_slice(), limit)?;
+        assert!(rt; !explored.is_whole);
+        assert_eq!(rt; explored.states, limit);
+    }
+    Ok(())
+}
+
+// The line that is told of a test case t, and its status.
+fn told(alloc: Global, explored: &Explored) -> Result<(String, u8), Fail> {
+    let name = Name::read("t").ok_or("a name")?;
+    let mut out = Vec::new(alloc);
+    explored.append_line(&mut out, &name)?;
+    let line = str::from_utf8(out.as_slice()).map_err(|_| "a text")?;
+    Ok((line.to_string(alloc)?, explored.status()))
+}
+
+#[test]
+fn lines_and_statuses(rt: HostRuntime) -> Result<(), Fail> {
+    let alloc = rt.alloc();
+    let race = vec![in alloc;
+        leading(&rt, alloc, Step::GetVerdict)?,
+        setting(&rt, alloc, UserVerdict::Fail)?,
+    ]?;
+    let (line, status) = told(alloc, &explore(alloc, race.as_slice(), MANY)?)?;
+    assert_eq!(rt; line.as_str(), "t none fail looked at 3 states\n");
+    assert_eq!(rt; status, 1);
+    let (line, status) = told(alloc, &explore(alloc, race.as_slice(), 0)?)?;
+    assert_eq!(rt; line.as_str(), "t undecided after 0 states\n");
+    assert_eq!(rt; status, 3);
+    let alone = vec![in alloc; setting(&rt, alloc, UserVerdict::Pass)?]?;
+    let explored = explore(alloc, alone.as_slice(), MANY)?;
+    let (line, status) = told(alloc, &explored)?;
+    assert_eq!(rt; line.as_str(), "t pass looked at 1 states\n");
+    assert_eq!(rt; status, 0);
+    let mut out = Vec::new(alloc);
+    let name = Name::read("t").ok_or("a name")?;
+    explored.append_witnesses(&mut out, &name, 1)?;
+    let wanted =
+        "history 1 t 1\n0 getverdict -> none\n0 setverdict pass -> ok\n0 finish -> ok\nend pass\n";
+    assert_eq!(rt; out.as_slice(), wanted.as_bytes());
+    Ok(())
+}

@@ -1,0 +1,146 @@
+//! What is told of a test case that was explored.
+ghost use Rattle.std.specs.Prelude.{◌≡◌, ◌≤◌, ◌++◌, OnOk, codes};
+ghost use Rattle.std.specs.Fmt.{decimal};
+ghost use Rattle.tc_verdict.specs.Verdict.{level_of};
+ghost use Rattle.tc_explore.specs.Told as told;
+
+use crate::search::Explored;
+use crate::witness::Witness;
+use tc_entry::Name;
+use tc_history::write_block;
+use tc_text::{append_number, append_text};
+use tc_verdict::{NoMemory, Verdict, name as name_of};
+
+/// The place of a verdict in the order from best to worst.
+pub(crate) fn level(verdict: Verdict) -> u64
+    ensures is { result ≡ level_of verdict }
+    ensures few { result ≤ 4 }
+{
+    match verdict {
+        Verdict::None => 0,
+        Verdict::Pass => 1,
+        Verdict::Inconc => 2,
+        Verdict::Fail => 3,
+        Verdict::Error => 4,
+    }
+}
+
+/// Whether a verdict is that of some witness.
+pub(crate) fn is_found(found: &[Witness], verdict: Verdict) -> bool
+    ensures { result ≡ told.is_found found.now verdict }
+{
+    let wanted = level(verdict);
+    found.iter().any(|witness| level(witness.verdict) == wanted)
+}
+
+// One for a verdict that was found.
+fn found_once(found: &[Witness], verdict: Verdict) -> u64
+    ensures is { result ≡ told.found_once found.now verdict }
+    ensures few { result ≤ 1 }
+{
+    if is_found(found, verdict) { 1 } else { 0 }
+}
+
+// How many verdicts were found.
+fn verdict_count(found: &[Witness]) -> u64
+    ensures { result ≡ told.verdict_count found.now }
+{
+    let error = found_once(found, Verdict::Error);
+    let fail = found_once(found, Verdict::Fail);
+    let inconc = found_once(found, Verdict::Inconc);
+    let pass = found_once(found, Verdict::Pass);
+    let none = found_once(found, Verdict::None);
+    none + (pass + (inconc + (fail + error)))
+}
+
+// Appends the name of a verdict behind a space, if it was found; where memory is refused, a part of it.
+fn append_verdict(out: &mut Vec<u8>, found: &[Witness], verdict: Verdict) -> Result<(), NoMemory>
+    ensures { OnOk result (out.new.items ≡ out.old.items ++ told.verdict_word found.now verdict) }
+{
+    if !is_found(found, verdict) {
+        return Ok(());
+    }
+    append_text(out, " ")?;
+    append_text(out, name_of(verdict))
+}
+
+// Appends the names of the verdicts that were found; where memory is refused, a part of them.
+fn append_verdicts(out: &mut Vec<u8>, found: &[Witness]) -> Result<(), NoMemory>
+    ensures { OnOk result (out.new.items ≡ out.old.items ++ told.verdict_words found.now) }
+{
+    append_verdict(out, found, Verdict::None)?;
+    append_verdict(out, found, Verdict::Pass)?;
+    append_verdict(out, found, Verdict::Inconc)?;
+    append_verdict(out, found, Verdict::Fail)?;
+    append_verdict(out, found, Verdict::Error)
+}
+
+// Appends a number of states behind these words; where memory is refused, a part of it.
+fn append_states(out: &mut Vec<u8>, words: &str, states: usize) -> Result<(), NoMemory>
+    ensures { OnOk result (out.new.items ≡ out.old.items ++ (words.now ++ (decimal states ++ codes " states"))) }
+{
+    append_text(out, words)?;
+    append_number(out, states as u64)?;
+    append_text(out, " states")
+}
+
+// Appends how the search ended; where memory is refused, a part of it.
+fn append_ending(out: &mut Vec<u8>, is_whole: bool, states: usize) -> Result<(), NoMemory>
+    ensures { OnOk result (out.new.items ≡ out.old.items ++ told.ending_words is_whole states) }
+{
+    if is_whole {
+        append_states(out, " looked at ", states)
+    } else {
+        append_states(out, " undecided after ", states)
+    }
+}
+
+impl Explored {
+    /// The status of the test case: 0 where one verdict was found, 1 where more were; 3 where the search did not come to
+    /// its end.
+    pub fn status(&self) -> u8
+        ensures { result ≡ told.explored_status self.now }
+    {
+        let count = verdict_count(self.found.as_slice());
+        if self.is_whole {
+            if count == 1 {
+                0
+            } else if 1 < count {
+                1
+            } else {
+                3
+            }
+        } else {
+            3
+        }
+    }
+
+    /// Appends the line of the test case: its name, the verdicts that were found, and how the search ended. Where memory is
+    /// refused, a part of it.
+    pub fn append_line(&self, out: &mut Vec<u8>, name: &Name) -> Result<(), NoMemory>
+        ensures { OnOk result (out.new.items ≡ out.old.items ++ told.explored_line name.now self.now) }
+    {
+        out.extend_from_slice(name.bytes())?;
+        append_verdicts(out, self.found.as_slice())?;
+        append_ending(out, self.is_whole, self.states)?;
+        out.push(b'\n')?;
+        Ok(())
+    }
+
+    /// Appends the witnesses as histories of a test case of this name and of so many behaviours. Where memory is refused,
+    /// a part of them.
+    pub fn append_witnesses(
+        &self,
+        out: &mut Vec<u8>,
+        name: &Name,
+        behaviours: u16,
+    ) -> Result<(), NoMemory>
+        ensures { OnOk result (out.new.items ≡ out.old.items ++ told.witnesses_text name.now behaviours self.now) }
+    {
+        for witness in self.found.as_slice() {
+            let history = witness.history.as_slice();
+            write_block(out, name, behaviours, history, witness.verdict)?;
+        }
+        Ok(())
+    }
+}

@@ -1,0 +1,101 @@
+//! The turns of runs.
+ghost use Rattle.std.specs.Prelude.{◌≡◌, ◌≤◌, ◌<◌, ◌↔◌, ℕ, true, IfOk, IfNone, IfSome, MatchOption, IsTrue, All, length};
+ghost use Rattle.tc_entry.specs.declared.limits.TheConstants.{BEHAVIOURS};
+ghost use Rattle.tc_table.specs.Answers as answers;
+ghost use Rattle.tc_table.specs.Case.{past_of};
+ghost use Rattle.tc_explore.specs.Course as courses;
+ghost use Rattle.tc_explore.specs.Found.{IsOn, CannotGo};
+
+use crate::course::Course;
+use crate::entries::is_wake;
+use std::alloc::Global;
+use tc_entry::{Op, Reply};
+use tc_step::Script;
+use tc_verdict::{NoMemory, Run};
+
+// Whether the call would be a Wake that is parked again.
+#[tactic(auto, using(crate::proofs::Turning::other_not_idle))]
+fn is_idle(course: &Course, run: Run, op: &Op) -> bool
+    ensures { result ≡ courses.is_idle_by op.now (answers.answer course.now.behaviours (past_of course.now) run.0 op.now) }
+{
+    if !is_wake(op) {
+        return false;
+    }
+    match course.would(run, op) {
+        Reply::Parked => true,
+        _ => false,
+    }
+}
+
+/// What the run calls next, if it can go on.
+#[tactic(auto, using(crate::proofs::Turning::turn_rules))]
+pub(crate) fn next_call(course: &Course, scripts: &[Script], run: Run) -> Option<Op>
+    requires on { IsOn scripts.now course.now }
+    ensures some { IfSome result (λ op. courses.IsTurn scripts.now (past_of course.now) (courses.taken course.now.behaviours (past_of course.now) run op)) }
+    ensures none { IfNone result (run.0 < length scripts.now → CannotGo scripts.now (past_of course.now) run.0) }
+{
+    if usize::from(run.0) >= scripts.len() {
+        return None;
+    }
+    let op = course.turn(scripts, run)?;
+    if is_idle(course, run, &op) {
+        return None;
+    }
+    Some(op)
+}
+
+/// The course with the next call of a run, if that can go on.
+#[tactic(auto, using(crate::proofs::Turning::turn_rules))]
+pub(crate) fn step(course: Course, scripts: &[Script], run: Run) -> Result<Course, NoMemory>
+    requires on { IsOn scripts.now course }
+    ensures on { IfOk result (IsOn scripts.now) }
+{
+    match next_call(&course, scripts, run) {
+        None => Ok(course),
+        Some(op) => course.with(run, op),
+    }
+}
+
+/// The course of a schedule: who calls, one after the other. Who cannot go on is passed over.
+pub(crate) fn follow(
+    alloc: Global,
+    scripts: &[Script],
+    schedule: &[u16],
+) -> Result<Course, NoMemory>
+    requires some { 1 ≤ length scripts.now }
+    requires few { length scripts.now ≤ BEHAVIOURS }
+    ensures { IfOk result (IsOn scripts.now) }
+{
+    let mut course = Course::opening(alloc, scripts.len() as u16)?;
+    for run in schedule {
+        course = step(course, scripts, Run(*run))?;
+    }
+    Ok(course)
+}
+
+/// Each run makes one more call, in the order of their numbers, if it can go on.
+pub(crate) fn step_all(course: Course, scripts: &[Script]) -> Result<Course, NoMemory>
+    requires few { length scripts.now ≤ BEHAVIOURS }
+    requires on { IsOn scripts.now course }
+    ensures { IfOk result (IsOn scripts.now) }
+{
+    let mut course = course;
+    for run in 0..scripts.len() as u16 {
+        course = step(course, scripts, Run(run))?;
+    }
+    Ok(course)
+}
+
+/// Whether no run has a call left.
+pub(crate) fn is_complete(course: &Course, scripts: &[Script]) -> bool
+    requires few { length scripts.now ≤ BEHAVIOURS }
+    requires on { IsOn scripts.now course.now }
+    ensures { IsTrue result ↔ courses.IsComplete scripts.now (past_of course.now) }
+{
+    for run in 0..scripts.len() as u16 {
+        if course.turn(scripts, Run(run)).is_some() {
+            return false;
+        }
+    }
+    true
+}
