@@ -47,7 +47,7 @@ explored_line name e = name ++ (verdict_words e.found ++ (ending_words e.is_whol
 
 -- the history of a witness, in a test case of this name and of n behaviours
 abbrev pub witness_text : List ℕ → ℕ → Witness → List ℕ
-witness_text name n w = block_text name n w.history w.verdict
+witness_text name n w = block_text 2 name n w.history w.verdict
 
 -- the histories of all witnesses
 abbrev pub witnesses_text : List ℕ → ℕ → Explored → List ℕ

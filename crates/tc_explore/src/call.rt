@@ -69,7 +69,10 @@ fn operation(me: Comp, bound: &[Comp], step: &Step) -> Op
     ensures { result ≡ calls.operation me bound.now step.now }
 {
     match step {
-        Step::Create { alive, .. } => Op::Create { alive: *alive },
+        Step::Create { alive, name } => Op::Create {
+            alive: *alive,
+            name: name.as_ref().map(Name::copy),
+        },
         Step::Start { on, run, args } => Op::Start {
             comp: component(me, bound, *on),
             run: *run,

@@ -14,7 +14,7 @@ const Q: Place = Place::Bound(1);
 const MANY: usize = 10_000;
 
 fn create(alive: bool) -> Step {
-    Step::Create { alive }
+    Step::Create { alive, name: None }
 }
 
 fn start(on: Place, run: u16) -> Step {
@@ -209,7 +209,7 @@ fn lines_and_statuses(rt: HostRuntime) -> Result<(), Fail> {
     let name = Name::read("t").ok_or("a name")?;
     explored.append_witnesses(&mut out, &name, 1)?;
     let wanted =
-        "history 1 t 1\n0 getverdict -> none\n0 setverdict pass -> ok\n0 finish -> ok\nend pass\n";
+        "history 2 t 1\n0 getverdict -> none\n0 setverdict pass -> ok\n0 finish -> ok\nend pass\n";
     assert_eq!(rt; out.as_slice(), wanted.as_bytes());
     Ok(())
 }
