@@ -3,7 +3,7 @@ ghost use Rattle.std.specs.Prelude.{◌≡◌, map, slice_get};
 ghost use Rattle.tc_behaviour.specs.Calls as calls;
 ghost use Rattle.tc_explore.specs.Course as courses;
 
-use tc_entry::{Args, Comp, Group, Op, Target};
+use tc_entry::{Args, Comp, Group, Name, Op, Target};
 use tc_step::{GroupPlace, Place, Places, Status, Step, TargetPlace};
 
 /// The component that a place names.
