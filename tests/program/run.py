@@ -20,6 +20,7 @@ sys.dont_write_bytecode = True
 import devices
 import documents_run
 import examples
+import live
 import random_moves
 import random_scripts
 import rows
@@ -40,6 +41,7 @@ GROUPS = (
     ("devices", devices.cases, 75),
     ("sizes", sizes.cases, 29),
     ("terminal", terminal.cases, 9),
+    ("live", live.cases, 40),
     ("examples", examples.cases, 42),
     ("documents", documents_run.cases, 2),
 )

@@ -6,7 +6,7 @@ from typing import List, Tuple
 from case import Case, SomeText, Word
 
 COMMANDS = ("run", "check", "replay")
-ALL_OPTIONS = ("--csv", "--history", "--stop-on")
+ALL_OPTIONS = ("--csv", "--history", "--live", "--stop-on")
 
 # The words, and what the help names.
 HELP: List[Tuple[Tuple[str, ...], Tuple[str, ...]]] = [
@@ -28,6 +28,14 @@ REFUSED: List[Tuple[str, Tuple[Word, ...]]] = [
     ("the_version", ("--version",)),
     ("csv_without_run", ("--csv",)),
     ("history_without_run", ("--history",)),
+    ("live_without_run", ("--live",)),
+    ("live_before_run", ("--live", "run")),
+    ("live_with_a_value", ("run", "--live=yes")),
+    ("live_twice", ("run", "--live", "--live")),
+    ("live_behind_check", ("check", "--live")),
+    ("live_behind_replay", ("replay", "--live")),
+    ("both_forms_live", ("run", "--csv", "--live", "--history")),
+    ("stop_on_without_a_word_before_live", ("run", "--stop-on", "--live")),
     ("stop_on_without_run", ("--stop-on", "fail")),
     ("csv_before_run", ("--csv", "run")),
     ("an_unknown_option_of_run", ("run", "--frobnicate")),

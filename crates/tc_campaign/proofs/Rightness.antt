@@ -1,32 +1,37 @@
 -- The results of a run are right.
-use Rattle.std.proofs.Common.{◌≡◌, ◌∙◌, ◌-◌, ◌++◌, ◌∷◌, [], Option, List, All, length, map, take, arith, refl, sym, ap, subst, append_assoc, slice_index_or}
-use Rattle.std.specs.Prelude.{IfSome, IsNone, IsSomeAnd, slice_get}
+use Rattle.std.proofs.Common.{ℕ, Bool, Some, None, ◌≡◌, ◌∙◌, ◌-◌, ◌++◌, ◌∷◌, [], Option, List, All, length, map, take, arith, refl, sym, ap, subst, append_assoc, slice_index_or}
+use Rattle.std.specs.Prelude.{IfNone, IfSome, IsNone, IsSomeAnd, slice_get}
 use Rattle.std.specs.List.{AllZip}
 use Rattle.std.proofs.lemmas.List.Elements.{All-map, All-nil, All-cons, All-head, All-tail, All-take}
 use Rattle.tc_verdict.specs.declared.verdict.Verdict.{Verdict}
+use Rattle.tc_book.specs.Passes.{PassState}
+use Rattle.tc_exec.specs.declared.job.Back.{Back}
 use Rattle.tc_report.specs.declared.results.CampaignEnd.{CampaignEnd}
 use Rattle.tc_report.specs.declared.results.Finished.{Finished}
 use Rattle.tc_campaign.specs.declared.case.Case.{Case}
 use Rattle.tc_campaign.specs.Stopping.{IsBetter, IsMet}
 use Rattle.tc_campaign.specs.Outline.{Outline, HasNames, outline_of}
-use Rattle.tc_campaign.specs.Campaign.{HasBehaviours, IsNamed, IsOfCase, IsReported, IsEnding, IsRight, IsRefusal, IsWhy}
-use Rattle.tc_campaign.specs.Inside.{IsOf, IsSoFar, IsRun}
-use Rattle.tc_campaign.specs.Inside.IsRun.{complete, aborted, stopped}
+use Rattle.tc_campaign.specs.Campaign.{AreFinished, HasBehaviours, IsCutShort, IsEnding, IsNamed, IsObserved, IsOfCase, IsReported, IsRefusal, IsWhy}
+use Rattle.tc_campaign.specs.Inside.{IsOf, IsSoFar, IsRun, WasRun}
+use Rattle.tc_campaign.specs.Inside.IsRun.{complete, aborted, stopped, cut}
 use Rattle.tc_campaign.proofs.Places.{AllZip-pushed, AllZip-weaker, AllZip-begin, slice_get-behind, take-front, slice_get-last, All-slice_get}
 
 -- the finished cases are of a beginning of the list
-each_of : (cases : List Outline) (stop_on : Option Verdict) (finished : List Finished) (ending : CampaignEnd) → IsRun cases stop_on finished ending → AllZip IsOf (take (length finished) cases) finished
+each_of : (cases : List Outline) (stop_on : Option Verdict) (finished : List Finished) (answer : Option CampaignEnd) → IsRun cases stop_on finished answer → AllZip IsOf (take (length finished) cases) finished
 each_of cases stop_on finished _ (complete _ so) = AllZip-begin IsOf cases so.done [] finished so.prefix so.each
-each_of cases stop_on finished ending (aborted _ c left _ so refused) = AllZip-begin IsOf cases so.done (c ∷ left) finished so.prefix so.each
+each_of cases stop_on finished _ (aborted _ c left _ so refused) = AllZip-begin IsOf cases so.done (c ∷ left) finished so.prefix so.each
 each_of cases stop_on _ _ (stopped finished f c left so is met) =
+    AllZip-begin IsOf cases (so.done ++ c ∷ []) left (finished ++ f ∷ []) (simp append_assoc so.prefix) (AllZip-pushed IsOf so.done finished c f so.each is)
+each_of cases stop_on _ _ (cut finished f c left so is) =
     AllZip-begin IsOf cases (so.done ++ c ∷ []) left (finished ++ f ∷ []) (simp append_assoc so.prefix) (AllZip-pushed IsOf so.done finished c f so.each is)
 
 -- all but the last are better than stop_on
-each_better : (cases : List Outline) (stop_on : Option Verdict) (finished : List Finished) (ending : CampaignEnd) → IsRun cases stop_on finished ending
+each_better : (cases : List Outline) (stop_on : Option Verdict) (finished : List Finished) (answer : Option CampaignEnd) → IsRun cases stop_on finished answer
     → All (λ f. IsBetter stop_on f.report.verdict) (take (length finished - 1) finished)
 each_better cases stop_on finished _ (complete _ so) = All-take (λ f. IsBetter stop_on f.report.verdict) (length finished - 1) finished so.better
-each_better cases stop_on finished ending (aborted _ c left _ so refused) = All-take (λ f. IsBetter stop_on f.report.verdict) (length finished - 1) finished so.better
+each_better cases stop_on finished _ (aborted _ c left _ so refused) = All-take (λ f. IsBetter stop_on f.report.verdict) (length finished - 1) finished so.better
 each_better cases stop_on _ _ (stopped finished f c left so is met) = subst (All (λ g. IsBetter stop_on g.report.verdict)) (sym (take-front finished f)) so.better
+each_better cases stop_on _ _ (cut finished f c left so is) = subst (All (λ g. IsBetter stop_on g.report.verdict)) (sym (take-front finished f)) so.better
 
 last_better : (cases : List Outline) (stop_on : Option Verdict) (left : List Outline) (finished : List Finished) → IsSoFar cases stop_on left finished
     → IfSome (slice_get finished (length finished - 1)) (λ f. IsBetter stop_on f.report.verdict)
@@ -36,7 +41,7 @@ next_is : (cases : List Outline) (stop_on : Option Verdict) (left : List Outline
     → slice_get left 0 ≡ slice_get cases (length finished)
 next_is cases stop_on left finished so = sym (slice_get-behind IsOf cases so.done left finished so.prefix so.each)
 
-ends_so : (cases : List Outline) (stop_on : Option Verdict) (finished : List Finished) (ending : CampaignEnd) → IsRun cases stop_on finished ending
+ends_so : (cases : List Outline) (stop_on : Option Verdict) (finished : List Finished) (ending : CampaignEnd) → IsRun cases stop_on finished (Some ending)
     → IsEnding stop_on (slice_get finished (length finished - 1)) (slice_get cases (length finished)) ending
 ends_so cases stop_on finished _ (complete _ so) = (last_better cases stop_on [] finished so, subst IsNone (next_is cases stop_on [] finished so) refl)
 ends_so cases stop_on finished ending (aborted _ c left _ so refused) =
@@ -44,22 +49,10 @@ ends_so cases stop_on finished ending (aborted _ c left _ so refused) =
 ends_so cases stop_on _ _ (stopped finished f c left so is met) =
     subst (λ o. IsSomeAnd o (λ g. (f.name ≡ g.name) × IsMet stop_on g.report.verdict)) (sym (slice_get-last finished f)) (refl, met)
 
-pub right : (cases : List Outline) (stop_on : Option Verdict) (finished : List Finished) (ending : CampaignEnd) → IsRun cases stop_on finished ending
-    → IsRight cases stop_on (record { finished = finished; ending = ending })
-right cases stop_on finished ending run = record {
-  names = AllZip-weaker IsOf IsOfCase (λ c f of. of.names) (take (length finished) cases) finished (each_of cases stop_on finished ending run);
-  better = each_better cases stop_on finished ending run;
-  ending = ends_so cases stop_on finished ending run;
-}
-
-pub reported : (cases : List Outline) (stop_on : Option Verdict) (finished : List Finished) (ending : CampaignEnd) → IsRun cases stop_on finished ending
-    → AllZip IsReported (take (length finished) cases) finished
-reported cases stop_on finished ending run = AllZip-weaker IsOf IsReported (λ c f of. of.report) (take (length finished) cases) finished (each_of cases stop_on finished ending run)
-
-pub why : (cases : List Outline) (stop_on : Option Verdict) (finished : List Finished) (ending : CampaignEnd) → IsRun cases stop_on finished ending → IsWhy (slice_get cases (length finished)) ending
-why cases stop_on finished _ (complete _ so) = tt
-why cases stop_on finished ending (aborted _ c left _ so refused) = rw refused.aborted (subst (λ o. IfSome o (IsRefusal refused.why)) (next_is cases stop_on (c ∷ left) finished so) refused.cause)
-why cases stop_on _ _ (stopped finished f c left so is met) = tt
+why_so : (cases : List Outline) (stop_on : Option Verdict) (finished : List Finished) (ending : CampaignEnd) → IsRun cases stop_on finished (Some ending) → IsWhy (slice_get cases (length finished)) ending
+why_so cases stop_on finished _ (complete _ so) = tt
+why_so cases stop_on finished ending (aborted _ c left _ so refused) = rw refused.aborted (subst (λ o. IfSome o (IsRefusal refused.why)) (next_is cases stop_on (c ∷ left) finished so) refused.cause)
+why_so cases stop_on _ _ (stopped finished f c left so is met) = tt
 
 -- as many names as jobs
 abbrev AreEven : Outline → Type 0
@@ -78,12 +71,12 @@ all_named (c ∷ cases) (f ∷ finished) even each =
 even : {B : Type 0} (c : Case B) → HasNames c → AreEven (outline_of c)
 even c e = omega arith
 
-pub names : {B : Type 0} (cases : List (Case B)) (stop_on : Option Verdict) (finished : List Finished) (ending : CampaignEnd)
-    → All HasNames cases → IsRun (map outline_of cases) stop_on finished ending → All IsNamed finished
-names cases stop_on finished ending all run =
+names : {B : Type 0} (cases : List (Case B)) (stop_on : Option Verdict) (finished : List Finished) (answer : Option CampaignEnd)
+    → All HasNames cases → IsRun (map outline_of cases) stop_on finished answer → All IsNamed finished
+names cases stop_on finished answer all run =
     all_named (take (length finished) (map outline_of cases)) finished
     (All-take AreEven (length finished) (map outline_of cases) (All-map AreEven outline_of cases (λ k d lt. even (slice_index_or cases k d) (all k d lt))))
-    (each_of (map outline_of cases) stop_on finished ending run)
+    (each_of (map outline_of cases) stop_on finished answer run)
 
 all_few : (cases : List Outline) (finished : List Finished) → AllZip IsOf cases finished → All HasBehaviours finished
 all_few [] [] each = All-nil HasBehaviours
@@ -91,5 +84,44 @@ all_few [] (f ∷ finished) each = absurd each
 all_few (c ∷ cases) [] each = absurd each
 all_few (c ∷ cases) (f ∷ finished) each = All-cons HasBehaviours f finished (rw each.0.report.behaviours each.0.few) (all_few cases finished each.1)
 
-pub behaviours : (cases : List Outline) (stop_on : Option Verdict) (finished : List Finished) (ending : CampaignEnd) → IsRun cases stop_on finished ending → All HasBehaviours finished
-behaviours cases stop_on finished ending run = all_few (take (length finished) cases) finished (each_of cases stop_on finished ending run)
+module _ {B O : Type 0} (outcome : B → PassState → Back → Type 0) (takes : O → Finished → O → Bool → Type 0)
+    (cases : List (Case B)) (stop_on : Option Verdict) (threads : ℕ) (named : All HasNames cases) (before after : O) where
+  are_finished : (answer : Option CampaignEnd) (was : WasRun outcome takes stop_on threads cases before after answer) → AreFinished outcome cases stop_on threads was.finished
+  are_finished answer was =
+      let each = each_of (map outline_of cases) stop_on was.finished answer was.run in
+      let first = take (length was.finished) (map outline_of cases) in
+      record {
+        names = AllZip-weaker IsOf IsOfCase (λ c f of. of.names) first was.finished each;
+        better = each_better (map outline_of cases) stop_on was.finished answer was.run;
+        reports = AllZip-weaker IsOf IsReported (λ c f of. of.report) first was.finished each;
+        called = was.called;
+        named = names cases stop_on was.finished answer named was.run;
+        threads_are = was.threads_are;
+        behaviours = all_few first was.finished each;
+      }
+
+  observed : (ending : CampaignEnd) → WasRun outcome takes stop_on threads cases before after (Some ending) → IsObserved outcome cases stop_on threads takes before after ending
+  observed ending was = record {
+    finished = was.finished;
+    run = record {
+      each = are_finished (Some ending) was;
+      last = ends_so (map outline_of cases) stop_on was.finished ending was.run;
+      why = why_so (map outline_of cases) stop_on was.finished ending was.run;
+    };
+    taken = was.given;
+  }
+
+  cut_short : WasRun outcome takes stop_on threads cases before after None → IsCutShort outcome cases stop_on threads takes before after
+  cut_short was = record { finished = was.finished; each = are_finished None was; ended = was.given }
+
+  -- with an ending it was run to it, and each finished test case was given to the observer
+  pub if_ended : (answer : Option CampaignEnd) → WasRun outcome takes stop_on threads cases before after answer
+      → IfSome answer (IsObserved outcome cases stop_on threads takes before after)
+  if_ended (Some ending) was = observed ending was
+  if_ended None was = tt
+
+  -- without one the observer ended it
+  pub if_cut : (answer : Option CampaignEnd) → WasRun outcome takes stop_on threads cases before after answer
+      → IfNone answer (IsCutShort outcome cases stop_on threads takes before after)
+  if_cut (Some ending) was = tt
+  if_cut None was = cut_short was

@@ -1,5 +1,5 @@
 -- The run of a campaign, case by case.
-use Rattle.std.proofs.Common.{ℕ, ◌≡◌, ◌∙◌, ◌++◌, ◌∷◌, [], Option, List, All, map, length, take, arith, refl, sym, subst, append_assoc}
+use Rattle.std.proofs.Common.{ℕ, ◌≡◌, ◌∙◌, ◌++◌, ◌∷◌, [], Option, Some, None, List, All, map, length, take, arith, refl, sym, subst, append_assoc}
 use Rattle.std.specs.List.{AllZip}
 use Rattle.std.proofs.lemmas.List.Elements.{All-nil, All-push}
 use Rattle.tc_campaign.specs.Campaign.{HasThreads}
@@ -11,7 +11,7 @@ use Rattle.tc_report.specs.declared.results.Finished.{Finished}
 use Rattle.tc_campaign.specs.Stopping.{IsBetter, IsMet}
 use Rattle.tc_campaign.specs.Outline.{Outline}
 use Rattle.tc_campaign.specs.Inside.{AreDone, IsOf, IsRefused, IsSoFar, IsRun, IsUnrun}
-use Rattle.tc_campaign.specs.Inside.IsRun.{complete, aborted, stopped}
+use Rattle.tc_campaign.specs.Inside.IsRun.{complete, aborted, stopped, cut}
 use Rattle.tc_campaign.proofs.Places.{AllZip-pushed, AllZip-begin}
 
 pub done_none : {A B : Type 0} (R : A → B → Type 0) (all left : List A) → left ≡ all → AreDone R all left []
@@ -50,18 +50,22 @@ so_far_more cases stop_on left c rest finished f now so at is better added = rw 
 })
 
 pub run_aborted : (cases : List Outline) (stop_on : Option Verdict) (left : List Outline) (c : Outline) (rest : List Outline) (finished : List Finished) (ending : CampaignEnd)
-    → IsSoFar cases stop_on left finished → left ≡ c ∷ rest → IsRefused c ending → IsRun cases stop_on finished ending
+    → IsSoFar cases stop_on left finished → left ≡ c ∷ rest → IsRefused c ending → IsRun cases stop_on finished (Some ending)
 run_aborted cases stop_on left c rest finished ending so at refused = aborted finished c rest ending (next_up cases stop_on left c rest finished so at) refused
 
-pub run_stopped : (cases : List Outline) (stop_on : Option Verdict) (left : List Outline) (c : Outline) (rest : List Outline) (finished : List Finished) (f : Finished) (now : List Finished) (ending : CampaignEnd)
-    → IsSoFar cases stop_on left finished → left ≡ c ∷ rest → IsOf c f → (ending ≡ E.StoppedAfter f.name) × IsMet stop_on f.report.verdict → now ≡ finished ++ f ∷ [] → IsRun cases stop_on now ending
-run_stopped cases stop_on left c rest finished f now ending so at is met added = rw (added, met.0) (stopped finished f c rest (next_up cases stop_on left c rest finished so at) is met.1)
+pub run_stopped : (cases : List Outline) (stop_on : Option Verdict) (left : List Outline) (c : Outline) (rest : List Outline) (finished : List Finished) (f : Finished) (ending : CampaignEnd)
+    → IsSoFar cases stop_on left finished → left ≡ c ∷ rest → IsOf c f → (ending ≡ E.StoppedAfter f.name) × IsMet stop_on f.report.verdict → IsRun cases stop_on (finished ++ f ∷ []) (Some ending)
+run_stopped cases stop_on left c rest finished f ending so at is met = rw met.0 (stopped finished f c rest (next_up cases stop_on left c rest finished so at) is met.1)
+
+pub run_cut : (cases : List Outline) (stop_on : Option Verdict) (left : List Outline) (c : Outline) (rest : List Outline) (finished : List Finished) (f : Finished)
+    → IsSoFar cases stop_on left finished → left ≡ c ∷ rest → IsOf c f → IsRun cases stop_on (finished ++ f ∷ []) None
+run_cut cases stop_on left c rest finished f so at is = cut finished f c rest (next_up cases stop_on left c rest finished so at) is
 
 pub run_complete : {A : Type 0} (f : A → Outline) (cases : List Outline) (stop_on : Option Verdict) (left : List A) (finished : List Finished)
-    → IsSoFar cases stop_on (map f left) finished → length left ≡ 0 → IsRun cases stop_on finished E.Complete
+    → IsSoFar cases stop_on (map f left) finished → length left ≡ 0 → IsRun cases stop_on finished (Some E.Complete)
 run_complete f cases stop_on [] finished so none = complete finished so
 run_complete f cases stop_on (x ∷ left) finished so none = absurd (omega arith)
 
-pub run_none : (cases : List Outline) (stop_on : Option Verdict) (ending : CampaignEnd) → IsUnrun cases ending → IsRun cases stop_on [] ending
+pub run_none : (cases : List Outline) (stop_on : Option Verdict) (ending : CampaignEnd) → IsUnrun cases ending → IsRun cases stop_on [] (Some ending)
 run_none [] stop_on ending is = rw is (complete [] (so_far_none [] stop_on))
 run_none (c ∷ left) stop_on ending is = aborted [] c left ending (so_far_none (c ∷ left) stop_on) (record { why = C.NoMemory; aborted = is; cause = tt })

@@ -1,5 +1,5 @@
 -- Right results of a campaign.
-use Rattle.std.specs.Prelude.{ℕ, ◌≡◌, ◌<◌, ◌≤◌, ◌+◌, ◌-◌, ⊤, Option, List, All, IfSome, IsNone, IsSomeAnd, length, take, slice_get}
+use Rattle.std.specs.Prelude.{ℕ, ◌≡◌, ◌<◌, ◌≤◌, ◌+◌, ◌-◌, ⊤, Bool, Option, List, All, IfSome, IsNone, IsSomeAnd, length, map, take, slice_get}
 use Rattle.std.specs.List.{AllZip}
 use Rattle.tc_entry.specs.Limits.{IsBehaviours}
 use Rattle.tc_entry.specs.declared.limits.TheConstants.{BEHAVIOURS}
@@ -14,7 +14,8 @@ use Rattle.tc_report.specs.declared.results.CampaignEnd.TheVariants as E
 use Rattle.tc_report.specs.declared.results.Finished.{Finished}
 use Rattle.tc_report.specs.declared.results.Results.{Results}
 use Rattle.tc_campaign.specs.declared.case.Case.{Case}
-use Rattle.tc_campaign.specs.Outline.{Outline}
+use Rattle.tc_report.specs.Observers.{AreTaken, IsEndedAt}
+use Rattle.tc_campaign.specs.Outline.{Outline, outline_of}
 use Rattle.tc_campaign.specs.Stopping.{IsBetter, IsMet}
 
 -- a finished case has a name for each behaviour
@@ -71,3 +72,36 @@ IsRefusal C.NoMemory c = ⊤
 abbrev pub IsWhy : Option Outline → CampaignEnd → Type 0
 IsWhy next (E.Aborted name why) = IfSome next (IsRefusal why)
 IsWhy next ending = ⊤
+
+module _ {B : Type 0} (outcome : B → PassState → Back → Type 0) (cases : List (Case B)) (stop_on : Option Verdict) (threads : ℕ) where
+  -- these test cases were finished, of a beginning of the list, and none of them but the last ended the campaign
+  pub record AreFinished (finished : List Finished) : Type 0 where
+    -- they have the names and behaviour names of the list, in order
+    pub names : AllZip IsOfCase (take (length finished) (map outline_of cases)) finished
+    -- each but the last is better than stop_on
+    pub better : All (λ f. IsBetter stop_on f.report.verdict) (take (length finished - 1) finished)
+    -- each report is of its own case, whose jobs were called
+    pub reports : AllZip IsReported (take (length finished) (map outline_of cases)) finished
+    pub called : AllZip (IsCalled outcome) (take (length finished) cases) finished
+    pub named : All IsNamed finished
+    pub threads_are : All (HasThreads threads) finished
+    pub behaviours : All HasBehaviours finished
+
+  -- these test cases were finished, and the campaign ended so behind them
+  pub record IsRunTo (finished : List Finished) (ending : CampaignEnd) : Type 0 where
+    pub each : AreFinished finished
+    pub last : IsEnding stop_on (slice_get finished (length finished - 1)) (slice_get (map outline_of cases) (length finished)) ending
+    pub why : IsWhy (slice_get (map outline_of cases) (length finished)) ending
+
+  module _ {O : Type 0} (takes : O → Finished → O → Bool → Type 0) (before after : O) where
+    -- the campaign was run to this end, and the observer was given each finished test case
+    pub record IsObserved (ending : CampaignEnd) : Type 0 where
+      pub finished : List Finished
+      pub run : IsRunTo finished ending
+      pub taken : AreTaken takes finished before after
+
+    -- the campaign was run until the observer ended it, at the last finished test case
+    pub record IsCutShort : Type 0 where
+      pub finished : List Finished
+      pub each : AreFinished finished
+      pub ended : IsEndedAt takes finished before after

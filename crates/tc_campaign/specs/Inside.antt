@@ -1,5 +1,5 @@
 -- What the functions inside of a campaign say, which no public clause names.
-use Rattle.std.specs.Prelude.{ℕ, ◌≡◌, ◌≤◌, ◌++◌, ◌∷◌, [], Option, Result, Ok, Err, List, All}
+use Rattle.std.specs.Prelude.{ℕ, ◌≡◌, ◌≤◌, ◌++◌, ◌∷◌, [], Option, Some, None, Bool, true, false, Result, Ok, Err, List, All, length, map, take}
 use Rattle.tc_entry.specs.declared.limits.TheConstants.{BEHAVIOURS}
 use Rattle.tc_book.specs.declared.closed.Closed.{Closed}
 use Rattle.std.specs.List.{AllZip}
@@ -7,12 +7,18 @@ use Rattle.tc_verdict.specs.declared.verdict.Verdict.{Verdict}
 use Rattle.tc_exec.specs.declared.refusal.CaseError.{CaseError}
 use Rattle.tc_exec.specs.declared.refusal.CaseError.TheVariants as C
 use Rattle.tc_exec.specs.Case.{IsCaseReport}
+use Rattle.tc_exec.specs.declared.job.Back.{Back}
+use Rattle.tc_book.specs.Passes.{PassState}
 use Rattle.tc_report.specs.declared.results.CampaignEnd.{CampaignEnd}
 use Rattle.tc_report.specs.declared.results.CampaignEnd.TheVariants as E
 use Rattle.tc_report.specs.declared.results.Finished.{Finished}
-use Rattle.tc_campaign.specs.Outline.{Outline}
+use Rattle.tc_report.specs.Observers.{AreTaken, IsEndedAt}
+use Rattle.tc_campaign.specs.declared.case.Case.{Case}
+use Rattle.tc_campaign.specs.declared.step.Step.{Step}
+use Rattle.tc_campaign.specs.declared.step.Step.TheVariants as S
+use Rattle.tc_campaign.specs.Outline.{Outline, outline_of}
 use Rattle.tc_campaign.specs.Stopping.{IsBetter, IsMet}
-use Rattle.tc_campaign.specs.Campaign.{IsOfCase, IsRefusal}
+use Rattle.tc_campaign.specs.Campaign.{HasThreads, IsCalled, IsOfCase, IsRefusal}
 
 -- a case was finished so
 pub record IsOf (c : Outline) (f : Finished) : Type 0 where
@@ -44,16 +50,62 @@ pub record IsSoFar (cases : List Outline) (stop_on : Option Verdict) (left : Lis
   pub each : AllZip IsOf done finished
   pub better : All (λ f. IsBetter stop_on f.report.verdict) finished
 
--- how a run ends
-pub data IsRun (cases : List Outline) (stop_on : Option Verdict) : List Finished → CampaignEnd → Type 0 where
-  complete : (finished : List Finished) → IsSoFar cases stop_on [] finished → IsRun cases stop_on finished E.Complete
+-- how a run ends: with an ending, or with none where the observer ended it at the last case
+pub data IsRun (cases : List Outline) (stop_on : Option Verdict) : List Finished → Option CampaignEnd → Type 0 where
+  complete : (finished : List Finished) → IsSoFar cases stop_on [] finished → IsRun cases stop_on finished (Some E.Complete)
   aborted : (finished : List Finished) (c : Outline) (left : List Outline) (ending : CampaignEnd)
-      → IsSoFar cases stop_on (c ∷ left) finished → IsRefused c ending → IsRun cases stop_on finished ending
+      → IsSoFar cases stop_on (c ∷ left) finished → IsRefused c ending → IsRun cases stop_on finished (Some ending)
   stopped : (finished : List Finished) (f : Finished) (c : Outline) (left : List Outline)
       → IsSoFar cases stop_on (c ∷ left) finished → IsOf c f → IsMet stop_on f.report.verdict
-      → IsRun cases stop_on (finished ++ f ∷ []) (E.StoppedAfter f.name)
+      → IsRun cases stop_on (finished ++ f ∷ []) (Some (E.StoppedAfter f.name))
+  cut : (finished : List Finished) (f : Finished) (c : Outline) (left : List Outline)
+      → IsSoFar cases stop_on (c ∷ left) finished → IsOf c f → IsRun cases stop_on (finished ++ f ∷ []) None
 
 -- how a campaign ends that runs none of these cases for want of memory
 abbrev pub IsUnrun : List Outline → CampaignEnd → Type 0
 IsUnrun [] ending = ending ≡ E.Complete
 IsUnrun (c ∷ left) ending = ending ≡ E.Aborted c.name C.NoMemory
+
+-- what becomes of the reports of an observer by whether it has room for one more: it keeps the report
+pub record IsKept (items : List Finished) (room : ℕ) (f : Finished) (now : List Finished) (room_now : ℕ) (goes_on : Bool) : Type 0 where
+  pub went : goes_on ≡ true
+  pub kept : now ≡ items ++ f ∷ []
+  pub same : room_now ≡ room
+
+-- the test case was run to its end
+pub record IsFinished {B : Type 0} (outcome : B → PassState → Back → Type 0) (threads : ℕ) (c : Case B) (f : Finished) : Type 0 where
+  pub is : IsOf (outline_of c) f
+  pub called : IsCalled outcome c f
+  pub threads_are : HasThreads threads f
+
+module _ {B O : Type 0} (outcome : B → PassState → Back → Type 0) (takes : O → Finished → O → Bool → Type 0)
+    (stop_on : Option Verdict) (threads : ℕ) where
+  -- what the run of one test case leaves: it was finished and taken, and the campaign goes on, or stops behind it; or it was refused;
+  -- or it was finished, and the observer has ended the campaign
+  abbrev pub IsStep : Case B → O → O → Step → Type 0
+  IsStep c before after S.GoesOn = (f : Finished) × IsFinished outcome threads c f × IsBetter stop_on f.report.verdict × takes before f after true
+  IsStep c before after (S.Stops ending) =
+      (f : Finished) × IsFinished outcome threads c f × ((ending ≡ E.StoppedAfter f.name) × IsMet stop_on f.report.verdict) × takes before f after true
+  IsStep c before after (S.Refused ending) = IsRefused (outline_of c) ending × (after ≡ before)
+  IsStep c before after S.CutShort = (f : Finished) × IsFinished outcome threads c f × takes before f after false
+
+  -- so far these test cases were finished and taken, each better than stop_on, and these are left
+  pub record IsGoing (cases left : List (Case B)) (before now : O) : Type 0 where
+    pub finished : List Finished
+    pub so : IsSoFar (map outline_of cases) stop_on (map outline_of left) finished
+    pub called : AreDone (IsCalled outcome) cases left finished
+    pub threads_are : All (HasThreads threads) finished
+    pub taken : AreTaken takes finished before now
+
+  -- the observer was given these test cases, by whether the campaign has an ending of its own
+  abbrev pub IsGiven : List Finished → O → O → Option CampaignEnd → Type 0
+  IsGiven fs before after (Some ending) = AreTaken takes fs before after
+  IsGiven fs before after None = IsEndedAt takes fs before after
+
+  -- the campaign was run so
+  pub record WasRun (cases : List (Case B)) (before after : O) (answer : Option CampaignEnd) : Type 0 where
+    pub finished : List Finished
+    pub run : IsRun (map outline_of cases) stop_on finished answer
+    pub called : AllZip (IsCalled outcome) (take (length finished) cases) finished
+    pub threads_are : All (HasThreads threads) finished
+    pub given : IsGiven finished before after answer

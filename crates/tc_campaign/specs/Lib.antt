@@ -2,4 +2,5 @@
 pub mod Stopping
 pub mod Outline
 pub mod Campaign
+pub mod Live
 pub mod Inside

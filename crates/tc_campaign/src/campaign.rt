@@ -1,12 +1,14 @@
 //! The run of a campaign.
-ghost use Rattle.std.specs.Prelude.{◌≡◌, ◌≤◌, [], All, IfOk, IfErr, length, map, take, slice_get};
+ghost use Rattle.std.specs.Prelude.{◌≡◌, ◌≤◌, [], All, IfOk, IfErr, IfSome, IfNone, length, map, take, slice_get};
 ghost use Rattle.std.specs.Vec.{vec_len, vec_capacity};
 ghost use Rattle.std.specs.List.{AllZip};
 ghost use Rattle.tc_campaign.specs.Outline.{HasNames, outline_of};
-ghost use Rattle.tc_campaign.specs.Campaign.{HasBehaviours, HasThreads, IsCalled, IsNamed, IsReported, IsWhy, IsRight};
-ghost use Rattle.tc_campaign.specs.Inside.{IsOf, IsRefused, IsRun, IsUnrun, ended_by};
+ghost use Rattle.tc_campaign.specs.Campaign.{HasBehaviours, HasThreads, IsCalled, IsCutShort, IsNamed, IsObserved, IsReported, IsRight, IsRunTo, IsWhy};
+ghost use Rattle.tc_campaign.specs.Inside.{IsOf, IsRefused, IsStep, IsUnrun, WasRun, ended_by};
 
 use crate::case::Case;
+use crate::kept::Kept;
+use crate::step::Step;
 use crate::stopping::stop_after;
 use std::alloc::Global;
 use std::sync::Wait;
@@ -14,7 +16,7 @@ use std::thread::Threads;
 use tc_book::Sequence;
 use tc_entry::{Name, Verdict};
 use tc_exec::{Callable, CaseError, CaseReport, Everyone, run_case_with};
-use tc_report::{CampaignEnd, Finished, Results};
+use tc_report::{CampaignEnd, Finished, Observer, Results};
 
 /// What becomes of a test case by the answer to its run: it is finished with the report, or the campaign is aborted at its name, for the
 /// same reason.
@@ -52,33 +54,96 @@ fn finish<R: Threads + Wait + Copy + Send + 'static, B: Callable>(
     ended(name, names, answer)
 }
 
-/// Runs the test cases up to the last by the stopping rule, or the first that is refused, and says how the campaign ended.
-fn finish_all<R: Threads + Wait + Copy + Send + 'static, B: Callable>(
+/// Runs a test case and gives its report to the observer, before the next one begins; says how the campaign goes on.
+fn run_next<R: Threads + Wait + Copy + Send + 'static, B: Callable, O: Observer>(
+    rt: &R,
+    alloc: Global,
+    case: Case<B>,
+    stop_on: Option<Verdict>,
+    threads: u16,
+    observer: &mut O,
+) -> Step
+    ensures { IsStep B.outcome O.takes stop_on threads case observer.old observer.new result }
+{
+    let case = match finish(rt, alloc, case, threads) {
+        Ok(case) => case,
+        Err(ending) => return Step::Refused(ending),
+    };
+    let stop = stop_after(stop_on, &case);
+    if !observer.take(case) {
+        return Step::CutShort;
+    }
+    match stop {
+        Some(ending) => Step::Stops(ending),
+        None => Step::GoesOn,
+    }
+}
+
+/// Runs the test cases up to the last by the stopping rule, or the first that is refused, or the one at which the observer
+/// ends the campaign; says how the campaign ended, where the observer did not end it.
+fn run_all<R: Threads + Wait + Copy + Send + 'static, B: Callable, O: Observer>(
     rt: &R,
     alloc: Global,
     cases: Vec<Case<B>>,
     stop_on: Option<Verdict>,
     threads: u16,
-    finished: &mut Vec<Finished>,
-) -> CampaignEnd
-    requires none { finished.old.items ≡ [] }
-    requires room { vec_len cases ≤ vec_capacity finished.old }
-    ensures run { IsRun (map outline_of cases.items) stop_on finished.new.items result }
-    ensures called { AllZip (IsCalled B.outcome) (take (length finished.new.items) cases.items) finished.new.items }
-    ensures threads { All (HasThreads threads) finished.new.items }
+    observer: &mut O,
+) -> Option<CampaignEnd>
+    ensures { WasRun B.outcome O.takes stop_on threads cases.items observer.old observer.new result }
 {
     for case in cases {
-        let case = match finish(rt, alloc, case, threads) {
-            Ok(case) => case,
-            Err(ending) => return ending,
-        };
-        let stop = stop_after(stop_on, &case);
-        finished.push_reserved(case);
-        if let Some(ending) = stop {
-            return ending;
+        match run_next(rt, alloc, case, stop_on, threads, observer) {
+            Step::GoesOn => {}
+            Step::Stops(ending) => return Some(ending),
+            Step::Refused(ending) => return Some(ending),
+            Step::CutShort => return None,
         }
     }
-    CampaignEnd::Complete
+    Some(CampaignEnd::Complete)
+}
+
+/// Runs the test cases of a campaign one after the other, and gives the report of each to the observer before the next one
+/// begins; no report is kept here, so that the campaign takes the memory of one test case.
+///
+/// It is run as by `run_campaign`, but that the observer may end it: then there is no answer, and no further test case is
+/// run. Else the answer is how it ended.
+pub fn run_campaign_with<R: Threads + Wait + Copy + Send + 'static, B: Callable, O: Observer>(
+    rt: &R,
+    alloc: Global,
+    cases: Vec<Case<B>>,
+    stop_on: Option<Verdict>,
+    threads: u16,
+    observer: &mut O,
+) -> Option<CampaignEnd>
+    requires names { All HasNames cases.items }
+    ensures ended { IfSome result (IsObserved B.outcome cases.items stop_on threads O.takes observer.old observer.new) }
+    ensures cut { IfNone result (IsCutShort B.outcome cases.items stop_on threads O.takes observer.old observer.new) }
+{
+    run_all(rt, alloc, cases, stop_on, threads, observer)
+}
+
+/// Runs the test cases of a campaign, and keeps the report of each, for which there is room.
+fn keep_all<R: Threads + Wait + Copy + Send + 'static, B: Callable>(
+    rt: &R,
+    alloc: Global,
+    cases: Vec<Case<B>>,
+    stop_on: Option<Verdict>,
+    threads: u16,
+    finished: Vec<Finished>,
+) -> Results
+    requires names { All HasNames cases.items }
+    requires none { finished.items ≡ [] }
+    requires room { vec_len cases ≤ vec_capacity finished }
+    ensures { IsRunTo B.outcome cases.items stop_on threads result.finished result.ending }
+{
+    let mut kept = Kept { finished };
+    match run_campaign_with(rt, alloc, cases, stop_on, threads, &mut kept) {
+        Some(ending) => Results {
+            finished: Sequence::new(kept.finished),
+            ending,
+        },
+        None => unreachable!(),
+    }
 }
 
 /// How a campaign ends that has no room for its reports.
@@ -117,15 +182,11 @@ pub fn run_campaign<R: Threads + Wait + Copy + Send + 'static, B: Callable>(
     ensures behaviours { All HasBehaviours result.finished }
     ensures why { IsWhy (slice_get (map outline_of cases.items) (length result.finished)) result.ending }
 {
-    let Ok(mut finished) = Vec::with_capacity(alloc, cases.len()) else {
+    let Ok(finished) = Vec::with_capacity(alloc, cases.len()) else {
         return Results {
             finished: Sequence::new(Vec::new(alloc)),
             ending: without_room(cases),
         };
     };
-    let ending = finish_all(rt, alloc, cases, stop_on, threads, &mut finished);
-    Results {
-        finished: Sequence::new(finished),
-        ending,
-    }
+    keep_all(rt, alloc, cases, stop_on, threads, finished)
 }

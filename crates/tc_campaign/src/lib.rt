@@ -3,13 +3,17 @@
 
 mod campaign;
 mod case;
+mod kept;
+mod live;
+mod step;
 mod stopping;
 
-pub use campaign::run_campaign;
+pub use campaign::{run_campaign, run_campaign_with};
 pub use case::Case;
+pub use live::run_campaign_live;
 pub use tc_report::{
-    CampaignEnd, Finished, OutFault, Results, Tally, abort_line, status_of, tally, write_csv,
-    write_history, write_text,
+    CampaignEnd, Finished, Form, LiveWriter, Observer, OutFault, Results, Tally, abort_line,
+    status_of, tally, write_csv, write_history, write_text,
 };
 
 #[cfg(test)]

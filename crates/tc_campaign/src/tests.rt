@@ -2,6 +2,7 @@
 ghost use Rattle.std.specs.Prelude.{IfOk};
 ghost use Rattle.tc_campaign.specs.Outline.{HasNames};
 
+mod observers;
 mod refusals;
 mod scripts;
 mod turns;

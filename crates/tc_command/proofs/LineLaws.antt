@@ -1,5 +1,5 @@
 -- What command lines ask for, computed from the definitions.
-use Rattle.std.proofs.Common.{◌≡◌, ◌∙◌, ◌&&◌, ℕ, refl, sym, ap, ap₂, false, List, [], ◌∷◌, ◌++◌, drop, Option, Some, None, codes, is_some, nat_eq, ne_eqb}
+use Rattle.std.proofs.Common.{◌≡◌, ◌∙◌, ◌&&◌, ℕ, Bool, refl, sym, ap, ap₂, true, false, List, [], ◌∷◌, ◌++◌, drop, Option, Some, None, codes, is_some, nat_eq, ne_eqb}
 use Rattle.std.specs.Prelude.{if◌then◌else◌, fold, is_none, option_and_then}
 use Rattle.std.specs.Option.{option_map_or}
 use Rattle.std.specs.Str.{bytes_eq}
@@ -17,12 +17,22 @@ use Rattle.tc_command.specs.declared.task.Form.TheVariants as form
 use Rattle.tc_command.specs.Asked.{Asked, asked_by, faults, run, run_by}
 use Rattle.tc_command.specs.Command.{ttrun}
 use Rattle.tc_command.specs.Command.{run as run_app}
-use Rattle.tc_command.specs.Lines.{AsksFor, AsksForBoth, AsksHelp, IsHelp, IsName, IsPlain, form_words}
-use Rattle.tc_command.specs.Lines.{no_word, checks, replays, form_first, rule_first, no_rule, next_word, same_word, long, short, run_name, check_name, replay_name, of_program, of_subcommand, csv_first, history_first}
+use Rattle.tc_command.specs.Lines.{AsksFor, AsksForBoth, AsksHelp, InAnyOrder, IsHelp, IsName, IsPlain, SpellsRule, form_words, live_words}
+use Rattle.tc_command.specs.Lines.{abc, acb, bac, bca, cab, cba}
+use Rattle.tc_command.specs.Lines.{no_word, checks, replays, runs, no_rule, next_word, same_word, long, short, run_name, check_name, replay_name, of_program, of_subcommand, csv_first, history_first}
 
 -- the words behind the program's name are taken, and ask for this
 abbrev Asks : List Text → Asked → Type 0
 Asks line a = (faults ([] ∷ line) ≡ []) × (asked_by (subcommand_of ttrun ([] ∷ line)) ≡ Some a)
+
+-- the words behind `run` are taken, and ask for a run with this
+abbrev Runs : Form → Bool → Option Text → List Text → Type 0
+Runs f live rule options = Asks (codes "run" ∷ options) (run f live rule)
+
+-- both forms, in either order
+data IsBoth : List Text → Type 0 where
+  csv_and_history : IsBoth (codes "--csv" ∷ codes "--history" ∷ [])
+  history_and_csv : IsBoth (codes "--history" ∷ codes "--csv" ∷ [])
 
 -- ---- a word that begins with no hyphen, behind an option that takes a word
 
@@ -83,94 +93,179 @@ faults_by after k w =
 abbrev asked_after : List Text → Walk → Option Asked
 asked_after after w = run_by (finished leaf.rules (fold (walked leaf.rules []) w after).held)
 
-module _ (v : Text) (plain : IsNoOption v) where
-  -- the word of a rule behind the form
-  next_form : (f : Form) → Asks (codes "run" ∷ (form_words f ++ codes "--stop-on" ∷ v ∷ [])) (run f (Some v))
-  unfolding clap_on_literals
-  next_form form.Text = (
-    ap₂ (faults_by []) (turn_quiet leaf (held_before []) (codes "stop-on") 1 v plain) (value_walked leaf (held_before []) (codes "stop-on") 1 v plain),
-    ap (asked_after []) (value_walked leaf (held_before []) (codes "stop-on") 1 v plain),
-  )
-  next_form form.Csv = (
-    ap₂ (faults_by []) (turn_quiet leaf (held_before (codes "--csv" ∷ [])) (codes "stop-on") 1 v plain) (value_walked leaf (held_before (codes "--csv" ∷ [])) (codes "stop-on") 1 v plain),
-    ap (asked_after []) (value_walked leaf (held_before (codes "--csv" ∷ [])) (codes "stop-on") 1 v plain),
-  )
-  next_form form.History = (
-    ap₂ (faults_by []) (turn_quiet leaf (held_before (codes "--history" ∷ [])) (codes "stop-on") 1 v plain) (value_walked leaf (held_before (codes "--history" ∷ [])) (codes "stop-on") 1 v plain),
-    ap (asked_after []) (value_walked leaf (held_before (codes "--history" ∷ [])) (codes "stop-on") 1 v plain),
-  )
+-- where --stop-on waits for its word behind these words
+abbrev waits : List Text → Walk
+waits before = waiting_at (held_before before) (codes "stop-on") 1
 
-  -- and before it
-  next_rule : (f : Form) → Asks (codes "run" ∷ (codes "--stop-on" ∷ v ∷ form_words f)) (run f (Some v))
+module _ (v : Text) (plain : IsNoOption v) where
+  -- where the walk goes on behind the word
+  abbrev goes_on : List Text → Walk
+  goes_on before =
+      let met = as_value leaf (held_before before) (codes "stop-on") 1 v plain in
+      after_step leaf.rules v (waits before) met.0 met.1
+
+  -- the word is taken behind these words, and before those
+  quiet : (before after : List Text) → faults_by after (turn_fault leaf [] (waits before) v) (walked leaf.rules [] (waits before) v) ≡ faults_by after [] (goes_on before)
+  quiet before after = ap₂ (faults_by after) (turn_quiet leaf (held_before before) (codes "stop-on") 1 v plain) (value_walked leaf (held_before before) (codes "stop-on") 1 v plain)
+
+  asked_for : (before after : List Text) → asked_after after (walked leaf.rules [] (waits before) v) ≡ asked_after after (goes_on before)
+  asked_for before after = ap (asked_after after) (value_walked leaf (held_before before) (codes "stop-on") 1 v plain)
+
+  -- the word of a rule behind its option
+  next : (f : Form) (live : Bool) (options : List Text) → InAnyOrder (form_words f) (live_words live) (codes "--stop-on" ∷ v ∷ []) options → Runs f live (Some v) options
   unfolding clap_on_literals
-  next_rule form.Text = (
-    ap₂ (faults_by []) (turn_quiet leaf (held_before []) (codes "stop-on") 1 v plain) (value_walked leaf (held_before []) (codes "stop-on") 1 v plain),
-    ap (asked_after []) (value_walked leaf (held_before []) (codes "stop-on") 1 v plain),
-  )
-  next_rule form.Csv = (
-    ap₂ (faults_by (codes "--csv" ∷ [])) (turn_quiet leaf (held_before []) (codes "stop-on") 1 v plain) (value_walked leaf (held_before []) (codes "stop-on") 1 v plain),
-    ap (asked_after (codes "--csv" ∷ [])) (value_walked leaf (held_before []) (codes "stop-on") 1 v plain),
-  )
-  next_rule form.History = (
-    ap₂ (faults_by (codes "--history" ∷ [])) (turn_quiet leaf (held_before []) (codes "stop-on") 1 v plain) (value_walked leaf (held_before []) (codes "stop-on") 1 v plain),
-    ap (asked_after (codes "--history" ∷ [])) (value_walked leaf (held_before []) (codes "stop-on") 1 v plain),
-  )
+  next form.Text false options abc = (quiet [] [], asked_for [] [])
+  next form.Text false options acb = (quiet [] [], asked_for [] [])
+  next form.Text false options bac = (quiet [] [], asked_for [] [])
+  next form.Text false options bca = (quiet [] [], asked_for [] [])
+  next form.Text false options cab = (quiet [] [], asked_for [] [])
+  next form.Text false options cba = (quiet [] [], asked_for [] [])
+  next form.Text true options abc = (quiet (codes "--live" ∷ []) [], asked_for (codes "--live" ∷ []) [])
+  next form.Text true options acb = (quiet [] (codes "--live" ∷ []), asked_for [] (codes "--live" ∷ []))
+  next form.Text true options bac = (quiet (codes "--live" ∷ []) [], asked_for (codes "--live" ∷ []) [])
+  next form.Text true options bca = (quiet (codes "--live" ∷ []) [], asked_for (codes "--live" ∷ []) [])
+  next form.Text true options cab = (quiet [] (codes "--live" ∷ []), asked_for [] (codes "--live" ∷ []))
+  next form.Text true options cba = (quiet [] (codes "--live" ∷ []), asked_for [] (codes "--live" ∷ []))
+  next form.Csv false options abc = (quiet (codes "--csv" ∷ []) [], asked_for (codes "--csv" ∷ []) [])
+  next form.Csv false options acb = (quiet (codes "--csv" ∷ []) [], asked_for (codes "--csv" ∷ []) [])
+  next form.Csv false options bac = (quiet (codes "--csv" ∷ []) [], asked_for (codes "--csv" ∷ []) [])
+  next form.Csv false options bca = (quiet [] (codes "--csv" ∷ []), asked_for [] (codes "--csv" ∷ []))
+  next form.Csv false options cab = (quiet [] (codes "--csv" ∷ []), asked_for [] (codes "--csv" ∷ []))
+  next form.Csv false options cba = (quiet [] (codes "--csv" ∷ []), asked_for [] (codes "--csv" ∷ []))
+  next form.Csv true options abc = (quiet (codes "--csv" ∷ codes "--live" ∷ []) [], asked_for (codes "--csv" ∷ codes "--live" ∷ []) [])
+  next form.Csv true options acb = (quiet (codes "--csv" ∷ []) (codes "--live" ∷ []), asked_for (codes "--csv" ∷ []) (codes "--live" ∷ []))
+  next form.Csv true options bac = (quiet (codes "--live" ∷ codes "--csv" ∷ []) [], asked_for (codes "--live" ∷ codes "--csv" ∷ []) [])
+  next form.Csv true options bca = (quiet (codes "--live" ∷ []) (codes "--csv" ∷ []), asked_for (codes "--live" ∷ []) (codes "--csv" ∷ []))
+  next form.Csv true options cab = (quiet [] (codes "--csv" ∷ codes "--live" ∷ []), asked_for [] (codes "--csv" ∷ codes "--live" ∷ []))
+  next form.Csv true options cba = (quiet [] (codes "--live" ∷ codes "--csv" ∷ []), asked_for [] (codes "--live" ∷ codes "--csv" ∷ []))
+  next form.History false options abc = (quiet (codes "--history" ∷ []) [], asked_for (codes "--history" ∷ []) [])
+  next form.History false options acb = (quiet (codes "--history" ∷ []) [], asked_for (codes "--history" ∷ []) [])
+  next form.History false options bac = (quiet (codes "--history" ∷ []) [], asked_for (codes "--history" ∷ []) [])
+  next form.History false options bca = (quiet [] (codes "--history" ∷ []), asked_for [] (codes "--history" ∷ []))
+  next form.History false options cab = (quiet [] (codes "--history" ∷ []), asked_for [] (codes "--history" ∷ []))
+  next form.History false options cba = (quiet [] (codes "--history" ∷ []), asked_for [] (codes "--history" ∷ []))
+  next form.History true options abc = (quiet (codes "--history" ∷ codes "--live" ∷ []) [], asked_for (codes "--history" ∷ codes "--live" ∷ []) [])
+  next form.History true options acb = (quiet (codes "--history" ∷ []) (codes "--live" ∷ []), asked_for (codes "--history" ∷ []) (codes "--live" ∷ []))
+  next form.History true options bac = (quiet (codes "--live" ∷ codes "--history" ∷ []) [], asked_for (codes "--live" ∷ codes "--history" ∷ []) [])
+  next form.History true options bca = (quiet (codes "--live" ∷ []) (codes "--history" ∷ []), asked_for (codes "--live" ∷ []) (codes "--history" ∷ []))
+  next form.History true options cab = (quiet [] (codes "--history" ∷ codes "--live" ∷ []), asked_for [] (codes "--history" ∷ codes "--live" ∷ []))
+  next form.History true options cba = (quiet [] (codes "--live" ∷ codes "--history" ∷ []), asked_for [] (codes "--live" ∷ codes "--history" ∷ []))
 
   -- behind both forms
-  both_csv : faults ([] ∷ codes "run" ∷ codes "--csv" ∷ codes "--history" ∷ codes "--stop-on" ∷ v ∷ []) ≡ ArgumentConflict ∷ []
+  both : (live : Bool) (words : List Text) → IsBoth words → faults ([] ∷ codes "run" ∷ (live_words live ++ (words ++ codes "--stop-on" ∷ v ∷ []))) ≡ ArgumentConflict ∷ []
   unfolding clap_on_literals
-  both_csv = ap₂ (faults_by []) (turn_quiet leaf (held_before (codes "--csv" ∷ codes "--history" ∷ [])) (codes "stop-on") 1 v plain) (value_walked leaf (held_before (codes "--csv" ∷ codes "--history" ∷ [])) (codes "stop-on") 1 v plain)
-
-  both_history : faults ([] ∷ codes "run" ∷ codes "--history" ∷ codes "--csv" ∷ codes "--stop-on" ∷ v ∷ []) ≡ ArgumentConflict ∷ []
-  unfolding clap_on_literals
-  both_history = ap₂ (faults_by []) (turn_quiet leaf (held_before (codes "--history" ∷ codes "--csv" ∷ [])) (codes "stop-on") 1 v plain) (value_walked leaf (held_before (codes "--history" ∷ codes "--csv" ∷ [])) (codes "stop-on") 1 v plain)
+  both false words csv_and_history = quiet (codes "--csv" ∷ codes "--history" ∷ []) []
+  both false words history_and_csv = quiet (codes "--history" ∷ codes "--csv" ∷ []) []
+  both true words csv_and_history = quiet (codes "--live" ∷ codes "--csv" ∷ codes "--history" ∷ []) []
+  both true words history_and_csv = quiet (codes "--live" ∷ codes "--history" ∷ codes "--csv" ∷ []) []
 
 -- ---- the other lines
 
-same_form : (f : Form) (word : Text) → Asks (codes "run" ∷ (form_words f ++ (codes "--stop-on=" ++ word) ∷ [])) (run f (Some word))
+same : (f : Form) (live : Bool) (word : Text) (options : List Text) → InAnyOrder (form_words f) (live_words live) ((codes "--stop-on=" ++ word) ∷ []) options → Runs f live (Some word) options
 unfolding clap_on_literals
-same_form form.Text word = (refl, refl)
-same_form form.Csv word = (refl, refl)
-same_form form.History word = (refl, refl)
+same form.Text false word options abc = (refl, refl)
+same form.Text false word options acb = (refl, refl)
+same form.Text false word options bac = (refl, refl)
+same form.Text false word options bca = (refl, refl)
+same form.Text false word options cab = (refl, refl)
+same form.Text false word options cba = (refl, refl)
+same form.Text true word options abc = (refl, refl)
+same form.Text true word options acb = (refl, refl)
+same form.Text true word options bac = (refl, refl)
+same form.Text true word options bca = (refl, refl)
+same form.Text true word options cab = (refl, refl)
+same form.Text true word options cba = (refl, refl)
+same form.Csv false word options abc = (refl, refl)
+same form.Csv false word options acb = (refl, refl)
+same form.Csv false word options bac = (refl, refl)
+same form.Csv false word options bca = (refl, refl)
+same form.Csv false word options cab = (refl, refl)
+same form.Csv false word options cba = (refl, refl)
+same form.Csv true word options abc = (refl, refl)
+same form.Csv true word options acb = (refl, refl)
+same form.Csv true word options bac = (refl, refl)
+same form.Csv true word options bca = (refl, refl)
+same form.Csv true word options cab = (refl, refl)
+same form.Csv true word options cba = (refl, refl)
+same form.History false word options abc = (refl, refl)
+same form.History false word options acb = (refl, refl)
+same form.History false word options bac = (refl, refl)
+same form.History false word options bca = (refl, refl)
+same form.History false word options cab = (refl, refl)
+same form.History false word options cba = (refl, refl)
+same form.History true word options abc = (refl, refl)
+same form.History true word options acb = (refl, refl)
+same form.History true word options bac = (refl, refl)
+same form.History true word options bca = (refl, refl)
+same form.History true word options cab = (refl, refl)
+same form.History true word options cba = (refl, refl)
 
-same_rule : (f : Form) (word : Text) → Asks (codes "run" ∷ ((codes "--stop-on=" ++ word) ∷ form_words f)) (run f (Some word))
+alone : (f : Form) (live : Bool) (options : List Text) → InAnyOrder (form_words f) (live_words live) [] options → Runs f live None options
 unfolding clap_on_literals
-same_rule form.Text word = (refl, refl)
-same_rule form.Csv word = (refl, refl)
-same_rule form.History word = (refl, refl)
+alone form.Text false options abc = (refl, refl)
+alone form.Text false options acb = (refl, refl)
+alone form.Text false options bac = (refl, refl)
+alone form.Text false options bca = (refl, refl)
+alone form.Text false options cab = (refl, refl)
+alone form.Text false options cba = (refl, refl)
+alone form.Text true options abc = (refl, refl)
+alone form.Text true options acb = (refl, refl)
+alone form.Text true options bac = (refl, refl)
+alone form.Text true options bca = (refl, refl)
+alone form.Text true options cab = (refl, refl)
+alone form.Text true options cba = (refl, refl)
+alone form.Csv false options abc = (refl, refl)
+alone form.Csv false options acb = (refl, refl)
+alone form.Csv false options bac = (refl, refl)
+alone form.Csv false options bca = (refl, refl)
+alone form.Csv false options cab = (refl, refl)
+alone form.Csv false options cba = (refl, refl)
+alone form.Csv true options abc = (refl, refl)
+alone form.Csv true options acb = (refl, refl)
+alone form.Csv true options bac = (refl, refl)
+alone form.Csv true options bca = (refl, refl)
+alone form.Csv true options cab = (refl, refl)
+alone form.Csv true options cba = (refl, refl)
+alone form.History false options abc = (refl, refl)
+alone form.History false options acb = (refl, refl)
+alone form.History false options bac = (refl, refl)
+alone form.History false options bca = (refl, refl)
+alone form.History false options cab = (refl, refl)
+alone form.History false options cba = (refl, refl)
+alone form.History true options abc = (refl, refl)
+alone form.History true options acb = (refl, refl)
+alone form.History true options bac = (refl, refl)
+alone form.History true options bca = (refl, refl)
+alone form.History true options cab = (refl, refl)
+alone form.History true options cba = (refl, refl)
 
-form_alone : (f : Form) → Asks (codes "run" ∷ (form_words f ++ [])) (run f None)
-unfolding clap_on_literals
-form_alone form.Text = (refl, refl)
-form_alone form.Csv = (refl, refl)
-form_alone form.History = (refl, refl)
-
-form_last : (f : Form) → Asks (codes "run" ∷ form_words f) (run f None)
-unfolding clap_on_literals
-form_last form.Text = (refl, refl)
-form_last form.Csv = (refl, refl)
-form_last form.History = (refl, refl)
+spelled : (f : Form) (live : Bool) (rule : Option Text) (words options : List Text) → SpellsRule rule words
+    → InAnyOrder (form_words f) (live_words live) words options → Runs f live rule options
+spelled f live rule words options no_rule order = alone f live options order
+spelled f live rule words options (next_word word plain) order = next word (no_option word plain) f live options order
+spelled f live rule words options (same_word word) order = same f live word options order
 
 asks : (a : Asked) (line : List Text) → AsksFor a line → Asks line a
 unfolding clap_on_literals
 asks a line no_word = (refl, refl)
 asks a line checks = (refl, refl)
 asks a line replays = (refl, refl)
-asks a line (form_first f rule words no_rule) = form_alone f
-asks a line (form_first f rule words (next_word word plain)) = next_form word (no_option word plain) f
-asks a line (form_first f rule words (same_word word)) = same_form f word
-asks a line (rule_first f rule words no_rule) = form_last f
-asks a line (rule_first f rule words (next_word word plain)) = next_rule word (no_option word plain) f
-asks a line (rule_first f rule words (same_word word)) = same_rule f word
+asks a line (runs f live rule words options spells order) = spelled f live rule words options spells order
 
 asks_both : (line : List Text) → AsksForBoth line → faults ([] ∷ line) ≡ ArgumentConflict ∷ []
 unfolding clap_on_literals
-asks_both line (csv_first rule words no_rule) = refl
-asks_both line (csv_first rule words (next_word word plain)) = both_csv word (no_option word plain)
-asks_both line (csv_first rule words (same_word word)) = refl
-asks_both line (history_first rule words no_rule) = refl
-asks_both line (history_first rule words (next_word word plain)) = both_history word (no_option word plain)
-asks_both line (history_first rule words (same_word word)) = refl
+asks_both line (csv_first false rule words no_rule) = refl
+asks_both line (csv_first false rule words (same_word word)) = refl
+asks_both line (csv_first true rule words no_rule) = refl
+asks_both line (csv_first true rule words (same_word word)) = refl
+asks_both line (csv_first false rule words (next_word word plain)) = both word (no_option word plain) false (codes "--csv" ∷ codes "--history" ∷ []) csv_and_history
+asks_both line (csv_first true rule words (next_word word plain)) = both word (no_option word plain) true (codes "--csv" ∷ codes "--history" ∷ []) csv_and_history
+asks_both line (history_first false rule words no_rule) = refl
+asks_both line (history_first false rule words (same_word word)) = refl
+asks_both line (history_first true rule words no_rule) = refl
+asks_both line (history_first true rule words (same_word word)) = refl
+asks_both line (history_first false rule words (next_word word plain)) = both word (no_option word plain) false (codes "--history" ∷ codes "--csv" ∷ []) history_and_csv
+asks_both line (history_first true rule words (next_word word plain)) = both word (no_option word plain) true (codes "--history" ∷ codes "--csv" ∷ []) history_and_csv
 
 -- ---- help
 

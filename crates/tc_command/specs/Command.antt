@@ -11,9 +11,9 @@ flag_rule name = record (new_rule name) { long = Some name; action = Some SetTru
 abbrev pub stop_on : Rule
 stop_on = record (new_rule (codes "stop-on")) { long = Some (codes "stop-on"); action = Some Set; value_names = 1 }
 
--- run has the options --csv, --history and --stop-on
+-- run has the options --csv, --history, --live and --stop-on
 abbrev pub run : App
-run = with_rule (with_rule (with_rule (new_app (codes "run")) (flag_rule (codes "csv"))) (flag_rule (codes "history"))) stop_on
+run = with_rule (with_rule (with_rule (with_rule (new_app (codes "run")) (flag_rule (codes "csv"))) (flag_rule (codes "history"))) (flag_rule (codes "live"))) stop_on
 
 -- check has no option
 abbrev pub check : App

@@ -1,5 +1,5 @@
 -- Command lines as the help shows them, without the program's name: what they ask for.
-use Rattle.std.specs.Prelude.{◌≢◌, ⊤, List, [], ◌∷◌, ◌++◌, Option, Some, None, codes}
+use Rattle.std.specs.Prelude.{◌≢◌, ⊤, Bool, true, false, List, [], ◌∷◌, ◌++◌, Option, Some, None, codes}
 use Rattle.clap.specs.Words.{Text}
 use Rattle.tc_command.specs.declared.task.Form.{Form}
 use Rattle.tc_command.specs.declared.task.Form.TheVariants as form
@@ -16,21 +16,33 @@ form_words form.Text = []
 form_words form.Csv = codes "--csv" ∷ []
 form_words form.History = codes "--history" ∷ []
 
+-- the option that asks for each test case as it finishes
+abbrev pub live_words : Bool → List Text
+live_words false = []
+live_words true = codes "--live" ∷ []
+
+-- three lists one behind the other, in any order
+pub data InAnyOrder (a b c : List Text) : List Text → Type 0 where
+  abc : InAnyOrder a b c (a ++ (b ++ c))
+  acb : InAnyOrder a b c (a ++ (c ++ b))
+  bac : InAnyOrder a b c (b ++ (a ++ c))
+  bca : InAnyOrder a b c (b ++ (c ++ a))
+  cab : InAnyOrder a b c (c ++ (a ++ b))
+  cba : InAnyOrder a b c (c ++ (b ++ a))
+
 -- how the word of the stopping rule is spelled: behind --stop-on, or in one word with it
 pub data SpellsRule : Option Text → List Text → Type 0 where
   no_rule : SpellsRule None []
   next_word : (word : Text) → IsPlain word → SpellsRule (Some word) (codes "--stop-on" ∷ word ∷ [])
   same_word : (word : Text) → SpellsRule (Some word) ((codes "--stop-on=" ++ word) ∷ [])
 
--- the words ask for this: no word at all for `run` without options, whose options stand in either order
+-- the words ask for this: no word at all for `run` without options, whose options stand in any order
 pub data AsksFor : Asked → List Text → Type 0 where
-  no_word : AsksFor (run form.Text None) []
+  no_word : AsksFor (run form.Text false None) []
   checks : AsksFor check (codes "check" ∷ [])
   replays : AsksFor replay (codes "replay" ∷ [])
-  form_first : (f : Form) (rule : Option Text) (words : List Text) → SpellsRule rule words
-      → AsksFor (run f rule) (codes "run" ∷ (form_words f ++ words))
-  rule_first : (f : Form) (rule : Option Text) (words : List Text) → SpellsRule rule words
-      → AsksFor (run f rule) (codes "run" ∷ (words ++ form_words f))
+  runs : (f : Form) (live : Bool) (rule : Option Text) (words options : List Text) → SpellsRule rule words
+      → InAnyOrder (form_words f) (live_words live) words options → AsksFor (run f live rule) (codes "run" ∷ options)
 
 -- the word asks for help
 pub data IsHelp : Text → Type 0 where
@@ -48,9 +60,9 @@ pub data AsksHelp : List Text → Type 0 where
   of_program : (help : Text) (rest : List Text) → IsHelp help → AsksHelp (help ∷ rest)
   of_subcommand : (name help : Text) (rest : List Text) → IsName name → IsHelp help → AsksHelp (name ∷ help ∷ rest)
 
--- the words ask for both forms, in either order, and for a stopping rule or none
+-- the words ask for both forms, in either order, live or not, and for a stopping rule or none
 pub data AsksForBoth : List Text → Type 0 where
-  csv_first : (rule : Option Text) (words : List Text) → SpellsRule rule words
-      → AsksForBoth (codes "run" ∷ codes "--csv" ∷ codes "--history" ∷ words)
-  history_first : (rule : Option Text) (words : List Text) → SpellsRule rule words
-      → AsksForBoth (codes "run" ∷ codes "--history" ∷ codes "--csv" ∷ words)
+  csv_first : (live : Bool) (rule : Option Text) (words : List Text) → SpellsRule rule words
+      → AsksForBoth (codes "run" ∷ (live_words live ++ codes "--csv" ∷ codes "--history" ∷ words))
+  history_first : (live : Bool) (rule : Option Text) (words : List Text) → SpellsRule rule words
+      → AsksForBoth (codes "run" ∷ (live_words live ++ codes "--history" ∷ codes "--csv" ∷ words))

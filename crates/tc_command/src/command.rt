@@ -38,6 +38,7 @@ fn run_command<'a>(alloc: Global) -> Result<Command<'a>, AllocError>
         .about("runs the campaign of a script, and writes its report")
         .arg(flag(alloc, "csv", "writes the report as CSV"))?
         .arg(flag(alloc, "history", "writes the histories of the test cases"))?
+        .arg(flag(alloc, "live", "writes each test case as it finishes"))?
         .arg(stop_on_option(alloc))
 }
 

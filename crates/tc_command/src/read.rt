@@ -36,8 +36,13 @@ fn run_task<'a>(options: &ArgMatches<'a>) -> Option<Task<'a>>
     ensures { option_map asked result ≡ run_by (rows_of (found_of options.now)) }
 {
     let form = form(options)?;
+    let live = has_option(options, "live");
     let stop_on = options.get_str("stop-on");
-    Some(Task::Run { form, stop_on })
+    Some(Task::Run {
+        form,
+        live,
+        stop_on,
+    })
 }
 
 // What the subcommand asks for: nothing where its options ask for two forms.
@@ -47,6 +52,7 @@ fn task<'a>(matches: &ArgMatches<'a>) -> Option<Task<'a>>
     match matches.subcommand() {
         None => Some(Task::Run {
             form: Form::Text,
+            live: false,
             stop_on: None,
         }),
         Some(("check", _)) => Some(Task::Check),

@@ -16,9 +16,11 @@ pub enum Form {
 pub enum Task<'a> {
     /// Replay a list of moves.
     Replay,
-    /// Run a campaign: how its results are written, and the word of `--stop-on`.
+    /// Run a campaign: how its results are written, whether each test case is written as it finishes, and the word of
+    /// `--stop-on`.
     Run {
         form: Form,
+        live: bool,
         stop_on: Option<&'a str>,
     },
     /// Check histories.

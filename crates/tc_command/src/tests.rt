@@ -21,7 +21,19 @@ const NO_WORD: Result<Task<'static>, ErrorKind> = Err(ErrorKind::InvalidValue);
 const TOO_MANY: Result<Task<'static>, ErrorKind> = Err(ErrorKind::TooManyValues);
 
 fn run(form: Form, stop_on: Option<&'static str>) -> Result<Task<'static>, ErrorKind> {
-    Ok(Task::Run { form, stop_on })
+    Ok(Task::Run {
+        form,
+        live: false,
+        stop_on,
+    })
+}
+
+fn live(form: Form, stop_on: Option<&'static str>) -> Result<Task<'static>, ErrorKind> {
+    Ok(Task::Run {
+        form,
+        live: true,
+        stop_on,
+    })
 }
 
 fn words(alloc: Global, line: &str) -> Result<Vec<String>, AllocError> {
@@ -127,11 +139,64 @@ fn lines_and_tasks(rt: HostRuntime) -> Result<(), Fail> {
 }
 
 #[test]
+fn lines_with_live(rt: HostRuntime) -> Result<(), Fail> {
+    let alloc = rt.alloc();
+    let lines = [
+        ("ttrun run --live", live(Form::Text, None)),
+        ("ttrun run --live --", live(Form::Text, None)),
+        ("ttrun run --live --csv", live(Form::Csv, None)),
+        ("ttrun run --csv --live", live(Form::Csv, None)),
+        ("ttrun run --live --history", live(Form::History, None)),
+        ("ttrun run --history --live", live(Form::History, None)),
+        (
+            "ttrun run --live --stop-on fail",
+            live(Form::Text, Some("fail")),
+        ),
+        (
+            "ttrun run --stop-on=fail --live",
+            live(Form::Text, Some("fail")),
+        ),
+        (
+            "ttrun run --csv --stop-on fail --live",
+            live(Form::Csv, Some("fail")),
+        ),
+        (
+            "ttrun run --stop-on fail --live --history",
+            live(Form::History, Some("fail")),
+        ),
+        (
+            "ttrun run --stop-on=--live",
+            run(Form::Text, Some("--live")),
+        ),
+        ("ttrun run --live --live", CONFLICT),
+        ("ttrun run --live --csv --history", CONFLICT),
+        ("ttrun run --csv --live --history", CONFLICT),
+        ("ttrun run --stop-on --live", NO_WORD),
+        ("ttrun run --live=yes", TOO_MANY),
+        ("ttrun run --live --help", HELP),
+        ("ttrun run --liv", UNKNOWN),
+        ("ttrun run --live more", UNKNOWN),
+        ("ttrun run -- --live", UNKNOWN),
+        ("ttrun --live", UNKNOWN),
+        ("ttrun --live run", UNKNOWN),
+        ("ttrun check --live", UNKNOWN),
+        ("ttrun replay --live", UNKNOWN),
+    ];
+    for (line, wanted) in lines {
+        let words = words(alloc, line)?;
+        let read = read_task(alloc, words.as_slice()).map_err(|error| error.kind());
+        assert_eq!(rt; read, wanted, "{line}");
+    }
+    Ok(())
+}
+
+#[test]
 fn no_words_at_all(rt: HostRuntime) -> Result<(), Fail> {
     assert_eq!(rt;
         read_task(rt.alloc(), &[])?,
         Task::Run {
             form: Form::Text,
+            live: false,
             stop_on: None
         }
     );
@@ -173,6 +238,7 @@ fn the_help_says_what_each_word_does(rt: HostRuntime) -> Result<(), Fail> {
         ),
         ("ttrun run --help", "writes the report as CSV"),
         ("ttrun run --help", "writes the histories of the test cases"),
+        ("ttrun run --help", "writes each test case as it finishes"),
         ("ttrun run --help", "--stop-on <VERDICT>"),
         (
             "ttrun run --help",

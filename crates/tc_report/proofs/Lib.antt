@@ -1,6 +1,9 @@
 -- The lemmas of this crate.
 pub mod Counting
 pub mod Locals
+pub mod Observing
 pub mod Overalls
+pub mod Pieces
 pub mod Plain
+pub mod Writing
 mod WorkedTexts

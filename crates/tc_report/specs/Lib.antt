@@ -6,4 +6,6 @@ pub mod Report
 pub mod Csv
 pub mod Histories
 pub mod Output
+pub mod Observers
+pub mod Live
 pub mod Inside

@@ -16,16 +16,24 @@ count_of v verdicts = length (filter (λ w. level_of w == level_of v) verdicts)
 abbrev pub cases_of : Verdict → List Finished → ℕ
 cases_of v cases = length (filter (λ f. level_of f.report.verdict == level_of v) cases)
 
+-- these test cases by their overall verdicts
+abbrev pub tally_of_cases : List Finished → Tally
+tally_of_cases fs = record {
+  cases = length fs;
+  none = cases_of V.None fs;
+  pass = cases_of V.Pass fs;
+  inconc = cases_of V.Inconc fs;
+  fail = cases_of V.Fail fs;
+  error = cases_of V.Error fs;
+}
+
 -- the finished test cases by their overall verdicts
 abbrev pub tally_of : Results → Tally
-tally_of r = record {
-  cases = length r.finished;
-  none = cases_of V.None r.finished;
-  pass = cases_of V.Pass r.finished;
-  inconc = cases_of V.Inconc r.finished;
-  fail = cases_of V.Fail r.finished;
-  error = cases_of V.Error r.finished;
-}
+tally_of r = tally_of_cases r.finished
+
+-- the tally of no test case
+abbrev pub no_cases : Tally
+no_cases = tally_of_cases []
 
 -- the line of a tally
 abbrev pub tally_line : Tally → List ℕ

@@ -1,6 +1,7 @@
 //! Counting verdicts.
-ghost use Rattle.std.specs.Prelude.{◌≡◌, ◌+◌};
-ghost use Rattle.tc_report.specs.Tally.{cases_of as spec_cases, count_of as spec_count, tally_of};
+ghost use Rattle.std.specs.Prelude.{◌≡◌, ◌+◌, IfSome};
+ghost use Rattle.tc_report.specs.Live.{one_if, tally_with};
+ghost use Rattle.tc_report.specs.Tally.{cases_of as spec_cases, count_of as spec_count, no_cases as spec_none, tally_of};
 
 use crate::results::{Finished, Results, Tally};
 use tc_entry::Verdict;
@@ -20,6 +21,45 @@ fn cases_of(cases: &[Finished], verdict: Verdict) -> usize
         .iter()
         .filter(|case| case.report.verdict == verdict)
         .count()
+}
+
+/// The tally of no test case.
+pub(crate) fn no_cases() -> Tally
+    ensures { result ≡ spec_none }
+{
+    Tally {
+        cases: 0,
+        none: 0,
+        pass: 0,
+        inconc: 0,
+        fail: 0,
+        error: 0,
+    }
+}
+
+// The count, with one more where it is so; none where that is no number of the machine.
+fn count_more(count: usize, more: bool) -> Option<usize>
+    ensures { IfSome result (λ n. n ≡ count + one_if more) }
+{
+    if more {
+        count.checked_add(1)
+    } else {
+        Some(count)
+    }
+}
+
+/// The tally with one test case more, of this overall verdict; none where a count is no number of the machine.
+pub(crate) fn with_case(tally: &Tally, verdict: Verdict) -> Option<Tally>
+    ensures { IfSome result (λ t. t ≡ tally_with tally.now verdict) }
+{
+    Some(Tally {
+        cases: tally.cases.checked_add(1)?,
+        none: count_more(tally.none, verdict == Verdict::None)?,
+        pass: count_more(tally.pass, verdict == Verdict::Pass)?,
+        inconc: count_more(tally.inconc, verdict == Verdict::Inconc)?,
+        fail: count_more(tally.fail, verdict == Verdict::Fail)?,
+        error: count_more(tally.error, verdict == Verdict::Error)?,
+    })
 }
 
 /// Counts the finished test cases by their overall verdicts. It takes no memory.

@@ -13,8 +13,8 @@ use std::io::Write;
 use tc_entry::NoMemory;
 use tc_history::write_block;
 
-// Appends the history of a finished test case.
-fn append_history(out: &mut Vec<u8>, case: &Finished) -> Result<(), NoMemory>
+/// Appends the history of a finished test case.
+pub(crate) fn append_history(out: &mut Vec<u8>, case: &Finished) -> Result<(), NoMemory>
     ensures { OnOk result (out.new.items ≡ out.old.items ++ case_history case.now) }
 {
     let report = &case.report;

@@ -15,3 +15,15 @@ pub(crate) fn write_made<W: Write>(writer: &mut W, text: &[u8]) -> Result<(), Ou
     write_whole(writer, text)?;
     Ok(())
 }
+
+/// Writes the text, and flushes the writer.
+pub(crate) fn write_flushed<W: Write>(writer: &mut W, text: &[u8]) -> Result<(), OutFault>
+    ensures all { OnOk result (Appends (W.contents writer.old) (W.contents writer.new) text.now) }
+    ensures part { IfErr result (λ fault. LeavesPrefix (W.contents writer.old) (W.contents writer.new) text.now fault) }
+{
+    write_made(writer, text)?;
+    match writer.flush() {
+        Ok(()) => Ok(()),
+        Err(_) => Err(OutFault::Write),
+    }
+}

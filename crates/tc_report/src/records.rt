@@ -4,7 +4,7 @@ ghost use Rattle.std.specs.Fmt.{IsBoundedDecimal, decimal};
 ghost use Rattle.std.specs.Io.KnownBytes.{Appends};
 ghost use Rattle.csv.specs.Records.{fields_of, partial_of};
 ghost use Rattle.tc_entry.specs.Name.{IsName};
-ghost use Rattle.tc_report.specs.Csv.{counts_of, csv_text, record_fields, record_line};
+ghost use Rattle.tc_report.specs.Csv.{counts_of, csv_text, header_text, record_fields, record_line};
 ghost use Rattle.tc_report.specs.Output.{LeavesPrefix};
 ghost use Rattle.tc_report.specs.Inside.{IsBetweenRecords, IsStarted, written_by};
 
@@ -66,11 +66,29 @@ fn write_record(
     }
 }
 
+// A writer that has written nothing.
+fn fresh(alloc: Global) -> Writer<Vec<u8>>
+    ensures between { IsBetweenRecords result }
+    ensures empty { written_by result ≡ [] }
+{
+    WriterBuilder::new().from_writer(Vec::new(alloc))
+}
+
+// All that the writer has written.
+fn whole(writer: Writer<Vec<u8>>) -> Result<Vec<u8>, NoMemory>
+    ensures { IfOk result (λ v. v.items ≡ written_by writer) }
+{
+    match writer.into_inner() {
+        Ok(text) => Ok(text),
+        Err(_) => Err(NoMemory),
+    }
+}
+
 // A writer that has written the header.
 fn started(alloc: Global) -> Result<Writer<Vec<u8>>, NoMemory>
     ensures { IfOk result IsStarted }
 {
-    let mut writer = WriterBuilder::new().from_writer(Vec::new(alloc));
+    let mut writer = fresh(alloc);
     let header: [&[u8]; 8] = [
         b"testcase",
         b"components",
@@ -95,10 +113,23 @@ fn records(alloc: Global, results: &Results) -> Result<Vec<u8>, NoMemory>
     for case in results.finished.as_slice() {
         write_record(alloc, &mut writer, case)?;
     }
-    match writer.into_inner() {
-        Ok(text) => Ok(text),
-        Err(_) => Err(NoMemory),
-    }
+    whole(writer)
+}
+
+/// The header.
+pub(crate) fn header(alloc: Global) -> Result<Vec<u8>, NoMemory>
+    ensures { IfOk result (λ v. v.items ≡ header_text) }
+{
+    whole(started(alloc)?)
+}
+
+/// The line of a finished test case.
+pub(crate) fn case_record(alloc: Global, case: &Finished) -> Result<Vec<u8>, NoMemory>
+    ensures { IfOk result (λ v. v.items ≡ record_line case.now) }
+{
+    let mut writer = fresh(alloc);
+    write_record(alloc, &mut writer, case)?;
+    whole(writer)
 }
 
 /// Writes the CSV report: a header, and a record for each finished test case in order, with how many components it has,

@@ -141,8 +141,8 @@ pub fn append_verdict(out: &mut Vec<u8>, verdict: Verdict) -> Result<(), NoMemor
     Ok(())
 }
 
-// Appends a finished test case.
-fn append_case(out: &mut Vec<u8>, case: &Finished) -> Result<(), NoMemory>
+/// Appends a finished test case.
+pub(crate) fn append_case(out: &mut Vec<u8>, case: &Finished) -> Result<(), NoMemory>
     ensures { OnOk result (out.new.items ≡ out.old.items ++ case_text case.now) }
 {
     let report = &case.report;
@@ -170,8 +170,8 @@ fn append_count(out: &mut Vec<u8>, words: &str, count: usize) -> Result<(), NoMe
     append_number(out, count as u64)
 }
 
-// Appends the line of the tally.
-fn append_tally(out: &mut Vec<u8>, tally: &Tally) -> Result<(), NoMemory>
+/// Appends the line of the tally.
+pub(crate) fn append_tally(out: &mut Vec<u8>, tally: &Tally) -> Result<(), NoMemory>
     ensures { OnOk result (out.new.items ≡ out.old.items ++ tally_line tally.now) }
 {
     append_count(out, "cases ", tally.cases)?;

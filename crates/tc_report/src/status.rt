@@ -1,6 +1,6 @@
 //! The exit status.
 ghost use Rattle.std.specs.Prelude.{◌≡◌};
-ghost use Rattle.tc_report.specs.Status.{results_status, verdict_status as spec_status, worst_overall as spec_worst};
+ghost use Rattle.tc_report.specs.Status.{ending_status as spec_ending, results_status, verdict_status as spec_status, worst_overall as spec_worst};
 
 use crate::results::{CampaignEnd, Finished, Results};
 use tc_entry::Verdict;
@@ -28,15 +28,20 @@ pub fn verdict_status(verdict: Verdict) -> u8
     }
 }
 
+/// The exit status for a campaign that ended so, where this is the worst overall verdict. It takes no memory.
+pub(crate) fn ending_status(ending: &CampaignEnd, worst: Verdict) -> u8
+    ensures { result ≡ spec_ending ending.now worst }
+{
+    match ending {
+        CampaignEnd::Aborted { .. } => 3,
+        CampaignEnd::Complete | CampaignEnd::StoppedAfter(_) => verdict_status(worst),
+    }
+}
+
 /// The exit status: 3 where the campaign was aborted; else 0 where the worst overall verdict is none or pass, 1 where
 /// it is inconc or fail, 2 where it is error. It takes no memory.
 pub fn status_of(results: &Results) -> u8
     ensures { result ≡ results_status results.now }
 {
-    match &results.ending {
-        CampaignEnd::Aborted { .. } => 3,
-        CampaignEnd::Complete | CampaignEnd::StoppedAfter(_) => {
-            verdict_status(worst_overall(results.finished.as_slice()))
-        }
-    }
+    ending_status(&results.ending, worst_overall(results.finished.as_slice()))
 }

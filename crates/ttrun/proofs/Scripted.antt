@@ -1,11 +1,12 @@
 -- The results of the test cases that were made of a script are those of the script.
-use Rattle.std.proofs.Common.{ℕ, zero, suc, ◌≡◌, ◌∙◌, List, [], ◌∷◌, Option, Result, Ok, Err, IfOk, IfErr, All, length, map, take, arith, refl, sym, ap, subst, inr}
+use Rattle.std.proofs.Common.{ℕ, zero, suc, ◌≡◌, ◌∙◌, Bool, true, false, List, [], ◌∷◌, Option, Result, Ok, Err, IfOk, IfErr, All, length, map, take, arith, refl, sym, ap, subst, inr}
 use Rattle.std.proofs.lemmas.List.{length-map}
 use Rattle.std.proofs.lemmas.List.Elements.{All-nil, All-cons, All-tail}
 use Rattle.std.specs.List.{AllZip}
 use Rattle.std.specs.Vec.{vec_len}
 use Rattle.std.specs.Prelude.{IfSome, slice_get}
 use Rattle.std.specs.Io.KnownBytes.{Appends}
+use Rattle.tc_stream.specs.Output.{AppendsPrefix}
 use Rattle.tc_script.specs.Campaign.{campaign}
 use Rattle.tc_verdict.specs.declared.verdict.Verdict.{Verdict}
 use Rattle.tc_step.specs.Steps.{ScriptView}
@@ -21,14 +22,14 @@ use Rattle.tc_report.specs.declared.results.Finished.{Finished}
 use Rattle.tc_report.specs.declared.results.Results.{Results}
 use Rattle.tc_campaign.specs.declared.case.Case.{Case}
 use Rattle.tc_campaign.specs.Outline.{Outline, HasNames, outline_of}
-use Rattle.tc_campaign.specs.Campaign.{IsCalled, IsReported, IsRight, IsWhy}
+use Rattle.tc_campaign.specs.Campaign.{IsCalled, IsOfCase, IsReported, IsRight, IsWhy}
 use Rattle.ttrun.specs.declared.fault.RunFault.{RunFault}
 use Rattle.tc_command.specs.declared.task.Form.{Form}
 use Rattle.ttrun.specs.declared.run.Options.{Options}
 use Rattle.ttrun.specs.declared.outcome.Outcome.{Outcome}
 use Rattle.ttrun.specs.Limits.{HasAtMost, script_limit}
 use Rattle.ttrun.specs.Give.{text_of, LeavesUnwritten}
-use Rattle.ttrun.specs.Run.{AreResults, IsRuleOf, IsRun, IsUnwritten}
+use Rattle.ttrun.specs.Run.{AreFinished, AreResults, IsCutShort, IsRuleOf, IsRun, IsUnwritten}
 use Rattle.ttrun.specs.Program.{FailsRun, RunsScript}
 use Rattle.ttrun.specs.Streams.{Streams}
 use Rattle.ttrun.specs.Scripted.{CaseView, IsScripted, names_of, scripts_of, script_outline}
@@ -118,9 +119,9 @@ run_done form word input cs ks options streams (Ok outcome) spelled lawful fits 
   };
 }
 
-pub run_refused : (form : Form) (word input : Option (List ℕ)) (cs : List CaseView) (ks : List (Case ScriptView)) (options : Options) (before after : Option (List ℕ)) (r : Result Outcome RunFault)
+run_refused : (form : Form) (word input : Option (List ℕ)) (cs : List CaseView) (ks : List (Case ScriptView)) (options : Options) (before after : Option (List ℕ)) (r : Result Outcome RunFault)
     → IfSome input (λ text. campaign text ≡ Ok cs) → All (λ c. IsCase c.1) cs → IsRuleOf word options.stop_on → options.form ≡ form → AllZip IsCaseOf cs ks
-    → IfErr r (IsUnwritten outline_of (IsCalled Acts) ks options before after) → IfErr r (FailsRun form word input before after)
+    → IfErr r (IsUnwritten outline_of (IsCalled Acts) ks options before after) → IfErr r (FailsRun false form word input before after)
 run_refused form word input cs ks options before after (Ok outcome) spelled lawful named same each run = tt
 run_refused form word input cs ks options before after (Err fault) spelled lawful named same each run = inr (record {
   cases = cs;
@@ -133,3 +134,44 @@ run_refused form word input cs ks options before after (Err fault) spelled lawfu
     left = subst (λ f. LeavesUnwritten before after (text_of f run.results) fault) same run.left;
   };
 })
+
+-- the finished test cases are those of the script
+finished : (cs : List CaseView) (ks : List (Case ScriptView)) (stop_on : Option Verdict) (fs : List Finished) → All (λ c. IsCase c.1) cs → AllZip IsCaseOf cs ks
+    → AreFinished outline_of (IsCalled Acts) ks stop_on fs → AreFinished script_outline IsScripted cs stop_on fs
+finished cs ks stop_on fs lawful each are =
+    let same = outlines cs ks each in
+    let reports : AllZip IsReported (take (length fs) (map script_outline cs)) fs = subst (λ os. AllZip IsReported (take (length fs) os) fs) same are.reports in
+    record {
+      cases_are = subst (λ os. AllZip IsOfCase (take (length fs) os) fs) same are.cases_are;
+      better = are.better;
+      reports = reports;
+      calls = scripted (length fs) cs ks fs lawful each reports are.calls;
+      names = are.names;
+      behaviours = are.behaviours;
+    }
+
+run_cut : (form : Form) (word input : Option (List ℕ)) (cs : List CaseView) (ks : List (Case ScriptView)) (options : Options) (before after : Option (List ℕ)) (r : Result Outcome RunFault)
+    → IfSome input (λ text. campaign text ≡ Ok cs) → All (λ c. IsCase c.1) cs → IsRuleOf word options.stop_on → options.form ≡ form → AllZip IsCaseOf cs ks
+    → IfErr r (IsCutShort outline_of (IsCalled Acts) ks options before after) → IfErr r (FailsRun true form word input before after)
+run_cut form word input cs ks options before after (Ok outcome) spelled lawful named same each run = tt
+run_cut form word input cs ks options before after (Err fault) spelled lawful named same each run = inr (record {
+  cases = cs;
+  rule = options.stop_on;
+  spelled = spelled;
+  named = named;
+  run = record {
+    results = run.results;
+    each = finished cs ks options.stop_on run.results.finished lawful each run.each;
+    left = subst (λ f. AppendsPrefix before after (text_of f run.results)) same run.left;
+    why = run.why;
+  };
+})
+
+pub run_fails : (live : Bool) (form : Form) (word input : Option (List ℕ)) (cs : List CaseView) (ks : List (Case ScriptView)) (options : Options) (before after : Option (List ℕ)) (r : Result Outcome RunFault)
+    → IfSome input (λ text. campaign text ≡ Ok cs) → All (λ c. IsCase c.1) cs → IsRuleOf word options.stop_on → options.form ≡ form → AllZip IsCaseOf cs ks
+    → (live ≡ false → IfErr r (IsUnwritten outline_of (IsCalled Acts) ks options before after))
+    → (live ≡ true → IfErr r (IsCutShort outline_of (IsCalled Acts) ks options before after)) → IfErr r (FailsRun live form word input before after)
+run_fails false form word input cs ks options before after r spelled lawful named same each whole cut =
+    run_refused form word input cs ks options before after r spelled lawful named same each (whole refl)
+run_fails true form word input cs ks options before after r spelled lawful named same each whole cut =
+    run_cut form word input cs ks options before after r spelled lawful named same each (cut refl)

@@ -1,11 +1,13 @@
 -- The run of a campaign: the words that it is asked for with, and what is written of it.
-use Rattle.std.specs.Prelude.{ℕ, ◌≡◌, ◌⊎◌, List, All, Option, None, Some, length, map, take, slice_get}
+use Rattle.std.specs.Prelude.{ℕ, ◌≡◌, ◌-◌, ◌⊎◌, List, All, Option, None, Some, length, map, take, slice_get}
 use Rattle.std.specs.List.{AllZip}
 use Rattle.std.specs.Io.KnownBytes.{Appends}
+use Rattle.tc_stream.specs.Output.{AppendsPrefix}
 use Rattle.tc_verdict.specs.declared.verdict.Verdict.{Verdict}
 use Rattle.tc_verdict.specs.Verdict.{name_of}
 use Rattle.tc_campaign.specs.Outline.{Outline}
-use Rattle.tc_campaign.specs.Campaign.{HasBehaviours, IsNamed, IsReported, IsRight, IsWhy}
+use Rattle.tc_campaign.specs.Campaign.{HasBehaviours, IsNamed, IsOfCase, IsReported, IsRight, IsWhy}
+use Rattle.tc_campaign.specs.Stopping.{IsBetter}
 use Rattle.tc_report.specs.declared.results.Finished.{Finished}
 use Rattle.tc_report.specs.declared.results.Results.{Results}
 use Rattle.tc_report.specs.Ending.{abort_text}
@@ -55,6 +57,16 @@ module _ {C : Type 0} (outline : C → Outline) (called : C → Finished → Typ
     pub behaviours : All HasBehaviours r.finished
     pub why : IsWhy (slice_get (map outline cases) (length r.finished)) r.ending
 
+  -- these test cases of them were finished, and none of them but the last ended the campaign
+  pub record AreFinished (cases : List C) (stop_on : Option Verdict) (finished : List Finished) : Type 0 where
+    pub cases_are : AllZip IsOfCase (take (length finished) (map outline cases)) finished
+    pub better : All (λ f. IsBetter stop_on f.report.verdict) (take (length finished - 1) finished)
+    -- each report is of a case with as many behaviours, whose jobs were called
+    pub reports : AllZip IsReported (take (length finished) (map outline cases)) finished
+    pub calls : AllZip called (take (length finished) cases) finished
+    pub names : All IsNamed finished
+    pub behaviours : All HasBehaviours finished
+
 module _ {C : Type 0} (outline : C → Outline) (called : C → Finished → Type 0) (cases : List C) (options : Options) where
   -- these cases were run under these options, and the results were given
   pub record IsRun (streams : Streams) (outcome : Outcome) : Type 0 where
@@ -72,3 +84,11 @@ module _ {C : Type 0} (outline : C → Outline) (called : C → Finished → Typ
     pub results : Results
     pub right : AreResults outline called cases options.stop_on results
     pub left : LeavesUnwritten before after (text_of options.form results) fault
+
+  -- some of these cases were run under these options and written as they finished, up to a fault of the writer or the memory; what is
+  -- out is a prefix of the text of their results
+  pub record IsCutShort (before after : Option (List ℕ)) (fault : RunFault) : Type 0 where
+    pub results : Results
+    pub each : AreFinished outline called cases options.stop_on results.finished
+    pub left : AppendsPrefix before after (text_of options.form results)
+    pub why : (fault ≡ F.NoMemory) ⊎ (fault ≡ F.Write)

@@ -37,8 +37,12 @@ where
             let answer = check(alloc, reader, writer);
             settle(alloc, errors, answer)
         }
-        Task::Run { form, stop_on } => {
-            match run_script(rt, alloc, form, stop_on, reader, writer, errors) {
+        Task::Run {
+            form,
+            live,
+            stop_on,
+        } => {
+            match run_script(rt, alloc, form, live, stop_on, reader, writer, errors) {
                 Ok(outcome) => outcome,
                 Err(fault) => refuse(alloc, errors, fault),
             }

@@ -5,6 +5,7 @@ ghost use Rattle.ttrun.specs.Fault.{fault_text, line_number, line_of, place_text
 
 use std::alloc::{AllocError, AllocFailed};
 use std::fmt;
+use tc_campaign::OutFault;
 use tc_script::ScriptFault;
 use tc_stream::WriteFault;
 use tc_table::{InputFault, NoMemory, TextFault};
@@ -53,6 +54,20 @@ impl From<WriteFault> for RunFault {
 
     fn from(_: WriteFault) -> RunFault {
         RunFault::Write
+    }
+}
+
+impl From<OutFault> for RunFault {
+    ghost use Rattle.std.specs.Prelude.{◌≡◌};
+    ghost use Rattle.ttrun.specs.Inside.{of_output};
+
+    ghost from_gives = { λ fault r. r ≡ of_output fault };
+
+    fn from(fault: OutFault) -> RunFault {
+        match fault {
+            OutFault::NoMemory => RunFault::NoMemory,
+            OutFault::Write => RunFault::Write,
+        }
     }
 }
 

@@ -3,13 +3,26 @@ ghost use Rattle.std.specs.Prelude.{◌≡◌, IfOk, IfErr, OnOk};
 ghost use Rattle.std.specs.Io.KnownBytes.{Appends};
 ghost use Rattle.tc_report.specs.Status.{results_status};
 ghost use Rattle.tc_report.specs.Output.{LeavesPrefix};
-ghost use Rattle.ttrun.specs.Give.{text_of, LeavesUnwritten};
+ghost use Rattle.ttrun.specs.Give.{LeavesUnwritten, report_form as spec_form, text_of};
 
 use crate::fault::RunFault;
 use std::alloc::Global;
 use std::io::Write;
-use tc_campaign::{OutFault, Results, status_of, write_csv, write_history, write_text};
+use tc_campaign::{
+    Form as ReportForm, OutFault, Results, status_of, write_csv, write_history, write_text,
+};
 use tc_command::Form;
+
+/// The form that the words of a command line ask for, as a report has it.
+pub(crate) fn report_form(form: Form) -> ReportForm
+    ensures { result ≡ spec_form form }
+{
+    match form {
+        Form::Text => ReportForm::Text,
+        Form::Csv => ReportForm::Csv,
+        Form::History => ReportForm::History,
+    }
+}
 
 fn write<W: Write>(
     alloc: Global,

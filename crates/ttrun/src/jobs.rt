@@ -9,7 +9,7 @@ ghost use Rattle.ttrun.specs.Streams.{held};
 
 use crate::fault::RunFault;
 use crate::outcome::Outcome;
-use crate::run::{read_run, run_cases};
+use crate::run::{read_run, run_as};
 use std::alloc::Global;
 use std::io::{Read, Write};
 use std::sync::Wait;
@@ -59,12 +59,13 @@ fn cases_of<R: Wait + Copy + Send + 'static>(
     Ok(cases)
 }
 
-/// Reads the campaign of a script, runs it, writes its results in this form, and answers what came of it. The word is that
-/// of the stopping rule.
+/// Reads the campaign of a script, runs it, writes its results in this form, live or at the end, and answers what came of
+/// it. The word is that of the stopping rule.
 pub fn run_script<R, I: Read, W: Write, E: Write>(
     rt: &R,
     alloc: Global,
     form: Form,
+    live: bool,
     word: Option<&str>,
     reader: &mut I,
     writer: &mut W,
@@ -74,12 +75,12 @@ where
     R: Threads + Wait + Copy + Send + 'static,
     ensures done { IfOk result (RunsScript form (option_copied word.entry) (I.remaining reader.old)
         (held W.contents writer.old writer.new E.contents errors.old errors.new)) }
-    ensures refused { IfErr result (FailsRun form (option_copied word.entry) (I.remaining reader.old)
+    ensures refused { IfErr result (FailsRun live form (option_copied word.entry) (I.remaining reader.old)
         (W.contents writer.old) (W.contents writer.new)) }
     ensures untouched { OnErr result (errors.new ≡ errors.old) }
     ensures unread { IsNoName (option_copied word.entry) → (result ≡ Err StopOn) × (reader.new ≡ reader.old) }
 {
     let (campaign, options) = read_run(alloc, reader, form, word)?;
     let cases = cases_of(rt, alloc, campaign)?;
-    run_cases(rt, alloc, cases, options, writer, errors)
+    run_as(rt, alloc, cases, options, live, writer, errors)
 }

@@ -1,16 +1,16 @@
 //! A run of a campaign: what is read for it, how it is carried out, and what is written of it.
-ghost use Rattle.std.specs.Prelude.{◌≡◌, All, IfOk, IfErr, IfSome, OnOk, OnErr, Ok, Err, option_copied};
+ghost use Rattle.std.specs.Prelude.{◌≡◌, All, IfOk, IfErr, IfSome, OnOk, OnErr, Ok, Err, option_copied, true, false};
 ghost use Rattle.ttrun.specs.declared.fault.RunFault.TheVariants.{StopOn};
 ghost use Rattle.tc_campaign.specs.Outline.{HasNames, outline_of};
 ghost use Rattle.tc_campaign.specs.Campaign.{IsCalled};
 ghost use Rattle.tc_script.specs.Campaign.{campaign};
 ghost use Rattle.tc_script.specs.Law.{IsCase};
 ghost use Rattle.ttrun.specs.Limits.{HasAtMost, script_limit, worker_limit};
-ghost use Rattle.ttrun.specs.Run.{IsRuleOf, IsNoName, RefusesWord, RefusesRun, IsRun, IsUnwritten};
+ghost use Rattle.ttrun.specs.Run.{IsRuleOf, IsNoName, RefusesWord, RefusesRun, IsCutShort, IsRun, IsUnwritten};
 ghost use Rattle.ttrun.specs.Streams.{held};
 
 use crate::fault::RunFault;
-use crate::give::give;
+use crate::give::{give, report_form};
 use crate::outcome::Outcome;
 use crate::script::{stop_word, take_script};
 use crate::tell::tell_abort;
@@ -18,7 +18,8 @@ use std::alloc::Global;
 use std::io::{Read, Write};
 use std::sync::Wait;
 use std::thread::Threads;
-use tc_campaign::{Case, run_campaign};
+use tc_book::Sequence;
+use tc_campaign::{Case, Results, run_campaign, run_campaign_live};
 use tc_command::Form;
 use tc_entry::BEHAVIOURS;
 use tc_exec::Callable;
@@ -93,4 +94,69 @@ where
     let status = give(alloc, &results, options.form, writer)?;
     let told = tell_abort(alloc, errors, &results);
     Ok(Outcome { status, told })
+}
+
+/// Runs the test cases and writes each as it finishes, and answers what came of them; a campaign that was aborted is told
+/// of.
+pub fn run_cases_live<R, B: Callable, W: Write, E: Write>(
+    rt: &R,
+    alloc: Global,
+    cases: Vec<Case<B>>,
+    options: Options,
+    writer: &mut W,
+    errors: &mut E,
+) -> Result<Outcome, RunFault>
+where
+    R: Threads + Wait + Copy + Send + 'static,
+    requires names { All HasNames cases.items }
+    ensures done { IfOk result (IsRun outline_of (IsCalled B.outcome) cases.items options
+        (held W.contents writer.old writer.new E.contents errors.old errors.new)) }
+    ensures refused { IfErr result (IsCutShort outline_of (IsCalled B.outcome) cases.items options
+        (W.contents writer.old) (W.contents writer.new)) }
+    ensures untouched { OnErr result (errors.new ≡ errors.old) }
+{
+    let form = report_form(options.form);
+    let (ending, status) = run_campaign_live(
+        rt,
+        alloc,
+        cases,
+        options.stop_on,
+        THREADS,
+        form,
+        writer,
+    )?;
+    let unkept = Results {
+        finished: Sequence::new(Vec::new(alloc)),
+        ending,
+    };
+    let told = tell_abort(alloc, errors, &unkept);
+    Ok(Outcome { status, told })
+}
+
+/// Runs the test cases, writes their results live or at the end, and answers what came of them.
+pub fn run_as<R, B: Callable, W: Write, E: Write>(
+    rt: &R,
+    alloc: Global,
+    cases: Vec<Case<B>>,
+    options: Options,
+    live: bool,
+    writer: &mut W,
+    errors: &mut E,
+) -> Result<Outcome, RunFault>
+where
+    R: Threads + Wait + Copy + Send + 'static,
+    requires names { All HasNames cases.items }
+    ensures done { IfOk result (IsRun outline_of (IsCalled B.outcome) cases.items options
+        (held W.contents writer.old writer.new E.contents errors.old errors.new)) }
+    ensures whole { live ≡ false → IfErr result (IsUnwritten outline_of (IsCalled B.outcome) cases.items options
+        (W.contents writer.old) (W.contents writer.new)) }
+    ensures cut { live ≡ true → IfErr result (IsCutShort outline_of (IsCalled B.outcome) cases.items options
+        (W.contents writer.old) (W.contents writer.new)) }
+    ensures untouched { OnErr result (errors.new ≡ errors.old) }
+{
+    if live {
+        run_cases_live(rt, alloc, cases, options, writer, errors)
+    } else {
+        run_cases(rt, alloc, cases, options, writer, errors)
+    }
 }

@@ -186,16 +186,19 @@ fn refused_scripts(rt: HostRuntime) -> Result<(), Fail> {
     ];
     for (script, told) in scripts {
         for form in [Form::Text, Form::Csv, Form::History] {
-            let wanted = Wanted {
-                written: "",
-                told,
-                status: 3,
-            };
-            let task = Task::Run {
-                form,
-                stop_on: None,
-            };
-            carries_out(&rt, rt.alloc(), task, script.as_bytes(), wanted)?;
+            for live in [false, true] {
+                let wanted = Wanted {
+                    written: "",
+                    told,
+                    status: 3,
+                };
+                let task = Task::Run {
+                    form,
+                    live,
+                    stop_on: None,
+                };
+                carries_out(&rt, rt.alloc(), task, script.as_bytes(), wanted)?;
+            }
         }
     }
     Ok(())
@@ -216,6 +219,7 @@ fn words_of_stop_on(rt: HostRuntime) -> Result<(), Fail> {
         let mut told = Vec::new(rt.alloc());
         let task = Task::Run {
             form: Form::Text,
+            live: false,
             stop_on: Some(word),
         };
         let outcome = carry_out(&rt, rt.alloc(), task, &mut reader, &mut written, &mut told);
@@ -260,7 +264,62 @@ fn a_case_of_256_behaviours(rt: HostRuntime) -> Result<(), Fail> {
     };
     let task = Task::Run {
         form: Form::Csv,
+        live: false,
         stop_on: None,
     };
     carries_out(&rt, rt.alloc(), task, text.as_bytes(), wanted)
+}
+
+// What a script's run writes in this form, and what comes of it.
+fn run_of<R: Threads + Wait + Copy + Send + 'static>(
+    rt: &R,
+    alloc: Global,
+    script: &str,
+    line: &str,
+) -> Result<(Vec<u8>, Vec<u8>, Outcome), Fail> {
+    let words = words_of(alloc, line)?;
+    let input = lines(alloc, script)?;
+    let mut written = Vec::new(alloc);
+    let mut told = Vec::new(alloc);
+    let outcome = answer(
+        rt,
+        alloc,
+        Ok(words),
+        &mut input.as_slice(),
+        &mut written,
+        &mut told,
+    );
+    Ok((written, told, outcome))
+}
+
+#[test]
+fn live_runs_write_the_same(rt: HostRuntime) -> Result<(), Fail> {
+    let alloc = rt.alloc();
+    let mut compared = 0usize;
+    for script in [CASES, RESTART, STUCK] {
+        for options in [
+            "",
+            " --csv",
+            " --history",
+            " --stop-on fail",
+            " --csv --stop-on pass",
+        ] {
+            let plain = format!(in alloc; "ttrun run{options}")?;
+            let live = format!(in alloc; "ttrun run --live{options}")?;
+            let (written, told, outcome) = run_of(&rt, alloc, script, plain.as_str())?;
+            let (live_written, live_told, live_outcome) = run_of(
+                &rt,
+                alloc,
+                script,
+                live.as_str(),
+            )?;
+            assert!(rt; !written.is_empty(), "{options}");
+            assert_eq!(rt; live_written.as_slice(), written.as_slice(), "{options}");
+            assert_eq!(rt; live_told.as_slice(), told.as_slice(), "{options}");
+            assert_eq!(rt; live_outcome, outcome, "{options}");
+            compared = compared.saturating_add(1);
+        }
+    }
+    assert_eq!(rt; compared, 15);
+    Ok(())
 }

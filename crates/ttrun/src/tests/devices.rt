@@ -32,11 +32,12 @@ struct Row {
     status: u8,
 }
 
-const ROWS: usize = 5;
+const ROWS: usize = 8;
 
 fn row_of(number: usize) -> Row {
     let run = |form| Task::Run {
         form,
+        live: number >= 5,
         stop_on: None,
     };
     match number {
@@ -52,13 +53,13 @@ fn row_of(number: usize) -> Row {
             output: JUDGED,
             status: 3,
         },
-        2 => Row {
+        2 | 5 => Row {
             task: run(Form::Text),
             input: SCRIPT,
             output: REPORT,
             status: 1,
         },
-        3 => Row {
+        3 | 6 => Row {
             task: run(Form::Csv),
             input: SCRIPT,
             output: TABLE,

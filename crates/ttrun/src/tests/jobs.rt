@@ -3,7 +3,7 @@ ghost use Rattle.tc_campaign.specs.Outline.{HasNames};
 
 use super::*;
 use crate::jobs::run_script;
-use crate::run::{Options, run_cases};
+use crate::run::{Options, run_cases, run_cases_live};
 use tc_behaviour::{Behaviour, ScriptJob};
 use tc_book::open_case;
 use tc_campaign::Case;
@@ -61,6 +61,7 @@ fn one_script_run(rt: HostRuntime) -> Result<(), Fail> {
         &rt,
         alloc,
         Form::Csv,
+        false,
         Some("pass"),
         &mut text.as_slice(),
         &mut written,
@@ -95,6 +96,7 @@ fn stop_of_a_case(rt: HostRuntime) -> Result<(), Fail> {
         &rt,
         alloc,
         Form::Text,
+        true,
         None,
         &mut text.as_slice(),
         &mut written,
@@ -143,5 +145,33 @@ fn empty_case_is_told_of(rt: HostRuntime) -> Result<(), Fail> {
         )?;
         assert_eq!(rt; written.as_slice(), wanted.as_slice());
     }
+    Ok(())
+}
+
+#[test]
+fn empty_case_of_a_live_run(rt: HostRuntime) -> Result<(), Fail> {
+    let alloc = rt.alloc();
+    let name = Name::read("a").ok_or("a name")?;
+    let options = Options {
+        stop_on: None,
+        form: Form::Text,
+    };
+    let mut written = Vec::new(alloc);
+    let mut errors = Vec::new(alloc);
+    let cases = vec![in alloc; empty(alloc, name)]?;
+    let outcome = run_cases_live(&rt, alloc, cases, options, &mut written, &mut errors)?;
+    assert_eq!(rt;
+        outcome,
+        Outcome {
+            status: 3,
+            told: Ok(())
+        }
+    );
+    assert_eq!(rt; errors.as_slice(), ABORTED);
+    let wanted = lines(
+        alloc,
+        "cases 0 none 0 pass 0 inconc 0 fail 0 error 0;aborted at a: no behaviours",
+    )?;
+    assert_eq!(rt; written.as_slice(), wanted.as_slice());
     Ok(())
 }

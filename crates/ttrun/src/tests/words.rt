@@ -15,17 +15,20 @@ fn words_and_tasks(rt: HostRuntime) -> Result<(), Fail> {
         read_task(alloc, words.as_slice())?,
         Task::Run {
             form: Form::Text,
+            live: false,
             stop_on: None
         }
     );
     words.push("run".to_string(alloc)?)?;
     words.push("--csv".to_string(alloc)?)?;
+    words.push("--live".to_string(alloc)?)?;
     words.push("--stop-on".to_string(alloc)?)?;
     words.push("fail".to_string(alloc)?)?;
     assert_eq!(rt;
         read_task(alloc, words.as_slice())?,
         Task::Run {
             form: Form::Csv,
+            live: true,
             stop_on: Some("fail")
         }
     );

@@ -63,6 +63,7 @@ fn written_histories_are_legal(rt: HostRuntime) -> Result<(), Fail> {
         let mut told = Vec::new(alloc);
         let task = Task::Run {
             form: Form::History,
+            live: false,
             stop_on,
         };
         let ran = carry_out(

@@ -10,11 +10,13 @@ returns-clause-options c =
     let new_is : app_of c.about.result ≡ new_app (codes "run") = ap app_of_fields c.about.ensures ∙ c.new.ensures.app in
     let one = c.in_ok-arg.ensures.shape c.flag.ensures.local ∙ ap₂ with_rule new_is c.flag.ensures.rule in
     let two = c.in_ok-arg-2.ensures.shape c.flag-2.ensures.local ∙ ap₂ with_rule one c.flag-2.ensures.rule in
-    IfOk-weaker c.arg-3.result _ _ (λ r adds. adds.shape c.stop_on_option.ensures.local ∙ ap₂ with_rule two c.stop_on_option.ensures.rule) c.arg-3.ensures
+    let three = c.in_ok-arg-3.ensures.shape c.flag-3.ensures.local ∙ ap₂ with_rule two c.flag-3.ensures.rule in
+    IfOk-weaker c.arg-4.result _ _ (λ r adds. adds.shape c.stop_on_option.ensures.local ∙ ap₂ with_rule three c.stop_on_option.ensures.rule) c.arg-4.ensures
 
 pub returns-clause-local : goal.returns-clause-local
 returns-clause-local c =
     let new_is : (out-Command c.about.result).has_globals ≡ false = ap (λ f. f.has_globals) c.about.ensures ∙ c.new.ensures.local in
     let one = c.in_ok-arg.ensures.globals ∙ ap₂ ◌||◌ new_is c.flag.ensures.local in
     let two = c.in_ok-arg-2.ensures.globals ∙ ap₂ ◌||◌ one c.flag-2.ensures.local in
-    IfOk-weaker c.arg-3.result _ _ (λ r adds. adds.globals ∙ ap₂ ◌||◌ two c.stop_on_option.ensures.local) c.arg-3.ensures
+    let three = c.in_ok-arg-3.ensures.globals ∙ ap₂ ◌||◌ two c.flag-3.ensures.local in
+    IfOk-weaker c.arg-4.result _ _ (λ r adds. adds.globals ∙ ap₂ ◌||◌ three c.stop_on_option.ensures.local) c.arg-4.ensures

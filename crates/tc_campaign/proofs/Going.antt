@@ -1,0 +1,79 @@
+-- The run of a campaign with its observer, case by case.
+use Rattle.std.proofs.Common.{ℕ, ◌≡◌, ◌++◌, ◌∷◌, [], Bool, Option, Some, None, List, All, map, length, refl, subst, sym, ap}
+use Rattle.std.proofs.lemmas.List.Elements.{All-nil}
+use Rattle.tc_verdict.specs.declared.verdict.Verdict.{Verdict}
+use Rattle.tc_book.specs.Passes.{PassState}
+use Rattle.tc_exec.specs.declared.job.Back.{Back}
+use Rattle.tc_report.specs.declared.results.CampaignEnd.{CampaignEnd}
+use Rattle.tc_report.specs.declared.results.CampaignEnd.TheVariants as E
+use Rattle.tc_report.specs.declared.results.Finished.{Finished}
+use Rattle.tc_report.specs.Observers.{AreTaken}
+use Rattle.tc_report.proofs.Observing.{taken_more}
+use Rattle.tc_campaign.specs.declared.case.Case.{Case}
+use Rattle.tc_campaign.specs.declared.step.Step.{Step}
+use Rattle.tc_campaign.specs.declared.step.Step.TheVariants as S
+use Rattle.tc_campaign.specs.Outline.{outline_of}
+use Rattle.tc_campaign.specs.Campaign.{HasThreads, IsCalled}
+use Rattle.tc_campaign.specs.Inside.{IsGoing, IsSoFar, IsStep, WasRun}
+use Rattle.tc_campaign.proofs.Running.{done_begin, done_more, done_none, run_aborted, run_complete, run_cut, run_stopped, so_far_more, so_far_none, threads_more}
+
+module _ {B O : Type 0} (outcome : B → PassState → Back → Type 0) (takes : O → Finished → O → Bool → Type 0)
+    (stop_on : Option Verdict) (threads : ℕ) (cases : List (Case B)) where
+  pub going_none : (left : List (Case B)) (before : O) → left ≡ cases → IsGoing outcome takes stop_on threads cases left before before
+  going_none left before same = record {
+    finished = [];
+    so = subst (λ l. IsSoFar (map outline_of cases) stop_on (map outline_of l) []) (sym same) (so_far_none (map outline_of cases) stop_on);
+    called = done_none (IsCalled outcome) cases left same;
+    threads_are = All-nil (HasThreads threads);
+    taken = refl;
+  }
+
+  module _ (left : List (Case B)) (c : Case B) (rest : List (Case B)) (before between after : O)
+      (going : IsGoing outcome takes stop_on threads cases left before between) (at : left ≡ c ∷ rest) where
+    pub going_more : IsStep outcome takes stop_on threads c between after S.GoesOn → IsGoing outcome takes stop_on threads cases rest before after
+    going_more step = record {
+      finished = going.finished ++ step.0 ∷ [];
+      so = so_far_more _ _ _ _ _ _ step.0 _ going.so (ap (map outline_of) at) step.1.is step.2 refl;
+      called = done_more (IsCalled outcome) cases left c rest going.finished step.0 _ going.called at step.1.called refl;
+      threads_are = threads_more threads going.finished step.0 _ going.threads_are step.1.threads_are refl;
+      taken = taken_more takes going.finished step.0 before between after going.taken step.3;
+    }
+
+    pub was_stopped : (ending : CampaignEnd) → IsStep outcome takes stop_on threads c between after (S.Stops ending)
+        → WasRun outcome takes stop_on threads cases before after (Some ending)
+    was_stopped ending step = record {
+      finished = going.finished ++ step.0 ∷ [];
+      run = run_stopped _ _ _ _ _ going.finished step.0 ending going.so (ap (map outline_of) at) step.1.is step.2;
+      called = done_begin _ _ _ _ (done_more (IsCalled outcome) cases left c rest going.finished step.0 _ going.called at step.1.called refl);
+      threads_are = threads_more threads going.finished step.0 _ going.threads_are step.1.threads_are refl;
+      given = taken_more takes going.finished step.0 before between after going.taken step.3;
+    }
+
+    pub was_refused : (ending : CampaignEnd) → IsStep outcome takes stop_on threads c between after (S.Refused ending)
+        → WasRun outcome takes stop_on threads cases before after (Some ending)
+    was_refused ending step = record {
+      finished = going.finished;
+      run = run_aborted _ _ _ _ _ going.finished ending going.so (ap (map outline_of) at) step.0;
+      called = done_begin _ _ _ _ going.called;
+      threads_are = going.threads_are;
+      given = subst (AreTaken takes going.finished before) (sym step.1) going.taken;
+    }
+
+    pub was_cut : IsStep outcome takes stop_on threads c between after S.CutShort → WasRun outcome takes stop_on threads cases before after None
+    was_cut step = record {
+      finished = going.finished ++ step.0 ∷ [];
+      run = run_cut _ _ _ _ _ going.finished step.0 going.so (ap (map outline_of) at) step.1.is;
+      called = done_begin _ _ _ _ (done_more (IsCalled outcome) cases left c rest going.finished step.0 _ going.called at step.1.called refl);
+      threads_are = threads_more threads going.finished step.0 _ going.threads_are step.1.threads_are refl;
+      given = record { others = going.finished; last = step.0; all = refl; between = between; each = going.taken; at_last = step.2 };
+    }
+
+  pub was_complete : (left : List (Case B)) (before now : O) → IsGoing outcome takes stop_on threads cases left before now → length left ≡ 0
+      → WasRun outcome takes stop_on threads cases before now (Some E.Complete)
+  was_complete left before now going none = record {
+    finished = going.finished;
+    run = run_complete outline_of _ _ _ _ going.so none;
+    called = done_begin _ _ _ _ going.called;
+    threads_are = going.threads_are;
+    given = going.taken;
+  }

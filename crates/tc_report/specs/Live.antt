@@ -1,0 +1,92 @@
+-- The text of a campaign that is written as its test cases finish.
+use Rattle.std.specs.Prelude.{ℕ, ◌≡◌, ◌+◌, ◌==◌, Bool, true, false, List, [], ◌∷◌, ◌++◌, Option, Some}
+use Rattle.std.specs.List.{flat_map}
+use Rattle.std.specs.Io.KnownBytes.{Appends}
+use Rattle.tc_verdict.specs.declared.verdict.Verdict.{Verdict}
+use Rattle.tc_verdict.specs.declared.verdict.Verdict.TheVariants as V
+use Rattle.tc_verdict.specs.Verdict.{level_of, worse}
+use Rattle.tc_report.specs.declared.fault.OutFault.{OutFault}
+use Rattle.tc_report.specs.declared.form.Form.{Form}
+use Rattle.tc_report.specs.declared.form.Form.TheVariants as F
+use Rattle.tc_report.specs.declared.results.CampaignEnd.{CampaignEnd}
+use Rattle.tc_report.specs.declared.results.Finished.{Finished}
+use Rattle.tc_report.specs.declared.results.Results.{Results}
+use Rattle.tc_report.specs.declared.results.Tally.{Tally}
+use Rattle.tc_report.specs.Csv.{csv_text, header_text, record_line}
+use Rattle.tc_report.specs.Ending.{ending_line}
+use Rattle.tc_report.specs.Histories.{case_history, histories_text}
+use Rattle.tc_report.specs.Output.{LeavesPrefix}
+use Rattle.tc_report.specs.Report.{case_text, report_text}
+use Rattle.tc_report.specs.Tally.{tally_line}
+
+-- the text of the results in this form
+abbrev pub form_text : Form → Results → List ℕ
+form_text F.Text r = report_text r
+form_text F.Csv r = csv_text r
+form_text F.History r = histories_text r
+
+-- what of it stands before the test cases
+abbrev pub opening_text : Form → List ℕ
+opening_text F.Text = []
+opening_text F.Csv = header_text
+opening_text F.History = []
+
+-- what of it says one test case
+abbrev pub part_text : Form → Finished → List ℕ
+part_text F.Text f = case_text f
+part_text F.Csv f = record_line f
+part_text F.History f = case_history f
+
+-- what of it stands behind the test cases
+abbrev pub closing_text : Form → Tally → CampaignEnd → List ℕ
+closing_text F.Text tally ending = tally_line tally ++ ending_line ending
+closing_text F.Csv tally ending = []
+closing_text F.History tally ending = []
+
+-- what of it stands up to the last of these test cases
+abbrev pub text_so_far : Form → List Finished → List ℕ
+text_so_far form fs = opening_text form ++ flat_map (part_text form) fs
+
+-- one where it is so, else none
+abbrev pub one_if : Bool → ℕ
+one_if true = 1
+one_if false = 0
+
+-- the tally with one test case more, of this overall verdict
+abbrev pub tally_with : Tally → Verdict → Tally
+tally_with t v = record {
+  cases = t.cases + 1;
+  none = t.none + one_if (level_of v == level_of V.None);
+  pass = t.pass + one_if (level_of v == level_of V.Pass);
+  inconc = t.inconc + one_if (level_of v == level_of V.Inconc);
+  fail = t.fail + one_if (level_of v == level_of V.Fail);
+  error = t.error + one_if (level_of v == level_of V.Error);
+}
+
+-- where a live writer stands: its form, what its writer holds, the test cases that it has counted, their worst verdict, and
+-- why it has ended the campaign
+pub record LiveState : Type 0 where
+  pub form : Form
+  pub out : Option (List ℕ)
+  pub tally : Tally
+  pub worst : Verdict
+  pub fault : Option OutFault
+
+-- the test case was written and counted
+pub record IsWritten (before : LiveState) (f : Finished) (after : LiveState) : Type 0 where
+  pub form : after.form ≡ before.form
+  pub out : Appends before.out after.out (part_text before.form f)
+  pub tally : after.tally ≡ tally_with before.tally f.report.verdict
+  pub worst : after.worst ≡ worse before.worst f.report.verdict
+
+-- the test case was not written whole, and the fault says what is out of it
+pub record IsUnwritten (before : LiveState) (f : Finished) (after : LiveState) : Type 0 where
+  pub form : after.form ≡ before.form
+  pub fault : OutFault
+  pub why : after.fault ≡ Some fault
+  pub left : LeavesPrefix before.out after.out (part_text before.form f) fault
+
+-- what a test case does to a live writer, by whether the campaign goes on
+abbrev pub Writes : LiveState → Finished → LiveState → Bool → Type 0
+Writes before f after true = IsWritten before f after
+Writes before f after false = IsUnwritten before f after

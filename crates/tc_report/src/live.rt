@@ -1,0 +1,163 @@
+//! The text of a campaign, written as its test cases finish.
+ghost use Rattle.std.specs.Prelude.{◌≡◌, OnOk, IfOk, IfErr};
+ghost use Rattle.std.specs.Io.KnownBytes.{Appends};
+ghost use Rattle.tc_verdict.specs.declared.verdict.Verdict.TheVariants.{None as NoVerdict};
+ghost use Rattle.tc_verdict.specs.Verdict.{worse};
+ghost use Rattle.tc_report.specs.Live.{Writes, closing_text as spec_closing, opening_text as spec_opening, part_text as spec_part, tally_with};
+ghost use Rattle.tc_report.specs.Output.{LeavesPrefix};
+ghost use Rattle.tc_report.specs.Status.{ending_status as spec_status};
+ghost use Rattle.tc_report.specs.Tally.{no_cases as spec_none};
+
+use crate::counts::{no_cases, with_case};
+use crate::ending::append_ending;
+use crate::fault::OutFault;
+use crate::form::Form;
+use crate::histories::append_history;
+use crate::observer::Observer;
+use crate::output::write_flushed;
+use crate::records::{case_record, header};
+use crate::report::{append_case, append_tally};
+use crate::results::{CampaignEnd, Finished, Tally};
+use crate::status::ending_status;
+use std::alloc::Global;
+use std::io::Write;
+use tc_entry::{NoMemory, Verdict};
+use tc_verdict::worse_of;
+
+// What stands before the test cases.
+fn opening_text(alloc: Global, form: Form) -> Result<Vec<u8>, NoMemory>
+    ensures { IfOk result (λ v. v.items ≡ spec_opening form) }
+{
+    match form {
+        Form::Csv => header(alloc),
+        Form::Text | Form::History => Ok(Vec::new(alloc)),
+    }
+}
+
+// What says one test case.
+fn part_text(alloc: Global, form: Form, case: &Finished) -> Result<Vec<u8>, NoMemory>
+    ensures { IfOk result (λ v. v.items ≡ spec_part form case.now) }
+{
+    let mut text = Vec::new(alloc);
+    match form {
+        Form::Text => append_case(&mut text, case)?,
+        Form::Csv => return case_record(alloc, case),
+        Form::History => append_history(&mut text, case)?,
+    }
+    Ok(text)
+}
+
+// What stands behind the test cases.
+fn closing_text(
+    alloc: Global,
+    form: Form,
+    tally: &Tally,
+    ending: &CampaignEnd,
+) -> Result<Vec<u8>, NoMemory>
+    ensures { IfOk result (λ v. v.items ≡ spec_closing form tally.now ending.now) }
+{
+    let mut text = Vec::new(alloc);
+    if form == Form::Text {
+        append_tally(&mut text, tally)?;
+        append_ending(&mut text, ending)?;
+    }
+    Ok(text)
+}
+
+/// Writes the text of a campaign as its test cases finish, and keeps none of them. What stands before them is written by
+/// `begin`, each of them as it is taken, and what stands behind them by `end`; each piece is made whole before anything of
+/// it is written, and the writer is flushed behind it. At a fault it ends the campaign.
+#[derive(Drop)]
+pub struct LiveWriter<'a, W: Write> {
+    alloc: Global,
+    /// The form of the text.
+    pub form: Form,
+    /// What is written to.
+    pub writer: &'a mut W,
+    /// The test cases that were written.
+    pub tally: Tally,
+    /// Their worst overall verdict.
+    pub worst: Verdict,
+    /// Why the campaign was ended, where it was.
+    pub fault: Option<OutFault>,
+}
+
+impl<'a, W: Write> LiveWriter<'a, W> {
+    /// Writes to this writer in this form; nothing is written so far.
+    pub fn new(alloc: Global, form: Form, writer: &'a mut W) -> LiveWriter<'a, W>
+        ensures same { result.writer.ghost_name ≡ writer.entry.ghost_name }
+        ensures now { result.writer.now ≡ writer.old }
+        ensures form { result.form ≡ form }
+        ensures tally { result.tally ≡ spec_none }
+        ensures worst { result.worst ≡ NoVerdict }
+    {
+        LiveWriter {
+            alloc,
+            form,
+            writer,
+            tally: no_cases(),
+            worst: Verdict::None,
+            fault: None,
+        }
+    }
+
+    /// Writes what stands before the test cases.
+    pub fn begin(&mut self) -> Result<(), OutFault>
+        ensures all { OnOk result (Appends (W.contents self.old.writer.now) (W.contents self.new.writer.now) (spec_opening self.old.form)) }
+        ensures part { IfErr result (λ fault. LeavesPrefix (W.contents self.old.writer.now) (W.contents self.new.writer.now) (spec_opening self.old.form) fault) }
+        ensures form { self.new.form ≡ self.old.form }
+        ensures tally { self.new.tally ≡ self.old.tally }
+        ensures worst { self.new.worst ≡ self.old.worst }
+        ensures same { self.new.writer.ghost_name ≡ self.old.writer.ghost_name }
+    {
+        let text = opening_text(self.alloc, self.form)?;
+        write_flushed(self.writer, text.as_slice())
+    }
+
+    // Writes the test case, and counts it.
+    fn write_case(&mut self, case: &Finished) -> Result<(), OutFault>
+        ensures all { OnOk result (Appends (W.contents self.old.writer.now) (W.contents self.new.writer.now) (spec_part self.old.form case.now)) }
+        ensures part { IfErr result (λ fault. LeavesPrefix (W.contents self.old.writer.now) (W.contents self.new.writer.now) (spec_part self.old.form case.now) fault) }
+        ensures form { self.new.form ≡ self.old.form }
+        ensures tally { OnOk result (self.new.tally ≡ tally_with self.old.tally case.now.report.verdict) }
+        ensures worst { OnOk result (self.new.worst ≡ worse self.old.worst case.now.report.verdict) }
+        ensures same { self.new.writer.ghost_name ≡ self.old.writer.ghost_name }
+    {
+        let verdict = case.report.verdict;
+        let tally = with_case(&self.tally, verdict).ok_or(NoMemory)?;
+        let text = part_text(self.alloc, self.form, case)?;
+        write_flushed(self.writer, text.as_slice())?;
+        self.tally = tally;
+        self.worst = worse_of(self.worst, verdict);
+        Ok(())
+    }
+
+    /// Writes what stands behind the test cases, and answers the exit status for a campaign of them that ended so.
+    pub fn end(&mut self, ending: &CampaignEnd) -> Result<u8, OutFault>
+        ensures all { OnOk result (Appends (W.contents self.old.writer.now) (W.contents self.new.writer.now) (spec_closing self.old.form self.old.tally ending.now)) }
+        ensures part { IfErr result (λ fault. LeavesPrefix (W.contents self.old.writer.now) (W.contents self.new.writer.now) (spec_closing self.old.form self.old.tally ending.now) fault) }
+        ensures status { IfOk result (λ status. status ≡ spec_status ending.now self.old.worst) }
+        ensures same { self.new.writer.ghost_name ≡ self.old.writer.ghost_name }
+    {
+        let text = closing_text(self.alloc, self.form, &self.tally, ending)?;
+        write_flushed(self.writer, text.as_slice())?;
+        Ok(ending_status(ending, self.worst))
+    }
+}
+
+impl<W: Write> Observer for LiveWriter<'_, W> {
+    ghost takes = { λ before f after goes_on.
+        Writes (record { form = before.form; out = W.contents before.writer.now; tally = before.tally; worst = before.worst; fault = before.fault }) f
+        (record { form = after.form; out = W.contents after.writer.now; tally = after.tally; worst = after.worst; fault = after.fault }) goes_on
+        × (after.writer.ghost_name ≡ before.writer.ghost_name) };
+
+    fn take(&mut self, case: Finished) -> bool {
+        match self.write_case(&case) {
+            Ok(()) => true,
+            Err(fault) => {
+                self.fault = Some(fault);
+                false
+            }
+        }
+    }
+}
