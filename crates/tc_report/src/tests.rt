@@ -97,7 +97,14 @@ fn setting_case(alloc: Global, text: &str, setting: UserVerdict) -> Result<Finis
 /// A case in which the main component restarts an alive-type component that has failed.
 fn restarted_case(alloc: Global) -> Result<Finished, Fail> {
     let mut history = Vec::new(alloc);
-    history.push(entry(0, Op::Create { alive: true, name: None }, Reply::Made(Comp(1))))?;
+    history.push(entry(
+        0,
+        Op::Create {
+            alive: true,
+            name: None,
+        },
+        Reply::Made(Comp(1)),
+    ))?;
     history.push(entry(0, start(1, 1), Reply::Ok))?;
     history.push(entry(0, done(1), Reply::Parked))?;
     history.push(entry(1, Op::SetVerdict(UserVerdict::Fail), Reply::Ok))?;
@@ -130,7 +137,14 @@ fn restarted_case(alloc: Global) -> Result<Finished, Fail> {
 /// A case in which the main component waits for what can't come.
 fn stuck_case(alloc: Global) -> Result<Finished, Fail> {
     let mut history = Vec::new(alloc);
-    history.push(entry(0, Op::Create { alive: false, name: None }, Reply::Made(Comp(1))))?;
+    history.push(entry(
+        0,
+        Op::Create {
+            alive: false,
+            name: None,
+        },
+        Reply::Made(Comp(1)),
+    ))?;
     history.push(entry(0, Op::SetVerdict(UserVerdict::Pass), Reply::Ok))?;
     history.push(entry(0, done(1), Reply::Parked))?;
     history.push(entry(0, wake_done(1), Reply::Fault(tc_entry::Fault::Stuck)))?;
