@@ -20,6 +20,7 @@ sys.dont_write_bytecode = True
 import devices
 import documents_run
 import examples
+import random_courses
 import random_moves
 import random_scripts
 import rows
@@ -53,7 +54,7 @@ def tests(seed: int) -> List[Test]:
         if len(group) < fewest:
             sys.exit(f"{name}: {len(group)} tests are fewer than {fewest}")
         found += group
-    found += random_moves.judgements(seed) + random_scripts.judgements(seed)
+    found += random_moves.judgements(seed) + random_scripts.judgements(seed) + random_courses.judgements(seed)
     names = [it.name for it in found]
     twice = sorted({it for it in names if names.count(it) > 1})
     if twice:

@@ -1,5 +1,5 @@
 -- What command lines ask for, computed from the definitions.
-use Rattle.std.proofs.Common.{◌≡◌, ◌∙◌, ◌&&◌, ℕ, refl, sym, ap, ap₂, false, List, [], ◌∷◌, ◌++◌, drop, Option, Some, None, codes, is_some, nat_eq, ne_eqb}
+use Rattle.std.proofs.Common.{◌≡◌, ◌∙◌, ◌&&◌, ℕ, refl, sym, ap, ap₂, Bool, true, false, List, [], ◌∷◌, ◌++◌, drop, Option, Some, None, codes, is_some, nat_eq, ne_eqb}
 use Rattle.std.specs.Prelude.{if◌then◌else◌, fold, is_none, option_and_then}
 use Rattle.std.specs.Option.{option_map_or}
 use Rattle.std.specs.Str.{bytes_eq}
@@ -14,11 +14,11 @@ use Rattle.clap.proofs.OnLiterals.{clap_on_literals}
 use Rattle.clap.proofs.WalkLemmas.{walk_stopped}
 use Rattle.tc_command.specs.declared.task.Form.{Form}
 use Rattle.tc_command.specs.declared.task.Form.TheVariants as form
-use Rattle.tc_command.specs.Asked.{Asked, asked_by, faults, run, run_by}
+use Rattle.tc_command.specs.Asked.{Asked, asked_by, explore, faults, run, run_by}
 use Rattle.tc_command.specs.Command.{ttrun}
 use Rattle.tc_command.specs.Command.{run as run_app}
-use Rattle.tc_command.specs.Lines.{AsksFor, AsksForBoth, AsksHelp, IsHelp, IsName, IsPlain, form_words}
-use Rattle.tc_command.specs.Lines.{no_word, checks, replays, form_first, rule_first, no_rule, next_word, same_word, long, short, run_name, check_name, replay_name, of_program, of_subcommand, csv_first, history_first}
+use Rattle.tc_command.specs.Lines.{AsksFor, AsksForBoth, AsksHelp, IsHelp, IsName, IsPlain, form_words, history_words}
+use Rattle.tc_command.specs.Lines.{no_word, checks, replays, form_first, rule_first, no_rule, next_word, same_word, explores, explores_states, long, short, run_name, check_name, replay_name, explore_name, of_program, of_subcommand, csv_first, history_first}
 
 -- the words behind the program's name are taken, and ask for this
 abbrev Asks : List Text → Asked → Type 0
@@ -151,6 +151,16 @@ form_last form.Text = (refl, refl)
 form_last form.Csv = (refl, refl)
 form_last form.History = (refl, refl)
 
+explore_alone : (h : Bool) → Asks (codes "explore" ∷ history_words h) (explore h None)
+unfolding clap_on_literals
+explore_alone false = (refl, refl)
+explore_alone true = (refl, refl)
+
+explore_within : (h : Bool) (word : Text) → Asks (codes "explore" ∷ (history_words h ++ (codes "--states=" ++ word) ∷ [])) (explore h (Some word))
+unfolding clap_on_literals
+explore_within false word = (refl, refl)
+explore_within true word = (refl, refl)
+
 asks : (a : Asked) (line : List Text) → AsksFor a line → Asks line a
 unfolding clap_on_literals
 asks a line no_word = (refl, refl)
@@ -162,6 +172,8 @@ asks a line (form_first f rule words (same_word word)) = same_form f word
 asks a line (rule_first f rule words no_rule) = form_last f
 asks a line (rule_first f rule words (next_word word plain)) = next_rule word (no_option word plain) f
 asks a line (rule_first f rule words (same_word word)) = same_rule f word
+asks a line (explores h) = explore_alone h
+asks a line (explores_states h word) = explore_within h word
 
 asks_both : (line : List Text) → AsksForBoth line → faults ([] ∷ line) ≡ ArgumentConflict ∷ []
 unfolding clap_on_literals
@@ -191,6 +203,7 @@ unfolding clap_on_literals
 name_stops name rest run_name = sym (walk_stopped (built ttrun).top.rules (names_of (built ttrun)) (walk_from nothing_held) (codes "run") [] rest)
 name_stops name rest check_name = sym (walk_stopped (built ttrun).top.rules (names_of (built ttrun)) (walk_from nothing_held) (codes "check") [] rest)
 name_stops name rest replay_name = sym (walk_stopped (built ttrun).top.rules (names_of (built ttrun)) (walk_from nothing_held) (codes "replay") [] rest)
+name_stops name rest explore_name = sym (walk_stopped (built ttrun).top.rules (names_of (built ttrun)) (walk_from nothing_held) (codes "explore") [] rest)
 
 name_quiet : (name : Text) (rest : List Text) → IsName name
     → walk_fault (built ttrun).top (names_of (built ttrun)) (walk_from nothing_held) (name ∷ rest) ≡ []
@@ -198,6 +211,7 @@ unfolding clap_on_literals
 name_quiet name rest run_name = stopped_quiet (built ttrun).top (names_of (built ttrun)) (walk_from nothing_held) (codes "run", []) rest
 name_quiet name rest check_name = stopped_quiet (built ttrun).top (names_of (built ttrun)) (walk_from nothing_held) (codes "check", []) rest
 name_quiet name rest replay_name = stopped_quiet (built ttrun).top (names_of (built ttrun)) (walk_from nothing_held) (codes "replay", []) rest
+name_quiet name rest explore_name = stopped_quiet (built ttrun).top (names_of (built ttrun)) (walk_from nothing_held) (codes "explore", []) rest
 
 -- the faults of words that name a subcommand, by those of its name and by where the walk stopped
 abbrev faults_at : List Text → Kinds → Walk → Kinds
@@ -217,6 +231,8 @@ help_behind name help rest run_name short = ap₂ (faults_at ([] ∷ codes "run"
 help_behind name help rest check_name long = ap₂ (faults_at ([] ∷ codes "check" ∷ codes "--help" ∷ rest)) (name_quiet (codes "check") (codes "--help" ∷ rest) check_name) (name_stops (codes "check") (codes "--help" ∷ rest) check_name)
 help_behind name help rest check_name short = ap₂ (faults_at ([] ∷ codes "check" ∷ codes "-h" ∷ rest)) (name_quiet (codes "check") (codes "-h" ∷ rest) check_name) (name_stops (codes "check") (codes "-h" ∷ rest) check_name)
 help_behind name help rest replay_name long = ap₂ (faults_at ([] ∷ codes "replay" ∷ codes "--help" ∷ rest)) (name_quiet (codes "replay") (codes "--help" ∷ rest) replay_name) (name_stops (codes "replay") (codes "--help" ∷ rest) replay_name)
+help_behind name help rest explore_name long = ap₂ (faults_at ([] ∷ codes "explore" ∷ codes "--help" ∷ rest)) (name_quiet (codes "explore") (codes "--help" ∷ rest) explore_name) (name_stops (codes "explore") (codes "--help" ∷ rest) explore_name)
+help_behind name help rest explore_name short = ap₂ (faults_at ([] ∷ codes "explore" ∷ codes "-h" ∷ rest)) (name_quiet (codes "explore") (codes "-h" ∷ rest) explore_name) (name_stops (codes "explore") (codes "-h" ∷ rest) explore_name)
 help_behind name help rest replay_name short = ap₂ (faults_at ([] ∷ codes "replay" ∷ codes "-h" ∷ rest)) (name_quiet (codes "replay") (codes "-h" ∷ rest) replay_name) (name_stops (codes "replay") (codes "-h" ∷ rest) replay_name)
 
 asks_help : (line : List Text) → AsksHelp line → faults ([] ∷ line) ≡ DisplayHelp ∷ []

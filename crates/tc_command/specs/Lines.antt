@@ -1,9 +1,9 @@
 -- Command lines as the help shows them, without the program's name: what they ask for.
-use Rattle.std.specs.Prelude.{◌≢◌, ⊤, List, [], ◌∷◌, ◌++◌, Option, Some, None, codes}
+use Rattle.std.specs.Prelude.{◌≢◌, ⊤, Bool, true, false, List, [], ◌∷◌, ◌++◌, Option, Some, None, codes}
 use Rattle.clap.specs.Words.{Text}
 use Rattle.tc_command.specs.declared.task.Form.{Form}
 use Rattle.tc_command.specs.declared.task.Form.TheVariants as form
-use Rattle.tc_command.specs.Asked.{Asked, check, replay, run}
+use Rattle.tc_command.specs.Asked.{Asked, check, explore, replay, run}
 
 -- the word does not begin with a hyphen
 abbrev pub IsPlain : Text → Type 0
@@ -22,6 +22,11 @@ pub data SpellsRule : Option Text → List Text → Type 0 where
   next_word : (word : Text) → IsPlain word → SpellsRule (Some word) (codes "--stop-on" ∷ word ∷ [])
   same_word : (word : Text) → SpellsRule (Some word) ((codes "--stop-on=" ++ word) ∷ [])
 
+-- the option that asks for histories
+abbrev pub history_words : Bool → List Text
+history_words false = []
+history_words true = codes "--history" ∷ []
+
 -- the words ask for this: no word at all for `run` without options, whose options stand in either order
 pub data AsksFor : Asked → List Text → Type 0 where
   no_word : AsksFor (run form.Text None) []
@@ -31,6 +36,9 @@ pub data AsksFor : Asked → List Text → Type 0 where
       → AsksFor (run f rule) (codes "run" ∷ (form_words f ++ words))
   rule_first : (f : Form) (rule : Option Text) (words : List Text) → SpellsRule rule words
       → AsksFor (run f rule) (codes "run" ∷ (words ++ form_words f))
+  explores : (histories : Bool) → AsksFor (explore histories None) (codes "explore" ∷ history_words histories)
+  explores_states : (histories : Bool) (word : Text)
+      → AsksFor (explore histories (Some word)) (codes "explore" ∷ (history_words histories ++ (codes "--states=" ++ word) ∷ []))
 
 -- the word asks for help
 pub data IsHelp : Text → Type 0 where
@@ -42,6 +50,7 @@ pub data IsName : Text → Type 0 where
   run_name : IsName (codes "run")
   check_name : IsName (codes "check")
   replay_name : IsName (codes "replay")
+  explore_name : IsName (codes "explore")
 
 -- the words ask for help with the program, or with a subcommand, whatever follows
 pub data AsksHelp : List Text → Type 0 where

@@ -24,3 +24,4 @@ refused_word word (Err F.NoMemory) taken refused unnamed = absurd refused
 refused_word word (Err (F.Text fault)) taken refused unnamed = absurd refused
 refused_word word (Err (F.Script fault)) taken refused unnamed = absurd refused
 refused_word word (Err F.StopOn) taken refused unnamed = refl
+refused_word word (Err F.States) taken refused unnamed = absurd refused
