@@ -21,6 +21,7 @@ import devices
 import documents_run
 import examples
 import live
+import random_courses
 import random_moves
 import random_scripts
 import rows
@@ -55,7 +56,7 @@ def tests(seed: int) -> List[Test]:
         if len(group) < fewest:
             sys.exit(f"{name}: {len(group)} tests are fewer than {fewest}")
         found += group
-    found += random_moves.judgements(seed) + random_scripts.judgements(seed)
+    found += random_moves.judgements(seed) + random_scripts.judgements(seed) + random_courses.judgements(seed)
     names = [it.name for it in found]
     twice = sorted({it for it in names if names.count(it) > 1})
     if twice:

@@ -14,12 +14,12 @@ use Rattle.clap.proofs.OnLiterals.{clap_on_literals}
 use Rattle.clap.proofs.WalkLemmas.{walk_stopped}
 use Rattle.tc_command.specs.declared.task.Form.{Form}
 use Rattle.tc_command.specs.declared.task.Form.TheVariants as form
-use Rattle.tc_command.specs.Asked.{Asked, asked_by, faults, run, run_by}
+use Rattle.tc_command.specs.Asked.{Asked, asked_by, explore, faults, run, run_by}
 use Rattle.tc_command.specs.Command.{ttrun}
 use Rattle.tc_command.specs.Command.{run as run_app}
-use Rattle.tc_command.specs.Lines.{AsksFor, AsksForBoth, AsksHelp, InAnyOrder, IsHelp, IsName, IsPlain, SpellsRule, form_words, live_words}
+use Rattle.tc_command.specs.Lines.{AsksFor, AsksForBoth, AsksHelp, InAnyOrder, IsHelp, IsName, IsPlain, SpellsRule, form_words, history_words, live_words}
 use Rattle.tc_command.specs.Lines.{abc, acb, bac, bca, cab, cba}
-use Rattle.tc_command.specs.Lines.{no_word, checks, replays, runs, no_rule, next_word, same_word, long, short, run_name, check_name, replay_name, of_program, of_subcommand, csv_first, history_first}
+use Rattle.tc_command.specs.Lines.{no_word, checks, replays, runs, no_rule, next_word, same_word, explores, explores_states, long, short, run_name, check_name, replay_name, explore_name, of_program, of_subcommand, csv_first, history_first}
 
 -- the words behind the program's name are taken, and ask for this
 abbrev Asks : List Text → Asked → Type 0
@@ -245,12 +245,24 @@ spelled f live rule words options no_rule order = alone f live options order
 spelled f live rule words options (next_word word plain) order = next word (no_option word plain) f live options order
 spelled f live rule words options (same_word word) order = same f live word options order
 
+explore_alone : (h : Bool) → Asks (codes "explore" ∷ history_words h) (explore h None)
+unfolding clap_on_literals
+explore_alone false = (refl, refl)
+explore_alone true = (refl, refl)
+
+explore_within : (h : Bool) (word : Text) → Asks (codes "explore" ∷ (history_words h ++ (codes "--states=" ++ word) ∷ [])) (explore h (Some word))
+unfolding clap_on_literals
+explore_within false word = (refl, refl)
+explore_within true word = (refl, refl)
+
 asks : (a : Asked) (line : List Text) → AsksFor a line → Asks line a
 unfolding clap_on_literals
 asks a line no_word = (refl, refl)
 asks a line checks = (refl, refl)
 asks a line replays = (refl, refl)
 asks a line (runs f live rule words options spells order) = spelled f live rule words options spells order
+asks a line (explores h) = explore_alone h
+asks a line (explores_states h word) = explore_within h word
 
 asks_both : (line : List Text) → AsksForBoth line → faults ([] ∷ line) ≡ ArgumentConflict ∷ []
 unfolding clap_on_literals
@@ -286,6 +298,7 @@ unfolding clap_on_literals
 name_stops name rest run_name = sym (walk_stopped (built ttrun).top.rules (names_of (built ttrun)) (walk_from nothing_held) (codes "run") [] rest)
 name_stops name rest check_name = sym (walk_stopped (built ttrun).top.rules (names_of (built ttrun)) (walk_from nothing_held) (codes "check") [] rest)
 name_stops name rest replay_name = sym (walk_stopped (built ttrun).top.rules (names_of (built ttrun)) (walk_from nothing_held) (codes "replay") [] rest)
+name_stops name rest explore_name = sym (walk_stopped (built ttrun).top.rules (names_of (built ttrun)) (walk_from nothing_held) (codes "explore") [] rest)
 
 name_quiet : (name : Text) (rest : List Text) → IsName name
     → walk_fault (built ttrun).top (names_of (built ttrun)) (walk_from nothing_held) (name ∷ rest) ≡ []
@@ -293,6 +306,7 @@ unfolding clap_on_literals
 name_quiet name rest run_name = stopped_quiet (built ttrun).top (names_of (built ttrun)) (walk_from nothing_held) (codes "run", []) rest
 name_quiet name rest check_name = stopped_quiet (built ttrun).top (names_of (built ttrun)) (walk_from nothing_held) (codes "check", []) rest
 name_quiet name rest replay_name = stopped_quiet (built ttrun).top (names_of (built ttrun)) (walk_from nothing_held) (codes "replay", []) rest
+name_quiet name rest explore_name = stopped_quiet (built ttrun).top (names_of (built ttrun)) (walk_from nothing_held) (codes "explore", []) rest
 
 -- the faults of words that name a subcommand, by those of its name and by where the walk stopped
 abbrev faults_at : List Text → Kinds → Walk → Kinds
@@ -312,6 +326,8 @@ help_behind name help rest run_name short = ap₂ (faults_at ([] ∷ codes "run"
 help_behind name help rest check_name long = ap₂ (faults_at ([] ∷ codes "check" ∷ codes "--help" ∷ rest)) (name_quiet (codes "check") (codes "--help" ∷ rest) check_name) (name_stops (codes "check") (codes "--help" ∷ rest) check_name)
 help_behind name help rest check_name short = ap₂ (faults_at ([] ∷ codes "check" ∷ codes "-h" ∷ rest)) (name_quiet (codes "check") (codes "-h" ∷ rest) check_name) (name_stops (codes "check") (codes "-h" ∷ rest) check_name)
 help_behind name help rest replay_name long = ap₂ (faults_at ([] ∷ codes "replay" ∷ codes "--help" ∷ rest)) (name_quiet (codes "replay") (codes "--help" ∷ rest) replay_name) (name_stops (codes "replay") (codes "--help" ∷ rest) replay_name)
+help_behind name help rest explore_name long = ap₂ (faults_at ([] ∷ codes "explore" ∷ codes "--help" ∷ rest)) (name_quiet (codes "explore") (codes "--help" ∷ rest) explore_name) (name_stops (codes "explore") (codes "--help" ∷ rest) explore_name)
+help_behind name help rest explore_name short = ap₂ (faults_at ([] ∷ codes "explore" ∷ codes "-h" ∷ rest)) (name_quiet (codes "explore") (codes "-h" ∷ rest) explore_name) (name_stops (codes "explore") (codes "-h" ∷ rest) explore_name)
 help_behind name help rest replay_name short = ap₂ (faults_at ([] ∷ codes "replay" ∷ codes "-h" ∷ rest)) (name_quiet (codes "replay") (codes "-h" ∷ rest) replay_name) (name_stops (codes "replay") (codes "-h" ∷ rest) replay_name)
 
 asks_help : (line : List Text) → AsksHelp line → faults ([] ∷ line) ≡ DisplayHelp ∷ []

@@ -13,18 +13,21 @@ use Rattle.tc_command.specs.declared.task.Task.{Task}
 use Rattle.tc_command.specs.declared.task.Task.TheVariants as T
 use Rattle.tc_command.specs.Command.{ttrun}
 
--- what the program can be asked for: to replay moves, to check histories, or to run a campaign, its results in a form, written
--- live or at the end, and with the word of its stopping rule
+-- what the program can be asked for: to replay moves, to check histories, to run a campaign, its results in a form, written
+-- live or at the end, and with the word of its stopping rule, or to explore one, with histories or not and with the word of
+-- the number of states
 pub data Asked : Type 0 where
   replay : Asked
   check : Asked
   run : Form → Bool → Option Text → Asked
+  explore : Bool → Option Text → Asked
 
 -- what a task says
 abbrev pub asked : Task → Asked
 asked T.Replay = replay
 asked T.Check = check
 asked (T.Run form live word) = run form live (option_map (λ w. w.now) word)
+asked (T.Explore histories word) = explore histories (option_map (λ w. w.now) word)
 
 -- the value comes from the words, and is no default
 abbrev pub is_from_words : Option ValueSource → Bool
@@ -51,12 +54,17 @@ form_of rows = form_by (is_given (codes "csv") rows) (is_given (codes "history")
 abbrev pub run_by : List Row → Option Asked
 run_by rows = option_map (λ form. run form (is_given (codes "live") rows) (first_of (codes "stop-on") rows)) (form_of rows)
 
+-- what the options of `explore` ask for
+abbrev pub explore_by : List Row → Asked
+explore_by rows = explore (is_given (codes "history") rows) (first_of (codes "states") rows)
+
 -- what a subcommand with its options asks for; no subcommand is `run` without options, and both forms at once ask for nothing
 abbrev pub asked_by : Option (Text × List Row) → Option Asked
 asked_by None = Some (run form.Text false None)
 asked_by (Some p) = if bytes_eq p.0 (codes "check") then Some check
     else (if bytes_eq p.0 (codes "replay") then Some replay
-    else run_by p.1)
+    else (if bytes_eq p.0 (codes "explore") then Some (explore_by p.1)
+    else run_by p.1))
 
 -- why the words are refused, as the kinds of the first fault, or that they ask for help; none where they are taken
 abbrev pub faults : List Text → Kinds

@@ -15,6 +15,14 @@ stop_on = record (new_rule (codes "stop-on")) { long = Some (codes "stop-on"); a
 abbrev pub run : App
 run = with_rule (with_rule (with_rule (with_rule (new_app (codes "run")) (flag_rule (codes "csv"))) (flag_rule (codes "history"))) (flag_rule (codes "live"))) stop_on
 
+-- --states, which takes one word
+abbrev pub states : Rule
+states = record (new_rule (codes "states")) { long = Some (codes "states"); action = Some Set; value_names = 1 }
+
+-- explore has the options --history and --states
+abbrev pub explore : App
+explore = with_rule (with_rule (new_app (codes "explore")) (flag_rule (codes "history"))) states
+
 -- check has no option
 abbrev pub check : App
 check = new_app (codes "check")
@@ -23,6 +31,6 @@ check = new_app (codes "check")
 abbrev pub replay : App
 replay = new_app (codes "replay")
 
--- the program's command has these three subcommands
+-- the program's command has these four subcommands
 abbrev pub ttrun : App
-ttrun = with_subcommand (with_subcommand (with_subcommand (new_app (codes "ttrun")) run.top) check.top) replay.top
+ttrun = with_subcommand (with_subcommand (with_subcommand (with_subcommand (new_app (codes "ttrun")) run.top) explore.top) check.top) replay.top

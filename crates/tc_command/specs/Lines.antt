@@ -3,7 +3,7 @@ use Rattle.std.specs.Prelude.{◌≢◌, ⊤, Bool, true, false, List, [], ◌�
 use Rattle.clap.specs.Words.{Text}
 use Rattle.tc_command.specs.declared.task.Form.{Form}
 use Rattle.tc_command.specs.declared.task.Form.TheVariants as form
-use Rattle.tc_command.specs.Asked.{Asked, check, replay, run}
+use Rattle.tc_command.specs.Asked.{Asked, check, explore, replay, run}
 
 -- the word does not begin with a hyphen
 abbrev pub IsPlain : Text → Type 0
@@ -36,6 +36,11 @@ pub data SpellsRule : Option Text → List Text → Type 0 where
   next_word : (word : Text) → IsPlain word → SpellsRule (Some word) (codes "--stop-on" ∷ word ∷ [])
   same_word : (word : Text) → SpellsRule (Some word) ((codes "--stop-on=" ++ word) ∷ [])
 
+-- the option that asks for histories
+abbrev pub history_words : Bool → List Text
+history_words false = []
+history_words true = codes "--history" ∷ []
+
 -- the words ask for this: no word at all for `run` without options, whose options stand in any order
 pub data AsksFor : Asked → List Text → Type 0 where
   no_word : AsksFor (run form.Text false None) []
@@ -43,6 +48,9 @@ pub data AsksFor : Asked → List Text → Type 0 where
   replays : AsksFor replay (codes "replay" ∷ [])
   runs : (f : Form) (live : Bool) (rule : Option Text) (words options : List Text) → SpellsRule rule words
       → InAnyOrder (form_words f) (live_words live) words options → AsksFor (run f live rule) (codes "run" ∷ options)
+  explores : (histories : Bool) → AsksFor (explore histories None) (codes "explore" ∷ history_words histories)
+  explores_states : (histories : Bool) (word : Text)
+      → AsksFor (explore histories (Some word)) (codes "explore" ∷ (history_words histories ++ (codes "--states=" ++ word) ∷ []))
 
 -- the word asks for help
 pub data IsHelp : Text → Type 0 where
@@ -54,6 +62,7 @@ pub data IsName : Text → Type 0 where
   run_name : IsName (codes "run")
   check_name : IsName (codes "check")
   replay_name : IsName (codes "replay")
+  explore_name : IsName (codes "explore")
 
 -- the words ask for help with the program, or with a subcommand, whatever follows
 pub data AsksHelp : List Text → Type 0 where

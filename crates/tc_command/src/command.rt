@@ -2,7 +2,7 @@
 ghost use Rattle.std.specs.Prelude.{◌≡◌, IfOk, false};
 ghost use Rattle.clap.specs.Words.{app_of, rule_of};
 ghost use Rattle.clap.specs.declared.builder.command.Command.TheViews.{out-Command};
-ghost use Rattle.tc_command.specs.Command.{flag_rule, run, stop_on, ttrun};
+ghost use Rattle.tc_command.specs.Command.{explore, flag_rule, run, states, stop_on, ttrun};
 
 use clap::{Arg, ArgAction, Command};
 use std::alloc::{AllocError, Global};
@@ -42,6 +42,32 @@ fn run_command<'a>(alloc: Global) -> Result<Command<'a>, AllocError>
         .arg(stop_on_option(alloc))
 }
 
+// The option that takes the number of states.
+fn states_option<'a>(alloc: Global) -> Arg<'a>
+    ensures rule { rule_of result ≡ states }
+    ensures local { result.global ≡ false }
+{
+    Arg::new(alloc, "states")
+        .long("states")
+        .help("looks at so many states of a test case at most")
+        .value_name("N")
+        .action(ArgAction::Set)
+}
+
+fn explore_command<'a>(alloc: Global) -> Result<Command<'a>, AllocError>
+    ensures options { IfOk result (λ c. app_of c ≡ explore) }
+    ensures local { IfOk result (λ c. (out-Command c).has_globals ≡ false) }
+{
+    Command::new(alloc, "explore")
+        .about("looks for every overall verdict that a schedule of a test case can give")
+        .arg(flag(
+            alloc,
+            "history",
+            "writes a history for each verdict that was found",
+        ))?
+        .arg(states_option(alloc))
+}
+
 /// The command with its subcommands.
 pub(crate) fn command<'a>(alloc: Global) -> Result<Command<'a>, AllocError>
     ensures { IfOk result (λ c. app_of c ≡ ttrun) }
@@ -53,6 +79,7 @@ pub(crate) fn command<'a>(alloc: Global) -> Result<Command<'a>, AllocError>
     Command::new(alloc, "ttrun")
         .about("the component control runtime of a TTCN-3 test executor")
         .subcommand(run_command(alloc)?)?
+        .subcommand(explore_command(alloc)?)?
         .subcommand(check)?
         .subcommand(replay)
 }

@@ -2,7 +2,7 @@
 ghost use Rattle.std.specs.Prelude.{◌≡◌, IfOk, Some, map, option_map, string_bytes};
 ghost use Rattle.clap.specs.Words.{FailsBy, found_of, rows_of, subcommand_of, subcommand_rows_of};
 ghost use Rattle.tc_command.specs.Command.{ttrun};
-ghost use Rattle.tc_command.specs.Asked.{asked, asked_by, faults, form_of, is_given, run_by};
+ghost use Rattle.tc_command.specs.Asked.{asked, asked_by, explore_by, faults, form_of, is_given, run_by};
 
 use crate::command::command;
 use crate::task::{Form, Task};
@@ -45,6 +45,15 @@ fn run_task<'a>(options: &ArgMatches<'a>) -> Option<Task<'a>>
     })
 }
 
+// What the options of `explore` ask for.
+fn explore_task<'a>(options: &ArgMatches<'a>) -> Task<'a>
+    ensures { asked result ≡ explore_by (rows_of (found_of options.now)) }
+{
+    let histories = has_option(options, "history");
+    let states = options.get_str("states");
+    Task::Explore { histories, states }
+}
+
 // What the subcommand asks for: nothing where its options ask for two forms.
 fn task<'a>(matches: &ArgMatches<'a>) -> Option<Task<'a>>
     ensures { option_map asked result ≡ asked_by (subcommand_rows_of matches.now) }
@@ -57,6 +66,7 @@ fn task<'a>(matches: &ArgMatches<'a>) -> Option<Task<'a>>
         }),
         Some(("check", _)) => Some(Task::Check),
         Some(("replay", _)) => Some(Task::Replay),
+        Some(("explore", options)) => Some(explore_task(options)),
         Some((_, options)) => run_task(options),
     }
 }

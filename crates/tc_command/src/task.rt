@@ -25,4 +25,9 @@ pub enum Task<'a> {
     },
     /// Check histories.
     Check,
+    /// Explore a campaign: whether the histories of the witnesses are written, and the word of `--states`.
+    Explore {
+        histories: bool,
+        states: Option<&'a str>,
+    },
 }

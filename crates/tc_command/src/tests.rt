@@ -36,6 +36,13 @@ fn live(form: Form, stop_on: Option<&'static str>) -> Result<Task<'static>, Erro
     })
 }
 
+fn explored(
+    histories: bool,
+    states: Option<&'static str>,
+) -> Result<Task<'static>, ErrorKind> {
+    Ok(Task::Explore { histories, states })
+}
+
 fn words(alloc: Global, line: &str) -> Result<Vec<String>, AllocError> {
     let mut words = Vec::new(alloc);
     for word in line.split(' ') {
@@ -90,6 +97,22 @@ fn lines_and_tasks(rt: HostRuntime) -> Result<(), Fail> {
         ("ttrun run --stop-on", NO_WORD),
         ("ttrun run --stop-on --csv", NO_WORD),
         ("ttrun run --csv=yes", TOO_MANY),
+        ("ttrun explore", explored(false, None)),
+        ("ttrun explore --history", explored(true, None)),
+        ("ttrun explore --states 7", explored(false, Some("7"))),
+        (
+            "ttrun explore --states=many --history",
+            explored(true, Some("many")),
+        ),
+        ("ttrun explore --states", NO_WORD),
+        ("ttrun explore --states 1 --states 1", CONFLICT),
+        ("ttrun explore --history --history", CONFLICT),
+        ("ttrun explore --csv", UNKNOWN),
+        ("ttrun explore --stop-on fail", UNKNOWN),
+        ("ttrun explore more", UNKNOWN),
+        ("ttrun run --states 7", UNKNOWN),
+        ("ttrun explore --help", HELP),
+        ("ttrun help explore", HELP),
         ("ttrun --help", HELP),
         ("ttrun -h", HELP),
         ("ttrun help", HELP),
@@ -235,6 +258,15 @@ fn the_help_says_what_each_word_does(rt: HostRuntime) -> Result<(), Fail> {
         (
             "ttrun --help",
             "replays a list of moves, and prints each reply and the overall verdict",
+        ),
+        (
+            "ttrun --help",
+            "looks for every overall verdict that a schedule of a test case can give",
+        ),
+        ("ttrun explore --help", "--states <N>"),
+        (
+            "ttrun explore --help",
+            "looks at so many states of a test case at most",
         ),
         ("ttrun run --help", "writes the report as CSV"),
         ("ttrun run --help", "writes the histories of the test cases"),

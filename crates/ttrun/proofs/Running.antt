@@ -44,6 +44,7 @@ refused_word word (Err F.NoMemory) taken refused unnamed = absurd refused
 refused_word word (Err (F.Text fault)) taken refused unnamed = absurd refused
 refused_word word (Err (F.Script fault)) taken refused unnamed = absurd refused
 refused_word word (Err F.StopOn) taken refused unnamed = refl
+refused_word word (Err F.States) taken refused unnamed = absurd refused
 
 -- a run that was written live was run, and its results were given
 pub live_done : {B : Type 0} (outcome : B → PassState → Back → Type 0) (cases : List (Case B)) (options : Options) (threads : ℕ) (form : ReportForm) (streams : Streams)

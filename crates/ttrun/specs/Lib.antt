@@ -9,6 +9,7 @@ pub mod Tell
 pub mod Script
 pub mod Run
 pub mod Scripted
+pub mod Explore
 pub mod Program
 pub mod Answer
 pub mod Check

@@ -11,6 +11,7 @@ use Rattle.ttrun.specs.declared.outcome.Outcome.{Outcome}
 use Rattle.ttrun.specs.Limits.{HasAtMost, history_limit, move_list_limit, script_limit}
 use Rattle.ttrun.specs.Output.{Writes}
 use Rattle.ttrun.specs.Replay.{RefusesReplay, Replays}
+use Rattle.ttrun.specs.Explore.{Explores, IsStatesOf, RefusesExplore}
 use Rattle.ttrun.specs.Check.{IsChecked, RefusesCheck}
 use Rattle.ttrun.specs.Run.{IsCutShort, IsNoName, IsRuleOf, RefusesRun, IsRun, IsUnwritten}
 use Rattle.ttrun.specs.Scripted.{script_outline, IsScripted}
@@ -68,6 +69,12 @@ pub record AnswersCheck (input before after : Option (List ℕ)) (answer : Resul
   pub refused : IfErr answer (RefusesCheck input before after)
   pub written : FindsWrittenLegal input before after answer
 
+-- what `explore` answers
+pub record AnswersExplore (histories : Bool) (word input before after : Option (List ℕ)) (answer : Result ℕ RunFault) : Type 0 where
+  pub done : IfOk answer (λ status. (states : ℕ) × IsStatesOf word states × Writes (Explores histories states) input before after status)
+  pub fits : OnOk answer (HasAtMost script_limit input)
+  pub refused : IfErr answer (RefusesExplore histories word input before after)
+
 -- what `run` answers
 pub record AnswersRun (form : Form) (live : Bool) (word input : Option (List ℕ)) (streams : Streams) (answer : Result Outcome RunFault) : Type 0 where
   pub done : IfOk answer (RunsScript form word input streams)
@@ -86,6 +93,8 @@ IsCarriedOut T.Replay input s outcome = Ends (AnswersReplay input s.before s.aft
 IsCarriedOut T.Check input s outcome = Ends (AnswersCheck input s.before s.after) (IsSilent s.untold s.told outcome) s outcome
 IsCarriedOut (T.Run form live word) input s outcome =
     Ends (AnswersRun form live (option_copied word) input s) (λ ran. outcome ≡ ran) s outcome
+IsCarriedOut (T.Explore histories word) input s outcome =
+    Ends (AnswersExplore histories (option_copied word) input s.before s.after) (IsSilent s.untold s.told outcome) s outcome
 
 -- the task is a run, and its word names no verdict
 abbrev pub HasNoRule : Task → Type 0

@@ -52,6 +52,7 @@ abbrev pub IsOutside : RunFault → Type 0
 IsOutside (F.Text fault) = ⊥
 IsOutside (F.Script fault) = ⊥
 IsOutside F.StopOn = ⊥
+IsOutside F.States = ⊥
 IsOutside fault = Unit {0}
 
 -- where the input is what is written of test cases that were run, the status is 0 and each is found legal, or there is a fault, and not of the text

@@ -4,6 +4,7 @@ ghost use Rattle.ttrun.specs.Program.{HasNoRule, IsCarriedOut};
 ghost use Rattle.ttrun.specs.Streams.{held};
 
 use crate::check::check;
+use crate::explore::explore_script;
 use crate::jobs::run_script;
 use crate::outcome::Outcome;
 use crate::replay::replay;
@@ -35,6 +36,10 @@ where
         }
         Task::Check => {
             let answer = check(alloc, reader, writer);
+            settle(alloc, errors, answer)
+        }
+        Task::Explore { histories, states } => {
+            let answer = explore_script(alloc, histories, states, reader, writer);
             settle(alloc, errors, answer)
         }
         Task::Run {

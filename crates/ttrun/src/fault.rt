@@ -29,6 +29,8 @@ pub enum RunFault {
     Script(ScriptFault),
     /// The word of `--stop-on` is the name of no verdict.
     StopOn,
+    /// The word of `--states` is no number of states.
+    States,
 }
 
 impl From<InputFault> for RunFault {
@@ -142,6 +144,7 @@ impl RunFault {
             RunFault::Text(TextFault::At { kind, .. }) => kind.text(),
             RunFault::Script(fault) => fault.kind.text(),
             RunFault::StopOn => "--stop-on takes none, pass, inconc, fail or error",
+            RunFault::States => "--states takes a number from 1 to 1000000",
         }
     }
 }

@@ -5,6 +5,7 @@ mod answer;
 mod carry_out;
 mod check;
 mod check_lines;
+mod explore;
 mod fault;
 mod give;
 mod jobs;

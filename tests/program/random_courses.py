@@ -1,0 +1,174 @@
+"""Random test cases that race: `explore` is held to a plain search of all schedules, and its witnesses to `check`."""
+from __future__ import annotations
+
+import random
+import re
+from collections import Counter
+from typing import Dict, List, Optional, Tuple
+
+from case import Case, Ran, difference, run
+from courses import verdicts_of
+from judged import Judgement
+from random_moves import below
+from script_reader import Campaign, read_script
+from script_run import faults_of_block
+from table import STATUSES, VERDICTS
+from texts import Judged, check, read_history
+
+BATCHES = 10
+CASES = 250
+# A test case with more states than so many in the plain search is left out, and counted.
+MOST = 1500
+LINE = re.compile(r"(?P<name>\w+)(?P<verdicts>(?: \w+)*) looked at (?P<states>\d+) states")
+
+
+class Racing:
+    """Writes one small test case whose behaviours stop, kill, start and wait for one another."""
+
+    def __init__(self, chance: random.Random, name: str) -> None:
+        self.chance = chance
+        self.count = chance.choice((2, 3, 3, 4, 4, 5))
+        self.parameters = [0] + [chance.choice((0, 1, 1, 2)) for _ in range(self.count - 1)]
+        self.left = list(range(1, self.count))
+        self.lines = [f"testcase {name}"]
+        for at in range(self.count):
+            self.behaviour(at)
+        self.lines.append("end")
+
+    def behaviour(self, at: int) -> None:
+        """Writes one behaviour. The main one starts the next, and mostly all."""
+        names = [f"a{number}" for number in range(self.parameters[at])]
+        self.lines.append(" ".join(["behaviour", f"b{at}", *names]))
+        self.bound = ["self", *names] + ["mtc"] * (self.chance.random() < 0.2)
+        if at == 0:
+            self.bound = []
+            for _ in range(self.chance.choice((1, 2, 2))):
+                self.create()
+        for other in list(self.left):
+            if at == 0 and (other == 1 or self.chance.random() < 0.7) or at > 0 and self.chance.random() < 0.3:
+                self.left.remove(other)
+                self.start(other)
+        for _ in range(self.chance.choice((0, 1, 2, 2, 3, 4))):
+            self.step(at)
+        self.lines.append("end")
+
+    def create(self) -> None:
+        """Creates a component under a new name."""
+        name = f"p{len(self.lines)}"
+        self.lines.append(f"create {name}" + " alive" * (self.chance.random() < 0.5))
+        self.bound.append(name)
+
+    def start(self, other: int) -> None:
+        """Starts a behaviour on a component that is known, mostly on the last."""
+        if len(self.bound) == 1 or self.chance.random() < 0.5:
+            self.create()
+        on = self.bound[-1] if self.chance.random() < 0.8 else self.chance.choice(self.bound)
+        args = [self.chance.choice(self.bound) for _ in range(self.parameters[other])]
+        self.lines.append(" ".join(["start", on, f"b{other}", *args]))
+
+    def target(self, at: int, group: str) -> str:
+        """A component that is known, or in the main behaviour a group."""
+        if self.chance.random() < (0.3 if at == 0 else 0.02):
+            return group
+        return self.chance.choice(self.bound)
+
+    def step(self, at: int) -> None:
+        """Writes a step."""
+        drawn = self.chance.random()
+        if drawn < 0.4:
+            self.lines.append(f"setverdict {self.chance.choice(VERDICTS[:4])}")
+        elif drawn < 0.55:
+            group = self.chance.choice(("any", "all"))
+            self.lines.append(f"wait {self.chance.choice(('done', 'done', 'killed'))} {self.target(at, group)}")
+        elif drawn < 0.7:
+            self.lines.append(f"{self.chance.choice(('stop', 'kill'))} {self.target(at, 'all')}")
+        elif drawn < 0.76:
+            self.create()
+        elif drawn < 0.82:
+            self.start(self.chance.randrange(1, self.count))
+        elif drawn < 0.92:
+            self.lines.append(f"{self.chance.choice(STATUSES)} {self.target(at, self.chance.choice(('any', 'all')))}")
+        else:
+            self.lines.append("stopcase" if drawn > 0.98 else "getverdict")
+
+
+def drawn_cases(chance: random.Random, count: int) -> List[str]:
+    """So many test cases."""
+    return ["\n".join(Racing(chance, f"t{at}").lines) for at in range(count)]
+
+
+def found_in(output: bytes) -> Optional[Dict[str, List[str]]]:
+    """The verdicts of each test case by the lines of `explore`; none where a line is no such line."""
+    found: Dict[str, List[str]] = {}
+    for line in output.decode().splitlines():
+        parts = LINE.fullmatch(line)
+        if parts is None:
+            return None
+        found[parts["name"]] = parts["verdicts"].split()
+    return found
+
+
+def words_on(program: str, text: bytes, *words: str) -> Ran:
+    """Runs the program with these words."""
+    return run(Case("", words, text), program)
+
+
+def faults_of_witnesses(program: str, text: bytes, campaign: Campaign, found: Dict[str, List[str]]) -> List[str]:
+    """What is wrong with the histories of `explore --history`: each is of its test case, and there is one for each verdict."""
+    ran = words_on(program, text, "explore", "--history")
+    blocks, refusal = read_history(ran.output)
+    if refusal is not None:
+        return [refusal.errors.decode()]
+    cases = {it.name: it for it in campaign}
+    faults = [fault for block in blocks for fault in faults_of_block(cases[block.name], block)]
+    given = {name: sorted(it.verdict for it in blocks if it.name == name) for name in cases}
+    faults += [f"{name} has witnesses of {given[name]}, and was told {found[name]}" for name in cases if given[name] != sorted(found[name])]
+    wanted, checked = check(ran.output), words_on(program, ran.output, "check")
+    return faults + difference("check", wanted.output, checked.output) + ["check refuses a witness"] * (checked.status != 0)
+
+
+def verdicts_of_runs(program: str, text: bytes) -> List[Tuple[str, str]]:
+    """The names of the test cases and the verdicts that a real run gave."""
+    records = words_on(program, text, "run", "--csv").output.decode().splitlines()[1:]
+    return [(it.split(",")[0], it.split(",")[-1]) for it in records]
+
+
+def every_verdict_is_told(seed: int) -> Judgement:
+    """Test cases that race: what `explore` tells is what a plain search finds, with a witness each; real runs give nothing else."""
+
+    def judge(program: str) -> List[str]:
+        chance, met = random.Random(f"racing {seed}"), Counter()
+        for _ in range(BATCHES):
+            text = ("\n".join(drawn_cases(chance, CASES)) + "\n").encode()
+            campaign = read_script(text)
+            if isinstance(campaign, Judged):
+                return [f"the script that was drawn is refused: {campaign.errors!r}"]
+            ran = words_on(program, text, "explore")
+            found = found_in(ran.output)
+            if found is None or [*found] != [it.name for it in campaign]:
+                return [f"lines that are not understood: {ran.output[:500]!r}, {ran.errors!r}"]
+            wanted = {it.name: verdicts_of(it, MOST) for it in campaign}
+            for name, verdicts in wanted.items():
+                if verdicts is None:
+                    met["left out"] += 1
+                    continue
+                if found[name] != sorted(verdicts, key=VERDICTS.index):
+                    return [f"{name}: wanted {verdicts}, came {found[name]}", f"the script: {text.decode()}"]
+                met["cases"] += 1
+                met["races"] += len(verdicts) > 1
+                met.update(verdicts)
+            is_race = any(len(it) > 1 for it in found.values())
+            faults = [f"status: wanted {int(is_race)}, came {ran.status}"] * (ran.status != is_race)
+            faults += faults_of_witnesses(program, text, campaign, found)
+            faults += [f"{name} gave {verdict}, and was told {found[name]}" for name, verdict in verdicts_of_runs(program, text)
+                       if verdict not in found[name]]
+            if faults:
+                return faults[:5]
+        return below(met, [("cases", 2400), ("races", 600), *((it, 150) for it in VERDICTS)])
+
+    return Judgement(f"every_verdict_is_told_{seed}", "ttrun explore [--history] < (random scripts)", judge)
+
+
+def judgements(seed: int) -> List[Judgement]:
+    """The tests for this seed."""
+    return [every_verdict_is_told(seed)]
