@@ -1,5 +1,6 @@
 //! Results made by hand, and their texts.
 mod devices;
+mod live;
 mod runs;
 mod texts;
 
