@@ -3,4 +3,5 @@ pub mod Replaying
 pub mod Running
 pub mod Scripted
 pub mod Checking
+pub mod Exploring
 pub mod WrittenHistories
