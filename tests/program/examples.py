@@ -52,12 +52,13 @@ def faults_of_history(campaign: Campaign, text: bytes) -> List[str]:
     return faults + ["more histories than test cases"] * (len(blocks) > len(campaign))
 
 
-def written_is_checked(stem: str, count: int) -> Judgement:
-    """`run --history | check`: what is written is a history of the script, and is found legal."""
+def written_is_checked(stem: str, count: int, live: Tuple[str, ...] = ()) -> Judgement:
+    """`run --history | check`, live or not: what is written is a history of the script, and is found legal."""
+    words = ("run", *live, "--history")
 
     def judge(program: str) -> List[str]:
         campaign = campaign_of(stem)
-        ran = run(Case("", ("run", "--history"), bytes_of(f"{stem}.script")), program)
+        ran = run(Case("", words, bytes_of(f"{stem}.script")), program)
         faults = difference("standard error", b"", ran.errors) + faults_of_history(campaign, ran.output)
         if ran.output.count(b"history 2 ") != count:
             faults.append(f"{count} histories are wanted: {ran.output[:300]!r}")
@@ -67,7 +68,8 @@ def written_is_checked(stem: str, count: int) -> Judgement:
         wanted = check(ran.output)
         return faults + difference("check", wanted.output, checked.output) + ["check: its status"] * (checked.status != 0)
 
-    return Judgement(f"written_is_checked_{stem}", f"ttrun run --history < examples/{stem}.script | ttrun check", judge)
+    name = "_".join([*(it.strip("-") for it in live), "written_is_checked", stem])
+    return Judgement(name, f"ttrun {' '.join(words)} < examples/{stem}.script | ttrun check", judge)
 
 
 def stands_as_history(stem: str) -> Judgement:

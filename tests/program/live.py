@@ -126,7 +126,10 @@ def devices() -> List[Case]:
 def cases() -> List[object]:
     """All of them."""
     scripts = ("restart", "nightly", "stations", "supervisor", "verdicts", "workers")
-    found: List[object] = [same(it, examples.bytes_of(f"{it}.script"), options) for it in scripts for options in FORMS]
+    found: List[object] = [same(it, examples.bytes_of(f"{it}.script"), options) for it in scripts for options in FORMS
+                           if "--history" not in options]
+    # Histories may be others at each run.
+    found += [examples.written_is_checked(it, len(examples.campaign_of(it)), ("--live",)) for it in scripts]
     found += [same("stopped", examples.bytes_of("verdicts.script"), (*options, "--stop-on", "fail")) for options in FORMS]
     found += [same("refused", b"testcase\n", options) for options in FORMS]
     found += [same("of_no_test_case", b"", options) for options in FORMS]
