@@ -40,7 +40,7 @@ impl Write for Flushed {
 /// Two test cases, and how the campaign ended.
 fn results(alloc: Global) -> Result<Results, Fail> {
     let mut finished = Vec::new(alloc);
-    finished.push(fail_case(alloc)?)?;
+    finished.push(restarted_case(alloc)?)?;
     finished.push(stuck_case(alloc)?)?;
     Ok(Results {
         finished: Sequence::new(finished),
@@ -69,7 +69,7 @@ fn write_live<W: Write>(
     if let Err(fault) = live.begin() {
         return Ok((0, Err(fault)));
     }
-    if !live.take(fail_case(alloc)?) {
+    if !live.take(restarted_case(alloc)?) {
         return Ok((0, Err(live.fault.ok_or("a fault")?)));
     }
     if !live.take(stuck_case(alloc)?) {
@@ -104,7 +104,7 @@ fn each_piece_is_flushed(rt: HostRuntime) -> Result<(), Fail> {
         let mut live = LiveWriter::new(alloc, form, &mut writer);
         live.begin()?;
         pieces.push(live.writer.taken.len())?;
-        assert!(rt; live.take(fail_case(alloc)?));
+        assert!(rt; live.take(restarted_case(alloc)?));
         pieces.push(live.writer.taken.len())?;
         assert!(rt; live.take(stuck_case(alloc)?));
         pieces.push(live.writer.taken.len())?;
