@@ -1,6 +1,9 @@
 -- What `explore` writes, by what was found and what was written.
-use Rattle.std.proofs.Common.{ℕ, ◌≡◌, Bool, List, Option, Some, None, Ok, All, subst}
+use Rattle.std.proofs.Common.{ℕ, ◌≡◌, ◌∙◌, ◌++◌, Bool, List, [], Option, Some, None, Ok, ap, sym, subst}
 use Rattle.std.specs.Prelude.{IfSome}
+use Rattle.std.specs.List.{AllZip}
+use Rattle.std.proofs.lemmas.List.{append-nil}
+use Rattle.tc_campaign.specs.Inside.{AreDone}
 use Rattle.std.specs.Io.KnownBytes.{Appends}
 use Rattle.tc_stream.specs.Output.{AppendsPrefix}
 use Rattle.tc_script.specs.Campaign.{CampaignView, campaign}
@@ -21,3 +24,8 @@ module _ (histories : Bool) (states : ℕ) (cases : CampaignView) (out : List �
       → WritesPrefix (Explores histories states) input before after
   explored_prefix None before after spelled tells wrote = tt
   explored_prefix (Some text) before after spelled tells wrote = (out, status, tells text spelled, wrote)
+
+-- where none is left, all are done
+pub done_all : {A B : Type 0} (R : A → B → Type 0) (all left : List A) (ys : List B) → AreDone R all left ys → left ≡ [] → AllZip R all ys
+done_all R all left ys are none =
+    subst (λ l. AllZip R l ys) (sym (are.prefix ∙ (ap (λ l. are.done ++ l) none ∙ append-nil are.done))) are.each

@@ -1,5 +1,5 @@
 -- What `explore` writes: the overall verdicts that were found of each test case of a script, or the histories that witness them.
-use Rattle.std.specs.Prelude.{ℕ, ◌≡◌, ◌==◌, ◌≤◌, ◌×◌, if◌then◌else◌, Bool, true, false, Option, None, Some, IfSome, Ok, List, [], ◌∷◌, length}
+use Rattle.std.specs.Prelude.{ℕ, ◌≡◌, ◌==◌, ◌≤◌, if◌then◌else◌, Bool, true, false, Option, None, Some, IfSome, Ok, List, [], ◌∷◌, length}
 use Rattle.std.specs.List.{AllZip, flat_map, list_any}
 use Rattle.std.specs.Fmt.{decimal}
 use Rattle.std.specs.Io.KnownBytes.{Keeps}

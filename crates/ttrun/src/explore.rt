@@ -1,5 +1,5 @@
 //! The subcommand `explore`.
-ghost use Rattle.std.specs.Prelude.{◌≡◌, ◌≤◌, All, IfOk, IfErr, IfNone, IfSome, OnOk, ℕ, ⊥, length, option_copied};
+ghost use Rattle.std.specs.Prelude.{◌≡◌, ◌≤◌, All, IfOk, IfErr, IfNone, IfSome, OnOk, ℕ, length, option_copied};
 ghost use Rattle.std.specs.List.{AllZip, flat_map};
 ghost use Rattle.std.specs.Fmt.{decimal};
 ghost use Rattle.tc_entry.specs.declared.limits.TheConstants.{BEHAVIOURS};
@@ -166,6 +166,8 @@ pub fn explore_script<R: Read, W: Write>(
     let campaign = take_script(alloc, reader)?;
     let explored = explore_cases(alloc, campaign, states)?;
     let (out, status) = text_of(alloc, histories, explored.as_slice())?;
-    write_whole(writer, out.as_slice())?;
+    let Ok(()) = write_whole(writer, out.as_slice()) else {
+        return Err(RunFault::Write);
+    };
     Ok(status)
 }
