@@ -136,12 +136,7 @@ impl Pass {
 
     /// Creates a component, ordinary or alive-type, with a name (ES 201 873-1, the create operation). The name stands in the
     /// log, the report and the history; several components may have the same, and no call takes it for a component.
-    pub fn create_named<R: Wait>(
-        &mut self,
-        rt: &R,
-        alive: bool,
-        name: Name,
-    ) -> Result<Comp, Halt>
+    pub fn create_named<R: Wait>(&mut self, rt: &R, alive: bool, name: Name) -> Result<Comp, Halt>
         ensures { IsCall replies.Made (ops.Create alive (Some name)) self.old self.new result }
     {
         self.make(rt, alive, Some(name))

@@ -86,7 +86,11 @@ fn components_with_names(rt: HostRuntime) -> Result<(), Fail> {
     assert_eq!(rt; pass.create(&rt, false), Ok(Comp(3)));
     let lefts = vec![in alloc; pass.leave(&rt)]?;
     let closed = close_case(&rt, alloc, shared, lefts)?;
-    let named = [(false, Some(pump.copy())), (true, Some(pump)), (false, None)];
+    let named = [
+        (false, Some(pump.copy())),
+        (true, Some(pump)),
+        (false, None),
+    ];
     for ((alive, name), entry) in named.into_iter().zip(closed.history.as_slice()) {
         assert!(rt; entry.op.same(&Op::Create { alive, name }));
     }
@@ -343,7 +347,14 @@ fn finished(book: &mut Book, run: u16) -> Option<Option<Reply>> {
 fn calls_on_a_book(rt: HostRuntime) -> Result<(), Fail> {
     let alloc = rt.alloc();
     let mut book = book_of_two(alloc)?;
-    let made = replied(&mut book, 0, Op::Create { alive: false, name: None });
+    let made = replied(
+        &mut book,
+        0,
+        Op::Create {
+            alive: false,
+            name: None,
+        },
+    );
     assert_eq!(rt; made, Some(Reply::Made(Comp(1))));
     assert!(rt; is_unbegun(&book));
     assert_eq!(rt; replied(&mut book, 0, start()), Some(Reply::Ok));
@@ -399,7 +410,15 @@ fn are_answered(book: &mut Book, calls: Vec<Called>) -> bool {
 fn up_to_the_wait(alloc: Global) -> Result<Vec<Called>, NoMemory> {
     let made = Reply::Made(Comp(1));
     Ok(vec![in alloc;
-        (Run(0), Op::Create { alive: true, name: None }, made, false),
+        (
+            Run(0),
+            Op::Create {
+                alive: true,
+                name: None
+            },
+            made,
+            false
+        ),
         (Run(0), start(), Reply::Ok, true),
         (Run(0), Op::Running(one(1)), Reply::Answer(true), false),
         (Run(0), wait(), Reply::Parked, true),

@@ -36,10 +36,7 @@ fn live(form: Form, stop_on: Option<&'static str>) -> Result<Task<'static>, Erro
     })
 }
 
-fn explored(
-    histories: bool,
-    states: Option<&'static str>,
-) -> Result<Task<'static>, ErrorKind> {
+fn explored(histories: bool, states: Option<&'static str>) -> Result<Task<'static>, ErrorKind> {
     Ok(Task::Explore { histories, states })
 }
 

@@ -6,7 +6,9 @@ use std::sync::atomic::{AtomicU64, Ordering};
 use std::sync::{Arc, Wait};
 use std::test::Fail;
 use tc_book::{CloseFault, Halt, Pass, open_case};
-use tc_entry::{Args, Comp, Entry, Fault, Group, Name, Op, Reply, Run, Target, UserVerdict, Verdict};
+use tc_entry::{
+    Args, Comp, Entry, Fault, Group, Name, Op, Reply, Run, Target, UserVerdict, Verdict,
+};
 
 type Behaviour = Box<dyn FnOnce(Pass) -> Back + Send>;
 

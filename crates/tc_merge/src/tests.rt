@@ -24,7 +24,14 @@ fn get(run: u16, reply: Reply) -> Entry {
 }
 
 fn create() -> Entry {
-    entry(0, Op::Create { alive: true, name: None }, Reply::Made(Comp(1)))
+    entry(
+        0,
+        Op::Create {
+            alive: true,
+            name: None,
+        },
+        Reply::Made(Comp(1)),
+    )
 }
 
 fn start(run: u16) -> Entry {

@@ -18,7 +18,10 @@ fn start(on: Place, args: &[Place]) -> Step {
 fn a_script_of_bound_places(rt: HostRuntime) -> Result<(), Fail> {
     let alloc = rt.alloc();
     let steps = vec![in alloc;
-        Step::Create { alive: true, name: Name::read("pump") },
+        Step::Create {
+            alive: true,
+            name: Name::read("pump")
+        },
         start(Place::Bound(1), &[Place::Bound(0), Place::Main, Place::Own]),
         Step::Wait {
             killed: false,
@@ -52,11 +55,17 @@ fn places_are_bound_before_they_are_named(rt: HostRuntime) -> Result<(), Fail> {
     let alloc = rt.alloc();
     let before = vec![in alloc;
         Step::Stop(GroupPlace::One(Place::Bound(0))),
-        Step::Create { alive: false, name: None },
+        Step::Create {
+            alive: false,
+            name: None
+        },
     ]?;
     assert!(rt; !Script::is_script(0, before.as_slice()));
     let after = vec![in alloc;
-        Step::Create { alive: false, name: None },
+        Step::Create {
+            alive: false,
+            name: None
+        },
         Step::Stop(GroupPlace::One(Place::Bound(0))),
     ]?;
     assert!(rt; Script::is_script(0, after.as_slice()));

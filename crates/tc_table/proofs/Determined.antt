@@ -121,7 +121,7 @@ module _ {p q : List Entry} where
   group_running_same : IsSame p q → list_all (λ c. not (is_some (last_run p c)) || is_running (phase p c) || is_excused p c) (ptcs p) ≡ list_all (λ c. not (is_some (last_run q c)) || is_running (phase q c) || is_excused q c) (ptcs q)
   group_running_same s =
       all_same _ _ (ptcs p) (λ c. masked_same (is_some (last_run p c)) (is_some (last_run q c)) (is_running (phase p c)) (is_running (phase q c)) (is_excused p c) (is_excused q c)
-          (ap (λ (t : ComponentState). is_some t.last) (s.state_same c)) (ap is_running (phase_same s c)) (ap (λ (t : ComponentState). t.excused) (s.state_same c)))
+      (ap (λ (t : ComponentState). is_some t.last) (s.state_same c)) (ap is_running (phase_same s c)) (ap (λ (t : ComponentState). t.excused) (s.state_same c)))
       ∙ ap (list_all (λ c. not (is_some (last_run q c)) || is_running (phase q c) || is_excused q c)) (ptcs_same s)
 
   running_same : IsSame p q → (t : Target) → running p t ≡ running q t

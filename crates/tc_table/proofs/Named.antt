@@ -141,7 +141,8 @@ pub names_say_nothing : NamesSayNothing
 names_say_nothing n h g same = record {
   legal = (
     λ legal. legal_less n g (subst (IsLegal n) same (legal_more n h legal)),
-    λ legal. legal_less n h (subst (IsLegal n) (sym same) (legal_more n g legal)));
+    λ legal. legal_less n h (subst (IsLegal n) (sym same) (legal_more n g legal)),
+  );
   locals = λ c. sym (local_same h c) ∙ (ap (λ k. local k c) same ∙ local_same g c);
   overalls = sym (overall_same h) ∙ (ap overall same ∙ overall_same g);
 }

@@ -22,11 +22,24 @@ fn entry(op: Op, reply: Reply) -> Entry {
 fn calls_on_a_table(rt: HostRuntime) -> Result<(), Fail> {
     let mut table = Table::new(rt.alloc(), 2)?;
     assert_eq!(rt;
-        table.would(Run(0), &Op::Create { alive: true, name: None }),
+        table.would(
+            Run(0),
+            &Op::Create {
+                alive: true,
+                name: None
+            }
+        ),
         Reply::Made(Comp(1))
     );
     let moves = [
-        (0, Op::Create { alive: true, name: None }, Reply::Made(Comp(1))),
+        (
+            0,
+            Op::Create {
+                alive: true,
+                name: None,
+            },
+            Reply::Made(Comp(1)),
+        ),
         (0, start(1, 1), Reply::Ok),
         (1, Op::SetVerdict(UserVerdict::Fail), Reply::Ok),
         (1, Op::GetVerdict, Reply::Local(Verdict::Fail)),
@@ -59,7 +72,14 @@ fn stop_of_a_case(rt: HostRuntime) -> Result<(), Fail> {
     let mut state = CaseState::new(rt.alloc(), 2)?;
     let moves = [
         (1, Op::StopCase, Reply::Ended),
-        (0, Op::Create { alive: true, name: None }, Reply::Made(Comp(1))),
+        (
+            0,
+            Op::Create {
+                alive: true,
+                name: None,
+            },
+            Reply::Made(Comp(1)),
+        ),
         (0, start(1, 1), Reply::Ok),
         (1, Op::SetVerdict(UserVerdict::Pass), Reply::Ok),
         (1, Op::StopCase, Reply::Ok),
@@ -84,7 +104,13 @@ fn calls_on_a_state(rt: HostRuntime) -> Result<(), Fail> {
     let mut state = CaseState::new(rt.alloc(), 2)?;
     assert_eq!(rt; state.components(), 1);
     assert_eq!(rt;
-        state.would(Run(0), &Op::Create { alive: false, name: None }),
+        state.would(
+            Run(0),
+            &Op::Create {
+                alive: false,
+                name: None
+            }
+        ),
         Reply::Made(Comp(1))
     );
     let wait = Op::Wait {
@@ -92,7 +118,14 @@ fn calls_on_a_state(rt: HostRuntime) -> Result<(), Fail> {
         target: Target::All,
     };
     let moves = [
-        (0, Op::Create { alive: false, name: None }, Reply::Made(Comp(1))),
+        (
+            0,
+            Op::Create {
+                alive: false,
+                name: None,
+            },
+            Reply::Made(Comp(1)),
+        ),
         (0, start(1, 1), Reply::Ok),
         (0, wait, Reply::Parked),
         (1, Op::SetVerdict(UserVerdict::Inconc), Reply::Ok),
@@ -143,7 +176,13 @@ fn replay_check_of_a_list(rt: HostRuntime) -> Result<(), Fail> {
         target: Target::One(Comp(1)),
     };
     let mut list = [
-        entry(Op::Create { alive: false, name: None }, Reply::Made(Comp(1))),
+        entry(
+            Op::Create {
+                alive: false,
+                name: None,
+            },
+            Reply::Made(Comp(1)),
+        ),
         entry(Op::Stop(Group::One(Comp(1))), Reply::Ok),
         entry(Op::Alive(Target::One(Comp(1))), Reply::Answer(true)),
         entry(wait, Reply::Matched),
@@ -166,7 +205,13 @@ fn replay_check_of_a_list(rt: HostRuntime) -> Result<(), Fail> {
 #[test]
 fn replay_of_a_restart(rt: HostRuntime) -> Result<(), Fail> {
     let list = [
-        entry(Op::Create { alive: true, name: None }, Reply::Made(Comp(1))),
+        entry(
+            Op::Create {
+                alive: true,
+                name: None,
+            },
+            Reply::Made(Comp(1)),
+        ),
         entry(start(1, 1), Reply::Ok),
         entry(Op::Stop(Group::One(Comp(1))), Reply::Ok),
         entry(start(1, 2), Reply::Ok),

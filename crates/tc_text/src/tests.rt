@@ -2,7 +2,9 @@
 use super::*;
 use std::process::Abort;
 use std::test::Fail;
-use tc_entry::{Args, Comp, Fault, Group, Name, NoMemory, Op, Reply, Run, Target, UserVerdict, Verdict};
+use tc_entry::{
+    Args, Comp, Fault, Group, Name, NoMemory, Op, Reply, Run, Target, UserVerdict, Verdict,
+};
 
 fn is_spelled(
     rt: &impl Abort,
@@ -78,7 +80,13 @@ fn created_components_with_names(rt: HostRuntime) -> Result<(), NoMemory> {
     let out = &mut buffer;
     let longest = "abcdefghijklmnopqrstuvwxyz_ABC12";
     is_spelled(&rt, out, 0, named(false, "pump"), "0 create named pump")?;
-    is_spelled(&rt, out, 7, named(true, "pump"), "7 create alive named pump")?;
+    is_spelled(
+        &rt,
+        out,
+        7,
+        named(true, "pump"),
+        "7 create alive named pump",
+    )?;
     is_spelled(&rt, out, 0, named(false, "named"), "0 create named named")?;
     is_spelled(&rt, out, 0, named(false, "alive"), "0 create named alive")?;
     is_spelled(
@@ -121,8 +129,26 @@ fn created_components_with_names(rt: HostRuntime) -> Result<(), NoMemory> {
 fn operations_without_a_target(rt: HostRuntime) -> Result<(), NoMemory> {
     let mut buffer = Vec::new(rt.alloc());
     let out = &mut buffer;
-    is_spelled(&rt, out, 0, Op::Create { alive: false, name: None }, "0 create")?;
-    is_spelled(&rt, out, 63, Op::Create { alive: true, name: None }, "63 create alive")?;
+    is_spelled(
+        &rt,
+        out,
+        0,
+        Op::Create {
+            alive: false,
+            name: None,
+        },
+        "0 create",
+    )?;
+    is_spelled(
+        &rt,
+        out,
+        63,
+        Op::Create {
+            alive: true,
+            name: None,
+        },
+        "63 create alive",
+    )?;
     is_spelled(
         &rt,
         out,
@@ -338,7 +364,12 @@ fn move_lists(rt: HostRuntime) -> Result<(), Fail> {
         let list = read_moves(rt.alloc(), text).ok().ok_or("a list")?;
         assert_eq!(rt; list.behaviours, behaviours);
         assert_eq!(rt; list.moves.len(), 2);
-        assert!(rt; list.moves[0].1.same(&Op::Create { alive: false, name: None }));
+        assert!(rt;
+            list.moves[0].1.same(&Op::Create {
+                alive: false,
+                name: None
+            })
+        );
         assert_eq!(rt; list.moves[1].0, Run(255));
         assert!(rt; list.moves[1].1.same(&Op::Finish));
     }
@@ -466,6 +497,12 @@ fn a_start_is_no_short_move(rt: HostRuntime) {
         panic!(rt; "a create was not read")
     };
     assert_eq!(rt; run, Run(5));
-    assert_eq!(rt; short.op(), Op::Create { alive: true, name: None });
+    assert_eq!(rt;
+        short.op(),
+        Op::Create {
+            alive: true,
+            name: None
+        }
+    );
     assert_eq!(rt; rest, b"\n".as_slice());
 }

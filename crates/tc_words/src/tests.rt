@@ -61,7 +61,16 @@ fn words_of_a_restart(rt: HostRuntime) -> Result<(), Fail> {
     let mut words = Words::new(rt.alloc(), 2, keeper, Arc::try_clone(&board)?)?;
     let mut table = Table::new(rt.alloc(), 2)?;
     assert!(rt; !hand.meet(&board));
-    let calls = [(0, Op::Create { alive: true, name: None }), (0, start(1))];
+    let calls = [
+        (
+            0,
+            Op::Create {
+                alive: true,
+                name: None,
+            },
+        ),
+        (0, start(1)),
+    ];
     play_all(&mut words, &mut table, &calls)?;
     if !hand.meet(&board) {
         panic!(rt; "the word was not begun")
@@ -87,7 +96,13 @@ fn words_of_a_case_that_is_over(rt: HostRuntime) -> Result<(), Fail> {
     let mut words = Words::new(rt.alloc(), 3, keeper, board)?;
     let mut table = Table::new(rt.alloc(), 3)?;
     let calls = [
-        (0, Op::Create { alive: false, name: None }),
+        (
+            0,
+            Op::Create {
+                alive: false,
+                name: None,
+            },
+        ),
         (0, start(1)),
         (0, start(2)),
     ];

@@ -117,7 +117,8 @@ fn text_of(
     let mut out = Vec::new(alloc);
     for case in explored {
         if histories {
-            case.explored.append_witnesses(&mut out, &case.name, case.behaviours)?;
+            case.explored
+                .append_witnesses(&mut out, &case.name, case.behaviours)?;
         } else {
             case.explored.append_line(&mut out, &case.name)?;
         }

@@ -8,8 +8,7 @@ use Rattle.ttrun.proofs.explore.explore_script.Goals as goal
 pub returns-in_default-clause-refused : goal.returns-in_default-clause-refused
 returns-in_default-clause-refused g c =
     let out_is = c.as_slice-2.ensures.value ∙ (c.in_ok-out.ensures.text ∙ ap (flat_map (told_of c.args.histories)) c.as_slice.ensures.value) in
-    let status_is = c.in_ok-out.ensures.status ∙ ap status_of_all c.as_slice.ensures.value in
-    (
+    let status_is = c.in_ok-out.ensures.status ∙ ap status_of_all c.as_slice.ensures.value in (
       c.in_ok-states.states,
       c.in_ok-states.ensures.taken,
       explored_prefix c.args.histories c.in_ok-states.states c.in_ok-campaign.campaign c.as_slice-2.result.now c.in_ok-out.status
