@@ -1,7 +1,8 @@
 //! Command lines, of which each two words have a space between them.
 use super::*;
 use clap::error::ErrorKind;
-use std::alloc::{AllocError, Global};
+use std::alloc::{AllocError, AllocGlobal, Global};
+use std::process::Abort;
 use std::test::Fail;
 
 const CHECK: Result<Task<'static>, ErrorKind> = Ok(Task::Check);
@@ -48,9 +49,21 @@ fn words(alloc: Global, line: &str) -> Result<Vec<String>, AllocError> {
     Ok(words)
 }
 
+/// The line is read so.
+fn is_read<R: Abort + AllocGlobal>(
+    rt: &R,
+    line: &str,
+    wanted: Result<Task<'static>, ErrorKind>,
+) -> Result<(), Fail> {
+    let alloc = rt.alloc();
+    let words = words(alloc, line)?;
+    let read = read_task(alloc, words.as_slice()).map_err(|error| error.kind());
+    assert_eq!(rt; read, wanted, "{line}");
+    Ok(())
+}
+
 #[test]
 fn lines_and_tasks(rt: HostRuntime) -> Result<(), Fail> {
-    let alloc = rt.alloc();
     let lines = [
         ("ttrun", run(Form::Text, None)),
         ("ttrun --", run(Form::Text, None)),
@@ -94,38 +107,6 @@ fn lines_and_tasks(rt: HostRuntime) -> Result<(), Fail> {
         ("ttrun run --stop-on", NO_WORD),
         ("ttrun run --stop-on --csv", NO_WORD),
         ("ttrun run --csv=yes", TOO_MANY),
-        ("ttrun explore", explored(false, None)),
-        ("ttrun explore --history", explored(true, None)),
-        ("ttrun explore --states 7", explored(false, Some("7"))),
-        (
-            "ttrun explore --states=many --history",
-            explored(true, Some("many")),
-        ),
-        ("ttrun explore --states", NO_WORD),
-        ("ttrun explore --states 1 --states 1", CONFLICT),
-        ("ttrun explore --history --history", CONFLICT),
-        ("ttrun explore --csv", UNKNOWN),
-        ("ttrun explore --stop-on fail", UNKNOWN),
-        ("ttrun explore more", UNKNOWN),
-        ("ttrun run --states 7", UNKNOWN),
-        ("ttrun explore --help", HELP),
-        ("ttrun help explore", HELP),
-        ("ttrun --help", HELP),
-        ("ttrun -h", HELP),
-        ("ttrun help", HELP),
-        ("ttrun help run", HELP),
-        ("ttrun help check", HELP),
-        ("ttrun help replay", HELP),
-        ("ttrun help help", HELP),
-        ("ttrun run --help", HELP),
-        ("ttrun run -h", HELP),
-        ("ttrun check --help", HELP),
-        ("ttrun check -h", HELP),
-        ("ttrun replay --help", HELP),
-        ("ttrun replay -h", HELP),
-        ("ttrun --help check", HELP),
-        ("ttrun run --csv --help", HELP),
-        ("ttrun run --csv --history --help", HELP),
         ("ttrun help more", NO_COMMAND),
         ("ttrun --csv run", UNKNOWN),
         ("ttrun --csv", UNKNOWN),
@@ -151,16 +132,65 @@ fn lines_and_tasks(rt: HostRuntime) -> Result<(), Fail> {
         ("ttrun replay --stop-on fail", UNKNOWN),
     ];
     for (line, wanted) in lines {
-        let words = words(alloc, line)?;
-        let read = read_task(alloc, words.as_slice()).map_err(|error| error.kind());
-        assert_eq!(rt; read, wanted, "{line}");
+        is_read(&rt, line, wanted)?;
+    }
+    Ok(())
+}
+
+#[test]
+fn lines_that_explore(rt: HostRuntime) -> Result<(), Fail> {
+    let lines = [
+        ("ttrun explore", explored(false, None)),
+        ("ttrun explore --history", explored(true, None)),
+        ("ttrun explore --states 7", explored(false, Some("7"))),
+        (
+            "ttrun explore --states=many --history",
+            explored(true, Some("many")),
+        ),
+        ("ttrun explore --states", NO_WORD),
+        ("ttrun explore --states 1 --states 1", CONFLICT),
+        ("ttrun explore --history --history", CONFLICT),
+        ("ttrun explore --csv", UNKNOWN),
+        ("ttrun explore --stop-on fail", UNKNOWN),
+        ("ttrun explore more", UNKNOWN),
+        ("ttrun run --states 7", UNKNOWN),
+    ];
+    for (line, wanted) in lines {
+        is_read(&rt, line, wanted)?;
+    }
+    Ok(())
+}
+
+#[test]
+fn lines_that_ask_for_help(rt: HostRuntime) -> Result<(), Fail> {
+    let lines = [
+        ("ttrun explore --help", HELP),
+        ("ttrun help explore", HELP),
+        ("ttrun --help", HELP),
+        ("ttrun -h", HELP),
+        ("ttrun help", HELP),
+        ("ttrun help run", HELP),
+        ("ttrun help check", HELP),
+        ("ttrun help replay", HELP),
+        ("ttrun help help", HELP),
+        ("ttrun run --help", HELP),
+        ("ttrun run -h", HELP),
+        ("ttrun check --help", HELP),
+        ("ttrun check -h", HELP),
+        ("ttrun replay --help", HELP),
+        ("ttrun replay -h", HELP),
+        ("ttrun --help check", HELP),
+        ("ttrun run --csv --help", HELP),
+        ("ttrun run --csv --history --help", HELP),
+    ];
+    for (line, wanted) in lines {
+        is_read(&rt, line, wanted)?;
     }
     Ok(())
 }
 
 #[test]
 fn lines_with_live(rt: HostRuntime) -> Result<(), Fail> {
-    let alloc = rt.alloc();
     let lines = [
         ("ttrun run --live", live(Form::Text, None)),
         ("ttrun run --live --", live(Form::Text, None)),
@@ -203,9 +233,7 @@ fn lines_with_live(rt: HostRuntime) -> Result<(), Fail> {
         ("ttrun replay --live", UNKNOWN),
     ];
     for (line, wanted) in lines {
-        let words = words(alloc, line)?;
-        let read = read_task(alloc, words.as_slice()).map_err(|error| error.kind());
-        assert_eq!(rt; read, wanted, "{line}");
+        is_read(&rt, line, wanted)?;
     }
     Ok(())
 }

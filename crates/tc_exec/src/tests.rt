@@ -2,9 +2,11 @@
 mod hostile;
 
 use crate::*;
+use std::alloc::Global;
 use std::sync::atomic::{AtomicU64, Ordering};
 use std::sync::{Arc, Wait};
 use std::test::Fail;
+use std::thread::Threads;
 use tc_book::{CloseFault, Halt, Pass, open_case};
 use tc_entry::{
     Args, Comp, Entry, Fault, Group, Name, Op, Reply, Run, Target, UserVerdict, Verdict,
@@ -244,13 +246,17 @@ fn refused_cases(rt: HostRuntime) -> Result<(), Fail> {
     Ok(())
 }
 
-/// A case of so many behaviours: the first starts the others, each on a component of its own, and each of those sets pass.
-fn judged_by_all(rt: &HostRuntime, behaviours: u16) -> Result<(), Fail> {
-    let alloc = rt.alloc();
-    let theirs = *rt;
+/// The report of a case of so many behaviours: the first starts the others, each on a component of its own, and each of those
+/// sets pass.
+fn report_of<R: Threads + Wait + Copy + Send + 'static>(
+    rt: &R,
+    alloc: Global,
+    behaviours: u16,
+) -> Result<CaseReport, Fail> {
+    let rt = *rt;
     let first: Behaviour = Box::new(alloc, move |pass: Pass| {
         let mut pass = pass;
-        let made = starts_all(&theirs, &mut pass, behaviours);
+        let made = starts_all(&rt, &mut pass, behaviours);
         Back::after(pass, made)
     })?;
     let mut jobs = vec![in alloc; Job::new(first)]?;
@@ -258,24 +264,34 @@ fn judged_by_all(rt: &HostRuntime, behaviours: u16) -> Result<(), Fail> {
         let run: Behaviour = Box::new(alloc, move |pass: Pass| sets_pass(pass))?;
         jobs.push(Job::new(run))?;
     }
-    let report = run_case(rt, alloc, jobs, behaviours.saturating_sub(1))?;
-    assert_eq!(rt; report.logs.as_slice().len(), usize::from(behaviours));
-    assert_eq!(rt; report.verdict, Verdict::Pass);
+    Ok(run_case(&rt, alloc, jobs, behaviours.saturating_sub(1))?)
+}
+
+/// Whether so many runs were logged, and each but the first gave its component pass.
+fn is_judged_by_all(report: &CaseReport, behaviours: usize) -> bool {
     let locals = report.locals.as_slice();
-    assert_eq!(rt; locals.len(), usize::from(behaviours));
-    assert_eq!(rt; locals[0], Verdict::None);
-    assert!(rt; locals[1..].iter().all(|local| *local == Verdict::Pass));
-    Ok(())
+    let Some((first, others)) = locals.split_first() else {
+        return false;
+    };
+    locals.len() == behaviours
+        && report.logs.as_slice().len() == behaviours
+        && report.verdict == Verdict::Pass
+        && *first == Verdict::None
+        && others.iter().all(|local| *local == Verdict::Pass)
 }
 
 #[test]
 fn sixty_four_jobs(rt: HostRuntime) -> Result<(), Fail> {
-    judged_by_all(&rt, 64)
+    let report = report_of(&rt, rt.alloc(), 64)?;
+    assert!(rt; is_judged_by_all(&report, 64));
+    Ok(())
 }
 
 #[test]
 fn two_hundred_and_fifty_six_jobs(rt: HostRuntime) -> Result<(), Fail> {
-    judged_by_all(&rt, 256)
+    let report = report_of(&rt, rt.alloc(), 256)?;
+    assert!(rt; is_judged_by_all(&report, 256));
+    Ok(())
 }
 
 #[test]
