@@ -216,30 +216,28 @@ fn a_whole_case_is_never_torn(rt: HostRuntime) -> Result<(), Fail> {
     Ok(())
 }
 
-/// Lets the other threads go on.
-fn pause<R: Clock>(rt: &R) {
-    thread::sleep(rt, Duration::from_millis(2));
+/// Lets the other threads go on for so many milliseconds, if any.
+fn pause<R: Clock>(rt: &R, late: Option<u64>) {
+    if let Some(milliseconds) = late {
+        thread::sleep(rt, Duration::from_millis(milliseconds));
+    }
 }
 
-/// Starts run 1 on component 1 with component 2 as its argument, and kills all, late or not.
-fn kills_all<R: Wait + Clock>(rt: &R, pass: &mut Pass, is_late: bool) -> Result<(), Halt> {
+/// Starts run 1 on component 1 with component 2 as its argument, and kills all, so late.
+fn kills_all<R: Wait + Clock>(rt: &R, pass: &mut Pass, late: Option<u64>) -> Result<(), Halt> {
     let comp = pass.create(rt, true)?;
     let other = pass.create(rt, true)?;
     let mut args = Args::new();
     args.push(other);
     pass.start(rt, comp, Run(1), &args)?;
-    if is_late {
-        pause(rt);
-    }
+    pause(rt, late);
     pass.kill(rt, Group::All)
 }
 
-/// Starts run 2 on the component that is the argument, late or not.
-fn starts_argument<R: Wait + Clock>(rt: &R, pass: Pass, is_late: bool) -> Back {
+/// Starts run 2 on the component that is the argument, so late.
+fn starts_argument<R: Wait + Clock>(rt: &R, pass: Pass, late: Option<u64>) -> Back {
     let mut pass = pass;
-    if is_late {
-        pause(rt);
-    }
+    pause(rt, late);
     let made = match pass.args().first().copied() {
         Some(comp) => pass.start(rt, comp, Run(2), &Args::new()),
         None => Ok(()),
@@ -259,21 +257,33 @@ fn reply_of_start(alloc: Global, report: &CaseReport, ran: bool) -> Option<Reply
     Some(start.reply)
 }
 
-// 200 rounds, in 25 of which the Kill is late, and in 25 the Start: each was first in at least 20.
+/// How late the Kill is in this round, or the Start: in one of eight rounds each, and more where the threads have been slow.
+fn lateness(round: u32, place: u32) -> Option<u64> {
+    if round % 8 == place {
+        Some(if round < 200 { 2 } else { 20 })
+    } else {
+        None
+    }
+}
+
+// 200 rounds, in 25 of which the Kill is late, and in 25 the Start; and more until each was first in at least 20.
 #[test]
 fn start_against_kill(rt: HostRuntime) -> Result<(), Fail> {
     let alloc = rt.alloc();
     let (mut starts, mut kills) = (0u32, 0u32);
-    for round in 0..200u32 {
+    for round in 0..2000u32 {
+        if round >= 200 && starts >= 20 && kills >= 20 {
+            break;
+        }
         let flag = Arc::new(alloc, AtomicU64::new(0))?;
         let theirs = Arc::try_clone(&flag)?;
         let first: Behaviour = Box::new(alloc, move |pass: Pass| {
             let mut pass = pass;
-            let made = kills_all(&rt, &mut pass, round % 8 == 3);
+            let made = kills_all(&rt, &mut pass, lateness(round, 3));
             Back::after(pass, made)
         })?;
         let second: Behaviour = Box::new(alloc, move |pass: Pass| {
-            starts_argument(&rt, pass, round % 8 == 7)
+            starts_argument(&rt, pass, lateness(round, 7))
         })?;
         let third: Behaviour = Box::new(alloc, move |pass: Pass| {
             let mut pass = pass;
