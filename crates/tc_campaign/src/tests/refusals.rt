@@ -68,7 +68,7 @@ fn each_refusal_aborts(rt: HostRuntime) -> Result<(), Fail> {
         (None, 0, CaseError::NoBehaviours, "no behaviours"),
         (
             Some(Kind::Returns),
-            64,
+            256,
             CaseError::TooManyBehaviours,
             "too many behaviours"
         ),
