@@ -22,13 +22,14 @@ pub(crate) struct Refusal {
 /// How many behaviours a case of many has.
 const MANY: u16 = 64;
 
-/// How many behaviours a case has: of 40 cases one has as many as a case may have, 9 have many, and the others 2 to 40.
+/// How many behaviours a case has: of 40 cases 10 have many, and the others 2 to 40; one of 200 has as many as a case may
+/// have.
 fn behaviours_of(case: u32) -> u16
     ensures some { 1 ≤ result }
     ensures few { result ≤ BEHAVIOURS }
 {
     let place = case % 40;
-    match (place, place % 4) {
+    match (case % 200, place % 4) {
         (0, _) => BEHAVIOURS as u16,
         (_, 0) => MANY,
         _ => 1 + place as u16,

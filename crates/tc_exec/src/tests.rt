@@ -2,11 +2,9 @@
 mod hostile;
 
 use crate::*;
-use std::alloc::Global;
 use std::sync::atomic::{AtomicU64, Ordering};
 use std::sync::{Arc, Wait};
 use std::test::Fail;
-use std::thread::Threads;
 use tc_book::{CloseFault, Halt, Pass, open_case};
 use tc_entry::{
     Args, Comp, Entry, Fault, Group, Name, Op, Reply, Run, Target, UserVerdict, Verdict,
@@ -246,27 +244,6 @@ fn refused_cases(rt: HostRuntime) -> Result<(), Fail> {
     Ok(())
 }
 
-/// The report of a case of so many behaviours: the first starts the others, each on a component of its own, and each of those
-/// sets pass.
-fn report_of<R: Threads + Wait + Copy + Send + 'static>(
-    rt: &R,
-    alloc: Global,
-    behaviours: u16,
-) -> Result<CaseReport, Fail> {
-    let rt = *rt;
-    let first: Behaviour = Box::new(alloc, move |pass: Pass| {
-        let mut pass = pass;
-        let made = starts_all(&rt, &mut pass, behaviours);
-        Back::after(pass, made)
-    })?;
-    let mut jobs = vec![in alloc; Job::new(first)]?;
-    for _ in 1..behaviours {
-        let run: Behaviour = Box::new(alloc, move |pass: Pass| sets_pass(pass))?;
-        jobs.push(Job::new(run))?;
-    }
-    Ok(run_case(&rt, alloc, jobs, behaviours.saturating_sub(1))?)
-}
-
 /// Whether so many runs were logged, and each but the first gave its component pass.
 fn is_judged_by_all(report: &CaseReport, behaviours: usize) -> bool {
     let locals = report.locals.as_slice();
@@ -280,17 +257,28 @@ fn is_judged_by_all(report: &CaseReport, behaviours: usize) -> bool {
         && others.iter().all(|local| *local == Verdict::Pass)
 }
 
+/// Cases of 64 behaviours, and of as many as a case may have: the first starts the others, each on a component of its own, and
+/// each of those sets pass.
 #[test]
 fn sixty_four_jobs(rt: HostRuntime) -> Result<(), Fail> {
-    let report = report_of(&rt, rt.alloc(), 64)?;
-    assert!(rt; is_judged_by_all(&report, 64));
-    Ok(())
-}
-
-#[test]
-fn two_hundred_and_fifty_six_jobs(rt: HostRuntime) -> Result<(), Fail> {
-    let report = report_of(&rt, rt.alloc(), 256)?;
-    assert!(rt; is_judged_by_all(&report, 256));
+    let alloc = rt.alloc();
+    for behaviours in [64u16, 256] {
+        let first: Behaviour = Box::new(alloc, move |pass: Pass| {
+            let mut pass = pass;
+            let made = starts_all(&rt, &mut pass, behaviours);
+            Back::after(pass, made)
+        })?;
+        let mut jobs = vec![in alloc; Job::new(first)]?;
+        for _ in 1..behaviours {
+            let run: Behaviour = Box::new(alloc, move |pass: Pass| sets_pass(pass))?;
+            jobs.push(Job::new(run))?;
+        }
+        let report = run_case(&rt, alloc, jobs, behaviours.saturating_sub(1))?;
+        assert!(rt;
+            is_judged_by_all(&report, usize::from(behaviours)),
+            "{behaviours}"
+        );
+    }
     Ok(())
 }
 
