@@ -86,6 +86,7 @@ def counted() -> Iterator[Case]:
     """As many of a thing as may be, and one more."""
     yield Case("sixty_four_jobs", ("run",), many_behaviours(64), report_of_many(64))
     yield Case("two_hundred_and_fifty_six_jobs", ("run",), many_behaviours(256), report_of_many(256))
+    yield Case("two_hundred_and_fifty_six_jobs_live", ("run", "--live"), many_behaviours(256), report_of_many(256))
     yield Case("one_behaviour_too_many", ("run",), many_behaviours(257), status=3, errors=b"ttrun: line 1282: too many\n")
     passed = ["setverdict pass"]
     calls = "  setverdict pass -> ok;" * 1000
