@@ -29,7 +29,7 @@ IN_WORDS = ("crate", "question", "rule", "at most", "beyond it", "what there is"
 WIDTH = 120
 # A path in backquotes; but one with a word in capitals stands for many, and what is built is not there before.
 PATH = re.compile(r"[\w.*+-]+(?:/[\w.*+-]+)+/?|[\w-]+\.(?:rt|antt|edit|py|sh)")
-OF_MANY = re.compile(r"\*|\b[A-Z]{2,}\b(?!\.md)|/out/")
+OF_MANY = re.compile(r"\*|\b[A-Z]{2,}\b(?!\.md)|\b[A-Z]/[A-Z]\b|/out/")
 CODE = re.compile(r"`([^`]+)`")
 # A number that only a reader of some other list could look up.
 NUMBER = re.compile(r"(?<![\w.#])(?:[TDW](?:1?\d|2[0-2])[a-g]?|R(?:1[0-5]|[1-9])|B[1-5])(?![\w.(<])|\b[Rr]ows?[ _]\d+\b|\bw\d{1,2}_")
@@ -147,17 +147,21 @@ def squeezed(text: str) -> str:
 
 
 def quoted_code(documents: List[Document]) -> Iterator[str]:
-    """Blocks of Rattle that do not stand in a file of the crate that the document says they are of."""
+    """Blocks of Rattle that do not stand in a file of the crate that the document, right before them, says they are of."""
     for document in documents:
-        crates = re.findall(r"(?:program\s+is|code\s+below\s+is\s+of)\s+`crates/(\w+)`", "\n".join(document.lines))
-        if not crates and any(it.language == "rust" for it in document.blocks()):
-            yield f"{document.path}: it does not say of which crate its code is"
-        for crate in crates:
-            folder = os.path.join(TOP, "crates", crate, "src")
-            code = [squeezed(open(it, encoding="utf-8").read()) for it in files_below(folder, ".rt")]
-            for block in document.blocks():
-                if block.language == "rust" and not any(squeezed(block.text) in it for it in code):
-                    yield f"{document.path}:{block.line}: this code stands in no file of crates/{crate}"
+        text = "\n".join(document.lines)
+        named = [(text.count("\n", 0, it.start()) + 1, it.group(1))
+                 for it in re.finditer(r"(?:program\s+is|code\s+below\s+is\s+of)\s+`crates/(\w+)`", text)]
+        for block in document.blocks():
+            if block.language != "rust":
+                continue
+            before = [crate for line, crate in named if line < block.line]
+            if not before:
+                yield f"{document.path}:{block.line}: it does not say of which crate its code is"
+                continue
+            code = [squeezed(open(it, encoding="utf-8").read()) for it in files_below(os.path.join(TOP, "crates", before[-1], "src"), ".rt")]
+            if not any(squeezed(block.text) in it for it in code):
+                yield f"{document.path}:{block.line}: this code stands in no file of crates/{before[-1]}"
 
 
 def commands(documents: List[Document]) -> Iterator[str]:

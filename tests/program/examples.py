@@ -1,4 +1,5 @@
-"""Every file of examples/: scripts with their reports, tables and histories, and lists of moves with their replies."""
+"""Every file of examples/: scripts with their reports, tables and histories, charts of histories, and lists of moves with their
+replies."""
 from __future__ import annotations
 
 import os
@@ -13,7 +14,9 @@ from texts import Judged, check, read_history, replay, status_of
 
 TOP = os.path.dirname(os.path.dirname(os.path.dirname(os.path.abspath(__file__))))
 FOLDER = os.path.join(TOP, "examples")
-FORMS: Dict[str, Tuple[str, ...]] = {"report": (), "csv": ("--csv",), "history": ("--history",)}
+FORMS: Dict[str, Tuple[str, ...]] = {"report": (), "csv": ("--csv",), "history": ("--history",), "junit": ("--junit",)}
+# The version that a JUnit report tells: an example has that of the day it was made.
+VERSION = re.compile(rb'(?<=<property name="version" value=")[^"]*')
 
 
 def bytes_of(name: str) -> bytes:
@@ -24,9 +27,9 @@ def bytes_of(name: str) -> bytes:
 
 def status_in(form: str, output: bytes) -> int:
     """The status that belongs to a report, a table or histories, by the verdicts that stand there."""
-    patterns = {"report": rb"^verdict (\w+)$", "csv": rb",(\w+)$", "history": rb"^end (\w+)$"}
+    patterns = {"report": rb"^verdict (\w+)$", "csv": rb",(\w+)$", "history": rb"^end (\w+)$", "junit": rb'message="verdict (\w+)"'}
     verdicts = [it.decode() for it in re.findall(patterns[form], output, re.M) if it != b"verdict"]
-    return max(status_of(it) for it in verdicts)
+    return max((status_of(it) for it in verdicts), default=0)
 
 
 def words_of(parts: List[str]) -> Tuple[str, ...]:
@@ -78,13 +81,25 @@ def stands_as_history(stem: str) -> Judgement:
                      lambda program: faults_of_history(campaign_of(stem), bytes_of(f"{stem}.history")))
 
 
+def junit_of_example(name: str) -> Judgement:
+    """A JUnit report of examples/ is that of its script, but for the program's version."""
+
+    def judge(program: str) -> List[str]:
+        wanted = bytes_of(name)
+        ran = run(Case("", words_of(name.split(".")), bytes_of(f"{name.partition('.')[0]}.script")), program)
+        faults = difference("standard output", VERSION.sub(b"", wanted), VERSION.sub(b"", ran.output))
+        return faults + ([] if ran.status == status_in("junit", wanted) else [f"status {ran.status}"])
+
+    return Judgement(f"example_{name}", f"ttrun run --junit < examples/{name.partition('.')[0]}.script", judge)
+
+
 def faults_of_folder(names: List[str]) -> List[str]:
     """Files of examples/ that no test reads, and those that lack their outputs."""
     faults = []
     for name in names:
         stem, _, suffix = name.partition(".")
         suffix = suffix.rpartition(".")[2]
-        given = {"report": "script", "csv": "script", "history": "script", "replies": "moves"}.get(suffix)
+        given = {"report": "script", "csv": "script", "junit": "script", "history": "script", "chart": "history", "replies": "moves"}.get(suffix)
         if given is not None and f"{stem}.{given}" not in names or given is None and suffix not in ("script", "moves"):
             faults.append(f"{name} is no output of an example")
         lacking = {"script": [f"{stem}.report", f"{stem}.csv", f"{stem}.history"], "moves": [f"{stem}.replies"]}.get(suffix, [])
@@ -108,6 +123,11 @@ def tests_of(name: str) -> Iterator[Union[Case, Judgement]]:
     elif suffix == "history":
         yield Case(f"example_{name}", ("check",), text, check(text).output)
         yield stands_as_history(stem)
+    elif suffix == "junit":
+        yield junit_of_example(name)
+    elif suffix == "chart":
+        given = bytes_of(f"{stem}.history")
+        yield Case(f"example_{name}", ("report", "--chart"), given, text, status=status_in("history", given))
     elif suffix in ("report", "csv"):
         yield Case(f"example_{name}", words_of(name.split(".")), bytes_of(f"{stem}.script"), text, status=status_in(suffix, text))
 

@@ -4,7 +4,7 @@ from __future__ import annotations
 import random
 import re
 from collections import Counter
-from typing import Dict, List, Optional, Tuple
+from typing import Dict, List, NamedTuple, Optional, Tuple
 
 from case import Case, Ran, difference, run
 from courses import verdicts_of
@@ -19,7 +19,14 @@ BATCHES = 10
 CASES = 250
 # A test case with more states than so many in the plain search is left out, and counted.
 MOST = 1500
-LINE = re.compile(r"(?P<name>\w+)(?P<verdicts>(?: \w+)*) looked at (?P<states>\d+) states")
+LINE = re.compile(r"(?P<name>\w+)(?P<verdicts>(?: (?:none|pass|inconc|fail|error))*) (?P<ending>complete|looked at \d+ states)")
+
+
+class Told(NamedTuple):
+    """What the line of a test case says: its verdicts, and whether none is missed."""
+
+    verdicts: List[str]
+    is_complete: bool
 
 
 class Racing:
@@ -97,14 +104,14 @@ def drawn_cases(chance: random.Random, count: int) -> List[str]:
     return ["\n".join(Racing(chance, f"t{at}").lines) for at in range(count)]
 
 
-def found_in(output: bytes) -> Optional[Dict[str, List[str]]]:
-    """The verdicts of each test case by the lines of `explore`; none where a line is no such line."""
-    found: Dict[str, List[str]] = {}
+def found_in(output: bytes) -> Optional[Dict[str, Told]]:
+    """What the lines of `explore` say of each test case; none where a line is no such line."""
+    found: Dict[str, Told] = {}
     for line in output.decode().splitlines():
         parts = LINE.fullmatch(line)
         if parts is None:
             return None
-        found[parts["name"]] = parts["verdicts"].split()
+        found[parts["name"]] = Told(parts["verdicts"].split(), parts["ending"] == "complete")
     return found
 
 
@@ -113,7 +120,7 @@ def words_on(program: str, text: bytes, *words: str) -> Ran:
     return run(Case("", words, text), program)
 
 
-def faults_of_witnesses(program: str, text: bytes, campaign: Campaign, found: Dict[str, List[str]]) -> List[str]:
+def faults_of_witnesses(program: str, text: bytes, campaign: Campaign, found: Dict[str, Told]) -> List[str]:
     """What is wrong with the histories of `explore --history`: each is of its test case, and there is one for each verdict."""
     ran = words_on(program, text, "explore", "--history")
     blocks, refusal = read_history(ran.output)
@@ -122,7 +129,8 @@ def faults_of_witnesses(program: str, text: bytes, campaign: Campaign, found: Di
     cases = {it.name: it for it in campaign}
     faults = [fault for block in blocks for fault in faults_of_block(cases[block.name], block)]
     given = {name: sorted(it.verdict for it in blocks if it.name == name) for name in cases}
-    faults += [f"{name} has witnesses of {given[name]}, and was told {found[name]}" for name in cases if given[name] != sorted(found[name])]
+    faults += [f"{name} has witnesses of {given[name]}, and was told {found[name]}" for name in cases
+               if given[name] != sorted(found[name].verdicts)]
     wanted, checked = check(ran.output), words_on(program, ran.output, "check")
     return faults + difference("check", wanted.output, checked.output) + ["check refuses a witness"] * (checked.status != 0)
 
@@ -134,7 +142,8 @@ def verdicts_of_runs(program: str, text: bytes) -> List[Tuple[str, str]]:
 
 
 def every_verdict_is_told(seed: int) -> Judgement:
-    """Test cases that race: what `explore` tells is what a plain search finds, with a witness each; real runs give nothing else."""
+    """Test cases that race: what `explore` tells is what a plain search finds, with a witness each, and it says that this is complete
+    wherever that search ends; real runs give nothing else."""
 
     def judge(program: str) -> List[str]:
         chance, met = random.Random(f"racing {seed}"), Counter()
@@ -152,16 +161,16 @@ def every_verdict_is_told(seed: int) -> Judgement:
                 if verdicts is None:
                     met["left out"] += 1
                     continue
-                if found[name] != sorted(verdicts, key=VERDICTS.index):
-                    return [f"{name}: wanted {verdicts}, came {found[name]}", f"the script: {text.decode()}"]
+                if found[name] != Told(sorted(verdicts, key=VERDICTS.index), True):
+                    return [f"{name}: wanted {verdicts} complete, came {found[name]}", f"the script: {text.decode()}"]
                 met["cases"] += 1
                 met["races"] += len(verdicts) > 1
                 met.update(verdicts)
-            is_race = any(len(it) > 1 for it in found.values())
+            is_race = any(len(it.verdicts) > 1 for it in found.values())
             faults = [f"status: wanted {int(is_race)}, came {ran.status}"] * (ran.status != is_race)
             faults += faults_of_witnesses(program, text, campaign, found)
             faults += [f"{name} gave {verdict}, and was told {found[name]}" for name, verdict in verdicts_of_runs(program, text)
-                       if verdict not in found[name]]
+                       if verdict not in found[name].verdicts]
             if faults:
                 return faults[:5]
         return below(met, [("cases", 2400), ("races", 600), *((it, 150) for it in VERDICTS)])

@@ -17,13 +17,17 @@ from typing import List, Union
 
 sys.dont_write_bytecode = True
 
+import choosing
+import details
 import devices
 import documents_run
 import examples
+import explain
 import live
 import random_courses
 import random_moves
 import random_scripts
+import reports
 import rows
 import scripts
 import sizes
@@ -41,9 +45,11 @@ GROUPS = (
     ("words", words.cases, 60),
     ("devices", devices.cases, 75),
     ("sizes", sizes.cases, 29),
-    ("terminal", terminal.cases, 9),
+    ("terminal", terminal.cases, 19),
     ("live", live.cases, 40),
     ("examples", examples.cases, 42),
+    ("reports", reports.cases, 30),
+    ("explain", explain.cases, 100),
     ("documents", documents_run.cases, 2),
 )
 
@@ -57,6 +63,9 @@ def tests(seed: int) -> List[Test]:
             sys.exit(f"{name}: {len(group)} tests are fewer than {fewest}")
         found += group
     found += random_moves.judgements(seed) + random_scripts.judgements(seed) + random_courses.judgements(seed)
+    found += reports.judgements(seed)
+    found += choosing.judgements(seed)
+    found += details.judgements(seed)
     names = [it.name for it in found]
     twice = sorted({it for it in names if names.count(it) > 1})
     if twice:

@@ -1,4 +1,4 @@
-"""The program at a terminal: a person sees what a pipe gets, byte by byte, and nothing else."""
+"""The program at a terminal: a person sees what a pipe gets, byte by byte, and before an input that is typed one line, which says what is read."""
 from __future__ import annotations
 
 import os
@@ -23,8 +23,30 @@ CALLS: List[Tuple[str, Tuple[str, ...], bool, bytes]] = [
     ("refused_script", ("run",), False, b"testcase\n"),
     ("replies", ("replay",), False, b"behaviours 1\n"),
     ("typed_script", ("run",), True, examples.bytes_of("restart.script")),
+    ("typed_without_a_word", (), True, examples.bytes_of("restart.script")),
+    ("typed_live", ("run", "--live", "--csv"), True, examples.bytes_of("restart.script")),
     ("typed_refusal", ("check",), True, b"no history\n"),
+    ("typed_report", ("report", "--csv"), True, b"no history\n"),
+    ("typed_moves", ("replay",), True, b"behaviours 1\n0 getverdict\n"),
+    ("typed_search", ("explore",), True, examples.bytes_of("restart.script")),
+    ("typed_list", ("run", "--list"), True, examples.bytes_of("restart.script")),
+    ("typed_nothing", ("replay",), True, b""),
+    ("help_with_a_keyboard", ("run", "--help"), True, b""),
+    ("refused_with_a_keyboard", ("report",), True, b""),
+    ("refused_rule_with_a_keyboard", ("run", "--stop-on", "bad"), True, b""),
 ]
+# The calls in which a keyboard is no input, since none is read.
+UNREAD = ("help_with_a_keyboard", "refused_with_a_keyboard", "refused_rule_with_a_keyboard")
+HISTORIES = b"ttrun: reads histories from the terminal; end them with Ctrl-D\n"
+AWAITED = {"check": HISTORIES, "report": HISTORIES, "replay": b"ttrun: reads a list of moves from the terminal; end it with Ctrl-D\n"}
+SCRIPT = b"ttrun: reads a script from the terminal; end it with Ctrl-D\n"
+
+
+def awaited(name: str, words: Tuple[str, ...], typed: bool) -> bytes:
+    """The line before an input that is typed."""
+    if not typed or name in UNREAD:
+        return b""
+    return AWAITED.get(words[0], SCRIPT) if words else SCRIPT
 
 
 def seen(program: str, words: Tuple[str, ...], typed: bool, given: bytes) -> Tuple[bytes, int]:
@@ -63,7 +85,8 @@ def judgement(name: str, words: Tuple[str, ...], typed: bool, given: bytes) -> J
         output, status = seen(program, words, typed, given)
         faults = ["the pipes got nothing, or both got something"] if bool(ran.output) == bool(ran.errors) else []
         faults += [f"status {status}, and {ran.status} without a terminal"] if status != ran.status else []
-        return faults + difference("the terminal", (ran.output + ran.errors).replace(b"\n", b"\r\n"), output)
+        wanted = awaited(name, words, typed) + ran.output + ran.errors
+        return faults + difference("the terminal", wanted.replace(b"\n", b"\r\n"), output)
 
     return Judgement(f"at_a_terminal_{name}", " ".join(["ttrun", *words]), judge)
 

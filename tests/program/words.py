@@ -1,12 +1,15 @@
 """Command lines: help in all its spellings, and words that are refused before any input is read."""
 from __future__ import annotations
 
+import os
+import re
 from typing import List, Tuple
 
 from case import Case, SomeText, Word
 
-COMMANDS = ("run", "check", "replay")
-ALL_OPTIONS = ("--csv", "--history", "--live", "--stop-on")
+COMMANDS = ("run", "check", "replay", "explore", "report", "ttrun run < FILE", "No word at all means run")
+ALL_OPTIONS = ("--csv", "--history", "--junit", "--live", "--stop-on", "--list", "--only", "--shard", "ttrun run < FILE",
+               "none, pass, inconc, fail or error")
 
 # The words, and what the help names.
 HELP: List[Tuple[Tuple[str, ...], Tuple[str, ...]]] = [
@@ -14,6 +17,8 @@ HELP: List[Tuple[Tuple[str, ...], Tuple[str, ...]]] = [
     (("help", "run"), ALL_OPTIONS), (("run", "--help"), ALL_OPTIONS), (("run", "-h"), ALL_OPTIONS),
     (("run", "--csv", "--help"), ALL_OPTIONS), (("run", "--stop-on", "fail", "-h"), ALL_OPTIONS),
     (("help", "check"), ("check",)), (("check", "--help"), ("check",)), (("check", "-h"), ("check",)),
+    (("help", "explore"), ("--states", "--history")), (("explore", "-h"), ("--states", "--history")),
+    (("help", "report"), ("--csv", "--junit")), (("report", "--help"), ("--csv", "--junit")),
     (("help", "replay"), ("replay",)), (("replay", "--help"), ("replay",)), (("replay", "-h"), ("replay",)),
 ]
 
@@ -25,7 +30,7 @@ REFUSED: List[Tuple[str, Tuple[Word, ...]]] = [
     ("a_file", ("examples/workers.script",)),
     ("an_unknown_option", ("--frobnicate",)),
     ("an_unknown_letter", ("-x",)),
-    ("the_version", ("--version",)),
+    ("the_version_behind_run", ("run", "--version")),
     ("csv_without_run", ("--csv",)),
     ("history_without_run", ("--history",)),
     ("live_without_run", ("--live",)),
@@ -59,6 +64,29 @@ REFUSED: List[Tuple[str, Tuple[Word, ...]]] = [
     ("an_option_behind_check", ("check", "--csv")),
     ("a_word_behind_replay", ("replay", "more")),
     ("an_option_behind_replay", ("replay", "--stop-on", "fail")),
+    ("junit_and_csv", ("run", "--junit", "--csv")),
+    ("junit_and_history", ("run", "--history", "--junit")),
+    ("junit_live", ("run", "--junit", "--live")),
+    ("list_and_csv", ("run", "--list", "--csv")),
+    ("list_and_history", ("run", "--history", "--list")),
+    ("list_and_junit", ("run", "--list", "--junit")),
+    ("list_live", ("run", "--live", "--list")),
+    ("list_and_a_rule", ("run", "--list", "--stop-on", "fail")),
+    ("list_twice", ("run", "--list", "--list")),
+    ("shard_twice", ("run", "--shard", "1/2", "--shard", "1/2")),
+    ("only_without_a_name", ("run", "--only")),
+    ("shard_without_a_word", ("run", "--shard")),
+    ("list_without_run", ("--list",)),
+    ("only_behind_check", ("check", "--only", "a")),
+    ("shard_behind_explore", ("explore", "--shard", "1/2")),
+    ("report_without_a_form", ("report",)),
+    ("report_as_csv_and_junit", ("report", "--csv", "--junit")),
+    ("report_as_a_history", ("report", "--history")),
+    ("states_without_a_word", ("explore", "--states")),
+    ("details_and_history", ("explore", "--details", "--history")),
+    ("details_behind_run", ("run", "--details")),
+    ("states_twice", ("explore", "--states", "1", "--states", "1")),
+    ("csv_behind_explore", ("explore", "--csv")),
     ("two_commands", ("run", "check")),
     ("help_of_an_unknown_word", ("help", "frobnicate")),
     ("help_of_two", ("help", "run", "check")),
@@ -72,6 +100,45 @@ NOT_UTF8: List[Tuple[str, Tuple[Word, ...]]] = [
 ]
 
 
+TOP = os.path.dirname(os.path.dirname(os.path.dirname(os.path.abspath(__file__))))
+
+# A test case of two verdicts, whose search needs more states than one.
+RACE = (b"testcase t\nbehaviour main\ncreate p\nstart p w\nkill p\nend\n"
+        b"behaviour w\nsetverdict fail\nend\nend\n")
+
+STATES = b"ttrun: --states takes a number from 1 to 1000000\n"
+SHARD = b"ttrun: --shard takes K/N, with K from 1 to N\n"
+
+
+def first_match(path: str, pattern: str) -> str:
+    """What the pattern's group finds first in a file at the top."""
+    with open(os.path.join(TOP, path), encoding="utf-8") as text:
+        return re.search(pattern, text.read(), re.MULTILINE).group(1)
+
+
+def version_line() -> bytes:
+    """The line of the version: that of the newest changes, and the toolchain that the README names."""
+    version = first_match("CHANGELOG.md", r"^## ([0-9]+\.[0-9]+\.[0-9]+),")
+    toolchain = first_match("README.md", r"`rt version` here: `([^`]+)`")
+    return f"ttrun {version} ({toolchain})\n".encode()
+
+
+def of_explore() -> List[Case]:
+    """The words of `explore`, and its output where it can't be written."""
+    found = [Case("_".join(["unread_with_states", word or "empty", *form]), ("explore", *form, "--states", word), status=3, stays_open=True,
+                  errors=STATES)
+             for word in ("0", "x", "", "01", "1000001") for form in ((), ("--history",), ("--details",))]
+    found.append(Case("one_state_decides_nothing", ("explore", "--states", "1"), RACE, SomeText(("t undecided",)), status=3))
+    found.append(Case("five_states_are_not_complete", ("explore", "--states", "5"), RACE, b"t none fail looked at 5 states\n", status=1))
+    found.append(Case("a_race_is_told_complete", ("explore",), RACE, b"t none fail complete\n", status=1))
+    for form in ((), ("--history",), ("--details",)):
+        name = "_".join(it.strip("-") for it in ("explore", *form))
+        for device, redirect in (("full", ">/dev/full"), ("closed", ">&-")):
+            found.append(Case(f"output_{device}_{name}", ("explore", *form), RACE, status=3, redirect=redirect,
+                              errors=b"ttrun: write fault\n"))
+    return found
+
+
 def cases() -> List[Case]:
     """All of them. Standard input is a pipe that stays open: a program that reads it does not end."""
     found = [Case("help_" + "_".join(words), words, output=SomeText(("Usage", *named)), stays_open=True)
@@ -82,4 +149,10 @@ def cases() -> List[Case]:
     found += [Case("_".join(["unread_with", word, *form]), ("run", *form, "--stop-on", word), status=3, stays_open=True,
                    errors=b"ttrun: --stop-on takes none, pass, inconc, fail or error\n")
               for word in ("maybe", "PASS") for form in ((), ("--csv",), ("--history",))]
-    return found
+    found += [Case("_".join(["unread_with_shard", word or "empty", *form]), ("run", *form, "--shard", word), status=3,
+                   stays_open=True, errors=SHARD)
+              for word in ("", "1", "0/2", "3/2", "1/0", "01/2", "1/2/3", "a/b", "1/4294967296")
+              for form in ((), ("--csv",), ("--list",))]
+    found += [Case("version_" + "_".join(words), words, output=version_line(), stays_open=True)
+              for words in (("--version",), ("-V",), ("--version", "more"))]
+    return found + of_explore()

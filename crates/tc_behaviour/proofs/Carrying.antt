@@ -17,6 +17,7 @@ use Rattle.tc_step.specs.declared.step.Step.{Step}
 use Rattle.tc_step.specs.declared.step.Step.TheVariants as S
 use Rattle.tc_step.specs.Steps.{count_after}
 use Rattle.tc_book.specs.Passes.{PassState, ends_pass, has_ended, entry_of, added, By, IsCall, IsWait, Waits}
+use Rattle.tc_book.specs.Replies.{is_parked}
 use Rattle.tc_book.specs.declared.halt.Halt.{Halt}
 use Rattle.tc_book.specs.declared.halt.Halt.TheVariants as H
 use Rattle.tc_behaviour.specs.Calls.{Calls, operation, target, bound_behind}
@@ -40,8 +41,8 @@ args_same (S.Start on run args) bound p q r is = ap (λ x. x.args) is
 args_same (S.Stop g) bound p q r is = ap (λ x. x.args) is
 args_same (S.Kill g) bound p q r is = ap (λ x. x.args) is
 args_same (S.Ask status t) bound p q r is = ap (λ x. x.args) is
-args_same (S.Wait killed t) bound p q r (inl is) = ap (λ x. x.args) is
-args_same (S.Wait killed t) bound p q r (inr is) = ap (λ x. x.args) is
+args_same (S.Wait killed t) bound p q r (inl is, awake) = ap (λ x. x.args) is
+args_same (S.Wait killed t) bound p q r (inr is, awake) = ap (λ x. x.args) is
 args_same (S.SetVerdict v) bound p q r is = ap (λ x. x.args) is
 args_same S.StopCase bound p q r is = ap (λ x. x.args) is
 args_same S.GetVerdict bound p q r is = ap (λ x. x.args) is
@@ -98,12 +99,21 @@ plain_step said s op made p q answer result call is same on quiet no-wait =
     (λ r e. stepped s made p q r quiet (calls_plain s (p.args ++ made) p q r no-wait (e ∙ ap (λ o. added p o r) same)))
     (λ e. (e, refl))
 
+-- what a wait is answered by is not that it was parked
+awake : (P : Reply → Type 0) (same : Type 0) (answer : Result (Unit {0}) Halt) → By (λ _. R.Matched) P same answer → By (λ _. R.Matched) (λ r. P r × (is_parked r ≡ false)) same answer
+awake P same (Ok a) by = (by, refl)
+awake P same (Err H.Ended) by = (by, refl)
+awake P same (Err (H.Fault f)) by = (by, refl)
+awake P same (Err H.NoMemory) by = by
+
 -- a wait
 pub wait_step : (killed : Bool) (t : TargetPlace (Place ℕ)) (made : List Comp) (p q : PassState) (answer : Result (Unit {0}) Halt) (result : Result (Unit {0}) NoMemory)
     → IsWait killed (target p.me (p.args ++ made) t) p q answer → is_ok result ≡ not (is_refused answer) → has_ended p ≡ false
     → Carried (IsStepped (S.Wait killed t) (p.args ++ made) p (q.args ++ made) q) ((q ≡ p) × (made ≡ made)) result
 wait_step killed t made p q answer result wait is on =
-    carried (λ _. R.Matched) (Waits killed (target p.me (p.args ++ made) t) p q) (IsStepped (S.Wait killed t) (p.args ++ made) p (q.args ++ made) q) (q ≡ p) ((q ≡ p) × (made ≡ made)) answer result (wait.heard on) is
+    let asked : Reply → Type 0 = Waits killed (target p.me (p.args ++ made) t) p q in
+    carried (λ _. R.Matched) (λ r. asked r × (is_parked r ≡ false)) (IsStepped (S.Wait killed t) (p.args ++ made) p (q.args ++ made) q) (q ≡ p) ((q ≡ p) × (made ≡ made)) answer result
+    (awake asked (q ≡ p) answer (wait.heard on)) is
     (λ r called. stepped (S.Wait killed t) made p q r refl called) (λ e. (e, refl))
 
 -- two starts of the same run, component and arguments

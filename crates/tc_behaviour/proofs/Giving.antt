@@ -70,8 +70,8 @@ call_gives hs (S.Start on run args) bound p q r one is all =
 call_gives hs (S.Stop g) bound p q r one is all = added_gives hs p q (operation p.me bound (S.Stop g)) r is (operation_gives hs p.me bound (S.Stop g) one) all
 call_gives hs (S.Kill g) bound p q r one is all = added_gives hs p q (operation p.me bound (S.Kill g)) r is (operation_gives hs p.me bound (S.Kill g) one) all
 call_gives hs (S.Ask status t) bound p q r one is all = added_gives hs p q (operation p.me bound (S.Ask status t)) r is (operation_gives hs p.me bound (S.Ask status t) one) all
-call_gives hs (S.Wait killed t) bound p q r one (inl is) all = added_gives hs p q (O.Wait killed (target p.me bound t)) r is tt all
-call_gives hs (S.Wait killed t) bound p q r one (inr is) all =
+call_gives hs (S.Wait killed t) bound p q r one (inl is, awake) all = added_gives hs p q (O.Wait killed (target p.me bound t)) r is tt all
+call_gives hs (S.Wait killed t) bound p q r one (inr is, awake) all =
     let parked : PassState = added p (O.Wait killed (target p.me bound t)) R.Parked in
     added_gives hs parked q (O.Wake killed (target p.me bound t)) r is tt (added_gives hs p parked (O.Wait killed (target p.me bound t)) R.Parked refl tt all)
 call_gives hs (S.SetVerdict v) bound p q r one is all = added_gives hs p q (O.SetVerdict v) r is tt all

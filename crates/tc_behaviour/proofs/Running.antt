@@ -28,8 +28,8 @@ calls_grow (S.Start on run args) bound p q r is = (entry_of p.run (operation p.m
 calls_grow (S.Stop g) bound p q r is = (entry_of p.run (operation p.me bound (S.Stop g)) r ∷ [], is)
 calls_grow (S.Kill g) bound p q r is = (entry_of p.run (operation p.me bound (S.Kill g)) r ∷ [], is)
 calls_grow (S.Ask status t) bound p q r is = (entry_of p.run (operation p.me bound (S.Ask status t)) r ∷ [], is)
-calls_grow (S.Wait killed t) bound p q r (inl is) = (entry_of p.run (O.Wait killed (target p.me bound t)) r ∷ [], is)
-calls_grow (S.Wait killed t) bound p q r (inr is) =
+calls_grow (S.Wait killed t) bound p q r (inl is, awake) = (entry_of p.run (O.Wait killed (target p.me bound t)) r ∷ [], is)
+calls_grow (S.Wait killed t) bound p q r (inr is, awake) =
     let wait = entry_of p.run (O.Wait killed (target p.me bound t)) R.Parked in
     let wake = entry_of p.run (O.Wake killed (target p.me bound t)) r in
     (wait ∷ wake ∷ [], is ∙ ap (with_log p) (append_assoc p.log (wait ∷ []) (wake ∷ [])))

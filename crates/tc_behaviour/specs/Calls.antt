@@ -21,6 +21,7 @@ use Rattle.tc_step.specs.declared.step.Status.TheVariants as Asks
 use Rattle.tc_step.specs.declared.step.Step.{Step}
 use Rattle.tc_step.specs.declared.step.Step.TheVariants as S
 use Rattle.tc_book.specs.Passes.{PassState, has_ended, added, Waits}
+use Rattle.tc_book.specs.Replies.{is_parked}
 use Rattle.tc_exec.specs.declared.job.Ending.{Ending}
 use Rattle.tc_exec.specs.declared.job.Ending.TheVariants as E
 
@@ -64,9 +65,9 @@ operation me bound (S.SetVerdict v) = O.SetVerdict v
 operation me bound S.StopCase = O.StopCase
 operation me bound S.GetVerdict = O.GetVerdict
 
--- a step's call was replied so: it added its one entry, or, if it is a wait that was parked, the entry and one Wake
+-- a step's call was replied so: it added its one entry, or, if it is a wait that was parked, the entry and one Wake, which was not parked
 abbrev pub Calls : List Comp → Step → PassState → PassState → Reply → Type 0
-Calls bound (S.Wait killed t) before after reply = Waits killed (target before.me bound t) before after reply
+Calls bound (S.Wait killed t) before after reply = Waits killed (target before.me bound t) before after reply × (is_parked reply ≡ false)
 Calls bound s before after reply = after ≡ added before (operation before.me bound s) reply
 
 -- the components that are bound behind a step: a Create binds what it made

@@ -17,6 +17,7 @@ pub(crate) fn component(pass: &Pass, made: &[Comp], place: Place) -> Comp
         Place::Main => Comp(0),
         Place::Own => pass.me(),
         Place::Bound(index) => {
+            let index = usize::from(index);
             let args = pass.args();
             if index < args.len() {
                 args[index]

@@ -14,7 +14,7 @@ use tc_exec::{CaseReport, Everyone, Job, run_case, run_case_with};
 use tc_script::read_campaign;
 use tc_step::{GroupPlace, Place, Places, Status, Step, TargetPlace};
 
-fn one(index: usize) -> TargetPlace {
+fn one(index: u16) -> TargetPlace {
     TargetPlace::One(Place::Bound(index))
 }
 

@@ -10,7 +10,8 @@ use Rattle.tc_table.specs.declared.check.CheckFault.{CheckFault}
 use Rattle.tc_table.specs.declared.check.CheckFault.TheVariants as C
 use Rattle.tc_table.specs.Check.{DiffersAt, IsFaultOf}
 
-later_legal : (n : ℕ) (new past : List Entry) → IsLegal n (new ++ past) → IsLegal n past
+-- an earlier part of a legal history is legal
+pub later_legal : (n : ℕ) (new past : List Entry) → IsLegal n (new ++ past) → IsLegal n past
 later_legal n [] past h = h
 later_legal n (e ∷ es) past h = later_legal n es past h.1
 

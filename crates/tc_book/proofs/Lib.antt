@@ -14,3 +14,4 @@ pub mod Dealing
 pub mod Wholeness
 pub mod Skipping
 pub mod Differing
+pub mod StartedBefore

@@ -12,7 +12,7 @@ use Rattle.tc_book.specs.Passes.{LeftState}
 use Rattle.tc_merge.specs.Merge.{log_of}
 use Rattle.tc_merge.proofs.Kept.{others-merge}
 use Rattle.tc_board.specs.declared.record.Record.{Record}
-use Rattle.tc_book.specs.Closing.{is_of_run, IsFitting, IsWhole, IsMerged, run_log, merged}
+use Rattle.tc_book.specs.Closing.{all_started, is_of_run, IsFitting, IsWhole, IsMerged, run_log, merged}
 use Rattle.tc_book.proofs.Skipping.{starts_same}
 use Rattle.tc_book.specs.Parts.{part, logged}
 use Rattle.tc_book.specs.Inside.{ArePlaced, KnowsStarts, KnowsParts}
@@ -73,11 +73,12 @@ pub record AreLogs (n : ℕ) (parts : List (List Entry)) (logs : List RunLog) (l
 
 -- where these are what is kept of the merged history, what came back is whole by it
 pub whole_by : (n : ℕ) (starts : List (Option (Comp × List Comp))) (parts : List (List Entry)) (h : List Entry) (lefts : List LeftState) (logs : List RunLog) →
-    KnowsStarts starts (reverse h) → KnowsParts parts h → AreLogs n parts logs lefts → ArePlaced n starts lefts → is_over (reverse h) ≡ true → length h ≡ logged logs → IsWhole n h lefts
-whole_by n starts parts h lefts logs known parts_known put placed over as_long =
+    KnowsStarts starts (reverse h) → KnowsParts parts h → AreLogs n parts logs lefts → ArePlaced n starts lefts → is_over (reverse h) ≡ true → all_started (reverse h) ≡ true → length h ≡ logged logs → IsWhole n h lefts
+whole_by n starts parts h lefts logs known parts_known put placed over started as_long =
     record {
       one_each = placed.one_each;
       over = over;
+      started = started;
       fitting = λ k d q.
           let l : LeftState = get_or lefts k d in
           let place = placed.each k d q in

@@ -1,5 +1,5 @@
 -- When a case may be closed: what came back is whole.
-use Rattle.std.specs.Prelude.{ℕ, ◌≡◌, ◌<◌, ◌==◌, [], Bool, true, None, List, length, map, reverse, All, count_by, sum_by}
+use Rattle.std.specs.Prelude.{ℕ, ◌≡◌, ◌<◌, ◌==◌, ◌&&◌, ◌∷◌, [], Bool, true, None, is_some, List, length, map, reverse, All, count_by, sum_by}
 use Rattle.tc_board.specs.declared.record.Record.{Record}
 use Rattle.tc_board.specs.declared.record.Record.TheVariants.{Unbegun}
 use Rattle.tc_entry.specs.declared.entry.Entry.{Entry}
@@ -32,11 +32,18 @@ pub record IsFitting (history : List Entry) (l : LeftState) : Type 0 where
   -- the log of a run that was never started is empty
   pub unstarted : comp_of (reverse history) l.run.0 ≡ None → l.log ≡ []
 
+-- the caller of each entry was started before it
+abbrev pub all_started : List Entry → Bool
+all_started [] = true
+all_started (e ∷ past) = is_some (comp_of past e.caller.0) && all_started past
+
 -- what came back is whole
 pub record IsWhole (n : ℕ) (history : List Entry) (lefts : List LeftState) : Type 0 where
   pub one_each : IsOneEach n lefts
   pub over : is_over (reverse history) ≡ true
   pub fitting : All (IsFitting history) lefts
+  -- no run makes a call before it was started
+  pub started : all_started (reverse history) ≡ true
   -- the history is as long as the logs together
   pub as_long : length history ≡ sum_by (λ l. length l.log) lefts
 

@@ -5,6 +5,7 @@ use Rattle.tc_entry.specs.declared.entry.Entry.{Entry}
 use Rattle.tc_table.specs.History.{comp_of}
 use Rattle.tc_merge.specs.declared.run_log.RunLog.{RunLog}
 pub use Rattle.tc_merge.specs.Merge.{logged}
+-- the part of a history by one run, which the merge defines
 unfoldable pub use Rattle.tc_merge.specs.Parts.{part}
 pub use Rattle.tc_merge.specs.Parts.{is_by}
 

@@ -103,7 +103,7 @@ impl Book {
         let carried = self.words.carried_to(&self.table, &op);
         let reply = self.table.play(run, op.copy())?;
         self.words.follow(&self.table, carried);
-        note_start(&mut self.starts, op, reply);
+        note_start(&mut self.starts, &op, reply);
         if matches!(reply, Reply::Parked) {
             let now = Places {
                 leave: places_of(&self.places, run).leave,

@@ -27,7 +27,7 @@ pub struct Closed {
 #[derive(Clone, Copy, PartialEq, Eq, Debug, Error)]
 pub enum CloseFault {
     /// What came back is not whole: not one of each run, a log that its run's word has not counted, a reply that is not the
-    /// table's, the case not over, or a log that is not its run's part.
+    /// table's, the case not over, a log that is not its run's part, or an entry of a run that was started only behind it.
     Torn,
     /// Memory was refused.
     NoMemory,

@@ -17,7 +17,7 @@ fn is_end_of(op: &Op, comp: u32) -> bool
 
 /// Whether an entry by a run on component own ends its pass.
 #[tactic(auto, unfolding(crate::specs::Passes::ends_pass))]
-pub(crate) fn ends_pass(own: Comp, entry: &Entry) -> bool
+pub fn ends_pass(own: Comp, entry: &Entry) -> bool
     ensures { result ≡ passes.ends_pass own entry.now }
 {
     match entry.reply {

@@ -2,6 +2,7 @@
 #![tactic(auto)]
 
 mod book;
+mod callers;
 mod case;
 mod close;
 mod closed;
@@ -25,9 +26,11 @@ mod wake_up;
 
 pub use case::{close_case, open_case};
 pub use closed::{CloseFault, Closed};
+pub use ending::ends_pass;
 pub use halt::Halt;
 pub use left::Left;
 pub use pass::Pass;
+pub use report::locals_of;
 pub use shared::Shared;
 pub use tc_entry::Sequence;
 pub use tc_merge::RunLog;

@@ -11,6 +11,7 @@ ghost use Rattle.tc_book.specs.Replies.{suits, is_parked};
 ghost use Rattle.tc_book.specs.Report.{IsOneHistory};
 ghost use Rattle.tc_book.specs.Starts as starts;
 ghost use Rattle.tc_book.specs.Waking.{NobodyWakes, wakes};
+ghost use Rattle.tc_book.specs.declared.until.Until.TheVariants as untils;
 ghost use Rattle.tc_merge.specs.Merge.{is_verdict_call};
 ghost use Rattle.tc_board.specs.Hand.{answered};
 ghost use Rattle.tc_board.specs.declared.answer.Answer.TheVariants.{Met};
@@ -53,14 +54,6 @@ impl LoggedBook {
         }
     }
 
-    /// Notes that a run waits.
-    pub(crate) fn wait_for(&mut self, run: Run, until: Until)
-        ensures book { self.new.book ≡ self.old.book }
-        ensures noted { self.new.waiting.items ≡ set self.old.waiting.items run.0 (Some until) }
-    {
-        self.note(run, Some(until));
-    }
-
     /// Whether a run waits and may go on now.
     pub(crate) fn wakes(&self, run: Run) -> bool
         ensures { result ≡ wakes self.now.book run (slice_index_or self.now.waiting.items run.0 None) }
@@ -97,7 +90,8 @@ impl LoggedBook {
         Ok((reply, WakeUp::new(tells)))
     }
 
-    /// Adds the Wake of the parked wait of the log's run to the history and to the log, unless it would be parked again.
+    /// Adds the Wake of the parked wait of the log's run to the history and to the log, unless it would be parked again: then
+    /// the run waits for it.
     pub(crate) fn wake(
         &mut self,
         killed: bool,
@@ -107,7 +101,7 @@ impl LoggedBook {
         requires room { 1 ≤ log.old.room }
         ensures none { IfNone result (self.new.book ≡ self.old.book) }
         ensures none_logged { IfNone result (log.new ≡ log.old) }
-        ensures waits_on { IfNone result (self.new.waiting.items ≡ self.old.waiting.items) }
+        ensures waits_on { IfNone result (self.new.waiting.items ≡ set self.old.waiting.items log.old.run.0 (Some (untils.Wake killed target))) }
         ensures asleep { IfNone result (IsTrue (places_at self.old.book.places log.old.run).wake → reply_to self.old.book log.old.run (ops.Wake killed target) ≡ replies.Parked) }
         ensures waits_no_more { OnSome result (self.new.waiting.items ≡ set self.old.waiting.items log.old.run.0 None) }
         ensures behaviours { self.new.book.behaviours ≡ self.old.book.behaviours }
@@ -122,7 +116,10 @@ impl LoggedBook {
         ensures entries { IfSome result (λ r. log.new.entries ≡ with_own log.old (ops.Wake killed target) r.0) }
         ensures room { IfSome result (λ _. log.new.room + 1 ≡ log.old.room) }
     {
-        let (reply, tells) = self.book.call_wake(log.run(), killed, target)?;
+        let Some((reply, tells)) = self.book.call_wake(log.run(), killed, target) else {
+            self.note(log.run(), Some(Until::Wake { killed, target }));
+            return None;
+        };
         self.note(log.run(), None);
         log.add(Op::Wake { killed, target }, reply);
         Some((reply, WakeUp::new(tells)))
@@ -165,7 +162,7 @@ impl LoggedBook {
     }
 
     /// What one that waits for a run's start is answered: its start, once its hand has met its word, or none where the case is
-    /// over without. Nothing while it waits on.
+    /// over without. Nothing while it waits on for its start.
     pub(crate) fn start_or_end(
         &mut self,
         run: Run,
@@ -174,7 +171,7 @@ impl LoggedBook {
         ensures book { self.new.book ≡ self.old.book }
         ensures waits { IfNone result (starts.start_of (past_of self.old.book) run.0 ≡ None → history.is_over (past_of self.old.book) ≡ false) }
         ensures unmet { IfNone result (hand.new ≡ hand.old) }
-        ensures waits_on { IfNone result (self.new.waiting.items ≡ self.old.waiting.items) }
+        ensures waits_on { IfNone result (self.new.waiting.items ≡ set self.old.waiting.items run.0 (Some untils.Start)) }
         ensures waits_no_more { OnSome result (self.new.waiting.items ≡ set self.old.waiting.items run.0 None) }
         ensures met { IfSome result (λ s. OnSome s (hand.new ≡ answered hand.old Met)) }
         ensures answers { IfSome result (λ s. starts.IsAwaitedIn self.old.book.behaviours (past_of self.old.book) run.0 s) }
@@ -189,6 +186,7 @@ impl LoggedBook {
             self.note(run, None);
             Some(start)
         } else {
+            self.note(run, Some(Until::Start));
             None
         }
     }

@@ -63,8 +63,8 @@ fn local_of(state: &CaseState, comp: u32) -> Verdict
     }
 }
 
-/// The local verdict of each component.
-fn locals_of(alloc: Global, state: &CaseState) -> Result<Vec<Verdict>, NoMemory>
+/// The local verdict of each component of a case of which this state is kept.
+pub fn locals_of(alloc: Global, state: &CaseState) -> Result<Vec<Verdict>, NoMemory>
     ensures { (past : List AnyEntry) → StandsFor state.now past → IfOk result (λ v. v.items ≡ map (verdicts.local past) (comps past)) }
 {
     let mut locals = Vec::new(alloc);

@@ -18,7 +18,6 @@ use crate::left::Left;
 use crate::log::Log;
 use crate::logged_book::LoggedBook;
 use crate::run_hand::RunHand;
-use crate::until::Until;
 use std::alloc::{AllocError, Global};
 use std::sync::{Arc, Mutex, Wait};
 use tc_entry::{Args, Comp, Op, Reply, Target};
@@ -91,7 +90,6 @@ impl Shared {
                 wake_up.give(&self.held.changed, &book);
                 return reply;
             }
-            book.wait_for(log.run(), Until::Wake { killed, target });
             book = self.held.changed.of(log.run()).wait(rt, book);
         }
         unreachable!()
@@ -144,7 +142,6 @@ impl Shared {
             if let Some(start) = book.start_or_end(run, hand) {
                 return start;
             }
-            book.wait_for(run, Until::Start);
             book = self.held.changed.of(run).wait(rt, book);
         }
         unreachable!()

@@ -47,15 +47,15 @@ pub(crate) fn comp_of(starts: &[Option<(Comp, Args)>], run: Run) -> Option<Comp>
 
 /// Notes the run that an entry starts, unless it was started before.
 #[tactic(auto, using(crate::proofs::Starting::note_rules))]
-pub(crate) fn note_start(starts: &mut Vec<Option<(Comp, Args)>>, op: Op, reply: Reply)
-    requires { StartsBelow op reply (length starts.old.items) }
+pub(crate) fn note_start(starts: &mut Vec<Option<(Comp, Args)>>, op: &Op, reply: Reply)
+    requires { StartsBelow op.now reply (length starts.old.items) }
     ensures len { length starts.new.items ≡ length starts.old.items }
-    ensures noted { (b : ℕ) → start_at starts.new.items b ≡ first_some (start_at starts.old.items b) (start_in op reply b) }
+    ensures noted { (b : ℕ) → start_at starts.new.items b ≡ first_some (start_at starts.old.items b) (start_in op.now reply b) }
 {
     if let (Op::Start { comp, run, args }, Reply::Ok) = (op, reply) {
         let i = usize::from(run.0);
         if starts[i].is_none() {
-            starts[i] = Some((comp, args));
+            starts[i] = Some((*comp, args.copy()));
         }
     }
 }

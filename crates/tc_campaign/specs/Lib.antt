@@ -2,5 +2,6 @@
 pub mod Stopping
 pub mod Outline
 pub mod Campaign
+pub mod Choosing
 pub mod Live
 pub mod Inside

@@ -3,6 +3,7 @@
 
 mod campaign;
 mod case;
+mod choosing;
 mod kept;
 mod live;
 mod step;
@@ -10,10 +11,11 @@ mod stopping;
 
 pub use campaign::{run_campaign, run_campaign_with};
 pub use case::Case;
+pub use choosing::{Shard, choose, have_all};
 pub use live::run_campaign_live;
 pub use tc_report::{
-    CampaignEnd, Finished, Form, LiveWriter, Observer, OutFault, Results, Tally, abort_line,
-    status_of, tally, write_csv, write_history, write_text,
+    CampaignEnd, Finished, Form, LiveWriter, Observer, OutFault, Results, Tally, status_of, tally,
+    write_abort, write_csv, write_history, write_text,
 };
 
 #[cfg(test)]

@@ -2,6 +2,7 @@
 ghost use Rattle.std.specs.Prelude.{IfOk};
 ghost use Rattle.tc_campaign.specs.Outline.{HasNames};
 
+mod choosing;
 mod observers;
 mod refusals;
 mod scripts;
@@ -119,7 +120,7 @@ aborted at t: no thread
     assert_eq!(rt; text.as_slice(), wanted.as_bytes());
     assert_eq!(rt; status_of(&results), 3);
     let mut line = Vec::new(alloc);
-    assert_eq!(rt; abort_line(&results, &mut line), Ok(true));
+    assert_eq!(rt; write_abort(&results, &mut line), Ok(true));
     let wanted = b"ttrun: aborted at t: no thread\n";
     assert_eq!(rt; line.as_slice(), wanted.as_slice());
     Ok(())
@@ -257,7 +258,7 @@ fn refused_case_aborts(rt: HostRuntime) -> Result<(), Fail> {
     let results = run_campaign(&rt, alloc, cases, Some(Verdict::Error), 64);
     assert_eq!(rt; tally(&results).fail, 1);
     let mut line = Vec::new(alloc);
-    assert_eq!(rt; abort_line(&results, &mut line), Ok(true));
+    assert_eq!(rt; write_abort(&results, &mut line), Ok(true));
     let wanted = b"ttrun: aborted at b: no behaviours\n";
     assert_eq!(rt; line.as_slice(), wanted.as_slice());
     Ok(())

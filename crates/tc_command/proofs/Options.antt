@@ -1,13 +1,15 @@
 -- The options among the words, as the matches hold them.
-use Rattle.std.proofs.Common.{◌≡◌, ◌∙◌, refl, ap, sym, Option, Some, None}
-use Rattle.std.specs.Prelude.{find, option_map, option_and_then}
+use Rattle.std.proofs.Common.{◌≡◌, ◌∙◌, refl, ap, sym, Option, Some, None, List, []}
+use Rattle.std.specs.Prelude.{find, option_map, option_and_then, unwrap_or}
+use Rattle.std.specs.Borrow.{Bor}
 use Rattle.std.specs.Str.{bytes_eq}
 use Rattle.clap.specs.Facts.{Entry}
-use Rattle.clap.specs.Matches.{matched_of}
-use Rattle.clap.specs.Walk.{Row, Text, row_of, rows_of}
+use Rattle.clap.specs.Matches.{matched_of, raw_values}
+use Rattle.clap.specs.Walk.{Row, Text, row_of, rows_of, texts}
 use Rattle.clap.specs.declared.parser.matches.Found.{Found}
 use Rattle.clap.specs.declared.parser.matches.MatchedArg.{MatchedArg}
-use Rattle.clap.proofs.WalkLemmas.{find_row}
+use Rattle.clap.proofs.WalkLemmas.{find_row, raw_values-rows}
+use Rattle.tc_command.specs.Asked.{words_of}
 
 -- the source of an option's value, by its row
 pub source_of : (f : Found) (id : Text) → option_and_then (λ (a : MatchedArg). a.source) (matched_of f id)
@@ -18,3 +20,11 @@ source_of f id = go (find (λ (e : Entry). bytes_eq e.0.now id) f.entries.items)
         ≡ option_and_then (λ (r : Row). r.source) (option_map row_of o)
     go None = refl
     go (Some e) = refl
+
+-- the values of an option, by its row
+pub words_are : (f : Found) (id : Text) (ws : List (Bor Text)) → option_map raw_values (matched_of f id) ≡ Some (texts ws) → texts ws ≡ words_of id (rows_of f)
+words_are f id ws is = ap (λ o. unwrap_or o []) (sym is ∙ raw_values-rows f id)
+
+-- without a row there is none
+pub no_words : (f : Found) (id : Text) → option_map raw_values (matched_of f id) ≡ None → [] ≡ words_of id (rows_of f)
+no_words f id is = ap (λ o. unwrap_or o []) (sym is ∙ raw_values-rows f id)

@@ -2,3 +2,4 @@
 pub mod Command
 pub mod Asked
 pub mod Lines
+pub mod Refusal

@@ -4,9 +4,11 @@
 mod command;
 pub mod laws;
 mod read;
+mod refusal;
 mod task;
 #[cfg(test)]
 mod tests;
 
+pub use command::VERSION;
 pub use read::read_task;
-pub use task::{Form, Task};
+pub use task::{Choice, Form, ReportForm, RunOptions, Task};

@@ -9,25 +9,69 @@ pub enum Form {
     Csv,
     /// The history of each test case.
     History,
+    /// A test suite of JUnit's XML.
+    Junit,
 }
 
-/// What the program is asked for.
+/// In which form histories are reported.
+#[derive(Clone, Copy, Debug, PartialEq, Eq)]
+pub enum ReportForm {
+    /// A table, as CSV.
+    Csv,
+    /// A test suite of JUnit's XML.
+    Junit,
+    /// A message sequence chart.
+    Chart,
+}
+
+/// Which test cases of a script are chosen.
+#[derive(Debug, Drop, PartialEq, Eq)]
+pub struct Choice<'a> {
+    /// The words of `--only` in their order; without one all test cases are chosen.
+    pub only: Vec<&'a str>,
+    /// The word of `--shard`.
+    pub shard: Option<&'a str>,
+}
+
+/// How a campaign is run.
+#[derive(Debug, Drop, PartialEq, Eq)]
+pub struct RunOptions<'a> {
+    /// How its results are written.
+    pub form: Form,
+    /// Whether each test case is written as it finishes.
+    pub live: bool,
+    /// The word of `--stop-on`.
+    pub stop_on: Option<&'a str>,
+    /// Which test cases are run.
+    pub choice: Choice<'a>,
+    /// Whether a fault of the script is explained.
+    pub explains: bool,
+}
+
+/// What the program is asked for. A task that explains says behind the line of a fault what stands there.
 #[derive(Debug, Drop, PartialEq, Eq)]
 pub enum Task<'a> {
     /// Replay a list of moves.
-    Replay,
-    /// Run a campaign: how its results are written, whether each test case is written as it finishes, and the word of
-    /// `--stop-on`.
-    Run {
-        form: Form,
-        live: bool,
-        stop_on: Option<&'a str>,
+    Replay {
+        explains: bool,
     },
+    /// Run a campaign.
+    Run(RunOptions<'a>),
+    /// Print the names of the test cases, and run none.
+    List(Choice<'a>),
     /// Check histories.
-    Check,
-    /// Explore a campaign: whether the histories of the witnesses are written, and the word of `--states`.
+    Check {
+        explains: bool,
+    },
+    /// Report histories in this form.
+    Report {
+        form: ReportForm,
+        explains: bool,
+    },
+    /// Explore a campaign: whether the histories of the witnesses are written or details told, and the word of `--states`.
     Explore {
         histories: bool,
+        details: bool,
         states: Option<&'a str>,
     },
 }

@@ -5,9 +5,9 @@ use std::alloc::{AllocError, AllocGlobal, Global};
 use std::process::Abort;
 use std::test::Fail;
 
-const CHECK: Result<Task<'static>, ErrorKind> = Ok(Task::Check);
+const CHECK: Result<Task<'static>, ErrorKind> = Ok(Task::Check { explains: false });
 
-const REPLAY: Result<Task<'static>, ErrorKind> = Ok(Task::Replay);
+const REPLAY: Result<Task<'static>, ErrorKind> = Ok(Task::Replay { explains: false });
 
 const HELP: Result<Task<'static>, ErrorKind> = Err(ErrorKind::DisplayHelp);
 
@@ -21,24 +21,78 @@ const NO_WORD: Result<Task<'static>, ErrorKind> = Err(ErrorKind::InvalidValue);
 
 const TOO_MANY: Result<Task<'static>, ErrorKind> = Err(ErrorKind::TooManyValues);
 
-fn run(form: Form, stop_on: Option<&'static str>) -> Result<Task<'static>, ErrorKind> {
-    Ok(Task::Run {
-        form,
-        live: false,
-        stop_on,
-    })
+const VERSION_SHOWN: Result<Task<'static>, ErrorKind> = Err(ErrorKind::DisplayVersion);
+
+const NO_FORM: Result<Task<'static>, ErrorKind> = Err(ErrorKind::MissingRequiredArgument);
+
+fn all(alloc: Global) -> Choice<'static> {
+    Choice {
+        only: Vec::new(alloc),
+        shard: None,
+    }
 }
 
-fn live(form: Form, stop_on: Option<&'static str>) -> Result<Task<'static>, ErrorKind> {
-    Ok(Task::Run {
+fn options(
+    alloc: Global,
+    form: Form,
+    live: bool,
+    stop_on: Option<&'static str>,
+) -> RunOptions<'static> {
+    RunOptions {
         form,
-        live: true,
+        live,
         stop_on,
-    })
+        choice: all(alloc),
+        explains: false,
+    }
+}
+
+fn run(
+    alloc: Global,
+    form: Form,
+    stop_on: Option<&'static str>,
+) -> Result<Task<'static>, ErrorKind> {
+    Ok(Task::Run(options(alloc, form, false, stop_on)))
+}
+
+fn live(
+    alloc: Global,
+    form: Form,
+    stop_on: Option<&'static str>,
+) -> Result<Task<'static>, ErrorKind> {
+    Ok(Task::Run(options(alloc, form, true, stop_on)))
 }
 
 fn explored(histories: bool, states: Option<&'static str>) -> Result<Task<'static>, ErrorKind> {
-    Ok(Task::Explore { histories, states })
+    Ok(Task::Explore {
+        histories,
+        details: false,
+        states,
+    })
+}
+
+fn detailed(states: Option<&'static str>) -> Result<Task<'static>, ErrorKind> {
+    Ok(Task::Explore {
+        histories: false,
+        details: true,
+        states,
+    })
+}
+
+fn reported(form: ReportForm) -> Result<Task<'static>, ErrorKind> {
+    Ok(Task::Report {
+        form,
+        explains: false,
+    })
+}
+
+fn choice(
+    alloc: Global,
+    only: &[&'static str],
+    shard: Option<&'static str>,
+) -> Result<Choice<'static>, AllocError> {
+    let only = only.to_vec(alloc)?;
+    Ok(Choice { only, shard })
 }
 
 fn words(alloc: Global, line: &str) -> Result<Vec<String>, AllocError> {
@@ -64,39 +118,55 @@ fn is_read<R: Abort + AllocGlobal>(
 
 #[test]
 fn lines_and_tasks(rt: HostRuntime) -> Result<(), Fail> {
+    let alloc = rt.alloc();
     let lines = [
-        ("ttrun", run(Form::Text, None)),
-        ("ttrun --", run(Form::Text, None)),
+        ("ttrun", run(alloc, Form::Text, None)),
+        ("ttrun --", run(alloc, Form::Text, None)),
         ("ttrun check", CHECK),
         ("ttrun replay", REPLAY),
         ("ttrun check --", CHECK),
         ("another-name replay", REPLAY),
-        ("ttrun run", run(Form::Text, None)),
-        ("ttrun run --csv", run(Form::Csv, None)),
-        ("ttrun run --history", run(Form::History, None)),
-        ("ttrun run --stop-on fail", run(Form::Text, Some("fail"))),
-        ("ttrun run --stop-on=fail", run(Form::Text, Some("fail"))),
-        ("ttrun run --stop-on=", run(Form::Text, Some(""))),
-        ("ttrun run --stop-on ", run(Form::Text, Some(""))),
-        ("ttrun run --stop-on -", run(Form::Text, Some("-"))),
-        ("ttrun run --stop-on=--csv", run(Form::Text, Some("--csv"))),
-        ("ttrun run --stop-on run", run(Form::Text, Some("run"))),
-        ("ttrun run --stop-on help", run(Form::Text, Some("help"))),
+        ("ttrun run", run(alloc, Form::Text, None)),
+        ("ttrun run --csv", run(alloc, Form::Csv, None)),
+        ("ttrun run --history", run(alloc, Form::History, None)),
+        (
+            "ttrun run --stop-on fail",
+            run(alloc, Form::Text, Some("fail")),
+        ),
+        (
+            "ttrun run --stop-on=fail",
+            run(alloc, Form::Text, Some("fail")),
+        ),
+        ("ttrun run --stop-on=", run(alloc, Form::Text, Some(""))),
+        ("ttrun run --stop-on ", run(alloc, Form::Text, Some(""))),
+        ("ttrun run --stop-on -", run(alloc, Form::Text, Some("-"))),
+        (
+            "ttrun run --stop-on=--csv",
+            run(alloc, Form::Text, Some("--csv")),
+        ),
+        (
+            "ttrun run --stop-on run",
+            run(alloc, Form::Text, Some("run")),
+        ),
+        (
+            "ttrun run --stop-on help",
+            run(alloc, Form::Text, Some("help")),
+        ),
         (
             "ttrun run --csv --stop-on none",
-            run(Form::Csv, Some("none")),
+            run(alloc, Form::Csv, Some("none")),
         ),
         (
             "ttrun run --stop-on none --csv",
-            run(Form::Csv, Some("none")),
+            run(alloc, Form::Csv, Some("none")),
         ),
         (
             "ttrun run --stop-on error --history",
-            run(Form::History, Some("error")),
+            run(alloc, Form::History, Some("error")),
         ),
         (
             "ttrun run --history --stop-on=error --",
-            run(Form::History, Some("error")),
+            run(alloc, Form::History, Some("error")),
         ),
         ("ttrun run --csv --history", CONFLICT),
         ("ttrun run --history --csv", CONFLICT),
@@ -112,7 +182,6 @@ fn lines_and_tasks(rt: HostRuntime) -> Result<(), Fail> {
         ("ttrun --csv", UNKNOWN),
         ("ttrun --stop-on fail", UNKNOWN),
         ("ttrun -x", UNKNOWN),
-        ("ttrun --version", UNKNOWN),
         ("ttrun Run", NO_COMMAND),
         ("ttrun chec", NO_COMMAND),
         ("ttrun campaign.txt", NO_COMMAND),
@@ -147,6 +216,12 @@ fn lines_that_explore(rt: HostRuntime) -> Result<(), Fail> {
             "ttrun explore --states=many --history",
             explored(true, Some("many")),
         ),
+        ("ttrun explore --details", detailed(None)),
+        ("ttrun explore --states 7 --details", detailed(Some("7"))),
+        ("ttrun explore --details --history", CONFLICT),
+        ("ttrun explore --history --states=1 --details", CONFLICT),
+        ("ttrun explore --details --details", CONFLICT),
+        ("ttrun run --details", UNKNOWN),
         ("ttrun explore --states", NO_WORD),
         ("ttrun explore --states 1 --states 1", CONFLICT),
         ("ttrun explore --history --history", CONFLICT),
@@ -191,32 +266,39 @@ fn lines_that_ask_for_help(rt: HostRuntime) -> Result<(), Fail> {
 
 #[test]
 fn lines_with_live(rt: HostRuntime) -> Result<(), Fail> {
+    let alloc = rt.alloc();
     let lines = [
-        ("ttrun run --live", live(Form::Text, None)),
-        ("ttrun run --live --", live(Form::Text, None)),
-        ("ttrun run --live --csv", live(Form::Csv, None)),
-        ("ttrun run --csv --live", live(Form::Csv, None)),
-        ("ttrun run --live --history", live(Form::History, None)),
-        ("ttrun run --history --live", live(Form::History, None)),
+        ("ttrun run --live", live(alloc, Form::Text, None)),
+        ("ttrun run --live --", live(alloc, Form::Text, None)),
+        ("ttrun run --live --csv", live(alloc, Form::Csv, None)),
+        ("ttrun run --csv --live", live(alloc, Form::Csv, None)),
+        (
+            "ttrun run --live --history",
+            live(alloc, Form::History, None),
+        ),
+        (
+            "ttrun run --history --live",
+            live(alloc, Form::History, None),
+        ),
         (
             "ttrun run --live --stop-on fail",
-            live(Form::Text, Some("fail")),
+            live(alloc, Form::Text, Some("fail")),
         ),
         (
             "ttrun run --stop-on=fail --live",
-            live(Form::Text, Some("fail")),
+            live(alloc, Form::Text, Some("fail")),
         ),
         (
             "ttrun run --csv --stop-on fail --live",
-            live(Form::Csv, Some("fail")),
+            live(alloc, Form::Csv, Some("fail")),
         ),
         (
             "ttrun run --stop-on fail --live --history",
-            live(Form::History, Some("fail")),
+            live(alloc, Form::History, Some("fail")),
         ),
         (
             "ttrun run --stop-on=--live",
-            run(Form::Text, Some("--live")),
+            run(alloc, Form::Text, Some("--live")),
         ),
         ("ttrun run --live --live", CONFLICT),
         ("ttrun run --live --csv --history", CONFLICT),
@@ -240,27 +322,225 @@ fn lines_with_live(rt: HostRuntime) -> Result<(), Fail> {
 
 #[test]
 fn no_words_at_all(rt: HostRuntime) -> Result<(), Fail> {
-    assert_eq!(rt;
-        read_task(rt.alloc(), &[])?,
-        Task::Run {
-            form: Form::Text,
-            live: false,
-            stop_on: None
-        }
-    );
+    let alloc = rt.alloc();
+    let wanted = Task::Run(options(alloc, Form::Text, false, None));
+    assert_eq!(rt; read_task(alloc, &[])?, wanted);
     Ok(())
 }
 
 #[test]
-fn both_forms_are_refused_by_name(rt: HostRuntime) -> Result<(), Fail> {
+fn lines_that_choose(rt: HostRuntime) -> Result<(), Fail> {
     let alloc = rt.alloc();
-    for line in ["ttrun run --csv --history", "ttrun run --history --csv"] {
-        let words = words(alloc, line)?;
+    let lines: [(&str, &[&'static str], Option<&'static str>); 9] = [
+        ("", &[], None),
+        (" --only a", &["a"], None),
+        (" --only=a --only b", &["a", "b"], None),
+        (" --only b --only=a --only b", &["b", "a", "b"], None),
+        (" --only=", &[""], None),
+        (" --shard 1/2", &[], Some("1/2")),
+        (" --shard=many", &[], Some("many")),
+        (" --shard=2/3 --only a", &["a"], Some("2/3")),
+        (" --only a --shard= --only c", &["a", "c"], Some("")),
+    ];
+    for (line, only, shard) in lines {
+        let words = format!(in alloc; "ttrun run{line}")?;
+        let wanted = Task::Run(RunOptions {
+            choice: choice(alloc, only, shard)?,
+            ..options(alloc, Form::Text, false, None)
+        });
+        is_read(&rt, words.as_str(), Ok(wanted))?;
+        let words = format!(in alloc; "ttrun run --list{line}")?;
+        let wanted = Task::List(choice(alloc, only, shard)?);
+        is_read(&rt, words.as_str(), Ok(wanted))?;
+        let words = format!(in alloc; "ttrun run{line} --csv --stop-on fail")?;
+        let wanted = Task::Run(RunOptions {
+            choice: choice(alloc, only, shard)?,
+            ..options(alloc, Form::Csv, false, Some("fail"))
+        });
+        is_read(&rt, words.as_str(), Ok(wanted))?;
+    }
+    Ok(())
+}
+
+#[test]
+fn lines_that_choose_and_are_refused(rt: HostRuntime) -> Result<(), Fail> {
+    let lines = [
+        ("ttrun run --list --csv", CONFLICT),
+        ("ttrun run --history --list", CONFLICT),
+        ("ttrun run --list --junit", CONFLICT),
+        ("ttrun run --live --list", CONFLICT),
+        ("ttrun run --list --stop-on fail", CONFLICT),
+        ("ttrun run --csv --list --only a", CONFLICT),
+        ("ttrun run --list --list", CONFLICT),
+        ("ttrun run --shard 1/2 --shard 1/2", CONFLICT),
+        ("ttrun run --only", NO_WORD),
+        ("ttrun run --shard", NO_WORD),
+        ("ttrun run --only --list", NO_WORD),
+        ("ttrun run --list=yes", TOO_MANY),
+        ("ttrun run --only a b", UNKNOWN),
+        ("ttrun --list", UNKNOWN),
+        ("ttrun list", NO_COMMAND),
+        ("ttrun check --only a", UNKNOWN),
+        ("ttrun explore --shard 1/2", UNKNOWN),
+        ("ttrun replay --list", UNKNOWN),
+        ("ttrun run --list --help", HELP),
+    ];
+    for (line, wanted) in lines {
+        is_read(&rt, line, wanted)?;
+    }
+    Ok(())
+}
+
+#[test]
+fn lines_with_junit(rt: HostRuntime) -> Result<(), Fail> {
+    let alloc = rt.alloc();
+    let lines = [
+        ("ttrun run --junit", run(alloc, Form::Junit, None)),
+        (
+            "ttrun run --stop-on=fail --junit",
+            run(alloc, Form::Junit, Some("fail")),
+        ),
+        ("ttrun run --junit --csv", CONFLICT),
+        ("ttrun run --history --junit", CONFLICT),
+        ("ttrun run --csv --history --junit", CONFLICT),
+        ("ttrun run --junit --junit", CONFLICT),
+        ("ttrun run --junit --live", CONFLICT),
+        ("ttrun run --live --junit", CONFLICT),
+        ("ttrun run --junit=yes", TOO_MANY),
+        ("ttrun --junit", UNKNOWN),
+        ("ttrun check --junit", UNKNOWN),
+    ];
+    for (line, wanted) in lines {
+        is_read(&rt, line, wanted)?;
+    }
+    Ok(())
+}
+
+#[test]
+fn lines_that_report(rt: HostRuntime) -> Result<(), Fail> {
+    let lines = [
+        ("ttrun report --csv", reported(ReportForm::Csv)),
+        ("ttrun report --junit", reported(ReportForm::Junit)),
+        ("ttrun report --chart", reported(ReportForm::Chart)),
+        ("ttrun report --chart --csv", CONFLICT),
+        ("ttrun report --junit --chart", CONFLICT),
+        ("ttrun report --chart --chart", CONFLICT),
+        ("ttrun run --chart", UNKNOWN),
+        ("ttrun report", NO_FORM),
+        ("ttrun report --", NO_FORM),
+        ("ttrun report --csv --junit", CONFLICT),
+        ("ttrun report --junit --csv", CONFLICT),
+        ("ttrun report --junit --junit", CONFLICT),
+        ("ttrun report --csv --csv", CONFLICT),
+        ("ttrun report --history", UNKNOWN),
+        ("ttrun report --live", UNKNOWN),
+        ("ttrun report more", UNKNOWN),
+        ("ttrun report --help", HELP),
+        ("ttrun help report", HELP),
+    ];
+    for (line, wanted) in lines {
+        is_read(&rt, line, wanted)?;
+    }
+    Ok(())
+}
+
+#[test]
+fn lines_that_explain(rt: HostRuntime) -> Result<(), Fail> {
+    let alloc = rt.alloc();
+    let explained = |form, live, stop_on| {
+        Ok(Task::Run(RunOptions {
+            explains: true,
+            ..options(alloc, form, live, stop_on)
+        }))
+    };
+    let lines = [
+        ("ttrun run --explain", explained(Form::Text, false, None)),
+        (
+            "ttrun run --csv --explain --live --stop-on fail",
+            explained(Form::Csv, true, Some("fail")),
+        ),
+        ("ttrun check --explain", Ok(Task::Check { explains: true })),
+        (
+            "ttrun replay --explain",
+            Ok(Task::Replay { explains: true }),
+        ),
+        (
+            "ttrun report --explain --junit",
+            Ok(Task::Report {
+                form: ReportForm::Junit,
+                explains: true,
+            }),
+        ),
+        ("ttrun report --explain", NO_FORM),
+        ("ttrun report --explain --csv --junit", CONFLICT),
+        ("ttrun run --explain --list", CONFLICT),
+        ("ttrun check --explain --explain", CONFLICT),
+        ("ttrun explore --explain", UNKNOWN),
+        ("ttrun --explain", UNKNOWN),
+    ];
+    for (line, wanted) in lines {
+        is_read(&rt, line, wanted)?;
+    }
+    Ok(())
+}
+
+#[test]
+fn lines_that_ask_for_the_version(rt: HostRuntime) -> Result<(), Fail> {
+    let alloc = rt.alloc();
+    let lines = [
+        ("ttrun --version", VERSION_SHOWN),
+        ("ttrun -V", VERSION_SHOWN),
+        ("ttrun --version more", VERSION_SHOWN),
+        ("ttrun run --version", UNKNOWN),
+        ("ttrun run -V", UNKNOWN),
+        ("ttrun version", NO_COMMAND),
+    ];
+    for (line, wanted) in lines {
+        is_read(&rt, line, wanted)?;
+    }
+    let words = words(alloc, "another-name --version")?;
+    let shown = read_task(alloc, words.as_slice()).err().ok_or("shown")?;
+    let wanted = format!(in alloc; "ttrun {VERSION}\n")?;
+    assert_eq!(rt; shown.to_string(alloc)?, wanted);
+    Ok(())
+}
+
+#[test]
+fn refused_options_are_named(rt: HostRuntime) -> Result<(), Fail> {
+    let alloc = rt.alloc();
+    let lines = [
+        ("run --csv --history", "csv", "history"),
+        ("run --history --csv", "csv", "history"),
+        ("run --junit --csv", "csv", "junit"),
+        ("run --junit --history", "history", "junit"),
+        ("run --live --junit", "junit", "live"),
+        ("run --list --csv", "list", "csv"),
+        ("run --list --history", "list", "history"),
+        ("run --list --junit", "list", "junit"),
+        ("run --list --live", "list", "live"),
+        ("run --explain --list", "list", "explain"),
+        ("run --list --stop-on fail", "list", "stop-on"),
+        ("explore --details --history", "history", "details"),
+        ("report --csv --junit", "csv", "junit"),
+        ("report --junit --csv", "csv", "junit"),
+        ("report --chart --csv", "csv", "chart"),
+        ("report --chart --junit", "junit", "chart"),
+    ];
+    for (line, first, second) in lines {
+        let line = format!(in alloc; "ttrun {line}")?;
+        let words = words(alloc, line.as_str())?;
         let refusal = read_task(alloc, words.as_slice()).err().ok_or("refused")?;
         let text = refusal.to_string(alloc)?;
-        let told = "error: the argument '--csv' cannot be used with '--history'\n";
-        assert!(rt; text.as_str().starts_with(told), "{line}: {text}");
+        let told = format!(in alloc;
+            "error: the argument '--{first}' cannot be used with '--{second}'\n"
+        )?;
+        assert!(rt; text.as_str().starts_with(told.as_str()), "{line}: {text}");
     }
+    let words = words(alloc, "ttrun report")?;
+    let refusal = read_task(alloc, words.as_slice()).err().ok_or("refused")?;
+    let text = refusal.to_string(alloc)?;
+    let told = "error: one of the arguments '--csv', '--junit' and '--chart' is needed\n";
+    assert!(rt; text.as_str().starts_with(told), "{text}");
     Ok(())
 }
 
@@ -291,12 +571,51 @@ fn the_help_says_what_each_word_does(rt: HostRuntime) -> Result<(), Fail> {
         ("ttrun explore --help", "--states <N>"),
         (
             "ttrun explore --help",
+            "says where schedules part and who waits for whom",
+        ),
+        (
+            "ttrun explore --help",
             "looks at so many states of a test case at most",
         ),
         ("ttrun run --help", "writes the report as CSV"),
         ("ttrun run --help", "writes the histories of the test cases"),
         ("ttrun run --help", "writes each test case as it finishes"),
+        ("ttrun run --help", "writes the report as a JUnit suite"),
         ("ttrun run --help", "--stop-on <VERDICT>"),
+        ("ttrun run --help", "--only <NAME>"),
+        ("ttrun run --help", "--shard <K/N>"),
+        (
+            "ttrun run --help",
+            "runs this test case; may be given again, for others",
+        ),
+        (
+            "ttrun run --help",
+            "runs the K-th of N shards of the test cases",
+        ),
+        (
+            "ttrun run --help",
+            "prints the names of the test cases, and runs none",
+        ),
+        ("ttrun run --help", "ttrun run < FILE"),
+        ("ttrun run --help", "none, pass, inconc, fail or error"),
+        ("ttrun --help", "ttrun run < FILE"),
+        ("ttrun --help", "No word at all means run."),
+        (
+            "ttrun --help",
+            "0 for none and pass, 1 for inconc and fail, 2 for error",
+        ),
+        ("ttrun --help", "--version"),
+        (
+            "ttrun --help",
+            "reads histories, and writes them in one of these forms",
+        ),
+        ("ttrun report --help", "writes a table as CSV"),
+        ("ttrun report --help", "writes a JUnit suite"),
+        ("ttrun report --help", "writes a message sequence chart"),
+        (
+            "ttrun replay --help",
+            "after a fault's line, says what stands there and what would be understood",
+        ),
         (
             "ttrun run --help",
             "stops after a test case with this verdict, or a worse one",

@@ -111,6 +111,12 @@ fn copies_are_the_same(rt: HostRuntime) {
     assert!(rt; Reply::Parked.copy().same(&Reply::Parked));
 }
 
+// What the documents say of the memory of a report rests on this.
+#[test]
+fn an_entry_takes_48_bytes(rt: HostRuntime) {
+    assert_eq!(rt; size_of::<Entry>(), 48);
+}
+
 #[test]
 fn kinds_of_replies(rt: HostRuntime) {
     for reply in [

@@ -59,7 +59,8 @@ module _ {B : Type 0} (outcome : B → PassState → Back → Type 0) (own : (b 
       (logs_up_to history bs behaviours n b (omega (arith, most)) each)
       (log_one history [] bs [] behaviours n b (comp_of (reverse history) n) each (omega (arith, most)) refl)
 
-  log_of_run : (c : Closed) (bs : List B) → IsMadeOf outcome bs c → (k : ℕ) (b : B) (comp : Comp) → k < length bs → comp_of (reverse c.history) k ≡ Some comp →
+  -- the log of a run that was started is that of the behaviour of its number
+  pub log_of_run : (c : Closed) (bs : List B) → IsMadeOf outcome bs c → (k : ℕ) (b : B) (comp : Comp) → k < length bs → comp_of (reverse c.history) k ≡ Some comp →
       IsLogBy (outcome (get_or bs k b)) c.history (record { run = record { 0 = k }; comp = comp; entries = part c.history k })
   log_of_run c bs made k b comp below on =
       let l : LeftState = record { run = record { 0 = 0 }; log = []; started = None } in

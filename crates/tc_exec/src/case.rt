@@ -170,7 +170,8 @@ fn run_jobs<R: Threads + Wait + Copy + Send + 'static, B: Callable, G: Gate>(
 ///
 /// Every job but job 0 has a worker, a thread that waits for the start of its run and then calls the job with the pass
 /// of the run; the job of a run that is never started is dropped. All workers are made before job 0 is called, on the
-/// calling thread, and all are joined before the call is answered.
+/// calling thread, and all are joined before the call is answered. A worker's stack has `WORKER_STACK` bytes; one that needs more
+/// ends the process. Job 0 has the stack of the calling thread.
 ///
 /// The report is one history of one thread, and each job of which the run was started was called with a new pass of that
 /// run. Refused are a case without jobs, one of more than 256, and one that needs more workers than `threads`; then,

@@ -16,6 +16,7 @@ pub use gate::{Everyone, Gate};
 pub use job::{Back, Ending, Job};
 pub use refusal::CaseError;
 pub use tc_book::Closed as CaseReport;
+pub use worker::WORKER_STACK;
 
 #[cfg(test)]
 mod tests;

@@ -11,10 +11,12 @@ use crate::gathered::Gathered;
 use crate::handed::{Handed, work};
 use std::snapshot::Snapshot;
 use std::sync::Wait;
-use std::thread;
-use std::thread::{Promise, PromisedHandle, Threads};
+use std::thread::{Builder, Promise, PromisedHandle, Threads};
 use tc_book::Ticket;
 use tc_verdict::Run;
+
+/// The stack of a worker, in bytes. Address space is kept for it when the worker is made, and memory is taken as it is used.
+pub const WORKER_STACK: usize = 2 * 1024 * 1024;
 
 /// What a worker promises: to hand back what its behaviour made of its run.
 #[derive(Drop)]
@@ -59,7 +61,8 @@ pub(crate) fn make_workers<R: Threads + Wait + Copy + Send + 'static, B: Callabl
             run: ticket.run(),
             behaviour: Snapshot::of(&behaviour),
         };
-        let Ok(worker) = thread::spawn_with(&rt, task, move || work(&rt, behaviour, ticket)) else {
+        let builder = Builder::new().stack_size(WORKER_STACK);
+        let Ok(worker) = builder.spawn_with(&rt, task, move || work(&rt, behaviour, ticket)) else {
             return false;
         };
         workers.push_reserved(worker);

@@ -1,11 +1,11 @@
 -- A course is a legal history.
-use Rattle.std.proofs.Common.{ℕ, ◌≡◌, List, [], ◌∷◌, length, reverse, All}
+use Rattle.std.proofs.Common.{List, [], ◌∷◌, length}
 use Rattle.tc_entry.specs.declared.entry.Entry.{Entry}
 use Rattle.tc_step.specs.Steps.{ScriptView}
 use Rattle.tc_table.specs.Legal.{IsLegal}
 use Rattle.tc_explore.specs.declared.witness.Witness.{Witness}
 use Rattle.tc_explore.specs.Course.{IsCourse}
-use Rattle.tc_explore.specs.Found.{IsWitness, AreWitnesses, AreLegal}
+use Rattle.tc_explore.specs.Found.{AreWitnesses, AreLegal}
 
 pub course_legal : (scripts : List ScriptView) (past : List Entry) → IsCourse scripts past → IsLegal (length scripts) past
 course_legal scripts [] h = tt

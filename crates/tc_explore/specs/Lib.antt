@@ -2,3 +2,10 @@
 pub mod Course
 pub mod Found
 pub mod Told
+pub mod Inside
+pub mod Laws
+pub mod Reports
+pub mod Components
+pub mod Race
+pub mod Waits
+pub mod Details

@@ -1,5 +1,5 @@
 -- What is told of a test case that was explored.
-use Rattle.std.specs.Prelude.{ℕ, ◌==◌, ◌+◌, if◌then◌else◌, nat_lt, Bool, true, false, List, [], ◌∷◌, ◌++◌, codes}
+use Rattle.std.specs.Prelude.{ℕ, ◌==◌, ◌+◌, if◌then◌else◌, nat_lt, Bool, List, [], ◌∷◌, ◌++◌, codes}
 use Rattle.std.specs.List.{flat_map, list_any}
 use Rattle.std.specs.Fmt.{decimal}
 use Rattle.tc_verdict.specs.declared.verdict.Verdict.{Verdict}
@@ -7,7 +7,9 @@ use Rattle.tc_verdict.specs.declared.verdict.Verdict.TheVariants as V
 use Rattle.tc_verdict.specs.Verdict.{level_of, name_of}
 use Rattle.tc_history.specs.Block.{block_text}
 use Rattle.tc_explore.specs.declared.witness.Witness.{Witness}
-use Rattle.tc_explore.specs.declared.search.Explored.{Explored}
+use Rattle.tc_explore.specs.declared.explored.Ending.{Ending}
+use Rattle.tc_explore.specs.declared.explored.Ending.TheVariants as E
+use Rattle.tc_explore.specs.declared.explored.Explored.{Explored}
 
 -- the verdict is that of some witness
 abbrev pub is_found : List Witness → Verdict → Bool
@@ -22,10 +24,19 @@ abbrev pub verdict_count : List Witness → ℕ
 verdict_count found =
     found_once found V.None + (found_once found V.Pass + (found_once found V.Inconc + (found_once found V.Fail + found_once found V.Error)))
 
--- the status of a test case: 0 where one verdict was found, 1 where more were; 3 where the search did not come to its end
+-- the status by the number of verdicts: 0 for one, 1 for more; where none was found, 3
+abbrev pub count_status : ℕ → ℕ
+count_status count = if count == 1 then 0 else if nat_lt 1 count then 1 else 3
+
+-- the status by the ending too: 3 where the search met its limit
+abbrev pub ending_status : Ending → ℕ → ℕ
+ending_status E.Complete count = count_status count
+ending_status E.Reduced count = count_status count
+ending_status E.Undecided count = 3
+
+-- the status of a test case
 abbrev pub explored_status : Explored → ℕ
-explored_status e =
-    if e.is_whole then (if verdict_count e.found == 1 then 0 else if nat_lt 1 (verdict_count e.found) then 1 else 3) else 3
+explored_status e = ending_status e.ending (verdict_count e.found)
 
 -- the name of a verdict behind a space, if it was found
 abbrev pub verdict_word : List Witness → Verdict → List ℕ
@@ -36,14 +47,19 @@ abbrev pub verdict_words : List Witness → List ℕ
 verdict_words found =
     verdict_word found V.None ++ (verdict_word found V.Pass ++ (verdict_word found V.Inconc ++ (verdict_word found V.Fail ++ verdict_word found V.Error)))
 
--- whether the search came to its end by itself, and how many states it looked at
-abbrev pub ending_words : Bool → ℕ → List ℕ
-ending_words true states = codes " looked at " ++ (decimal states ++ codes " states")
-ending_words false states = codes " undecided after " ++ (decimal states ++ codes " states")
+-- how many states were looked at, behind these words
+abbrev pub states_words : List ℕ → ℕ → List ℕ
+states_words words states = words ++ (decimal states ++ codes " states")
+
+-- how the search ended, and where something may be missed how many states it looked at
+abbrev pub ending_words : Ending → ℕ → List ℕ
+ending_words E.Complete states = codes " complete"
+ending_words E.Reduced states = states_words (codes " looked at ") states
+ending_words E.Undecided states = states_words (codes " undecided after ") states
 
 -- the line of a test case of this name
 abbrev pub explored_line : List ℕ → Explored → List ℕ
-explored_line name e = name ++ (verdict_words e.found ++ (ending_words e.is_whole e.states ++ (10 ∷ [])))
+explored_line name e = name ++ (verdict_words e.found ++ (ending_words e.ending e.states ++ (10 ∷ [])))
 
 -- the history of a witness, in a test case of this name and of n behaviours
 abbrev pub witness_text : List ℕ → ℕ → Witness → List ℕ

@@ -14,6 +14,7 @@ fn component(me: Comp, bound: &[Comp], place: Place) -> Comp
         Place::Main => Comp(0),
         Place::Own => me,
         Place::Bound(index) => {
+            let index = usize::from(index);
             if index < bound.len() {
                 bound[index]
             } else {

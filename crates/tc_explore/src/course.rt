@@ -1,20 +1,22 @@
 //! A course: what is known of a case after some turns.
-ghost use Rattle.std.specs.Prelude.{◌≡◌, ◌≤◌, ◌<◌, ◌∷◌, ℕ, [], IfOk, Some, length, slice_index_or};
+ghost use Rattle.std.specs.Prelude.{◌≡◌, ◌≤◌, ◌<◌, ◌∷◌, ◌&&◌, if◌then◌else◌, ℕ, [], IfOk, IsTrue, None, length, reverse, slice_index_or};
 ghost use Rattle.tc_entry.specs.declared.limits.TheConstants.{BEHAVIOURS};
 ghost use Rattle.tc_table.specs.Case.{past_of};
 ghost use Rattle.tc_table.specs.Answers as answers;
 ghost use Rattle.tc_table.specs.Local as verdicts;
+ghost use Rattle.tc_table.specs.History as history;
+ghost use Rattle.tc_table.specs.Phases as phases;
+ghost use Rattle.tc_table.specs.Faults as faults;
 ghost use Rattle.tc_explore.specs.Course as courses;
 ghost use Rattle.tc_explore.specs.Found as found;
 
-use crate::entries::created;
 use crate::standing::Standing;
 use crate::told::level;
 use std::alloc::Global;
 use std::marker::Model;
 use tc_entry::{Comp, Entry, Op, Phase, Reply};
 use tc_step::{Script, Step};
-use tc_table::Table;
+use tc_table::{Table, created, is_alive_create, is_comp};
 use tc_verdict::{NoMemory, Run, Verdict};
 
 /// The entries of a case so far, what is known of each run by them, and which components are alive-type. Contracts see
@@ -49,6 +51,17 @@ fn opening_standings(alloc: Global, n: u16) -> Result<Vec<Standing>, NoMemory>
     Ok(standings)
 }
 
+// The same standings.
+fn copied_standings(alloc: Global, standings: &[Standing]) -> Result<Vec<Standing>, NoMemory>
+    ensures { IfOk result (λ v. v.items ≡ standings.now) }
+{
+    let mut all = Vec::with_capacity(alloc, standings.len())?;
+    for standing in standings {
+        all.push(standing.copied(alloc)?)?;
+    }
+    Ok(all)
+}
+
 // Takes one more entry in.
 fn take_in_all(standings: &mut Vec<Standing>, entry: &Entry) -> Result<(), NoMemory>
     ensures as_many { length standings.new.items ≡ length standings.old.items }
@@ -76,6 +89,37 @@ fn steps_of(scripts: &[Script], run: Run) -> &[Step]
     }
 }
 
+// Whether a component is there after one more entry.
+fn known_after(known: bool, entry: &Entry, comp: u32) -> bool
+    ensures { result ≡ (if known then known else history.is_comp (history.created entry.now.op entry.now.reply) comp) }
+{
+    known || is_comp(created(&entry.op, entry.reply), comp)
+}
+
+// Whether a component is alive-type after one more entry.
+fn kind_after(known: bool, kind: bool, entry: &Entry, comp: u32) -> bool
+    ensures { result ≡ (if known then kind else history.is_comp (history.created entry.now.op entry.now.reply) comp && history.is_alive_create entry.now.op) }
+{
+    if known {
+        return kind;
+    }
+    is_comp(created(&entry.op, entry.reply), comp) && is_alive_create(&entry.op)
+}
+
+// Whether the Create that made a component said that it is alive-type.
+#[tactic(auto, using(crate::proofs::AliveTypes::kind_rules))]
+fn kind_in(entries: &[Entry], comp: u32) -> bool
+    ensures { result ≡ history.is_alive_type (reverse entries.now) comp }
+{
+    let mut known = comp == 0;
+    let mut kind = false;
+    for entry in entries {
+        kind = kind_after(known, kind, entry, comp);
+        known = known_after(known, entry, comp);
+    }
+    kind
+}
+
 // What a component is doing, as a number.
 fn phase_key(phase: Option<Phase>) -> u16 {
     match phase {
@@ -101,6 +145,22 @@ impl Course {
             table,
             standings,
             alive_types: Vec::new(alloc),
+        })
+    }
+
+    /// The same course.
+    pub(crate) fn copied(&self, alloc: Global) -> Result<Course, NoMemory>
+        ensures behaviours { IfOk result (λ c. c.behaviours ≡ self.now.behaviours) }
+        ensures entries { IfOk result (λ c. c.history ≡ self.now.history) }
+    {
+        let table = self.table.copied(alloc)?;
+        let standings = copied_standings(alloc, self.standings.as_slice())?;
+        let mut alive_types = Vec::with_capacity(alloc, self.alive_types.len())?;
+        alive_types.extend_from_slice(self.alive_types.as_slice())?;
+        Ok(Course {
+            table,
+            standings,
+            alive_types,
         })
     }
 
@@ -141,10 +201,8 @@ impl Course {
             reply,
         };
         take_in_all(&mut standings, &entry)?;
-        if let Op::Create { alive, .. } = &entry.op {
-            if created(&entry).is_some() {
-                alive_types.push(*alive)?;
-            }
+        if created(&entry.op, entry.reply).is_some() {
+            alive_types.push(is_alive_create(&entry.op))?;
         }
         Ok(Course {
             table,
@@ -154,8 +212,67 @@ impl Course {
     }
 
     /// Whether the case is over.
-    pub(crate) fn is_over(&self) -> bool {
+    pub(crate) fn is_over(&self) -> bool
+        ensures { result ≡ history.is_over (past_of self.now) }
+    {
         self.table.is_over()
+    }
+
+    /// How many components there are.
+    pub(crate) fn components(&self) -> u32
+        ensures { result ≡ faults.components (past_of self.now) }
+    {
+        self.table.components()
+    }
+
+    /// What a component is doing.
+    pub(crate) fn phase_of(&self, comp: Comp) -> Option<Phase>
+        ensures { result ≡ phases.phase_if_any (past_of self.now) comp.0 }
+    {
+        self.table.phase_of(comp)
+    }
+
+    /// Whether a component is alive-type.
+    pub(crate) fn is_alive_type(&self, comp: u32) -> bool
+        ensures { result ≡ history.is_alive_type (past_of self.now) comp }
+    {
+        kind_in(self.table.history(), comp)
+    }
+
+    /// Whether a run goes on.
+    pub(crate) fn is_active(&self, run: Run) -> bool
+        ensures { result ≡ answers.is_active (past_of self.now) run.0 }
+    {
+        self.table.is_active(run)
+    }
+
+    /// Whether the pass of a run has ended.
+    pub(crate) fn has_left(&self, run: Run) -> bool
+        requires { run.0 < self.now.behaviours }
+        ensures { result ≡ (courses.stand (past_of self.now) run.0).left }
+    {
+        self.standings[usize::from(run.0)].has_left()
+    }
+
+    /// Whether a run is on the same component, or on none in both.
+    pub(crate) fn is_on_same(&self, other: &Course, run: Run) -> bool
+        requires mine { run.0 < self.now.behaviours }
+        requires others { run.0 < other.now.behaviours }
+        ensures { IsTrue result → (courses.stand (past_of self.now) run.0).comp ≡ (courses.stand (past_of other.now) run.0).comp }
+    {
+        let at = usize::from(run.0);
+        self.standings[at].is_on_same(&other.standings[at])
+    }
+
+    /// Whether the same is known of a run, and no Wake of it is to come.
+    pub(crate) fn stands_as(&self, other: &Course, run: Run) -> bool
+        requires mine { run.0 < self.now.behaviours }
+        requires others { run.0 < other.now.behaviours }
+        ensures same { IsTrue result → courses.stand (past_of self.now) run.0 ≡ courses.stand (past_of other.now) run.0 }
+        ensures no_wake { IsTrue result → (courses.stand (past_of other.now) run.0).wake ≡ None }
+    {
+        let at = usize::from(run.0);
+        self.standings[at].stands_as(&other.standings[at])
     }
 
     /// The component that a run is running on, if it goes on.

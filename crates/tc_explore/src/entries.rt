@@ -1,35 +1,9 @@
 //! What one entry says of its caller and of the run that it starts.
-ghost use Rattle.std.specs.Prelude.{◌≡◌, ◌||◌};
-ghost use Rattle.tc_table.specs.History as history;
-ghost use Rattle.tc_book.specs.Passes as passes;
+ghost use Rattle.std.specs.Prelude.{◌≡◌};
 ghost use Rattle.tc_explore.specs.Course as courses;
 
+use tc_book::ends_pass;
 use tc_entry::{Comp, Entry, Op, Reply};
-
-// Whether the operation is a Stop or Kill of the component.
-fn is_end_of(op: &Op, comp: u32) -> bool
-    ensures { result ≡ (history.is_stop_of op.now comp || history.is_kill_of op.now comp) }
-{
-    match op {
-        Op::Stop(group) | Op::Kill(group) => group.is_of(comp),
-        _ => false,
-    }
-}
-
-// Whether an entry by a run on component own ends its pass.
-#[tactic(auto, unfolding(tc_book::specs::Passes::ends_pass))]
-fn ends_pass(own: Comp, entry: &Entry) -> bool
-    ensures { result ≡ passes.ends_pass own entry.now }
-{
-    match entry.reply {
-        Reply::Ended | Reply::Fault(_) => true,
-        _ => {
-            matches!(entry.op, Op::Finish | Op::StopCase)
-                || is_end_of(&entry.op, 0)
-                || is_end_of(&entry.op, own.0)
-        }
-    }
-}
 
 /// Whether an entry by a run on this component ends its pass.
 pub(crate) fn ends(own: Option<Comp>, entry: &Entry) -> bool
@@ -71,19 +45,6 @@ pub(crate) fn wake_after(entry: &Entry) -> Option<Op>
     }
 }
 
-/// The component on which this entry starts the run.
-pub(crate) fn started_on(entry: &Entry, run: u16) -> Option<Comp>
-    ensures { result ≡ history.started_on entry.now run }
-{
-    match entry.reply {
-        Reply::Ok => match &entry.op {
-            Op::Start { comp, run: b, .. } => { if b.0 == run { Some(*comp) } else { None } }
-            _ => None,
-        },
-        _ => None,
-    }
-}
-
 /// The arguments with which this operation starts the run.
 pub(crate) fn arguments(op: &Op, run: u16) -> &[Comp]
     ensures { result.now ≡ courses.arguments op.now run }
@@ -91,18 +52,5 @@ pub(crate) fn arguments(op: &Op, run: u16) -> &[Comp]
     match op {
         Op::Start { run: b, args, .. } => { if b.0 == run { args.as_slice() } else { &[] } }
         _ => &[],
-    }
-}
-
-/// The component that this entry made.
-pub(crate) fn created(entry: &Entry) -> Option<Comp>
-    ensures { result ≡ history.created entry.now.op entry.now.reply }
-{
-    match entry.op {
-        Op::Create { .. } => match entry.reply {
-            Reply::Made(comp) => Some(comp),
-            _ => None,
-        },
-        _ => None,
     }
 }

@@ -2,17 +2,26 @@
 #![tactic(auto)]
 
 mod call;
+mod components;
 mod course;
+mod details;
 mod entries;
+mod explored;
+mod full;
+pub mod laws;
 mod moves;
 mod quiet;
+mod race;
+mod same;
 mod search;
 mod standing;
+mod state;
 mod told;
 mod turns;
+mod waits;
 mod witness;
 
-pub use search::{Explored, explore};
+pub use explored::{Ending, Explored, explore};
 pub use witness::Witness;
 
 #[cfg(test)]

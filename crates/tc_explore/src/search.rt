@@ -1,7 +1,8 @@
-//! The search for the verdicts of a test case.
-ghost use Rattle.std.specs.Prelude.{◌≡◌, ◌≤◌, IfOk, IfSome, length};
+//! The search with reductions: fast, and what it finds is sound; nothing is proved of what it may miss.
+ghost use Rattle.std.specs.Prelude.{◌≤◌, IfOk, IfSome, OnOk, length};
 ghost use Rattle.tc_entry.specs.declared.limits.TheConstants.{BEHAVIOURS};
-ghost use Rattle.tc_explore.specs.Found.{IsOn, IsWitness, AreWitnesses, AreLegal};
+ghost use Rattle.tc_explore.specs.Found.{IsOn, IsWitness, AreWitnesses};
+ghost use Rattle.tc_explore.specs.Inside.Seen.{IsLonger};
 
 use crate::course::Course;
 use crate::moves::{
@@ -12,19 +13,16 @@ use crate::turns::{follow, is_complete, next_call, step, step_all};
 use crate::witness::Witness;
 use indexmap::IndexSet;
 use std::alloc::Global;
-use tc_entry::{Entry, Reply, Sequence};
+use tc_entry::{Reply, Sequence};
 use tc_step::Script;
+use tc_table::copied_entries;
 use tc_verdict::{NoMemory, Run};
 
-/// What a search has found.
-#[derive(Drop)]
-pub struct Explored {
-    /// A witness of each overall verdict that was found.
-    pub found: Sequence<Witness>,
-    /// How many states were looked at.
-    pub states: usize,
-    /// Whether the search came to its end within its limit.
-    pub is_whole: bool,
+/// How far a search came: how many states it looked at, and whether it came to its end within its limit.
+#[derive(Clone, Copy)]
+pub(crate) struct Extent {
+    pub(crate) states: usize,
+    pub(crate) is_whole: bool,
 }
 
 // The states that were met, at most so many, and for those that are still to be looked at who called, one after the other.
@@ -34,16 +32,6 @@ struct Search {
     left: Vec<Vec<u16>>,
     limit: usize,
     is_cut: bool,
-}
-
-fn copied(alloc: Global, history: &[Entry]) -> Result<Vec<Entry>, NoMemory>
-    ensures { IfOk result (λ v. v.items ≡ history.now) }
-{
-    let mut all = Vec::with_capacity(alloc, history.len())?;
-    for entry in history {
-        all.push(entry.copy())?;
-    }
-    Ok(all)
 }
 
 // The witness that a course is, if no run has a call left.
@@ -60,12 +48,13 @@ fn witness_of(
         return Ok(None);
     }
     let verdict = course.verdict();
-    let history = Sequence::new(copied(alloc, course.history())?);
+    let history = Sequence::new(copied_entries(alloc, course.history())?);
     Ok(Some(Witness { verdict, history }))
 }
 
-// Notes the verdict of a case that is over, if it is new; each run makes its last call first, which is answered Ended.
-fn note(
+/// Notes the verdict of a case that is over, if it is new; each run makes its last call first, which is answered Ended.
+#[tactic(auto, using(crate::proofs::Seeing::seeing_rules))]
+pub(crate) fn note(
     alloc: Global,
     scripts: &[Script],
     course: Course,
@@ -74,7 +63,8 @@ fn note(
     requires few { length scripts.now ≤ BEHAVIOURS }
     requires on { IsOn scripts.now course }
     requires found { AreWitnesses scripts.now found.old.items }
-    ensures { AreWitnesses scripts.now found.new.items }
+    ensures found { AreWitnesses scripts.now found.new.items }
+    ensures more_found { IsLonger found.old.items found.new.items }
 {
     if is_found(found, course.verdict()) {
         return Ok(());
@@ -153,32 +143,32 @@ fn go(
     Ok(true)
 }
 
-// Makes these moves from the state of a schedule, and answers whether one could be made.
+// Makes these moves from a course, and answers whether one could be made.
 fn go_all(
     alloc: Global,
     scripts: &[Script],
-    schedule: &[u16],
+    course: &Course,
     moves: &[Move],
     search: &mut Search,
     found: &mut Vec<Witness>,
 ) -> Result<bool, NoMemory>
-    requires some { 1 ≤ length scripts.now }
     requires few { length scripts.now ≤ BEHAVIOURS }
+    requires on { IsOn scripts.now course.now }
     requires found { AreWitnesses scripts.now found.old.items }
     ensures { AreWitnesses scripts.now found.new.items }
 {
     let mut any = false;
     for way in moves {
-        let course = follow(alloc, scripts, schedule)?;
-        if go(alloc, scripts, course, *way, search, found)? {
+        let next = course.copied(alloc)?;
+        if go(alloc, scripts, next, *way, search, found)? {
             any = true;
         }
     }
     Ok(any)
 }
 
-// The end of a case in which no run can go on: all wait, and the main component's Wake is a dynamic error.
-fn with_stuck(course: Course, scripts: &[Script]) -> Result<Course, NoMemory>
+/// The end of a case in which no run can go on: all wait, and the main component's Wake is a dynamic error.
+pub(crate) fn with_stuck(course: Course, scripts: &[Script]) -> Result<Course, NoMemory>
     requires few { length scripts.now ≤ BEHAVIOURS }
     requires on { IsOn scripts.now course }
     ensures { IfOk result (IsOn scripts.now) }
@@ -206,15 +196,11 @@ fn expand(
     ensures { AreWitnesses scripts.now found.new.items }
 {
     let course = follow(alloc, scripts, schedule)?;
-    let mut moves = moves_of(alloc, &course, scripts)?;
-    let mut any = false;
-    if let Some(way) = moves.pop() {
-        any = go(alloc, scripts, course, way, search, found)?;
-    }
-    if go_all(alloc, scripts, schedule, &moves, search, found)? || any {
+    let moves = moves_of(alloc, &course, scripts)?;
+    if go_all(alloc, scripts, &course, &moves, search, found)? {
         return Ok(());
     }
-    let course = with_stuck(follow(alloc, scripts, schedule)?, scripts)?;
+    let course = with_stuck(course, scripts)?;
     note(alloc, scripts, course, found)
 }
 
@@ -241,23 +227,20 @@ fn look(
     Ok(limit)
 }
 
-/// Looks for the overall verdicts that the courses of a test case give, each with a complete course that gives it. It looks
-/// at so many states at most, and keeps no more. A test case without behaviours is left undecided.
-#[tactic(auto, using(crate::proofs::Legality::legal_rules))]
-pub fn explore(alloc: Global, scripts: &[Script], limit: usize) -> Result<Explored, NoMemory>
+/// Looks for the overall verdicts that the courses of a test case give, and notes each with a complete course that gives it.
+/// It looks at so many states at most, and keeps no more.
+pub(crate) fn search_reduced(
+    alloc: Global,
+    scripts: &[Script],
+    limit: usize,
+    found: &mut Vec<Witness>,
+) -> Result<Extent, NoMemory>
+    requires some { 1 ≤ length scripts.now }
     requires few { length scripts.now ≤ BEHAVIOURS }
-    ensures sound { IfOk result (λ e. AreWitnesses scripts.now e.found) }
-    ensures legal { IfOk result (λ e. AreLegal scripts.now e.found) }
+    requires found { AreWitnesses scripts.now found.old.items }
+    ensures found { OnOk result (AreWitnesses scripts.now found.new.items) }
     ensures within { IfOk result (λ e. e.states ≤ limit) }
 {
-    let mut found = Vec::new(alloc);
-    if scripts.is_empty() {
-        return Ok(Explored {
-            found: Sequence::new(found),
-            states: 0,
-            is_whole: false,
-        });
-    }
     let mut search = Search {
         seen: IndexSet::new(alloc),
         left: Vec::new(alloc),
@@ -266,9 +249,8 @@ pub fn explore(alloc: Global, scripts: &[Script], limit: usize) -> Result<Explor
     };
     let opening = follow(alloc, scripts, &[])?;
     search.keep(alloc, &opening)?;
-    let states = look(alloc, scripts, limit, &mut search, &mut found)?;
-    Ok(Explored {
-        found: Sequence::new(found),
+    let states = look(alloc, scripts, limit, &mut search, found)?;
+    Ok(Extent {
         states,
         is_whole: search.left.is_empty() && !search.is_cut,
     })

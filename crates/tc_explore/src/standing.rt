@@ -1,14 +1,17 @@
 //! What is known of one run.
-ghost use Rattle.std.specs.Prelude.{◌≡◌, ◌++◌, OnOk};
+ghost use Rattle.std.specs.Prelude.{◌≡◌, ◌++◌, IfOk, IsTrue, None, OnOk};
 ghost use Rattle.tc_explore.specs.Course as courses;
+ghost use Rattle.tc_explore.specs.Waits.{awaited_by};
 
 use crate::call::call_at;
-use crate::entries::{arguments, created, ends, is_wake, started_on, wake_after};
+use crate::entries::{arguments, ends, is_wake, wake_after};
 use crate::quiet::is_quiet;
+use crate::same::{are_same, comp_number};
 use std::alloc::Global;
 use std::marker::Model;
 use tc_entry::{Comp, Entry, Op};
 use tc_step::Step;
+use tc_table::{Awaited, created, started_on};
 use tc_verdict::{NoMemory, rank};
 
 /// What is known of a run by the entries so far.
@@ -43,11 +46,26 @@ impl Standing {
         }
     }
 
+    /// The same standing.
+    pub(crate) fn copied(&self, alloc: Global) -> Result<Standing, NoMemory>
+        ensures { IfOk result (λ s. s ≡ self.now) }
+    {
+        let mut bound = Vec::with_capacity(alloc, self.bound.len())?;
+        bound.extend_from_slice(self.bound.as_slice())?;
+        Ok(Standing {
+            comp: self.comp,
+            bound,
+            called: self.called,
+            left: self.left,
+            wake: self.wake.as_ref().map(Op::copy),
+        })
+    }
+
     // Takes in an entry of the run itself.
     fn take_own(&mut self, entry: &Entry) -> Result<(), NoMemory>
         ensures { OnOk result (self.new ≡ courses.after_own entry.now self.old) }
     {
-        if let Some(comp) = created(entry) {
+        if let Some(comp) = created(&entry.op, entry.reply) {
             self.bound.push(comp)?;
         }
         if !is_wake(&entry.op) {
@@ -100,6 +118,49 @@ impl Standing {
         }
     }
 
+    /// The component of the run and what it waits for, if a Wake is to come.
+    pub(crate) fn awaited(&self) -> Option<(Comp, Awaited)>
+        ensures { result ≡ awaited_by self.now.comp self.now.wake }
+    {
+        let (Some(comp), Some(Op::Wake { killed, target })) = (self.comp, &self.wake) else {
+            return None;
+        };
+        let awaited = Awaited {
+            killed: *killed,
+            target: *target,
+        };
+        Some((comp, awaited))
+    }
+
+    /// Whether its pass has ended.
+    pub(crate) fn has_left(&self) -> bool
+        ensures { result ≡ self.now.left }
+    {
+        self.left
+    }
+
+    /// Whether both are on the same component, or on none.
+    #[tactic(auto, using(crate::proofs::Sameness::same_rules))]
+    pub(crate) fn is_on_same(&self, other: &Standing) -> bool
+        ensures { IsTrue result → self.now.comp ≡ other.now.comp }
+    {
+        comp_number(self.comp) == comp_number(other.comp)
+    }
+
+    /// Whether the same is known of both, and no Wake is to come.
+    #[tactic(auto, using(crate::proofs::Sameness::same_rules))]
+    pub(crate) fn stands_as(&self, other: &Standing) -> bool
+        ensures same { IsTrue result → self.now ≡ other.now }
+        ensures no_wake { IsTrue result → other.now.wake ≡ None }
+    {
+        comp_number(self.comp) == comp_number(other.comp)
+            && are_same(&self.bound, &other.bound)
+            && self.called == other.called
+            && self.left == other.left
+            && self.wake.is_none()
+            && other.wake.is_none()
+    }
+
     /// The component of the run, if it was started and its pass has not ended.
     pub(crate) fn comp(&self) -> Option<Comp> {
         if self.left { None } else { self.comp }
@@ -150,21 +211,22 @@ impl Standing {
             key.push(HALTED)?;
             return Ok(());
         }
-        key.push((comp.0 % MOST) as u16)?;
-        key.push((self.called % 60_000) as u16)?;
+        key.push(small(u64::from(comp.0)))?;
+        key.push(small(self.called as u64))?;
         key.push(if self.wake.is_some() { 1 } else { 0 })?;
         for comp in &self.bound {
-            key.push((comp.0 % MOST) as u16)?;
+            key.push(small(u64::from(comp.0)))?;
         }
         key.push(END_OF_BOUND)?;
         Ok(())
     }
 }
 
-// No component has so great a number.
-const MOST: u32 = 60_000;
+// A number in a key. Components and steps have smaller ones than the words below.
+fn small(number: u64) -> u16 {
+    u16::try_from(number).unwrap_or(u16::MAX)
+}
 
-// In a key no number of a component is as great as these.
 const NOT_STARTED: u16 = 65_535;
 
 const HALTED: u16 = 65_534;

@@ -1,5 +1,8 @@
 //! Test cases with one verdict and with several.
+mod runs;
+
 use super::*;
+use crate::search::search_reduced;
 use std::alloc::Global;
 use std::process::Abort;
 use std::test::Fail;
@@ -37,14 +40,23 @@ fn script<R: Abort>(rt: &R, steps: Vec<Step>) -> Script {
     Script::new(0, steps)
 }
 
-// The verdicts of a search that came to its end, as they were found.
+// The verdicts that were found, as they were found; of a search that misses none. The search with reductions alone finds the
+// same.
 fn verdicts<R: Abort>(rt: &R, alloc: Global, scripts: &[Script]) -> Result<Vec<Verdict>, Fail> {
-    assert!(rt; scripts.len() <= 64);
+    assert!(rt; 1 <= scripts.len() && scripts.len() <= 64);
     let explored = explore(alloc, scripts, MANY)?;
-    assert!(rt; explored.is_whole);
+    assert!(rt; explored.ending == Ending::Complete);
     let mut verdicts = Vec::new(alloc);
     for witness in explored.found.as_slice() {
         verdicts.push(witness.verdict)?;
+    }
+    let mut found = Vec::new(alloc);
+    let extent = search_reduced(alloc, scripts, MANY, &mut found)?;
+    assert!(rt; extent.is_whole);
+    assert_eq!(rt; extent.states, explored.states);
+    assert_eq!(rt; found.len(), verdicts.len());
+    for witness in &found {
+        assert!(rt; verdicts.contains(&witness.verdict));
     }
     Ok(verdicts)
 }
@@ -68,7 +80,7 @@ fn who_waits_has_one_verdict(rt: HostRuntime) -> Result<(), Fail> {
         setting(&rt, alloc, UserVerdict::Pass)?,
     ]?;
     let explored = explore(alloc, scripts.as_slice(), MANY)?;
-    assert!(rt; explored.is_whole && explored.states >= 1);
+    assert!(rt; explored.ending == Ending::Complete && explored.states >= 1);
     assert_eq!(rt; explored.found.as_slice().len(), 1);
     let witness = &explored.found.as_slice()[0];
     assert_eq!(rt; witness.verdict, Verdict::Pass);
@@ -172,9 +184,11 @@ fn a_search_ends_at_its_limit(rt: HostRuntime) -> Result<(), Fail> {
     ]?;
     for limit in 0..3 {
         let explored = explore(alloc, scripts.as_slice(), limit)?;
-        assert!(rt; !explored.is_whole);
+        assert!(rt; explored.ending == Ending::Undecided);
         assert_eq!(rt; explored.states, limit);
     }
+    let explored = explore(alloc, scripts.as_slice(), 3)?;
+    assert!(rt; explored.ending == Ending::Reduced);
     Ok(())
 }
 
@@ -195,6 +209,9 @@ fn lines_and_statuses(rt: HostRuntime) -> Result<(), Fail> {
         setting(&rt, alloc, UserVerdict::Fail)?,
     ]?;
     let (line, status) = told(alloc, &explore(alloc, race.as_slice(), MANY)?)?;
+    assert_eq!(rt; line.as_str(), "t none fail complete\n");
+    assert_eq!(rt; status, 1);
+    let (line, status) = told(alloc, &explore(alloc, race.as_slice(), 3)?)?;
     assert_eq!(rt; line.as_str(), "t none fail looked at 3 states\n");
     assert_eq!(rt; status, 1);
     let (line, status) = told(alloc, &explore(alloc, race.as_slice(), 0)?)?;
@@ -203,7 +220,7 @@ fn lines_and_statuses(rt: HostRuntime) -> Result<(), Fail> {
     let alone = vec![in alloc; setting(&rt, alloc, UserVerdict::Pass)?]?;
     let explored = explore(alloc, alone.as_slice(), MANY)?;
     let (line, status) = told(alloc, &explored)?;
-    assert_eq!(rt; line.as_str(), "t pass looked at 1 states\n");
+    assert_eq!(rt; line.as_str(), "t pass complete\n");
     assert_eq!(rt; status, 0);
     let mut out = Vec::new(alloc);
     let name = Name::read("t").ok_or("a name")?;
@@ -213,3 +230,5 @@ fn lines_and_statuses(rt: HostRuntime) -> Result<(), Fail> {
     assert_eq!(rt; out.as_slice(), wanted.as_bytes());
     Ok(())
 }
+
+mod details;

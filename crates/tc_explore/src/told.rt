@@ -1,10 +1,9 @@
 //! What is told of a test case that was explored.
-ghost use Rattle.std.specs.Prelude.{◌≡◌, ◌≤◌, ◌++◌, OnOk, codes};
-ghost use Rattle.std.specs.Fmt.{decimal};
+ghost use Rattle.std.specs.Prelude.{◌≡◌, ◌≤◌, ◌++◌, OnOk};
 ghost use Rattle.tc_verdict.specs.Verdict.{level_of};
 ghost use Rattle.tc_explore.specs.Told as told;
 
-use crate::search::Explored;
+use crate::explored::{Ending, Explored};
 use crate::witness::Witness;
 use tc_entry::Name;
 use tc_history::write_block;
@@ -77,7 +76,7 @@ fn append_verdicts(out: &mut Vec<u8>, found: &[Witness]) -> Result<(), NoMemory>
 
 // Appends a number of states behind these words; where memory is refused, a part of it.
 fn append_states(out: &mut Vec<u8>, words: &str, states: usize) -> Result<(), NoMemory>
-    ensures { OnOk result (out.new.items ≡ out.old.items ++ (words.now ++ (decimal states ++ codes " states"))) }
+    ensures { OnOk result (out.new.items ≡ out.old.items ++ told.states_words words.now states) }
 {
     append_text(out, words)?;
     append_number(out, states as u64)?;
@@ -85,33 +84,39 @@ fn append_states(out: &mut Vec<u8>, words: &str, states: usize) -> Result<(), No
 }
 
 // Appends how the search ended; where memory is refused, a part of it.
-fn append_ending(out: &mut Vec<u8>, is_whole: bool, states: usize) -> Result<(), NoMemory>
-    ensures { OnOk result (out.new.items ≡ out.old.items ++ told.ending_words is_whole states) }
+fn append_ending(out: &mut Vec<u8>, ending: Ending, states: usize) -> Result<(), NoMemory>
+    ensures { OnOk result (out.new.items ≡ out.old.items ++ told.ending_words ending states) }
 {
-    if is_whole {
-        append_states(out, " looked at ", states)
+    match ending {
+        Ending::Complete => append_text(out, " complete"),
+        Ending::Reduced => append_states(out, " looked at ", states),
+        Ending::Undecided => append_states(out, " undecided after ", states),
+    }
+}
+
+// The status by the number of verdicts that were found.
+fn count_status(count: u64) -> u8
+    ensures { result ≡ told.count_status count }
+{
+    if count == 1 {
+        0
+    } else if 1 < count {
+        1
     } else {
-        append_states(out, " undecided after ", states)
+        3
     }
 }
 
 impl Explored {
-    /// The status of the test case: 0 where one verdict was found, 1 where more were; 3 where the search did not come to
-    /// its end.
+    /// The status of the test case: 0 where one verdict was found, 1 where more were; 3 where the search met its limit.
     pub fn status(&self) -> u8
         ensures { result ≡ told.explored_status self.now }
     {
-        let count = verdict_count(self.found.as_slice());
-        if self.is_whole {
-            if count == 1 {
-                0
-            } else if 1 < count {
-                1
-            } else {
-                3
-            }
-        } else {
-            3
+        match self.ending {
+            Ending::Complete | Ending::Reduced => count_status(verdict_count(
+                self.found.as_slice(),
+            )),
+            Ending::Undecided => 3,
         }
     }
 
@@ -122,7 +127,7 @@ impl Explored {
     {
         out.extend_from_slice(name.bytes())?;
         append_verdicts(out, self.found.as_slice())?;
-        append_ending(out, self.is_whole, self.states)?;
+        append_ending(out, self.ending, self.states)?;
         out.push(b'\n')?;
         Ok(())
     }

@@ -38,24 +38,42 @@ is_name text =
 abbrev pub name : List ℕ → Option (List ℕ)
 name word = if is_name word then Some word else None
 
+-- the spelling of a keyword
+abbrev pub keyword_text : Keyword → List ℕ
+keyword_text K.TestCase = codes "testcase"
+keyword_text K.Behaviour = codes "behaviour"
+keyword_text K.End = codes "end"
+keyword_text K.Create = codes "create"
+keyword_text K.Start = codes "start"
+keyword_text K.Stop = codes "stop"
+keyword_text K.Kill = codes "kill"
+keyword_text K.StopCase = codes "stopcase"
+keyword_text (K.Ask S.Running) = codes "running"
+keyword_text (K.Ask S.Alive) = codes "alive"
+keyword_text (K.Ask S.Done) = codes "done"
+keyword_text (K.Ask S.Killed) = codes "killed"
+keyword_text K.Wait = codes "wait"
+keyword_text K.SetVerdict = codes "setverdict"
+keyword_text K.GetVerdict = codes "getverdict"
+
 -- the first word of a line
 unfoldable pub keyword : List ℕ → Option Keyword
 keyword word =
-    if is_text word (codes "testcase") then Some K.TestCase
-    else if is_text word (codes "behaviour") then Some K.Behaviour
-    else if is_text word (codes "end") then Some K.End
-    else if is_text word (codes "create") then Some K.Create
-    else if is_text word (codes "start") then Some K.Start
-    else if is_text word (codes "stop") then Some K.Stop
-    else if is_text word (codes "kill") then Some K.Kill
-    else if is_text word (codes "stopcase") then Some K.StopCase
-    else if is_text word (codes "running") then Some (K.Ask S.Running)
-    else if is_text word (codes "alive") then Some (K.Ask S.Alive)
-    else if is_text word (codes "done") then Some (K.Ask S.Done)
-    else if is_text word (codes "killed") then Some (K.Ask S.Killed)
-    else if is_text word (codes "wait") then Some K.Wait
-    else if is_text word (codes "setverdict") then Some K.SetVerdict
-    else if is_text word (codes "getverdict") then Some K.GetVerdict
+    if is_text word (keyword_text K.TestCase) then Some K.TestCase
+    else if is_text word (keyword_text K.Behaviour) then Some K.Behaviour
+    else if is_text word (keyword_text K.End) then Some K.End
+    else if is_text word (keyword_text K.Create) then Some K.Create
+    else if is_text word (keyword_text K.Start) then Some K.Start
+    else if is_text word (keyword_text K.Stop) then Some K.Stop
+    else if is_text word (keyword_text K.Kill) then Some K.Kill
+    else if is_text word (keyword_text K.StopCase) then Some K.StopCase
+    else if is_text word (keyword_text (K.Ask S.Running)) then Some (K.Ask S.Running)
+    else if is_text word (keyword_text (K.Ask S.Alive)) then Some (K.Ask S.Alive)
+    else if is_text word (keyword_text (K.Ask S.Done)) then Some (K.Ask S.Done)
+    else if is_text word (keyword_text (K.Ask S.Killed)) then Some (K.Ask S.Killed)
+    else if is_text word (keyword_text K.Wait) then Some K.Wait
+    else if is_text word (keyword_text K.SetVerdict) then Some K.SetVerdict
+    else if is_text word (keyword_text K.GetVerdict) then Some K.GetVerdict
     else None
 
 -- what setverdict may set

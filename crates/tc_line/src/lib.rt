@@ -9,11 +9,13 @@ mod text;
 mod word;
 
 pub use kind::{LineFault, ScriptKind};
-pub use line::{Call, Line};
-pub use reading::read_line;
+pub use line::{Call, Keyword, Line};
+pub use reading::{is_comment, read_line, read_reference};
+pub use spelling::{KEYWORDS, is_word, read_keyword, read_verdict};
 pub use tc_entry::{Name, Sequence, UserVerdict};
 pub use tc_step::{GroupPlace, Place, Status, TargetPlace};
-pub use text::lines_of;
+pub use text::{Lines, read_words};
+pub use word::read_name;
 
 #[cfg(test)]
 mod tests;

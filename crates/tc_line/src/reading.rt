@@ -12,7 +12,10 @@ use std::alloc::Global;
 use tc_entry::{Name, Sequence};
 use tc_step::{GroupPlace, Place, Status, TargetPlace};
 
+// What reads a name stands out of line (`inline(never)`): so the reader of the lines without one, as `setverdict pass`,
+// has no room for names to clear and move.
 #[tactic(auto, unfolding(crate::specs::Line::named))]
+#[inline(never)]
 fn read_named(word: &[u8]) -> Result<Name, ScriptKind>
     ensures { result ≡ named word.now }
 {
@@ -22,8 +25,10 @@ fn read_named(word: &[u8]) -> Result<Name, ScriptKind>
     }
 }
 
+/// The component that the word names.
 #[tactic(auto, unfolding(crate::specs::Line::reference))]
-fn read_reference(word: &[u8]) -> Result<Place<Name>, ScriptKind>
+#[inline(never)]
+pub fn read_reference(word: &[u8]) -> Result<Place<Name>, ScriptKind>
     ensures { result ≡ reference word.now }
 {
     if is_word(word, b"mtc") {
@@ -62,20 +67,21 @@ fn read_target(word: &[u8]) -> Result<TargetPlace<Place<Name>>, ScriptKind>
 }
 
 #[tactic(auto, unfolding(crate::specs::Line::form))]
-fn read_test_case(words: &[&[u8]]) -> Result<Line, ScriptKind>
-    ensures { result ≡ form K.TestCase (map (λ w. w.now) words.now) }
+#[inline(never)]
+fn read_test_case(words: &[&[u8]]) -> Result<Line, LineFault>
+    ensures { Gives result (form K.TestCase (map (λ w. w.now) words.now)) }
 {
     match words {
         [word] => {
             let name = read_named(word)?;
             Ok(Line::TestCase(name))
         }
-        _ => Err(ScriptKind::BadLine),
+        _ => Err(LineFault::Kind(ScriptKind::BadLine)),
     }
 }
 
-fn read_unnamed_create(word: &[u8], alive: bool) -> Result<Line, ScriptKind>
-    ensures { result ≡ create word.now alive }
+fn read_unnamed_create(word: &[u8], alive: bool) -> Result<Line, LineFault>
+    ensures { Gives result (create word.now alive) }
 {
     let name = read_named(word)?;
     Ok(Line::Step(Call::Create {
@@ -85,8 +91,8 @@ fn read_unnamed_create(word: &[u8], alive: bool) -> Result<Line, ScriptKind>
     }))
 }
 
-fn read_named_create(word: &[u8], alive: bool, given: &[u8]) -> Result<Line, ScriptKind>
-    ensures { result ≡ create_named word.now alive given.now }
+fn read_named_create(word: &[u8], alive: bool, given: &[u8]) -> Result<Line, LineFault>
+    ensures { Gives result (create_named word.now alive given.now) }
 {
     let name = read_named(word)?;
     let given_name = read_named(given)?;
@@ -98,33 +104,34 @@ fn read_named_create(word: &[u8], alive: bool, given: &[u8]) -> Result<Line, Scr
 }
 
 #[tactic(auto, unfolding(crate::specs::Line::form))]
-fn read_create(words: &[&[u8]]) -> Result<Line, ScriptKind>
-    ensures { result ≡ form K.Create (map (λ w. w.now) words.now) }
+#[inline(never)]
+fn read_create(words: &[&[u8]]) -> Result<Line, LineFault>
+    ensures { Gives result (form K.Create (map (λ w. w.now) words.now)) }
 {
     match words {
         [word] => read_unnamed_create(word, false),
         [word, second] => {
             if !is_word(second, b"alive") {
-                return Err(ScriptKind::BadLine);
+                return Err(LineFault::Kind(ScriptKind::BadLine));
             }
             read_unnamed_create(word, true)
         }
         [word, second, given] => {
             if !is_word(second, b"named") {
-                return Err(ScriptKind::BadLine);
+                return Err(LineFault::Kind(ScriptKind::BadLine));
             }
             read_named_create(word, false, given)
         }
         [word, second, third, given] => {
             if !is_word(second, b"alive") {
-                return Err(ScriptKind::BadLine);
+                return Err(LineFault::Kind(ScriptKind::BadLine));
             }
             if !is_word(third, b"named") {
-                return Err(ScriptKind::BadLine);
+                return Err(LineFault::Kind(ScriptKind::BadLine));
             }
             read_named_create(word, true, given)
         }
-        _ => Err(ScriptKind::BadLine),
+        _ => Err(LineFault::Kind(ScriptKind::BadLine)),
     }
 }
 
@@ -151,6 +158,7 @@ fn read_references(alloc: Global, words: &[&[u8]]) -> Result<Sequence<Place<Name
 }
 
 #[tactic(auto, unfolding(crate::specs::Line::form))]
+#[inline(never)]
 fn read_behaviour(alloc: Global, words: &[&[u8]]) -> Result<Line, LineFault>
     ensures { Gives result (form K.Behaviour (map (λ w. w.now) words.now)) }
 {
@@ -165,6 +173,7 @@ fn read_behaviour(alloc: Global, words: &[&[u8]]) -> Result<Line, LineFault>
 }
 
 #[tactic(auto, unfolding(crate::specs::Line::form))]
+#[inline(never)]
 fn read_start(alloc: Global, words: &[&[u8]]) -> Result<Line, LineFault>
     ensures { Gives result (form K.Start (map (λ w. w.now) words.now)) }
 {
@@ -184,8 +193,9 @@ fn read_start(alloc: Global, words: &[&[u8]]) -> Result<Line, LineFault>
 }
 
 #[tactic(auto, unfolding(crate::specs::Line::form))]
-fn read_wait(words: &[&[u8]]) -> Result<Line, ScriptKind>
-    ensures { result ≡ form K.Wait (map (λ w. w.now) words.now) }
+#[inline(never)]
+fn read_wait(words: &[&[u8]]) -> Result<Line, LineFault>
+    ensures { Gives result (form K.Wait (map (λ w. w.now) words.now)) }
 {
     match words {
         [status, target] => {
@@ -194,116 +204,118 @@ fn read_wait(words: &[&[u8]]) -> Result<Line, ScriptKind>
             } else if is_word(status, b"killed") {
                 true
             } else {
-                return Err(ScriptKind::BadLine);
+                return Err(LineFault::Kind(ScriptKind::BadLine));
             };
             let target = read_target(target)?;
             Ok(Line::Step(Call::Wait { killed, target }))
         }
-        _ => Err(ScriptKind::BadLine),
+        _ => Err(LineFault::Kind(ScriptKind::BadLine)),
     }
 }
 
 #[tactic(auto, unfolding(crate::specs::Line::form))]
-fn read_stop(words: &[&[u8]]) -> Result<Line, ScriptKind>
-    ensures { result ≡ form K.Stop (map (λ w. w.now) words.now) }
+#[inline(never)]
+fn read_stop(words: &[&[u8]]) -> Result<Line, LineFault>
+    ensures { Gives result (form K.Stop (map (λ w. w.now) words.now)) }
 {
     match words {
         [word] => {
             let group = read_group(word)?;
             Ok(Line::Step(Call::Stop(group)))
         }
-        _ => Err(ScriptKind::BadLine),
+        _ => Err(LineFault::Kind(ScriptKind::BadLine)),
     }
 }
 
 #[tactic(auto, unfolding(crate::specs::Line::form))]
-fn read_kill(words: &[&[u8]]) -> Result<Line, ScriptKind>
-    ensures { result ≡ form K.Kill (map (λ w. w.now) words.now) }
+#[inline(never)]
+fn read_kill(words: &[&[u8]]) -> Result<Line, LineFault>
+    ensures { Gives result (form K.Kill (map (λ w. w.now) words.now)) }
 {
     match words {
         [word] => {
             let group = read_group(word)?;
             Ok(Line::Step(Call::Kill(group)))
         }
-        _ => Err(ScriptKind::BadLine),
+        _ => Err(LineFault::Kind(ScriptKind::BadLine)),
     }
 }
 
 #[tactic(auto, unfolding(crate::specs::Line::form))]
-fn read_stop_case(words: &[&[u8]]) -> Result<Line, ScriptKind>
-    ensures { result ≡ form K.StopCase (map (λ w. w.now) words.now) }
+fn read_stop_case(words: &[&[u8]]) -> Result<Line, LineFault>
+    ensures { Gives result (form K.StopCase (map (λ w. w.now) words.now)) }
 {
     match words {
         [] => Ok(Line::Step(Call::StopCase)),
-        _ => Err(ScriptKind::BadLine),
+        _ => Err(LineFault::Kind(ScriptKind::BadLine)),
     }
 }
 
 #[tactic(auto, unfolding(crate::specs::Line::form))]
-fn read_ask(status: Status, words: &[&[u8]]) -> Result<Line, ScriptKind>
-    ensures { result ≡ form (K.Ask status) (map (λ w. w.now) words.now) }
+#[inline(never)]
+fn read_ask(status: Status, words: &[&[u8]]) -> Result<Line, LineFault>
+    ensures { Gives result (form (K.Ask status) (map (λ w. w.now) words.now)) }
 {
     match words {
         [word] => {
             let target = read_target(word)?;
             Ok(Line::Step(Call::Ask(status, target)))
         }
-        _ => Err(ScriptKind::BadLine),
+        _ => Err(LineFault::Kind(ScriptKind::BadLine)),
     }
 }
 
 #[tactic(auto, unfolding(crate::specs::Line::form))]
-fn read_set_verdict(words: &[&[u8]]) -> Result<Line, ScriptKind>
-    ensures { result ≡ form K.SetVerdict (map (λ w. w.now) words.now) }
+fn read_set_verdict(words: &[&[u8]]) -> Result<Line, LineFault>
+    ensures { Gives result (form K.SetVerdict (map (λ w. w.now) words.now)) }
 {
     match words {
         [word] => match read_verdict(word) {
             Some(verdict) => Ok(Line::Step(Call::SetVerdict(verdict))),
-            None => Err(ScriptKind::BadLine),
+            None => Err(LineFault::Kind(ScriptKind::BadLine)),
         },
-        _ => Err(ScriptKind::BadLine),
+        _ => Err(LineFault::Kind(ScriptKind::BadLine)),
     }
 }
 
 #[tactic(auto, unfolding(crate::specs::Line::form))]
-fn read_end(words: &[&[u8]]) -> Result<Line, ScriptKind>
-    ensures { result ≡ form K.End (map (λ w. w.now) words.now) }
+fn read_end(words: &[&[u8]]) -> Result<Line, LineFault>
+    ensures { Gives result (form K.End (map (λ w. w.now) words.now)) }
 {
     if words.is_empty() {
         Ok(Line::End)
     } else {
-        Err(ScriptKind::BadLine)
+        Err(LineFault::Kind(ScriptKind::BadLine))
     }
 }
 
 #[tactic(auto, unfolding(crate::specs::Line::form))]
-fn read_get_verdict(words: &[&[u8]]) -> Result<Line, ScriptKind>
-    ensures { result ≡ form K.GetVerdict (map (λ w. w.now) words.now) }
+fn read_get_verdict(words: &[&[u8]]) -> Result<Line, LineFault>
+    ensures { Gives result (form K.GetVerdict (map (λ w. w.now) words.now)) }
 {
     match words {
         [] => Ok(Line::Step(Call::GetVerdict)),
-        _ => Err(ScriptKind::BadLine),
+        _ => Err(LineFault::Kind(ScriptKind::BadLine)),
     }
 }
 
 fn read_form(alloc: Global, keyword: Keyword, words: &[&[u8]]) -> Result<Line, LineFault>
     ensures { Gives result (form keyword (map (λ w. w.now) words.now)) }
 {
-    let line = match keyword {
-        Keyword::TestCase => read_test_case(words)?,
-        Keyword::Behaviour => read_behaviour(alloc, words)?,
-        Keyword::End => read_end(words)?,
-        Keyword::Create => read_create(words)?,
-        Keyword::Start => read_start(alloc, words)?,
-        Keyword::Stop => read_stop(words)?,
-        Keyword::Kill => read_kill(words)?,
-        Keyword::StopCase => read_stop_case(words)?,
-        Keyword::Ask(status) => read_ask(status, words)?,
-        Keyword::Wait => read_wait(words)?,
-        Keyword::SetVerdict => read_set_verdict(words)?,
-        Keyword::GetVerdict => read_get_verdict(words)?,
-    };
-    Ok(line)
+    match keyword {
+        Keyword::TestCase => read_test_case(words),
+        Keyword::Behaviour => read_behaviour(alloc, words),
+        Keyword::End => read_end(words),
+        Keyword::Create => read_create(words),
+        Keyword::Start => read_start(alloc, words),
+        Keyword::Stop => read_stop(words),
+        Keyword::Kill => read_kill(words),
+        Keyword::StopCase => read_stop_case(words),
+        Keyword::Ask(status) => read_ask(status, words),
+        Keyword::Wait => read_wait(words),
+        Keyword::SetVerdict => read_set_verdict(words),
+        Keyword::GetVerdict => read_get_verdict(words),
+    }
 }
 
 #[tactic(auto, unfolding(crate::specs::Line::printable))]
@@ -313,7 +325,8 @@ fn is_printable(line: &[u8]) -> bool
     line.iter().all(|byte| 32 <= *byte && *byte <= 126)
 }
 
-fn is_comment(word: &[u8]) -> bool
+/// Whether a line whose first word this is says nothing.
+pub fn is_comment(word: &[u8]) -> bool
     ensures { result ≡ comment word.now }
 {
     match word {

@@ -1,6 +1,6 @@
 //! The words of the script language: keywords and verdicts.
 ghost use Rattle.std.specs.Prelude.{◌≡◌};
-ghost use Rattle.tc_line.specs.Words.{is_text, keyword, verdict};
+ghost use Rattle.tc_line.specs.Words.{is_text, keyword, keyword_text, verdict};
 
 use crate::line::Keyword;
 use tc_entry::UserVerdict;
@@ -14,40 +14,93 @@ pub fn is_word(word: &[u8], spelling: &[u8]) -> bool
     word == spelling
 }
 
+/// All keywords, in the order of their table.
+pub const KEYWORDS: [Keyword; 15] = [
+    Keyword::TestCase,
+    Keyword::Behaviour,
+    Keyword::End,
+    Keyword::Create,
+    Keyword::Start,
+    Keyword::Stop,
+    Keyword::Kill,
+    Keyword::StopCase,
+    Keyword::Ask(Status::Running),
+    Keyword::Ask(Status::Alive),
+    Keyword::Ask(Status::Done),
+    Keyword::Ask(Status::Killed),
+    Keyword::Wait,
+    Keyword::SetVerdict,
+    Keyword::GetVerdict,
+];
+
+impl Keyword {
+    /// Its spelling.
+    #[inline(always)]
+    pub fn text(self) -> &'static str
+        ensures { result.now ≡ keyword_text self }
+    {
+        match self {
+            Keyword::TestCase => "testcase",
+            Keyword::Behaviour => "behaviour",
+            Keyword::End => "end",
+            Keyword::Create => "create",
+            Keyword::Start => "start",
+            Keyword::Stop => "stop",
+            Keyword::Kill => "kill",
+            Keyword::StopCase => "stopcase",
+            Keyword::Ask(Status::Running) => "running",
+            Keyword::Ask(Status::Alive) => "alive",
+            Keyword::Ask(Status::Done) => "done",
+            Keyword::Ask(Status::Killed) => "killed",
+            Keyword::Wait => "wait",
+            Keyword::SetVerdict => "setverdict",
+            Keyword::GetVerdict => "getverdict",
+        }
+    }
+}
+
+// Whether the word is this keyword.
+#[inline(always)]
+fn is_keyword(word: &[u8], keyword: Keyword) -> bool
+    ensures { result ≡ is_text word.now (keyword_text keyword) }
+{
+    is_word(word, keyword.text().as_bytes())
+}
+
 /// The keyword of this spelling.
 #[tactic(auto, unfolding(crate::specs::Words::keyword))]
 pub fn read_keyword(word: &[u8]) -> Option<Keyword>
     ensures { result ≡ keyword word.now }
 {
-    if is_word(word, b"testcase") {
+    if is_keyword(word, Keyword::TestCase) {
         Some(Keyword::TestCase)
-    } else if is_word(word, b"behaviour") {
+    } else if is_keyword(word, Keyword::Behaviour) {
         Some(Keyword::Behaviour)
-    } else if is_word(word, b"end") {
+    } else if is_keyword(word, Keyword::End) {
         Some(Keyword::End)
-    } else if is_word(word, b"create") {
+    } else if is_keyword(word, Keyword::Create) {
         Some(Keyword::Create)
-    } else if is_word(word, b"start") {
+    } else if is_keyword(word, Keyword::Start) {
         Some(Keyword::Start)
-    } else if is_word(word, b"stop") {
+    } else if is_keyword(word, Keyword::Stop) {
         Some(Keyword::Stop)
-    } else if is_word(word, b"kill") {
+    } else if is_keyword(word, Keyword::Kill) {
         Some(Keyword::Kill)
-    } else if is_word(word, b"stopcase") {
+    } else if is_keyword(word, Keyword::StopCase) {
         Some(Keyword::StopCase)
-    } else if is_word(word, b"running") {
+    } else if is_keyword(word, Keyword::Ask(Status::Running)) {
         Some(Keyword::Ask(Status::Running))
-    } else if is_word(word, b"alive") {
+    } else if is_keyword(word, Keyword::Ask(Status::Alive)) {
         Some(Keyword::Ask(Status::Alive))
-    } else if is_word(word, b"done") {
+    } else if is_keyword(word, Keyword::Ask(Status::Done)) {
         Some(Keyword::Ask(Status::Done))
-    } else if is_word(word, b"killed") {
+    } else if is_keyword(word, Keyword::Ask(Status::Killed)) {
         Some(Keyword::Ask(Status::Killed))
-    } else if is_word(word, b"wait") {
+    } else if is_keyword(word, Keyword::Wait) {
         Some(Keyword::Wait)
-    } else if is_word(word, b"setverdict") {
+    } else if is_keyword(word, Keyword::SetVerdict) {
         Some(Keyword::SetVerdict)
-    } else if is_word(word, b"getverdict") {
+    } else if is_keyword(word, Keyword::GetVerdict) {
         Some(Keyword::GetVerdict)
     } else {
         None

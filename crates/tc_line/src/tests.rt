@@ -12,7 +12,7 @@ fn kind_of<R: Abort + AllocGlobal>(rt: &R, line: &str) -> Option<ScriptKind> {
 }
 
 #[test]
-fn lines_of_a_text(rt: HostRuntime) -> Result<(), Fail> {
+fn lines_of_a_text(rt: HostRuntime) {
     let texts: [(&str, &[&str]); 5] = [
         ("", &[]),
         ("\n", &[""]),
@@ -21,13 +21,13 @@ fn lines_of_a_text(rt: HostRuntime) -> Result<(), Fail> {
         ("a\n\n b \nc", &["a", "", " b ", "c"]),
     ];
     for (text, expected) in texts {
-        let lines = lines_of(rt.alloc(), text.as_bytes())?;
-        assert_eq!(rt; lines.len(), expected.len(), "{text}");
-        for (line, bytes) in lines.iter().zip(expected) {
-            assert_eq!(rt; *line, bytes.as_bytes(), "{text}");
+        let mut lines = Lines::new(text.as_bytes());
+        for bytes in expected {
+            assert_eq!(rt; lines.next(), Some(bytes.as_bytes()), "{text}");
         }
+        assert_eq!(rt; lines.next(), None, "{text}");
+        assert_eq!(rt; lines.next(), None, "{text}");
     }
-    Ok(())
 }
 
 #[test]

@@ -1,8 +1,10 @@
 //! The lines of a text, and the words of a line.
-ghost use Rattle.std.specs.Prelude.{◌≡◌, IfOk, OnOk, map};
-ghost use Rattle.tc_line.specs.Text.{lines, words, parts, is_newline, without_end};
+ghost use Rattle.std.specs.Prelude.{◌≡◌, [], ◌∷◌, OnOk, MatchOption, map};
+ghost use Rattle.tc_line.specs.Text.{lines, words};
 
-use std::alloc::{AllocError, Global};
+use memchr::memchr;
+use std::alloc::AllocError;
+use std::marker::Model;
 
 /// Leaves the words of a line in the list, in place of what was there.
 pub fn read_words<'t>(line: &'t [u8], list: &mut Vec<&'t [u8]>) -> Result<(), AllocError>
@@ -17,29 +19,48 @@ pub fn read_words<'t>(line: &'t [u8], list: &mut Vec<&'t [u8]>) -> Result<(), Al
     Ok(())
 }
 
-fn parts_of(alloc: Global, text: &[u8]) -> Result<Vec<&[u8]>, AllocError>
-    ensures { IfOk result (λ v. map (λ w. w.now) v.items ≡ parts is_newline text.now) }
-{
-    text.split(|byte| *byte == b'\n').collect(alloc)
+/// The lines of a text that are still to be read, each without its end.
+#[derive(Drop)]
+pub struct Lines<'t> {
+    text: &'t [u8],
 }
 
-#[tactic(auto, unfolding(crate::specs::Text::without_end))]
-fn end_cut(text: &[u8]) -> &[u8]
-    ensures { result.now ≡ without_end text.now }
-{
-    match text {
-        [front @ .., b'\n'] => front,
-        _ => text,
-    }
+impl<'t> Model for Lines<'t> {
+    ghost use Rattle.std.specs.Prelude.{List, ℕ};
+    ghost use Rattle.tc_line.specs.Text.{lines};
+
+    ghost Value = { List (List ℕ) };
+
+    ghost view = { λ l. lines l.text.now };
 }
 
-/// The lines of a text, each without its end.
-#[tactic(auto, unfolding(crate::specs::Text::lines))]
-pub fn lines_of(alloc: Global, text: &[u8]) -> Result<Vec<&[u8]>, AllocError>
-    ensures { IfOk result (λ v. map (λ w. w.now) v.items ≡ lines text.now) }
-{
-    if text.is_empty() {
-        return Ok(Vec::new(alloc));
+impl<'t> Lines<'t> {
+    /// The lines of a text.
+    pub fn new(text: &'t [u8]) -> Lines<'t>
+        ensures { result ≡ lines text.now }
+    {
+        Lines { text }
     }
-    parts_of(alloc, end_cut(text))
+
+    /// Takes the first line.
+    #[tactic(auto, using(crate::proofs::Taking::taking_rules))]
+    pub fn next(&mut self) -> Option<&'t [u8]>
+        ensures { MatchOption result ((self.old ≡ []) × (self.new ≡ [])) (λ line. self.old ≡ line.now ∷ self.new) }
+    {
+        if self.text.is_empty() {
+            return None;
+        }
+        match memchr(b'\n', self.text) {
+            Some(at) => {
+                let line = &self.text[..at];
+                self.text = &self.text[at + 1..];
+                Some(line)
+            }
+            None => {
+                let line = self.text;
+                self.text = &line[line.len()..];
+                Some(line)
+            }
+        }
+    }
 }

@@ -1,4 +1,5 @@
 -- The lemmas of this crate.
+pub mod Aborts
 pub mod Counting
 pub mod Locals
 pub mod Observing

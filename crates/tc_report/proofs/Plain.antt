@@ -12,8 +12,9 @@ use Rattle.tc_verdict.specs.declared.verdict.Verdict.{Verdict}
 use Rattle.tc_verdict.specs.declared.verdict.Verdict.TheVariants as V
 use Rattle.tc_verdict.specs.Verdict.{name_of}
 use Rattle.tc_entry.specs.Name.{is_name_byte, IsName}
-use Rattle.tc_report.specs.declared.results.Finished.{Finished}
-use Rattle.tc_report.specs.Csv.{csv_line, counts_of, record_fields}
+use Rattle.tc_report.specs.declared.results.CaseEnd.{CaseEnd}
+use Rattle.tc_report.specs.declared.results.CaseEnd.TheVariants as C
+use Rattle.tc_report.specs.Csv.{csv_line, counts_of, end_word, row_fields}
 
 -- no byte of the field calls for quotes
 abbrev pub IsUnquoted : List ℕ → Type 0
@@ -43,17 +44,23 @@ verdict-unquoted V.Inconc = refl
 verdict-unquoted V.Fail = refl
 verdict-unquoted V.Error = refl
 
+end-unquoted : (ending : CaseEnd) → IsUnquoted (end_word ending)
+end-unquoted (C.Over v) = verdict-unquoted v
+end-unquoted C.Unfinished = refl
+end-unquoted (C.Aborted why) = refl
+
 counts-unquoted : (ns : List ℕ) (rest : List (List ℕ)) → All IsBoundedDecimal ns → All IsUnquoted rest → All IsUnquoted (map decimal ns ++ rest)
 counts-unquoted [] rest digits plain = plain
 counts-unquoted (n ∷ ns) rest digits plain =
     All-cons IsUnquoted (decimal n) (map decimal ns ++ rest) (decimal-unquoted n (All-head IsBoundedDecimal n ns digits))
     (counts-unquoted ns rest (All-tail IsBoundedDecimal n ns digits) plain)
 
-pub fields-unquoted : (f : Finished) → IsName f.name → All IsBoundedDecimal (counts_of f) → All IsUnquoted (record_fields f)
-fields-unquoted f name digits =
-    let overall = All-cons IsUnquoted (name_of f.report.verdict) [] (verdict-unquoted f.report.verdict) (All-nil IsUnquoted) in
-    All-cons IsUnquoted f.name (map decimal (counts_of f) ++ name_of f.report.verdict ∷ []) (name-unquoted f.name name)
-    (counts-unquoted (counts_of f) (name_of f.report.verdict ∷ []) digits overall)
+pub fields-unquoted : (name : List ℕ) (locals : List Verdict) (ending : CaseEnd) → IsName name → All IsBoundedDecimal (counts_of locals)
+    → All IsUnquoted (row_fields name locals ending)
+fields-unquoted name locals ending named digits =
+    let last = All-cons IsUnquoted (end_word ending) [] (end-unquoted ending) (All-nil IsUnquoted) in
+    All-cons IsUnquoted name (map decimal (counts_of locals) ++ end_word ending ∷ []) (name-unquoted name named)
+    (counts-unquoted (counts_of locals) (end_word ending ∷ []) digits last)
 
 field_text-unquoted : (f : List ℕ) → IsUnquoted f → field_text default_writer f ≡ f
 field_text-unquoted f plain = rw plain refl

@@ -25,8 +25,12 @@ is_aborted E.Complete = false
 is_aborted (E.StoppedAfter name) = false
 is_aborted (E.Aborted name why) = true
 
--- the line on standard error, where a case was refused
+-- the line on standard error that says so
+abbrev pub aborted_line : List ℕ → CaseError → List ℕ
+aborted_line name why = codes "ttrun: " ++ (aborted_text name why ++ (10 ∷ []))
+
+-- that line, where a case was refused
 abbrev pub abort_text : CampaignEnd → List ℕ
 abort_text E.Complete = []
 abort_text (E.StoppedAfter name) = []
-abort_text (E.Aborted name why) = codes "ttrun: " ++ (aborted_text name why ++ (10 ∷ []))
+abort_text (E.Aborted name why) = aborted_line name why

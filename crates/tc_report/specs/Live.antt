@@ -72,12 +72,13 @@ pub record LiveState : Type 0 where
   pub worst : Verdict
   pub fault : Option OutFault
 
--- the test case was written and counted
+-- the test case was written and counted, and the campaign was not ended for it
 pub record IsWritten (before : LiveState) (f : Finished) (after : LiveState) : Type 0 where
   pub form : after.form ≡ before.form
   pub out : Appends before.out after.out (part_text before.form f)
   pub tally : after.tally ≡ tally_with before.tally f.report.verdict
   pub worst : after.worst ≡ worse before.worst f.report.verdict
+  pub fault : after.fault ≡ before.fault
 
 -- the test case was not written whole, and the fault says what is out of it
 pub record IsUnwritten (before : LiveState) (f : Finished) (after : LiveState) : Type 0 where

@@ -1,15 +1,20 @@
 //! How a campaign ended, as texts say it.
 ghost use Rattle.std.specs.Prelude.{◌≡◌, ◌++◌, OnOk, OnErr, IfOk};
 ghost use Rattle.std.specs.Io.{StartsWith};
-ghost use Rattle.tc_report.specs.Ending.{abort_text, aborted_text, ending_line, is_aborted};
+ghost use Rattle.std.specs.Io.KnownBytes.{Appends};
+ghost use Rattle.tc_stream.specs.Output.{AppendsPrefix};
+ghost use Rattle.tc_report.specs.Ending.{abort_text, aborted_line, aborted_text, ending_line, is_aborted};
 
+use crate::output::write_both;
 use crate::results::{CampaignEnd, Results};
+use std::io::Write;
 use tc_entry::{Name, NoMemory};
 use tc_exec::CaseError;
+use tc_stream::{WriteFault, write_whole};
 use tc_text::append_text;
 
-// Appends which case was refused, and why; where memory is refused, a part of it.
-fn append_aborted(out: &mut Vec<u8>, name: &Name, why: CaseError) -> Result<(), NoMemory>
+/// Appends which case was refused, and why; where memory is refused, a part of it.
+pub fn append_aborted(out: &mut Vec<u8>, name: &Name, why: CaseError) -> Result<(), NoMemory>
     ensures ok { OnOk result (out.new.items ≡ out.old.items ++ aborted_text name.now why) }
     ensures err { OnErr result (StartsWith out.new.items out.old.items) }
 {
@@ -36,34 +41,27 @@ pub(crate) fn append_ending(out: &mut Vec<u8>, ending: &CampaignEnd) -> Result<(
     Ok(())
 }
 
-// Appends the line on standard error, and says whether there is one; where memory is refused, a part of it.
-fn append_abort(out: &mut Vec<u8>, ending: &CampaignEnd) -> Result<bool, NoMemory>
-    ensures answer { IfOk result (λ is. is ≡ is_aborted ending.now) }
-    ensures ok { OnOk result (out.new.items ≡ out.old.items ++ abort_text ending.now) }
-    ensures err { OnErr result (StartsWith out.new.items out.old.items) }
+// Writes which case was refused, and why, as a line; where the writer fails, a prefix of it.
+fn write_aborted<W: Write>(writer: &mut W, name: &Name, why: CaseError) -> Result<(), WriteFault>
+    ensures all { OnOk result (Appends (W.contents writer.old) (W.contents writer.new) (aborted_line name.now why)) }
+    ensures part { OnErr result (AppendsPrefix (W.contents writer.old) (W.contents writer.new) (aborted_line name.now why)) }
 {
-    let CampaignEnd::Aborted { name, why } = ending else {
-        return Ok(false);
-    };
-    append_text(out, "ttrun: ")?;
-    append_aborted(out, name, *why)?;
-    out.push(b'\n')?;
-    Ok(true)
+    write_both(writer, b"ttrun: aborted at ", name.bytes())?;
+    write_both(writer, b": ", why.text().as_bytes())?;
+    write_whole(writer, b"\n")?;
+    Ok(())
 }
 
-/// Where the campaign was aborted, appends the program's line on standard error and answers true; else appends nothing
-/// and answers false. Where memory is refused, nothing is appended.
-pub fn abort_line(results: &Results, out: &mut Vec<u8>) -> Result<bool, NoMemory>
+/// Where the campaign was aborted, writes the program's line on standard error and answers true; else writes nothing and
+/// answers false. It takes no memory. Where the writer fails, a prefix of the line is written.
+pub fn write_abort<W: Write>(results: &Results, writer: &mut W) -> Result<bool, WriteFault>
     ensures answer { IfOk result (λ is. is ≡ is_aborted results.now.ending) }
-    ensures ok { OnOk result (out.new.items ≡ out.old.items ++ abort_text results.now.ending) }
-    ensures err { OnErr result (out.new.items ≡ out.old.items) }
+    ensures all { OnOk result (Appends (W.contents writer.old) (W.contents writer.new) (abort_text results.now.ending)) }
+    ensures part { OnErr result (AppendsPrefix (W.contents writer.old) (W.contents writer.new) (abort_text results.now.ending)) }
 {
-    let start = out.len();
-    match append_abort(out, &results.ending) {
-        Ok(is) => Ok(is),
-        Err(error) => {
-            out.truncate(start);
-            Err(error)
-        }
-    }
+    let CampaignEnd::Aborted { name, why } = &results.ending else {
+        return Ok(false);
+    };
+    write_aborted(writer, name, *why)?;
+    Ok(true)
 }

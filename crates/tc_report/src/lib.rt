@@ -15,15 +15,15 @@ mod results;
 mod status;
 
 pub use counts::tally;
-pub use ending::abort_line;
+pub use ending::{append_aborted, write_abort};
 pub use fault::OutFault;
 pub use form::Form;
 pub use histories::write_history;
 pub use live::LiveWriter;
 pub use observer::Observer;
-pub use records::write_csv;
-pub use report::{append_verdict, write_text};
-pub use results::{CampaignEnd, Finished, Results, Tally};
+pub use records::{csv_header, csv_row, end_word, write_csv};
+pub use report::{append_locals, append_verdict, write_text};
+pub use results::{CampaignEnd, CaseEnd, Finished, Results, Tally};
 pub use status::{status_of, verdict_status};
 
 #[cfg(test)]

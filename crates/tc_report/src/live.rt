@@ -1,5 +1,5 @@
 //! The text of a campaign, written as its test cases finish.
-ghost use Rattle.std.specs.Prelude.{◌≡◌, OnOk, IfOk, IfErr};
+ghost use Rattle.std.specs.Prelude.{◌≡◌, None, OnOk, IfOk, IfErr};
 ghost use Rattle.std.specs.Io.KnownBytes.{Appends};
 ghost use Rattle.tc_verdict.specs.declared.verdict.Verdict.TheVariants.{None as NoVerdict};
 ghost use Rattle.tc_verdict.specs.Verdict.{worse};
@@ -15,7 +15,7 @@ use crate::form::Form;
 use crate::histories::append_history;
 use crate::observer::Observer;
 use crate::output::write_flushed;
-use crate::records::{case_record, header};
+use crate::records::{case_record, csv_header};
 use crate::report::{append_case, append_tally};
 use crate::results::{CampaignEnd, Finished, Tally};
 use crate::status::ending_status;
@@ -29,7 +29,7 @@ fn opening_text(alloc: Global, form: Form) -> Result<Vec<u8>, NoMemory>
     ensures { IfOk result (λ v. v.items ≡ spec_opening form) }
 {
     match form {
-        Form::Csv => header(alloc),
+        Form::Csv => csv_header(alloc),
         Form::Text | Form::History => Ok(Vec::new(alloc)),
     }
 }
@@ -90,6 +90,7 @@ impl<'a, W: Write> LiveWriter<'a, W> {
         ensures form { result.form ≡ form }
         ensures tally { result.tally ≡ spec_none }
         ensures worst { result.worst ≡ NoVerdict }
+        ensures fault { result.fault ≡ None }
     {
         LiveWriter {
             alloc,
@@ -108,6 +109,7 @@ impl<'a, W: Write> LiveWriter<'a, W> {
         ensures form { self.new.form ≡ self.old.form }
         ensures tally { self.new.tally ≡ self.old.tally }
         ensures worst { self.new.worst ≡ self.old.worst }
+        ensures fault { self.new.fault ≡ self.old.fault }
         ensures same { self.new.writer.ghost_name ≡ self.old.writer.ghost_name }
     {
         let text = opening_text(self.alloc, self.form)?;
@@ -121,6 +123,7 @@ impl<'a, W: Write> LiveWriter<'a, W> {
         ensures form { self.new.form ≡ self.old.form }
         ensures tally { OnOk result (self.new.tally ≡ tally_with self.old.tally case.now.report.verdict) }
         ensures worst { OnOk result (self.new.worst ≡ worse self.old.worst case.now.report.verdict) }
+        ensures fault { self.new.fault ≡ self.old.fault }
         ensures same { self.new.writer.ghost_name ≡ self.old.writer.ghost_name }
     {
         let verdict = case.report.verdict;
@@ -137,6 +140,7 @@ impl<'a, W: Write> LiveWriter<'a, W> {
         ensures all { OnOk result (Appends (W.contents self.old.writer.now) (W.contents self.new.writer.now) (spec_closing self.old.form self.old.tally ending.now)) }
         ensures part { IfErr result (λ fault. LeavesPrefix (W.contents self.old.writer.now) (W.contents self.new.writer.now) (spec_closing self.old.form self.old.tally ending.now) fault) }
         ensures status { IfOk result (λ status. status ≡ spec_status ending.now self.old.worst) }
+        ensures fault { self.new.fault ≡ self.old.fault }
         ensures same { self.new.writer.ghost_name ≡ self.old.writer.ghost_name }
     {
         let text = closing_text(self.alloc, self.form, &self.tally, ending)?;

@@ -1,11 +1,12 @@
 //! Writing a text that was made whole.
-ghost use Rattle.std.specs.Prelude.{OnOk, IfErr};
+ghost use Rattle.std.specs.Prelude.{◌++◌, OnOk, OnErr, IfErr};
 ghost use Rattle.std.specs.Io.KnownBytes.{Appends};
+ghost use Rattle.tc_stream.specs.Output.{AppendsPrefix};
 ghost use Rattle.tc_report.specs.Output.{LeavesPrefix};
 
 use crate::fault::OutFault;
 use std::io::Write;
-use tc_stream::write_whole;
+use tc_stream::{WriteFault, write_whole};
 
 /// Writes the text.
 pub(crate) fn write_made<W: Write>(writer: &mut W, text: &[u8]) -> Result<(), OutFault>
@@ -26,4 +27,19 @@ pub(crate) fn write_flushed<W: Write>(writer: &mut W, text: &[u8]) -> Result<(),
         Ok(()) => Ok(()),
         Err(_) => Err(OutFault::Write),
     }
+}
+
+/// Writes two texts one behind the other, or a prefix of both where the writer fails.
+#[tactic(auto, using(crate::proofs::Writing::appends_both, crate::proofs::Writing::prefix_behind, crate::proofs::Writing::prefix_longer))]
+pub(crate) fn write_both<W: Write>(
+    writer: &mut W,
+    first: &[u8],
+    second: &[u8],
+) -> Result<(), WriteFault>
+    ensures all { OnOk result (Appends (W.contents writer.old) (W.contents writer.new) (first.now ++ second.now)) }
+    ensures part { OnErr result (AppendsPrefix (W.contents writer.old) (W.contents writer.new) (first.now ++ second.now)) }
+{
+    write_whole(writer, first)?;
+    write_whole(writer, second)?;
+    Ok(())
 }

@@ -4,18 +4,18 @@ ghost use Rattle.std.specs.Fmt.{IsBoundedDecimal, decimal};
 ghost use Rattle.std.specs.Io.KnownBytes.{Appends};
 ghost use Rattle.csv.specs.Records.{fields_of, partial_of};
 ghost use Rattle.tc_entry.specs.Name.{IsName};
-ghost use Rattle.tc_report.specs.Csv.{counts_of, csv_text, header_text, record_fields, record_line};
+ghost use Rattle.tc_report.specs.Csv.{counts_of, csv_text, end_word as spec_word, header_text, record_line, row_fields, row_line};
 ghost use Rattle.tc_report.specs.Output.{LeavesPrefix};
 ghost use Rattle.tc_report.specs.Inside.{IsBetweenRecords, IsStarted, written_by};
 
 use crate::counts::count_of;
 use crate::fault::OutFault;
 use crate::output::write_made;
-use crate::results::{Finished, Results};
+use crate::results::{CaseEnd, Finished, Results};
 use csv::{ByteRecord, Writer, WriterBuilder};
 use std::alloc::Global;
 use std::io::Write;
-use tc_entry::{NoMemory, Verdict};
+use tc_entry::{Name, NoMemory, Verdict};
 use tc_verdict::name as name_of;
 
 // Adds a field, the number.
@@ -30,23 +30,57 @@ fn push_count(alloc: Global, row: &mut ByteRecord, count: usize) -> Result<(), N
     Ok(())
 }
 
-// The fields of a finished test case.
-fn row_of(alloc: Global, case: &Finished) -> Result<ByteRecord, NoMemory>
-    ensures fields { IfOk result (λ r. fields_of r ≡ record_fields case.now) }
-    ensures name { OnOk result (IsName case.now.name) }
-    ensures digits { OnOk result (All IsBoundedDecimal (counts_of case.now)) }
+/// The word for the end of a test case: its overall verdict, `unfinished` or `aborted`.
+pub fn end_word(ending: CaseEnd) -> &'static str
+    ensures { result.now ≡ spec_word ending }
 {
-    let locals = case.report.locals.as_slice();
+    match ending {
+        CaseEnd::Over(verdict) => name_of(verdict),
+        CaseEnd::Unfinished => "unfinished",
+        CaseEnd::Aborted(_) => "aborted",
+    }
+}
+
+// The fields of a test case.
+fn row_of(
+    alloc: Global,
+    name: &Name,
+    locals: &[Verdict],
+    ending: CaseEnd,
+) -> Result<ByteRecord, NoMemory>
+    ensures fields { IfOk result (λ r. fields_of r ≡ row_fields name.now locals.now ending) }
+    ensures name { OnOk result (IsName name.now) }
+    ensures digits { OnOk result (All IsBoundedDecimal (counts_of locals.now)) }
+{
     let mut row = ByteRecord::new(alloc);
-    row.push_field(case.name.bytes())?;
+    row.push_field(name.bytes())?;
     push_count(alloc, &mut row, locals.len())?;
     push_count(alloc, &mut row, count_of(locals, Verdict::None))?;
     push_count(alloc, &mut row, count_of(locals, Verdict::Pass))?;
     push_count(alloc, &mut row, count_of(locals, Verdict::Inconc))?;
     push_count(alloc, &mut row, count_of(locals, Verdict::Fail))?;
     push_count(alloc, &mut row, count_of(locals, Verdict::Error))?;
-    row.push_field(name_of(case.report.verdict).as_bytes())?;
+    row.push_field(end_word(ending).as_bytes())?;
     Ok(row)
+}
+
+// Writes the record of a test case.
+fn write_row(
+    alloc: Global,
+    writer: &mut Writer<Vec<u8>>,
+    name: &Name,
+    locals: &[Verdict],
+    ending: CaseEnd,
+) -> Result<(), NoMemory>
+    requires { IsBetweenRecords writer.old }
+    ensures between { OnOk result (IsBetweenRecords writer.new) }
+    ensures written { OnOk result (written_by writer.new ≡ written_by writer.old ++ row_line name.now locals.now ending) }
+{
+    let row = row_of(alloc, name, locals, ending)?;
+    match writer.write_byte_record(&row) {
+        Ok(()) => Ok(()),
+        Err(_) => Err(NoMemory),
+    }
 }
 
 // Writes the record of a finished test case.
@@ -59,11 +93,9 @@ fn write_record(
     ensures between { OnOk result (IsBetweenRecords writer.new) }
     ensures written { OnOk result (written_by writer.new ≡ written_by writer.old ++ record_line case.now) }
 {
-    let row = row_of(alloc, case)?;
-    match writer.write_byte_record(&row) {
-        Ok(()) => Ok(()),
-        Err(_) => Err(NoMemory),
-    }
+    let report = &case.report;
+    let ending = CaseEnd::Over(report.verdict);
+    write_row(alloc, writer, &case.name, report.locals.as_slice(), ending)
 }
 
 // A writer that has written nothing.
@@ -116,20 +148,34 @@ fn records(alloc: Global, results: &Results) -> Result<Vec<u8>, NoMemory>
     whole(writer)
 }
 
-/// The header.
-pub(crate) fn header(alloc: Global) -> Result<Vec<u8>, NoMemory>
+/// The header of the CSV report.
+pub fn csv_header(alloc: Global) -> Result<Vec<u8>, NoMemory>
     ensures { IfOk result (λ v. v.items ≡ header_text) }
 {
     whole(started(alloc)?)
+}
+
+/// The line of the CSV report for a test case of this name, with these local verdicts, which ended so.
+pub fn csv_row(
+    alloc: Global,
+    name: &Name,
+    locals: &[Verdict],
+    ending: CaseEnd,
+) -> Result<Vec<u8>, NoMemory>
+    ensures { IfOk result (λ v. v.items ≡ row_line name.now locals.now ending) }
+{
+    let mut writer = fresh(alloc);
+    write_row(alloc, &mut writer, name, locals, ending)?;
+    whole(writer)
 }
 
 /// The line of a finished test case.
 pub(crate) fn case_record(alloc: Global, case: &Finished) -> Result<Vec<u8>, NoMemory>
     ensures { IfOk result (λ v. v.items ≡ record_line case.now) }
 {
-    let mut writer = fresh(alloc);
-    write_record(alloc, &mut writer, case)?;
-    whole(writer)
+    let report = &case.report;
+    let ending = CaseEnd::Over(report.verdict);
+    csv_row(alloc, &case.name, report.locals.as_slice(), ending)
 }
 
 /// Writes the CSV report: a header, and a record for each finished test case in order, with how many components it has,

@@ -1,6 +1,7 @@
 //! The text report.
-ghost use Rattle.std.specs.Prelude.{◌≡◌, ◌++◌, OnOk, IfErr, slice_get};
+ghost use Rattle.std.specs.Prelude.{◌≡◌, ◌++◌, OnOk, OnErr, IfErr, slice_get};
 ghost use Rattle.std.specs.List.{flat_map};
+ghost use Rattle.std.specs.Io.{StartsWith};
 ghost use Rattle.std.specs.Io.KnownBytes.{Appends};
 ghost use Rattle.tc_report.specs.Output.{LeavesPrefix};
 ghost use Rattle.tc_report.specs.Report.{call_line, case_line, case_text, local_line, local_lines, name_text, report_text, run_line, run_text, shown_entry, shown_op, verdict_line};
@@ -111,8 +112,8 @@ fn append_local(out: &mut Vec<u8>, comp: usize, verdict: Verdict) -> Result<(), 
     Ok(())
 }
 
-// Appends the line of each component's local verdict.
-fn append_locals(out: &mut Vec<u8>, locals: &[Verdict]) -> Result<(), NoMemory>
+/// Appends the line of each component's local verdict; where memory is refused, a part of them.
+pub fn append_locals(out: &mut Vec<u8>, locals: &[Verdict]) -> Result<(), NoMemory>
     ensures { OnOk result (out.new.items ≡ out.old.items ++ local_lines 0 locals.now) }
 {
     for (comp, verdict) in locals.iter().enumerate() {
@@ -133,7 +134,8 @@ fn append_name(out: &mut Vec<u8>, name: &Name) -> Result<(), NoMemory>
 
 /// Appends the line of an overall verdict; where memory is refused, a part of it.
 pub fn append_verdict(out: &mut Vec<u8>, verdict: Verdict) -> Result<(), NoMemory>
-    ensures { OnOk result (out.new.items ≡ out.old.items ++ verdict_line verdict) }
+    ensures ok { OnOk result (out.new.items ≡ out.old.items ++ verdict_line verdict) }
+    ensures err { OnErr result (StartsWith out.new.items out.old.items) }
 {
     append_text(out, "verdict ")?;
     append_text(out, name_of(verdict))?;

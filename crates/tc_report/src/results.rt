@@ -1,6 +1,6 @@
 //! What a campaign hands back.
 use tc_book::Sequence;
-use tc_entry::Name;
+use tc_entry::{Name, Verdict};
 use tc_exec::{CaseError, CaseReport};
 
 /// A test case that was run to its end.
@@ -12,6 +12,17 @@ pub struct Finished {
     pub names: Sequence<Name>,
     /// Its report.
     pub report: CaseReport,
+}
+
+/// How a test case ended, as far as its history says.
+#[derive(Clone, Copy, Debug, PartialEq, Eq)]
+pub enum CaseEnd {
+    /// It is over, with this overall verdict.
+    Over(Verdict),
+    /// No entry of its history ended it.
+    Unfinished,
+    /// It has no report.
+    Aborted(CaseError),
 }
 
 /// How a campaign ended.

@@ -9,3 +9,4 @@ pub mod Binding
 pub mod Lawful
 pub mod Sound
 pub mod Behind
+pub mod Few

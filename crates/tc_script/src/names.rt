@@ -1,5 +1,5 @@
 //! Distinct names, in their order.
-ghost use Rattle.std.specs.Prelude.{◌≡◌, ◌==◌, length, [], OnOk, OnErr, IfOk, not};
+ghost use Rattle.std.specs.Prelude.{◌≡◌, ◌==◌, ◌≤◌, length, [], OnOk, OnErr, IfOk, not};
 ghost use Rattle.tc_line.specs.Words.{is_text};
 ghost use Rattle.tc_script.specs.Names.{among, index_of, add, all_of};
 
@@ -66,7 +66,8 @@ impl Names {
     /// The place of the name; the number of names where it is none of them.
     #[tactic(auto, unfolding(tc_line::specs::Words::is_text, crate::specs::Names::index_of))]
     pub fn place_of(&self, name: &Name) -> usize
-        ensures { result ≡ index_of name.now self.now }
+        ensures place { result ≡ index_of name.now self.now }
+        ensures within { result ≤ length self.now }
     {
         match self.set.get_index_of(name) {
             Some(index) => index,

@@ -1,6 +1,7 @@
 //! The steps of a behaviour, from its lines.
-ghost use Rattle.std.specs.Prelude.{◌≡◌, ◌≤◌, [], length, IfOk, map};
+ghost use Rattle.std.specs.Prelude.{◌≡◌, ◌≤◌, ◌<◌, ◌+◌, [], length, IfOk, map};
 ghost use Rattle.tc_entry.specs.declared.limits.TheConstants.{ARGUMENTS, BEHAVIOURS};
+ghost use Rattle.tc_step.specs.declared.limits.TheConstants.{STEPS};
 ghost use Rattle.tc_script.specs.Campaign.{place as the_place, step_of, steps};
 ghost use Rattle.tc_script.specs.Names.{all_of};
 ghost use Rattle.tc_script.specs.FirstPass.{given};
@@ -15,14 +16,16 @@ use tc_step::{Place, Places, Run, Step};
 
 /// The component that a line names, where these names are bound.
 fn place_at(bound: &Names, place: &Place<Name>) -> Place
+    requires { length bound.now < ARGUMENTS + STEPS }
     ensures { result ≡ the_place bound.now place.now }
 {
-    place.map(|name| bound.place_of(name))
+    place.map(|name| bound.place_of(name) as u16)
 }
 
 /// The components that a start gives as arguments.
 fn places_of(bound: &Names, named: &[Place<Name>]) -> Places
-    requires { length named.now ≤ ARGUMENTS }
+    requires few_bound { length bound.now < ARGUMENTS + STEPS }
+    requires few { length named.now ≤ ARGUMENTS }
     ensures { result ≡ map (the_place bound.now) named.now }
 {
     let mut places = Places::new();
@@ -36,6 +39,7 @@ fn places_of(bound: &Names, named: &[Place<Name>]) -> Places
 #[tactic(auto, unfolding(crate::specs::Campaign::step_of))]
 fn step_at(heads: &Heads, bound: &Names, call: &Call) -> Step
     requires few_heads { length heads.now ≤ BEHAVIOURS }
+    requires few_bound { length bound.now < ARGUMENTS + STEPS }
     requires few_arguments { given call.now ≤ ARGUMENTS }
     ensures { result ≡ step_of heads.now bound.now call.now }
 {
@@ -80,6 +84,8 @@ pub fn steps_of<'l>(
 ) -> Result<(Vec<Step>, &'l [Line]), AllocError>
     requires few_heads { length heads.now ≤ BEHAVIOURS }
     requires few_arguments { HaveFewArguments lines.now }
+    requires few_parameters { length parameters.now ≤ ARGUMENTS }
+    requires few_steps { length (steps heads.now (all_of [] parameters.now) lines.now) ≤ STEPS }
     ensures steps { IfOk result (λ v. v.0.items ≡ steps heads.now (all_of [] parameters.now) lines.now) }
     ensures behind { IfOk result (λ v. v.1.now ≡ behind_steps lines.now) }
 {

@@ -6,7 +6,7 @@ ghost use Rattle.tc_step.specs.Steps.{IsBound};
 
 /// A component, as a script names it. A line tells the bound ones apart by their names, a step by their numbers.
 #[derive(Clone, Copy, PartialEq, Eq, Default, Debug, Drop)]
-pub enum Place<B = usize> {
+pub enum Place<B = u16> {
     /// The main test component (`mtc`, ES 201 873-1).
     #[default]
     Main,
@@ -38,7 +38,7 @@ impl Place {
         ensures { IsTrue result ↔ IsBound count self }
     {
         match self {
-            Place::Bound(index) => index < count,
+            Place::Bound(index) => usize::from(index) < count,
             _ => true,
         }
     }

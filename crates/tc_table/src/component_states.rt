@@ -9,7 +9,7 @@ use crate::component_state::{ComponentState, is_done, is_killed, is_running};
 use std::alloc::{AllocError, Global};
 use std::marker::Model;
 use tc_entry::Phase;
-use tc_verdict::{Run, Verdict, worse_of};
+use tc_verdict::{NoMemory, Run, Verdict, worse_of};
 
 /// The states of all components, the main one first; the counts are over the others.
 #[derive(Drop)]
@@ -64,6 +64,22 @@ fn recount(count: u32, was: bool, is: bool) -> u32
 
 #[tactic(auto, using(crate::proofs::Counting::counted_rules))]
 impl ComponentStates {
+    /// The same states.
+    pub fn copied(&self, alloc: Global) -> Result<ComponentStates, NoMemory>
+        ensures { IfOk result (λ s. s ≡ self.now) }
+    {
+        let mut states = Vec::with_capacity(alloc, self.states.len())?;
+        states.extend_from_slice(self.states.as_slice())?;
+        Ok(ComponentStates {
+            states,
+            running: self.running,
+            done: self.done,
+            killed: self.killed,
+            lapsed: self.lapsed,
+            worst: self.worst,
+        })
+    }
+
     /// The main component alone, running run 0.
     pub fn new(alloc: Global) -> Result<ComponentStates, AllocError>
         ensures { IfOk result (λ s. s ≡ main_state ∷ []) }

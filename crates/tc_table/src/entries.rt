@@ -39,6 +39,7 @@ pub fn is_kill_of(op: &Op, comp: u32) -> bool
     }
 }
 
+/// Whether this is the component.
 pub fn is_comp(own: Option<Comp>, comp: u32) -> bool
     ensures { result ≡ history.is_comp own comp }
 {
@@ -48,6 +49,7 @@ pub fn is_comp(own: Option<Comp>, comp: u32) -> bool
     }
 }
 
+/// Whether the entry ends the test case.
 pub fn ends_case(entry: &Entry) -> bool
     ensures { result ≡ history.ends_case entry.now }
 {
@@ -117,6 +119,7 @@ pub fn parks(op: &Op, reply: Reply) -> Option<Awaited>
     }
 }
 
+/// The component on which an entry starts the run.
 pub fn started_on(entry: &Entry, run: u16) -> Option<Comp>
     ensures { result ≡ history.started_on entry.now run }
 {

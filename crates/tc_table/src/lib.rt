@@ -14,8 +14,9 @@ mod table;
 
 pub use awaited::Awaited;
 pub use check::{CheckFault, replay, replay_check};
+pub use entries::{created, ends_case, is_alive_create, is_comp, started_on};
 pub use state::CaseState;
-pub use table::Table;
+pub use table::{Table, copied_entries};
 pub use tc_entry::{
     Args, Comp, Entry, Fault, Group, Name, NoMemory, Op, Phase, Reply, Run, Target, UserVerdict,
     Verdict,

@@ -67,6 +67,21 @@ impl CaseState {
         })
     }
 
+    /// The same state.
+    pub fn copied(&self, alloc: Global) -> Result<CaseState, NoMemory>
+        ensures { IfOk result (λ s. s ≡ self.now) }
+    {
+        let states = self.states.copied(alloc)?;
+        let mut runs = Vec::with_capacity(alloc, self.runs.len())?;
+        runs.extend_from_slice(self.runs.as_slice())?;
+        Ok(CaseState {
+            behaviours: self.behaviours,
+            states,
+            runs,
+            over: self.over,
+        })
+    }
+
     /// How many behaviours the case has.
     pub fn behaviours(&self) -> u16
         ensures is { result ≡ self.now.behaviours }

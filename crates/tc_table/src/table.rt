@@ -39,6 +39,17 @@ impl Model for Table {
     ghost invariant = { λ t. StandsFor t.state (reverse t.history.items) };
 }
 
+/// The same entries.
+pub fn copied_entries(alloc: Global, history: &[Entry]) -> Result<Vec<Entry>, NoMemory>
+    ensures { IfOk result (λ v. v.items ≡ history.now) }
+{
+    let mut all = Vec::with_capacity(alloc, history.len())?;
+    for entry in history {
+        all.push(entry.copy())?;
+    }
+    Ok(all)
+}
+
 #[tactic(auto, using(crate::proofs::Standing::stands_legal))]
 impl Table {
     /// A case of so many behaviours, at its opening.
@@ -52,6 +63,16 @@ impl Table {
             state: CaseState::new(alloc, behaviours)?,
             history: Vec::new(alloc),
         })
+    }
+
+    /// A table with the same entries.
+    pub fn copied(&self, alloc: Global) -> Result<Table, NoMemory>
+        ensures behaviours { IfOk result (λ t. t.behaviours ≡ self.now.behaviours) }
+        ensures entries { IfOk result (λ t. t.history ≡ self.now.history) }
+    {
+        let state = self.state.copied(alloc)?;
+        let history = copied_entries(alloc, self.history.as_slice())?;
+        Ok(Table { state, history })
     }
 
     /// How many behaviours the case has.

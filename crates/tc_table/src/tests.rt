@@ -245,3 +245,33 @@ fn texts_of_a_check(rt: HostRuntime) -> Result<(), Fail> {
     }
     Ok(())
 }
+
+#[test]
+fn a_copy_goes_on_by_itself(rt: HostRuntime) -> Result<(), Fail> {
+    let alloc = rt.alloc();
+    let mut table = Table::new(alloc, 2)?;
+    let create = Op::Create {
+        alive: false,
+        name: None,
+    };
+    assert_eq!(rt; table.play(Run(0), create)?, Reply::Made(Comp(1)));
+    assert_eq!(rt; table.play(Run(0), start(1, 1))?, Reply::Ok);
+    let mut copy = table.copied(alloc)?;
+    assert_eq!(rt; copy.behaviours(), 2);
+    assert_eq!(rt; copied_entries(alloc, copy.history())?.len(), 2);
+    for (entry, other) in table.history().iter().zip(copy.history()) {
+        assert!(rt; entry.same(other));
+    }
+    assert_eq!(rt; copy.play(Run(0), Op::Finish)?, Reply::Ok);
+    assert!(rt; copy.is_over() && !table.is_over());
+    let pass = Op::SetVerdict(UserVerdict::Pass);
+    assert_eq!(rt; copy.would(Run(1), &pass), Reply::Ended);
+    assert_eq!(rt; table.play(Run(1), pass)?, Reply::Ok);
+    assert_eq!(rt; table.overall(), Verdict::Pass);
+    assert_eq!(rt; copy.overall(), Verdict::None);
+    let mut state = CaseState::new(alloc, 1)?;
+    assert!(rt; !state.copied(alloc)?.is_over());
+    assert_eq!(rt; state.play(Run(0), Op::Finish)?, Reply::Ok);
+    assert!(rt; state.copied(alloc)?.is_over());
+    Ok(())
+}

@@ -10,18 +10,18 @@ use Rattle.tc_script.specs.Campaign.{CampaignView, campaign}
 use Rattle.ttrun.specs.Explore.{Explores}
 use Rattle.ttrun.specs.Output.{Writes, WritesPrefix}
 
-module _ (histories : Bool) (states : ℕ) (cases : CampaignView) (out : List ℕ) (status : ℕ) where
+module _ (histories details : Bool) (states : ℕ) (cases : CampaignView) (out : List ℕ) (status : ℕ) where
   -- the output belongs to every text that spells these test cases
   abbrev pub Tells : Type 0
-  Tells = (text : List ℕ) → campaign text ≡ Ok cases → Explores histories states text out status
+  Tells = (text : List ℕ) → campaign text ≡ Ok cases → Explores histories details states text out status
 
   pub explored_written : (input before after : Option (List ℕ)) → IfSome input (λ text. campaign text ≡ Ok cases) → Tells → Appends before after out
-      → Writes (Explores histories states) input before after status
+      → Writes (Explores histories details states) input before after status
   explored_written None before after spelled tells wrote = tt
   explored_written (Some text) before after spelled tells wrote = (out, tells text spelled, wrote)
 
   pub explored_prefix : (input before after : Option (List ℕ)) → IfSome input (λ text. campaign text ≡ Ok cases) → Tells → AppendsPrefix before after out
-      → WritesPrefix (Explores histories states) input before after
+      → WritesPrefix (Explores histories details states) input before after
   explored_prefix None before after spelled tells wrote = tt
   explored_prefix (Some text) before after spelled tells wrote = (out, status, tells text spelled, wrote)
 

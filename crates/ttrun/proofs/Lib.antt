@@ -1,7 +1,10 @@
 -- The lemmas of this crate.
 pub mod Replaying
+pub mod Explaining
 pub mod Running
+pub mod Chosen
 pub mod Scripted
 pub mod Checking
 pub mod Exploring
 pub mod WrittenHistories
+pub mod Reporting

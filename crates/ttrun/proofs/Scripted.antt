@@ -1,36 +1,38 @@
 -- The results of the test cases that were made of a script are those of the script.
-use Rattle.std.proofs.Common.{ℕ, zero, suc, ◌≡◌, ◌∙◌, Bool, true, false, List, [], ◌∷◌, Option, Result, Ok, Err, IfOk, IfErr, All, length, map, take, arith, refl, sym, ap, subst, inr}
+use Rattle.std.proofs.Common.{ℕ, zero, suc, ◌≡◌, ◌∙◌, Bool, true, false, List, [], ◌∷◌, Option, Result, Ok, Err, IfOk, IfErr, All, length, map, take, arith, refl, sym, ap, subst, inr, ◌⊎◌}
 use Rattle.std.proofs.lemmas.List.{length-map}
 use Rattle.std.proofs.lemmas.List.Elements.{All-nil, All-cons, All-tail}
 use Rattle.std.specs.List.{AllZip}
 use Rattle.std.specs.Vec.{vec_len}
-use Rattle.std.specs.Prelude.{IfSome, slice_get}
-use Rattle.std.specs.Io.KnownBytes.{Appends}
+use Rattle.std.specs.Prelude.{slice_get}
+use Rattle.std.specs.Io.KnownBytes.{Appends, Keeps}
 use Rattle.tc_stream.specs.Output.{AppendsPrefix}
-use Rattle.tc_script.specs.Campaign.{campaign}
 use Rattle.tc_verdict.specs.declared.verdict.Verdict.{Verdict}
 use Rattle.tc_step.specs.Steps.{ScriptView}
 use Rattle.tc_behaviour.specs.Acts.{Acts, MakesItsCalls}
 use Rattle.tc_behaviour.proofs.Running.{run_grown}
 use Rattle.tc_behaviour.proofs.Spelled.{are_called, made_of_calls}
 use Rattle.tc_script.specs.Law.{IsCase}
+use Rattle.tc_explore.proofs.Reports.{report_is_course}
 use Rattle.tc_book.specs.Passes.{PassState}
 use Rattle.tc_exec.specs.declared.job.Back.{Back}
-use Rattle.tc_exec.specs.Case.{IsMadeOf}
+use Rattle.tc_exec.specs.Case.{IsCaseReport, IsMadeOf}
 use Rattle.tc_exec.proofs.Logs.{logs_by}
 use Rattle.tc_report.specs.declared.results.Finished.{Finished}
 use Rattle.tc_report.specs.declared.results.Results.{Results}
 use Rattle.tc_campaign.specs.declared.case.Case.{Case}
 use Rattle.tc_campaign.specs.Outline.{Outline, HasNames, outline_of}
 use Rattle.tc_campaign.specs.Campaign.{IsCalled, IsOfCase, IsReported, IsRight, IsWhy}
+use Rattle.ttrun.specs.Give.{is_live}
 use Rattle.ttrun.specs.declared.fault.RunFault.{RunFault}
-use Rattle.tc_command.specs.declared.task.Form.{Form}
+use Rattle.tc_command.specs.Asked.{Running}
 use Rattle.ttrun.specs.declared.run.Options.{Options}
 use Rattle.ttrun.specs.declared.outcome.Outcome.{Outcome}
 use Rattle.ttrun.specs.Limits.{HasAtMost, script_limit}
 use Rattle.ttrun.specs.Give.{text_of, LeavesUnwritten}
 use Rattle.ttrun.specs.Run.{AreFinished, AreResults, IsCutShort, IsRuleOf, IsRun, IsUnwritten}
-use Rattle.ttrun.specs.Program.{FailsRun, RunsScript}
+use Rattle.ttrun.specs.Choosing.{AreChosen}
+use Rattle.ttrun.specs.Program.{FailsRun, LeavesPart, RefusesScripted, RunsScript}
 use Rattle.ttrun.specs.Streams.{Streams}
 use Rattle.ttrun.specs.Scripted.{CaseView, IsScripted, names_of, scripts_of, script_outline}
 use Rattle.ttrun.specs.Inside.{IsCaseOf}
@@ -66,10 +68,12 @@ own s p k is = ap (λ q. q.run) (run_grown s.steps p k.pass k.ending is.calls).1
 of_script : (c : CaseView) (k : Case ScriptView) (f : Finished) → IsCase c.1 → IsCaseOf c k → IsReported (script_outline c) f → IsCalled Acts k f → IsScripted c f
 of_script c k f lawful is report called =
     let made : IsMadeOf Acts (scripts_of c.1) f.report = subst (λ js. IsMadeOf Acts js f.report) is.jobs called.1 in
-    let calls : IsMadeOf MakesItsCalls (scripts_of c.1) f.report = made_of_calls c.1 f.report lawful report.one_history report.behaviours made in (
+    let calls : IsMadeOf MakesItsCalls (scripts_of c.1) f.report = made_of_calls c.1 f.report lawful report.one_history report.behaviours made in
+    let as_many : IsCaseReport (length (scripts_of c.1)) f.report = subst (λ n. IsCaseReport n f.report) (sym (length-map c.1 (λ b. b.1))) report in (
       are_called c.1 f.report lawful report.one_history report.behaviours made,
       calls,
       logs_by MakesItsCalls own f.report (scripts_of c.1) report.one_history (report.behaviours ∙ sym (length-map c.1 (λ b. b.1))) calls,
+      report_is_course (scripts_of c.1) f.report (record { report = as_many; made = calls }),
     )
 
 scripted : (n : ℕ) (cs : List CaseView) (ks : List (Case ScriptView)) (fs : List Finished) → All (λ c. IsCase c.1) cs → AllZip IsCaseOf cs ks
@@ -100,14 +104,14 @@ results cs ks stop_on r lawful each are =
     }
 
 -- a run of the test cases that were made of the script of an input is a run of that script
-pub run_done : (form : Form) (word input : Option (List ℕ)) (cs : List CaseView) (ks : List (Case ScriptView)) (options : Options) (streams : Streams) (r : Result Outcome RunFault)
-    → IfSome input (λ text. campaign text ≡ Ok cs) → All (λ c. IsCase c.1) cs → HasAtMost script_limit input → IsRuleOf word options.stop_on → options.form ≡ form → AllZip IsCaseOf cs ks
-    → IfOk r (IsRun outline_of (IsCalled Acts) ks options streams) → IfOk r (RunsScript form word input streams)
-run_done form word input cs ks options streams (Err fault) spelled lawful fits named same each run = tt
-run_done form word input cs ks options streams (Ok outcome) spelled lawful fits named same each run = record {
+pub run_done : (o : Running) (input : Option (List ℕ)) (cs : List CaseView) (ks : List (Case ScriptView)) (options : Options) (streams : Streams) (r : Result Outcome RunFault)
+    → AreChosen o.choice input cs → All (λ c. IsCase c.1) cs → HasAtMost script_limit input → IsRuleOf o.stop_on options.stop_on → options.form ≡ o.form → AllZip IsCaseOf cs ks
+    → IfOk r (IsRun outline_of (IsCalled Acts) ks options streams) → IfOk r (RunsScript o input streams)
+run_done o input cs ks options streams (Err fault) spelled lawful fits named same each run = tt
+run_done o input cs ks options streams (Ok outcome) spelled lawful fits named same each run = record {
   cases = cs;
   rule = options.stop_on;
-  spelled = spelled;
+  chosen = spelled;
   fits = fits;
   named = named;
   run = record {
@@ -119,14 +123,18 @@ run_done form word input cs ks options streams (Ok outcome) spelled lawful fits 
   };
 }
 
-run_refused : (form : Form) (word input : Option (List ℕ)) (cs : List CaseView) (ks : List (Case ScriptView)) (options : Options) (before after : Option (List ℕ)) (r : Result Outcome RunFault)
-    → IfSome input (λ text. campaign text ≡ Ok cs) → All (λ c. IsCase c.1) cs → IsRuleOf word options.stop_on → options.form ≡ form → AllZip IsCaseOf cs ks
-    → IfErr r (IsUnwritten outline_of (IsCalled Acts) ks options before after) → IfErr r (FailsRun false form word input before after)
-run_refused form word input cs ks options before after (Ok outcome) spelled lawful named same each run = tt
-run_refused form word input cs ks options before after (Err fault) spelled lawful named same each run = inr (record {
+-- the words or the input were refused, or a part of the text of a run was left
+abbrev LeavesIn : Bool → Running → Option (List ℕ) → Option (List ℕ) → Option (List ℕ) → RunFault → Type 0
+LeavesIn live o input before after fault = (RefusesScripted o input fault × Keeps before after) ⊎ LeavesPart live o input before after fault
+
+run_refused : (o : Running) (input : Option (List ℕ)) (cs : List CaseView) (ks : List (Case ScriptView)) (options : Options) (before after : Option (List ℕ)) (r : Result Outcome RunFault)
+    → AreChosen o.choice input cs → All (λ c. IsCase c.1) cs → IsRuleOf o.stop_on options.stop_on → options.form ≡ o.form → AllZip IsCaseOf cs ks
+    → IfErr r (IsUnwritten outline_of (IsCalled Acts) ks options before after) → IfErr r (LeavesIn false o input before after)
+run_refused o input cs ks options before after (Ok outcome) spelled lawful named same each run = tt
+run_refused o input cs ks options before after (Err fault) spelled lawful named same each run = inr (record {
   cases = cs;
   rule = options.stop_on;
-  spelled = spelled;
+  chosen = spelled;
   named = named;
   run = record {
     results = run.results;
@@ -150,14 +158,14 @@ finished cs ks stop_on fs lawful each are =
       behaviours = are.behaviours;
     }
 
-run_cut : (form : Form) (word input : Option (List ℕ)) (cs : List CaseView) (ks : List (Case ScriptView)) (options : Options) (before after : Option (List ℕ)) (r : Result Outcome RunFault)
-    → IfSome input (λ text. campaign text ≡ Ok cs) → All (λ c. IsCase c.1) cs → IsRuleOf word options.stop_on → options.form ≡ form → AllZip IsCaseOf cs ks
-    → IfErr r (IsCutShort outline_of (IsCalled Acts) ks options before after) → IfErr r (FailsRun true form word input before after)
-run_cut form word input cs ks options before after (Ok outcome) spelled lawful named same each run = tt
-run_cut form word input cs ks options before after (Err fault) spelled lawful named same each run = inr (record {
+run_cut : (o : Running) (input : Option (List ℕ)) (cs : List CaseView) (ks : List (Case ScriptView)) (options : Options) (before after : Option (List ℕ)) (r : Result Outcome RunFault)
+    → AreChosen o.choice input cs → All (λ c. IsCase c.1) cs → IsRuleOf o.stop_on options.stop_on → options.form ≡ o.form → AllZip IsCaseOf cs ks
+    → IfErr r (IsCutShort outline_of (IsCalled Acts) ks options before after) → IfErr r (LeavesIn true o input before after)
+run_cut o input cs ks options before after (Ok outcome) spelled lawful named same each run = tt
+run_cut o input cs ks options before after (Err fault) spelled lawful named same each run = inr (record {
   cases = cs;
   rule = options.stop_on;
-  spelled = spelled;
+  chosen = spelled;
   named = named;
   run = record {
     results = run.results;
@@ -167,11 +175,15 @@ run_cut form word input cs ks options before after (Err fault) spelled lawful na
   };
 })
 
-pub run_fails : (live : Bool) (form : Form) (word input : Option (List ℕ)) (cs : List CaseView) (ks : List (Case ScriptView)) (options : Options) (before after : Option (List ℕ)) (r : Result Outcome RunFault)
-    → IfSome input (λ text. campaign text ≡ Ok cs) → All (λ c. IsCase c.1) cs → IsRuleOf word options.stop_on → options.form ≡ form → AllZip IsCaseOf cs ks
-    → (live ≡ false → IfErr r (IsUnwritten outline_of (IsCalled Acts) ks options before after))
-    → (live ≡ true → IfErr r (IsCutShort outline_of (IsCalled Acts) ks options before after)) → IfErr r (FailsRun live form word input before after)
-run_fails false form word input cs ks options before after r spelled lawful named same each whole cut =
-    run_refused form word input cs ks options before after r spelled lawful named same each (whole refl)
-run_fails true form word input cs ks options before after r spelled lawful named same each whole cut =
-    run_cut form word input cs ks options before after r spelled lawful named same each (cut refl)
+pub run_fails : (o : Running) (input : Option (List ℕ)) (cs : List CaseView) (ks : List (Case ScriptView)) (options : Options) (before after : Option (List ℕ)) (r : Result Outcome RunFault)
+    → AreChosen o.choice input cs → All (λ c. IsCase c.1) cs → IsRuleOf o.stop_on options.stop_on → options.form ≡ o.form → AllZip IsCaseOf cs ks
+    → (is_live options.form o.live ≡ false → IfErr r (IsUnwritten outline_of (IsCalled Acts) ks options before after))
+    → (is_live options.form o.live ≡ true → IfErr r (IsCutShort outline_of (IsCalled Acts) ks options before after)) → IfErr r (FailsRun o input before after)
+run_fails o input cs ks options before after r spelled lawful named same each whole cut =
+    subst (λ f. IfErr r (λ fault. (RefusesScripted o input fault × Keeps before after) ⊎ LeavesPart (is_live f o.live) o input before after fault)) same (go (is_live options.form o.live) r whole cut)
+  where
+    go : (live : Bool) (r : Result Outcome RunFault) → (live ≡ false → IfErr r (IsUnwritten outline_of (IsCalled Acts) ks options before after))
+        → (live ≡ true → IfErr r (IsCutShort outline_of (IsCalled Acts) ks options before after))
+        → IfErr r (λ fault. (RefusesScripted o input fault × Keeps before after) ⊎ LeavesPart live o input before after fault)
+    go false r whole cut = run_refused o input cs ks options before after r spelled lawful named same each (whole refl)
+    go true r whole cut = run_cut o input cs ks options before after r spelled lawful named same each (cut refl)

@@ -22,17 +22,8 @@ use Rattle.tc_campaign.specs.Campaign.{IsReported}
 use Rattle.ttrun.specs.declared.judge.Judgement.{Judgement}
 use Rattle.ttrun.specs.declared.judge.Judgement.TheVariants as J
 use Rattle.ttrun.specs.Check.{IsJudgement, Checks, judges_legal, judgement_line, legal_line}
-use Rattle.ttrun.specs.WrittenHistories.{WasRun, WereRun, legal_case, legal_cases, AreFoundLegal, AreReported}
+use Rattle.ttrun.specs.WrittenHistories.{block_of, blocks_of, WasRun, WereRun, legal_case, legal_cases, AreFoundLegal, AreReported}
 use Rattle.ttrun.specs.Inside.{FitsItsTypes}
-
--- the block of a finished test case
-abbrev pub block_of : ℕ → Finished → Block
-block_of line f = record { format = 2; name = f.name; behaviours = f.report.behaviours; first_line = line; entries = f.report.history; verdict = f.report.verdict }
-
--- the blocks of finished test cases, the first of which begins in this line
-abbrev pub blocks_of : ℕ → List Finished → List Block
-blocks_of line [] = []
-blocks_of line (f ∷ fs) = block_of line f ∷ blocks_of (line + length (block_lines (block_of line f))) fs
 
 pub blocks_text : (line : ℕ) (fs : List Finished) → text_of_blocks (blocks_of line fs) ≡ flat_map case_history fs
 blocks_text line [] = refl
@@ -78,7 +69,7 @@ up_to list at d within =
     ap reverse (sym (take-append-drop (at + 1) list) ∙ ap (λ l. l ++ drop (at + 1) list) (take_more list at d within))
     ∙ (reverse-append (take at list ++ get_or list at d ∷ []) (drop (at + 1) list) ∙ ap (λ l. reverse (drop (at + 1) list) ++ l) (reverse-append (take at list) (get_or list at d ∷ [])))
 
-no_difference : (n : ℕ) (list : List Entry) (at : ℕ) (reply : Reply) → IsLegal n (reverse list) → DiffersAt n list at reply → ⊥
+pub no_difference : (n : ℕ) (list : List Entry) (at : ℕ) (reply : Reply) → IsLegal n (reverse list) → DiffersAt n list at reply → ⊥
 no_difference n [] at reply legal differs = let within = differs.within in absurd (omega (arith, within))
 no_difference n (e ∷ es) at reply legal differs =
     let list = e ∷ es in
@@ -107,14 +98,14 @@ abbrev pub AreRight : List Block → Type 0
 AreRight [] = Unit {0}
 AreRight (b ∷ bs) = IsRight b × AreRight bs
 
-only_legal : (bs : List Block) (out : List ℕ) (legal : Bool) → AreRight bs → Checks bs out legal → (out ≡ flat_map block_line bs) × (legal ≡ true)
+pub only_legal : (bs : List Block) (out : List ℕ) (legal : Bool) → AreRight bs → Checks bs out legal → (out ≡ flat_map block_line bs) × (legal ≡ true)
 only_legal _ _ _ all Checks.none = (refl, refl)
 only_legal _ _ _ all (Checks.goes_on b rest j out legal same is more) =
     let two = only_legal rest out legal all.1 more in
     (ap (λ l. l ++ out) (said_of_legal b j same is) ∙ ap (λ l. block_line b ++ l) two.0, two.1)
 only_legal _ _ _ all (Checks.stops b rest j other is) = absurd (no_other b j all.0 other is)
 
-are_right : (line : ℕ) (fs : List Finished) → All WasRun fs → AreRight (blocks_of line fs)
+pub are_right : (line : ℕ) (fs : List Finished) → All WasRun fs → AreRight (blocks_of line fs)
 are_right line [] all = tt
 are_right line (f ∷ fs) all =
     let this = All-head WasRun f fs all in

@@ -22,6 +22,8 @@ Refuses HasFault Gives limit input before after F.NoMemory = Keeps before after
 Refuses HasFault Gives limit input before after (F.Script fault) = ⊥
 Refuses HasFault Gives limit input before after F.StopOn = ⊥
 Refuses HasFault Gives limit input before after F.States = ⊥
+Refuses HasFault Gives limit input before after F.Shard = ⊥
+Refuses HasFault Gives limit input before after F.Only = ⊥
 Refuses HasFault Gives limit input before after (F.Text fault) = Keeps before after × IfSome input (λ text. HasFault text fault)
 
 -- the number of the line of the input that has the fault, where it is one of a line
@@ -35,6 +37,8 @@ line_number (F.Text T.NoMemory) = None
 line_number (F.Script fault) = Some fault.line
 line_number F.StopOn = None
 line_number F.States = None
+line_number F.Shard = None
+line_number F.Only = None
 
 -- the words that name a fault
 abbrev pub words_of : RunFault → List ℕ
@@ -47,6 +51,8 @@ words_of (F.Text T.NoMemory) = memory_text
 words_of (F.Script fault) = script_kind_text fault.kind
 words_of F.StopOn = codes "--stop-on takes none, pass, inconc, fail or error"
 words_of F.States = codes "--states takes a number from 1 to 1000000"
+words_of F.Shard = codes "--shard takes K/N, with K from 1 to N"
+words_of F.Only = codes "--only takes the name of a test case of the script"
 
 -- the number of a line
 unfoldable pub place_text : ℕ → List ℕ

@@ -106,3 +106,7 @@ RefusesHistory text fault = ⊥
 abbrev pub ChecksText : List ℕ → Result (Vec ℕ × Bool) RunFault → Type 0
 ChecksText text result =
     (blocks : List Block) → AreHistories text blocks → MatchResult result (λ r. Checks blocks r.0.items r.1) (λ fault. fault ≡ F.NoMemory)
+
+-- the line of a test case in a list
+abbrev pub case_line : {B : Type 0} → Case B → List ℕ
+case_line k = k.name ++ (10 ∷ [])

@@ -6,12 +6,17 @@ pub mod Streams
 pub mod Give
 pub mod Limits
 pub mod Tell
+pub mod Explained
 pub mod Script
 pub mod Run
 pub mod Scripted
+pub mod Choosing
 pub mod Explore
 pub mod Program
 pub mod Answer
 pub mod Check
 pub mod Inside
 pub mod WrittenHistories
+pub mod Report
+pub mod Reporting
+pub mod Terminal

@@ -19,7 +19,7 @@ use Rattle.ttrun.specs.declared.outcome.Outcome.{Outcome}
 use Rattle.ttrun.specs.Give.{text_of, LeavesUnwritten}
 use Rattle.ttrun.specs.Script.{RefusesScript}
 use Rattle.ttrun.specs.Streams.{Streams}
-use Rattle.ttrun.specs.Tell.{IsTold}
+use Rattle.ttrun.specs.Tell.{IsToldAlways}
 
 -- the stopping rule is the verdict that the word names; without a word there is none
 abbrev pub IsRuleOf : Option (List ℕ) → Option Verdict → Type 0
@@ -77,7 +77,7 @@ module _ {C : Type 0} (outline : C → Outline) (called : C → Finished → Typ
     -- their text was written in the form asked for
     pub written : Appends streams.before streams.after (text_of options.form results)
     -- the line for a campaign that was aborted was told, as the outcome says; for another nothing was
-    pub told : IsTold streams.untold streams.told (abort_text results.ending) outcome.told
+    pub told : IsToldAlways streams.untold streams.told (abort_text results.ending) outcome.told
 
   -- these cases were run under these options, and the text of the results was not written whole
   pub record IsUnwritten (before after : Option (List ℕ)) (fault : RunFault) : Type 0 where

@@ -5,6 +5,7 @@ use Rattle.tc_exec.specs.Case.{AreCalled, IsMadeOf}
 use Rattle.tc_exec.specs.Logs.{AreLogsBy}
 use Rattle.tc_behaviour.specs.Acts.{MakesItsCalls}
 use Rattle.tc_script.specs.Names.{Word}
+use Rattle.tc_explore.specs.Found.{IsWitness}
 use Rattle.tc_report.specs.declared.results.Finished.{Finished}
 use Rattle.tc_campaign.specs.Outline.{Outline}
 
@@ -25,7 +26,9 @@ abbrev pub script_outline : CaseView → Outline
 script_outline c = record { name = c.0; names = names_of c.1; jobs = length c.1 }
 
 -- each behaviour of which the run was started got as many arguments as its script has parameters, and made the calls of its steps with a new
--- pass of that run; the report is made of what these passes have logged, and each of its logs is that of the script of its run
+-- pass of that run; the report is made of what these passes have logged, and each of its logs is that of the script of its run; and its
+-- history is a complete course of the scripts, with the verdict of the report
 abbrev pub IsScripted : CaseView → Finished → Type 0
 IsScripted c f =
     AreCalled MakesItsCalls (scripts_of c.1) f.report × IsMadeOf MakesItsCalls (scripts_of c.1) f.report × AreLogsBy MakesItsCalls (scripts_of c.1) f.report
+    × IsWitness (scripts_of c.1) f.report.history f.report.verdict

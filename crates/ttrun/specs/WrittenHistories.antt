@@ -1,10 +1,11 @@
 -- What `check` says of the histories that `run` writes.
-use Rattle.std.specs.Prelude.{ℕ, ◌≡◌, ◌≢◌, List, [], ◌∷◌, ◌++◌, All, Option, Some, Result, MatchResult, length, take, codes}
+use Rattle.std.specs.Prelude.{ℕ, ◌≡◌, ◌≢◌, List, [], ◌∷◌, ◌++◌, ◌+◌, All, Option, Some, Result, MatchResult, length, take, codes}
 use Rattle.std.specs.List.{AllZip, flat_map}
 use Rattle.std.specs.Fmt.{decimal}
 use Rattle.std.specs.Io.KnownBytes.{Appends}
 use Rattle.tc_verdict.specs.Verdict.{name_of}
-use Rattle.tc_history.specs.Text.{IsHeader, AreEntries}
+use Rattle.tc_history.specs.declared.read.Block.{Block}
+use Rattle.tc_history.specs.Text.{IsHeader, AreEntries, block_lines}
 use Rattle.tc_book.specs.Report.{IsOneHistory}
 use Rattle.tc_report.specs.declared.results.Finished.{Finished}
 use Rattle.tc_report.specs.declared.results.Results.{Results}
@@ -43,6 +44,15 @@ legal_case f = codes "legal " ++ (f.name ++ (codes " " ++ (decimal (length f.rep
 abbrev pub legal_cases : Results → List ℕ
 legal_cases r = flat_map legal_case r.finished
 
+-- the block of a finished test case
+abbrev pub block_of : ℕ → Finished → Block
+block_of line f = record { format = 2; name = f.name; behaviours = f.report.behaviours; first_line = line; entries = f.report.history; verdict = f.report.verdict }
+
+-- the blocks of finished test cases, the first of which begins in this line
+abbrev pub blocks_of : ℕ → List Finished → List Block
+blocks_of line [] = []
+blocks_of line (f ∷ fs) = block_of line f ∷ blocks_of (line + length (block_lines (block_of line f))) fs
+
 -- this is what `check` says of the histories of the results
 abbrev pub AreFoundLegal : Results → Type 0
 AreFoundLegal r = IsChecked (histories_text r) (legal_cases r) 0
@@ -53,6 +63,8 @@ IsOutside (F.Text fault) = ⊥
 IsOutside (F.Script fault) = ⊥
 IsOutside F.StopOn = ⊥
 IsOutside F.States = ⊥
+IsOutside F.Shard = ⊥
+IsOutside F.Only = ⊥
 IsOutside fault = Unit {0}
 
 -- where the input is what is written of test cases that were run, the status is 0 and each is found legal, or there is a fault, and not of the text

@@ -1,16 +1,19 @@
 //! What the program does with its words.
-ghost use Rattle.std.specs.Prelude.{◌≡◌, IfOk, IfErr, OnErr, map, string_bytes};
+ghost use Rattle.std.specs.Prelude.{◌≡◌, ℕ, List, IfOk, IfErr, OnErr, map, string_bytes};
 ghost use Rattle.std.specs.IoError.{error_kind};
 ghost use Rattle.clap.specs.Values.{kind_of};
-ghost use Rattle.clap.specs.declared.error.kind.ErrorKind.TheVariants.{DisplayHelp};
-ghost use Rattle.ttrun.specs.Answer.{IsAnswered, IsHelped, IsMistake, IsRefusedLine, IsUnread, ShowsText};
+ghost use Rattle.clap.specs.declared.error.kind.ErrorKind.TheVariants.{DisplayHelp, DisplayVersion, OutOfMemory};
+ghost use Rattle.ttrun.specs.Answer.{IsAnswered, IsHelped, IsMistake, IsNoTask, IsRefusedLine, IsUnread, ShowsText};
+ghost use Rattle.ttrun.specs.Tell.{IsRefusal, IsTold};
+ghost use Rattle.ttrun.specs.declared.fault.RunFault.TheVariants.{NoMemory as WithoutMemory};
 ghost use Rattle.ttrun.specs.Streams.{held};
 
 use crate::carry_out::carry_out;
 use crate::fault::RunFault;
 use crate::outcome::{Outcome, REFUSED};
-use crate::tell::refuse;
+use crate::tell::{refuse, tell_unmade};
 use clap::Error;
+use clap::error::ErrorKind;
 use std::alloc::Global;
 use std::io;
 use std::io::{Read, Write};
@@ -28,8 +31,19 @@ fn show<W: Write>(alloc: Global, error: &Error, writer: &mut W) -> Result<(), Ru
     Ok(())
 }
 
-/// The outcome of words that ask for no task: help is written, and for refused words standard error says why. The texts
-/// are clap's.
+// Writes why a command line is refused, or, where memory is refused for that text, that it was.
+fn tell_mistake<E: Write>(alloc: Global, error: &Error, errors: &mut E) -> Result<(), RunFault>
+    ensures { (text : List ℕ) × IsTold (E.contents errors.old) (E.contents errors.new) text result }
+{
+    let Ok(text) = error.to_string(alloc) else {
+        return tell_unmade(errors);
+    };
+    write_whole(errors, text.as_bytes())?;
+    Ok(())
+}
+
+/// The outcome of words that ask for no task: help or the version is written, and for refused words standard error says why, in clap's
+/// texts. Where memory was refused for the words, standard error says that.
 pub fn answer_no_task<W: Write, E: Write>(
     alloc: Global,
     error: &Error,
@@ -37,13 +51,19 @@ pub fn answer_no_task<W: Write, E: Write>(
     errors: &mut E,
 ) -> Outcome
     ensures help { kind_of error.now ≡ DisplayHelp → IsHelped (held W.contents writer.old writer.new E.contents errors.old errors.new) result }
+    ensures version { kind_of error.now ≡ DisplayVersion → IsHelped (held W.contents writer.old writer.new E.contents errors.old errors.new) result }
     ensures refused { IsMistake (kind_of error.now) → IsRefusedLine (E.contents errors.old) (E.contents errors.new) result }
+    ensures memory { kind_of error.now ≡ OutOfMemory → IsRefusal (E.contents errors.old) (E.contents errors.new) result WithoutMemory }
     ensures unwritten { IsMistake (kind_of error.now) → writer.new ≡ writer.old }
+    ensures wordless { kind_of error.now ≡ OutOfMemory → writer.new ≡ writer.old }
 {
+    if error.kind() == ErrorKind::OutOfMemory {
+        return refuse(alloc, errors, RunFault::NoMemory);
+    }
     if error.use_stderr() {
         return Outcome {
             status: REFUSED,
-            told: show(alloc, error, errors),
+            told: tell_mistake(alloc, error, errors),
         };
     }
     match show(alloc, error, writer) {
@@ -53,6 +73,18 @@ pub fn answer_no_task<W: Write, E: Write>(
         },
         Err(fault) => refuse(alloc, errors, fault),
     }
+}
+
+// The outcome of words that ask for no task, as one fact.
+fn answer_error<W: Write, E: Write>(
+    alloc: Global,
+    error: &Error,
+    writer: &mut W,
+    errors: &mut E,
+) -> Outcome
+    ensures shown { IsNoTask (kind_of error.now) (held W.contents writer.old writer.new E.contents errors.old errors.new) (writer.new ≡ writer.old) result }
+{
+    answer_no_task(alloc, error, writer, errors)
 }
 
 /// The outcome of words that could not be had; standard error says why.
@@ -93,6 +125,6 @@ where
     };
     match read_task(alloc, words.as_slice()) {
         Ok(task) => carry_out(rt, alloc, task, reader, writer, errors),
-        Err(error) => answer_no_task(alloc, &error, writer, errors),
+        Err(error) => answer_error(alloc, &error, writer, errors),
     }
 }

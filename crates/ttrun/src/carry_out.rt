@@ -4,11 +4,14 @@ ghost use Rattle.ttrun.specs.Program.{HasNoRule, IsCarriedOut};
 ghost use Rattle.ttrun.specs.Streams.{held};
 
 use crate::check::check;
+use crate::explained::{refuse_by, settle_by};
 use crate::explore::explore_script;
 use crate::jobs::run_script;
+use crate::listing::list_script;
 use crate::outcome::Outcome;
 use crate::replay::replay;
-use crate::tell::{refuse, settle};
+use crate::report::report;
+use crate::tell::settle;
 use std::alloc::Global;
 use std::io::{Read, Write};
 use std::sync::Wait;
@@ -16,6 +19,7 @@ use std::thread::Threads;
 use tc_command::Task;
 
 /// Does what the words ask for.
+#[tactic(auto, using(crate::proofs::Explaining::refusal_told, crate::proofs::Explaining::told_of))]
 pub fn carry_out<R, I: Read, W: Write, E: Write>(
     rt: &R,
     alloc: Global,
@@ -29,28 +33,46 @@ where
     ensures done { IsCarriedOut task.entry (I.remaining reader.old) (held W.contents writer.old writer.new E.contents errors.old errors.new) result }
     ensures unread { HasNoRule task.entry → reader.new ≡ reader.old }
 {
+    let mut kept = Vec::new(alloc);
     match task {
-        Task::Replay => {
-            let answer = replay(alloc, reader, writer);
-            settle(alloc, errors, answer)
+        Task::Replay { explains } => {
+            let answer = replay(alloc, &mut kept, reader, writer);
+            settle_by(alloc, errors, explains, true, kept.as_slice(), answer)
         }
-        Task::Check => {
-            let answer = check(alloc, reader, writer);
-            settle(alloc, errors, answer)
+        Task::Check { explains } => {
+            let answer = check(alloc, &mut kept, reader, writer);
+            settle_by(alloc, errors, explains, false, kept.as_slice(), answer)
         }
-        Task::Explore { histories, states } => {
-            let answer = explore_script(alloc, histories, states, reader, writer);
-            settle(alloc, errors, answer)
-        }
-        Task::Run {
-            form,
-            live,
-            stop_on,
+        Task::Explore {
+            histories,
+            details,
+            states,
         } => {
-            match run_script(rt, alloc, form, live, stop_on, reader, writer, errors) {
-                Ok(outcome) => outcome,
-                Err(fault) => refuse(alloc, errors, fault),
-            }
+            let answer = explore_script(alloc, histories, details, states, reader, writer);
+            settle(alloc, errors, answer)
         }
+        Task::Report { form, explains } => match report(
+            alloc, form, &mut kept, reader, writer, errors,
+        ) {
+            Ok(outcome) => outcome,
+            Err(fault) => refuse_by(alloc, errors, explains, false, kept.as_slice(), fault),
+        },
+        Task::List(choice) => {
+            let answer = list_script(rt, alloc, &choice, reader, writer);
+            settle(alloc, errors, answer)
+        }
+        Task::Run(options) => match run_script(
+            rt, alloc, &options, &mut kept, reader, writer, errors,
+        ) {
+            Ok(outcome) => outcome,
+            Err(fault) => refuse_by(
+                alloc,
+                errors,
+                options.explains,
+                false,
+                kept.as_slice(),
+                fault,
+            ),
+        },
     }
 }

@@ -1,6 +1,7 @@
 //! The subcommand `check`.
 ghost use Rattle.std.specs.Prelude.{IfOk, IfErr, OnOk};
 ghost use Rattle.ttrun.specs.Check.{IsCheckOf, IsChecked, RefusesCheck};
+ghost use Rattle.ttrun.specs.Explained.{KeepsText};
 ghost use Rattle.ttrun.specs.Inside.{ChecksText, Feeds, IsPlayed, RefusesHistory};
 ghost use Rattle.ttrun.specs.Output.{Writes};
 ghost use Rattle.ttrun.specs.Limits.{HasAtMost, history_limit};
@@ -77,9 +78,11 @@ fn check_text(alloc: Global, text: &[u8]) -> Result<(Vec<u8>, bool), RunFault>
 
 /// Checks histories: replays each on a table of its own, writes which are legal, and answers the status: 0 where all are, else 3.
 ///
-/// The whole text is read, and the output made, before anything is written.
+/// What was read of the input is left in `kept`. The whole text is read, and the output made, before anything is written.
+#[tactic(auto, using(crate::proofs::Explaining::any_kept, crate::proofs::Explaining::input_kept))]
 pub fn check<R: Read, W: Write>(
     alloc: Global,
+    kept: &mut Vec<u8>,
     reader: &mut R,
     writer: &mut W,
 ) -> Result<u8, RunFault>
@@ -87,9 +90,11 @@ pub fn check<R: Read, W: Write>(
     ensures fits { OnOk result (HasAtMost history_limit (R.remaining reader.old)) }
     ensures refused { IfErr result (RefusesCheck (R.remaining reader.old) (W.contents writer.old) (W.contents writer.new)) }
     ensures written { FindsWrittenLegal (R.remaining reader.old) (W.contents writer.old) (W.contents writer.new) result }
+    ensures kept { IfErr result (KeepsText (R.remaining reader.old) kept.new.items) }
 {
     let text = read_input(alloc, reader, LIMIT)?;
-    let (out, legal) = check_text(alloc, text.as_slice())?;
+    *kept = text;
+    let (out, legal) = check_text(alloc, kept.as_slice())?;
     let status = if legal { 0 } else { REFUSED };
     let Ok(()) = write_whole(writer, out.as_slice()) else {
         return Err(RunFault::Write);

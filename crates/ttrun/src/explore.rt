@@ -3,9 +3,10 @@ ghost use Rattle.std.specs.Prelude.{◌≡◌, ◌≤◌, All, IfOk, IfErr, IfNo
 ghost use Rattle.std.specs.List.{AllZip, flat_map};
 ghost use Rattle.std.specs.Fmt.{decimal};
 ghost use Rattle.tc_entry.specs.declared.limits.TheConstants.{BEHAVIOURS};
+ghost use Rattle.tc_explore.specs.Details.{AreLegalOf};
 ghost use Rattle.tc_script.specs.Law.{IsCase};
 ghost use Rattle.ttrun.specs.declared.fault.RunFault.TheVariants.{States};
-ghost use Rattle.ttrun.specs.Explore.{Explores, IsExplored, IsNoStates, IsStates, IsStatesOf, RefusesExplore, has_status as status_in, status_of_all, told_of};
+ghost use Rattle.ttrun.specs.Explore.{Explores, IsExplored, details_if, IsNoStates, IsStates, IsStatesOf, RefusesExplore, has_status as status_in, status_of_all, told_of};
 ghost use Rattle.ttrun.specs.Limits.{HasAtMost, script_limit};
 ghost use Rattle.ttrun.specs.Output.{Writes};
 ghost use Rattle.ttrun.specs.Scripted.{scripts_of as scripts_in};
@@ -14,7 +15,7 @@ use crate::fault::RunFault;
 use crate::script::take_script;
 use std::alloc::Global;
 use std::io::{Read, Write};
-use tc_entry::Name;
+use tc_entry::{Name, Sequence};
 use tc_explore::{Explored, explore};
 use tc_script::{Campaign, CaseScript};
 use tc_step::Script;
@@ -31,6 +32,7 @@ pub(crate) struct ExploredCase {
     pub(crate) name: Name,
     pub(crate) behaviours: u16,
     pub(crate) explored: Explored,
+    pub(crate) details: Sequence<u8>,
 }
 
 // The number of states that a word names.
@@ -58,22 +60,44 @@ fn scripts_of(alloc: Global, case: CaseScript) -> Result<Vec<Script>, NoMemory>
     Ok(scripts)
 }
 
+// The details of a test case of so many behaviours, where they are asked for.
+fn details_of(
+    alloc: Global,
+    details: bool,
+    behaviours: u16,
+    explored: &Explored,
+) -> Result<Vec<u8>, NoMemory>
+    requires few { behaviours ≤ BEHAVIOURS }
+    requires legal { AreLegalOf behaviours explored.now.found }
+    ensures { IfOk result (λ text. text.items ≡ details_if details behaviours explored.now.found) }
+{
+    let mut out = Vec::new(alloc);
+    if details {
+        explored.append_details(alloc, &mut out, behaviours)?;
+    }
+    Ok(out)
+}
+
 // Explores a test case.
 fn explore_case(
     alloc: Global,
     name: Name,
     case: CaseScript,
+    details: bool,
     states: usize,
 ) -> Result<ExploredCase, NoMemory>
     requires { length case ≤ BEHAVIOURS }
-    ensures { IfOk result (IsExplored states (name, case)) }
+    ensures { IfOk result (IsExplored details states (name, case)) }
 {
     let scripts = scripts_of(alloc, case)?;
+    let behaviours = scripts.len() as u16;
     let explored = explore(alloc, scripts.as_slice(), states)?;
+    let details = details_of(alloc, details, behaviours, &explored)?;
     Ok(ExploredCase {
         name,
-        behaviours: scripts.len() as u16,
+        behaviours,
         explored,
+        details: Sequence::new(details),
     })
 }
 
@@ -81,15 +105,16 @@ fn explore_case(
 fn explore_cases(
     alloc: Global,
     campaign: Campaign,
+    details: bool,
     states: usize,
 ) -> Result<Vec<ExploredCase>, NoMemory>
     requires { All (λ t. IsCase t.1) campaign }
-    ensures { IfOk result (λ explored. AllZip (IsExplored states) campaign explored.items) }
+    ensures { IfOk result (λ explored. AllZip (IsExplored details states) campaign explored.items) }
 {
     let mut campaign = campaign;
     let mut explored = Vec::new(alloc);
     while let Some((name, case)) = campaign.take_first() {
-        explored.push(explore_case(alloc, name, case, states)?)?;
+        explored.push(explore_case(alloc, name, case, details, states)?)?;
     }
     Ok(explored)
 }
@@ -121,6 +146,7 @@ fn text_of(
                 .append_witnesses(&mut out, &case.name, case.behaviours)?;
         } else {
             case.explored.append_line(&mut out, &case.name)?;
+            out.extend_from_slice(case.details.as_slice())?;
         }
     }
     Ok((out, status_of(explored)))
@@ -147,25 +173,28 @@ fn status_of(explored: &[ExploredCase]) -> u8
 }
 
 /// Explores the campaign of a script, writes what was found, and answers the status: 0 where each test case has one verdict,
-/// 1 where some has more, 3 where a search did not come to its end. The word is that of `--states`.
+/// 1 where some has more, 3 where a search did not come to its end. The word is that of `--states`. Details are told behind
+/// the line of each test case.
 ///
 /// The output is made before anything is written.
 pub fn explore_script<R: Read, W: Write>(
     alloc: Global,
     histories: bool,
+    details: bool,
     word: Option<&str>,
     reader: &mut R,
     writer: &mut W,
 ) -> Result<u8, RunFault>
     ensures done { IfOk result (λ status. (states : ℕ) × IsStatesOf (option_copied word.entry) states
-        × Writes (Explores histories states) (R.remaining reader.old) (W.contents writer.old) (W.contents writer.new) status) }
+        × Writes (Explores histories details states) (R.remaining reader.old) (W.contents writer.old) (W.contents writer.new) status) }
     ensures fits { OnOk result (HasAtMost script_limit (R.remaining reader.old)) }
-    ensures refused { IfErr result (RefusesExplore histories (option_copied word.entry) (R.remaining reader.old)
+    ensures refused { IfErr result (RefusesExplore histories details (option_copied word.entry) (R.remaining reader.old)
         (W.contents writer.old) (W.contents writer.new)) }
 {
     let states = states_of(word)?;
-    let campaign = take_script(alloc, reader)?;
-    let explored = explore_cases(alloc, campaign, states)?;
+    let mut kept = Vec::new(alloc);
+    let campaign = take_script(alloc, &mut kept, reader)?;
+    let explored = explore_cases(alloc, campaign, details, states)?;
     let (out, status) = text_of(alloc, histories, explored.as_slice())?;
     let Ok(()) = write_whole(writer, out.as_slice()) else {
         return Err(RunFault::Write);

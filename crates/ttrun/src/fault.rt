@@ -31,6 +31,10 @@ pub enum RunFault {
     StopOn,
     /// The word of `--states` is no number of states.
     States,
+    /// The word of `--shard` is none of a shard.
+    Shard,
+    /// A word of `--only` is the name of no test case of the script.
+    Only,
 }
 
 impl From<InputFault> for RunFault {
@@ -145,6 +149,8 @@ impl RunFault {
             RunFault::Script(fault) => fault.kind.text(),
             RunFault::StopOn => "--stop-on takes none, pass, inconc, fail or error",
             RunFault::States => "--states takes a number from 1 to 1000000",
+            RunFault::Shard => "--shard takes K/N, with K from 1 to N",
+            RunFault::Only => "--only takes the name of a test case of the script",
         }
     }
 }

@@ -3,7 +3,7 @@ ghost use Rattle.std.specs.Prelude.{◌≡◌, IfOk, IfErr, OnOk};
 ghost use Rattle.std.specs.Io.KnownBytes.{Appends};
 ghost use Rattle.tc_report.specs.Status.{results_status};
 ghost use Rattle.tc_report.specs.Output.{LeavesPrefix};
-ghost use Rattle.ttrun.specs.Give.{LeavesUnwritten, report_form as spec_form, text_of};
+ghost use Rattle.ttrun.specs.Give.{LeavesUnwritten, live_form as spec_form, text_of};
 
 use crate::fault::RunFault;
 use std::alloc::Global;
@@ -11,16 +11,18 @@ use std::io::Write;
 use tc_campaign::{
     Form as ReportForm, OutFault, Results, status_of, write_csv, write_history, write_text,
 };
-use tc_command::Form;
+use tc_command::{Form, VERSION};
+use tc_forms::write_junit;
 
-/// The form that the words of a command line ask for, as a report has it.
-pub(crate) fn report_form(form: Form) -> ReportForm
+/// The form in which test cases are written as they finish; a JUnit report has none, since its head counts all of them.
+pub(crate) fn live_form(form: Form) -> Option<ReportForm>
     ensures { result ≡ spec_form form }
 {
     match form {
-        Form::Text => ReportForm::Text,
-        Form::Csv => ReportForm::Csv,
-        Form::History => ReportForm::History,
+        Form::Text => Some(ReportForm::Text),
+        Form::Csv => Some(ReportForm::Csv),
+        Form::History => Some(ReportForm::History),
+        Form::Junit => None,
     }
 }
 
@@ -37,6 +39,7 @@ fn write<W: Write>(
         Form::Text => write_text(alloc, results, writer),
         Form::Csv => write_csv(alloc, results, writer),
         Form::History => write_history(alloc, results, writer),
+        Form::Junit => write_junit(alloc, VERSION, results, writer),
     }
 }
 

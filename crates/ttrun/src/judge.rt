@@ -1,11 +1,15 @@
 //! What the table says of a history.
-ghost use Rattle.std.specs.Prelude.{◌≡◌, ◌<◌, [], ℕ, IfOk, OnOk};
+ghost use Rattle.std.specs.Prelude.{◌≡◌, ◌<◌, [], ℕ, List, IfOk, OnOk};
 ghost use Rattle.tc_history.specs.Text.{IsHeader};
+ghost use Rattle.tc_entry.specs.declared.entry.Entry.{Entry as AnyEntry};
+ghost use Rattle.tc_table.specs.Standing.{StandsFor};
+ghost use Rattle.tc_forms.specs.Summary.{summary_of};
 ghost use Rattle.ttrun.specs.Check.{judges_legal};
 ghost use Rattle.ttrun.specs.Inside.{IsPlayed, JudgesPlayed, PlaysNext};
 
 use std::alloc::Global;
 use tc_entry::Name;
+use tc_forms::{Summary, summary_of_state};
 use tc_history::Header;
 use tc_table::{CaseState, Entry, NoMemory, Reply, Verdict};
 
@@ -87,6 +91,13 @@ impl Playing {
             self.difference = Some(Difference { line, given, reply });
         }
         Ok(())
+    }
+
+    /// What the forms say of the history, where each of its replies was the table's.
+    pub(crate) fn summary(&self, alloc: Global) -> Result<Summary, NoMemory>
+        ensures { (past : List AnyEntry) → StandsFor self.now.state past → IfOk result (λ s. s ≡ summary_of self.now.header.name past) }
+    {
+        summary_of_state(alloc, &self.header.name, &self.state)
     }
 
     /// What the table says of the history whose first and last lines have these numbers, and which gives this verdict.

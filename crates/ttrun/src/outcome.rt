@@ -10,6 +10,7 @@ pub const REFUSED: u8 = 3;
 pub struct Outcome {
     /// The exit status.
     pub status: u8,
-    /// That the line was written whole, or that there was none; else why it was not. The status stays then.
+    /// That the line was written whole, or that there was none; else why it was not. The status stays then. Without memory for
+    /// the line, the line that says so was written in its place.
     pub told: Result<(), RunFault>,
 }

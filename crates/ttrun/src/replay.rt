@@ -2,6 +2,7 @@
 ghost use Rattle.std.specs.Prelude.{◌≡◌, ◌++◌, ◌∷◌, [], IfOk, IfErr, OnOk};
 ghost use Rattle.tc_text.specs.Spelling.{reply_text};
 ghost use Rattle.ttrun.specs.Replay.{IsReplayOf, RefusesReplay, Replays};
+ghost use Rattle.ttrun.specs.Explained.{KeepsText};
 ghost use Rattle.ttrun.specs.Inside.{ArePlayed, RefusesText};
 ghost use Rattle.ttrun.specs.Output.{Writes};
 ghost use Rattle.ttrun.specs.Limits.{HasAtMost, move_list_limit};
@@ -64,18 +65,22 @@ fn replay_text(alloc: Global, text: &[u8]) -> Result<(Vec<u8>, Verdict), RunFaul
 
 /// Replays a move list: writes the reply to each move, and then the overall verdict, whose status it answers.
 ///
-/// The whole list is read, and the output made, before anything is written.
+/// What was read of the input is left in `kept`. The whole list is read, and the output made, before anything is written.
+#[tactic(auto, using(crate::proofs::Explaining::any_kept, crate::proofs::Explaining::input_kept))]
 pub fn replay<R: Read, W: Write>(
     alloc: Global,
+    kept: &mut Vec<u8>,
     reader: &mut R,
     writer: &mut W,
 ) -> Result<u8, RunFault>
     ensures done { IfOk result (Writes Replays (R.remaining reader.old) (W.contents writer.old) (W.contents writer.new)) }
     ensures fits { OnOk result (HasAtMost move_list_limit (R.remaining reader.old)) }
     ensures refused { IfErr result (RefusesReplay (R.remaining reader.old) (W.contents writer.old) (W.contents writer.new)) }
+    ensures kept { IfErr result (KeepsText (R.remaining reader.old) kept.new.items) }
 {
     let text = read_input(alloc, reader, LIMIT)?;
-    let (out, verdict) = replay_text(alloc, text.as_slice())?;
+    *kept = text;
+    let (out, verdict) = replay_text(alloc, kept.as_slice())?;
     let status = verdict_status(verdict);
     let Ok(()) = write_whole(writer, out.as_slice()) else {
         return Err(RunFault::Write);

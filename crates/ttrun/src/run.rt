@@ -1,16 +1,18 @@
 //! A run of a campaign: what is read for it, how it is carried out, and what is written of it.
-ghost use Rattle.std.specs.Prelude.{◌≡◌, All, IfOk, IfErr, IfSome, OnOk, OnErr, Ok, Err, option_copied, true, false};
+ghost use Rattle.std.specs.Prelude.{◌≡◌, All, IfOk, IfErr, IfSome, OnOk, OnErr, Ok, Err, Some, option_copied, true, false};
 ghost use Rattle.ttrun.specs.declared.fault.RunFault.TheVariants.{StopOn};
 ghost use Rattle.tc_campaign.specs.Outline.{HasNames, outline_of};
 ghost use Rattle.tc_campaign.specs.Campaign.{IsCalled};
 ghost use Rattle.tc_script.specs.Campaign.{campaign};
 ghost use Rattle.tc_script.specs.Law.{IsCase};
+ghost use Rattle.ttrun.specs.Explained.{IsRead, KeepsText};
+ghost use Rattle.ttrun.specs.Give.{is_live, live_form as spec_form};
 ghost use Rattle.ttrun.specs.Limits.{HasAtMost, script_limit, worker_limit};
 ghost use Rattle.ttrun.specs.Run.{IsRuleOf, IsNoName, RefusesWord, RefusesRun, IsCutShort, IsRun, IsUnwritten};
 ghost use Rattle.ttrun.specs.Streams.{held};
 
 use crate::fault::RunFault;
-use crate::give::{give, report_form};
+use crate::give::{give, live_form};
 use crate::outcome::Outcome;
 use crate::script::{stop_word, take_script};
 use crate::tell::tell_abort;
@@ -19,7 +21,7 @@ use std::io::{Read, Write};
 use std::sync::Wait;
 use std::thread::Threads;
 use tc_book::Sequence;
-use tc_campaign::{Case, Results, run_campaign, run_campaign_live};
+use tc_campaign::{Case, Form as ReportForm, Results, run_campaign, run_campaign_live};
 use tc_command::Form;
 use tc_entry::BEHAVIOURS;
 use tc_exec::Callable;
@@ -51,9 +53,12 @@ fn rule_of(word: Option<&str>) -> Result<Option<Verdict>, RunFault>
     }
 }
 
-/// The campaign that the input spells, and how it is run, after the word of `--stop-on`.
+/// The campaign that the input spells, and how it is run, after the word of `--stop-on`. What was read of the input is left in
+/// `kept`.
+#[tactic(auto, using(crate::proofs::Explaining::word_kept))]
 pub fn read_run<R: Read>(
     alloc: Global,
+    kept: &mut Vec<u8>,
     reader: &mut R,
     form: Form,
     word: Option<&str>,
@@ -65,9 +70,11 @@ pub fn read_run<R: Read>(
     ensures form { IfOk result (λ r. r.1.form ≡ form) }
     ensures refused { IfErr result (RefusesRun (option_copied word.entry) script_limit (R.remaining reader.old)) }
     ensures unread { IsNoName (option_copied word.entry) → (result ≡ Err StopOn) × (reader.new ≡ reader.old) }
+    ensures kept { IfErr result (KeepsText (R.remaining reader.old) kept.new.items) }
+    ensures read { OnOk result (IsRead (R.remaining reader.old) kept.new.items) }
 {
     let stop_on = rule_of(word)?;
-    let campaign = take_script(alloc, reader)?;
+    let campaign = take_script(alloc, kept, reader)?;
     Ok((campaign, Options { stop_on, form }))
 }
 
@@ -92,7 +99,7 @@ where
 {
     let results = run_campaign(rt, alloc, cases, options.stop_on, THREADS);
     let status = give(alloc, &results, options.form, writer)?;
-    let told = tell_abort(alloc, errors, &results);
+    let told = tell_abort(errors, &results);
     Ok(Outcome { status, told })
 }
 
@@ -103,19 +110,20 @@ pub fn run_cases_live<R, B: Callable, W: Write, E: Write>(
     alloc: Global,
     cases: Vec<Case<B>>,
     options: Options,
+    form: ReportForm,
     writer: &mut W,
     errors: &mut E,
 ) -> Result<Outcome, RunFault>
 where
     R: Threads + Wait + Copy + Send + 'static,
     requires names { All HasNames cases.items }
+    requires form { spec_form options.form ≡ Some form }
     ensures done { IfOk result (IsRun outline_of (IsCalled B.outcome) cases.items options
         (held W.contents writer.old writer.new E.contents errors.old errors.new)) }
     ensures refused { IfErr result (IsCutShort outline_of (IsCalled B.outcome) cases.items options
         (W.contents writer.old) (W.contents writer.new)) }
     ensures untouched { OnErr result (errors.new ≡ errors.old) }
 {
-    let form = report_form(options.form);
     let (ending, status) = run_campaign_live(
         rt,
         alloc,
@@ -129,11 +137,11 @@ where
         finished: Sequence::new(Vec::new(alloc)),
         ending,
     };
-    let told = tell_abort(alloc, errors, &unkept);
+    let told = tell_abort(errors, &unkept);
     Ok(Outcome { status, told })
 }
 
-/// Runs the test cases, writes their results live or at the end, and answers what came of them.
+/// Runs the test cases, writes their results live, where the form can be, or at the end, and answers what came of them.
 pub fn run_as<R, B: Callable, W: Write, E: Write>(
     rt: &R,
     alloc: Global,
@@ -148,15 +156,14 @@ where
     requires names { All HasNames cases.items }
     ensures done { IfOk result (IsRun outline_of (IsCalled B.outcome) cases.items options
         (held W.contents writer.old writer.new E.contents errors.old errors.new)) }
-    ensures whole { live ≡ false → IfErr result (IsUnwritten outline_of (IsCalled B.outcome) cases.items options
+    ensures whole { is_live options.form live ≡ false → IfErr result (IsUnwritten outline_of (IsCalled B.outcome) cases.items options
         (W.contents writer.old) (W.contents writer.new)) }
-    ensures cut { live ≡ true → IfErr result (IsCutShort outline_of (IsCalled B.outcome) cases.items options
+    ensures cut { is_live options.form live ≡ true → IfErr result (IsCutShort outline_of (IsCalled B.outcome) cases.items options
         (W.contents writer.old) (W.contents writer.new)) }
     ensures untouched { OnErr result (errors.new ≡ errors.old) }
 {
-    if live {
-        run_cases_live(rt, alloc, cases, options, writer, errors)
-    } else {
-        run_cases(rt, alloc, cases, options, writer, errors)
+    match live_form(options.form) {
+        Some(form) if live => run_cases_live(rt, alloc, cases, options, form, writer, errors),
+        _ => run_cases(rt, alloc, cases, options, writer, errors),
     }
 }

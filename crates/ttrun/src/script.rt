@@ -3,6 +3,7 @@ ghost use Rattle.std.specs.Prelude.{◌≡◌, All, IfOk, IfErr, IfSome, OnOk, O
 ghost use Rattle.tc_verdict.specs.Verdict.{name_of};
 ghost use Rattle.tc_script.specs.Campaign.{campaign};
 ghost use Rattle.tc_script.specs.Law.{IsCase};
+ghost use Rattle.ttrun.specs.Explained.{IsRead, KeepsText};
 ghost use Rattle.ttrun.specs.Limits.{HasAtMost, script_limit};
 ghost use Rattle.ttrun.specs.Run.{RefusesWord};
 ghost use Rattle.ttrun.specs.Script.{RefusesScript};
@@ -18,14 +19,24 @@ use tc_verdict::{Verdict, read_name};
 const LIMIT: usize = 1_048_576;
 
 /// The campaign that the input spells.
-pub fn take_script<R: Read>(alloc: Global, reader: &mut R) -> Result<Campaign, RunFault>
+///
+/// What was read of it is left in `kept`.
+#[tactic(auto, using(crate::proofs::Explaining::any_kept, crate::proofs::Explaining::input_kept))]
+pub fn take_script<R: Read>(
+    alloc: Global,
+    kept: &mut Vec<u8>,
+    reader: &mut R,
+) -> Result<Campaign, RunFault>
     ensures spelled { IfOk result (λ c. IfSome (R.remaining reader.old) (λ text. campaign text ≡ Ok c)) }
     ensures lawful { IfOk result (λ c. All (λ t. IsCase t.1) c) }
     ensures fits { OnOk result (HasAtMost script_limit (R.remaining reader.old)) }
     ensures refused { IfErr result (RefusesScript script_limit (R.remaining reader.old)) }
+    ensures kept { IfErr result (KeepsText (R.remaining reader.old) kept.new.items) }
+    ensures read { OnOk result (IsRead (R.remaining reader.old) kept.new.items) }
 {
     let text = read_input(alloc, reader, LIMIT)?;
-    match read_campaign(alloc, text.as_slice()) {
+    *kept = text;
+    match read_campaign(alloc, kept.as_slice()) {
         Ok(campaign) => Ok(campaign),
         Err(ReadFault::Script(fault)) => Err(RunFault::Script(fault)),
         Err(ReadFault::NoMemory) => Err(RunFault::NoMemory),

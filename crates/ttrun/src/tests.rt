@@ -9,13 +9,17 @@ use std::process::Abort;
 use std::sync::Wait;
 use std::test::Fail;
 use std::thread::Threads;
-use tc_command::Task;
+use tc_command::{Choice, Form, RunOptions, Task};
 
 mod campaigns;
+mod choosing;
 mod devices;
+mod explained;
 mod histories;
 mod jobs;
 mod refused;
+mod report;
+mod terminal;
 mod words;
 mod worked;
 mod written_histories;
@@ -40,9 +44,10 @@ enum Command {
 impl Command {
     fn answer(self, alloc: Global, input: &[u8], written: &mut Vec<u8>) -> Result<u8, RunFault> {
         let mut reader = input;
+        let mut kept = Vec::new(alloc);
         match self {
-            Command::Replay => replay(alloc, &mut reader, written),
-            Command::Check => check(alloc, &mut reader, written),
+            Command::Replay => replay(alloc, &mut kept, &mut reader, written),
+            Command::Check => check(alloc, &mut kept, &mut reader, written),
         }
     }
 
@@ -108,6 +113,29 @@ struct Wanted<'a> {
     written: &'a str,
     told: &'a str,
     status: u8,
+}
+
+// A run of all test cases in this form, live or not, with this stopping rule.
+fn run_options<'a>(
+    alloc: Global,
+    form: Form,
+    live: bool,
+    stop_on: Option<&'a str>,
+) -> RunOptions<'a> {
+    RunOptions {
+        form,
+        live,
+        stop_on,
+        choice: Choice {
+            only: Vec::new(alloc),
+            shard: None,
+        },
+        explains: false,
+    }
+}
+
+fn run_task<'a>(alloc: Global, form: Form, live: bool, stop_on: Option<&'a str>) -> Task<'a> {
+    Task::Run(run_options(alloc, form, live, stop_on))
 }
 
 // Carries out the task on the input, and compares what comes of it; what is told is told whole.

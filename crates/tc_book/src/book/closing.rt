@@ -5,10 +5,11 @@ ghost use Rattle.tc_book.specs.Closing.{run_log, merged, IsMerged};
 ghost use Rattle.tc_book.specs.Report.{IsOneHistory};
 
 use crate::book::Book;
+use crate::callers::are_calls;
 use crate::close::{all_agreed, are_placed, have_together};
 use crate::closed::{CloseFault, Closed};
 use crate::left::Left;
-use crate::parts::{are_parts, logs_by_run};
+use crate::parts::logs_by_run;
 use crate::report::report;
 use std::alloc::Global;
 use tc_entry::Entry;
@@ -59,7 +60,7 @@ impl Book {
         let Ok(parts) = logs_by_run(alloc, logs, behaviours) else {
             return Err(CloseFault::NoMemory);
         };
-        match are_parts(alloc, &parts, &history) {
+        match are_calls(alloc, behaviours, &parts, &history) {
             Ok(true) => {}
             Ok(false) => return Err(CloseFault::Torn),
             Err(NoMemory) => return Err(CloseFault::NoMemory),

@@ -91,7 +91,7 @@ fn each_refusal_aborts(rt: HostRuntime) -> Result<(), Fail> {
         assert_eq!(rt; name.bytes(), b"b".as_slice());
         assert_eq!(rt; *why, refusal);
         let mut line = Vec::new(alloc);
-        assert_eq!(rt; abort_line(&results, &mut line), Ok(true));
+        assert_eq!(rt; write_abort(&results, &mut line), Ok(true));
         let wanted = format!(in alloc; "ttrun: aborted at b: {told}\n")?;
         assert_eq!(rt; line.as_slice(), wanted.as_bytes());
     }

@@ -25,7 +25,7 @@ fn starts_all<R: Abort>(rt: &R, alloc: Global) -> Result<Script, Fail> {
         let mut args = Places::new();
         args.push(Place::Main);
         steps.push(Step::Start {
-            on: Place::Bound(usize::from(run) - 1),
+            on: Place::Bound(run - 1),
             run: Run(run),
             args,
         })?;

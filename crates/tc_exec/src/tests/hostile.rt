@@ -1,7 +1,7 @@
 //! Behaviours that do what they should not, and threads that are refused.
 ghost use Rattle.std.specs.Prelude.{⊤};
 
-use crate::tests::Behaviour;
+use crate::tests::{Behaviour, starts_all};
 use crate::*;
 use std::alloc::Global;
 use std::rt::Files;
@@ -170,6 +170,103 @@ fn a_thread_lives_before_the_next_question(rt: HostRuntime) -> Result<(), Fail> 
     assert_eq!(rt; report.logs.as_slice().len(), 1);
     assert_eq!(rt; gate.asked, 7);
     assert_eq!(rt; gate.found, 7);
+    Ok(())
+}
+
+/// The bytes of a mapping of the program's memory, by its line, as `7f0000000000-7f0000200000 rw-p ..`.
+fn mapped(line: &str) -> Option<u64> {
+    let (from, rest) = line.split_once('-')?;
+    let (to, _) = rest.split_once(' ')?;
+    let from = u64::from_str_radix(from, 16).ok()?;
+    let to = u64::from_str_radix(to, 16).ok()?;
+    to.checked_sub(from)
+}
+
+/// How many mappings of the program have the size of a worker's stack; none where the system does not tell.
+fn stacks_now<R: Files + Alloc>(rt: &R) -> u64 {
+    let Ok(maps) = fs::read_to_string(rt, "/proc/self/maps") else {
+        return 0;
+    };
+    let mut stacks = 0u64;
+    for line in maps.as_str().lines() {
+        if mapped(line) == Some(WORKER_STACK as u64) {
+            stacks = stacks.saturating_add(1);
+        }
+    }
+    stacks
+}
+
+/// Allows every worker, and keeps how many stacks there were when the last was asked about.
+#[derive(Drop)]
+struct SeesStacks<R: Files + Alloc> {
+    rt: R,
+    stacks: u64,
+}
+
+impl<R: Files + Alloc> Gate for SeesStacks<R> {
+    ghost asks = { λ _ _ _ _. ⊤ };
+
+    fn allow(&mut self, run: Run) -> bool {
+        if run == Run(255) {
+            self.stacks = stacks_now(&self.rt);
+        }
+        true
+    }
+}
+
+// 254 workers are there at the last question. A stack that lies beside other memory of the program may be told as one with it.
+#[test]
+fn stacks_of_workers(rt: HostRuntime) -> Result<(), Fail> {
+    let alloc = rt.alloc();
+    assert_eq!(rt; WORKER_STACK, 2_097_152);
+    let mut jobs = Vec::new(alloc);
+    for _ in 0..256 {
+        let run: Behaviour = Box::new(alloc, move |pass: Pass| Back::after(pass, Ok(())))?;
+        jobs.push(Job::new(run))?;
+    }
+    let mut gate = SeesStacks { rt, stacks: 0 };
+    run_case_with(&rt, alloc, jobs, 255, &mut gate)?;
+    assert!(rt; gate.stacks >= 240, "{} stacks", gate.stacks);
+    Ok(())
+}
+
+/// A frame of one and a half MiB, all of which is written.
+fn deep(seed: usize) -> u8 {
+    let mut frame = [1u8; 0x18_0000];
+    let mut at = seed;
+    for _ in 0..64 {
+        let next = at.wrapping_mul(0x9e37_79b9).wrapping_add(1) % 0x18_0000;
+        frame[next] = frame[at % 0x18_0000].wrapping_add(1);
+        at = next;
+    }
+    frame[at % 0x18_0000].min(2)
+}
+
+#[test]
+fn a_behaviour_with_a_deep_frame(rt: HostRuntime) -> Result<(), Fail> {
+    let alloc = rt.alloc();
+    let first: Behaviour = Box::new(alloc, move |pass: Pass| {
+        let mut pass = pass;
+        let made = starts_all(&rt, &mut pass, 2);
+        Back::after(pass, made)
+    })?;
+    let second: Behaviour = Box::new(alloc, move |pass: Pass| {
+        let mut pass = pass;
+        let is_written = (1..3).contains(&deep(usize::from(pass.run().0)));
+        let made = pass.set_verdict(if is_written {
+            UserVerdict::Pass
+        } else {
+            UserVerdict::Fail
+        });
+        Back::after(pass, made)
+    })?;
+    let report = run_case(
+        &rt,
+        alloc,
+        vec![in alloc; Job::new(first), Job::new(second)]?,
+        1,
+    )?;
+    assert_eq!(rt; report.verdict, Verdict::Pass);
     Ok(())
 }
 

@@ -59,7 +59,7 @@ fn no_thread_report(rt: HostRuntime) -> Result<(), Fail> {
     assert_eq!(rt; status_of(&results), 3);
     let mut line = Vec::new(rt.alloc());
     line.push(b'x')?;
-    assert_eq!(rt; abort_line(&results, &mut line), Ok(true));
+    assert_eq!(rt; write_abort(&results, &mut line), Ok(true));
     assert_eq!(rt;
         line.as_slice(),
         b"xttrun: aborted at t: no thread\n".as_slice()
@@ -107,7 +107,7 @@ stopped after odd
     assert_eq!(rt; text.as_slice(), wanted.as_bytes());
     assert_eq!(rt; status_of(&results), 2);
     let mut line = Vec::new(rt.alloc());
-    assert_eq!(rt; abort_line(&results, &mut line), Ok(false));
+    assert_eq!(rt; write_abort(&results, &mut line), Ok(false));
     assert!(rt; line.is_empty());
     Ok(())
 }
@@ -212,7 +212,7 @@ fn words_of_refusals(rt: HostRuntime) -> Result<(), Fail> {
             },
         };
         let mut line = Vec::new(rt.alloc());
-        assert_eq!(rt; abort_line(&results, &mut line), Ok(true));
+        assert_eq!(rt; write_abort(&results, &mut line), Ok(true));
         let wanted = format!(in rt.alloc(); "ttrun: aborted at case_1: {text}\n")?;
         assert_eq!(rt; str::from_utf8(line.as_slice()), Ok(wanted.as_str()));
     }

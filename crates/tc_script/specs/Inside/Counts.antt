@@ -1,5 +1,5 @@
 -- What the first pass remembers of the lines before.
-use Rattle.std.specs.Prelude.{ℕ, ◌+◌, ◌≡◌, ◌&&◌, ◌||◌, nat_le, nat_lt, Bool, if◌then◌else◌, Result, Ok, Err, List, ◌∷◌, length}
+use Rattle.std.specs.Prelude.{ℕ, ◌+◌, ◌≡◌, ◌&&◌, ◌||◌, nat_le, nat_lt, Bool, if◌then◌else◌, Result, Ok, Err, List, [], ◌∷◌, ◌++◌, length}
 use Rattle.tc_entry.specs.declared.limits.TheConstants.{ARGUMENTS, BEHAVIOURS}
 use Rattle.tc_step.specs.declared.limits.TheConstants.{STEPS}
 use Rattle.tc_line.specs.declared.kind.ScriptKind.{ScriptKind}
@@ -83,8 +83,8 @@ counted s (L.Step call) = step_counted s (given call)
 abbrev pub may_end : Counts → Bool
 may_end s = is_nothing s.state && nat_lt 0 s.cases
 
--- what the pass made of a line, against what the lines say
-abbrev pub Takes : List Line → Result (Line × Counts) ReadFault → Result Line ScriptFault → Type 0
-Takes past (Ok x) said = (said ≡ Ok x.0) × (x.1 ≡ counts_of (x.0 ∷ past))
-Takes past (Err E.NoMemory) said = Unit {0}
-Takes past (Err (E.Script fault)) said = said ≡ Err fault
+-- what the pass made of the line after `past`, against what that line says: the lines found so far have the line more
+abbrev pub Takes : List Line → List Line → List Line → Result Counts ReadFault → Result Line ScriptFault → Type 0
+Takes past found more (Ok counts) said = (l : Line) × (said ≡ Ok l) × (more ≡ found ++ l ∷ []) × (counts ≡ counts_of (l ∷ past))
+Takes past found more (Err E.NoMemory) said = Unit {0}
+Takes past found more (Err (E.Script fault)) said = said ≡ Err fault

@@ -2,7 +2,6 @@
 use super::*;
 use crate::answer::answer;
 use crate::script::stop_word;
-use tc_command::{Form, Task};
 use tc_stream::devices::SlowReader;
 use tc_verdict::Verdict;
 
@@ -192,11 +191,7 @@ fn refused_scripts(rt: HostRuntime) -> Result<(), Fail> {
                     told,
                     status: 3,
                 };
-                let task = Task::Run {
-                    form,
-                    live,
-                    stop_on: None,
-                };
+                let task = run_task(rt.alloc(), form, live, None);
                 carries_out(&rt, rt.alloc(), task, script.as_bytes(), wanted)?;
             }
         }
@@ -217,11 +212,7 @@ fn words_of_stop_on(rt: HostRuntime) -> Result<(), Fail> {
         };
         let mut written = Vec::new(rt.alloc());
         let mut told = Vec::new(rt.alloc());
-        let task = Task::Run {
-            form: Form::Text,
-            live: false,
-            stop_on: Some(word),
-        };
+        let task = run_task(rt.alloc(), Form::Text, false, Some(word));
         let outcome = carry_out(&rt, rt.alloc(), task, &mut reader, &mut written, &mut told);
         assert_eq!(rt;
             outcome,
@@ -262,11 +253,7 @@ fn a_case_of_256_behaviours(rt: HostRuntime) -> Result<(), Fail> {
         told: "",
         status: 0,
     };
-    let task = Task::Run {
-        form: Form::Csv,
-        live: false,
-        stop_on: None,
-    };
+    let task = run_task(rt.alloc(), Form::Csv, false, None);
     carries_out(&rt, rt.alloc(), task, text.as_bytes(), wanted)
 }
 
@@ -292,34 +279,35 @@ fn run_of<R: Threads + Wait + Copy + Send + 'static>(
     Ok((written, told, outcome))
 }
 
+// Whether a live run writes, tells and answers what a run with these options does.
+fn compare_with_live<R: Abort + Threads + Wait + Copy + Send + 'static>(
+    rt: &R,
+    alloc: Global,
+    script: &str,
+    options: &str,
+) -> Result<(), Fail> {
+    let plain = format!(in alloc; "ttrun run{options}")?;
+    let live = format!(in alloc; "ttrun run --live{options}")?;
+    let (written, told, outcome) = run_of(rt, alloc, script, plain.as_str())?;
+    let (live_written, live_told, live_outcome) = run_of(rt, alloc, script, live.as_str())?;
+    assert!(rt; !written.is_empty(), "{options}");
+    assert_eq!(rt; live_written.as_slice(), written.as_slice(), "{options}");
+    assert_eq!(rt; live_told.as_slice(), told.as_slice(), "{options}");
+    assert_eq!(rt; live_outcome, outcome, "{options}");
+    Ok(())
+}
+
+// The history of a test case of two threads depends on their order, so the restart has none here.
 #[test]
 fn live_runs_write_the_same(rt: HostRuntime) -> Result<(), Fail> {
     let alloc = rt.alloc();
-    let mut compared = 0usize;
     for script in [CASES, RESTART, STUCK] {
-        for options in [
-            "",
-            " --csv",
-            " --history",
-            " --stop-on fail",
-            " --csv --stop-on pass",
-        ] {
-            let plain = format!(in alloc; "ttrun run{options}")?;
-            let live = format!(in alloc; "ttrun run --live{options}")?;
-            let (written, told, outcome) = run_of(&rt, alloc, script, plain.as_str())?;
-            let (live_written, live_told, live_outcome) = run_of(
-                &rt,
-                alloc,
-                script,
-                live.as_str(),
-            )?;
-            assert!(rt; !written.is_empty(), "{options}");
-            assert_eq!(rt; live_written.as_slice(), written.as_slice(), "{options}");
-            assert_eq!(rt; live_told.as_slice(), told.as_slice(), "{options}");
-            assert_eq!(rt; live_outcome, outcome, "{options}");
-            compared = compared.saturating_add(1);
+        for options in ["", " --csv", " --stop-on fail", " --csv --stop-on pass"] {
+            compare_with_live(&rt, alloc, script, options)?;
         }
     }
-    assert_eq!(rt; compared, 15);
+    for script in [CASES, STUCK] {
+        compare_with_live(&rt, alloc, script, " --history")?;
+    }
     Ok(())
 }

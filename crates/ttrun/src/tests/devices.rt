@@ -1,6 +1,5 @@
 //! Readers and writers that fail.
 use super::*;
-use tc_command::{Form, Task};
 use tc_stream::devices::{NarrowWriter, SlowReader, WriteFailure};
 
 const MOVES: &str = "behaviours 3;0 create;0 start 1 1;0 start 1 2;1 getverdict";
@@ -34,21 +33,17 @@ struct Row {
 
 const ROWS: usize = 8;
 
-fn row_of(number: usize) -> Row {
-    let run = |form| Task::Run {
-        form,
-        live: number >= 5,
-        stop_on: None,
-    };
+fn row_of(alloc: Global, number: usize) -> Row {
+    let run = |form| run_task(alloc, form, number >= 5, None);
     match number {
         0 => Row {
-            task: Task::Replay,
+            task: Task::Replay { explains: false },
             input: MOVES,
             output: REPLIES,
             status: 2,
         },
         1 => Row {
-            task: Task::Check,
+            task: Task::Check { explains: false },
             input: HISTORY,
             output: JUDGED,
             status: 3,
@@ -149,13 +144,19 @@ fn writes<R: Abort + Threads + Wait + Copy + Send + 'static>(
 fn failing_devices(rt: HostRuntime) -> Result<(), Fail> {
     let mut failed = 0usize;
     for number in 0..ROWS {
-        for fails_at in 0..row_of(number).input.len() + 3 {
-            reads(&rt, rt.alloc(), row_of(number), fails_at)?;
+        for fails_at in 0..row_of(rt.alloc(), number).input.len() + 3 {
+            reads(&rt, rt.alloc(), row_of(rt.alloc(), number), fails_at)?;
             failed = failed.saturating_add(1);
         }
         for failure in [WriteFailure::Broken, WriteFailure::Full] {
-            for fails_at in 0..row_of(number).output.len() + 2 {
-                writes(&rt, rt.alloc(), row_of(number), fails_at, failure)?;
+            for fails_at in 0..row_of(rt.alloc(), number).output.len() + 2 {
+                writes(
+                    &rt,
+                    rt.alloc(),
+                    row_of(rt.alloc(), number),
+                    fails_at,
+                    failure,
+                )?;
                 failed = failed.saturating_add(1);
             }
         }
@@ -179,7 +180,7 @@ fn standard_error_that_fails(rt: HostRuntime) -> Result<(), Fail> {
         let outcome = carry_out(
             &rt,
             rt.alloc(),
-            Task::Replay,
+            Task::Replay { explains: false },
             &mut reader,
             &mut written,
             &mut errors,
@@ -210,7 +211,8 @@ fn each_byte_in_place_of_each(rt: HostRuntime) -> Result<(), Fail> {
                 *at = byte;
             }
             let mut written = Vec::new(rt.alloc());
-            match replay(rt.alloc(), &mut text.as_slice(), &mut written) {
+            let mut read = Vec::new(rt.alloc());
+            match replay(rt.alloc(), &mut read, &mut text.as_slice(), &mut written) {
                 Ok(status) => {
                     assert!(rt; status < 3);
                     answered = answered.saturating_add(1);

@@ -6,8 +6,7 @@ use crate::jobs::run_script;
 use crate::run::{Options, run_cases, run_cases_live};
 use tc_behaviour::{Behaviour, ScriptJob};
 use tc_book::open_case;
-use tc_campaign::Case;
-use tc_command::Form;
+use tc_campaign::{Case, Form as ReportForm};
 use tc_entry::Name;
 use tc_exec::{Callable, Ending, Job};
 use tc_script::read_campaign;
@@ -57,12 +56,12 @@ fn one_script_run(rt: HostRuntime) -> Result<(), Fail> {
     let text = lines(alloc, "testcase t;behaviour main;setverdict inconc;end;end")?;
     let mut written = Vec::new(alloc);
     let mut told = Vec::new(alloc);
+    let options = run_options(alloc, Form::Csv, false, Some("pass"));
     let outcome = run_script(
         &rt,
         alloc,
-        Form::Csv,
-        false,
-        Some("pass"),
+        &options,
+        &mut Vec::new(alloc),
         &mut text.as_slice(),
         &mut written,
         &mut told,
@@ -92,12 +91,12 @@ fn stop_of_a_case(rt: HostRuntime) -> Result<(), Fail> {
     )?;
     let mut written = Vec::new(alloc);
     let mut told = Vec::new(alloc);
+    let options = run_options(alloc, Form::Text, true, None);
     let outcome = run_script(
         &rt,
         alloc,
-        Form::Text,
-        true,
-        None,
+        &options,
+        &mut Vec::new(alloc),
         &mut text.as_slice(),
         &mut written,
         &mut told,
@@ -159,7 +158,15 @@ fn empty_case_of_a_live_run(rt: HostRuntime) -> Result<(), Fail> {
     let mut written = Vec::new(alloc);
     let mut errors = Vec::new(alloc);
     let cases = vec![in alloc; empty(alloc, name)]?;
-    let outcome = run_cases_live(&rt, alloc, cases, options, &mut written, &mut errors)?;
+    let outcome = run_cases_live(
+        &rt,
+        alloc,
+        cases,
+        options,
+        ReportForm::Text,
+        &mut written,
+        &mut errors,
+    )?;
     assert_eq!(rt;
         outcome,
         Outcome {

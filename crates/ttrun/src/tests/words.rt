@@ -3,7 +3,7 @@ use super::*;
 use crate::answer::{answer, answer_no_task, answer_unread};
 use clap::error::ErrorKind;
 use std::{io, str};
-use tc_command::{Form, Task, read_task};
+use tc_command::read_task;
 use tc_stream::devices::{NarrowWriter, SlowReader, WriteFailure};
 
 #[test]
@@ -13,11 +13,7 @@ fn words_and_tasks(rt: HostRuntime) -> Result<(), Fail> {
     words.push("ttrun".to_string(alloc)?)?;
     assert_eq!(rt;
         read_task(alloc, words.as_slice())?,
-        Task::Run {
-            form: Form::Text,
-            live: false,
-            stop_on: None
-        }
+        run_task(alloc, Form::Text, false, None)
     );
     words.push("run".to_string(alloc)?)?;
     words.push("--csv".to_string(alloc)?)?;
@@ -26,11 +22,7 @@ fn words_and_tasks(rt: HostRuntime) -> Result<(), Fail> {
     words.push("fail".to_string(alloc)?)?;
     assert_eq!(rt;
         read_task(alloc, words.as_slice())?,
-        Task::Run {
-            form: Form::Csv,
-            live: true,
-            stop_on: Some("fail")
-        }
+        run_task(alloc, Form::Csv, true, Some("fail"))
     );
     words.push("--history".to_string(alloc)?)?;
     let error = read_task(alloc, words.as_slice()).err().ok_or("refused")?;
@@ -44,10 +36,16 @@ fn words_without_options(rt: HostRuntime) -> Result<(), Fail> {
     let mut words: Vec<String> = Vec::new(alloc);
     words.push("ttrun".to_string(alloc)?)?;
     words.push("check".to_string(alloc)?)?;
-    assert_eq!(rt; read_task(alloc, words.as_slice())?, Task::Check);
+    assert_eq!(rt;
+        read_task(alloc, words.as_slice())?,
+        Task::Check { explains: false }
+    );
     words.pop();
     words.push("replay".to_string(alloc)?)?;
-    assert_eq!(rt; read_task(alloc, words.as_slice())?, Task::Replay);
+    assert_eq!(rt;
+        read_task(alloc, words.as_slice())?,
+        Task::Replay { explains: false }
+    );
     words.push("more".to_string(alloc)?)?;
     assert!(rt; read_task(alloc, words.as_slice()).is_err());
     Ok(())

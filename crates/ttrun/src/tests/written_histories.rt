@@ -1,7 +1,6 @@
 //! Histories that campaigns write, given to `check`.
 use super::*;
 use std::str;
-use tc_command::{Form, Task};
 
 const WORKERS: &str =
     "testcase t_pass;behaviour main;create p;start p worker mtc;wait done p;getverdict;end;behaviour worker boss;alive boss;setverdict pass;end;end;testcase t_again;behaviour main;create p alive;start p first;wait done p;start p second p;wait done p;kill all;killed all;end;behaviour first;setverdict pass;end;behaviour second me;getverdict;setverdict none;running me;end;end";
@@ -61,11 +60,7 @@ fn written_histories_are_legal(rt: HostRuntime) -> Result<(), Fail> {
         let text = lines(alloc, text)?;
         let mut histories = Vec::new(alloc);
         let mut told = Vec::new(alloc);
-        let task = Task::Run {
-            form: Form::History,
-            live: false,
-            stop_on,
-        };
+        let task = run_task(alloc, Form::History, false, stop_on);
         let ran = carry_out(
             &rt,
             alloc,
@@ -82,7 +77,7 @@ fn written_histories_are_legal(rt: HostRuntime) -> Result<(), Fail> {
         let found = carry_out(
             &rt,
             alloc,
-            Task::Check,
+            Task::Check { explains: false },
             &mut histories.as_bytes(),
             &mut printed,
             &mut told,

@@ -9,10 +9,12 @@ pub returns-clause-options : goal.returns-clause-options
 returns-clause-options c =
     let new_is : app_of c.about.result ≡ new_app (codes "explore") = ap app_of_fields c.about.ensures ∙ c.new.ensures.app in
     let one = c.in_ok-arg.ensures.shape c.flag.ensures.local ∙ ap₂ with_rule new_is c.flag.ensures.rule in
-    IfOk-weaker c.arg-2.result _ _ (λ r adds. adds.shape c.states_option.ensures.local ∙ ap₂ with_rule one c.states_option.ensures.rule) c.arg-2.ensures
+    let two = c.in_ok-arg-2.ensures.shape c.flag-2.ensures.local ∙ ap₂ with_rule one c.flag-2.ensures.rule in
+    IfOk-weaker c.arg-3.result _ _ (λ r adds. adds.shape c.option.ensures.local ∙ ap₂ with_rule two c.option.ensures.rule) c.arg-3.ensures
 
 pub returns-clause-local : goal.returns-clause-local
 returns-clause-local c =
     let new_is : (out-Command c.about.result).has_globals ≡ false = ap (λ f. f.has_globals) c.about.ensures ∙ c.new.ensures.local in
     let one = c.in_ok-arg.ensures.globals ∙ ap₂ ◌||◌ new_is c.flag.ensures.local in
-    IfOk-weaker c.arg-2.result _ _ (λ r adds. adds.globals ∙ ap₂ ◌||◌ one c.states_option.ensures.local) c.arg-2.ensures
+    let two = c.in_ok-arg-2.ensures.globals ∙ ap₂ ◌||◌ one c.flag-2.ensures.local in
+    IfOk-weaker c.arg-3.result _ _ (λ r adds. adds.globals ∙ ap₂ ◌||◌ two c.option.ensures.local) c.arg-3.ensures

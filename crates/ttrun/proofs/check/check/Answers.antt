@@ -1,5 +1,6 @@
 use Rattle.ttrun.proofs.Checking.{prefix_checked}
-use Rattle.ttrun.proofs.WrittenHistories.{blocks_of, written_read, written_said}
+use Rattle.ttrun.specs.WrittenHistories.{blocks_of}
+use Rattle.ttrun.proofs.WrittenHistories.{written_read, written_said}
 use Rattle.std.proofs.Common.{◌≡◌, rules, if◌then◌else◌}
 use Rattle.std.specs.Io.KnownBytes.{Appends}
 use Rattle.ttrun.proofs.check.check.Goals as goal

@@ -1,6 +1,5 @@
-use Rattle.std.proofs.Common.{◌≡◌, ◌∙◌, List, Ok, ap}
+use Rattle.std.proofs.Common.{◌∙◌, ap}
 use Rattle.std.specs.List.{flat_map}
-use Rattle.tc_script.specs.Campaign.{campaign}
 use Rattle.ttrun.specs.Explore.{status_of_all, told_of}
 use Rattle.ttrun.proofs.Exploring.{explored_prefix}
 use Rattle.ttrun.proofs.explore.explore_script.Goals as goal
@@ -11,7 +10,7 @@ returns-in_default-clause-refused g c =
     let status_is = c.in_ok-out.ensures.status ∙ ap status_of_all c.as_slice.ensures.value in (
       c.in_ok-states.states,
       c.in_ok-states.ensures.taken,
-      explored_prefix c.args.histories c.in_ok-states.states c.in_ok-campaign.campaign c.as_slice-2.result.now c.in_ok-out.status
+      explored_prefix c.args.histories c.args.details c.in_ok-states.states c.in_ok-campaign.campaign c.as_slice-2.result.now c.in_ok-out.status
           (g.R.Read.remaining c.args.reader.now) (g.W.Write.contents c.args.writer.now) (g.W.Write.contents c.write_whole.new.writer)
           c.in_ok-campaign.ensures.spelled
           (λ text e. record { cases = c.in_ok-campaign.campaign; explored = c.in_ok-explored.explored.items; spelled = e; each = c.in_ok-explored.ensures; out_is = out_is; status_is = status_is })

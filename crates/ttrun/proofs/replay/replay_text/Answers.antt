@@ -10,4 +10,4 @@ returns-in_err-replaying-clause-refused c =
 
 pub returns-clause-done : goal.returns-clause-done
 returns-clause-done c =
-    all_played c.args.text.now c.append_verdict.new.out.items c.in_ok-replaying.replaying c.overall-verdict.result c.in_ok-replaying.ensures.ok c.overall-verdict.ensures c.in_ok-append_verdict.ensures
+    all_played c.args.text.now c.append_verdict.new.out.items c.in_ok-replaying.replaying c.overall-verdict.result c.in_ok-replaying.ensures.ok c.overall-verdict.ensures c.in_ok-append_verdict.ensures.ok

@@ -1,6 +1,6 @@
 use Rattle.std.proofs.Common.{rules, ◌≡◌, ◌∙◌, false, true, IsTrue, length, reverse}
 use Rattle.tc_table.specs.History.{is_over}
-use Rattle.tc_book.specs.Closing.{merged, IsWhole}
+use Rattle.tc_book.specs.Closing.{all_started, merged, IsWhole}
 use Rattle.tc_book.specs.Parts.{logged}
 use Rattle.tc_book.specs.Inside.{ArePlaced, KnowsParts, KnowsStarts}
 use Rattle.tc_book.proofs.Differing.{not_merged}
@@ -52,7 +52,7 @@ returns-in-Ok-false-clause-torn c =
     record { as_many = c.in-Ok-logs_by_run.ensures.len; are = search rules; each = c.in-Ok-logs_by_run.ensures.each } in
     let known : KnowsParts c.in-Ok-logs_by_run.parts.items c.in-Ok-merge.history.items =
     whole_parts c.len-behaviours.result c.in-Ok-logs_by_run.parts.items c.in-Ok-merge.history.items c.args.lefts.items c.in-Ok.logs.items put (search (rules, whole)) in
-    let yes : IsTrue c.in-Ok-false.field-0 = c.in-Ok-false.ensures.1 (rw (c.deref-5.ensures.value, c.deref-6.ensures.value) known) in
+    let yes : IsTrue c.in-Ok-false.field-0 = c.in-Ok-false.ensures.1 (rw (c.deref-5.ensures.value, c.deref-6.ensures.value) (known, whole.started)) in
     let no : c.in-Ok-false.field-0 ≡ false = search rules in cc
 
 pub report-requires-clause-as_long : goal.report-requires-clause-as_long
@@ -64,8 +64,9 @@ report-requires-clause-as_long c =
     let put : AreLogs c.len-behaviours.result c.in-Ok-logs_by_run.parts.items c.in-Ok.logs.items c.args.lefts.items =
     record { as_many = c.in-Ok-logs_by_run.ensures.len; are = search rules; each = c.in-Ok-logs_by_run.ensures.each } in
     let parts : KnowsParts c.in-Ok-logs_by_run.parts.items c.in-Ok-merge.history.items = search rules in
+    let started : all_started (reverse c.in-Ok-merge.history.items) ≡ true = search rules in
     let whole : IsWhole c.len-behaviours.result c.in-Ok-merge.history.items c.args.lefts.items =
-    whole_by c.len-behaviours.result c.self.inside.starts.items c.in-Ok-logs_by_run.parts.items c.in-Ok-merge.history.items c.args.lefts.items c.in-Ok.logs.items starts parts put placed over together in
+    whole_by c.len-behaviours.result c.self.inside.starts.items c.in-Ok-logs_by_run.parts.items c.in-Ok-merge.history.items c.args.lefts.items c.in-Ok.logs.items starts parts put placed over started together in
     rw c.in-Ok-logs_by_run.ensures.len (whole_logged c.len-behaviours.result c.in-Ok-merge.history.items c.args.lefts.items whole)
 
 pub returns-in-Ok-report-clause-whole : goal.returns-in-Ok-report-clause-whole
@@ -79,6 +80,7 @@ returns-in-Ok-report-clause-whole c =
     let put : AreLogs c.len-behaviours.result c.in-Ok-logs_by_run.parts.items c.in-Ok.logs.items c.args.lefts.items =
     record { as_many = c.in-Ok-logs_by_run.ensures.len; are = search rules; each = c.in-Ok-logs_by_run.ensures.each } in
     let parts : KnowsParts c.in-Ok-logs_by_run.parts.items c.in-Ok-merge.history.items = search rules in
+    let started : all_started (reverse c.in-Ok-merge.history.items) ≡ true = search rules in
     let whole : IsWhole c.len-behaviours.result c.in-Ok-merge.history.items c.args.lefts.items =
-    whole_by c.len-behaviours.result c.self.inside.starts.items c.in-Ok-logs_by_run.parts.items c.in-Ok-merge.history.items c.args.lefts.items c.in-Ok.logs.items starts parts put placed over together in
+    whole_by c.len-behaviours.result c.self.inside.starts.items c.in-Ok-logs_by_run.parts.items c.in-Ok-merge.history.items c.args.lefts.items c.in-Ok.logs.items starts parts put placed over started together in
     record { agreed = search rules; legal = search rules; whole = rw (← is, ← same) whole }

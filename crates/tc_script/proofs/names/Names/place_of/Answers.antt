@@ -5,6 +5,6 @@ use Rattle.tc_line.specs.Words.{is_text}
 use Rattle.tc_script.specs.Names.{index_of}
 use Rattle.tc_script.proofs.names.Names.place_of.Goals as goal
 
-pub returns-in-None : goal.returns-in-None
+pub returns-in-None-clause-place : goal.returns-in-None-clause-place
 unfolding is_text index_of
-returns-in-None c = rw (← c.self.view_is) (c.len.ensures.len ∙ sym (absent_at_end _ _ (prefix_len-le-length _ _) (sym c.in-None.ensures.index)))
+returns-in-None-clause-place c = rw (← c.self.view_is) (c.len.ensures.len ∙ sym (absent_at_end _ _ (prefix_len-le-length _ _) (sym c.in-None.ensures.index)))

@@ -1,0 +1,70 @@
+#!/usr/bin/env python3
+"""Times `explore` on generated test cases, of which three in ten race: measure.py PROGRAM. The cases are the same at every run."""
+import random
+import statistics
+import subprocess
+import sys
+import time
+
+SIZES = ((4, 10, 40), (8, 10, 40), (16, 10, 40), (32, 8, 20), (64, 8, 10))
+LONGEST = 60
+
+
+def behaviour(chance, at, steps, racing):
+    """A behaviour of so many steps: verdicts and questions; where it races, calls about the component started before it."""
+    lines = [f"behaviour b{at} before"]
+    for _ in range(steps):
+        drawn = chance.random()
+        if racing and drawn < 0.1:
+            lines.append(chance.choice(("wait done before", "stop before", "kill before")) if at > 1 else "stop self")
+        elif drawn < 0.4:
+            lines.append(f"setverdict {'fail' if racing and chance.random() < 0.1 else 'pass'}")
+        else:
+            lines.append(chance.choice(("getverdict", "running self", "alive self")))
+    return lines + ["end"]
+
+
+def testcase(chance, name, count, steps):
+    """The main behaviour starts all others, waits for all, or for some and then ends or stops the rest."""
+    racing = chance.random() < 0.3
+    lines = [f"testcase {name}", "behaviour b0"]
+    for at in range(1, count):
+        lines += [f"create p{at}", f"start p{at} b{at} p{max(at - 1, 1)}"]
+    if racing:
+        lines += [f"wait done p{at}" for at in range(1, count) if chance.random() < 0.5]
+        lines += [chance.choice(("setverdict pass", "stop all", "kill all"))]
+    else:
+        lines += ["wait done all", "setverdict pass"]
+    lines.append("end")
+    for at in range(1, count):
+        lines += behaviour(chance, at, steps, racing)
+    return "\n".join(lines + ["end"]) + "\n"
+
+
+def measure(program, count, steps, cases):
+    """The seconds that each of these test cases took, and how many took longer than is waited for."""
+    chance = random.Random(f"{count} {steps}")
+    seconds, unended, told = [], 0, {}
+    for at in range(cases):
+        text = testcase(chance, f"t{at}", count, steps)
+        begun = time.monotonic()
+        try:
+            ran = subprocess.run([program, "explore"], input=text.encode(), capture_output=True, timeout=LONGEST, check=False)
+            seconds.append(time.monotonic() - begun)
+            told[ran.returncode] = told.get(ran.returncode, 0) + 1
+        except subprocess.TimeoutExpired:
+            unended += 1
+    return seconds, unended, told
+
+
+def main():
+    for count, steps, cases in SIZES:
+        seconds, unended, told = measure(sys.argv[1], count, steps, cases)
+        if seconds:
+            print(f"{count} behaviours, {steps} steps, {cases} cases: median {statistics.median(seconds):.3f} s, "
+                  f"longest {max(seconds):.3f} s, {unended} took more than {LONGEST} s; by status {dict(sorted(told.items()))}", flush=True)
+        else:
+            print(f"{count} behaviours, {steps} steps, {cases} cases: each took more than {LONGEST} s", flush=True)
+
+
+main()

@@ -1,0 +1,65 @@
+//! What the judges say of each window, and of a window that moves while it is looked at.
+use crate::WORKERS;
+use crate::behaviour::{Part, close};
+use crate::cases::{case, cases};
+use crate::window::{CLOSED, OPEN, Window};
+use std::test::Fail;
+use tc_campaign::run_campaign;
+use tc_entry::Verdict;
+
+#[test]
+fn a_broken_window_fails(rt: HostRuntime) -> Result<(), Fail> {
+    let alloc = rt.alloc();
+    let results = run_campaign(&rt, alloc, cases(rt, alloc)?, None, WORKERS);
+    let mut verdicts = Vec::new(alloc);
+    for case in results.finished.as_slice() {
+        verdicts.push(case.report.verdict)?;
+    }
+    let wanted = [Verdict::Pass, Verdict::Pass, Verdict::Fail];
+    assert_eq!(rt; verdicts.as_slice(), wanted.as_slice());
+    Ok(())
+}
+
+/// A judge that looks at once says pass or fail of a sound window, by who comes first; one that waits says pass.
+#[test]
+fn a_hasty_judge_may_fail_a_sound_window(rt: HostRuntime) -> Result<(), Fail> {
+    let alloc = rt.alloc();
+    for _ in 0..50 {
+        let hasty = case(
+            rt,
+            alloc,
+            "hasty",
+            Part::HastyJudge { wanted: CLOSED },
+            Window::new(None, false),
+        )?;
+        let patient = case(
+            rt,
+            alloc,
+            "patient",
+            Part::Judge { wanted: CLOSED },
+            Window::new(None, false),
+        )?;
+        let cases = vec![in alloc; hasty, patient]?;
+        let results = run_campaign(&rt, alloc, cases, None, WORKERS);
+        let [hasty, patient] = results.finished.as_slice() else {
+            return Err(Fail::from("two reports"));
+        };
+        assert!(rt; matches!(hasty.report.verdict, Verdict::Pass | Verdict::Fail));
+        assert_eq!(rt; patient.report.verdict, Verdict::Pass);
+    }
+    Ok(())
+}
+
+#[test]
+fn a_window_opens_where_it_meets_something(rt: HostRuntime) -> Result<(), Fail> {
+    for (obstacle, is_broken, wanted) in [
+        (None, false, CLOSED),
+        (Some(5), false, OPEN),
+        (Some(5), true, CLOSED),
+    ] {
+        let window = Window::new(obstacle, is_broken);
+        close(&window);
+        assert_eq!(rt; window.position(), wanted);
+    }
+    Ok(())
+}

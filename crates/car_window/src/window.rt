@@ -1,0 +1,46 @@
+//! The device: a car window in memory.
+use std::sync::atomic::{AtomicU64, Ordering};
+
+/// How many steps there are from open to closed.
+pub(crate) const CLOSED: u64 = 8;
+
+/// Where a window stands that is open.
+pub(crate) const OPEN: u64 = 0;
+
+/// A window that a motor closes. Where it meets something in its way it opens again; a broken one closes on.
+#[derive(Drop)]
+pub(crate) struct Window {
+    position: AtomicU64,
+    obstacle: Option<u64>,
+    is_broken: bool,
+}
+
+impl Window {
+    /// An open window, with something in its way at this position or nothing.
+    pub(crate) fn new(obstacle: Option<u64>, is_broken: bool) -> Window {
+        Window {
+            position: AtomicU64::new(OPEN),
+            obstacle,
+            is_broken,
+        }
+    }
+
+    /// How far it is closed, in steps.
+    pub(crate) fn position(&self) -> u64 {
+        self.position.load(Ordering::SeqCst)
+    }
+
+    /// Moves it by a step; says whether it goes on.
+    pub(crate) fn step(&self) -> bool {
+        let position = self.position();
+        if position >= CLOSED {
+            return false;
+        }
+        if self.obstacle == Some(position) && !self.is_broken {
+            self.position.store(OPEN, Ordering::SeqCst);
+            return false;
+        }
+        self.position.store(position + 1, Ordering::SeqCst);
+        true
+    }
+}

@@ -1,0 +1,150 @@
+//! The calls of the library, each with its first, second, third and so on growth of memory refused until it meets none.
+//!
+//! What refuses them is a library that is loaded into the program, `tests/hostile/refuse.c`; without it nothing is refused.
+#![tactic(auto)]
+
+mod books;
+mod outcome;
+mod quiet;
+mod refusal;
+mod runs;
+mod tables;
+mod texts;
+
+use crate::outcome::{Outcome, Sum};
+use crate::refusal::Refusal;
+use std::alloc::Global;
+use std::io;
+use std::process::ExitCode;
+use std::sync::Wait;
+use std::thread::Threads;
+
+/// A kind of call, of which there are several, by their place.
+#[derive(Clone, Copy, PartialEq, Eq, Debug)]
+enum Kind {
+    NewTable,
+    Play,
+    MakeRoom,
+    Replay,
+    Read,
+    Write,
+    NewBoard,
+    Open,
+    Call,
+    Close,
+    Quiet,
+}
+
+const KINDS: [(Kind, &str); 11] = [
+    (Kind::NewTable, "tables"),
+    (Kind::Play, "moves on a table"),
+    (Kind::MakeRoom, "room on a table"),
+    (Kind::Replay, "checks of a history"),
+    (Kind::Read, "readers"),
+    (Kind::Write, "writers"),
+    (Kind::NewBoard, "boards"),
+    (Kind::Open, "opened cases"),
+    (Kind::Call, "calls on a pass"),
+    (Kind::Close, "closed cases"),
+    (Kind::Quiet, "calls that take no memory"),
+];
+
+/// More calls of a kind, and more growths of a call, there are not.
+const MOST: u16 = 10_000;
+
+/// What comes of a call with one of its growths refused; none where there is no call in this place.
+fn make<R: Threads + Wait + Copy + Send + 'static>(
+    rt: &R,
+    alloc: Global,
+    kind: Kind,
+    place: usize,
+    refusal: &mut Refusal,
+) -> Option<Outcome> {
+    match kind {
+        Kind::NewTable => tables::open(alloc, place, refusal),
+        Kind::Play => tables::play(alloc, place, refusal),
+        Kind::MakeRoom => tables::make_room(alloc, place, refusal),
+        Kind::Replay => tables::replay(alloc, place, refusal),
+        Kind::Read => texts::read(alloc, place, refusal),
+        Kind::Write => texts::write(alloc, place, refusal),
+        Kind::NewBoard => books::new_board(alloc, place, refusal),
+        Kind::Open => books::open(alloc, place, refusal),
+        Kind::Call => books::call(rt, alloc, place, refusal),
+        Kind::Close => books::close(rt, alloc, place, refusal),
+        Kind::Quiet => quiet::call_unfed(rt, alloc, place, refusal),
+    }
+}
+
+/// Makes the call in a place with each growth refused in turn, until none was. Whether there is such a call.
+fn sweep<R: Threads + Wait + Copy + Send + 'static>(
+    rt: &R,
+    alloc: Global,
+    kind: Kind,
+    place: usize,
+    refusal: &mut Refusal,
+    sum: &mut Sum,
+) -> bool {
+    for number in 0..MOST {
+        refusal.set(number);
+        let Some(outcome) = make(rt, alloc, kind, place, refusal) else {
+            return false;
+        };
+        sum.count(outcome, refusal.was_met());
+        if !refusal.was_met() {
+            return true;
+        }
+    }
+    sum.count(Outcome::Wrong("it is refused for ever"), true);
+    true
+}
+
+/// Makes all calls of a kind.
+fn sweep_all<R: Threads + Wait + Copy + Send + 'static>(
+    rt: &R,
+    alloc: Global,
+    kind: Kind,
+    refusal: &mut Refusal,
+) -> Sum {
+    let mut sum = Sum::default();
+    for place in 0..usize::from(MOST) {
+        if !sweep(rt, alloc, kind, place, refusal, &mut sum) {
+            break;
+        }
+        sum.calls = sum.calls.saturating_add(1);
+    }
+    sum
+}
+
+/// Whether nothing was wrong: prints on standard output what came of each kind of call, and on standard error how many there
+/// were, and how many growths of theirs were refused.
+fn run<R: Threads + Wait + Copy + Send + Print + Eprint + 'static>(
+    rt: &R,
+    alloc: Global,
+) -> io::Result<bool> {
+    let mut refusal = Refusal::new(alloc);
+    let mut is_right = true;
+    if !refusal.is_heard() {
+        eprintln!(rt; "nothing refuses memory: each call is made once")?;
+    }
+    for (kind, name) in KINDS {
+        let sum = sweep_all(rt, alloc, kind, &mut refusal);
+        let (calls, refused, kept) = (sum.calls, sum.refused, sum.absorbed);
+        eprintln!(rt; "{name}: {calls} calls, {refused} refused, {kept} answered all the same")?;
+        match sum.wrong {
+            Some(why) => {
+                is_right = false;
+                println!(rt; "{name}: {why}")?;
+            }
+            None => println!(rt; "{name}: right")?,
+        }
+    }
+    Ok(is_right)
+}
+
+fn main(rt: HostRuntime) -> ExitCode {
+    match run(&rt, rt.alloc()) {
+        Ok(true) => ExitCode::from(0),
+        Ok(false) => ExitCode::from(1),
+        Err(_) => ExitCode::from(3),
+    }
+}

@@ -1,0 +1,60 @@
+//! What comes of a call with a growth refused.
+
+/// What comes of a call.
+#[derive(Clone, Copy, PartialEq, Eq, Debug)]
+pub enum Outcome {
+    /// It answers as with ample memory.
+    Right,
+    /// It answers that memory was refused, all is as before, and made again it answers as if it had been made once.
+    Refused,
+    /// It is neither.
+    Wrong(&'static str),
+}
+
+/// Right where it is so, else wrong for this reason.
+pub fn right_if(is_right: bool, why: &'static str) -> Outcome {
+    if is_right {
+        Outcome::Right
+    } else {
+        Outcome::Wrong(why)
+    }
+}
+
+/// Refused where all is as it should be, else wrong for this reason.
+pub fn refused_if(is_right: bool, why: &'static str) -> Outcome {
+    if is_right {
+        Outcome::Refused
+    } else {
+        Outcome::Wrong(why)
+    }
+}
+
+/// What came of many calls.
+#[derive(Default, Drop)]
+pub struct Sum {
+    pub calls: u64,
+    pub refused: u64,
+    /// A growth was refused, and the call answered as with ample memory.
+    pub absorbed: u64,
+    /// Why the first that was wrong was.
+    pub wrong: Option<&'static str>,
+}
+
+impl Sum {
+    /// Counts an outcome; nothing may be told as refused where nothing was.
+    pub fn count(&mut self, outcome: Outcome, was_refused: bool) {
+        match outcome {
+            Outcome::Right if was_refused => self.absorbed = self.absorbed.saturating_add(1),
+            Outcome::Right => {}
+            Outcome::Refused if was_refused => self.refused = self.refused.saturating_add(1),
+            Outcome::Refused => self.find("it is refused where memory was given"),
+            Outcome::Wrong(why) => self.find(why),
+        }
+    }
+
+    fn find(&mut self, why: &'static str) {
+        if self.wrong.is_none() {
+            self.wrong = Some(why);
+        }
+    }
+}

@@ -1,0 +1,83 @@
+//! Which growth of memory is refused to a call. The library that refuses is told by growths that nothing else asks for.
+use std::alloc::Global;
+
+/// What is asked for in a growth that ends all refusals. It is given only where none was refused since the last was begun.
+const MARK: usize = 0x100_0000_0000;
+
+/// So much more refuses each growth from then on.
+const EACH: usize = 0x10_0000;
+
+/// A growth that is refused, and whether it was met.
+#[derive(Drop)]
+pub struct Refusal {
+    alloc: Global,
+    is_heard: bool,
+    told: usize,
+    is_met: bool,
+}
+
+/// So many bytes, where they are given. Not inline, so that the growth is not taken for one that nothing needs.
+#[inline(never)]
+fn given(alloc: Global, bytes: usize) -> Option<Vec<u8>> {
+    Vec::with_capacity(alloc, bytes).ok()
+}
+
+/// Whether a library refuses memory to this program.
+fn is_heard(alloc: Global) -> bool {
+    let _ = given(alloc, MARK + 1 + EACH);
+    let is_refused = given(alloc, 1).is_none();
+    let _ = given(alloc, MARK);
+    is_refused
+}
+
+impl Refusal {
+    /// No growth is refused yet.
+    pub fn new(alloc: Global) -> Refusal {
+        Refusal {
+            alloc,
+            is_heard: is_heard(alloc),
+            told: MARK + 1,
+            is_met: false,
+        }
+    }
+
+    /// Whether there is a library that refuses.
+    pub fn is_heard(&self) -> bool {
+        self.is_heard
+    }
+
+    /// The growth with this number will be refused, counted from 0 at the next begin.
+    pub fn set(&mut self, number: u16) {
+        self.told = MARK + 1 + usize::from(number);
+        self.is_met = false;
+    }
+
+    /// The growths from here on are counted; the one that is meant is refused.
+    pub fn begin(&self) {
+        self.tell(self.told);
+    }
+
+    /// Each growth from here on is refused.
+    pub fn begin_each(&self) {
+        self.tell(MARK + 1 + EACH);
+    }
+
+    /// Tells the library, if there is one.
+    fn tell(&self, bytes: usize) {
+        if self.is_heard {
+            let _ = given(self.alloc, bytes);
+        }
+    }
+
+    /// No growth is refused from here on.
+    pub fn end(&mut self) {
+        if self.is_heard && given(self.alloc, MARK).is_none() {
+            self.is_met = true;
+        }
+    }
+
+    /// Whether a growth was refused between a begin and its end.
+    pub fn was_met(&self) -> bool {
+        self.is_met
+    }
+}

@@ -1,0 +1,88 @@
+//! Test cases and campaigns that are refused, or run nothing, before they take memory.
+use crate::outcome::{Outcome, right_if};
+use crate::refusal::Refusal;
+use std::alloc::Global;
+use std::sync::Wait;
+use std::thread::Threads;
+use tc_book::Pass;
+use tc_campaign::{Case, run_campaign};
+use tc_entry::BEHAVIOURS;
+use tc_exec::{Back, CaseError, Job, run_case};
+use tc_report::CampaignEnd;
+
+/// The run of so many jobs that do nothing, with so many workers, which is to be refused for this reason.
+fn run_refused<R: Threads + Wait + Copy + Send + 'static>(
+    rt: &R,
+    alloc: Global,
+    count: usize,
+    workers: u16,
+    wanted: CaseError,
+    refusal: &mut Refusal,
+) -> Option<Outcome> {
+    let mut jobs = Vec::new(alloc);
+    for _ in 0..count {
+        let idle: Box<dyn FnOnce(Pass) -> Back + Send> = Box::new(
+            alloc,
+            |pass: Pass| Back::after(pass, Ok(())),
+        ).ok()?;
+        jobs.push(Job::new(idle)).ok()?;
+    }
+    refusal.begin_each();
+    let answer = run_case(rt, alloc, jobs, workers);
+    refusal.end();
+    Some(match answer {
+        Err(CaseError::NoMemory) => Outcome::Refused,
+        Err(why) => right_if(why == wanted, "a test case is refused for another reason"),
+        Ok(_) => Outcome::Wrong("a test case that is to be refused is run"),
+    })
+}
+
+/// The run of no job.
+pub fn run_no_job<R: Threads + Wait + Copy + Send + 'static>(
+    rt: &R,
+    alloc: Global,
+    refusal: &mut Refusal,
+) -> Option<Outcome> {
+    run_refused(rt, alloc, 0, 1, CaseError::NoBehaviours, refusal)
+}
+
+/// The run of one job more than a test case may have.
+pub fn run_too_many_jobs<R: Threads + Wait + Copy + Send + 'static>(
+    rt: &R,
+    alloc: Global,
+    refusal: &mut Refusal,
+) -> Option<Outcome> {
+    run_refused(
+        rt,
+        alloc,
+        BEHAVIOURS + 1,
+        1,
+        CaseError::TooManyBehaviours,
+        refusal,
+    )
+}
+
+/// The run of three jobs with one worker.
+pub fn run_without_workers<R: Threads + Wait + Copy + Send + 'static>(
+    rt: &R,
+    alloc: Global,
+    refusal: &mut Refusal,
+) -> Option<Outcome> {
+    run_refused(rt, alloc, 3, 1, CaseError::NoThread, refusal)
+}
+
+/// The run of a campaign of no test case.
+pub fn run_no_case<R: Threads + Wait + Copy + Send + 'static>(
+    rt: &R,
+    alloc: Global,
+    refusal: &mut Refusal,
+) -> Option<Outcome> {
+    let cases: Vec<Case> = Vec::new(alloc);
+    refusal.begin_each();
+    let results = run_campaign(rt, alloc, cases, None, 1);
+    refusal.end();
+    Some(right_if(
+        results.finished.as_slice().is_empty() && matches!(results.ending, CampaignEnd::Complete),
+        "a campaign of no test case is not complete",
+    ))
+}

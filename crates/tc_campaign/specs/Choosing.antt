@@ -1,0 +1,41 @@
+-- Which test cases of a campaign are chosen.
+use Rattle.std.specs.Prelude.{ℕ, ◌≡◌, ◌+◌, ◌%◌, ◌==◌, ◌&&◌, ◌||◌, Bool, List, [], ◌∷◌, Option, Some, None, filter, if◌then◌else◌, length, nat_lt}
+use Rattle.std.specs.List.{list_all, list_any}
+use Rattle.std.specs.Str.{bytes_eq}
+use Rattle.tc_campaign.specs.declared.choosing.Shard.{Shard}
+use Rattle.tc_campaign.specs.declared.case.Case.{Case}
+
+-- the name is asked for; where none is, each is
+abbrev pub is_asked : List (List ℕ) → List ℕ → Bool
+is_asked only name = (length only == 0) || list_any (λ word. bytes_eq word name) only
+
+-- the shard has the test case at this place, which counts from 0
+abbrev pub has_place : Shard → ℕ → Bool
+has_place s place = nat_lt 0 s.shards && (place % s.shards == s.place)
+
+-- those of the shard, where the first stands at this place
+abbrev pub placed : {C : Type 0} → Shard → ℕ → List C → List C
+placed s place [] = []
+placed s place (c ∷ cs) = if has_place s place then c ∷ placed s (place + 1) cs else placed s (place + 1) cs
+
+-- those of the shard; without a shard all of them
+abbrev pub in_shard : {C : Type 0} → Option Shard → List C → List C
+in_shard None cs = cs
+in_shard (Some s) cs = placed s 0 cs
+
+module _ {C : Type 0} (name_of : C → List ℕ) where
+  -- those whose names are asked for, in their order
+  abbrev pub named : List (List ℕ) → List C → List C
+  named only cs = filter (λ c. is_asked only (name_of c)) cs
+
+  -- the shard of those whose names are asked for
+  abbrev pub chosen : List (List ℕ) → Option Shard → List C → List C
+  chosen only shard cs = in_shard shard (named only cs)
+
+  -- each name that is asked for is that of a test case
+  abbrev pub have_names : List (List ℕ) → List C → Bool
+  have_names only cs = list_all (λ word. list_any (λ c. bytes_eq word (name_of c)) cs) only
+
+-- the name of a test case
+abbrev pub case_name : {B : Type 0} → Case B → List ℕ
+case_name c = c.name

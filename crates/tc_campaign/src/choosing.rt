@@ -1,0 +1,99 @@
+//! Which test cases of a campaign are chosen.
+ghost use Rattle.std.specs.Prelude.{◌≡◌, IfOk};
+ghost use Rattle.std.specs.List.{list_any};
+ghost use Rattle.std.specs.Str.{bytes_eq};
+ghost use Rattle.tc_campaign.specs.Choosing.{case_name, chosen, has_place, have_names, is_asked as spec_asked, named as spec_named, placed};
+
+use crate::case::Case;
+use std::alloc::Global;
+use tc_entry::{Name, NoMemory};
+
+/// One of the shards of a campaign.
+#[derive(Clone, Copy, Debug, PartialEq, Eq)]
+pub struct Shard {
+    /// Its place among them, from 0.
+    pub place: u32,
+    /// How many there are.
+    pub shards: u32,
+}
+
+impl Shard {
+    /// Whether the shard has the test case at this place, which counts from 0.
+    pub fn has(self, place: usize) -> bool
+        ensures { result ≡ has_place self place }
+    {
+        self.shards > 0 && place as u64 % self.shards as u64 == self.place as u64
+    }
+}
+
+fn is_same(name: &Name, other: &Name) -> bool
+    ensures { result ≡ bytes_eq name.now other.now }
+{
+    name.bytes() == other.bytes()
+}
+
+// Whether the name is asked for; where none is, each is.
+fn is_asked(only: &[Name], name: &Name) -> bool
+    ensures { result ≡ spec_asked only.now name.now }
+{
+    only.is_empty() || only.contains(name)
+}
+
+// Those whose names are asked for.
+fn named<B: Drop>(cases: Vec<Case<B>>, only: &[Name]) -> Vec<Case<B>>
+    ensures { result.items ≡ spec_named case_name only.now cases.items }
+{
+    let mut cases = cases;
+    cases.retain(|case| is_asked(only, &case.name));
+    cases
+}
+
+// Those of the shard.
+fn sharded<B: Drop>(
+    alloc: Global,
+    cases: Vec<Case<B>>,
+    shard: Shard,
+) -> Result<Vec<Case<B>>, NoMemory>
+    ensures { IfOk result (λ r. r.items ≡ placed shard 0 cases.items) }
+{
+    let mut taken = Vec::new(alloc);
+    let mut place: usize = 0;
+    for case in cases {
+        if shard.has(place) {
+            taken.push(case)?;
+        }
+        place = place.checked_add(1).ok_or(NoMemory)?;
+    }
+    Ok(taken)
+}
+
+/// The test cases whose names are asked for, in their order, and of these the ones in the shard; where no name is asked
+/// for all of them, and without a shard all of these.
+pub fn choose<B: Drop>(
+    alloc: Global,
+    cases: Vec<Case<B>>,
+    only: &[Name],
+    shard: Option<Shard>,
+) -> Result<Vec<Case<B>>, NoMemory>
+    ensures { IfOk result (λ r. r.items ≡ chosen case_name only.now shard cases.items) }
+{
+    let named = named(cases, only);
+    match shard {
+        Some(shard) => sharded(alloc, named, shard),
+        None => Ok(named),
+    }
+}
+
+// Whether a test case has the name.
+fn has_case<B: Drop>(cases: &[Case<B>], name: &Name) -> bool
+    ensures { result ≡ list_any (λ c. bytes_eq name.now (case_name c)) cases.now }
+{
+    cases.iter().any(|case| is_same(name, &case.name))
+}
+
+/// Whether each of these names is that of a test case.
+pub fn have_all<B: Drop>(cases: &[Case<B>], only: &[Name]) -> bool
+    ensures { result ≡ have_names case_name only.now cases.now }
+{
+    only.iter().all(|name| has_case(cases, name))
+}

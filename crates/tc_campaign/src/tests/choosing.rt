@@ -1,0 +1,75 @@
+//! Which test cases are chosen by their names and by a shard.
+use super::*;
+use std::alloc::AllocError;
+
+fn plain(alloc: Global, names: &str) -> Result<Vec<Case<u8>>, Fail> {
+    let mut cases = Vec::new(alloc);
+    for text in names.split(' ') {
+        cases.push(Case {
+            name: name(text)?,
+            names: Vec::new(alloc),
+            jobs: Vec::new(alloc),
+        })?;
+    }
+    Ok(cases)
+}
+
+fn names(alloc: Global, text: &str) -> Result<Vec<Name>, Fail> {
+    let mut names = Vec::new(alloc);
+    if text.is_empty() {
+        return Ok(names);
+    }
+    for word in text.split(' ') {
+        names.push(name(word)?)?;
+    }
+    Ok(names)
+}
+
+/// The names of the chosen test cases, one behind the other.
+fn told(alloc: Global, cases: &[Case<u8>]) -> Result<Vec<u8>, AllocError> {
+    let mut text = Vec::new(alloc);
+    for case in cases {
+        text.extend_from_slice(case.name.bytes())?;
+    }
+    Ok(text)
+}
+
+#[test]
+fn chosen_test_cases(rt: HostRuntime) -> Result<(), Fail> {
+    let alloc = rt.alloc();
+    let shard = |place: u32, shards: u32| Some(Shard { place, shards });
+    let rows = [
+        ("", None, "abcde"),
+        ("d b", None, "bd"),
+        ("b b", None, "b"),
+        ("z", None, ""),
+        ("", shard(0, 1), "abcde"),
+        ("", shard(0, 2), "ace"),
+        ("", shard(1, 2), "bd"),
+        ("", shard(2, 3), "c"),
+        ("", shard(6, 7), ""),
+        ("e c b", shard(0, 2), "be"),
+        ("e c b", shard(1, 2), "c"),
+        ("", shard(2, 2), ""),
+        ("", shard(0, 0), ""),
+    ];
+    for (only, shard, wanted) in rows {
+        let cases = plain(alloc, "a b c d e")?;
+        let only = names(alloc, only)?;
+        let chosen = choose(alloc, cases, only.as_slice(), shard)?;
+        let found = told(alloc, chosen.as_slice())?;
+        assert_eq!(rt; found.as_slice(), wanted.as_bytes());
+    }
+    Ok(())
+}
+
+#[test]
+fn names_of_test_cases(rt: HostRuntime) -> Result<(), Fail> {
+    let alloc = rt.alloc();
+    let cases = plain(alloc, "a b c")?;
+    for (only, wanted) in [("", true), ("c a", true), ("a z", false), ("z", false)] {
+        let only = names(alloc, only)?;
+        assert_eq!(rt; have_all(cases.as_slice(), only.as_slice()), wanted);
+    }
+    Ok(())
+}

@@ -1,0 +1,7 @@
+-- The definitions that the contracts of this crate cite.
+pub mod Quote
+pub mod Scan
+pub mod Slots
+pub mod Places
+pub mod Nearest
+pub mod Explanation

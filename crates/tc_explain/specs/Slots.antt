@@ -1,0 +1,148 @@
+-- What may stand at a place of a line, word by word.
+use Rattle.std.specs.Prelude.{ℕ, suc, ◌==◌, ◌&&◌, ◌||◌, not, nat_le, Bool, true, false, if◌then◌else◌, Option, Some, None, is_some, is_ok, List, [], ◌∷◌, length, codes, slice_get}
+use Rattle.std.specs.List.{list_all}
+use Rattle.tc_line.specs.declared.line.Keyword.{Keyword}
+use Rattle.tc_line.specs.declared.line.Keyword.TheVariants as K
+use Rattle.tc_step.specs.declared.step.Status.TheVariants as Q
+use Rattle.tc_line.specs.Line.{reference}
+use Rattle.tc_line.specs.Words.{is_text, is_name, keyword, keyword_text, verdict}
+use Rattle.tc_explain.specs.declared.slot.Slot.{Slot}
+use Rattle.tc_explain.specs.declared.slot.Slot.TheVariants as S
+use Rattle.tc_explain.specs.declared.stop.Stop.{Stop}
+
+-- the words of moves that are no keywords of scripts
+abbrev pub wake_text : List ℕ
+wake_text = codes "wake"
+
+-- the same
+abbrev pub finish_text : List ℕ
+finish_text = codes "finish"
+
+-- the word is of digits
+abbrev pub is_digits : List ℕ → Bool
+is_digits w = not (length w == 0) && list_all (λ b. nat_le 48 b && nat_le b 57) w
+
+-- the word names a component: in a move by its number
+abbrev pub is_component : Bool → List ℕ → Bool
+is_component true w = is_digits w
+is_component false w = is_ok (reference w)
+
+-- the word names a behaviour: in a move by the number of its run
+abbrev pub is_behaviour : Bool → List ℕ → Bool
+is_behaviour true w = is_digits w
+is_behaviour false w = is_name w
+
+-- what stands behind a keyword
+abbrev pub behind_keyword : Bool → Keyword → Option Slot
+behind_keyword true K.TestCase = None
+behind_keyword false K.TestCase = Some S.TestCase
+behind_keyword true K.Behaviour = None
+behind_keyword false K.Behaviour = Some S.Behaviour
+behind_keyword true K.End = None
+behind_keyword false K.End = Some S.End
+behind_keyword true K.Create = Some S.Kind
+behind_keyword false K.Create = Some S.Created
+behind_keyword moves K.Start = Some S.On
+behind_keyword moves K.Stop = Some S.Group
+behind_keyword moves K.Kill = Some S.Group
+behind_keyword moves K.StopCase = Some S.End
+behind_keyword moves (K.Ask status) = Some S.Target
+behind_keyword moves K.Wait = Some S.Status
+behind_keyword moves K.SetVerdict = Some S.Verdict
+behind_keyword moves K.GetVerdict = Some S.End
+
+-- what stands behind a word, where it is a keyword
+abbrev pub behind_word : Bool → Option Keyword → Option Slot
+behind_word moves None = None
+behind_word moves (Some k) = behind_keyword moves k
+
+-- what stands behind the first word of an operation
+abbrev pub behind_verb : List ℕ → Option Slot
+behind_verb w = if is_text w wake_text then Some S.Status else if is_text w finish_text then Some S.End else behind_word true (keyword w)
+
+-- this one, where the word may stand
+abbrev pub slot_if : Bool → Slot → Option Slot
+slot_if b s = if b then Some s else None
+
+-- what may stand behind the word, where the word may stand here
+abbrev pub next : Bool → Slot → List ℕ → Option Slot
+next moves S.Keyword w = behind_word false (keyword w)
+next moves S.Run w = slot_if (is_digits w) S.Verb
+next moves S.Verb w = behind_verb w
+next moves S.TestCase w = slot_if (is_name w) S.End
+next moves S.Behaviour w = slot_if (is_name w) S.Parameters
+next moves S.Parameters w = slot_if (is_name w) S.Parameters
+next moves S.Created w = slot_if (is_name w) S.Kind
+next moves S.Kind w = if is_text w (keyword_text (K.Ask Q.Alive)) then Some S.Naming else slot_if (is_text w (codes "named")) S.GivenName
+next moves S.Naming w = slot_if (is_text w (codes "named")) S.GivenName
+next moves S.GivenName w = slot_if (is_name w) S.End
+next moves S.On w = slot_if (is_component moves w) S.Started
+next moves S.Started w = slot_if (is_behaviour moves w) S.Arguments
+next moves S.Arguments w = slot_if (is_component moves w) S.Arguments
+next moves S.Group w = slot_if (is_text w (codes "all") || is_component moves w) S.End
+next moves S.Target w = slot_if (is_text w (codes "any") || is_text w (codes "all") || is_component moves w) S.End
+next moves S.Status w = slot_if (is_text w (keyword_text (K.Ask Q.Done)) || is_text w (keyword_text (K.Ask Q.Killed))) S.Target
+next moves S.Verdict w = slot_if (is_some (verdict w)) S.End
+next moves S.End w = None
+next moves S.Arrow w = None
+next moves S.Reply w = None
+next moves S.Overall w = None
+
+-- the line may end here
+abbrev pub may_end : Slot → Bool
+may_end S.Parameters = true
+may_end S.Kind = true
+may_end S.Naming = true
+may_end S.Arguments = true
+may_end S.End = true
+may_end _ = false
+
+-- the first word that may not stand where it stands, by its place among the words, and what may stand there; or their end
+abbrev pub walk : Bool → Slot → ℕ → List (List ℕ) → Stop
+walk moves slot place [] = record { place = place; slot = slot }
+walk moves slot place (w ∷ ws) =
+    elim (next moves slot w) [ None ↦ record { place = place; slot = slot } | Some s ↦ walk moves s (suc place) ws ]
+
+-- what may stand at a place
+abbrev pub slot_text : Slot → List ℕ
+slot_text S.Keyword = codes "a keyword"
+slot_text S.Run = codes "the number of a run"
+slot_text S.Verb = codes "an operation"
+slot_text S.TestCase = codes "the name of a test case"
+slot_text S.Behaviour = codes "the name of a behaviour"
+slot_text S.Parameters = codes "a parameter, or the end of the line"
+slot_text S.Created = codes "the name of a component"
+slot_text S.Kind = codes "alive, named, or the end of the call"
+slot_text S.Naming = codes "named, or the end of the call"
+slot_text S.GivenName = codes "a name"
+slot_text S.On = codes "a component"
+slot_text S.Started = codes "the behaviour that is started"
+slot_text S.Arguments = codes "a component, or the end of the call"
+slot_text S.Group = codes "all or a component"
+slot_text S.Target = codes "any, all or a component"
+slot_text S.Status = codes "done or killed"
+slot_text S.Verdict = codes "none, pass, inconc or fail"
+slot_text S.End = codes "the end of the call"
+slot_text S.Arrow = codes "-> and a reply"
+slot_text S.Reply = codes "a reply"
+slot_text S.Overall = codes "none, pass, inconc, fail or error"
+
+-- where a line of a history stops whose move ends here
+abbrev pub behind_move : Stop → Option (List ℕ) → Stop
+behind_move stop None = record { place = stop.place; slot = S.Arrow }
+behind_move stop (Some w) = if is_text w (codes "->") then record { place = suc stop.place; slot = S.Reply } else stop
+
+-- the first word is this one
+abbrev pub first_is : List ℕ → List (List ℕ) → Bool
+first_is text [] = false
+first_is text (w ∷ ws) = is_text w text
+
+-- where a line of a history stops that stops so as a move
+abbrev pub move_end : Stop → List (List ℕ) → Stop
+move_end stop words = if may_end stop.slot then behind_move stop (slice_get words stop.place) else stop
+
+-- the first word that may not stand where it stands in a line of a history
+abbrev pub entry_stop : List (List ℕ) → Stop
+entry_stop words =
+    if first_is (keyword_text K.End) words then record { place = 1; slot = S.Overall }
+    else move_end (walk true S.Run 0 words) words

@@ -1,0 +1,19 @@
+//! What is told of a refused text besides its fault: the line, the word and its column, and what would be understood.
+#![tactic(auto)]
+
+mod append;
+mod nearest;
+mod odd;
+mod places;
+mod quote;
+mod scan;
+mod slot;
+mod sort;
+mod stop;
+mod telling;
+
+pub use sort::{Refusal, Sort};
+pub use telling::explain;
+
+#[cfg(test)]
+mod tests;

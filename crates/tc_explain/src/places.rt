@@ -1,0 +1,41 @@
+//! Places in a line.
+ghost use Rattle.std.specs.Prelude.{◌≡◌, ◌≤◌, length, false, true};
+ghost use Rattle.tc_explain.specs.Places.{spaced, starts};
+
+/// How many bytes stand before the word at this place among the words of the line, or before its end.
+#[tactic(auto, unfolding(crate::specs::Places::starts))]
+pub(crate) fn start_of(line: &[u8], place: usize) -> usize
+    ensures start { result ≡ starts place false line.now }
+    ensures within { result ≤ length line.now }
+{
+    let mut left = place;
+    let mut inside = false;
+    for (at, byte) in line.iter().enumerate() {
+        if *byte == b' ' {
+            inside = false;
+        } else if !inside {
+            if left == 0 {
+                return at;
+            }
+            left -= 1;
+            inside = true;
+        }
+    }
+    line.len()
+}
+
+/// How many bytes stand before the first space behind a space, or at an end of the line.
+#[tactic(auto, unfolding(crate::specs::Places::spaced))]
+pub(crate) fn space_of(line: &[u8]) -> usize
+    ensures { result ≡ spaced true line.now }
+{
+    let mut after = true;
+    for (at, byte) in line.iter().enumerate() {
+        let space = *byte == b' ';
+        if space && (after || at + 1 == line.len()) {
+            return at;
+        }
+        after = space;
+    }
+    line.len()
+}

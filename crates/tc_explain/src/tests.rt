@@ -1,0 +1,261 @@
+//! Explanations, by text.
+use crate::{Refusal, explain};
+use std::alloc::Global;
+use std::process::Abort;
+use std::test::Fail;
+use tc_line::ScriptKind;
+use tc_text::{TextKind, read_move};
+
+fn expect(
+    rt: &impl Abort,
+    alloc: Global,
+    text: &[u8],
+    line: usize,
+    refusal: Refusal,
+    told: &str,
+) -> Result<(), Fail> {
+    let found = explain(alloc, text, line, refusal)?;
+    assert_eq!(rt; found.as_slice(), told.as_bytes());
+    Ok(())
+}
+
+const BAD_LINE: Refusal = Refusal::Script(ScriptKind::BadLine);
+
+#[test]
+fn the_nearest_keyword(rt: HostRuntime) -> Result<(), Fail> {
+    expect(
+        &rt,
+        rt.alloc(),
+        b"testcase t\nbehaviour main\n  setverdct pass\nend\nend\n",
+        3,
+        BAD_LINE,
+        "  line: `  setverdct pass`\n  column 3: `setverdct`\n  understood there: end create start stop kill stopcase running alive done killed wait setverdict getverdict\n  nearest: setverdict\n  a behaviour began in line 2\n  a test case began in line 1\n",
+    )?;
+    expect(
+        &rt,
+        rt.alloc(),
+        b"testcse t\n",
+        1,
+        BAD_LINE,
+        "  line: `testcse t`\n  column 1: `testcse`\n  understood there: testcase\n  nearest: testcase\n",
+    )
+}
+
+#[test]
+fn words_of_a_form(rt: HostRuntime) -> Result<(), Fail> {
+    let lines = [
+        ("create p named", "column 15: the end of the line", "a name"),
+        (
+            "create p  alike",
+            "column 11: `alike`",
+            "alive, named, or the end of the call",
+        ),
+        (
+            "start mtc",
+            "column 10: the end of the line",
+            "the behaviour that is started",
+        ),
+        ("start all b", "column 7: `all`", "a component"),
+        ("wait running p", "column 6: `running`", "done or killed"),
+        ("stop any", "column 6: `any`", "all or a component"),
+        ("done 1", "column 6: `1`", "any, all or a component"),
+        (
+            "setverdict error",
+            "column 12: `error`",
+            "none, pass, inconc or fail",
+        ),
+        ("getverdict p", "column 12: `p`", "the end of the call"),
+        ("create 1x", "column 8: `1x`", "the name of a component"),
+    ];
+    for (line, place, wanted) in lines {
+        let told = format!(in rt.alloc();
+            "  line: `{line}`\n  {place}\n  understood there: {wanted}\n"
+        )?;
+        expect(&rt, rt.alloc(), line.as_bytes(), 1, BAD_LINE, told.as_str())?;
+    }
+    Ok(())
+}
+
+#[test]
+fn odd_bytes(rt: HostRuntime) -> Result<(), Fail> {
+    let lines: [(&[u8], &str); 7] = [
+        (
+            b"testcase t\r\nend",
+            "  line: `testcase t\\x0D`\n  column 11: a carriage return; a line ends with a line feed alone\n",
+        ),
+        (b"\tend", "  line: `\\x09end`\n  column 1: a tab\n"),
+        (
+            b"\xef\xbb\xbfend",
+            "  line: `\\xEF\\xBB\\xBFend`\n  column 1: a byte order mark\n",
+        ),
+        (
+            b"\xff\xfee\0n\0",
+            "  line: `\\xFF\\xFEe\\x00n\\x00`\n  column 1: a byte order mark of UTF-16\n",
+        ),
+        (
+            b"\xfe\xff\0e",
+            "  line: `\\xFE\\xFF\\x00e`\n  column 1: a byte order mark of UTF-16\n",
+        ),
+        (
+            b"e\0n\0",
+            "  line: `e\\x00n\\x00`\n  column 2: a zero byte, as UTF-16 has them\n",
+        ),
+        (b"ab\x7f", "  line: `ab\\x7F`\n  column 3: the byte \\x7F\n"),
+    ];
+    let refusal = Refusal::Script(ScriptKind::BadByte);
+    for (line, told) in lines {
+        expect(&rt, rt.alloc(), line, 1, refusal, told)?;
+    }
+    Ok(())
+}
+
+#[test]
+fn what_is_open(rt: HostRuntime) -> Result<(), Fail> {
+    let early = Refusal::Script(ScriptKind::Cut);
+    expect(&rt, rt.alloc(), b"", 1, early, "  the text is empty\n")?;
+    expect(
+        &rt,
+        rt.alloc(),
+        b"# x\ntestcase t\n\nbehaviour b\nend\nbehaviour c\n",
+        7,
+        early,
+        "  the text ends behind line 6\n  a behaviour began in line 6\n  a test case began in line 2\n",
+    )?;
+    expect(
+        &rt,
+        rt.alloc(),
+        b"testcase t\nend\n",
+        2,
+        Refusal::Script(ScriptKind::BadPlace),
+        "  line: `end`\n  column 1: `end`\n  understood there: behaviour\n  a test case began in line 1\n",
+    )?;
+    expect(
+        &rt,
+        rt.alloc(),
+        b"history 1 a 1\nend none\nhistory 1 b 1\n",
+        4,
+        Refusal::Histories(TextKind::Early),
+        "  the text ends behind line 3\n  a history began in line 3\n",
+    )
+}
+
+#[test]
+fn texts_of_another_kind(rt: HostRuntime) -> Result<(), Fail> {
+    let history = b"history 1 a 1\nend none\n";
+    let script = b"# x\n\ntestcase t\n";
+    let moves = b"behaviours 1\n";
+    let sources: [&[u8]; 3] = [b"module M {\n", b"// x\n", b"testcase t() runs on M {\n"];
+    let script_told = "  the text looks like a script, which ttrun run reads\n";
+    let history_told = "  the text looks like histories, which ttrun check and ttrun report read\n";
+    let moves_told = "  the text looks like a list of moves, which ttrun replay reads\n";
+    let source_told = "  the text looks like TTCN-3, which ttrun does not read\n";
+    let given: [(&[u8], Refusal, &str); 7] = [
+        (history, BAD_LINE, history_told),
+        (moves, BAD_LINE, moves_told),
+        (sources[0], BAD_LINE, source_told),
+        (sources[1], BAD_LINE, source_told),
+        (sources[2], BAD_LINE, source_told),
+        (script, Refusal::Histories(TextKind::FirstLine), script_told),
+        (script, Refusal::Moves(TextKind::FirstLine), script_told),
+    ];
+    for (text, refusal, told) in given {
+        let found = explain(rt.alloc(), text, 1, refusal)?;
+        assert!(&rt; found.as_slice().starts_with(told.as_bytes()), "{told}");
+    }
+    Ok(())
+}
+
+#[test]
+fn lines_of_moves(rt: HostRuntime) -> Result<(), Fail> {
+    let lines = [
+        ("0  finish", "column 3: a space too many", ""),
+        ("0 finish ", "column 9: a space too many", ""),
+        (
+            "x finish",
+            "column 1: `x`",
+            "  understood there: the number of a run\n",
+        ),
+        (
+            "0 finsh",
+            "column 3: `finsh`",
+            "  understood there: create start stop kill stopcase running alive done killed wait setverdict getverdict wake finish\n  nearest: finish\n",
+        ),
+        (
+            "0 start 1",
+            "column 10: the end of the line",
+            "  understood there: the behaviour that is started\n",
+        ),
+        (
+            "0 stop p",
+            "column 8: `p`",
+            "  understood there: all or a component\n",
+        ),
+    ];
+    for (line, place, wanted) in lines {
+        let text = format!(in rt.alloc(); "behaviours 1\n{line}\n")?;
+        let told = format!(in rt.alloc(); "  line: `{line}`\n  {place}\n{wanted}")?;
+        let refusal = Refusal::Moves(TextKind::Move);
+        expect(
+            &rt,
+            rt.alloc(),
+            text.as_str().as_bytes(),
+            2,
+            refusal,
+            told.as_str(),
+        )?;
+    }
+    Ok(())
+}
+
+#[test]
+fn lines_of_histories(rt: HostRuntime) -> Result<(), Fail> {
+    let lines = [
+        (
+            "0 finish",
+            "column 9: the end of the line",
+            "-> and a reply",
+        ),
+        ("0 finish -> oki", "column 13: `oki`", "a reply"),
+        ("0 finish ok", "column 10: `ok`", "the end of the call"),
+        (
+            "end passed",
+            "column 5: `passed`",
+            "none, pass, inconc, fail or error",
+        ),
+    ];
+    for (line, place, wanted) in lines {
+        let text = format!(in rt.alloc(); "history 1 a 1\n{line}\n")?;
+        let told = format!(in rt.alloc();
+            "  line: `{line}`\n  {place}\n  understood there: {wanted}\n  a history began in line 1\n"
+        )?;
+        let refusal = Refusal::Histories(TextKind::Entry);
+        expect(
+            &rt,
+            rt.alloc(),
+            text.as_str().as_bytes(),
+            2,
+            refusal,
+            told.as_str(),
+        )?;
+    }
+    Ok(())
+}
+
+#[test]
+fn long_lines_are_cut(rt: HostRuntime) -> Result<(), Fail> {
+    let mut line = b"create ".to_vec(rt.alloc())?;
+    for _ in 0..70 {
+        line.push(b'1')?;
+    }
+    let found = explain(rt.alloc(), line.as_slice(), 1, BAD_LINE)?;
+    let told =
+        "  line: `create 11111111111111111111111111111111111111111111111111111`..\n  column 8: `111111111111111111111111111111111111111111111111111111111111`..\n  understood there: the name of a component\n";
+    assert_eq!(&rt; found.as_slice(), told.as_bytes());
+    Ok(())
+}
+
+#[test]
+fn moves_of_the_words_that_are_no_keywords(rt: HostRuntime) {
+    assert!(&rt; read_move(b"0 finish").is_some());
+    assert!(&rt; read_move(b"0 wake done all").is_some());
+}

@@ -1,0 +1,381 @@
+-- Histories that are alike are answered alike, but for questions, and are alike after the same entry.
+use Rattle.std.proofs.Common.{ℕ, ◌≡◌, ◌==◌, ◌||◌, not, if◌then◌else◌, nat_lt, Bool, true, false, Option, Some, None, is_some, List, [], ◌∷◌, ◌++◌, length, drop, map, refl, ap, sym, ◌∙◌, arith}
+use Rattle.std.proofs.lemmas.Bool.Decides.{nat_tests}
+use Rattle.std.specs.List.{list_any, list_all}
+use Rattle.tc_verdict.specs.declared.run.Run.{Run}
+use Rattle.tc_verdict.specs.declared.verdict.Verdict.{Verdict}
+use Rattle.tc_verdict.specs.declared.verdict.Verdict.TheVariants as V
+use Rattle.tc_verdict.specs.Verdict.{worse, worst, level_of}
+use Rattle.tc_verdict.proofs.Order.{worse_later, worse_swap}
+use Rattle.tc_entry.specs.declared.comp.Comp.{Comp}
+use Rattle.tc_entry.specs.declared.entry.Entry.{Entry}
+use Rattle.tc_entry.specs.declared.op.Op.{Op}
+use Rattle.tc_entry.specs.declared.op.Op.TheVariants as O
+use Rattle.tc_entry.specs.declared.op.Target.{Target}
+use Rattle.tc_entry.specs.declared.op.Target.TheVariants as T
+use Rattle.tc_entry.specs.declared.phase.Phase.{Phase}
+use Rattle.tc_entry.specs.declared.phase.Phase.TheVariants as P
+use Rattle.tc_entry.specs.declared.reply.Reply.{Reply}
+use Rattle.tc_entry.specs.declared.reply.Reply.TheVariants as R
+use Rattle.tc_table.specs.declared.awaited.Awaited.{Awaited}
+use Rattle.tc_table.specs.declared.component_state.ComponentState.{ComponentState}
+use Rattle.tc_table.specs.History.{comps, comp_of, ptcs, exists, is_in, is_comp, is_alive_type, created, started_on, first_some, add_new, halts, kills}
+use Rattle.tc_table.specs.Phases.{phase, start_in}
+use Rattle.tc_table.specs.Status.{done, killed, is_running, is_killed, is_done}
+use Rattle.tc_table.specs.Local.{local, overall, gives, verdicts_of}
+use Rattle.tc_table.specs.Waiting.{holds}
+use Rattle.tc_table.specs.Faults.{fault, names, special_fault, start_fault, components}
+use Rattle.tc_table.specs.Answers.{answer, plain_answer, is_active, is_active_on, is_run_of}
+use Rattle.tc_table.specs.Legal.{IsLegal}
+use Rattle.tc_table.specs.Inside.Kept.{state_of, blank}
+use Rattle.tc_table.specs.Inside.Step.{next_phase, next_state, next_local}
+use Rattle.tc_table.proofs.Steps.{state_step}
+use Rattle.tc_table.proofs.Fresh.{fresh_step}
+use Rattle.tc_table.proofs.Keeping.{all_exist_same, kill_halts}
+use Rattle.tc_table.proofs.Sound.{starts}
+use Rattle.tc_table.proofs.Over.{on_existing, stays}
+use Rattle.tc_table.proofs.LawsOfHistories.{killed_was_halted}
+use Rattle.tc_table.proofs.Deciding.{self_equal, equal_if, if_same}
+use Rattle.tc_explore.specs.Inside.Alike.{IsAlike}
+
+-- ---- what is the same
+
+any_same : {A : Type 0} (f g : A → Bool) (xs : List A) → ((x : A) → f x ≡ g x) → list_any f xs ≡ list_any g xs
+any_same f g [] h = refl
+any_same f g (x ∷ xs) h = rw (h x, any_same f g xs h)
+
+all_same : {A : Type 0} (f g : A → Bool) (xs : List A) → ((x : A) → f x ≡ g x) → list_all f xs ≡ list_all g xs
+all_same f g [] h = refl
+all_same f g (x ∷ xs) h = rw (h x, all_same f g xs h)
+
+pub alike_self : (p : List Entry) → IsAlike p p
+alike_self p = record { comps_same = refl; phase_same = λ c. refl; kind_same = λ c. refl; comp_same = λ b. refl; overall_same = refl }
+
+pub alike_sym : (p q : List Entry) → IsAlike p q → IsAlike q p
+alike_sym p q a = record {
+  comps_same = sym a.comps_same;
+  phase_same = λ c. sym (a.phase_same c);
+  kind_same = λ c. sym (a.kind_same c);
+  comp_same = λ b. sym (a.comp_same b);
+  overall_same = sym a.overall_same;
+}
+
+pub alike_then : (p q r : List Entry) → IsAlike p q → IsAlike q r → IsAlike p r
+alike_then p q r a b = record {
+  comps_same = a.comps_same ∙ b.comps_same;
+  phase_same = λ c. a.phase_same c ∙ b.phase_same c;
+  kind_same = λ c. a.kind_same c ∙ b.kind_same c;
+  comp_same = λ c. a.comp_same c ∙ b.comp_same c;
+  overall_same = a.overall_same ∙ b.overall_same;
+}
+
+module _ {p q : List Entry} where
+  ptcs_same : IsAlike p q → ptcs p ≡ ptcs q
+  ptcs_same s = ap (drop 1) s.comps_same
+
+  any_of : IsAlike p q → (g : Phase → Bool) → list_any (λ c. g (phase p c)) (ptcs p) ≡ list_any (λ c. g (phase q c)) (ptcs q)
+  any_of s g = any_same _ _ (ptcs p) (λ c. ap g (s.phase_same c)) ∙ ap (list_any (λ c. g (phase q c))) (ptcs_same s)
+
+  all_of : IsAlike p q → (g : Phase → Bool) → list_all (λ c. g (phase p c)) (ptcs p) ≡ list_all (λ c. g (phase q c)) (ptcs q)
+  all_of s g = all_same _ _ (ptcs p) (λ c. ap g (s.phase_same c)) ∙ ap (list_all (λ c. g (phase q c))) (ptcs_same s)
+
+  done_same : IsAlike p q → (t : Target) → done p t ≡ done q t
+  unfolding done
+  done_same s (T.One c) = ap is_done (s.phase_same c.0)
+  done_same s T.Any = any_of s is_done
+  done_same s T.All = all_of s (λ ph. not (is_running ph))
+
+  killed_same : IsAlike p q → (t : Target) → killed p t ≡ killed q t
+  unfolding killed
+  killed_same s (T.One c) = ap is_killed (s.phase_same c.0)
+  killed_same s T.Any = any_of s is_killed
+  killed_same s T.All = all_of s is_killed
+
+  pub holds_alike : IsAlike p q → (a : Awaited) → holds p a ≡ holds q a
+  unfolding holds
+  holds_alike s a = rw (done_same s a.target, killed_same s a.target)
+
+  active_on_same : IsAlike p q → (b : ℕ) (o : Option Comp) → is_active_on p b o ≡ is_active_on q b o
+  active_on_same s b None = refl
+  active_on_same s b (Some c) = ap (is_run_of b) (s.phase_same c.0)
+
+  pub active_alike : IsAlike p q → (b : ℕ) → is_active p b ≡ is_active q b
+  unfolding is_active
+  active_alike s b = ap (is_active_on p b) (s.comp_same b) ∙ active_on_same s b (comp_of q b)
+
+  start_same : IsAlike p q → (n c b : ℕ) → start_fault n p c b ≡ start_fault n q c b
+  unfolding start_fault
+  start_same s n c b = rw (s.phase_same c, s.comp_same b)
+
+  components_same : IsAlike p q → components p ≡ components q
+  unfolding components
+  components_same s = ap length s.comps_same
+
+  special_same : IsAlike p q → (n : ℕ) (op : Op) → special_fault n p op ≡ special_fault n q op
+  special_same s n (O.Create alive name) = rw (components_same s)
+  special_same s n (O.Start c run args) = start_same s n c.0 run.0
+  special_same s n _ = refl
+
+  pub fault_alike : IsAlike p q → (n b : ℕ) (op : Op) → fault n p b op ≡ fault n q b op
+  unfolding fault
+  fault_alike s n b op = rw (all_exist_same p q (names op) s.comps_same, special_same s n op)
+
+-- the reply to the call goes by what is alike alone
+abbrev pub is_plain_call : Op → Bool
+is_plain_call (O.Running t) = false
+is_plain_call (O.Alive t) = false
+is_plain_call (O.Done t) = false
+is_plain_call (O.Killed t) = false
+is_plain_call O.GetVerdict = false
+is_plain_call (O.Wake k t) = false
+is_plain_call _ = true
+
+module _ {p q : List Entry} where
+  plain_same : IsAlike p q → (b : ℕ) (op : Op) → is_plain_call op ≡ true → plain_answer p b op ≡ plain_answer q b op
+  plain_same s b (O.Create alive name) h = ap (λ k. R.Made (record { 0 = k })) (components_same s)
+  plain_same s b (O.Start c run args) h = refl
+  plain_same s b (O.Stop g) h = refl
+  plain_same s b (O.Kill g) h = refl
+  plain_same s b (O.Wait k t) h = ap (λ z. if z then R.Matched else R.Parked) (holds_alike s (record { killed = k; target = t }))
+  plain_same s b O.StopCase h = refl
+  plain_same s b (O.SetVerdict v) h = refl
+  plain_same s b O.Finish h = refl
+  plain_same s b _ h = absurd cc
+
+  pub answer_alike : IsAlike p q → (n b : ℕ) (op : Op) → is_plain_call op ≡ true → answer n p b op ≡ answer n q b op
+  unfolding answer
+  answer_alike s n b op h = rw (active_alike s b, fault_alike s n b op, plain_same s b op h)
+
+-- ---- one more entry
+
+either_no : (a : Bool) → (a || false) ≡ false → a ≡ false
+either_no true h = absurd cc
+either_no false h = refl
+
+in_last : (c : ℕ) (ns : List ℕ) → is_in c (ns ++ c ∷ []) ≡ true
+in_last c [] = rw (self_equal c) refl
+in_last c (n ∷ ns) = rw (in_last c ns) (or_yes (c == n))
+  where
+    or_yes : (t : Bool) → (t || true) ≡ true
+    or_yes true = refl
+    or_yes false = refl
+
+not_made : (o : Option Comp) (c : ℕ) (ns : List ℕ) → is_in c (add_new o ns) ≡ false → is_comp o c ≡ false
+not_made None c ns h = refl
+not_made (Some d) c ns h = by_test (d.0 == c) refl
+  where
+    by_in : (t : Bool) → is_in c ns ≡ t → is_in c (if t then ns else ns ++ c ∷ []) ≡ true
+    by_in true k = k
+    by_in false k = in_last c ns
+
+    by_test : (t : Bool) → (d.0 == c) ≡ t → t ≡ false
+    by_test false k = refl
+    by_test true k =
+        let same : d.0 ≡ c = equal_if d.0 c k in
+        let here : is_in c (add_new (Some d) ns) ≡ true = rw same (by_in (is_in c ns) refl) in
+        absurd cc
+
+-- what an entry starts, and who calls it, exists
+no_start : (n : ℕ) (past : List Entry) (e : Entry) (c : ℕ) → IsLegal n (e ∷ past) → exists past c ≡ false → start_in e c ≡ None
+no_start n past e c legal out = by_some (start_in e c) refl
+  where
+    by_some : (o : Option Run) → start_in e c ≡ o → o ≡ None
+    by_some None k = refl
+    by_some (Some r) k = let there = (starts n past e c legal.0 (ap is_some k)).known in absurd cc
+
+no_caller : (n : ℕ) (past : List Entry) (b c : ℕ) → IsLegal n past → exists past c ≡ false → is_comp (comp_of past b) c ≡ false
+no_caller n past b c legal out = by_comp (comp_of past b) refl
+  where
+    by_comp : (o : Option Comp) → comp_of past b ≡ o → is_comp o c ≡ false
+    by_comp None k = refl
+    by_comp (Some d) k = by_test (d.0 == c) refl
+      where
+        by_test : (t : Bool) → (d.0 == c) ≡ t → t ≡ false
+        by_test false j = refl
+        by_test true j =
+            let there : exists past d.0 ≡ true = on_existing n past b d legal k in
+            let same : d.0 ≡ c = equal_if d.0 c j in
+            absurd cc
+
+was_out : (past : List Entry) (e : Entry) (c : ℕ) → exists (e ∷ past) c ≡ false → exists past c ≡ false
+was_out past e c out = by_test (exists past c) refl
+  where
+    by_test : (t : Bool) → exists past c ≡ t → t ≡ false
+    by_test false k = refl
+    by_test true k = let there = stays past e c k in absurd cc
+
+-- a component that is not yet made is blank
+pub fresh : (n : ℕ) (past : List Entry) (c : ℕ) → IsLegal n past → exists past c ≡ false → state_of past c ≡ blank
+unfolding exists phase local
+fresh n [] c legal out = let t : (c == 0) ≡ false = either_no (c == 0) out in rw t refl
+fresh n (e ∷ past) c legal out =
+    let before : exists past c ≡ false = was_out past e c out in
+    fresh_step past e c before (no_start n past e c legal before) (no_caller n past e.caller.0 c legal.1 before) (fresh n past c legal.1 before)
+    ∙ rw (not_made (created e.op e.reply) c (comps past) out) refl
+
+-- what a component is doing after one more entry
+phase_next : (n : ℕ) (past : List Entry) (e : Entry) (c : ℕ) → IsLegal n (e ∷ past) →
+    phase (e ∷ past) c ≡ (if exists past c then next_phase (kills e c) (start_in e c) (halts (comp_of past e.caller.0) e c) (is_alive_type past c) (phase past c) else P.Inactive)
+unfolding next_state
+phase_next n past e c legal = by_test (exists past c) refl
+  where
+    by_test : (t : Bool) → exists past c ≡ t →
+        phase (e ∷ past) c ≡ (if t then next_phase (kills e c) (start_in e c) (halts (comp_of past e.caller.0) e c) (is_alive_type past c) (phase past c) else P.Inactive)
+    by_test true k = ap (λ (s : ComponentState). s.phase) (state_step past e c k (killed_was_halted n past c legal.1) (λ s. (starts n past e c legal.0 s).alive))
+    by_test false k = ap (λ (s : ComponentState). s.phase) (fresh_step past e c k (no_start n past e c legal k) (no_caller n past e.caller.0 c legal.1 k) (fresh n past c legal.1 k))
+
+-- ---- the overall verdict
+
+worst_both : (vs ws : List Verdict) → worst (vs ++ ws) ≡ next_local vs (worst ws)
+worst_both [] ws = refl
+worst_both (v ∷ vs) ws = rw (worst_both vs ws)
+
+local_by : (on : Bool) (vs ws : List Verdict) → worst (if on then vs ++ ws else ws) ≡ (if on then next_local vs (worst ws) else worst ws)
+local_by true vs ws = worst_both vs ws
+local_by false vs ws = refl
+
+local_next : (past : List Entry) (e : Entry) (c : ℕ) →
+    local (e ∷ past) c ≡ (if is_comp (comp_of past e.caller.0) c then next_local (gives e.op e.reply) (local past c) else local past c)
+unfolding local
+local_next past e c = local_by (is_comp (comp_of past e.caller.0) c) (gives e.op e.reply) (verdicts_of past c)
+
+map_same : (f g : ℕ → Verdict) (xs : List ℕ) → ((x : ℕ) → f x ≡ g x) → map f xs ≡ map g xs
+map_same f g [] h = refl
+map_same f g (x ∷ xs) h = rw (h x, map_same f g xs h)
+
+worse_of_worse : (w a v : Verdict) → worse w (worse a v) ≡ worse (worse w a) v
+worse_of_worse w a v = by_test (nat_lt (level_of a) (level_of v)) refl
+  where
+    by_test : (t : Bool) → nat_lt (level_of a) (level_of v) ≡ t → worse w (if t then v else a) ≡ worse (worse w a) v
+    by_test true h = worse_later w a v (grind (arith, nat_tests))
+    by_test false h = worse_later w v a (grind (arith, nat_tests)) ∙ worse_swap w a v
+
+worst_step : (t i : Bool) (w a v : Verdict) →
+    worse (if i then worse w v else w) (if t then worse a v else a) ≡ (if t || i then worse (worse w a) v else worse w a)
+worst_step false false w a v = refl
+worst_step false true w a v = worse_swap w a v
+worst_step true false w a v = worse_of_worse w a v
+worst_step true true w a v =
+    worse_of_worse (worse w v) a v ∙ (ap (λ z. worse z v) (worse_swap w a v) ∙ sym (worse_later (worse w a) v v (omega arith)))
+
+worst_more : (f : ℕ → Verdict) (d : ℕ) (v : Verdict) (cs : List ℕ) →
+    worst (map (λ c. if d == c then worse (f c) v else f c) cs) ≡ (if is_in d cs then worse (worst (map f cs)) v else worst (map f cs))
+worst_more f d v [] = refl
+worst_more f d v (x ∷ xs) =
+    ap (λ z. worse z (if d == x then worse (f x) v else f x)) (worst_more f d v xs) ∙ worst_step (d == x) (is_in d xs) (worst (map f xs)) (f x) v
+
+if_more : (t : Bool) (a b v : Verdict) → (if t then worse a v else b) ≡ (if t then worse (if t then a else b) v else (if t then a else b))
+if_more true a b v = refl
+if_more false a b v = refl
+
+if_both : (i : Bool) (a b v : Verdict) → (if i then worse (if i then a else b) v else (if i then a else b)) ≡ (if i then worse a v else b)
+if_both true a b v = refl
+if_both false a b v = refl
+
+worst_list : (f : ℕ → Verdict) (d : ℕ) (vs : List Verdict) (cs : List ℕ) →
+    worst (map (λ c. if d == c then next_local vs (f c) else f c) cs) ≡ (if is_in d cs then next_local vs (worst (map f cs)) else worst (map f cs))
+worst_list f d [] cs = ap worst (map_same _ f cs (λ c. if_same (d == c) (f c))) ∙ sym (if_same (is_in d cs) (worst (map f cs)))
+worst_list f d (v ∷ vs) cs =
+    let g : ℕ → Verdict = λ c. if d == c then next_local vs (f c) else f c in
+    ap worst (map_same _ (λ c. if d == c then worse (g c) v else g c) cs (λ c. if_more (d == c) (next_local vs (f c)) (f c) v))
+    ∙ (worst_more g d v cs
+    ∙ (ap (λ z. if is_in d cs then worse z v else z) (worst_list f d vs cs) ∙ if_both (is_in d cs) (next_local vs (worst (map f cs))) (worst (map f cs)) v))
+
+worst_none : (f : ℕ → Verdict) (m : ℕ) (cs : List ℕ) → f m ≡ V.None → worst (map f (cs ++ m ∷ [])) ≡ worst (map f cs)
+worst_none f m [] h = rw h refl
+worst_none f m (x ∷ xs) h = ap (λ z. worse z (f x)) (worst_none f m xs h)
+
+no_gift : (n : ℕ) (past : List Entry) (e : Entry) → IsLegal n (e ∷ past) → comp_of past e.caller.0 ≡ None → gives e.op e.reply ≡ []
+unfolding answer is_active
+no_gift n past e legal none = let r : e.reply ≡ R.Ended = legal.0 ∙ rw none refl in rw r refl
+
+made_gift : (op : Op) (reply : Reply) (m : Comp) → created op reply ≡ Some m → gives op reply ≡ []
+made_gift (O.Create alive name) (R.Made c) m h = refl
+made_gift _ _ m h = absurd cc
+
+overall_by : (n : ℕ) (past : List Entry) (e : Entry) → IsLegal n (e ∷ past) →
+    worst (map (local (e ∷ past)) (comps past)) ≡ next_local (gives e.op e.reply) (worst (map (local past) (comps past)))
+unfolding exists
+overall_by n past e legal = by_comp (comp_of past e.caller.0) refl
+  where
+    by_comp : (o : Option Comp) → comp_of past e.caller.0 ≡ o → worst (map (local (e ∷ past)) (comps past)) ≡ next_local (gives e.op e.reply) (worst (map (local past) (comps past)))
+    by_comp None k =
+        ap worst (map_same _ (local past) (comps past) (λ c. local_next past e c ∙ rw k refl)) ∙ rw (no_gift n past e legal k) refl
+    by_comp (Some d) k =
+        let there : is_in d.0 (comps past) ≡ true = on_existing n past e.caller.0 d legal.1 k in
+        ap worst (map_same _ (λ c. if d.0 == c then next_local (gives e.op e.reply) (local past c) else local past c) (comps past) (λ c. local_next past e c ∙ rw k refl))
+        ∙ (worst_list (local past) d.0 (gives e.op e.reply) (comps past) ∙ rw there refl)
+
+-- the overall verdict after one more entry
+pub overall_next : (n : ℕ) (past : List Entry) (e : Entry) → IsLegal n (e ∷ past) → overall (e ∷ past) ≡ next_local (gives e.op e.reply) (overall past)
+unfolding overall exists
+overall_next n past e legal = by_made (created e.op e.reply) refl
+  where
+    by_made : (o : Option Comp) → created e.op e.reply ≡ o → worst (map (local (e ∷ past)) (add_new o (comps past))) ≡ next_local (gives e.op e.reply) (worst (map (local past) (comps past)))
+    by_made None k = overall_by n past e legal
+    by_made (Some m) k = by_in (is_in m.0 (comps past)) refl
+      where
+        by_in : (t : Bool) → is_in m.0 (comps past) ≡ t →
+            worst (map (local (e ∷ past)) (if t then comps past else comps past ++ m.0 ∷ [])) ≡ next_local (gives e.op e.reply) (worst (map (local past) (comps past)))
+        by_in true j = overall_by n past e legal
+        by_in false j =
+            let none : local past m.0 ≡ V.None = ap (λ (s : ComponentState). s.local) (fresh n past m.0 legal.1 j) in
+            let after : local (e ∷ past) m.0 ≡ V.None = local_next past e m.0 ∙ rw (no_caller n past e.caller.0 m.0 legal.1 j) none in
+            worst_none (local (e ∷ past)) m.0 (comps past) after ∙ overall_by n past e legal
+
+-- ---- after the same entry
+
+exists_alike : (p q : List Entry) → IsAlike p q → (c : ℕ) → exists p c ≡ exists q c
+unfolding exists
+exists_alike p q s c = ap (is_in c) s.comps_same
+
+pub alike_step : (n : ℕ) (p q : List Entry) (e : Entry) → IsLegal n (e ∷ p) → IsLegal n (e ∷ q) → IsAlike p q → IsAlike (e ∷ p) (e ∷ q)
+unfolding exists
+alike_step n p q e lp lq s = record {
+  comps_same = ap (add_new (created e.op e.reply)) s.comps_same;
+  phase_same = λ c. phase_next n p e c lp ∙ (rw (exists_alike p q s c, s.comp_same e.caller.0, s.kind_same c, s.phase_same c) refl ∙ sym (phase_next n q e c lq));
+  kind_same = λ c. rw (s.comps_same, s.kind_same c) refl;
+  comp_same = λ b. rw (s.comp_same b) refl;
+  overall_same = overall_next n p e lp ∙ (ap (next_local (gives e.op e.reply)) s.overall_same ∙ sym (overall_next n q e lq));
+}
+
+-- ---- after an entry that changes nothing
+
+-- the entry makes, starts, halts and kills nothing, and changes no overall verdict
+pub record ChangesNothing (past : List Entry) (e : Entry) : Type 0 where
+  pub made : created e.op e.reply ≡ None
+  pub no_run : (b : ℕ) → started_on e b ≡ None
+  pub no_start : (c : ℕ) → start_in e c ≡ None
+  pub no_halt : (c : ℕ) → halts (comp_of past e.caller.0) e c ≡ false
+  pub no_gain : next_local (gives e.op e.reply) (overall past) ≡ overall past
+
+none_killed : (past : List Entry) (e : Entry) → ChangesNothing past e → (c : ℕ) → kills e c ≡ false
+none_killed past e u c = by_test (kills e c) refl
+  where
+    by_test : (t : Bool) → kills e c ≡ t → t ≡ false
+    by_test false k = refl
+    by_test true k = let h = kill_halts (comp_of past e.caller.0) e c k in let j = u.no_halt c in absurd cc
+
+kept_by : (t : Bool) (ph : Phase) → (t ≡ false → ph ≡ P.Inactive) → (if t then ph else P.Inactive) ≡ ph
+kept_by true ph h = refl
+kept_by false ph h = sym (h refl)
+
+first_kept : (o : Option Comp) → first_some o None ≡ o
+first_kept (Some x) = refl
+first_kept None = refl
+
+kind_kept : (t x : Bool) → (t ≡ false → x ≡ false) → (if t then x else false) ≡ x
+kind_kept true x h = refl
+kind_kept false x h = sym (h refl)
+
+pub alike_unchanged : (n : ℕ) (past : List Entry) (e : Entry) → IsLegal n (e ∷ past) → ChangesNothing past e → IsAlike (e ∷ past) past
+alike_unchanged n past e legal u = record {
+  comps_same = ap (λ o. add_new o (comps past)) u.made;
+  phase_same = λ c.
+      phase_next n past e c legal
+      ∙ (rw (none_killed past e u c, u.no_start c, u.no_halt c) refl
+      ∙ kept_by (exists past c) (phase past c) (λ k. ap (λ (s : ComponentState). s.phase) (fresh n past c legal.1 k)));
+  kind_same = λ c. rw u.made (kind_kept (exists past c) (is_alive_type past c) (λ k. ap (λ (s : ComponentState). s.alive_type) (fresh n past c legal.1 k)));
+  comp_same = λ b. ap (first_some (comp_of past b)) (u.no_run b) ∙ first_kept (comp_of past b);
+  overall_same = overall_next n past e legal ∙ u.no_gain;
+}

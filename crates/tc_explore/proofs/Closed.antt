@@ -1,0 +1,119 @@
+-- When what comes after a state is seen, or its verdict is found.
+use Rattle.std.proofs.Common.{ℕ, ◌≡◌, ◌+◌, ◌<◌, Bool, true, false, Some, List, ◌∷◌, ◌++◌, length, reverse, nat_lt, refl, ap, sym, subst, ◌∙◌, arith}
+use Rattle.std.proofs.lemmas.List.{append_assoc}
+use Rattle.std.proofs.lemmas.Bool.Decides.{nat_tests}
+use Rattle.tc_verdict.specs.declared.run.Run.{Run}
+use Rattle.tc_entry.specs.declared.entry.Entry.{Entry}
+use Rattle.tc_entry.specs.declared.op.Op.{Op}
+use Rattle.tc_entry.specs.declared.reply.Reply.{Reply}
+use Rattle.tc_entry.specs.Reply.{is_fault}
+use Rattle.tc_step.specs.Steps.{ScriptView}
+use Rattle.tc_table.specs.Case.{Case, past_of}
+use Rattle.tc_table.specs.History.{is_over}
+use Rattle.tc_table.specs.Local.{overall}
+use Rattle.tc_table.specs.Answers.{answer}
+use Rattle.tc_explore.specs.declared.witness.Witness.{Witness}
+use Rattle.tc_explore.specs.Told.{is_found}
+use Rattle.tc_explore.specs.Course.{turn, taken, IsTurn, IsCourse}
+use Rattle.tc_explore.specs.Found.{IsOn, CannotGo}
+use Rattle.tc_explore.specs.Inside.Simulation.{is_quiet, goes_on, IsCovered, GoesOn, IsClosedFor}
+use Rattle.tc_explore.specs.Inside.Seen.{IsSeen, IsLonger, StandsOn, IsAfter, IsRunClosed}
+use Rattle.tc_explore.proofs.Seeing.{closed_for_longer, covered_by}
+
+-- what a copy of a course has called, it has called
+pub with_copied : (t u v : Case) (run : Run) (op : Op) → u.behaviours ≡ t.behaviours → u.history ≡ t.history → past_of v ≡ taken u.behaviours (past_of u) run op ∷ past_of u →
+    past_of v ≡ taken t.behaviours (past_of t) run op ∷ past_of t
+with_copied t u v run op n h is =
+    let past : past_of u ≡ past_of t = ap reverse h in
+    is ∙ (ap (λ m. taken m (past_of u) run op ∷ past_of u) n ∙ ap (λ x. taken t.behaviours x run op ∷ x) past)
+
+pub on_copied : (scripts : List ScriptView) (t u v : Case) (run : Run) (op : Op) → IsOn scripts t → u.behaviours ≡ t.behaviours → u.history ≡ t.history → v.behaviours ≡ u.behaviours →
+    past_of v ≡ taken u.behaviours (past_of u) run op ∷ past_of u → IsTurn scripts (past_of t) (taken t.behaviours (past_of t) run op) → IsOn scripts v
+on_copied scripts t u v run op on n h m is turn =
+    let c : IsCourse scripts (taken t.behaviours (past_of t) run op ∷ past_of t) = (turn, on.course) in
+    record { behaviours = m ∙ (n ∙ on.behaviours); course = subst (IsCourse scripts) (sym (with_copied t u v run op n h is)) c }
+
+-- the case is over, and its verdict found
+pub after_over : (scripts : List ScriptView) (states : List Case) (found : List Witness) (q : List Entry) (e : Entry) (u : Case) → past_of u ≡ e ∷ q → is_over (past_of u) ≡ true →
+    is_found found (overall (past_of u)) ≡ true → IsAfter scripts states found q e
+after_over scripts states found q e u is over told = record {
+  over = λ h. ap (λ x. is_found found (overall x)) (sym is) ∙ told;
+  more = λ h. let was : is_over (e ∷ q) ≡ true = ap is_over (sym is) ∙ over in absurd cc;
+}
+
+-- it is not over, and a state that is seen stands for it
+pub after_seen : (scripts : List ScriptView) (states : List Case) (found : List Witness) (q : List Entry) (e : Entry) (u v : Case) → past_of u ≡ e ∷ q → is_over (past_of u) ≡ false →
+    StandsOn scripts u v → IsSeen states (past_of v) → IsAfter scripts states found q e
+after_seen scripts states found q e u v is going stands seen = record {
+  over = λ h. let was : is_over (e ∷ q) ≡ false = ap is_over (sym is) ∙ going in absurd cc;
+  more = λ h. subst (IsCovered scripts (IsSeen states)) is (covered_by scripts states u v stands seen);
+}
+
+pub ruleset closed_rules = (with_copied, on_copied, after_over, after_seen)
+
+-- ---- one run
+
+entry_of : Run → Op → Reply → Entry
+entry_of run op reply = record { caller = run; op = op; reply = reply }
+
+-- a run has one next call
+same_entry : (scripts : List ScriptView) (q : List Entry) (e d : Entry) → IsTurn scripts q e → IsTurn scripts q d → e.caller.0 ≡ d.caller.0 → e ≡ d
+unfolding entry_of
+same_entry scripts q e d h k own =
+    let turns : turn scripts q e.caller.0 ≡ turn scripts q d.caller.0 = ap (turn scripts q) own in
+    let mine : turn scripts q e.caller.0 ≡ Some e.op = h.turn in
+    let others : turn scripts q d.caller.0 ≡ Some d.op = k.turn in
+    let some : Some e.op ≡ Some d.op = cc in
+    let op_is : e.op ≡ d.op = cc in
+    let mine_is : e.reply ≡ answer (length scripts) q e.caller.0 e.op = h.reply in
+    let others_is : d.reply ≡ answer (length scripts) q d.caller.0 d.op = k.reply in
+    let reply_is : e.reply ≡ d.reply = cc in
+    let caller_is : e.caller ≡ d.caller = same_run e.caller d.caller own in
+    let one : entry_of e.caller e.op e.reply ≡ entry_of d.caller d.op d.reply = cc in
+    one
+  where
+    same_run : (x y : Run) → x.0 ≡ y.0 → x ≡ y
+    same_run x y h = ap (λ (m : ℕ). record { 0 = m }) h
+
+pub run_cannot : (scripts : List ScriptView) (states : List Case) (found : List Witness) (q : List Entry) (b : ℕ) → CannotGo scripts q b → IsRunClosed scripts states found q b
+run_cannot scripts states found q b cannot = λ e own t on. absurd (cannot e own t)
+
+pub run_parked : (scripts : List ScriptView) (states : List Case) (found : List Witness) (n : ℕ) (q : List Entry) (run : Run) (op : Op) → IsTurn scripts q (taken n q run op) → goes_on (answer n q run.0 op) ≡ false →
+    IsRunClosed scripts states found q run.0
+run_parked scripts states found n q run op t off = λ e own h on.
+    let same : e ≡ taken n q run op = same_entry scripts q e (taken n q run op) h t own in
+    let was : goes_on e.reply ≡ goes_on (answer n q run.0 op) = ap (λ (x : Entry). goes_on x.reply) same in
+    absurd cc
+
+pub run_closed : (scripts : List ScriptView) (states : List Case) (found : List Witness) (n : ℕ) (q : List Entry) (run : Run) (op : Op) → IsTurn scripts q (taken n q run op) →
+    (is_fault (answer n q run.0 op) ≡ false → is_quiet (overall q) op ≡ false) → IsAfter scripts states found q (taken n q run op) → IsRunClosed scripts states found q run.0
+run_closed scripts states found n q run op t loud after = λ e own h on.
+    let same : taken n q run op ≡ e = sym (same_entry scripts q e (taken n q run op) h t own) in
+    subst (λ x. IsClosedFor scripts (IsSeen states) found q x) same (record { loud = loud; over = after.over; more = after.more })
+
+pub goes_on_by : (scripts : List ScriptView) (n : ℕ) (q : List Entry) (run : Run) (op : Op) → IsTurn scripts q (taken n q run op) → goes_on (answer n q run.0 op) ≡ true → is_fault (answer n q run.0 op) ≡ false → GoesOn scripts q
+goes_on_by scripts n q run op t on plain = record { entry = taken n q run op; turn = t; on = on; no_fault = plain }
+
+pub ruleset run_rules = (run_cannot, run_parked, run_closed, goes_on_by)
+
+-- ---- all runs
+
+run_longer : (scripts : List ScriptView) (a b : List Case) (f g : List Witness) (q : List Entry) (k : ℕ) → IsLonger a b → IsLonger f g → IsRunClosed scripts a f q k → IsRunClosed scripts b g q k
+run_longer scripts a b f g q k states found closed = λ e own t on. closed_for_longer scripts a b f g q e states found (closed e own t on)
+
+pub runs_longer : (scripts : List ScriptView) (a b : List Case) (f g : List Witness) (q : List Entry) (n : ℕ) → IsLonger a b → IsLonger f g → ((k : ℕ) → k < n → IsRunClosed scripts a f q k) →
+    (k : ℕ) → k < n → IsRunClosed scripts b g q k
+runs_longer scripts a b f g q n states found closed k less = run_longer scripts a b f g q k states found (closed k less)
+
+pub runs_more : (scripts : List ScriptView) (a b : List Case) (f g : List Witness) (q : List Entry) (n : ℕ) → IsLonger a b → IsLonger f g → ((k : ℕ) → k < n → IsRunClosed scripts a f q k) → IsRunClosed scripts b g q n →
+    (k : ℕ) → k < n + 1 → IsRunClosed scripts b g q k
+runs_more scripts a b f g q n states found closed last k less = by_place (nat_lt k n) refl
+  where
+    by_place : (t : Bool) → nat_lt k n ≡ t → IsRunClosed scripts b g q k
+    by_place true h = run_longer scripts a b f g q k states found (closed k (grind (arith, nat_tests)))
+    by_place false h = let same : n ≡ k = grind (arith, nat_tests) in subst (IsRunClosed scripts b g q) same last
+
+pub longer_then : {A : Type 0} (a b c : List A) → IsLonger a b → IsLonger b c → IsLonger a c
+longer_then a b c h k = (h.0 ++ k.0, k.1 ∙ (ap (λ x. x ++ k.0) h.1 ∙ append_assoc a h.0 k.0))
+
+pub ruleset runs_rules = (runs_longer, runs_more, longer_then)

@@ -1,0 +1,595 @@
+-- Where whatever comes after each seen history is seen, or its verdict is found, the verdict of every complete course is found.
+use Rattle.std.proofs.Common.{ℕ, suc, ◌≡◌, ◌<◌, ◌≤◌, ◌==◌, ◌&&◌, ◌||◌, ⊎_elim, not, nat_lt, if◌then◌else◌, Bool, true, false, Option, Some, None, is_some, MatchOption, List, [], ◌∷◌, length, slice_get, refl, ap, sym, subst, ◌∙◌, arith}
+use Rattle.std.proofs.lemmas.Bool.Decides.{nat_tests}
+use Rattle.tc_verdict.specs.declared.verdict.Verdict.{Verdict}
+use Rattle.tc_verdict.specs.declared.verdict.Verdict.TheVariants as V
+use Rattle.tc_verdict.specs.Verdict.{worse}
+use Rattle.tc_entry.specs.declared.comp.Comp.{Comp}
+use Rattle.tc_entry.specs.declared.entry.Entry.{Entry}
+use Rattle.tc_entry.specs.declared.op.Op.{Op}
+use Rattle.tc_entry.specs.declared.op.Op.TheVariants as O
+use Rattle.tc_entry.specs.declared.op.Target.{Target}
+use Rattle.tc_entry.specs.declared.phase.Phase.{Phase}
+use Rattle.tc_entry.specs.declared.phase.Phase.TheVariants as P
+use Rattle.tc_entry.specs.declared.reply.Reply.{Reply}
+use Rattle.tc_entry.specs.declared.reply.Reply.TheVariants as R
+use Rattle.tc_entry.specs.declared.reply.Fault.{Fault}
+use Rattle.tc_entry.specs.declared.reply.Fault.TheVariants as F
+use Rattle.tc_entry.specs.Reply.{is_ended, is_fault}
+use Rattle.tc_step.specs.Steps.{ScriptView}
+use Rattle.tc_table.specs.declared.awaited.Awaited.{Awaited}
+use Rattle.tc_table.specs.History.{comp_of, comps, exists, started_on, ends_case, is_over}
+use Rattle.tc_table.specs.Phases.{phase}
+use Rattle.tc_table.specs.Local.{overall}
+use Rattle.tc_table.specs.Waiting.{holds, waiting, waits_in_vain, is_still, is_stuck, awaited}
+use Rattle.tc_table.specs.Faults.{fault}
+use Rattle.tc_table.specs.Answers.{answer, plain_answer, wake_reply, is_active, is_active_on, is_run_of}
+use Rattle.tc_table.specs.Legal.{IsLegal}
+use Rattle.tc_table.proofs.Deciding.{equal_if, and_right}
+use Rattle.tc_table.proofs.Over.{on_existing, all_over}
+use Rattle.tc_table.proofs.Stuck.{one_false}
+use Rattle.tc_table.proofs.Going.{started_by_entry}
+use Rattle.tc_explore.specs.declared.witness.Witness.{Witness}
+use Rattle.tc_explore.specs.Course.{stand, after_own, after_other_by, is_wake, is_idle_by, wake_or, wake_if, call_of, turn, steps_in, script_of, IsTurn, IsCourse, IsComplete}
+use Rattle.tc_explore.specs.Told.{is_found}
+use Rattle.tc_explore.specs.Inside.Alike.{IsAlike}
+use Rattle.tc_explore.specs.Inside.Simulation.{is_quiet, goes_on, IsQuietAt, call_at, IsWakeOf, IsBefore, IsParkedAt, IsFollowed, IsFor, IsCovered, GoesOn, IsClosed}
+use Rattle.tc_explore.proofs.Legality.{course_legal}
+use Rattle.tc_explore.proofs.Alike.{ChangesNothing, alike_self, alike_sym, alike_then, alike_unchanged, alike_step, active_alike, fault_alike, holds_alike, answer_alike, is_plain_call, overall_next}
+use Rattle.tc_explore.proofs.Standings.{HasTurn, has_turn, turn_of, never_wake, stand_own, stand_comp, stand_unstarted, unstarted, waiting_wake, wake_after_other, run_in_range}
+use Rattle.tc_explore.proofs.Simulation.{unchanged_ended, unchanged_quiet, unchanged_wait, unchanged_wake, some_if, stutter, both}
+use Rattle.tc_explore.proofs.Places.{not_ending, quiet_sets_no_wake, quiet_no_wake, behind, parked, together, woken, followed_self, keeps_quiet}
+
+-- what is found of a course, or stands for it
+pub record IsTold (scripts : List ScriptView) (Seen : List Entry → Type 0) (found : List Witness) (p : List Entry) : Type 0 where
+  pub over : is_over p ≡ true → is_found found (overall p) ≡ true
+  pub going : is_over p ≡ false → (r : List Entry) × IsClosed scripts Seen found r × IsFor scripts r p
+
+-- each seen history is closed, or another that stands for the same is
+abbrev pub SeenIsClosed : List ScriptView → (List Entry → Type 0) → List Witness → Type 0
+SeenIsClosed scripts Seen found =
+    (r p : List Entry) → Seen r → IsCourse scripts p → IsFor scripts r p → (s : List Entry) × IsClosed scripts Seen found s × IsFor scripts s p
+
+-- ---- replies
+
+answer_fault : (n : ℕ) (past : List Entry) (b : ℕ) (op : Op) (f : Fault) → is_active past b ≡ true → fault n past b op ≡ Some f → answer n past b op ≡ R.Fault f
+unfolding answer
+answer_fault n past b op f act h = rw (act, h) refl
+
+answer_plain : (n : ℕ) (past : List Entry) (b : ℕ) (op : Op) → is_active past b ≡ true → fault n past b op ≡ None → answer n past b op ≡ plain_answer past b op
+unfolding answer
+answer_plain n past b op act h = rw (act, h) refl
+
+answer_inactive : (n : ℕ) (past : List Entry) (b : ℕ) (op : Op) → is_active past b ≡ false → answer n past b op ≡ R.Ended
+unfolding answer
+answer_inactive n past b op act = rw act refl
+
+matched_or_parked : (t : Bool) → is_ended (if t then R.Matched else R.Parked) ≡ false
+matched_or_parked true = refl
+matched_or_parked false = refl
+
+woken_or_not : (t s : Bool) → is_ended (if t then R.Matched else if s then R.Fault F.Stuck else R.Parked) ≡ false
+woken_or_not true s = refl
+woken_or_not false true = refl
+woken_or_not false false = refl
+
+plain_not_ended : (past : List Entry) (b : ℕ) (op : Op) (c : Comp) → comp_of past b ≡ Some c → is_ended (plain_answer past b op) ≡ false
+plain_not_ended past b (O.Wait k t) c on = matched_or_parked (holds past (record { killed = k; target = t }))
+plain_not_ended past b (O.Wake k t) c on = woken_or_not (holds past (record { killed = k; target = t })) ((b == 0) && is_stuck past)
+plain_not_ended past b O.GetVerdict c on = rw on refl
+plain_not_ended past b _ c on = refl
+
+not_ended : (n : ℕ) (past : List Entry) (b : ℕ) (op : Op) (c : Comp) → is_active past b ≡ true → comp_of past b ≡ Some c → is_ended (answer n past b op) ≡ false
+not_ended n past b op c act on = by_fault (fault n past b op) refl
+  where
+    by_fault : (o : Option Fault) → fault n past b op ≡ o → is_ended (answer n past b op) ≡ false
+    by_fault None k = ap is_ended (answer_plain n past b op act k) ∙ plain_not_ended past b op c on
+    by_fault (Some f) k = ap is_ended (answer_fault n past b op f act k)
+
+-- a quiet call that is no error is answered at once
+quiet_reply : (w : Verdict) (past : List Entry) (b : ℕ) (op : Op) (c : Comp) → comp_of past b ≡ Some c → is_quiet w op ≡ true →
+    (goes_on (plain_answer past b op) ≡ true) × (is_fault (plain_answer past b op) ≡ false)
+quiet_reply w past b (O.SetVerdict v) c on h = (refl, refl)
+quiet_reply w past b O.GetVerdict c on h = rw on (refl, refl)
+quiet_reply w past b (O.Running t) c on h = (refl, refl)
+quiet_reply w past b (O.Alive t) c on h = (refl, refl)
+quiet_reply w past b (O.Done t) c on h = (refl, refl)
+quiet_reply w past b (O.Killed t) c on h = (refl, refl)
+quiet_reply w past b _ c on h = absurd cc
+
+-- only a Wait is parked, or a Wake
+parks_wait : (w : Verdict) (past : List Entry) (b : ℕ) (op : Op) → is_wake op ≡ false → is_quiet w op ≡ false → plain_answer past b op ≡ R.Parked → (k : Bool) × (t : Target) × (op ≡ O.Wait k t)
+parks_wait w past b (O.Wait k t) wk q h = (k, t, refl)
+parks_wait w past b (O.Wake k t) wk q h = absurd cc
+parks_wait w past b O.GetVerdict wk q h = absurd cc
+parks_wait w past b (O.SetVerdict v) wk q h = absurd cc
+parks_wait w past b _ wk q h = absurd cc
+
+loud_is_plain : (w : Verdict) (op : Op) → is_wake op ≡ false → is_quiet w op ≡ false → is_plain_call op ≡ true
+loud_is_plain w (O.Running t) wk q = absurd cc
+loud_is_plain w (O.Alive t) wk q = absurd cc
+loud_is_plain w (O.Done t) wk q = absurd cc
+loud_is_plain w (O.Killed t) wk q = absurd cc
+loud_is_plain w O.GetVerdict wk q = absurd cc
+loud_is_plain w (O.Wake k t) wk q = absurd cc
+loud_is_plain w _ wk q = refl
+
+loud_sets_no_wake : (op : Op) (r : Reply) → goes_on r ≡ true → wake_if op r ≡ None
+loud_sets_no_wake op R.Parked h = absurd cc
+loud_sets_no_wake op _ h = refl
+
+idle_never : (op : Op) (r : Reply) → is_wake op ≡ false → is_idle_by op r ≡ false
+idle_never op R.Parked h = h
+idle_never op _ h = refl
+
+error_is_worst : (w : Verdict) → worse w V.Error ≡ V.Error
+error_is_worst V.None = refl
+error_is_worst V.Pass = refl
+error_is_worst V.Inconc = refl
+error_is_worst V.Fail = refl
+error_is_worst V.Error = refl
+
+or_left : (a b : Bool) → (a || b) ≡ false → a ≡ false
+or_left true b h = absurd cc
+or_left false b h = refl
+
+-- ---- one more turn of p
+
+-- p and one more turn, where q stands for p and is closed
+pub record AtTurn (scripts : List ScriptView) (Seen : List Entry → Type 0) (found : List Witness) (p q : List Entry) (e : Entry) : Type 0 where
+  pub some : 1 ≤ length scripts
+  pub course : IsCourse scripts (e ∷ p)
+  pub closed : IsClosed scripts Seen found q
+  pub for : IsFor scripts q p
+  pub going : is_over p ≡ false
+  pub seen : SeenIsClosed scripts Seen found
+
+-- and its caller goes on, on this component
+pub record IsGoing (scripts : List ScriptView) (p q : List Entry) (e : Entry) (me : Comp) : Type 0 where
+  pub in_p : is_active p e.caller.0 ≡ true
+  pub in_q : is_active q e.caller.0 ≡ true
+  pub on_p : comp_of p e.caller.0 ≡ Some me
+  pub on_q : comp_of q e.caller.0 ≡ Some me
+  pub stand_p : (stand p e.caller.0).comp ≡ Some me
+  pub stand_q : (stand q e.caller.0).comp ≡ Some me
+  pub followed : IsFollowed scripts q e.caller.0 (stand p e.caller.0) (stand q e.caller.0)
+  pub stays : (stand q e.caller.0).left ≡ false
+  pub in_range : e.caller.0 < length scripts
+
+-- what q would call
+turn_in : (scripts : List ScriptView) (p q : List Entry) (e : Entry) (me : Comp) → IsGoing scripts p q e me →
+    turn scripts q e.caller.0 ≡ Some (call_at scripts e.caller.0 (stand q e.caller.0) (stand q e.caller.0).comp (stand q e.caller.0).called)
+turn_in scripts p q e me g =
+    turn_of scripts q e.caller.0 _
+    (record { me = me; on = g.stand_q; stays = g.stays; calls = rw (g.followed.no_wake, g.stand_q) refl })
+
+-- a run that an entry starts, or that is not started
+fresh_stand : (past : List Entry) (e : Entry) (b : ℕ) → (e.caller.0 == b) ≡ false → stand past b ≡ unstarted → stand (e ∷ past) b ≡ after_other_by None e b unstarted
+fresh_stand past e b other un = rw (other, un) refl
+
+module _ {scripts : List ScriptView} {Seen : List Entry → Type 0} {found : List Witness} {p q : List Entry} {e : Entry} where
+  told_stutter : AtTurn scripts Seen found p q e → ChangesNothing p e → IsFor scripts q (e ∷ p) → IsTold scripts Seen found (e ∷ p)
+  told_stutter h u f =
+      let none : ends_case e ≡ false = or_left (ends_case e) _ (u.no_halt 0) in
+      let on : is_over (e ∷ p) ≡ false = rw (none, h.going) refl in
+      record { over = λ o. absurd cc; going = λ o. (q, h.closed, f) }
+
+  -- a turn of q that p has too
+  told_both : AtTurn scripts Seen found p q e → (d : Entry) → IsTurn scripts q d → d.caller.0 < length scripts → goes_on d.reply ≡ true →
+      overall (e ∷ p) ≡ overall (d ∷ q) → ends_case e ≡ ends_case d → (is_over (e ∷ p) ≡ false → IsFor scripts (d ∷ q) (e ∷ p)) → IsTold scripts Seen found (e ∷ p)
+  told_both h d turn within on same ends f =
+      let c = h.closed.each d within turn on in
+      let over_p : is_over (e ∷ p) ≡ ends_case e = rw h.going (or_no (ends_case e)) in
+      let over_q : is_over (d ∷ q) ≡ ends_case d = rw h.closed.going (or_no (ends_case d)) in
+      let over_same : is_over (e ∷ p) ≡ is_over (d ∷ q) = over_p ∙ (ends ∙ sym over_q) in
+      record {
+        over = λ o. ap (is_found found) same ∙ c.over (sym over_same ∙ o);
+        going = λ o.
+            let r = c.more (sym over_same ∙ o) (e ∷ p) h.course (f o) in
+            h.seen r.0 (e ∷ p) r.1 h.course r.2;
+      }
+    where
+      or_no : (a : Bool) → (a || false) ≡ a
+      or_no true = refl
+      or_no false = refl
+
+  -- an error of both
+  told_fault : AtTurn scripts Seen found p q e → (d : Entry) → IsTurn scripts q d → d.caller.0 ≡ e.caller.0 → e.caller.0 < length scripts → (x : Fault) → e.reply ≡ R.Fault x → d.reply ≡ R.Fault x →
+      IsTold scripts Seen found (e ∷ p)
+  told_fault h d turn callers within x re rd =
+      let lq : IsLegal (length scripts) (d ∷ q) = course_legal scripts (d ∷ q) (turn, h.closed.course) in
+      let vp : overall (e ∷ p) ≡ worse (overall p) V.Error = overall_next (length scripts) p e (course_legal scripts (e ∷ p) h.course) ∙ rw re refl in
+      let vq : overall (d ∷ q) ≡ worse (overall q) V.Error = overall_next (length scripts) q d lq ∙ rw rd refl in
+      let ends_e : ends_case e ≡ true = rw re refl in
+      let ends_d : ends_case d ≡ true = rw rd refl in
+      let over_e : is_over (e ∷ p) ≡ true = rw ends_e refl in
+      told_both h d turn (rw callers within) (rw rd refl) (vp ∙ (ap (λ w. worse w V.Error) h.for.alike.overall_same ∙ sym vq)) (ends_e ∙ sym ends_d) (λ o. absurd cc)
+
+  -- a quiet call of p that q has made
+  told_behind : (me : Comp) → AtTurn scripts Seen found p q e → IsGoing scripts p q e me → (stand p e.caller.0).wake ≡ None → (stand p e.caller.0).called < (stand q e.caller.0).called →
+      IsQuietAt (length scripts) q e.caller.0 e.op → IsTold scripts Seen found (e ∷ p)
+  told_behind me h g none less quiet =
+      let quiet_p : is_quiet (overall p) e.op ≡ true = rw h.for.alike.overall_same quiet.quiet in
+      let no_fault : fault (length scripts) p e.caller.0 e.op ≡ None = fault_alike h.for.alike (length scripts) e.caller.0 e.op ∙ quiet.no_fault in
+      let is : e.reply ≡ plain_answer p e.caller.0 e.op = h.course.0.reply ∙ answer_plain (length scripts) p e.caller.0 e.op g.in_p no_fault in
+      let plain : is_fault e.reply ≡ false = ap is_fault is ∙ (quiet_reply (overall p) p e.caller.0 e.op me g.on_p quiet_p).1 in
+      let goes : is_ended e.reply ≡ false = ap is_ended is ∙ plain_not_ended p e.caller.0 e.op me g.on_p in
+      let u = unchanged_quiet p e quiet_p plain in
+      told_stutter h u (stutter scripts p q e h.course h.closed.course h.for u (λ act.
+      subst (λ s. IsFollowed scripts q e.caller.0 s (stand q e.caller.0)) (sym (stand_own p e e.caller.0 refl))
+      (behind scripts q e.caller.0 (stand p e.caller.0) (stand q e.caller.0) e g.followed none less u.made
+      (not_ending p e (stand p e.caller.0).comp me u g.stand_p g.on_p goes) (quiet_no_wake (overall p) e.op quiet_p) (quiet_sets_no_wake (overall p) e.op e.reply quiet_p))))
+
+  -- a Wait of p that is parked
+  told_parked : (me : Comp) → AtTurn scripts Seen found p q e → IsGoing scripts p q e me → (k : Bool) (t : Target) → e.op ≡ O.Wait k t → e.reply ≡ R.Parked → (stand p e.caller.0).called ≡ (stand q e.caller.0).called →
+      call_at scripts e.caller.0 (stand q e.caller.0) (stand q e.caller.0).comp (stand q e.caller.0).called ≡ e.op → IsTold scripts Seen found (e ∷ p)
+  told_parked me h g k t is r same calls =
+      let of : IsWakeOf e.op (O.Wake k t) = record { killed = k; target = t; waits = is; wakes = refl } in
+      let u = unchanged_wait p e (O.Wake k t) of (rw r refl) in
+      told_stutter h u (stutter scripts p q e h.course h.closed.course h.for u (λ act.
+      subst (λ s. IsFollowed scripts q e.caller.0 s (stand q e.caller.0)) (sym (stand_own p e e.caller.0 refl))
+      (parked scripts q e.caller.0 (stand p e.caller.0) (stand q e.caller.0) e (O.Wake k t) g.followed same u.made
+      (not_ending p e (stand p e.caller.0).comp me u g.stand_p g.on_p (rw r refl)) (rw is refl) (rw (is, r) refl) (record { killed = k; target = t; waits = calls ∙ is; wakes = refl }))))
+
+  told_on : (me : Comp) → AtTurn scripts Seen found p q e → IsGoing scripts p q e me → (stand p e.caller.0).called ≡ (stand q e.caller.0).called → is_wake e.op ≡ false →
+      IsTurn scripts q e → goes_on e.reply ≡ true → IsTold scripts Seen found (e ∷ p)
+  told_on me h g same wk turn on =
+      let lp = course_legal scripts (e ∷ p) h.course in
+      let cq : IsCourse scripts (e ∷ q) = (turn, h.closed.course) in
+      let lq = course_legal scripts (e ∷ q) cq in
+      let alike = alike_step (length scripts) p q e lp lq h.for.alike in
+      told_both h e turn g.in_range on alike.overall_same refl (λ o.
+      both scripts p q e e h.course cq h.for refl alike (keeps_quiet (length scripts) q e lq)
+      (λ act.
+      subst (λ s. IsFollowed scripts (e ∷ q) e.caller.0 s (stand (e ∷ q) e.caller.0)) (sym (stand_own p e e.caller.0 refl))
+      (subst (λ t. IsFollowed scripts (e ∷ q) e.caller.0 (after_own e (stand p e.caller.0)) t) (sym (stand_own q e e.caller.0 refl))
+      (together scripts q (e ∷ q) e.caller.0 (stand p e.caller.0) (stand q e.caller.0) e g.followed same wk (loud_sets_no_wake e.op e.reply on))))
+      (λ b other none act.
+      let up = fresh_stand p e b other (stand_unstarted scripts p b h.course.1 (h.for.alike.comp_same b ∙ none)) in
+      let uq = fresh_stand q e b other (stand_unstarted scripts q b h.closed.course none) in
+      subst (λ s. IsFollowed scripts (e ∷ q) b s (stand (e ∷ q) b)) (sym up)
+      (subst (λ t. IsFollowed scripts (e ∷ q) b (after_other_by None e b unstarted) t) (sym uq)
+      (followed_self scripts (e ∷ q) b (after_other_by None e b unstarted) (wake_after_other None (started_on e b) e b unstarted refl))))
+      g.in_q)
+
+  -- a call of both that is not quiet
+  told_loud : (me : Comp) → AtTurn scripts Seen found p q e → IsGoing scripts p q e me → (stand p e.caller.0).called ≡ (stand q e.caller.0).called →
+      call_at scripts e.caller.0 (stand q e.caller.0) (stand q e.caller.0).comp (stand q e.caller.0).called ≡ e.op → is_wake e.op ≡ false → is_quiet (overall q) e.op ≡ false →
+      IsTold scripts Seen found (e ∷ p)
+  told_loud me h g same calls wk loud = by_reply e.reply refl
+    where
+      reply_q : e.reply ≡ answer (length scripts) q e.caller.0 e.op
+      reply_q = h.course.0.reply ∙ answer_alike h.for.alike (length scripts) e.caller.0 e.op (loud_is_plain (overall q) e.op wk loud)
+
+      turn_q : IsTurn scripts q e
+      turn_q = record { turn = turn_in scripts p q e me g ∙ ap Some calls; reply = reply_q; not_idle = h.course.0.not_idle }
+
+      by_fault : e.reply ≡ R.Parked → (o : Option Fault) → fault (length scripts) q e.caller.0 e.op ≡ o → IsTold scripts Seen found (e ∷ p)
+      by_fault r (Some x) k =
+          let f : e.reply ≡ R.Fault x = reply_q ∙ answer_fault (length scripts) q e.caller.0 e.op x g.in_q k in
+          let no : is_fault R.Parked ≡ true = ap is_fault (sym r ∙ f) in
+          absurd cc
+      by_fault r None k =
+          let plain : plain_answer q e.caller.0 e.op ≡ R.Parked = sym (answer_plain (length scripts) q e.caller.0 e.op g.in_q k) ∙ (sym reply_q ∙ r) in
+          let w = parks_wait (overall q) q e.caller.0 e.op wk loud plain in
+          told_parked me h g w.0 w.1 w.2 r same calls
+
+      by_reply : (r : Reply) → e.reply ≡ r → IsTold scripts Seen found (e ∷ p)
+      by_reply R.Ended r =
+          let no : is_ended (answer (length scripts) q e.caller.0 e.op) ≡ false = not_ended (length scripts) q e.caller.0 e.op me g.in_q g.on_q in
+          let yes : is_ended (answer (length scripts) q e.caller.0 e.op) ≡ true = ap is_ended (sym reply_q ∙ r) in
+          absurd cc
+      by_reply R.Parked r = by_fault r (fault (length scripts) q e.caller.0 e.op) refl
+      by_reply _ r = told_on me h g same wk turn_q (ap goes_on r)
+
+  -- a quiet call of both: an error, since q has made all others
+  told_quiet : (me : Comp) → AtTurn scripts Seen found p q e → IsGoing scripts p q e me →
+      call_at scripts e.caller.0 (stand q e.caller.0) (stand q e.caller.0).comp (stand q e.caller.0).called ≡ e.op → is_wake e.op ≡ false → is_quiet (overall q) e.op ≡ true →
+      IsTold scripts Seen found (e ∷ p)
+  told_quiet me h g calls wk quiet = by_fault (fault (length scripts) q e.caller.0 e.op) refl
+    where
+      by_fault : (o : Option Fault) → fault (length scripts) q e.caller.0 e.op ≡ o → IsTold scripts Seen found (e ∷ p)
+      by_fault (Some x) k =
+          let d : Entry = record { caller = e.caller; op = e.op; reply = R.Fault x } in
+          let turn : IsTurn scripts q d = record { turn = turn_in scripts p q e me g ∙ ap Some calls; reply = sym (answer_fault (length scripts) q e.caller.0 e.op x g.in_q k); not_idle = refl } in
+          let re : e.reply ≡ R.Fault x = h.course.0.reply ∙ answer_fault (length scripts) p e.caller.0 e.op x g.in_p (fault_alike h.for.alike (length scripts) e.caller.0 e.op ∙ k) in
+          told_fault h d turn refl g.in_range x re refl
+      by_fault None k =
+          let d : Entry = record { caller = e.caller; op = e.op; reply = plain_answer q e.caller.0 e.op } in
+          let r = quiet_reply (overall q) q e.caller.0 e.op me g.on_q quiet in
+          let turn : IsTurn scripts q d = record {
+            turn = turn_in scripts p q e me g ∙ ap Some calls;
+            reply = sym (answer_plain (length scripts) q e.caller.0 e.op g.in_q k);
+            not_idle = idle_never e.op (plain_answer q e.caller.0 e.op) wk;
+          } in
+          let no : is_quiet (overall q) e.op ≡ false = (h.closed.each d g.in_range turn r.0).loud r.1 in
+          absurd cc
+
+  -- a step, where no Wake is to come
+  told_place : (me : Comp) → AtTurn scripts Seen found p q e → IsGoing scripts p q e me → (stand p e.caller.0).wake ≡ None →
+      call_of me (stand p e.caller.0).bound (slice_get (steps_in (script_of scripts e.caller.0)) (stand p e.caller.0).called) ≡ e.op → IsTold scripts Seen found (e ∷ p)
+  told_place me h g none calls = by_less (nat_lt (stand p e.caller.0).called (stand q e.caller.0).called) refl
+    where
+      before : IsBefore scripts q e.caller.0 (stand p e.caller.0) (stand q e.caller.0)
+      before = subst (λ o. MatchOption o (IsBefore scripts q e.caller.0 (stand p e.caller.0) (stand q e.caller.0)) (λ wake. IsParkedAt scripts e.caller.0 (stand p e.caller.0) (stand q e.caller.0) wake)) none g.followed.place
+
+      call_q : call_at scripts e.caller.0 (stand q e.caller.0) (stand q e.caller.0).comp (stand p e.caller.0).called ≡ e.op
+      call_q =
+          ap (λ o. call_at scripts e.caller.0 (stand q e.caller.0) o (stand p e.caller.0).called) g.stand_q
+          ∙ (ap (λ bound. call_of me bound (slice_get (steps_in (script_of scripts e.caller.0)) (stand p e.caller.0).called)) (sym g.followed.bound) ∙ calls)
+
+      wk : is_wake e.op ≡ false
+      wk = ap is_wake (sym calls) ∙ never_wake me (stand p e.caller.0).bound (slice_get (steps_in (script_of scripts e.caller.0)) (stand p e.caller.0).called)
+
+      by_quiet : (stand p e.caller.0).called ≡ (stand q e.caller.0).called → (t : Bool) → is_quiet (overall q) e.op ≡ t → IsTold scripts Seen found (e ∷ p)
+      by_quiet same true k = told_quiet me h g (ap (λ m. call_at scripts e.caller.0 (stand q e.caller.0) (stand q e.caller.0).comp m) (sym same) ∙ call_q) wk k
+      by_quiet same false k = told_loud me h g same (ap (λ m. call_at scripts e.caller.0 (stand q e.caller.0) (stand q e.caller.0).comp m) (sym same) ∙ call_q) wk k
+
+      by_less : (t : Bool) → nat_lt (stand p e.caller.0).called (stand q e.caller.0).called ≡ t → IsTold scripts Seen found (e ∷ p)
+      by_less true k =
+          let less : (stand p e.caller.0).called < (stand q e.caller.0).called = grind (arith, nat_tests) in
+          told_behind me h g none less (subst (λ op. IsQuietAt (length scripts) q e.caller.0 op) call_q (before.between (stand p e.caller.0).called (omega arith) less))
+      by_less false k =
+          let fewer = before.fewer in
+          let same : (stand p e.caller.0).called ≡ (stand q e.caller.0).called = grind (arith, nat_tests) in
+          by_quiet same (is_quiet (overall q) e.op) refl
+
+-- ---- a stuck case
+
+in_vain : (past : List Entry) (o : Option Awaited) → waits_in_vain past o ≡ true → (a : Awaited) × (o ≡ Some a) × (holds past a ≡ false)
+in_vain past None h = absurd cc
+in_vain past (Some a) h = (a, refl, not_not (holds past a) h)
+  where
+    not_not : (t : Bool) → not t ≡ true → t ≡ false
+    not_not true k = absurd cc
+    not_not false k = refl
+
+still_run : (past : List Entry) (b : ℕ) (ph : Phase) → is_run_of b ph ≡ true → is_still past ph ≡ true → waits_in_vain past (waiting past b) ≡ true
+still_run past b (P.Running run) r s = let same : run.0 ≡ b = equal_if run.0 b r in subst (λ x. waits_in_vain past (waiting past x) ≡ true) same s
+still_run past b P.Inactive r s = absurd cc
+still_run past b P.Stopped r s = absurd cc
+still_run past b P.Killed r s = absurd cc
+
+all_still : (past : List Entry) (c : ℕ) → is_stuck past ≡ true → exists past c ≡ true → is_still past (phase past c) ≡ true
+unfolding is_stuck exists
+all_still past c stuck there = by_test (is_still past (phase past c)) refl
+  where
+    by_test : (t : Bool) → is_still past (phase past c) ≡ t → t ≡ true
+    by_test true k = refl
+    by_test false k = let no = one_false (λ x. is_still past (phase past x)) (comps past) c there k in absurd cc
+
+-- in a stuck case each run that goes on waits in vain
+stuck_waits : (n : ℕ) (past : List Entry) (b : ℕ) → IsLegal n past → is_stuck past ≡ true → is_active past b ≡ true → (a : Awaited) × (waiting past b ≡ Some a) × (holds past a ≡ false)
+unfolding is_active
+stuck_waits n past b legal stuck act =
+    let on = some_if past b act in
+    let runs : is_run_of b (phase past on.0.0) ≡ true = ap (is_active_on past b) (sym on.1) ∙ act in
+    in_vain past (waiting past b) (still_run past b (phase past on.0.0) runs (all_still past on.0.0 stuck (on_existing n past b on.0 legal on.1)))
+
+wait_answer : (n : ℕ) (past : List Entry) (b : ℕ) (k : Bool) (t : Target) (r : Reply) → is_active past b ≡ true → holds past (record { killed = k; target = t }) ≡ false →
+    r ≡ answer n past b (O.Wait k t) → goes_on r ≡ true → is_fault r ≡ true
+wait_answer n past b k t r act unmet is on = by_fault (fault n past b (O.Wait k t)) refl
+  where
+    by_fault : (o : Option Fault) → fault n past b (O.Wait k t) ≡ o → is_fault r ≡ true
+    by_fault (Some x) j = ap is_fault (is ∙ answer_fault n past b (O.Wait k t) x act j)
+    by_fault None j =
+        let parked_is : plain_answer past b (O.Wait k t) ≡ R.Parked = rw unmet refl in
+        let off : goes_on r ≡ false = ap goes_on (is ∙ (answer_plain n past b (O.Wait k t) act j ∙ parked_is)) in
+        absurd cc
+
+active_if_on : (n : ℕ) (past : List Entry) (b : ℕ) (op : Op) (r : Reply) → r ≡ answer n past b op → goes_on r ≡ true → is_active past b ≡ true
+active_if_on n past b op r is on = by_test (is_active past b) refl
+  where
+    by_test : (t : Bool) → is_active past b ≡ t → t ≡ true
+    by_test true k = refl
+    by_test false k = let off : goes_on r ≡ false = ap goes_on (is ∙ answer_inactive n past b op k) in absurd cc
+
+same_awaited : (k : Bool) (t : Target) (wake : Op) (a : Awaited) → wake ≡ O.Wake k t → awaited wake ≡ Some a → record { killed = k; target = t } ≡ a
+same_awaited k t wake a w h = let e : awaited (O.Wake k t) ≡ Some a = ap awaited (sym w) ∙ h in let e2 : Some (record { killed = k; target = t }) ≡ Some a = e in cc
+
+module _ {scripts : List ScriptView} {p q : List Entry} where
+  -- where p is stuck no run can go on in q
+  none_goes_on : IsCourse scripts p → IsFor scripts q p → is_stuck p ≡ true → GoesOn scripts q → ⊥
+  none_goes_on cp f stuck go =
+      let d = go.entry in
+      let act_q = active_if_on (length scripts) q d.caller.0 d.op d.reply go.turn.reply go.on in
+      let act_p : is_active p d.caller.0 ≡ true = active_alike f.alike d.caller.0 ∙ act_q in
+      let w = stuck_waits (length scripts) p d.caller.0 (course_legal scripts p cp) stuck act_p in
+      let by = waiting_wake p d.caller.0 w.0 w.1 in
+      let fol = f.runs d.caller.0 act_q in
+      let at : IsParkedAt scripts d.caller.0 (stand p d.caller.0) (stand q d.caller.0) by.wake =
+      subst (λ o. MatchOption o (IsBefore scripts q d.caller.0 (stand p d.caller.0) (stand q d.caller.0)) (λ wake. IsParkedAt scripts d.caller.0 (stand p d.caller.0) (stand q d.caller.0) wake)) by.to_come fol.place in
+      let of = at.wake_of in
+      let t = has_turn scripts q d.caller.0 d.op go.turn.turn in
+      let call : call_at scripts d.caller.0 (stand q d.caller.0) (stand q d.caller.0).comp (stand q d.caller.0).called ≡ d.op =
+      ap (λ o. call_at scripts d.caller.0 (stand q d.caller.0) o (stand q d.caller.0).called) t.on
+      ∙ (ap (λ o. wake_or o (call_of t.me (stand q d.caller.0).bound (slice_get (steps_in (script_of scripts d.caller.0)) (stand q d.caller.0).called))) (sym fol.no_wake) ∙ t.calls) in
+      let op_is : d.op ≡ O.Wait of.killed of.target = sym call ∙ of.waits in
+      let a_is : record { killed = of.killed; target = of.target } ≡ w.0 = same_awaited of.killed of.target by.wake w.0 of.wakes by.for_it in
+      let no : holds q (record { killed = of.killed; target = of.target }) ≡ false = sym (holds_alike f.alike (record { killed = of.killed; target = of.target })) ∙ (ap (holds p) a_is ∙ w.2) in
+      let bad : is_fault d.reply ≡ true = wait_answer (length scripts) q d.caller.0 of.killed of.target d.reply act_q no (go.turn.reply ∙ ap (answer (length scripts) q d.caller.0) op_is) go.on in
+      let good = go.no_fault in
+      absurd cc
+
+fault_of_wait : (n : ℕ) (past : List Entry) (b : ℕ) (k : Bool) (t : Target) → fault n past b (O.Wait k t) ≡ fault n past b (O.Wake k t)
+unfolding fault
+fault_of_wait n past b k t = refl
+
+module _ {scripts : List ScriptView} {Seen : List Entry → Type 0} {found : List Witness} {p q : List Entry} {e : Entry} where
+  told_stuck : AtTurn scripts Seen found p q e → is_stuck p ≡ true → e.reply ≡ R.Fault F.Stuck → IsTold scripts Seen found (e ∷ p)
+  told_stuck h stuck r =
+      let found_error : is_found found V.Error ≡ true = ⊎_elim (λ x. x) (λ go. absurd (none_goes_on h.course.1 h.for stuck go)) h.closed.stuck in
+      let v : overall (e ∷ p) ≡ V.Error = overall_next (length scripts) p e (course_legal scripts (e ∷ p) h.course) ∙ (rw r refl ∙ error_is_worst (overall p)) in
+      let ends : ends_case e ≡ true = rw r refl in
+      let over_e : is_over (e ∷ p) ≡ true = rw ends refl in
+      record { over = λ o. ap (is_found found) v ∙ found_error; going = λ o. absurd cc }
+
+  -- a Wake that is answered Matched
+  told_woken : (me : Comp) → AtTurn scripts Seen found p q e → IsGoing scripts p q e me → (k : Bool) (t : Target) → e.op ≡ O.Wake k t → e.reply ≡ R.Matched → (stand p e.caller.0).called ≡ suc (stand q e.caller.0).called →
+      IsTurn scripts q (record { caller = e.caller; op = O.Wait k t; reply = R.Matched }) → IsTold scripts Seen found (e ∷ p)
+  told_woken me h g k t is r one_more turn =
+      let d : Entry = record { caller = e.caller; op = O.Wait k t; reply = R.Matched } in
+      let of : IsWakeOf (O.Wait k t) e.op = record { killed = k; target = t; waits = refl; wakes = is } in
+      let to : IsWakeOf d.op (O.Wake k t) = record { killed = k; target = t; waits = refl; wakes = refl } in
+      let ue = unchanged_wake p e (O.Wait k t) of (rw r refl) in
+      let ud = unchanged_wait q d (O.Wake k t) to refl in
+      let cq : IsCourse scripts (d ∷ q) = (turn, h.closed.course) in
+      let lq = course_legal scripts (d ∷ q) cq in
+      let ae = alike_unchanged (length scripts) p e (course_legal scripts (e ∷ p) h.course) ue in
+      let ad = alike_unchanged (length scripts) q d lq ud in
+      let alike : IsAlike (e ∷ p) (d ∷ q) = alike_then (e ∷ p) p (d ∷ q) ae (alike_then p q (d ∷ q) h.for.alike (alike_sym (d ∷ q) q ad)) in
+      let ends_e : ends_case e ≡ false = or_left (ends_case e) _ (ue.no_halt 0) in
+      let ends_d : ends_case d ≡ false = or_left (ends_case d) _ (ud.no_halt 0) in
+      told_both h d turn g.in_range refl alike.overall_same (ends_e ∙ sym ends_d) (λ o.
+      both scripts p q e d h.course cq h.for refl alike (keeps_quiet (length scripts) q d lq)
+      (λ act.
+      subst (λ s. IsFollowed scripts (d ∷ q) e.caller.0 s (stand (d ∷ q) e.caller.0)) (sym (stand_own p e e.caller.0 refl))
+      (subst (λ x. IsFollowed scripts (d ∷ q) e.caller.0 (after_own e (stand p e.caller.0)) x) (sym (stand_own q d e.caller.0 refl))
+      (woken scripts q (d ∷ q) e.caller.0 (stand p e.caller.0) (stand q e.caller.0) e d g.followed one_more ue.made ud.made
+      (not_ending p e (stand p e.caller.0).comp me ue g.stand_p g.on_p (rw r refl))
+      (not_ending q d (stand q e.caller.0).comp me ud g.stand_q g.on_q refl)
+      (rw is refl) refl (loud_sets_no_wake e.op e.reply (rw r refl)) refl)))
+      (λ b other none act.
+      let off : is_active (d ∷ q) b ≡ false = started_by_entry (length scripts) q d b lq none ∙ ap is_some (ud.no_run b) in
+      absurd cc)
+      g.in_q)
+
+  -- a Wake
+  told_wake : (me : Comp) → AtTurn scripts Seen found p q e → IsGoing scripts p q e me → (wake : Op) → (stand p e.caller.0).wake ≡ Some wake → wake ≡ e.op → IsTold scripts Seen found (e ∷ p)
+  told_wake me h g wake some calls = by_fault (fault (length scripts) p e.caller.0 (O.Wake at.wake_of.killed at.wake_of.target)) refl
+    where
+      at : IsParkedAt scripts e.caller.0 (stand p e.caller.0) (stand q e.caller.0) wake
+      at = subst (λ o. MatchOption o (IsBefore scripts q e.caller.0 (stand p e.caller.0) (stand q e.caller.0)) (λ w. IsParkedAt scripts e.caller.0 (stand p e.caller.0) (stand q e.caller.0) w)) some g.followed.place
+
+      op_is : e.op ≡ O.Wake at.wake_of.killed at.wake_of.target
+      op_is = sym calls ∙ at.wake_of.wakes
+
+      turn_q : turn scripts q e.caller.0 ≡ Some (O.Wait at.wake_of.killed at.wake_of.target)
+      turn_q = turn_in scripts p q e me g ∙ ap Some at.wake_of.waits
+
+      reply_p : e.reply ≡ answer (length scripts) p e.caller.0 (O.Wake at.wake_of.killed at.wake_of.target)
+      reply_p = h.course.0.reply ∙ ap (answer (length scripts) p e.caller.0) op_is
+
+      fault_q : fault (length scripts) q e.caller.0 (O.Wait at.wake_of.killed at.wake_of.target) ≡ fault (length scripts) p e.caller.0 (O.Wake at.wake_of.killed at.wake_of.target)
+      fault_q = fault_of_wait (length scripts) q e.caller.0 at.wake_of.killed at.wake_of.target ∙ sym (fault_alike h.for.alike (length scripts) e.caller.0 (O.Wake at.wake_of.killed at.wake_of.target))
+
+      by_stuck : e.reply ≡ wake_reply p e.caller.0 (record { killed = at.wake_of.killed; target = at.wake_of.target }) → holds p (record { killed = at.wake_of.killed; target = at.wake_of.target }) ≡ false →
+          (t : Bool) → ((e.caller.0 == 0) && is_stuck p) ≡ t → IsTold scripts Seen found (e ∷ p)
+      by_stuck r unmet true k =
+          let is : e.reply ≡ R.Fault F.Stuck = r ∙ rw (unmet, k) refl in
+          told_stuck h (and_right (e.caller.0 == 0) (is_stuck p) k) is
+      by_stuck r unmet false k =
+          let is : e.reply ≡ R.Parked = r ∙ rw (unmet, k) refl in
+          let idle : is_idle_by e.op e.reply ≡ true = rw (op_is, is) refl in
+          let not_idle : is_idle_by e.op e.reply ≡ false = h.course.0.not_idle in
+          absurd cc
+
+      by_holds : fault (length scripts) p e.caller.0 (O.Wake at.wake_of.killed at.wake_of.target) ≡ None → (t : Bool) → holds p (record { killed = at.wake_of.killed; target = at.wake_of.target }) ≡ t → IsTold scripts Seen found (e ∷ p)
+      by_holds none true k =
+          let r : e.reply ≡ R.Matched = reply_p ∙ (answer_plain (length scripts) p e.caller.0 (O.Wake at.wake_of.killed at.wake_of.target) g.in_p none ∙ rw k refl) in
+          let there : holds q (record { killed = at.wake_of.killed; target = at.wake_of.target }) ≡ true = sym (holds_alike h.for.alike (record { killed = at.wake_of.killed; target = at.wake_of.target })) ∙ k in
+          let rq : answer (length scripts) q e.caller.0 (O.Wait at.wake_of.killed at.wake_of.target) ≡ R.Matched =
+          answer_plain (length scripts) q e.caller.0 (O.Wait at.wake_of.killed at.wake_of.target) g.in_q (fault_q ∙ none) ∙ rw there refl in
+          told_woken me h g at.wake_of.killed at.wake_of.target op_is r at.one_more (record { turn = turn_q; reply = sym rq; not_idle = refl })
+      by_holds none false k =
+          let r : e.reply ≡ wake_reply p e.caller.0 (record { killed = at.wake_of.killed; target = at.wake_of.target }) =
+          reply_p ∙ answer_plain (length scripts) p e.caller.0 (O.Wake at.wake_of.killed at.wake_of.target) g.in_p none in
+          by_stuck r k ((e.caller.0 == 0) && is_stuck p) refl
+
+      by_fault : (o : Option Fault) → fault (length scripts) p e.caller.0 (O.Wake at.wake_of.killed at.wake_of.target) ≡ o → IsTold scripts Seen found (e ∷ p)
+      by_fault None k = by_holds k (holds p (record { killed = at.wake_of.killed; target = at.wake_of.target })) refl
+      by_fault (Some x) k =
+          let d : Entry = record { caller = e.caller; op = O.Wait at.wake_of.killed at.wake_of.target; reply = R.Fault x } in
+          let turn : IsTurn scripts q d = record {
+            turn = turn_q;
+            reply = sym (answer_fault (length scripts) q e.caller.0 (O.Wait at.wake_of.killed at.wake_of.target) x g.in_q (fault_q ∙ k));
+            not_idle = refl;
+          } in
+          told_fault h d turn refl g.in_range x (reply_p ∙ answer_fault (length scripts) p e.caller.0 (O.Wake at.wake_of.killed at.wake_of.target) x g.in_p k) refl
+
+  -- one more turn
+  told_step : AtTurn scripts Seen found p q e → IsTold scripts Seen found (e ∷ p)
+  told_step h = by_active (is_active p e.caller.0) refl
+    where
+      going : is_active p e.caller.0 ≡ true → (t : HasTurn (steps_in (script_of scripts e.caller.0)) (stand p e.caller.0) e.op) → IsGoing scripts p q e t.me
+      going act t =
+          let act_q : is_active q e.caller.0 ≡ true = sym (active_alike h.for.alike e.caller.0) ∙ act in
+          let on_p : comp_of p e.caller.0 ≡ Some t.me = sym (stand_comp scripts p e.caller.0 h.course.1) ∙ t.on in
+          let on_q : comp_of q e.caller.0 ≡ Some t.me = sym (h.for.alike.comp_same e.caller.0) ∙ on_p in
+          let fol = h.for.runs e.caller.0 act_q in
+          record {
+            in_p = act;
+            in_q = act_q;
+            on_p = on_p;
+            on_q = on_q;
+            stand_p = t.on;
+            stand_q = stand_comp scripts q e.caller.0 h.closed.course ∙ on_q;
+            followed = fol;
+            stays = sym fol.left ∙ t.stays;
+            in_range = run_in_range (length scripts) p e.caller.0 t.me h.some (course_legal scripts p h.course.1) on_p;
+          }
+
+      by_wake : (t : HasTurn (steps_in (script_of scripts e.caller.0)) (stand p e.caller.0) e.op) → IsGoing scripts p q e t.me → (o : Option Op) → (stand p e.caller.0).wake ≡ o → IsTold scripts Seen found (e ∷ p)
+      by_wake t g None k =
+          told_place t.me h g k (ap (λ o. wake_or o (call_of t.me (stand p e.caller.0).bound (slice_get (steps_in (script_of scripts e.caller.0)) (stand p e.caller.0).called))) (sym k) ∙ t.calls)
+      by_wake t g (Some wake) k =
+          told_wake t.me h g wake k (ap (λ o. wake_or o (call_of t.me (stand p e.caller.0).bound (slice_get (steps_in (script_of scripts e.caller.0)) (stand p e.caller.0).called))) (sym k) ∙ t.calls)
+
+      by_active : (t : Bool) → is_active p e.caller.0 ≡ t → IsTold scripts Seen found (e ∷ p)
+      by_active true k = let t = has_turn scripts p e.caller.0 e.op h.course.0.turn in by_wake t (going k t) (stand p e.caller.0).wake refl
+      by_active false k =
+          let r : e.reply ≡ R.Ended = h.course.0.reply ∙ answer_inactive (length scripts) p e.caller.0 e.op k in
+          let u = unchanged_ended p e r in
+          told_stutter h u (stutter scripts p q e h.course h.closed.course h.for u (λ act. let off : is_active q e.caller.0 ≡ false = sym (active_alike h.for.alike e.caller.0) ∙ k in absurd cc))
+
+-- ---- all courses
+
+module _ (scripts : List ScriptView) (Seen : List Entry → Type 0) (found : List Witness) (some : 1 ≤ length scripts) (seen : SeenIsClosed scripts Seen found) (start : IsCovered scripts Seen []) where
+  for_opening : IsFor scripts [] []
+  for_opening = record { alike = alike_self []; runs = λ b act. followed_self scripts [] b (stand [] b) refl }
+
+  told_opening : IsTold scripts Seen found []
+  told_opening = record {
+    over = λ o. absurd cc;
+    going = λ o. let r = start [] tt for_opening in seen r.0 [] r.1 tt r.2;
+  }
+
+  told_over : (p : List Entry) (e : Entry) → IsCourse scripts (e ∷ p) → IsTold scripts Seen found p → is_over p ≡ true → IsTold scripts Seen found (e ∷ p)
+  told_over p e c t over =
+      let r : e.reply ≡ R.Ended = c.0.reply ∙ (all_over (length scripts) p (course_legal scripts p c.1) over).ended e.caller.0 e.op in
+      let same = (alike_unchanged (length scripts) p e (course_legal scripts (e ∷ p) c) (unchanged_ended p e r)).overall_same in
+      let ends : ends_case e ≡ false = rw r refl in
+      let over_e : is_over (e ∷ p) ≡ true = rw (ends, over) refl in
+      record { over = λ o. ap (is_found found) same ∙ t.over over; going = λ o. absurd cc }
+
+  told_going : (p : List Entry) (e : Entry) → IsCourse scripts (e ∷ p) → IsTold scripts Seen found p → is_over p ≡ false → IsTold scripts Seen found (e ∷ p)
+  told_going p e c t on =
+      let q = t.going on in
+      told_step (record { some = some; course = c; closed = q.1; for = q.2; going = on; seen = seen })
+
+  by_over : (p : List Entry) (e : Entry) → IsCourse scripts (e ∷ p) → IsTold scripts Seen found p → (t : Bool) → is_over p ≡ t → IsTold scripts Seen found (e ∷ p)
+  by_over p e c t true k = told_over p e c t k
+  by_over p e c t false k = told_going p e c t k
+
+  told_course : (p : List Entry) → IsCourse scripts p → IsTold scripts Seen found p
+  told_course [] c = told_opening
+  told_course (e ∷ p) c = by_over p e c (told_course p c.1) (is_over p) refl
+
+  -- a course in which no run has a call left is over
+  complete_over : (p q : List Entry) → IsCourse scripts p → IsComplete scripts p → IsClosed scripts Seen found q → IsFor scripts q p → ⊥
+  complete_over p q c done closed f =
+      let on = some_if q 0 closed.main in
+      let fol = f.runs 0 closed.main in
+      let here : (stand p 0).comp ≡ Some on.0 = stand_comp scripts p 0 c ∙ (f.alike.comp_same 0 ∙ on.1) in
+      let stays : (stand p 0).left ≡ false = fol.left ∙ closed.main_stays in
+      let t : turn scripts p 0 ≡ Some (wake_or (stand p 0).wake (call_of on.0 (stand p 0).bound (slice_get (steps_in (script_of scripts 0)) (stand p 0).called))) =
+      turn_of scripts p 0 _ (record { me = on.0; on = here; stays = stays; calls = refl }) in
+      let none : turn scripts p 0 ≡ None = done 0 some in
+      absurd cc
+
+  pub complete_is_told : (p : List Entry) → IsCourse scripts p → IsComplete scripts p → is_found found (overall p) ≡ true
+  complete_is_told p c done = by_end (told_course p c) (is_over p) refl
+    where
+      by_end : IsTold scripts Seen found p → (t : Bool) → is_over p ≡ t → is_found found (overall p) ≡ true
+      by_end t true k = t.over k
+      by_end t false k = let q = t.going k in absurd (complete_over p q.0 c done q.1 q.2)

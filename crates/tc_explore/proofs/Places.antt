@@ -1,0 +1,218 @@
+-- Where a run is after its own turn.
+use Rattle.std.proofs.Common.{ℕ, suc, ◌≡◌, ◌+◌, ◌<◌, ◌≤◌, ◌==◌, ◌&&◌, ◌||◌, not, nat_lt, if◌then◌else◌, Bool, true, false, Option, Some, None, MatchOption, List, [], ◌∷◌, ◌++◌, length, refl, ap, sym, subst, ◌∙◌, arith, append-nil}
+use Rattle.std.proofs.lemmas.Bool.Decides.{nat_tests}
+use Rattle.tc_verdict.specs.declared.verdict.Verdict.{Verdict}
+use Rattle.tc_verdict.specs.Verdict.{level_of}
+use Rattle.tc_verdict.proofs.Order.{worse_left}
+use Rattle.std.specs.List.{list_all}
+use Rattle.tc_entry.specs.declared.comp.Comp.{Comp}
+use Rattle.tc_entry.specs.declared.entry.Entry.{Entry}
+use Rattle.tc_entry.specs.declared.op.Op.{Op}
+use Rattle.tc_entry.specs.declared.op.Op.TheVariants as O
+use Rattle.tc_entry.specs.declared.reply.Reply.{Reply}
+use Rattle.tc_entry.specs.declared.reply.Reply.TheVariants as R
+use Rattle.tc_entry.specs.declared.reply.Fault.{Fault}
+use Rattle.tc_entry.specs.declared.reply.Fault.TheVariants as F
+use Rattle.tc_entry.specs.Reply.{is_ended}
+use Rattle.tc_step.specs.Steps.{ScriptView}
+use Rattle.tc_book.specs.Passes.{ends_pass}
+use Rattle.tc_table.specs.History.{comp_of, created, halts, exists}
+use Rattle.tc_table.specs.Local.{overall, gives}
+use Rattle.tc_table.specs.Faults.{fault, all_exist, names, asks_many, special_fault}
+use Rattle.tc_table.specs.Legal.{IsLegal}
+use Rattle.tc_table.specs.Inside.Step.{next_local}
+use Rattle.tc_table.proofs.Over.{stays}
+use Rattle.tc_explore.specs.Course.{Stand, after_own, ends, as_list, is_wake, wake_for, wake_if}
+use Rattle.tc_explore.specs.Inside.Simulation.{is_quiet, IsQuietAt, call_at, IsWakeOf, IsBefore, IsParkedAt, IsFollowed}
+use Rattle.tc_explore.proofs.Alike.{ChangesNothing, overall_next}
+use Rattle.tc_explore.proofs.Simulation.{KeepsQuiet}
+
+or_no : (a : Bool) → (a || false) ≡ a
+or_no true = refl
+or_no false = refl
+
+kept_bound : (e : Entry) (s : Stand) → created e.op e.reply ≡ None → (after_own e s).bound ≡ s.bound
+kept_bound e s h = rw h (append-nil s.bound)
+
+kept_left : (e : Entry) (s : Stand) → ends s.comp e ≡ false → (after_own e s).left ≡ s.left
+kept_left e s h = rw h (or_no s.left)
+
+one_more_called : (e : Entry) (s : Stand) → is_wake e.op ≡ false → (after_own e s).called ≡ s.called + 1
+one_more_called e s h = rw h refl
+
+neither : (a b : Bool) → a ≡ false → b ≡ false → (a || b) ≡ false
+neither a b g h = rw (g, h) refl
+
+-- what changes nothing ends no pass
+pub not_ending : (past : List Entry) (e : Entry) (o : Option Comp) (me : Comp) → ChangesNothing past e → o ≡ Some me → comp_of past e.caller.0 ≡ Some me → is_ended e.reply ≡ false → ends o e ≡ false
+unfolding ends_pass
+not_ending past e o me u same on r =
+    let h : halts (Some me) e me.0 ≡ false = subst (λ x. halts x e me.0 ≡ false) on (u.no_halt me.0) in
+    subst (λ x. ends x e ≡ false) (sym same) (neither (is_ended e.reply) (halts (Some me) e me.0) r h)
+
+pub quiet_sets_no_wake : (w : Verdict) (op : Op) (r : Reply) → is_quiet w op ≡ true → wake_if op r ≡ None
+quiet_sets_no_wake w op R.Parked h = by_op op h
+  where
+    by_op : (o : Op) → is_quiet w o ≡ true → wake_for o ≡ None
+    by_op (O.Wait k t) j = absurd cc
+    by_op (O.Wake k t) j = absurd cc
+    by_op _ j = refl
+quiet_sets_no_wake w op _ h = refl
+
+pub quiet_no_wake : (w : Verdict) (op : Op) → is_quiet w op ≡ true → is_wake op ≡ false
+quiet_no_wake w (O.Wake k t) h = absurd cc
+quiet_no_wake w _ h = refl
+
+before_of : (scripts : List ScriptView) (q : List Entry) (b : ℕ) (s t : Stand) → s.wake ≡ None → IsFollowed scripts q b s t → IsBefore scripts q b s t
+before_of scripts q b s t h f = subst (λ o. MatchOption o (IsBefore scripts q b s t) (λ wake. IsParkedAt scripts b s t wake)) h f.place
+
+-- a quiet call that the other has made already
+pub behind : (scripts : List ScriptView) (q : List Entry) (b : ℕ) (s t : Stand) (e : Entry) → IsFollowed scripts q b s t → s.wake ≡ None → s.called < t.called →
+    created e.op e.reply ≡ None → ends s.comp e ≡ false → is_wake e.op ≡ false → wake_if e.op e.reply ≡ None → IsFollowed scripts q b (after_own e s) t
+behind scripts q b s t e f none less made stays_on plain no_wake =
+    let before = before_of scripts q b s t none f in
+    let called = one_more_called e s plain in
+    let now : IsBefore scripts q b (after_own e s) t = record { fewer = omega (arith, called); between = λ k l m. before.between k (omega (arith, called)) m } in
+    record {
+      comp = f.comp;
+      bound = kept_bound e s made ∙ f.bound;
+      left = kept_left e s stays_on ∙ f.left;
+      no_wake = f.no_wake;
+      place = subst (λ o. MatchOption o (IsBefore scripts q b (after_own e s) t) (λ wake. IsParkedAt scripts b (after_own e s) t wake)) (sym no_wake) now;
+    }
+
+-- a Wait that is parked
+pub parked : (scripts : List ScriptView) (q : List Entry) (b : ℕ) (s t : Stand) (e : Entry) (wake : Op) → IsFollowed scripts q b s t → s.called ≡ t.called →
+    created e.op e.reply ≡ None → ends s.comp e ≡ false → is_wake e.op ≡ false → wake_if e.op e.reply ≡ Some wake → IsWakeOf (call_at scripts b t t.comp t.called) wake →
+    IsFollowed scripts q b (after_own e s) t
+parked scripts q b s t e wake f same made stays_on plain to_come of =
+    let called = one_more_called e s plain in
+    let now : IsParkedAt scripts b (after_own e s) t wake = record { one_more = omega (arith, called, same); wake_of = of } in
+    record {
+      comp = f.comp;
+      bound = kept_bound e s made ∙ f.bound;
+      left = kept_left e s stays_on ∙ f.left;
+      no_wake = f.no_wake;
+      place = subst (λ o. MatchOption o (IsBefore scripts q b (after_own e s) t) (λ w. IsParkedAt scripts b (after_own e s) t w)) (sym to_come) now;
+    }
+
+no_parked_quiet : (w : Verdict) (op wake : Op) → IsWakeOf op wake → is_quiet w op ≡ true → ⊥
+no_parked_quiet w op wake h quiet = let off : is_quiet w op ≡ false = rw h.waits refl in absurd cc
+
+-- a quiet call of the other
+pub ahead : (scripts : List ScriptView) (q : List Entry) (b : ℕ) (s t : Stand) (e : Entry) → IsFollowed scripts (e ∷ q) b s t → IsQuietAt (length scripts) (e ∷ q) b (call_at scripts b t t.comp t.called) →
+    created e.op e.reply ≡ None → ends t.comp e ≡ false → is_wake e.op ≡ false → wake_if e.op e.reply ≡ None → IsFollowed scripts (e ∷ q) b s (after_own e t)
+ahead scripts q b s t e f quiet made stays_on plain no_wake = record {
+  comp = f.comp;
+  bound = f.bound ∙ sym same_bound;
+  left = f.left ∙ sym (kept_left e t stays_on);
+  no_wake = no_wake;
+  place = by_wake s.wake f.place;
+}
+  where
+    same_bound : (after_own e t).bound ≡ t.bound
+    same_bound = kept_bound e t made
+
+    called : (after_own e t).called ≡ t.called + 1
+    called = one_more_called e t plain
+
+    same_call : (o : Option Comp) (k : ℕ) → call_at scripts b (after_own e t) o k ≡ call_at scripts b t o k
+    same_call None k = refl
+    same_call (Some me) k = rw same_bound refl
+
+    at_last : IsBefore scripts (e ∷ q) b s t → (k : ℕ) → s.called ≤ k → k < (after_own e t).called → (less : Bool) → nat_lt k t.called ≡ less → IsQuietAt (length scripts) (e ∷ q) b (call_at scripts b t t.comp k)
+    at_last h k l m true less = h.between k l (grind (arith, nat_tests))
+    at_last h k l m false less =
+        let is : k ≡ t.called = grind (arith, nat_tests, called) in
+        subst (λ x. IsQuietAt (length scripts) (e ∷ q) b (call_at scripts b t t.comp x)) (sym is) quiet
+
+    by_wake : (o : Option Op) → MatchOption o (IsBefore scripts (e ∷ q) b s t) (λ wake. IsParkedAt scripts b s t wake) →
+        MatchOption o (IsBefore scripts (e ∷ q) b s (after_own e t)) (λ wake. IsParkedAt scripts b s (after_own e t) wake)
+    by_wake None h = record {
+      fewer = let l = h.fewer in omega (arith, called);
+      between = λ k l m. subst (λ op. IsQuietAt (length scripts) (e ∷ q) b op) (sym (same_call t.comp k)) (at_last h k l m (nat_lt k t.called) refl);
+    }
+    by_wake (Some wake) h = absurd (no_parked_quiet _ _ wake h.wake_of quiet.quiet)
+
+-- the same call of both, which is not parked
+pub together : (scripts : List ScriptView) (q r : List Entry) (b : ℕ) (s t : Stand) (e : Entry) → IsFollowed scripts q b s t → s.called ≡ t.called →
+    is_wake e.op ≡ false → wake_if e.op e.reply ≡ None → IsFollowed scripts r b (after_own e s) (after_own e t)
+together scripts q r b s t e f same plain no_wake =
+    let cs = one_more_called e s plain in
+    let ct = one_more_called e t plain in
+    let now : IsBefore scripts r b (after_own e s) (after_own e t) = record { fewer = omega (arith, cs, ct, same); between = λ k l m. absurd (omega (arith, cs, ct, same)) } in
+    record {
+      comp = f.comp;
+      bound = ap (λ x. x ++ as_list (created e.op e.reply)) f.bound;
+      left = rw (f.left, f.comp) refl;
+      no_wake = no_wake;
+      place = subst (λ o. MatchOption o (IsBefore scripts r b (after_own e s) (after_own e t)) (λ w. IsParkedAt scripts b (after_own e s) (after_own e t) w)) (sym no_wake) now;
+    }
+
+-- a Wake of the one, and a Wait of the other, with the same reply
+pub woken : (scripts : List ScriptView) (q r : List Entry) (b : ℕ) (s t : Stand) (d e : Entry) → IsFollowed scripts q b s t → s.called ≡ suc t.called →
+    created d.op d.reply ≡ None → created e.op e.reply ≡ None → ends s.comp d ≡ false → ends t.comp e ≡ false →
+    is_wake d.op ≡ true → is_wake e.op ≡ false → wake_if d.op d.reply ≡ None → wake_if e.op e.reply ≡ None → IsFollowed scripts r b (after_own d s) (after_own e t)
+woken scripts q r b s t d e f one_more made_d made_e stays_d stays_e wakes waits none_d none_e =
+    let cs : (after_own d s).called ≡ s.called = rw wakes refl in
+    let ct = one_more_called e t waits in
+    let now : IsBefore scripts r b (after_own d s) (after_own e t) = record { fewer = omega (arith, cs, ct, one_more); between = λ k l m. absurd (omega (arith, cs, ct, one_more)) } in
+    record {
+      comp = f.comp;
+      bound = kept_bound d s made_d ∙ (f.bound ∙ sym (kept_bound e t made_e));
+      left = kept_left d s stays_d ∙ (f.left ∙ sym (kept_left e t stays_e));
+      no_wake = none_e;
+      place = subst (λ o. MatchOption o (IsBefore scripts r b (after_own d s) (after_own e t)) (λ w. IsParkedAt scripts b (after_own d s) (after_own e t) w)) (sym none_d) now;
+    }
+
+-- the same is known
+pub followed_self : (scripts : List ScriptView) (q : List Entry) (b : ℕ) (s : Stand) → s.wake ≡ None → IsFollowed scripts q b s s
+followed_self scripts q b s none =
+    let now : IsBefore scripts q b s s = record { fewer = omega arith; between = λ k l m. absurd (omega arith) } in
+    record { comp = refl; bound = refl; left = refl; no_wake = none; place = subst (λ o. MatchOption o (IsBefore scripts q b s s) (λ w. IsParkedAt scripts b s s w)) (sym none) now }
+
+-- ---- quiet calls stay quiet after any entry
+
+no_better : (vs : List Verdict) (w : Verdict) → level_of w ≤ level_of (next_local vs w)
+no_better [] w = omega arith
+no_better (v ∷ vs) w = let l = no_better vs w in let m = worse_left (next_local vs w) v in omega arith
+
+quiet_then : (w x : Verdict) (op : Op) → level_of w ≤ level_of x → is_quiet w op ≡ true → is_quiet x op ≡ true
+quiet_then w x (O.SetVerdict v) l h = grind (arith, nat_tests)
+quiet_then w x O.GetVerdict l h = refl
+quiet_then w x (O.Running t) l h = refl
+quiet_then w x (O.Alive t) l h = refl
+quiet_then w x (O.Done t) l h = refl
+quiet_then w x (O.Killed t) l h = refl
+quiet_then w x _ l h = absurd cc
+
+no_fault_by : (known many : Bool) (f : Option Fault) → (if not known then Some F.NoComponent else if many then Some F.NotMain else f) ≡ None → (known ≡ true) × (many ≡ false)
+no_fault_by true true f h = absurd cc
+no_fault_by true false f h = (refl, refl)
+no_fault_by false many f h = absurd cc
+
+never_special : (n : ℕ) (past : List Entry) (w : Verdict) (op : Op) → is_quiet w op ≡ true → special_fault n past op ≡ None
+never_special n past w (O.Create alive name) h = absurd cc
+never_special n past w (O.Start c run args) h = absurd cc
+never_special n past w _ h = refl
+
+and_both : (a b : Bool) → (a && b) ≡ true → (a ≡ true) × (b ≡ true)
+and_both true b h = (refl, h)
+and_both false b h = absurd cc
+
+still_exist : (past : List Entry) (e : Entry) (cs : List Comp) → list_all (λ c. exists past c.0) cs ≡ true → list_all (λ c. exists (e ∷ past) c.0) cs ≡ true
+still_exist past e [] h = refl
+still_exist past e (c ∷ cs) h =
+    let p = and_both (exists past c.0) (list_all (λ x. exists past x.0) cs) h in
+    rw (stays past e c.0 p.0, still_exist past e cs p.1) refl
+
+still_no_fault : (n : ℕ) (past : List Entry) (e : Entry) (b : ℕ) (w : Verdict) (op : Op) → is_quiet w op ≡ true → fault n past b op ≡ None → fault n (e ∷ past) b op ≡ None
+unfolding fault all_exist
+still_no_fault n past e b w op quiet h =
+    let p = no_fault_by (list_all (λ c. exists past c.0) (names op)) (asks_many op && not (b == 0)) (special_fault n past op) h in
+    rw (still_exist past e (names op) p.0, p.1, never_special n (e ∷ past) w op quiet) refl
+
+pub keeps_quiet : (n : ℕ) (past : List Entry) (e : Entry) → IsLegal n (e ∷ past) → KeepsQuiet n past (e ∷ past)
+keeps_quiet n past e legal b op h =
+    let grows : level_of (overall past) ≤ level_of (overall (e ∷ past)) = rw (overall_next n past e legal) (no_better (gives e.op e.reply) (overall past)) in
+    record { quiet = quiet_then (overall past) (overall (e ∷ past)) op grows h.quiet; no_fault = still_no_fault n past e b (overall past) op h.quiet h.no_fault }

@@ -1,0 +1,203 @@
+-- What two courses of which the same is known stand for.
+use Rattle.std.proofs.Common.{ℕ, suc, ◌≡◌, ◌+◌, ◌<◌, ◌≤◌, ◌&&◌, nat_lt, nat_le, if◌then◌else◌, Bool, true, false, Option, Some, None, List, [], ◌∷◌, ◌++◌, length, refl, ap, sym, subst, ◌∙◌, arith}
+use Rattle.std.proofs.lemmas.Bool.Decides.{nat_tests}
+use Rattle.tc_verdict.specs.declared.run.Run.{Run}
+use Rattle.tc_verdict.specs.declared.verdict.Verdict.{Verdict}
+use Rattle.tc_verdict.specs.declared.verdict.Verdict.TheVariants as V
+use Rattle.tc_verdict.specs.Verdict.{level_of}
+use Rattle.tc_table.specs.Local.{overall}
+use Rattle.tc_entry.specs.declared.comp.Comp.{Comp}
+use Rattle.tc_entry.specs.declared.entry.Entry.{Entry}
+use Rattle.tc_entry.specs.declared.phase.Phase.{Phase}
+use Rattle.tc_entry.specs.declared.phase.Phase.TheVariants as P
+use Rattle.tc_step.specs.Steps.{ScriptView}
+use Rattle.tc_table.specs.declared.component_state.ComponentState.{ComponentState}
+use Rattle.tc_table.specs.History.{comps, comp_of, created, add_new, exists, is_in, is_alive_type}
+use Rattle.tc_table.specs.Phases.{phase, phase_if_any}
+use Rattle.tc_table.specs.Faults.{components}
+use Rattle.tc_table.specs.Answers.{is_active}
+use Rattle.tc_table.specs.Legal.{IsLegal}
+use Rattle.tc_table.specs.Inside.Kept.{numbers_from}
+use Rattle.tc_table.proofs.Numbers.{length-numbers_from, numbers_from-more, is_in-numbers_from}
+use Rattle.tc_table.proofs.Sound.{next}
+use Rattle.tc_explore.specs.Course.{stand, IsCourse}
+use Rattle.tc_explore.specs.Inside.Simulation.{IsFor, IsFollowed}
+use Rattle.tc_explore.specs.Inside.Seen.{IsSame, HasSame, phase_code, comp_code}
+use Rattle.tc_explore.proofs.Legality.{course_legal}
+use Rattle.tc_explore.proofs.Alike.{alike_sym, alike_then, active_alike, fresh}
+use Rattle.tc_explore.proofs.Standings.{stand_comp, run_in_range}
+use Rattle.tc_explore.proofs.Simulation.{some_if, quiet_alike, followed_later}
+
+-- the components are numbered in the order of their creation
+numbered : (n : ℕ) (past : List Entry) → IsLegal n past → comps past ≡ numbers_from 0 (components past)
+unfolding components
+numbered n [] legal = refl
+numbered n (e ∷ past) legal = by_made (numbered n past legal.1) (created e.op e.reply) refl
+  where
+    by_made : comps past ≡ numbers_from 0 (length (comps past)) → (o : Option Comp) → created e.op e.reply ≡ o → add_new o (comps past) ≡ numbers_from 0 (length (add_new o (comps past)))
+    by_made ih None k = ih
+    by_made ih (Some d) k =
+        let at : d.0 ≡ length (comps past) = (next n past e d legal.0 k).number in
+        let out : is_in d.0 (numbers_from 0 (length (comps past))) ≡ false =
+        is_in-numbers_from d.0 0 (length (comps past)) ∙ beyond d.0 (length (comps past)) at in
+        let out2 : is_in d.0 (comps past) ≡ false = ap (is_in d.0) ih ∙ out in
+        let last : comps past ++ d.0 ∷ [] ≡ numbers_from 0 (suc (length (comps past))) = with_last (comps past) d.0 (length (comps past)) at ih in
+        let size : length (comps past ++ d.0 ∷ []) ≡ suc (length (comps past)) = ap length last ∙ length-numbers_from 0 (suc (length (comps past))) in
+        rw out2 (last ∙ ap (numbers_from 0) (sym size))
+      where
+        beyond : (c m : ℕ) → c ≡ m → (nat_le 0 c && nat_lt c (0 + m)) ≡ false
+        beyond c m h = grind (arith, nat_tests)
+
+        with_last : (ns : List ℕ) (x m : ℕ) → x ≡ m → ns ≡ numbers_from 0 m → ns ++ x ∷ [] ≡ numbers_from 0 (suc m)
+        with_last ns x m h k =
+            let more : numbers_from 0 (suc m) ≡ numbers_from 0 m ++ (0 + m) ∷ [] = numbers_from-more 0 m in
+            let sum : 0 + m ≡ x = omega arith in
+            cc
+
+exists_below : (n : ℕ) (past : List Entry) (c : ℕ) → IsLegal n past → exists past c ≡ nat_lt c (components past)
+unfolding exists
+exists_below n past c legal = ap (is_in c) (numbered n past legal) ∙ (is_in-numbers_from c 0 (components past) ∙ from_zero c (components past))
+  where
+    from_zero : (c m : ℕ) → (nat_le 0 c && nat_lt c (0 + m)) ≡ nat_lt c m
+    from_zero c m = grind (arith, nat_tests)
+
+some_same : (t : Bool) (x y : Phase) → t ≡ true → (if t then Some x else None) ≡ (if t then Some y else None) → x ≡ y
+some_same true x y h e = cc
+some_same false x y h e = absurd cc
+
+module _ (scripts : List ScriptView) (p q : List Entry) (cp : IsCourse scripts p) (cq : IsCourse scripts q) (s : HasSame (length scripts) p q) where
+  lp : IsLegal (length scripts) p
+  lp = course_legal scripts p cp
+
+  lq : IsLegal (length scripts) q
+  lq = course_legal scripts q cq
+
+  phases_by : (c : ℕ) (t : Bool) → nat_lt c (components p) ≡ t → phase p c ≡ phase q c
+  unfolding phase_if_any
+  phases_by c true k =
+      let here : exists p c ≡ true = exists_below (length scripts) p c lp ∙ k in
+      let there : exists q c ≡ true = exists_below (length scripts) q c lq ∙ (ap (nat_lt c) (sym s.count) ∙ k) in
+      let both_some : (if exists p c then Some (phase p c) else None) ≡ (if exists q c then Some (phase q c) else None) = s.phases c (grind (arith, nat_tests)) in
+      some_same (exists p c) (phase p c) (phase q c) here (both_some ∙ ap (λ t. if t then Some (phase q c) else None) (there ∙ sym here))
+  phases_by c false k =
+      let here : exists p c ≡ false = exists_below (length scripts) p c lp ∙ k in
+      let there : exists q c ≡ false = exists_below (length scripts) q c lq ∙ (ap (nat_lt c) (sym s.count) ∙ k) in
+      ap (λ (x : ComponentState). x.phase) (fresh (length scripts) p c lp here) ∙ sym (ap (λ (x : ComponentState). x.phase) (fresh (length scripts) q c lq there))
+
+  kinds_by : (c : ℕ) (t : Bool) → nat_lt c (components p) ≡ t → is_alive_type p c ≡ is_alive_type q c
+  kinds_by c true k = s.kinds c (grind (arith, nat_tests))
+  kinds_by c false k =
+      let here : exists p c ≡ false = exists_below (length scripts) p c lp ∙ k in
+      let there : exists q c ≡ false = exists_below (length scripts) q c lq ∙ (ap (nat_lt c) (sym s.count) ∙ k) in
+      ap (λ (x : ComponentState). x.alive_type) (fresh (length scripts) p c lp here) ∙ sym (ap (λ (x : ComponentState). x.alive_type) (fresh (length scripts) q c lq there))
+
+  beyond_range : (r : List Entry) (b : ℕ) → 1 ≤ length scripts → IsLegal (length scripts) r → length scripts ≤ b → comp_of r b ≡ None
+  beyond_range r b some legal far = by_comp (comp_of r b) refl
+    where
+      by_comp : (o : Option Comp) → comp_of r b ≡ o → o ≡ None
+      by_comp None k = refl
+      by_comp (Some c) k = let near = run_in_range (length scripts) r b c some legal k in absurd (omega arith)
+
+  comps_by : (b : ℕ) → 1 ≤ length scripts → (t : Bool) → nat_lt b (length scripts) ≡ t → comp_of p b ≡ comp_of q b
+  comps_by b some true k =
+      let near : b < length scripts = grind (arith, nat_tests) in
+      sym (stand_comp scripts p b cp) ∙ (s.comps b near ∙ stand_comp scripts q b cq)
+  comps_by b some false k =
+      let far : length scripts ≤ b = grind (arith, nat_tests) in
+      beyond_range p b some lp far ∙ sym (beyond_range q b some lq far)
+
+  pub same_of : 1 ≤ length scripts → IsSame p q
+  same_of some = record {
+    alike = record {
+      comps_same = numbered (length scripts) p lp ∙ (ap (numbers_from 0) s.count ∙ sym (numbered (length scripts) q lq));
+      phase_same = λ c. phases_by c (nat_lt c (components p)) refl;
+      kind_same = λ c. kinds_by c (nat_lt c (components p)) refl;
+      comp_same = λ b. comps_by b some (nat_lt b (length scripts)) refl;
+      overall_same = s.verdict;
+    };
+    stands = λ b act. let on = some_if p b act in s.stands b (run_in_range (length scripts) p b on.0 some lp on.1) act;
+  }
+
+pub same_if : (scripts : List ScriptView) (p q : List Entry) → IsCourse scripts p → IsCourse scripts q → 1 ≤ length scripts → level_of (overall p) ≡ level_of (overall q) → components p ≡ components q →
+    ((c : ℕ) → c < components p → phase_if_any p c ≡ phase_if_any q c) → ((c : ℕ) → c < components p → is_alive_type p c ≡ is_alive_type q c) →
+    ((b : ℕ) → b < length scripts → (stand p b).comp ≡ (stand q b).comp) →
+    ((b : ℕ) → b < length scripts → is_active p b ≡ true → (stand p b ≡ stand q b) × ((stand q b).wake ≡ None)) → IsSame p q
+same_if scripts p q cp cq some levels counts phases kinds comps stands =
+    same_of scripts p q cp cq (record { verdict = same_verdict (overall p) (overall q) levels; count = counts; phases = phases; kinds = kinds; comps = comps; stands = stands }) some
+  where
+    same_verdict : (a b : Verdict) → level_of a ≡ level_of b → a ≡ b
+    same_verdict V.None V.None h = refl
+    same_verdict V.Pass V.Pass h = refl
+    same_verdict V.Inconc V.Inconc h = refl
+    same_verdict V.Fail V.Fail h = refl
+    same_verdict V.Error V.Error h = refl
+    same_verdict V.None V.Pass h = absurd (omega arith)
+    same_verdict V.None V.Inconc h = absurd (omega arith)
+    same_verdict V.None V.Fail h = absurd (omega arith)
+    same_verdict V.None V.Error h = absurd (omega arith)
+    same_verdict V.Pass V.None h = absurd (omega arith)
+    same_verdict V.Pass V.Inconc h = absurd (omega arith)
+    same_verdict V.Pass V.Fail h = absurd (omega arith)
+    same_verdict V.Pass V.Error h = absurd (omega arith)
+    same_verdict V.Inconc V.None h = absurd (omega arith)
+    same_verdict V.Inconc V.Pass h = absurd (omega arith)
+    same_verdict V.Inconc V.Fail h = absurd (omega arith)
+    same_verdict V.Inconc V.Error h = absurd (omega arith)
+    same_verdict V.Fail V.None h = absurd (omega arith)
+    same_verdict V.Fail V.Pass h = absurd (omega arith)
+    same_verdict V.Fail V.Inconc h = absurd (omega arith)
+    same_verdict V.Fail V.Error h = absurd (omega arith)
+    same_verdict V.Error V.None h = absurd (omega arith)
+    same_verdict V.Error V.Pass h = absurd (omega arith)
+    same_verdict V.Error V.Inconc h = absurd (omega arith)
+    same_verdict V.Error V.Fail h = absurd (omega arith)
+
+-- what stands for a history, and is the same as another, so does that
+pub same_for : (scripts : List ScriptView) (q r p : List Entry) → IsSame q r → IsFor scripts q p → IsFor scripts r p
+same_for scripts q r p s f = record {
+  alike = alike_then p q r f.alike s.alike;
+  runs = λ b act.
+      let was : is_active q b ≡ true = active_alike s.alike b ∙ act in
+      subst (λ t. IsFollowed scripts r b (stand p b) t) (s.stands b was).0
+      (followed_later scripts q r b (stand p b) (stand q b) (quiet_alike (length scripts) q r (alike_sym q r s.alike)) (f.runs b was));
+}
+
+-- ---- numbers
+
+pub same_phase : (a b : Option Phase) → phase_code a ≡ phase_code b → a ≡ b
+same_phase None None h = refl
+same_phase (Some P.Inactive) (Some P.Inactive) h = refl
+same_phase (Some P.Stopped) (Some P.Stopped) h = refl
+same_phase (Some P.Killed) (Some P.Killed) h = refl
+same_phase (Some (P.Running r)) (Some (P.Running s)) h = same_run r s (omega arith)
+  where
+    same_run : (x y : Run) → x.0 ≡ y.0 → Some (P.Running x) ≡ Some (P.Running y)
+    same_run x y e = ap (λ (m : ℕ). Some (P.Running (record { 0 = m }))) e
+same_phase None (Some P.Inactive) h = absurd (omega arith)
+same_phase None (Some P.Stopped) h = absurd (omega arith)
+same_phase None (Some P.Killed) h = absurd (omega arith)
+same_phase None (Some (P.Running r)) h = absurd (omega arith)
+same_phase (Some P.Inactive) None h = absurd (omega arith)
+same_phase (Some P.Inactive) (Some P.Stopped) h = absurd (omega arith)
+same_phase (Some P.Inactive) (Some P.Killed) h = absurd (omega arith)
+same_phase (Some P.Inactive) (Some (P.Running r)) h = absurd (omega arith)
+same_phase (Some P.Stopped) None h = absurd (omega arith)
+same_phase (Some P.Stopped) (Some P.Inactive) h = absurd (omega arith)
+same_phase (Some P.Stopped) (Some P.Killed) h = absurd (omega arith)
+same_phase (Some P.Stopped) (Some (P.Running r)) h = absurd (omega arith)
+same_phase (Some P.Killed) None h = absurd (omega arith)
+same_phase (Some P.Killed) (Some P.Inactive) h = absurd (omega arith)
+same_phase (Some P.Killed) (Some P.Stopped) h = absurd (omega arith)
+same_phase (Some P.Killed) (Some (P.Running r)) h = absurd (omega arith)
+same_phase (Some (P.Running r)) None h = absurd (omega arith)
+same_phase (Some (P.Running r)) (Some P.Inactive) h = absurd (omega arith)
+same_phase (Some (P.Running r)) (Some P.Stopped) h = absurd (omega arith)
+same_phase (Some (P.Running r)) (Some P.Killed) h = absurd (omega arith)
+
+pub same_comp : (a b : Option Comp) → comp_code a ≡ comp_code b → a ≡ b
+same_comp None None h = refl
+same_comp (Some c) (Some d) h = let e : c.0 ≡ d.0 = omega arith in ap (λ (m : ℕ). Some (record { 0 = m })) e
+same_comp None (Some d) h = absurd (omega arith)
+same_comp (Some c) None h = absurd (omega arith)
+
+pub ruleset same_rules = (same_phase, same_comp)

@@ -1,0 +1,61 @@
+-- What one more quiet call of a search stands for.
+use Rattle.std.proofs.Common.{ℕ, ◌≡◌, true, false, Some, List, ◌∷◌, length, slice_get, refl, ap, sym, subst, ◌∙◌}
+use Rattle.tc_verdict.specs.declared.run.Run.{Run}
+use Rattle.tc_entry.specs.declared.entry.Entry.{Entry}
+use Rattle.tc_entry.specs.declared.op.Op.{Op}
+use Rattle.tc_entry.specs.Reply.{is_ended, is_fault}
+use Rattle.tc_step.specs.Steps.{ScriptView}
+use Rattle.tc_table.specs.Case.{Case, past_of}
+use Rattle.tc_table.specs.Local.{overall}
+use Rattle.tc_table.specs.Answers.{answer}
+use Rattle.tc_table.proofs.Sound.{plain_if}
+use Rattle.tc_explore.specs.Course.{stand, wake_or, call_of, steps_in, script_of, taken, IsTurn, IsCourse}
+use Rattle.tc_explore.specs.Found.{IsOn}
+use Rattle.tc_explore.specs.Inside.Alike.{IsAlike}
+use Rattle.tc_explore.specs.Inside.Simulation.{is_quiet, IsQuietAt, call_at, IsFollowed, IsFor}
+use Rattle.tc_explore.specs.Inside.Seen.{StandsOn}
+use Rattle.tc_explore.proofs.Legality.{course_legal}
+use Rattle.tc_explore.proofs.Alike.{alike_unchanged}
+use Rattle.tc_explore.proofs.Standings.{has_turn, stand_own, stand_comp}
+use Rattle.tc_explore.proofs.Simulation.{unchanged_quiet, some_if, quiet_alike, followed_later, lead}
+use Rattle.tc_explore.proofs.Places.{not_ending, quiet_sets_no_wake, quiet_no_wake, ahead}
+
+-- a quiet call that is no error
+lead_quiet : (scripts : List ScriptView) (p q : List Entry) (e : Entry) → IsCourse scripts p → IsCourse scripts (e ∷ q) → is_fault e.reply ≡ false → is_ended e.reply ≡ false → is_quiet (overall q) e.op ≡ true →
+    IsFor scripts q p → IsFor scripts (e ∷ q) p
+lead_quiet scripts p q e cp cq plain on quiet f =
+    let n : ℕ = length scripts in
+    let b : ℕ = e.caller.0 in
+    let is = plain_if (length scripts) q e.caller.0 e.op e.reply on plain cq.0.reply in
+    let u = unchanged_quiet q e quiet plain in
+    let after : IsAlike (e ∷ q) q = alike_unchanged (length scripts) q e (course_legal scripts (e ∷ q) cq) u in
+    let me = some_if q e.caller.0 is.active in
+    let fol = f.runs e.caller.0 is.active in
+    let here : (stand q e.caller.0).comp ≡ Some me.0 = stand_comp scripts q e.caller.0 cq.1 ∙ me.1 in
+    let t = has_turn scripts q e.caller.0 e.op cq.0.turn in
+    let call : call_at scripts e.caller.0 (stand q e.caller.0) (stand q e.caller.0).comp (stand q e.caller.0).called ≡ e.op =
+    ap (λ o. call_at scripts e.caller.0 (stand q e.caller.0) o (stand q e.caller.0).called) t.on
+    ∙ (ap (λ o. wake_or o (call_of t.me (stand q e.caller.0).bound (slice_get (steps_in (script_of scripts e.caller.0)) (stand q e.caller.0).called))) (sym fol.no_wake) ∙ t.calls) in
+    let now : IsQuietAt (length scripts) q e.caller.0 e.op = record { quiet = quiet; no_fault = is.no_fault } in
+    let keeps = quiet_alike (length scripts) q (e ∷ q) after in
+    lead scripts p q e cp cq f u (λ act.
+    subst (λ s. IsFollowed scripts (e ∷ q) e.caller.0 (stand p e.caller.0) s) (sym (stand_own q e e.caller.0 refl))
+    (ahead scripts q e.caller.0 (stand p e.caller.0) (stand q e.caller.0) e
+    (followed_later scripts q (e ∷ q) e.caller.0 (stand p e.caller.0) (stand q e.caller.0) keeps fol)
+    (subst (λ op. IsQuietAt (length scripts) (e ∷ q) e.caller.0 op) (sym call) (keeps e.caller.0 e.op now))
+    u.made (not_ending q e (stand q e.caller.0).comp me.0 u here me.1 on) (quiet_no_wake (overall q) e.op quiet) (quiet_sets_no_wake (overall q) e.op e.reply quiet)))
+
+pub lead_call : (scripts : List ScriptView) (t u : Case) (run : Run) (op : Op) → IsOn scripts t → IsTurn scripts (past_of t) (taken t.behaviours (past_of t) run op) →
+    is_fault (answer t.behaviours (past_of t) run.0 op) ≡ false → is_ended (answer t.behaviours (past_of t) run.0 op) ≡ false → is_quiet (overall (past_of t)) op ≡ true →
+    past_of u ≡ taken t.behaviours (past_of t) run op ∷ past_of t → StandsOn scripts t u
+lead_call scripts t u run op on turn plain goes quiet is =
+    λ p cp f. subst (λ x. IsFor scripts x p) (sym is) (lead_quiet scripts p (past_of t) (taken t.behaviours (past_of t) run op) cp (turn, on.course) plain goes quiet f)
+
+-- a quiet call and then more
+pub stands_then : (scripts : List ScriptView) (t u v : Case) → StandsOn scripts t u → StandsOn scripts u v → StandsOn scripts t v
+stands_then scripts t u v a b = λ p cp f. b p cp (a p cp f)
+
+pub stands_self : (scripts : List ScriptView) (t : Case) → StandsOn scripts t t
+stands_self scripts t = λ p cp f. f
+
+pub ruleset searching_rules = (stands_then, stands_self)

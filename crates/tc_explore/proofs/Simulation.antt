@@ -1,0 +1,210 @@
+-- A history that stands for another still does after one more turn of either.
+use Rattle.std.proofs.Common.{ℕ, ◌≡◌, ◌==◌, not, nat_lt, nat_le, Bool, true, false, Option, Some, None, MatchOption, List, ◌∷◌, length, refl, ap, sym, subst, ◌∙◌, arith}
+use Rattle.std.proofs.lemmas.Bool.Decides.{nat_tests}
+use Rattle.tc_verdict.specs.declared.verdict.Verdict.{Verdict}
+use Rattle.tc_verdict.specs.Verdict.{worse, level_of}
+use Rattle.tc_verdict.specs.UserVerdict.{given}
+use Rattle.tc_entry.specs.declared.comp.Comp.{Comp}
+use Rattle.tc_entry.specs.declared.entry.Entry.{Entry}
+use Rattle.tc_entry.specs.declared.op.Op.{Op}
+use Rattle.tc_entry.specs.declared.op.Op.TheVariants as O
+use Rattle.tc_entry.specs.declared.reply.Reply.{Reply}
+use Rattle.tc_entry.specs.declared.reply.Reply.TheVariants as R
+use Rattle.tc_entry.specs.Reply.{is_fault, is_ok}
+use Rattle.tc_step.specs.Steps.{ScriptView}
+use Rattle.tc_table.specs.History.{comp_of, created, starts_run}
+use Rattle.tc_table.specs.Phases.{start_in}
+use Rattle.tc_table.specs.Local.{overall, gives, setting}
+use Rattle.tc_table.specs.Answers.{is_active}
+use Rattle.tc_table.specs.Laws.{halting_op}
+use Rattle.tc_table.specs.Inside.Step.{next_local}
+use Rattle.tc_table.proofs.Deciding.{equal_if, if_same, and_left}
+use Rattle.tc_table.proofs.Going.{others_halt_nothing, halted_by_entry}
+use Rattle.tc_table.proofs.KeptLemmas.{inactive}
+use Rattle.tc_explore.specs.Course.{Stand, stand, IsCourse}
+use Rattle.tc_explore.specs.Inside.Alike.{IsAlike}
+use Rattle.tc_explore.specs.Inside.Simulation.{is_quiet, IsQuietAt, call_at, IsWakeOf, IsBefore, IsParkedAt, IsFollowed, IsFor}
+use Rattle.tc_explore.proofs.Legality.{course_legal}
+use Rattle.tc_explore.proofs.Alike.{ChangesNothing, alike_sym, alike_then, alike_unchanged, active_alike, fault_alike}
+use Rattle.tc_explore.proofs.Standings.{stand_other, stand_comp}
+
+-- ---- entries that change nothing
+
+-- the operation makes, starts, halts and kills nothing
+abbrev pub is_passive : Op → Bool
+is_passive (O.Create alive name) = false
+is_passive (O.Start c run args) = false
+is_passive op = not (halting_op op)
+
+made_never : (op : Op) (r : Reply) → is_passive op ≡ true → created op r ≡ None
+made_never (O.Create alive name) r h = absurd cc
+made_never _ r h = refl
+
+made_by_ended : (op : Op) → created op R.Ended ≡ None
+made_by_ended (O.Create alive name) = refl
+made_by_ended _ = refl
+
+passive_never_halts : (op : Op) → is_passive op ≡ true → halting_op op ≡ false
+passive_never_halts (O.Stop g) h = absurd cc
+passive_never_halts (O.Kill g) h = absurd cc
+passive_never_halts O.StopCase h = absurd cc
+passive_never_halts O.Finish h = absurd cc
+passive_never_halts _ h = refl
+
+starts_none : (op : Op) (b : ℕ) → is_passive op ≡ true → starts_run op b ≡ None
+starts_none (O.Start c run args) b h = absurd cc
+starts_none _ b h = refl
+
+starts_in_none : (e : Entry) (op : Op) (c : ℕ) → is_passive op ≡ true → start_in (record e { op = op }) c ≡ None
+starts_in_none e (O.Start d run args) c h = absurd cc
+starts_in_none e _ c h = if_same (is_ok e.reply) None
+
+pub unchanged_passive : (past : List Entry) (e : Entry) → is_passive e.op ≡ true → is_fault e.reply ≡ false → next_local (gives e.op e.reply) (overall past) ≡ overall past → ChangesNothing past e
+unchanged_passive past e passive plain gain = record {
+  made = made_never e.op e.reply passive;
+  no_run = λ b. rw (starts_none e.op b passive) (if_same (is_ok e.reply) None);
+  no_start = λ c. starts_in_none e e.op c passive;
+  no_halt = λ c. others_halt_nothing _ e c (rw (passive_never_halts e.op passive, plain) refl);
+  no_gain = gain;
+}
+
+pub unchanged_ended : (past : List Entry) (e : Entry) → e.reply ≡ R.Ended → ChangesNothing past e
+unchanged_ended past e r = record {
+  made = rw r (made_by_ended e.op);
+  no_run = λ b. rw r refl;
+  no_start = λ c. rw r refl;
+  no_halt = λ c. rw r refl;
+  no_gain = rw r refl;
+}
+
+no_worse : (w v : Verdict) → nat_le (level_of v) (level_of w) ≡ true → worse w v ≡ w
+no_worse w v h = let t : nat_lt (level_of w) (level_of v) ≡ false = grind (arith, nat_tests) in rw t refl
+
+set_gain : (w : Verdict) (op : Op) → is_quiet w op ≡ true → next_local (setting op) w ≡ w
+set_gain w (O.SetVerdict v) h = no_worse w (given v) h
+set_gain w O.GetVerdict h = refl
+set_gain w (O.Running t) h = refl
+set_gain w (O.Alive t) h = refl
+set_gain w (O.Done t) h = refl
+set_gain w (O.Killed t) h = refl
+set_gain w _ h = absurd cc
+
+quiet_gain : (w : Verdict) (op : Op) (r : Reply) → is_fault r ≡ false → is_quiet w op ≡ true → next_local (gives op r) w ≡ w
+quiet_gain w op R.Ok f h = set_gain w op h
+quiet_gain w op (R.Fault x) f h = absurd cc
+quiet_gain w op _ f h = refl
+
+quiet_passive : (w : Verdict) (op : Op) → is_quiet w op ≡ true → is_passive op ≡ true
+quiet_passive w (O.SetVerdict v) h = refl
+quiet_passive w O.GetVerdict h = refl
+quiet_passive w (O.Running t) h = refl
+quiet_passive w (O.Alive t) h = refl
+quiet_passive w (O.Done t) h = refl
+quiet_passive w (O.Killed t) h = refl
+quiet_passive w _ h = absurd cc
+
+pub unchanged_quiet : (past : List Entry) (e : Entry) → is_quiet (overall past) e.op ≡ true → is_fault e.reply ≡ false → ChangesNothing past e
+unchanged_quiet past e quiet plain =
+    unchanged_passive past e (quiet_passive (overall past) e.op quiet) plain (quiet_gain (overall past) e.op e.reply plain quiet)
+
+waits_gain : (w : Verdict) (op wake : Op) (r : Reply) → IsWakeOf op wake → is_fault r ≡ false → (next_local (gives op r) w ≡ w) × (next_local (gives wake r) w ≡ w)
+waits_gain w op wake R.Ok h f = rw (h.waits, h.wakes) (refl, refl)
+waits_gain w op wake (R.Fault x) h f = absurd cc
+waits_gain w op wake _ h f = (refl, refl)
+
+waits_passive : (op wake : Op) → IsWakeOf op wake → (is_passive op ≡ true) × (is_passive wake ≡ true)
+waits_passive op wake h = rw (h.waits, h.wakes) (refl, refl)
+
+pub unchanged_wait : (past : List Entry) (e : Entry) (wake : Op) → IsWakeOf e.op wake → is_fault e.reply ≡ false → ChangesNothing past e
+unchanged_wait past e wake h plain = unchanged_passive past e (waits_passive e.op wake h).0 plain (waits_gain (overall past) e.op wake e.reply h plain).0
+
+pub unchanged_wake : (past : List Entry) (e : Entry) (wait : Op) → IsWakeOf wait e.op → is_fault e.reply ≡ false → ChangesNothing past e
+unchanged_wake past e wait h plain = unchanged_passive past e (waits_passive wait e.op h).1 plain (waits_gain (overall past) wait e.op e.reply h plain).1
+
+-- ---- the other runs
+
+pub some_if : (past : List Entry) (b : ℕ) → is_active past b ≡ true → (c : Comp) × (comp_of past b ≡ Some c)
+some_if past b act = by_comp (comp_of past b) refl
+  where
+    by_comp : (o : Option Comp) → comp_of past b ≡ o → (c : Comp) × (comp_of past b ≡ Some c)
+    by_comp (Some c) k = (c, k)
+    by_comp None k = let off = inactive past b k in absurd cc
+
+-- quiet calls stay quiet
+abbrev pub KeepsQuiet : ℕ → List Entry → List Entry → Type 0
+KeepsQuiet n q r = (b : ℕ) (op : Op) → IsQuietAt n q b op → IsQuietAt n r b op
+
+pub followed_later : (scripts : List ScriptView) (q r : List Entry) (b : ℕ) (s t : Stand) → KeepsQuiet (length scripts) q r → IsFollowed scripts q b s t → IsFollowed scripts r b s t
+followed_later scripts q r b s t keeps f = record { comp = f.comp; bound = f.bound; left = f.left; no_wake = f.no_wake; place = by_wake s.wake f.place }
+  where
+    by_wake : (o : Option Op) → MatchOption o (IsBefore scripts q b s t) (λ wake. IsParkedAt scripts b s t wake) → MatchOption o (IsBefore scripts r b s t) (λ wake. IsParkedAt scripts b s t wake)
+    by_wake None h = record { fewer = h.fewer; between = λ k l m. keeps b (call_at scripts b t t.comp k) (h.between k l m) }
+    by_wake (Some wake) h = h
+
+pub quiet_alike : (n : ℕ) (q r : List Entry) → IsAlike r q → KeepsQuiet n q r
+quiet_alike n q r a b op h = record { quiet = rw a.overall_same h.quiet; no_fault = fault_alike a n b op ∙ h.no_fault }
+
+-- a turn of p that changes nothing, where its caller still is where q has it or before
+pub stutter : (scripts : List ScriptView) (p q : List Entry) (e : Entry) → IsCourse scripts (e ∷ p) → IsCourse scripts q → IsFor scripts q p → ChangesNothing p e →
+    (is_active q e.caller.0 ≡ true → IsFollowed scripts q e.caller.0 (stand (e ∷ p) e.caller.0) (stand q e.caller.0)) → IsFor scripts q (e ∷ p)
+stutter scripts p q e cp cq f u own = record {
+  alike = alike_then (e ∷ p) p q (alike_unchanged (length scripts) p e (course_legal scripts (e ∷ p) cp) u) f.alike;
+  runs = λ b act. by_test b act (e.caller.0 == b) refl;
+}
+  where
+    by_test : (b : ℕ) → is_active q b ≡ true → (t : Bool) → (e.caller.0 == b) ≡ t → IsFollowed scripts q b (stand (e ∷ p) b) (stand q b)
+    by_test b act true k =
+        let same : e.caller.0 ≡ b = equal_if e.caller.0 b k in
+        subst (λ x. is_active q x ≡ true → IsFollowed scripts q x (stand (e ∷ p) x) (stand q x)) same own act
+    by_test b act false k =
+        let on = some_if q b act in
+        let fol = f.runs b act in
+        let here : (stand p b).comp ≡ Some on.0 = fol.comp ∙ (stand_comp scripts q b cq ∙ on.1) in
+        subst (λ s. IsFollowed scripts q b s (stand q b)) (sym (stand_other p e b on.0 k here)) fol
+
+-- a turn of q that changes nothing
+pub lead : (scripts : List ScriptView) (p q : List Entry) (e : Entry) → IsCourse scripts p → IsCourse scripts (e ∷ q) → IsFor scripts q p → ChangesNothing q e →
+    (is_active q e.caller.0 ≡ true → IsFollowed scripts (e ∷ q) e.caller.0 (stand p e.caller.0) (stand (e ∷ q) e.caller.0)) → IsFor scripts (e ∷ q) p
+lead scripts p q e cp cq f u own = record {
+  alike = alike_then p q (e ∷ q) f.alike (alike_sym (e ∷ q) q after);
+  runs = λ b act. by_test b (sym (active_alike after b) ∙ act) (e.caller.0 == b) refl;
+}
+  where
+    after : IsAlike (e ∷ q) q
+    after = alike_unchanged (length scripts) q e (course_legal scripts (e ∷ q) cq) u
+
+    by_test : (b : ℕ) → is_active q b ≡ true → (t : Bool) → (e.caller.0 == b) ≡ t → IsFollowed scripts (e ∷ q) b (stand p b) (stand (e ∷ q) b)
+    by_test b act true k =
+        let same : e.caller.0 ≡ b = equal_if e.caller.0 b k in
+        subst (λ x. is_active q x ≡ true → IsFollowed scripts (e ∷ q) x (stand p x) (stand (e ∷ q) x)) same own act
+    by_test b act false k =
+        let on = some_if q b act in
+        let here : (stand q b).comp ≡ Some on.0 = stand_comp scripts q b cq.1 ∙ on.1 in
+        subst (λ t. IsFollowed scripts (e ∷ q) b (stand p b) t) (sym (stand_other q e b on.0 k here))
+        (followed_later scripts q (e ∷ q) b (stand p b) (stand q b) (quiet_alike (length scripts) q (e ∷ q) after) (f.runs b act))
+
+-- a turn of both
+pub both : (scripts : List ScriptView) (p q : List Entry) (d e : Entry) → IsCourse scripts (d ∷ p) → IsCourse scripts (e ∷ q) → IsFor scripts q p → d.caller.0 ≡ e.caller.0 →
+    IsAlike (d ∷ p) (e ∷ q) → KeepsQuiet (length scripts) q (e ∷ q) →
+    (is_active q e.caller.0 ≡ true → IsFollowed scripts (e ∷ q) e.caller.0 (stand (d ∷ p) e.caller.0) (stand (e ∷ q) e.caller.0)) →
+    ((b : ℕ) → (e.caller.0 == b) ≡ false → comp_of q b ≡ None → is_active (e ∷ q) b ≡ true → IsFollowed scripts (e ∷ q) b (stand (d ∷ p) b) (stand (e ∷ q) b)) →
+    is_active q e.caller.0 ≡ true → IsFor scripts (e ∷ q) (d ∷ p)
+both scripts p q d e cp cq f callers alike keeps own fresh acts = record { alike = alike; runs = λ b act. by_test b act (e.caller.0 == b) refl }
+  where
+    by_comp : (b : ℕ) → is_active (e ∷ q) b ≡ true → (e.caller.0 == b) ≡ false → (o : Option Comp) → comp_of q b ≡ o → IsFollowed scripts (e ∷ q) b (stand (d ∷ p) b) (stand (e ∷ q) b)
+    by_comp b act k None on = fresh b k on act
+    by_comp b act k (Some c) on =
+        let was : is_active q b ≡ true = and_left (is_active q b) _ (sym (halted_by_entry (length scripts) q e b c (course_legal scripts (e ∷ q) cq) on) ∙ act) in
+        let fol = f.runs b was in
+        let here : (stand q b).comp ≡ Some c = stand_comp scripts q b cq.1 ∙ on in
+        let there : (stand p b).comp ≡ Some c = fol.comp ∙ here in
+        let l : (d.caller.0 == b) ≡ false = ap (λ x. x == b) callers ∙ k in
+        subst (λ s. IsFollowed scripts (e ∷ q) b s (stand (e ∷ q) b)) (sym (stand_other p d b c l there))
+        (subst (λ t. IsFollowed scripts (e ∷ q) b (stand p b) t) (sym (stand_other q e b c k here))
+        (followed_later scripts q (e ∷ q) b (stand p b) (stand q b) keeps fol))
+
+    by_test : (b : ℕ) → is_active (e ∷ q) b ≡ true → (t : Bool) → (e.caller.0 == b) ≡ t → IsFollowed scripts (e ∷ q) b (stand (d ∷ p) b) (stand (e ∷ q) b)
+    by_test b act true k =
+        let same : e.caller.0 ≡ b = equal_if e.caller.0 b k in
+        subst (λ x. is_active q x ≡ true → IsFollowed scripts (e ∷ q) x (stand (d ∷ p) x) (stand (e ∷ q) x)) same own (subst (λ x. is_active q x ≡ true) same acts)
+    by_test b act false k = by_comp b act k (comp_of q b) refl

@@ -1,0 +1,104 @@
+-- When a state is closed, and when all are.
+use Rattle.std.proofs.Common.{ℕ, ◌≡◌, ◌+◌, ◌<◌, ◌≤◌, ◌⊎◌, inl, inr, Bool, true, false, Some, List, [], length, reverse, nat_lt, slice_get, get_or, refl, ap, sym, subst, ◌∙◌, arith, append-nil}
+use Rattle.std.proofs.lemmas.Bool.Decides.{nat_tests}
+use Rattle.std.proofs.lemmas.Option.{slice_get_within, slice_get-get_or}
+use Rattle.tc_verdict.specs.declared.verdict.Verdict.TheVariants as V
+use Rattle.tc_entry.specs.declared.entry.Entry.{Entry}
+use Rattle.tc_step.specs.Steps.{ScriptView}
+use Rattle.tc_table.specs.Case.{Case, past_of}
+use Rattle.tc_table.specs.History.{is_over}
+use Rattle.tc_table.specs.Answers.{is_active}
+use Rattle.tc_explore.specs.declared.witness.Witness.{Witness}
+use Rattle.tc_explore.specs.Told.{is_found}
+use Rattle.tc_explore.specs.Course.{stand, IsCourse}
+use Rattle.tc_explore.specs.Found.{IsOn}
+use Rattle.tc_explore.specs.Inside.Simulation.{IsCovered, GoesOn, IsClosed}
+use Rattle.tc_explore.specs.Inside.Seen.{IsSeen, IsLonger, StandsOn, IsRunClosed}
+use Rattle.tc_explore.specs.Laws.{IsClosedAt, AreClosed, AllFound}
+use Rattle.tc_explore.proofs.Seeing.{seen_longer, found_longer, closed_for_longer, covered_by, get_more}
+use Rattle.tc_explore.proofs.Completeness.{closed_is_complete}
+
+closed_by : (scripts : List ScriptView) (states : List Case) (found : List Witness) (q : List Entry) → IsCourse scripts q → is_over q ≡ false → is_active q 0 ≡ true → (stand q 0).left ≡ false →
+    ((b : ℕ) → b < length scripts → IsRunClosed scripts states found q b) → (is_found found V.Error ≡ true) ⊎ GoesOn scripts q → IsClosed scripts (IsSeen states) found q
+closed_by scripts states found q course going main stays runs stuck = record {
+  course = course;
+  going = going;
+  main = main;
+  main_stays = stays;
+  each = λ e near t on. runs e.caller.0 near e refl t on;
+  stuck = stuck;
+}
+
+-- a run goes on
+pub closed_going : (scripts : List ScriptView) (states : List Case) (found : List Witness) (t : Case) → IsOn scripts t → is_over (past_of t) ≡ false → is_active (past_of t) 0 ≡ true → (stand (past_of t) 0).left ≡ false →
+    ((b : ℕ) → b < length scripts → IsRunClosed scripts states found (past_of t) b) → GoesOn scripts (past_of t) → IsClosed scripts (IsSeen states) found (past_of t)
+closed_going scripts states found t on going main stays runs goes = closed_by scripts states found (past_of t) on.course going main stays runs (inr goes)
+
+-- none goes on, and error is found
+pub closed_stuck : (scripts : List ScriptView) (states : List Case) (before found : List Witness) (t : Case) → IsOn scripts t → is_over (past_of t) ≡ false → is_active (past_of t) 0 ≡ true → (stand (past_of t) 0).left ≡ false →
+    ((b : ℕ) → b < length scripts → IsRunClosed scripts states before (past_of t) b) → IsLonger before found → is_found found V.Error ≡ true → IsClosed scripts (IsSeen states) found (past_of t)
+closed_stuck scripts states before found t on going main stays runs more error =
+    closed_by scripts states found (past_of t) on.course going main stays
+    (λ b near e own turn goes. closed_for_longer scripts states states before found (past_of t) e ([], sym (append-nil states)) more (runs b near e own turn goes))
+    (inl error)
+
+pub ruleset state_rules = (closed_going, closed_stuck)
+
+-- ---- places
+
+get_longer : (a b : List Case) (i : ℕ) (t : Case) → IsLonger a b → slice_get a i ≡ Some t → slice_get b i ≡ Some t
+get_longer a b i t more h = ap (λ x. slice_get x i) more.1 ∙ get_more a more.0 i t h
+
+-- a copy of the state at a place is closed
+pub closed_at : (scripts : List ScriptView) (a b : List Case) (found : List Witness) (i : ℕ) (u : Case) → IsLonger a b → i < length a → u.history ≡ (get_or a i u).history → IsClosed scripts (IsSeen b) found (past_of u) →
+    IsClosedAt scripts b found i
+closed_at scripts a b found i u more near same closed t here =
+    let there : slice_get b i ≡ Some (get_or a i u) = get_longer a b i (get_or a i u) more (slice_get-get_or a i u near) in
+    let some : Some t ≡ Some (get_or a i u) = sym here ∙ there in
+    let is : t ≡ get_or a i u = cc in
+    let past : past_of u ≡ past_of t = ap reverse (same ∙ ap (λ (x : Case). x.history) (sym is)) in
+    subst (IsClosed scripts (IsSeen b) found) past closed
+
+pub ruleset place_rules = (closed_at)
+
+closed_longer : (scripts : List ScriptView) (a b : List Case) (f g : List Witness) (q : List Entry) → IsLonger a b → IsLonger f g → IsClosed scripts (IsSeen a) f q → IsClosed scripts (IsSeen b) g q
+closed_longer scripts a b f g q states found c = record {
+  course = c.course;
+  going = c.going;
+  main = c.main;
+  main_stays = c.main_stays;
+  each = λ e near t on. closed_for_longer scripts a b f g q e states found (c.each e near t on);
+  stuck = by_stuck c.stuck;
+}
+  where
+    by_stuck : (is_found f V.Error ≡ true) ⊎ GoesOn scripts q → (is_found g V.Error ≡ true) ⊎ GoesOn scripts q
+    by_stuck (inl h) = inl (found_longer f g V.Error found h)
+    by_stuck (inr h) = inr h
+
+-- so many, and one more
+pub closed_ats_more : (scripts : List ScriptView) (a b : List Case) (f g : List Witness) (n : ℕ) → IsLonger a b → IsLonger f g → n < length a → ((i : ℕ) → i < n → IsClosedAt scripts a f i) → IsClosedAt scripts b g n →
+    (i : ℕ) → i < n + 1 → IsClosedAt scripts b g i
+closed_ats_more scripts a b f g n states found within closed last i less = by_place (nat_lt i n) refl
+  where
+    by_place : (t : Bool) → nat_lt i n ≡ t → IsClosedAt scripts b g i
+    by_place true h = λ t here.
+        let near : i < n = grind (arith, nat_tests) in
+        let inside : i < length a = omega arith in
+        let was : slice_get a i ≡ Some (get_or a i t) = slice_get-get_or a i t inside in
+        let there : slice_get b i ≡ Some (get_or a i t) = get_longer a b i (get_or a i t) states was in
+        let some : Some t ≡ Some (get_or a i t) = sym here ∙ there in
+        let is : get_or a i t ≡ t = cc in
+        closed_longer scripts a b f g (past_of t) states found (closed i near t (was ∙ ap Some is))
+    by_place false h = let same : n ≡ i = grind (arith, nat_tests) in subst (IsClosedAt scripts b g) same last
+
+-- all of them
+pub closed_ats_all : (scripts : List ScriptView) (a : List Case) (f : List Witness) (n : ℕ) → length a ≤ n → ((i : ℕ) → i < n → IsClosedAt scripts a f i) → AreClosed scripts a f
+closed_ats_all scripts a f n whole closed = λ i t here. let near = slice_get_within a i t here in closed i (omega arith) t here
+
+pub ruleset loop_rules = (closed_ats_more, closed_ats_all)
+
+-- the states that begin with what stands for the opening are closed
+pub complete_by : (scripts : List ScriptView) (a b : List Case) (found : List Witness) (t u : Case) → 1 ≤ length scripts → past_of t ≡ [] → StandsOn scripts t u → IsSeen a (past_of u) → IsLonger a b → AreClosed scripts b found →
+    AllFound scripts found
+complete_by scripts a b found t u some is stands seen more closed =
+    closed_is_complete scripts b found some (subst (IsCovered scripts (IsSeen b)) is (covered_by scripts b t u stands (seen_longer a b (past_of u) more seen))) closed

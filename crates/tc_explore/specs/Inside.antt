@@ -1,0 +1,4 @@
+-- What a search has to show: which histories stand for others, and when what comes after them is seen.
+pub mod Alike
+pub mod Simulation
+pub mod Seen

@@ -1,0 +1,66 @@
+-- The states that a search has seen.
+use Rattle.std.specs.Prelude.{ℕ, ◌≡◌, ◌<◌, true, None, Option, Some, List, ◌∷◌, ◌++◌, ◌+◌, false, slice_get}
+use Rattle.tc_entry.specs.declared.comp.Comp.{Comp}
+use Rattle.tc_entry.specs.declared.entry.Entry.{Entry}
+use Rattle.tc_entry.specs.declared.phase.Phase.{Phase}
+use Rattle.tc_entry.specs.declared.phase.Phase.TheVariants as P
+use Rattle.tc_step.specs.Steps.{ScriptView}
+use Rattle.tc_table.specs.Case.{Case, past_of}
+use Rattle.tc_table.specs.History.{is_alive_type, is_over}
+use Rattle.tc_table.specs.Phases.{phase_if_any}
+use Rattle.tc_table.specs.Local.{overall}
+use Rattle.tc_table.specs.Faults.{components}
+use Rattle.tc_table.specs.Answers.{is_active}
+use Rattle.tc_explore.specs.declared.witness.Witness.{Witness}
+use Rattle.tc_explore.specs.Told.{is_found}
+use Rattle.tc_explore.specs.Course.{stand, IsTurn, IsCourse}
+use Rattle.tc_explore.specs.Inside.Alike.{IsAlike}
+use Rattle.tc_explore.specs.Inside.Simulation.{goes_on, IsFor, IsCovered, IsClosedFor}
+
+-- the same is known after both, and no run that goes on has a Wake to come
+pub record IsSame (p q : List Entry) : Type 0 where
+  pub alike : IsAlike p q
+  pub stands : (b : ℕ) → is_active p b ≡ true → (stand p b ≡ stand q b) × ((stand q b).wake ≡ None)
+
+-- the same, by all that is compared: components and runs that there are
+pub record HasSame (n : ℕ) (p q : List Entry) : Type 0 where
+  pub verdict : overall p ≡ overall q
+  pub count : components p ≡ components q
+  pub phases : (c : ℕ) → c < components p → phase_if_any p c ≡ phase_if_any q c
+  pub kinds : (c : ℕ) → c < components p → is_alive_type p c ≡ is_alive_type q c
+  pub comps : (b : ℕ) → b < n → (stand p b).comp ≡ (stand q b).comp
+  pub stands : (b : ℕ) → b < n → is_active p b ≡ true → (stand p b ≡ stand q b) × ((stand q b).wake ≡ None)
+
+-- one of these states is that after r
+abbrev pub IsSeen : List Case → List Entry → Type 0
+IsSeen states r = (i : ℕ) × (t : Case) × (slice_get states i ≡ Some t) × IsSame r (past_of t)
+
+-- there may be more behind
+abbrev pub IsLonger : {A : Type 0} → List A → List A → Type 0
+IsLonger {A} before after = (more : List A) × (after ≡ before ++ more)
+
+-- what a component is doing, as a number
+abbrev pub phase_code : Option Phase → ℕ
+phase_code None = 0
+phase_code (Some P.Inactive) = 1
+phase_code (Some P.Stopped) = 2
+phase_code (Some P.Killed) = 3
+phase_code (Some (P.Running run)) = run.0 + 4
+
+-- a component, if there is one, as a number
+abbrev pub comp_code : Option Comp → ℕ
+comp_code None = 0
+comp_code (Some c) = c.0 + 1
+
+-- whatever the one stands for, the other does
+abbrev pub StandsOn : List ScriptView → Case → Case → Type 0
+StandsOn scripts before after = (p : List Entry) → IsCourse scripts p → IsFor scripts (past_of before) p → IsFor scripts (past_of after) p
+
+-- after this entry the verdict is found, or the state is seen
+pub record IsAfter (scripts : List ScriptView) (states : List Case) (found : List Witness) (q : List Entry) (e : Entry) : Type 0 where
+  pub over : is_over (e ∷ q) ≡ true → is_found found (overall (e ∷ q)) ≡ true
+  pub more : is_over (e ∷ q) ≡ false → IsCovered scripts (IsSeen states) (e ∷ q)
+
+-- what each call of run b leads to is seen, or its verdict is found
+abbrev pub IsRunClosed : List ScriptView → List Case → List Witness → List Entry → ℕ → Type 0
+IsRunClosed scripts states found q b = (e : Entry) → e.caller.0 ≡ b → IsTurn scripts q e → goes_on e.reply ≡ true → IsClosedFor scripts (IsSeen states) found q e

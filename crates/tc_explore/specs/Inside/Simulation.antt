@@ -1,0 +1,105 @@
+-- A history stands for others that differ from it only in calls that change nothing but their caller's place.
+use Rattle.std.specs.Prelude.{ℕ, suc, ◌≡◌, ◌<◌, ◌≤◌, ◌⊎◌, nat_le, Bool, true, false, Option, Some, None, List, ◌∷◌, MatchOption, length, slice_get}
+use Rattle.tc_verdict.specs.declared.verdict.Verdict.{Verdict}
+use Rattle.tc_verdict.specs.declared.verdict.Verdict.TheVariants as V
+use Rattle.tc_verdict.specs.Verdict.{level_of}
+use Rattle.tc_verdict.specs.UserVerdict.{given}
+use Rattle.tc_entry.specs.declared.comp.Comp.{Comp}
+use Rattle.tc_entry.specs.declared.entry.Entry.{Entry}
+use Rattle.tc_entry.specs.declared.op.Op.{Op}
+use Rattle.tc_entry.specs.declared.op.Op.TheVariants as O
+use Rattle.tc_entry.specs.declared.op.Target.{Target}
+use Rattle.tc_entry.specs.declared.reply.Reply.{Reply}
+use Rattle.tc_entry.specs.declared.reply.Reply.TheVariants as R
+use Rattle.tc_entry.specs.Reply.{is_fault}
+use Rattle.tc_step.specs.Steps.{ScriptView}
+use Rattle.tc_table.specs.History.{is_over}
+use Rattle.tc_table.specs.Local.{overall}
+use Rattle.tc_table.specs.Faults.{fault}
+use Rattle.tc_table.specs.Answers.{is_active}
+use Rattle.tc_explore.specs.declared.witness.Witness.{Witness}
+use Rattle.tc_explore.specs.Course.{Stand, stand, steps_in, script_of, call_of, IsTurn, IsCourse}
+use Rattle.tc_explore.specs.Told.{is_found}
+use Rattle.tc_explore.specs.Inside.Alike.{IsAlike}
+
+-- the call asks a question, or sets a verdict that is no worse than this one
+abbrev pub is_quiet : Verdict → Op → Bool
+is_quiet worst (O.SetVerdict v) = nat_le (level_of (given v)) (level_of worst)
+is_quiet worst O.GetVerdict = true
+is_quiet worst (O.Running t) = true
+is_quiet worst (O.Alive t) = true
+is_quiet worst (O.Done t) = true
+is_quiet worst (O.Killed t) = true
+is_quiet worst op = false
+
+-- after this reply the caller has gone on, or the case is over
+abbrev pub goes_on : Reply → Bool
+goes_on R.Ended = false
+goes_on R.Parked = false
+goes_on _ = true
+
+-- the call of run b would be quiet, and is no error
+pub record IsQuietAt (n : ℕ) (q : List Entry) (b : ℕ) (op : Op) : Type 0 where
+  pub quiet : is_quiet (overall q) op ≡ true
+  pub no_fault : fault n q b op ≡ None
+
+-- what a run that is known so calls at its k-th step
+abbrev pub call_at : List ScriptView → ℕ → Stand → Option Comp → ℕ → Op
+call_at scripts b s (Some me) k = call_of me s.bound (slice_get (steps_in (script_of scripts b)) k)
+call_at scripts b s None k = O.Finish
+
+-- the Wake is that of the Wait
+pub record IsWakeOf (wait wake : Op) : Type 0 where
+  pub killed : Bool
+  pub target : Target
+  pub waits : wait ≡ O.Wait killed target
+  pub wakes : wake ≡ O.Wake killed target
+
+-- run b has called as many steps as the other, or less, and those between are quiet
+pub record IsBefore (scripts : List ScriptView) (q : List Entry) (b : ℕ) (s t : Stand) : Type 0 where
+  pub fewer : s.called ≤ t.called
+  pub between : (k : ℕ) → s.called ≤ k → k < t.called → IsQuietAt (length scripts) q b (call_at scripts b t t.comp k)
+
+-- run b was parked at the Wait that the other calls next
+pub record IsParkedAt (scripts : List ScriptView) (b : ℕ) (s t : Stand) (wake : Op) : Type 0 where
+  pub one_more : s.called ≡ suc t.called
+  pub wake_of : IsWakeOf (call_at scripts b t t.comp t.called) wake
+
+-- what is known of run b is followed by what is known of it after q
+pub record IsFollowed (scripts : List ScriptView) (q : List Entry) (b : ℕ) (s t : Stand) : Type 0 where
+  pub comp : s.comp ≡ t.comp
+  pub bound : s.bound ≡ t.bound
+  pub left : s.left ≡ t.left
+  pub no_wake : t.wake ≡ None
+  pub place : MatchOption s.wake (IsBefore scripts q b s t) (λ wake. IsParkedAt scripts b s t wake)
+
+-- q stands for p
+pub record IsFor (scripts : List ScriptView) (q p : List Entry) : Type 0 where
+  pub alike : IsAlike p q
+  pub runs : (b : ℕ) → is_active q b ≡ true → IsFollowed scripts q b (stand p b) (stand q b)
+
+-- each history that q stands for has one of these that stands for it
+abbrev pub IsCovered : List ScriptView → (List Entry → Type 0) → List Entry → Type 0
+IsCovered scripts Seen q = (p : List Entry) → IsCourse scripts p → IsFor scripts q p → (r : List Entry) × Seen r × IsFor scripts r p
+
+-- a call that goes on and is no error
+pub record GoesOn (scripts : List ScriptView) (q : List Entry) : Type 0 where
+  pub entry : Entry
+  pub turn : IsTurn scripts q entry
+  pub on : goes_on entry.reply ≡ true
+  pub no_fault : is_fault entry.reply ≡ false
+
+-- what each call of run b leads to is seen, or its verdict is found
+pub record IsClosedFor (scripts : List ScriptView) (Seen : List Entry → Type 0) (found : List Witness) (q : List Entry) (e : Entry) : Type 0 where
+  pub loud : is_fault e.reply ≡ false → is_quiet (overall q) e.op ≡ false
+  pub over : is_over (e ∷ q) ≡ true → is_found found (overall (e ∷ q)) ≡ true
+  pub more : is_over (e ∷ q) ≡ false → IsCovered scripts Seen (e ∷ q)
+
+-- whatever comes after q is seen, or its verdict is found
+pub record IsClosed (scripts : List ScriptView) (Seen : List Entry → Type 0) (found : List Witness) (q : List Entry) : Type 0 where
+  pub course : IsCourse scripts q
+  pub going : is_over q ≡ false
+  pub main : is_active q 0 ≡ true
+  pub main_stays : (stand q 0).left ≡ false
+  pub each : (e : Entry) → e.caller.0 < length scripts → IsTurn scripts q e → goes_on e.reply ≡ true → IsClosedFor scripts Seen found q e
+  pub stuck : (is_found found V.Error ≡ true) ⊎ GoesOn scripts q

@@ -1,0 +1,23 @@
+-- What the report of a test case says of the courses of its scripts.
+use Rattle.std.specs.Prelude.{◌≡◌, true, List, length}
+use Rattle.tc_step.specs.Steps.{ScriptView}
+use Rattle.tc_book.specs.declared.closed.Closed.{Closed}
+use Rattle.tc_exec.specs.Case.{IsCaseReport, IsMadeOf}
+use Rattle.tc_behaviour.specs.Acts.{MakesItsCalls}
+use Rattle.tc_explore.specs.declared.witness.Witness.{Witness}
+use Rattle.tc_explore.specs.Found.{IsWitness}
+use Rattle.tc_explore.specs.Laws.{AllFound}
+use Rattle.tc_explore.specs.Told.{is_found}
+
+-- this is the report of a run of these scripts: one history, made of the logs of passes with which each script made its calls
+pub record IsReportOf (scripts : List ScriptView) (c : Closed) : Type 0 where
+  pub report : IsCaseReport (length scripts) c
+  pub made : IsMadeOf MakesItsCalls scripts c
+
+-- the history of such a report is a complete course of the scripts, with the verdict of the report
+abbrev pub ReportIsCourse : Type 0
+ReportIsCourse = (scripts : List ScriptView) (c : Closed) → IsReportOf scripts c → IsWitness scripts c.history c.verdict
+
+-- where the verdict of each complete course is found, that of each such report is
+abbrev pub ReportIsFound : Type 0
+ReportIsFound = (scripts : List ScriptView) (found : List Witness) (c : Closed) → AllFound scripts found → IsReportOf scripts c → is_found found c.verdict ≡ true

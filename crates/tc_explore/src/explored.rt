@@ -1,0 +1,112 @@
+//! The search for the overall verdicts of a test case.
+ghost use Rattle.std.specs.Prelude.{◌≡◌, ◌≤◌, IfOk, OnOk, length};
+ghost use Rattle.tc_entry.specs.declared.limits.TheConstants.{BEHAVIOURS};
+ghost use Rattle.tc_explore.specs.Found.{AreWitnesses, AreLegal};
+ghost use Rattle.tc_explore.specs.Laws.{AllFound};
+ghost use Rattle.tc_explore.specs.declared.explored.Ending.TheVariants.{Complete};
+
+use crate::full::search_all;
+use crate::search::{Extent, search_reduced};
+use crate::witness::Witness;
+use std::alloc::Global;
+use tc_entry::Sequence;
+use tc_step::Script;
+use tc_verdict::NoMemory;
+
+/// How a search ended.
+#[derive(Clone, Copy, PartialEq, Eq, Debug)]
+pub enum Ending {
+    /// No verdict is missed: each complete course of the test case ends with one that was found.
+    Complete,
+    /// The search came to its end, and it is not proved that none is missed.
+    Reduced,
+    /// The search met its limit.
+    Undecided,
+}
+
+/// What a search has found.
+#[derive(Drop)]
+pub struct Explored {
+    /// A witness of each overall verdict that was found.
+    pub found: Sequence<Witness>,
+    /// How many states the search with reductions looked at.
+    pub states: usize,
+    pub ending: Ending,
+}
+
+// How many states were looked at, and how the search ended.
+#[derive(Clone, Copy)]
+struct Reach {
+    states: usize,
+    ending: Ending,
+}
+
+// How many entries the states of the search by the calls of all runs may have together: each keeps those of a course.
+const KEPT: usize = 2_000_000;
+
+// How many states that search looks at: no more than the other, and fewer where the scripts have many steps.
+fn full_limit(scripts: &[Script], limit: usize) -> usize {
+    let mut entries: usize = 1;
+    for script in scripts {
+        entries = entries.saturating_add(script.steps().len());
+    }
+    let most = KEPT / entries;
+    if limit < most { limit } else { most }
+}
+
+// Makes both searches, that by the calls of all runs only where the other came to its end.
+fn search_both(
+    alloc: Global,
+    scripts: &[Script],
+    limit: usize,
+    found: &mut Vec<Witness>,
+) -> Result<Reach, NoMemory>
+    requires some { 1 ≤ length scripts.now }
+    requires few { length scripts.now ≤ BEHAVIOURS }
+    requires found { AreWitnesses scripts.now found.old.items }
+    ensures found { OnOk result (AreWitnesses scripts.now found.new.items) }
+    ensures complete { IfOk result (λ r. r.ending ≡ Complete → AllFound scripts.now found.new.items) }
+    ensures within { IfOk result (λ r. r.states ≤ limit) }
+{
+    let reduced = search_reduced(alloc, scripts, limit, found)?;
+    let states = reduced.states;
+    if !reduced.is_whole {
+        let ending = Ending::Undecided;
+        return Ok(Reach { states, ending });
+    }
+    let full = search_all(alloc, scripts, full_limit(scripts, limit), found)?;
+    let ending = if full.is_whole {
+        Ending::Complete
+    } else {
+        Ending::Reduced
+    };
+    Ok(Reach { states, ending })
+}
+
+/// Looks for the overall verdicts that the courses of a test case give, each with a complete course that gives it. A search
+/// with reductions looks at so many states at most; where it comes to its end, one by the calls of all runs follows, which
+/// keeps no more states, and fewer of a test case with many steps. Where that comes to its end too, the verdict of each
+/// complete course is found. A test case without behaviours is left undecided.
+#[tactic(auto, using(crate::proofs::Legality::legal_rules))]
+pub fn explore(alloc: Global, scripts: &[Script], limit: usize) -> Result<Explored, NoMemory>
+    requires few { length scripts.now ≤ BEHAVIOURS }
+    ensures sound { IfOk result (λ e. AreWitnesses scripts.now e.found) }
+    ensures legal { IfOk result (λ e. AreLegal scripts.now e.found) }
+    ensures complete { IfOk result (λ e. e.ending ≡ Complete → AllFound scripts.now e.found) }
+    ensures within { IfOk result (λ e. e.states ≤ limit) }
+{
+    let mut found = Vec::new(alloc);
+    if scripts.is_empty() {
+        return Ok(Explored {
+            found: Sequence::new(found),
+            states: 0,
+            ending: Ending::Undecided,
+        });
+    }
+    let reach = search_both(alloc, scripts, limit, &mut found)?;
+    Ok(Explored {
+        found: Sequence::new(found),
+        states: reach.states,
+        ending: reach.ending,
+    })
+}

@@ -1,0 +1,452 @@
+//! The search that follows the calls of all runs, but for those that change nothing but their caller's place, which it
+//! makes at once. Where it comes to its end nothing is missed.
+ghost use Rattle.std.specs.Prelude.{◌≡◌, ◌≤◌, ◌<◌, ◌∷◌, ℕ, true, false, [], Some, IfOk, IsTrue, OnOk, All, length, slice_get};
+ghost use Rattle.tc_entry.specs.declared.limits.TheConstants.{BEHAVIOURS};
+ghost use Rattle.tc_entry.specs.Reply as reply;
+ghost use Rattle.tc_table.specs.Case.{past_of};
+ghost use Rattle.tc_table.specs.Answers as answers;
+ghost use Rattle.tc_table.specs.History as history;
+ghost use Rattle.tc_table.specs.Local as verdicts;
+ghost use Rattle.tc_explore.specs.Course as courses;
+ghost use Rattle.tc_explore.specs.Found.{IsOn, AreWitnesses};
+ghost use Rattle.tc_explore.specs.Inside.Simulation as moves;
+ghost use Rattle.tc_explore.specs.Laws.{IsClosedAt, AreClosed, AllFound};
+ghost use Rattle.tc_explore.specs.Inside.Seen.{IsSeen, IsLonger, StandsOn, IsAfter, IsRunClosed};
+
+use crate::course::Course;
+use crate::same::is_same;
+use crate::search::{Extent, note, with_stuck};
+use crate::told::{is_found, level};
+use crate::turns::next_call;
+use crate::witness::Witness;
+use indexmap::IndexSet;
+use std::alloc::Global;
+use tc_entry::{Op, Reply};
+use tc_step::{STEPS, Script};
+use tc_verdict::{NoMemory, Run, Verdict, from_user};
+
+// Whether a call asks a question, or sets a verdict that is no worse than this one.
+fn is_quiet_now(op: &Op, worst: Verdict) -> bool
+    ensures { result ≡ moves.is_quiet worst op.now }
+{
+    match op {
+        Op::SetVerdict(verdict) => level(from_user(*verdict)) <= level(worst),
+        Op::GetVerdict | Op::Running(_) | Op::Alive(_) | Op::Done(_) | Op::Killed(_) => true,
+        _ => false,
+    }
+}
+
+// Whether a call is quiet, and no error.
+fn is_quiet_call(course: &Course, run: Run, op: &Op) -> bool
+    ensures plain { IsTrue result → reply.is_fault (answers.answer course.now.behaviours (past_of course.now) run.0 op.now) ≡ false }
+    ensures going { IsTrue result → reply.is_ended (answers.answer course.now.behaviours (past_of course.now) run.0 op.now) ≡ false }
+    ensures quiet { IsTrue result → moves.is_quiet (verdicts.overall (past_of course.now)) op.now ≡ true }
+{
+    let reply = course.would(run, op);
+    if reply.is_fault() || reply.is_ended() {
+        return false;
+    }
+    is_quiet_now(op, course.verdict())
+}
+
+// A course, and whether it is longer than it was.
+#[derive(Drop)]
+struct Advance {
+    course: Course,
+    went_on: bool,
+}
+
+// The course with the next call of a run, if that is quiet and no error.
+#[tactic(auto, using(crate::proofs::Searching::searching_rules, crate::proofs::Turning::turn_rules))]
+fn with_quiet_call(course: Course, scripts: &[Script], run: Run) -> Result<Advance, NoMemory>
+    requires on { IsOn scripts.now course }
+    ensures on { IfOk result (λ a. IsOn scripts.now a.course) }
+    ensures stands { IfOk result (λ a. StandsOn scripts.now course a.course) }
+{
+    let Some(op) = next_call(&course, scripts, run) else {
+        return Ok(Advance {
+            course,
+            went_on: false,
+        });
+    };
+    if !is_quiet_call(&course, run, &op) {
+        return Ok(Advance {
+            course,
+            went_on: false,
+        });
+    }
+    let course = course.with(run, op)?;
+    Ok(Advance {
+        course,
+        went_on: true,
+    })
+}
+
+// The course with the next quiet calls of a run.
+#[tactic(auto, using(crate::proofs::Searching::searching_rules))]
+fn with_quiet_calls(course: Course, scripts: &[Script], run: Run) -> Result<Course, NoMemory>
+    requires on { IsOn scripts.now course }
+    ensures on { IfOk result (λ c. IsOn scripts.now c) }
+    ensures stands { IfOk result (λ c. StandsOn scripts.now course c) }
+{
+    let mut course = course;
+    for _ in 0..STEPS {
+        let advance = with_quiet_call(course, scripts, run)?;
+        course = advance.course;
+        if !advance.went_on {
+            return Ok(course);
+        }
+    }
+    Ok(course)
+}
+
+// The course with the next quiet calls of all runs.
+#[tactic(auto, using(crate::proofs::Searching::searching_rules))]
+fn calmed(course: Course, scripts: &[Script]) -> Result<Course, NoMemory>
+    requires few { length scripts.now ≤ BEHAVIOURS }
+    requires on { IsOn scripts.now course }
+    ensures on { IfOk result (λ c. IsOn scripts.now c) }
+    ensures stands { IfOk result (λ c. StandsOn scripts.now course c) }
+{
+    let mut course = course;
+    for run in 0..scripts.len() as u16 {
+        course = with_quiet_calls(course, scripts, Run(run))?;
+    }
+    Ok(course)
+}
+
+/// The states that were met, by a course each, at most so many.
+#[derive(Drop)]
+pub(crate) struct Full {
+    pub(crate) states: Vec<Course>,
+    pub(crate) keys: IndexSet<Vec<u16>>,
+    pub(crate) limit: usize,
+}
+
+// Whether the state at this place is that of the course.
+#[tactic(auto, using(crate::proofs::Seeing::seeing_rules))]
+fn is_at(states: &[Course], at: usize, course: &Course, scripts: &[Script]) -> bool
+    requires some { 1 ≤ length scripts.now }
+    requires few { length scripts.now ≤ BEHAVIOURS }
+    requires on { IsOn scripts.now course.now }
+    requires states { All (λ t. IsOn scripts.now t) states.now }
+    ensures { IsTrue result → IsSeen states.now (past_of course.now) }
+{
+    if at >= states.len() {
+        return false;
+    }
+    is_same(course, &states[at], scripts)
+}
+
+// Takes in the state of a course, and answers whether it is among those that are seen.
+#[tactic(auto, using(crate::proofs::Seeing::seeing_rules))]
+fn place(
+    alloc: Global,
+    scripts: &[Script],
+    course: Course,
+    full: &mut Full,
+) -> Result<bool, NoMemory>
+    requires some { 1 ≤ length scripts.now }
+    requires few { length scripts.now ≤ BEHAVIOURS }
+    requires on { IsOn scripts.now course }
+    requires states { All (λ t. IsOn scripts.now t) full.old.states.items }
+    ensures states { OnOk result (All (λ t. IsOn scripts.now t) full.new.states.items) }
+    ensures longer { OnOk result (IsLonger full.old.states.items full.new.states.items) }
+    ensures seen { IfOk result (λ is_seen. is_seen ≡ true → IsSeen full.new.states.items (past_of course)) }
+{
+    let key = course.key(alloc)?;
+    let (at, is_new) = full.keys.insert_full(key)?;
+    if !is_new {
+        return Ok(is_at(&full.states, at, &course, scripts));
+    }
+    if full.states.len() >= full.limit || !is_same(&course, &course, scripts) {
+        return Ok(false);
+    }
+    full.states.push(course)?;
+    Ok(true)
+}
+
+// The course with one more call; the course itself is kept.
+#[tactic(auto, using(crate::proofs::Closed::closed_rules, crate::proofs::Turning::turn_rules))]
+fn with_call(
+    alloc: Global,
+    scripts: &[Script],
+    course: &Course,
+    run: Run,
+    op: Op,
+) -> Result<Course, NoMemory>
+    requires on { IsOn scripts.now course.now }
+    requires turn { courses.IsTurn scripts.now (past_of course.now) (courses.taken course.now.behaviours (past_of course.now) run op) }
+    ensures on { IfOk result (λ c. IsOn scripts.now c) }
+    ensures added { IfOk result (λ c. past_of c ≡ courses.taken course.now.behaviours (past_of course.now) run op ∷ past_of course.now) }
+{
+    course.copied(alloc)?.with(run, op)
+}
+
+// Makes a call, and answers whether what it leads to is seen, or its verdict is found.
+#[tactic(auto, using(crate::proofs::Closed::closed_rules, crate::proofs::Seeing::seeing_rules))]
+fn after_call(
+    alloc: Global,
+    scripts: &[Script],
+    course: &Course,
+    run: Run,
+    op: Op,
+    full: &mut Full,
+    found: &mut Vec<Witness>,
+) -> Result<bool, NoMemory>
+    requires some { 1 ≤ length scripts.now }
+    requires few { length scripts.now ≤ BEHAVIOURS }
+    requires on { IsOn scripts.now course.now }
+    requires turn { courses.IsTurn scripts.now (past_of course.now) (courses.taken course.now.behaviours (past_of course.now) run op) }
+    requires states { All (λ t. IsOn scripts.now t) full.old.states.items }
+    requires found { AreWitnesses scripts.now found.old.items }
+    ensures states { OnOk result (All (λ t. IsOn scripts.now t) full.new.states.items) }
+    ensures more_states { OnOk result (IsLonger full.old.states.items full.new.states.items) }
+    ensures found { OnOk result (AreWitnesses scripts.now found.new.items) }
+    ensures more_found { OnOk result (IsLonger found.old.items found.new.items) }
+    ensures closed { IfOk result (λ is_closed. is_closed ≡ true → IsAfter scripts.now full.new.states.items found.new.items (past_of course.now) (courses.taken course.now.behaviours (past_of course.now) run op)) }
+{
+    let next = with_call(alloc, scripts, course, run, op)?;
+    if next.is_over() {
+        let verdict = next.verdict();
+        note(alloc, scripts, next, found)?;
+        return Ok(is_found(found, verdict));
+    }
+    let calm = calmed(next, scripts)?;
+    let is_seen = place(alloc, scripts, calm, full)?;
+    Ok(is_seen)
+}
+
+// Whether after this reply the caller has gone on, or the case is over.
+fn has_gone_on(reply: Reply) -> bool
+    ensures { result ≡ moves.goes_on reply }
+{
+    match reply {
+        Reply::Ended | Reply::Parked => false,
+        _ => true,
+    }
+}
+
+// Whether a call is an error, or not quiet.
+fn is_loud(course: &Course, run: Run, op: &Op) -> bool
+    ensures { IsTrue result → reply.is_fault (answers.answer course.now.behaviours (past_of course.now) run.0 op.now) ≡ false → moves.is_quiet (verdicts.overall (past_of course.now)) op.now ≡ false }
+{
+    if course.would(run, op).is_fault() {
+        return true;
+    }
+    !is_quiet_now(op, course.verdict())
+}
+
+// What is known of the calls of a run, or of all: what they lead to is seen, and one that is no error goes on.
+#[derive(Clone, Copy)]
+struct Tried {
+    is_closed: bool,
+    goes_on: bool,
+}
+
+// Makes the next call of a run.
+#[tactic(auto, using(crate::proofs::Closed::run_rules, crate::proofs::Seeing::seeing_rules))]
+fn try_run(
+    alloc: Global,
+    scripts: &[Script],
+    course: &Course,
+    run: Run,
+    full: &mut Full,
+    found: &mut Vec<Witness>,
+) -> Result<Tried, NoMemory>
+    requires few { length scripts.now ≤ BEHAVIOURS }
+    requires within { run.0 < length scripts.now }
+    requires on { IsOn scripts.now course.now }
+    requires states { All (λ t. IsOn scripts.now t) full.old.states.items }
+    requires found { AreWitnesses scripts.now found.old.items }
+    ensures states { OnOk result (All (λ t. IsOn scripts.now t) full.new.states.items) }
+    ensures more_states { OnOk result (IsLonger full.old.states.items full.new.states.items) }
+    ensures found { OnOk result (AreWitnesses scripts.now found.new.items) }
+    ensures more_found { OnOk result (IsLonger found.old.items found.new.items) }
+    ensures closed { IfOk result (λ t. t.is_closed ≡ true → IsRunClosed scripts.now full.new.states.items found.new.items (past_of course.now) run.0) }
+    ensures goes_on { IfOk result (λ t. t.goes_on ≡ true → moves.GoesOn scripts.now (past_of course.now)) }
+{
+    let Some(op) = next_call(course, scripts, run) else {
+        return Ok(Tried {
+            is_closed: true,
+            goes_on: false,
+        });
+    };
+    let reply = course.would(run, &op);
+    if !has_gone_on(reply) {
+        return Ok(Tried {
+            is_closed: true,
+            goes_on: false,
+        });
+    }
+    if !is_loud(course, run, &op) {
+        return Ok(Tried {
+            is_closed: false,
+            goes_on: false,
+        });
+    }
+    let is_closed = after_call(alloc, scripts, course, run, op, full, found)?;
+    Ok(Tried {
+        is_closed,
+        goes_on: !reply.is_fault(),
+    })
+}
+
+// Makes the next call of each run, until one leads to what is not seen.
+#[tactic(auto, using(crate::proofs::Closed::runs_rules, crate::proofs::Seeing::seeing_rules))]
+fn try_runs(
+    alloc: Global,
+    scripts: &[Script],
+    course: &Course,
+    full: &mut Full,
+    found: &mut Vec<Witness>,
+) -> Result<Tried, NoMemory>
+    requires few { length scripts.now ≤ BEHAVIOURS }
+    requires on { IsOn scripts.now course.now }
+    requires states { All (λ t. IsOn scripts.now t) full.old.states.items }
+    requires found { AreWitnesses scripts.now found.old.items }
+    ensures states { OnOk result (All (λ t. IsOn scripts.now t) full.new.states.items) }
+    ensures more_states { OnOk result (IsLonger full.old.states.items full.new.states.items) }
+    ensures found { OnOk result (AreWitnesses scripts.now found.new.items) }
+    ensures more_found { OnOk result (IsLonger found.old.items found.new.items) }
+    ensures closed { IfOk result (λ t. t.is_closed ≡ true → (b : ℕ) → b < length scripts.now → IsRunClosed scripts.now full.new.states.items found.new.items (past_of course.now) b) }
+    ensures goes_on { IfOk result (λ t. t.goes_on ≡ true → moves.GoesOn scripts.now (past_of course.now)) }
+{
+    let mut goes_on = false;
+    for run in 0..scripts.len() as u16 {
+        let tried = try_run(alloc, scripts, course, Run(run), full, found)?;
+        if !tried.is_closed {
+            return Ok(tried);
+        }
+        goes_on = goes_on || tried.goes_on;
+    }
+    Ok(Tried {
+        is_closed: true,
+        goes_on,
+    })
+}
+
+// Looks at the state of a course: makes the next call of each run, or ends the case where none goes on. It answers whether
+// what comes after the state is seen, or found.
+#[tactic(auto, using(crate::proofs::States::state_rules, crate::proofs::Closed::runs_rules, crate::proofs::Seeing::seeing_rules))]
+fn expand_course(
+    alloc: Global,
+    scripts: &[Script],
+    course: Course,
+    full: &mut Full,
+    found: &mut Vec<Witness>,
+) -> Result<bool, NoMemory>
+    requires some { 1 ≤ length scripts.now }
+    requires few { length scripts.now ≤ BEHAVIOURS }
+    requires on { IsOn scripts.now course }
+    requires states { All (λ t. IsOn scripts.now t) full.old.states.items }
+    requires found { AreWitnesses scripts.now found.old.items }
+    ensures states { OnOk result (All (λ t. IsOn scripts.now t) full.new.states.items) }
+    ensures more_states { OnOk result (IsLonger full.old.states.items full.new.states.items) }
+    ensures found { OnOk result (AreWitnesses scripts.now found.new.items) }
+    ensures more_found { OnOk result (IsLonger found.old.items found.new.items) }
+    ensures closed { IfOk result (λ is_closed. is_closed ≡ true → moves.IsClosed scripts.now (IsSeen full.new.states.items) found.new.items (past_of course)) }
+{
+    if course.is_over() || !course.is_active(Run(0)) || course.has_left(Run(0)) {
+        return Ok(false);
+    }
+    let tried = try_runs(alloc, scripts, &course, full, found)?;
+    if !tried.is_closed {
+        return Ok(false);
+    }
+    if tried.goes_on {
+        return Ok(true);
+    }
+    let stuck = with_stuck(course.copied(alloc)?, scripts)?;
+    note(alloc, scripts, stuck, found)?;
+    Ok(is_found(found, Verdict::Error))
+}
+
+// Looks at the state at this place.
+#[tactic(auto, using(crate::proofs::States::place_rules, crate::proofs::Seeing::seeing_rules))]
+fn expand(
+    alloc: Global,
+    scripts: &[Script],
+    at: usize,
+    full: &mut Full,
+    found: &mut Vec<Witness>,
+) -> Result<bool, NoMemory>
+    requires some { 1 ≤ length scripts.now }
+    requires few { length scripts.now ≤ BEHAVIOURS }
+    requires within { at < length full.old.states.items }
+    requires states { All (λ t. IsOn scripts.now t) full.old.states.items }
+    requires found { AreWitnesses scripts.now found.old.items }
+    ensures states { OnOk result (All (λ t. IsOn scripts.now t) full.new.states.items) }
+    ensures more_states { OnOk result (IsLonger full.old.states.items full.new.states.items) }
+    ensures found { OnOk result (AreWitnesses scripts.now found.new.items) }
+    ensures more_found { OnOk result (IsLonger found.old.items found.new.items) }
+    ensures closed { IfOk result (λ is_closed. is_closed ≡ true → IsClosedAt scripts.now full.new.states.items found.new.items at) }
+{
+    let course = full.states[at].copied(alloc)?;
+    expand_course(alloc, scripts, course, full, found)
+}
+
+// Looks at all states, until none is left or one has more behind it than is seen; it answers whether none was left.
+#[tactic(auto, using(crate::proofs::States::loop_rules, crate::proofs::Closed::longer_then, crate::proofs::Seeing::seeing_rules))]
+fn expand_all(
+    alloc: Global,
+    scripts: &[Script],
+    limit: usize,
+    full: &mut Full,
+    found: &mut Vec<Witness>,
+) -> Result<bool, NoMemory>
+    requires some { 1 ≤ length scripts.now }
+    requires few { length scripts.now ≤ BEHAVIOURS }
+    requires states { All (λ t. IsOn scripts.now t) full.old.states.items }
+    requires found { AreWitnesses scripts.now found.old.items }
+    ensures more_states { OnOk result (IsLonger full.old.states.items full.new.states.items) }
+    ensures found { OnOk result (AreWitnesses scripts.now found.new.items) }
+    ensures closed { IfOk result (λ is_closed. is_closed ≡ true → AreClosed scripts.now full.new.states.items found.new.items) }
+    ensures within { IfOk result (λ is_closed. is_closed ≡ true → length full.new.states.items ≤ limit) }
+{
+    for at in 0..limit {
+        if at >= full.states.len() {
+            return Ok(true);
+        }
+        if !expand(alloc, scripts, at, full, found)? {
+            return Ok(false);
+        }
+    }
+    Ok(limit >= full.states.len())
+}
+
+/// Makes the calls of all runs from each state that is met, within a limit. Where it comes to its end the verdict of each
+/// complete course is found.
+#[tactic(auto, using(crate::proofs::States::complete_by, crate::proofs::Turning::turn_rules, crate::proofs::Seeing::seeing_rules))]
+pub(crate) fn search_all(
+    alloc: Global,
+    scripts: &[Script],
+    limit: usize,
+    found: &mut Vec<Witness>,
+) -> Result<Extent, NoMemory>
+    requires some { 1 ≤ length scripts.now }
+    requires few { length scripts.now ≤ BEHAVIOURS }
+    requires found { AreWitnesses scripts.now found.old.items }
+    ensures found { OnOk result (AreWitnesses scripts.now found.new.items) }
+    ensures complete { IfOk result (λ e. e.is_whole ≡ true → AllFound scripts.now found.new.items) }
+    ensures within { IfOk result (λ e. e.is_whole ≡ true → e.states ≤ limit) }
+{
+    let mut full = Full {
+        states: Vec::new(alloc),
+        keys: IndexSet::new(alloc),
+        limit,
+    };
+    let opening = Course::opening(alloc, scripts.len() as u16)?;
+    let calm = calmed(opening, scripts)?;
+    if !place(alloc, scripts, calm, &mut full)? {
+        return Ok(Extent {
+            states: 0,
+            is_whole: false,
+        });
+    }
+    let is_whole = expand_all(alloc, scripts, limit, &mut full, found)?;
+    Ok(Extent {
+        states: full.states.len(),
+        is_whole,
+    })
+}

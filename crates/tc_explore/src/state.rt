@@ -1,0 +1,46 @@
+//! What is known after the entries of a witness.
+ghost use Rattle.std.specs.Prelude.{◌≡◌, ◌≤◌, IfOk, reverse};
+ghost use Rattle.tc_entry.specs.declared.limits.TheConstants.{BEHAVIOURS};
+ghost use Rattle.tc_table.specs.Legal.{IsLegal};
+ghost use Rattle.tc_table.specs.Standing.{StandsFor};
+ghost use Rattle.tc_explore.specs.Course.{stand};
+
+use crate::standing::Standing;
+use std::alloc::Global;
+use tc_entry::Entry;
+use tc_table::{CaseState, CheckFault, replay};
+use tc_verdict::NoMemory;
+
+/// The state of a case after these entries.
+pub(crate) fn state_after(
+    alloc: Global,
+    behaviours: u16,
+    entries: &[Entry],
+) -> Result<CaseState, NoMemory>
+    requires some { 1 ≤ behaviours }
+    requires few { behaviours ≤ BEHAVIOURS }
+    requires legal { IsLegal behaviours (reverse entries.now) }
+    ensures { IfOk result (λ s. StandsFor s (reverse entries.now)) }
+{
+    match replay(alloc, behaviours, entries) {
+        Ok(state) => Ok(state),
+        Err(CheckFault::NoMemory) => Err(NoMemory),
+        Err(CheckFault::Differs { .. }) => unreachable!(),
+    }
+}
+
+/// What is known of a run after these entries.
+#[tactic(auto, using(crate::proofs::Prefixes::reverse_more))]
+pub(crate) fn standing_after(
+    alloc: Global,
+    entries: &[Entry],
+    run: u16,
+) -> Result<Standing, NoMemory>
+    ensures { IfOk result (λ s. s ≡ stand (reverse entries.now) run) }
+{
+    let mut standing = Standing::opening(alloc, run);
+    for entry in entries {
+        standing.take_in(entry, run)?;
+    }
+    Ok(standing)
+}

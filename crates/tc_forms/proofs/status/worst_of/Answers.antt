@@ -1,0 +1,7 @@
+use Rattle.tc_forms.proofs.Worst.{worst_counted_more}
+use Rattle.tc_forms.proofs.status.worst_of.Goals as goal
+
+pub loop-case-preserved : goal.loop-case-preserved
+loop-case-preserved c =
+    let e = worst_counted_more c.args.cases.now c.loop-case.case-index c.case-item.result c.loop-case-test.true in
+    cc

@@ -1,0 +1,39 @@
+-- What the forms say of a test case: by its history, or by its report.
+use Rattle.std.specs.Prelude.{ℕ, if◌then◌else◌, List, [], ◌∷◌, ◌++◌, map, reverse}
+use Rattle.tc_entry.specs.declared.entry.Entry.{Entry}
+use Rattle.tc_table.specs.History.{comps, is_over}
+use Rattle.tc_table.specs.Local.{local, overall}
+use Rattle.tc_history.specs.declared.read.Block.{Block}
+use Rattle.tc_report.specs.declared.results.CampaignEnd.{CampaignEnd}
+use Rattle.tc_report.specs.declared.results.CampaignEnd.TheVariants as E
+use Rattle.tc_report.specs.declared.results.CaseEnd.{CaseEnd}
+use Rattle.tc_report.specs.declared.results.CaseEnd.TheVariants as C
+use Rattle.tc_report.specs.declared.results.Finished.{Finished}
+use Rattle.tc_report.specs.declared.results.Results.{Results}
+use Rattle.tc_forms.specs.declared.summary.Summary.{Summary}
+
+-- how a test case with these past entries, the newest first, ended
+abbrev pub end_of : List Entry → CaseEnd
+end_of past = if is_over past then C.Over (overall past) else C.Unfinished
+
+-- the test case of this name, with these past entries
+abbrev pub summary_of : List ℕ → List Entry → Summary
+summary_of name past = record { name = name; locals = map (local past) (comps past); ending = end_of past }
+
+-- the test case of a block of a history text
+abbrev pub block_summary : Block → Summary
+block_summary b = summary_of b.name (reverse b.entries)
+
+-- a finished test case, by its report
+abbrev pub case_summary : Finished → Summary
+case_summary f = record { name = f.name; locals = f.report.locals; ending = C.Over f.report.verdict }
+
+-- the test case that has no report, where there is one
+abbrev pub aborted_summary : CampaignEnd → List Summary
+aborted_summary E.Complete = []
+aborted_summary (E.StoppedAfter name) = []
+aborted_summary (E.Aborted name why) = record { name = name; locals = []; ending = C.Aborted why } ∷ []
+
+-- each finished test case, and the one that has no report
+abbrev pub results_summaries : Results → List Summary
+results_summaries r = map case_summary r.finished ++ aborted_summary r.ending

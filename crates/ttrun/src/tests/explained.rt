@@ -1,0 +1,68 @@
+//! Faults that are explained.
+use super::*;
+
+// Carries out the task on a refused input, and compares what is told.
+fn tells<R: Abort + Threads + Wait + Copy + Send + 'static>(
+    rt: &R,
+    alloc: Global,
+    task: Task<'_>,
+    input: &[u8],
+    lines: &str,
+) -> Result<(), Fail> {
+    let mut reader = input;
+    let mut written: Vec<u8> = Vec::new(alloc);
+    let mut errors: Vec<u8> = Vec::new(alloc);
+    let outcome = carry_out(rt, alloc, task, &mut reader, &mut written, &mut errors);
+    assert_eq!(rt; outcome.status, 3);
+    assert!(rt; written.is_empty());
+    assert_eq!(rt; errors.as_slice(), lines.as_bytes());
+    Ok(())
+}
+
+const HISTORY: &[u8] = b"history 2 a 1\n0 finish -> oki\nend pass\n";
+
+#[test]
+fn a_history_is_explained(rt: HostRuntime) -> Result<(), Fail> {
+    tells(
+        &rt,
+        rt.alloc(),
+        Task::Check { explains: true },
+        HISTORY,
+        "ttrun: line 2: bad entry\n  line: `0 finish -> oki`\n  column 13: `oki`\n  understood there: a reply\n  a history began in line 1\n",
+    )
+}
+
+#[test]
+fn a_history_is_not_explained(rt: HostRuntime) -> Result<(), Fail> {
+    tells(
+        &rt,
+        rt.alloc(),
+        Task::Check { explains: false },
+        HISTORY,
+        "ttrun: line 2: bad entry\n",
+    )
+}
+
+#[test]
+fn a_list_of_moves_is_explained(rt: HostRuntime) -> Result<(), Fail> {
+    tells(
+        &rt,
+        rt.alloc(),
+        Task::Replay { explains: true },
+        b"behaviours 1\n0 stop\n",
+        "ttrun: line 2: bad move\n  line: `0 stop`\n  column 7: the end of the line\n  understood there: all or a component\n",
+    )
+}
+
+#[test]
+fn a_script_is_explained(rt: HostRuntime) -> Result<(), Fail> {
+    let mut options = run_options(rt.alloc(), Form::Text, false, None);
+    options.explains = true;
+    tells(
+        &rt,
+        rt.alloc(),
+        Task::Run(options),
+        b"testcase t\r\n",
+        "ttrun: line 1: byte not allowed\n  line: `testcase t\\x0D`\n  column 11: a carriage return; a line ends with a line feed alone\n",
+    )
+}

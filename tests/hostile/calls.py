@@ -1,0 +1,60 @@
+"""The calls of the library with each growth of memory refused in turn: the program crates/refused_memory makes them, and judges
+what each answers and leaves."""
+from __future__ import annotations
+
+import os
+import re
+from typing import Callable, List
+
+from refusing import TOP, Refusing
+from sweeps import Sweep
+
+FOLDER = os.path.join(TOP, "crates", "refused_memory")
+PROGRAM = os.path.join(FOLDER, "out", "refused_memory")
+# How many calls of each kind there are, and how many of their growths are to be refused at least.
+FLOORS = {
+    "tables": (3, 10),
+    "moves on a table": (38, 6),
+    "room on a table": (3, 2),
+    "checks of a history": (2, 15),
+    "readers": (5, 60),
+    "writers": (40, 40),
+    "boards": (3, 9),
+    "opened cases": (3, 250),
+    "calls on a pass": (32, 9),
+    "closed cases": (2, 10),
+    "calls that take no memory": (14, 0),
+}
+COUNTS = re.compile(r"(.*): (\d+) calls, (\d+) refused, (\d+) answered all the same")
+
+
+def below(lines: List[str]) -> List[str]:
+    """Where fewer calls were made, or fewer growths refused, than there have to be."""
+    met = {found[1]: tuple(map(int, found.groups()[1:])) for found in map(COUNTS.fullmatch, lines) if found}
+    faults = [f"{name} is not told of" for name in FLOORS if name not in met]
+    return faults + [f"{name}: {calls} calls, {refused} refused and {kept} answered all the same are too few"
+                     for name, (calls, refused, kept) in met.items()
+                     if name not in FLOORS or calls < FLOORS[name][0] or refused + kept < FLOORS[name][1]]
+
+
+def judged_calls(refusing: Refusing) -> Sweep:
+    """Runs the program once; it sweeps all calls."""
+    done = Sweep("calls of the library", runs=1)
+    ran = refusing.run([PROGRAM], seconds=300)
+    if ran.is_late:
+        done.faults.append("it hangs")
+        return done
+    with open(os.path.join(FOLDER, "stdout"), "rb") as it:
+        wanted = it.read()
+    lines = ran.errors.decode().splitlines()
+    print("\n".join(lines))
+    done.refused = ran.refused
+    done.faults += below(lines)
+    if ran.status or ran.output != wanted:
+        done.faults.append(f"status {ran.status}, and it prints {ran.output.decode()!r}")
+    return done
+
+
+def jobs(refusing: Refusing) -> List[Callable[[], Sweep]]:
+    """The one test."""
+    return [lambda: judged_calls(refusing)]

@@ -1,0 +1,76 @@
+"""False answers, each of which is to be judged wrong, and true ones beside them: a test of the judge of the other tests."""
+from __future__ import annotations
+
+from typing import Callable, Iterator, List, Tuple
+
+from outcomes import NO_MEMORY, Task, judged
+from refusing import Ran
+from sweeps import Sweep, text
+
+SCRIPT = text("testcase a;behaviour main;setverdict pass;end;end;testcase b;behaviour main;end;end")
+FIRST = text("testcase a;run 0 main on 0;  setverdict pass -> ok;  finish -> ok;local 0 pass;verdict pass")
+SECOND = text("testcase b;run 0 main on 0;  finish -> ok;local 0 none;verdict none")
+WHOLE = FIRST + SECOND + text("cases 2 none 1 pass 1 inconc 0 fail 0 error 0;complete")
+ABORTED = FIRST + text("cases 1 none 0 pass 1 inconc 0 fail 0 error 0;aborted at b: no memory")
+AT_B = b"ttrun: aborted at b: no memory\n"
+# What clap says of itself where memory is refused.
+BY_CLAP = b"error: out of memory\n"
+HEADER = text("testcase,components,none,pass,inconc,fail,error,verdict")
+RECORD = text("a,1,0,1,0,0,0,pass")
+HISTORY = text("history 2 a 1;0 setverdict pass -> ok;0 finish -> ok;end pass;history 2 b 1;0 finish -> ok;end none")
+
+PLAIN = Task("two", ("run",), SCRIPT)
+LIVE = Task("two", ("run", "--live"), SCRIPT)
+TABLE = Task("two", ("run", "--csv"), SCRIPT)
+HISTORIES = Task("two", ("run", "--history"), SCRIPT)
+AMPLE = {PLAIN.words: WHOLE, LIVE.words: WHOLE, TABLE.words: HEADER + RECORD + text("b,1,1,0,0,0,0,none"),
+         HISTORIES.words: HISTORY}
+
+
+def answers() -> Iterator[Tuple[str, Task, Ran]]:
+    """A kind, a task and an answer of that kind, by a run that was refused one growth."""
+    wrong: List[Tuple[Task, bytes, bytes, int]] = [
+        (PLAIN, b"", b"", -11), (PLAIN, b"", b"", -6), (PLAIN, b"", b"", 0), (PLAIN, WHOLE, b"", 3), (PLAIN, WHOLE, b"", 1),
+        (PLAIN, WHOLE[:-9], b"", 0), (PLAIN, FIRST, NO_MEMORY, 3), (PLAIN, WHOLE, NO_MEMORY, 3), (PLAIN, b"", NO_MEMORY, 0),
+        (PLAIN, b"", NO_MEMORY + NO_MEMORY, 3), (PLAIN, b"", b"ttrun: read fault\n", 3), (PLAIN, WHOLE, b"ttrun: no memory\n", 0),
+        (PLAIN, b"", AT_B, 3), (PLAIN, FIRST, AT_B, 3), (PLAIN, ABORTED, AT_B, 0), (PLAIN, ABORTED, AT_B.replace(b" b:", b" a:"), 3),
+        (PLAIN, ABORTED, AT_B.replace(b"no memory", b"no thread"), 3), (PLAIN, ABORTED, AT_B.replace(b"no memory", b"torn"), 3),
+        (PLAIN, ABORTED.replace(b"pass 1", b"pass 0"), AT_B, 3), (PLAIN, FIRST, BY_CLAP, 3), (PLAIN, FIRST, b"", 3),
+        (PLAIN, b"", BY_CLAP, 3), (PLAIN, b"", b"", 3), (PLAIN, ABORTED, b"", 3), (PLAIN, ABORTED, NO_MEMORY, 3), (LIVE, FIRST, b"", 3),
+        (TABLE, HEADER + RECORD, b"", 3), (PLAIN, b"", NO_MEMORY[:-1], 3),
+        (LIVE, FIRST[:-1], NO_MEMORY, 3), (LIVE, FIRST + SECOND[:20], NO_MEMORY, 3), (LIVE, SECOND, NO_MEMORY, 3),
+        (TABLE, HEADER + RECORD, NO_MEMORY, 3), (TABLE, HEADER, AT_B, 3), (TABLE, RECORD, AT_B, 3),
+        (HISTORIES, HISTORY[:-10], b"", 0), (HISTORIES, HISTORY.replace(b"setverdict pass", b"setverdict fail"), b"", 0),
+        (HISTORIES, b"", AT_B, 3), (HISTORIES, HISTORY, AT_B, 3),
+    ]
+    for task, output, errors, status in wrong:
+        yield "wrong", task, Ran(output, errors, status, refused=1)
+    yield "wrong", PLAIN, Ran(b"", b"", -9, refused=1, is_late=True)
+    # Where nothing was refused nothing may be told as refused.
+    yield "wrong", PLAIN, Ran(b"", NO_MEMORY, 3, refused=0)
+    yield "wrong", PLAIN, Ran(ABORTED, AT_B, 3, refused=0)
+    one = HISTORY[:HISTORY.index(b"history 2 b")]
+    true: List[Tuple[str, Task, bytes, bytes, int]] = [
+        ("right", PLAIN, WHOLE, b"", 0), ("right", HISTORIES, HISTORY, b"", 0), ("refused", PLAIN, b"", NO_MEMORY, 3),
+        ("aborted", PLAIN, ABORTED, AT_B, 3), ("aborted", TABLE, HEADER + RECORD, AT_B, 3), ("aborted", HISTORIES, one, AT_B, 3),
+        ("refused", LIVE, FIRST, NO_MEMORY, 3), ("refused", LIVE, FIRST + SECOND, NO_MEMORY, 3), ("aborted", LIVE, ABORTED, AT_B, 3),
+    ]
+    for kind, task, output, errors, status in true:
+        yield kind, task, Ran(output, errors, status, refused=1)
+
+
+def judged_answers() -> Sweep:
+    """Judges each."""
+    done = Sweep("false answers")
+    for kind, task, ran in answers():
+        found = judged(task, Ran(AMPLE[task.words], b"", 0, refused=0), ran)
+        done.runs += 1
+        done.met[f"judged {found.kind}"] += 1
+        if found.kind != kind:
+            done.faults.append(f"{' '.join(task.words)}, {ran}: judged {found.kind} ({found.fault}), and it is {kind}")
+    return done
+
+
+def jobs() -> List[Callable[[], Sweep]]:
+    """The one test."""
+    return [judged_answers]

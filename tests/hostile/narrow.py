@@ -1,0 +1,74 @@
+"""Devices by which one byte goes at a time, and each read and each write of which fails in turn."""
+from __future__ import annotations
+
+import os
+import sys
+from typing import Callable, Iterator, List
+
+from outcomes import HISTORY, Task
+from refusing import TOP, Ran, Refusing
+from sweeps import Sweep, numbers, tasks
+
+sys.path.append(os.path.join(TOP, "tests", "program"))
+
+from sizes import PASSED, TOO_LONG, padded_script
+from texts import MOST_BYTES_OF_A_LIST, MOST_BYTES_OF_A_SCRIPT
+
+READ = b"ttrun: read fault\n"
+WRITE = b"ttrun: write fault\n"
+# Histories of these scripts may be others at each run.
+SIDE_BY_SIDE = ("restart", "workers", "supervisor", "pumps")
+
+
+def narrow_tasks() -> Iterator[Task]:
+    """The tasks that read, each of which has one right output."""
+    return (it for it in tasks() if it.given and not (it.is_run and it.has(HISTORY) and it.name in SIDE_BY_SIDE))
+
+
+def wanted_of(ample: Ran, what: str, number: int) -> Ran:
+    """What is to come where the read or write of this number fails, counted from 1."""
+    if number > (ample.reads if what == "read" else ample.writes):
+        return ample
+    return Ran(b"", READ, 3) if what == "read" else Ran(ample.output[:number - 1], WRITE, 3)
+
+
+def failing(refusing: Refusing, program: str, task: Task, what: str, stride: int) -> Sweep:
+    """Has each read or write of a task fail in turn."""
+    words = [program, *task.words]
+    ample = refusing.run(words, task.given, is_narrow=True)
+    done = Sweep(f"{' '.join(task.words)} < {task.name}, {what} N fails")
+    plain = refusing.run(words, task.given)
+    if (plain.output, plain.errors, plain.status) != (ample.output, ample.errors, ample.status):
+        done.faults.append("by narrow devices it answers otherwise")
+    for number in numbers((ample.reads if what == "read" else ample.writes) + 2, stride):
+        ran = refusing.run(words, task.given, f"{what}:{number}", is_narrow=True)
+        wanted = wanted_of(ample, what, number)
+        done.runs += 1
+        done.refused += ran.refused
+        done.met[f"{what}s failed" if wanted is not ample else "right"] += 1
+        if (ran.output, ran.errors, ran.status) != (wanted.output, wanted.errors, wanted.status):
+            done.faults.append(f"{what}:{number}: status {ran.status}, {ran.errors!r}, {ran.output[-100:]!r}")
+    return done
+
+
+def slow(refusing: Refusing, program: str, task: Task, wanted: Ran) -> Sweep:
+    """A long input by narrow devices."""
+    done = Sweep(f"{' '.join(task.words)} < {task.name}, byte by byte", runs=1)
+    ran = refusing.run([program, *task.words], task.given, is_narrow=True)
+    done.met["long inputs"] += ran.reads > 1_000_000
+    if (ran.output, ran.errors, ran.status) != (wanted.output, wanted.errors, wanted.status):
+        done.faults.append(f"status {ran.status}, {ran.errors!r}, {ran.output[-100:]!r}")
+    return done
+
+
+def jobs(refusing: Refusing, program: str, is_whole: bool) -> List[Callable[[], Sweep]]:
+    """All tests; in the gate every so manyth read or write fails."""
+    found: List[Callable[[], Sweep]] = []
+    for task in narrow_tasks():
+        found += [lambda task=task, what=what: failing(refusing, program, task, what, 1 if is_whole else 37) for what in ("read", "write")]
+    script = Task("the_longest_script", ("run", "--csv"), padded_script(MOST_BYTES_OF_A_SCRIPT))
+    longer = Task("a_script_that_goes_on", ("run",), b"\n" * (2 * MOST_BYTES_OF_A_SCRIPT))
+    moves = Task("moves_that_go_on", ("replay",), b"\n" * (2 * MOST_BYTES_OF_A_LIST))
+    for task, wanted in ((script, Ran(PASSED, b"", 0)), (longer, Ran(b"", TOO_LONG, 3)), (moves, Ran(b"", TOO_LONG, 3))):
+        found.append(lambda task=task, wanted=wanted: slow(refusing, program, task, wanted))
+    return found

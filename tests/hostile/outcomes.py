@@ -1,0 +1,164 @@
+"""What a run of the program that was refused memory or threads may answer: the right output, or a named refusal."""
+from __future__ import annotations
+
+import os
+import re
+import sys
+from dataclasses import dataclass
+from typing import List, Optional, Tuple
+
+from refusing import TOP, Ran
+
+sys.path.append(os.path.join(TOP, "tests", "program"))
+
+from case import first_difference
+from examples import faults_of_history
+from script_reader import Campaign, read_script
+from table import VERDICTS
+
+NO_MEMORY = b"ttrun: no memory\n"
+CSV, HISTORY = "--csv", "--history"
+
+
+@dataclass
+class Task:
+    """Words for the program, with their input."""
+
+    name: str
+    words: Tuple[str, ...]
+    given: bytes = b""
+
+    @property
+    def is_run(self) -> bool:
+        """Whether test cases are run."""
+        return self.words[:1] == ("run",)
+
+    def has(self, word: str) -> bool:
+        """Whether the words have this one."""
+        return word in self.words
+
+    def campaign(self) -> Campaign:
+        """The campaign of the input."""
+        return read_script(self.given)
+
+
+@dataclass
+class Outcome:
+    """What was met: `right`, `refused`, `aborted`, or `wrong` and why."""
+
+    kind: str
+    fault: str = ""
+
+
+def pieces_of(task: Task, text: bytes) -> List[bytes]:
+    """The parts of a whole output that belong to its test cases, in order; the header of a table is with the first."""
+    if task.has(CSV):
+        lines = text.splitlines(keepends=True)
+        return [b"".join(lines[:2]), *lines[2:]]
+    body = text[: text.index(b"\ncases ") + 1] if b"\ncases " in text else text
+    starts = [it.start() for it in re.finditer(rb"(?m)^history " if task.has(HISTORY) else rb"(?m)^testcase ", body)]
+    return [body[at:end] for at, end in zip(starts, [*starts[1:], len(body)])]
+
+
+def header_of(task: Task, text: bytes) -> bytes:
+    """What stands before the test cases."""
+    return text.splitlines(keepends=True)[0] if task.has(CSV) else b""
+
+
+def verdicts_of(task: Task, pieces: List[bytes]) -> List[str]:
+    """The overall verdict of each piece: its last word."""
+    return [re.split(rb"[ ,\n]", it.strip())[-1].decode() for it in pieces]
+
+
+def tally_of(verdicts: List[str]) -> str:
+    """The line that counts the finished test cases."""
+    return " ".join([f"cases {len(verdicts)}", *(f"{it} {verdicts.count(it)}" for it in VERDICTS)]) + "\n"
+
+
+def aborted_report(task: Task, ample: bytes, finished: int, ending: str) -> bytes:
+    """The output of a campaign that was aborted behind so many test cases."""
+    pieces = pieces_of(task, ample)[:finished]
+    text = b"".join(pieces) or header_of(task, ample)
+    if task.has(CSV) or task.has(HISTORY):
+        return text
+    return text + (tally_of(verdicts_of(task, pieces)) + ending).encode()
+
+
+def whole_pieces(task: Task, ample: bytes) -> List[bytes]:
+    """What may be out where memory is refused to a live run: any number of whole test cases."""
+    pieces = pieces_of(task, ample)
+    return [b"", header_of(task, ample), *(b"".join(pieces[: at + 1]) for at in range(len(pieces)))]
+
+
+def faults_of_histories(task: Task, text: bytes, count: Optional[int]) -> List[str]:
+    """Why the text has not the histories of the first test cases, as many as are wanted, or any number."""
+    if not text:
+        return ["no history stands there"] if count else []
+    faults = faults_of_history(task.campaign(), text)
+    found = text.count(b"history 2 ")
+    return faults + ([f"{found} histories stand for {count}"] if count not in (None, found) else [])
+
+
+def differs(task: Task, wanted: bytes, ran: Ran, count: int) -> List[str]:
+    """Why the output is not the one that is wanted; histories may be others at each run."""
+    if task.is_run and task.has(HISTORY):
+        return faults_of_histories(task, ran.output, count)
+    return [] if wanted == ran.output else [first_difference(wanted, ran.output)]
+
+
+def judged_right(task: Task, ample: Ran, ran: Ran) -> Outcome:
+    """A run that ended with the status of ample memory."""
+    count = len(task.campaign()) if task.is_run and task.has(HISTORY) else 0
+    faults = differs(task, ample.output, ran, count)
+    if ran.errors != ample.errors:
+        faults.append(f"standard error: {ran.errors[:200]!r}")
+    return Outcome("wrong", "; ".join(faults)) if faults else Outcome("right")
+
+
+def judged_aborted(task: Task, ample: Ran, ran: Ran, name: str, why: str) -> Outcome:
+    """A campaign that was aborted at a test case."""
+    names = [it.name for it in task.campaign()]
+    if name not in names or why not in ("no memory", "no thread"):
+        return Outcome("wrong", f"aborted at {name}: {why}")
+    finished = names.index(name)
+    wanted = aborted_report(task, ample.output, finished, f"aborted at {name}: {why}\n")
+    faults = differs(task, wanted, ran, finished)
+    return Outcome("wrong", "; ".join(faults)) if faults else Outcome("aborted")
+
+
+def judged_refused(task: Task, ample: Ran, ran: Ran) -> Outcome:
+    """A run that was refused memory: nothing is out, or of a live run whole test cases."""
+    if not ran.output:
+        return Outcome("refused")
+    if task.is_run and task.has("--live"):
+        if task.has(HISTORY):
+            faults = faults_of_histories(task, ran.output, None)
+            return Outcome("wrong", "; ".join(faults)) if faults else Outcome("refused")
+        if ran.output in whole_pieces(task, ample.output):
+            return Outcome("refused")
+    return Outcome("wrong", f"half a report is out: {ran.output[-200:]!r}")
+
+
+def judged(task: Task, ample: Ran, ran: Ran) -> Outcome:
+    """What came of a run, beside the run with ample memory."""
+    if ran.is_late:
+        return Outcome("wrong", "it hangs")
+    if ran.status == ample.status:
+        right = judged_right(task, ample, ran)
+        if not right.fault or ran.refused == 0:
+            return right
+    if ran.status != 3:
+        return Outcome("wrong", f"it ends with status {ran.status}: {ran.output[-200:]!r}, {ran.errors[-200:]!r}")
+    if ran.refused == 0:
+        return Outcome("wrong", f"nothing was refused, and it says {ran.errors[-200:]!r}")
+    return judged_refusal(task, ample, ran)
+
+
+def judged_refusal(task: Task, ample: Ran, ran: Ran) -> Outcome:
+    """A run that ended with status 3."""
+    if ran.errors == NO_MEMORY:
+        return judged_refused(task, ample, ran)
+    ending = re.fullmatch(rb"ttrun: aborted at (\w+): ([a-z ]+)\n", ran.errors)
+    if ending and task.is_run:
+        return judged_aborted(task, ample, ran, ending[1].decode(), ending[2].decode())
+    return Outcome("wrong", f"standard error {ran.errors[:200]!r}")

@@ -1,0 +1,188 @@
+/* Refuses memory, threads and devices to the program that it is loaded into by LD_PRELOAD, and counts what was asked for.
+
+   REFUSE_PLAN=growth:N refuses the Nth growth, a call of malloc, calloc, realloc or an aligned one; thread:N the Nth call of
+   pthread_create; read:N the Nth read; write:N the Nth write to standard output. With .. behind N each one behind it is refused
+   too. Without a plan nothing is refused. Where REFUSE_NARROW is set each read and each write moves one byte at most.
+   REFUSE_COUNTS names a file of 40 bytes, in which five numbers of 8 bytes are kept: growths, threads, reads and writes that were
+   asked for, and refusals.
+
+   A program can say itself what is refused, by asking for MARK bytes and some more, which nothing else asks for. MARK + 1 + N,
+   with N below 2^20, refuses the Nth growth from then on, counted from 0; 2^20 more refuses each one from the Nth on; 2^21 more
+   in place of that the Nth thread. MARK itself ends this: it is given where nothing was refused since, and else refused. */
+#define _GNU_SOURCE
+#include <dlfcn.h>
+#include <errno.h>
+#include <fcntl.h>
+#include <pthread.h>
+#include <stdatomic.h>
+#include <stdlib.h>
+#include <string.h>
+#include <sys/mman.h>
+#include <sys/syscall.h>
+#include <unistd.h>
+
+#define MARK ((size_t)1 << 40)
+#define STEP ((size_t)1 << 20)
+
+extern void *__libc_malloc(size_t);
+extern void *__libc_calloc(size_t, size_t);
+extern void *__libc_realloc(void *, size_t);
+extern void *__libc_memalign(size_t, size_t);
+
+typedef _Atomic unsigned long count;
+
+enum kind { GROWTH, THREAD, READ, WRITE, REFUSED, KINDS };
+
+static const char *const names[] = {"growth:", "thread:", "read:", "write:"};
+
+static count own_counts[KINDS];
+static count *counts = own_counts;
+
+/* Which of a kind are refused: from the first on, one of them or all; 0 refuses none. */
+struct plan {
+    count asked;
+    count first;
+    count goes_on;
+};
+
+static struct plan plans[REFUSED];
+static count refused_since;
+static int is_narrow;
+
+static int refuses(enum kind kind) {
+    struct plan *plan = &plans[kind];
+    unsigned long at = atomic_fetch_add(&plan->asked, 1) + 1, first = plan->first;
+    atomic_fetch_add(&counts[kind], 1);
+    if (first == 0 || (plan->goes_on ? at < first : at != first))
+        return 0;
+    atomic_fetch_add(&counts[REFUSED], 1);
+    atomic_fetch_add(&refused_since, 1);
+    return 1;
+}
+
+static void set_plan(enum kind kind, unsigned long first, int goes_on) {
+    plans[kind].asked = 0;
+    plans[kind].goes_on = goes_on;
+    plans[kind].first = first;
+}
+
+/* What a program says by the size of a growth. */
+static void *marked(size_t size) {
+    size_t behind = size - MARK;
+    set_plan(GROWTH, 0, 0);
+    set_plan(THREAD, 0, 0);
+    if (behind == 0)
+        return refused_since ? NULL : __libc_malloc(1);
+    refused_since = 0;
+    behind -= 1;
+    if (behind < 2 * STEP)
+        set_plan(GROWTH, behind % STEP + 1, behind >= STEP);
+    else
+        set_plan(THREAD, behind % STEP + 1, 0);
+    return NULL;
+}
+
+static int is_mark(size_t size) {
+    return size >= MARK && size < MARK + 3 * STEP + 1;
+}
+
+/* The block, or none where this growth is refused. */
+#define GROWN(block)               \
+    do {                           \
+        if (refuses(GROWTH)) {     \
+            errno = ENOMEM;        \
+            return NULL;           \
+        }                          \
+        return (block);            \
+    } while (0)
+
+void *malloc(size_t size) {
+    if (is_mark(size))
+        return marked(size);
+    GROWN(__libc_malloc(size));
+}
+
+void *calloc(size_t number, size_t size) {
+    GROWN(__libc_calloc(number, size));
+}
+
+void *realloc(void *block, size_t size) {
+    GROWN(__libc_realloc(block, size));
+}
+
+void *memalign(size_t align, size_t size) {
+    GROWN(__libc_memalign(align, size));
+}
+
+void *aligned_alloc(size_t align, size_t size) {
+    GROWN(__libc_memalign(align, size));
+}
+
+int posix_memalign(void **into, size_t align, size_t size) {
+    void *block = refuses(GROWTH) ? NULL : __libc_memalign(align, size);
+    if (block == NULL)
+        return ENOMEM;
+    *into = block;
+    return 0;
+}
+
+int pthread_create(pthread_t *thread, const pthread_attr_t *attr, void *(*start)(void *), void *arg) {
+    static int (*created)(pthread_t *, const pthread_attr_t *, void *(*)(void *), void *);
+    if (refuses(THREAD))
+        return EAGAIN;
+    if (created == NULL)
+        created = (int (*)(pthread_t *, const pthread_attr_t *, void *(*)(void *), void *))dlsym(RTLD_NEXT, "pthread_create");
+    return created(thread, attr, start, arg);
+}
+
+static size_t narrowed(size_t size) {
+    return is_narrow && size > 1 ? 1 : size;
+}
+
+ssize_t read(int file, void *into, size_t size) {
+    if (refuses(READ)) {
+        errno = EIO;
+        return -1;
+    }
+    return syscall(SYS_read, file, into, narrowed(size));
+}
+
+ssize_t write(int file, const void *from, size_t size) {
+    if (file == 1 && refuses(WRITE)) {
+        errno = ENOSPC;
+        return -1;
+    }
+    return syscall(SYS_write, file, from, narrowed(size));
+}
+
+ssize_t __write(int file, const void *from, size_t size) {
+    return write(file, from, size);
+}
+
+static void read_plan(const char *plan) {
+    for (int kind = 0; kind < REFUSED; kind++) {
+        size_t length = strlen(names[kind]);
+        char *rest;
+        if (strncmp(plan, names[kind], length) != 0)
+            continue;
+        unsigned long first = strtoul(plan + length, &rest, 10);
+        set_plan(kind, first, strcmp(rest, "..") == 0);
+    }
+}
+
+__attribute__((constructor)) static void begin(void) {
+    const char *file = getenv("REFUSE_COUNTS"), *plan = getenv("REFUSE_PLAN");
+    if (file != NULL) {
+        int opened = open(file, O_RDWR);
+        void *shared = mmap(NULL, KINDS * sizeof(count), PROT_READ | PROT_WRITE, MAP_SHARED, opened, 0);
+        close(opened);
+        if (shared == MAP_FAILED)
+            abort();
+        counts = shared;
+    }
+    for (int kind = 0; kind < KINDS; kind++)
+        counts[kind] = 0;
+    is_narrow = getenv("REFUSE_NARROW") != NULL;
+    if (plan != NULL)
+        read_plan(plan);
+}

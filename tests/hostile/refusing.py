@@ -1,0 +1,106 @@
+"""Runs a program under refuse.c, which is loaded into it and refuses it memory, threads and devices."""
+from __future__ import annotations
+
+import contextlib
+import mmap
+import os
+import shutil
+import signal
+import struct
+import subprocess
+import sys
+import tempfile
+from dataclasses import dataclass
+from typing import Dict, Iterator, List, Optional
+
+sys.dont_write_bytecode = True
+HERE = os.path.dirname(os.path.abspath(__file__))
+TOP = os.path.dirname(os.path.dirname(HERE))
+# A run that has not ended after so many seconds hangs.
+SECONDS = 60
+COUNTS = struct.Struct("=5Q")
+
+
+@dataclass
+class Ran:
+    """What a run gave, what it asked for, and how much of that it was refused, -1 where that is not known. A status below 0 is a
+    signal's."""
+
+    output: bytes
+    errors: bytes
+    status: int
+    growths: int = 0
+    threads: int = 0
+    reads: int = 0
+    writes: int = 0
+    refused: int = -1
+    is_late: bool = False
+
+
+class Refusing:
+    """The library, built once; each run of a program has a file of its own for what is counted."""
+
+    def __init__(self, folder: str, library: str) -> None:
+        self.folder = folder
+        self.library = library
+
+    def run(self, words: List[str], given: bytes = b"", plan: str = "", is_narrow: bool = False, seconds: int = SECONDS) -> Ran:
+        """Runs the words with the input under a plan; by narrow devices one byte goes at a time."""
+        with tempfile.NamedTemporaryFile(dir=self.folder) as kept, tempfile.TemporaryFile(dir=self.folder) as source:
+            kept.write(bytes(COUNTS.size))
+            kept.flush()
+            source.write(given)
+            source.seek(0)
+            variables = {"LD_PRELOAD": self.library, "REFUSE_COUNTS": kept.name, "REFUSE_PLAN": plan}
+            if is_narrow:
+                variables["REFUSE_NARROW"] = "1"
+            ran = ended(words, source, seconds, variables)
+            with mmap.mmap(kept.fileno(), COUNTS.size) as counts:
+                ran.growths, ran.threads, ran.reads, ran.writes, ran.refused = COUNTS.unpack(counts[:COUNTS.size])
+            return ran
+
+
+def plainly(words: List[str], given: bytes, user: Optional[int] = None) -> Ran:
+    """Runs the words with the input, without the library; as this user, if there is one."""
+    with tempfile.TemporaryFile() as source:
+        source.write(given)
+        source.seek(0)
+        return ended(words, source, SECONDS, {}, user)
+
+
+def limited(words: List[str], given: bytes, limit: str) -> Ran:
+    """Runs the words with the input, without the library; the limit is what is behind a shell's `ulimit`."""
+    return plainly(["sh", "-c", f'ulimit {limit}; exec "$@"', "sh", *words], given)
+
+
+def ended(words: List[str], source: object, seconds: int, variables: Dict[str, str], user: Optional[int] = None) -> Ran:
+    """Waits for the end of a program with these variables in its environment; one that hangs is killed."""
+    pipes = {"stdin": source, "stdout": subprocess.PIPE, "stderr": subprocess.PIPE}
+    other = {} if user is None else {"user": user, "group": user, "extra_groups": [], "cwd": "/"}
+    with subprocess.Popen(words, start_new_session=True, env={**os.environ, **variables}, **pipes, **other) as started:
+        try:
+            output, errors = started.communicate(timeout=seconds)
+            return Ran(output, errors, started.returncode)
+        except subprocess.TimeoutExpired:
+            os.killpg(started.pid, signal.SIGKILL)
+            started.communicate()
+            return Ran(b"", b"", started.returncode, is_late=True)
+
+
+def compiler() -> Optional[str]:
+    """A compiler of C, or none."""
+    return next((found for found in map(shutil.which, ("cc", "gcc", "clang")) if found), None)
+
+
+@contextlib.contextmanager
+def refusing() -> Iterator[Optional[Refusing]]:
+    """The library, or none where there is no compiler of C."""
+    found = compiler()
+    if found is None:
+        yield None
+        return
+    with tempfile.TemporaryDirectory(prefix="refuse-") as folder:
+        library = os.path.join(folder, "refuse.so")
+        words = [found, "-std=gnu11", "-O1", "-Wall", "-Wextra", "-shared", "-fPIC", "-o", library]
+        subprocess.run([*words, os.path.join(HERE, "refuse.c"), "-ldl"], check=True)
+        yield Refusing(folder, library)

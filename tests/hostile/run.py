@@ -1,0 +1,110 @@
+#!/usr/bin/env python3
+"""Hostile use: the programs with memory, threads and devices refused, cut and malicious texts, behaviours that halt one another.
+
+usage: tests/hostile/run.py [--program FILE] [--all] [--jobs N]
+
+The programs are crates/ttrun/out/ttrun and crates/refused_memory/out/refused_memory, which `rt ci` and `rt run` leave there.
+Without --all, as ./gate runs it, every so manyth growth and byte is tried; with it each one, which takes minutes. Where there is
+no compiler of C nothing can be refused by a library, and where the tests are not root's no other user can be refused threads:
+those tests are skipped, and said to be. The last line is 'N passed, M failed'; the status is 0 where nothing failed, else 1, and
+3 where there is no program.
+"""
+from __future__ import annotations
+
+import argparse
+import os
+import sys
+import time
+from collections import Counter
+from concurrent.futures import ThreadPoolExecutor
+from typing import Callable, List, Optional
+
+sys.dont_write_bytecode = True
+
+import calls
+import crowds
+import cuts
+import false_answers
+import narrow
+import sweeps
+import turmoil
+from refusing import TOP, Refusing, refusing
+from sweeps import Sweep
+
+# What is to be met in the gate, by the tests that refuse something, and by those of texts.
+REFUSING_FLOORS = {"right": 900, "refused": 1000, "aborted": 800}
+DEVICE_FLOORS = {"reads failed": 300, "writes failed": 200, "right": 100, "long inputs": 3}
+TEXT_FLOORS = {"accepted": 100, "refused text": 4000}
+CROWD_FLOORS = {"right": 145, "aborted": 39}
+
+
+def below(met: Counter, floors: dict) -> List[str]:
+    """What was met too seldom."""
+    return [f"{it}: {met[it]} are fewer than {least}" for it, least in floors.items() if met[it] < least]
+
+
+def judged(title: str, work: List[Callable[[], Sweep]], floors: dict, threads: int) -> List[List[str]]:
+    """Runs the tests of a part; the faults of each, and of the floors. It says what was met."""
+    began = time.monotonic()
+    with ThreadPoolExecutor(threads) as pool:
+        done = list(pool.map(lambda it: it(), work))
+    met = sum((it.met for it in done), Counter())
+    runs, refused = sum(it.runs for it in done), sum(it.refused for it in done)
+    for it in done:
+        for fault in it.faults[:5]:
+            print(f"FAILED {it.name}: {fault}")
+    few = below(met, floors)
+    for it in few:
+        print(f"FAILED {title}: {it}")
+    counts = [f"{runs} runs of {len(done)} tests", f"{refused} refusals", *(f"{count} {it}" for it, count in sorted(met.items()))]
+    print(f"{title}: {', '.join(counts)}, in {time.monotonic() - began:.0f} seconds")
+    return [it.faults for it in done] + [few]
+
+
+def refused(library: Optional[Refusing], program: str, is_whole: bool, threads: int) -> List[List[str]]:
+    """Runs the tests that a library refuses something, or says that they are skipped."""
+    parts = (("calls of the library", calls.jobs(library), {}),
+             ("failing devices", narrow.jobs(library, program, is_whole), DEVICE_FLOORS),
+             ("refused memory and threads", sweeps.jobs(library, program, is_whole), REFUSING_FLOORS))
+    if library is not None:
+        return [it for title, work, floors in parts for it in judged(title, work, floors, threads)]
+    print(f"skipped: {sum(len(work) for _, work, _ in parts)} tests, since there is no compiler of C to build refuse.c")
+    return []
+
+
+def crowded(program: str, is_whole: bool, threads: int) -> List[List[str]]:
+    """Runs the tests that the system refuses threads, or says that they are skipped."""
+    with crowds.crowds(program) as users:
+        work = crowds.jobs(users, is_whole)
+        if users is not None:
+            return judged("threads refused by the system", work, CROWD_FLOORS, threads)
+    print(f"skipped: {len(work)} tests of threads that the system refuses, since {crowds.why_not()}")
+    return []
+
+
+def main() -> int:
+    """Runs all parts."""
+    parser = argparse.ArgumentParser(description="hostile use of the built ttrun")
+    parser.add_argument("--program", default=os.path.join(TOP, "crates", "ttrun", "out", "ttrun"))
+    parser.add_argument("--all", action="store_true", help="each growth and each byte")
+    parser.add_argument("--jobs", type=int, default=os.cpu_count() or 1, help="runs at a time")
+    given = parser.parse_args()
+    program = os.path.abspath(given.program)
+    for it in (program, calls.PROGRAM):
+        if not os.access(it, os.X_OK):
+            print(f"there is no program {it}: `rt run` in its crate builds it", file=sys.stderr)
+            return 3
+    results = judged("judged answers", false_answers.jobs(), {}, 1)
+    results += judged("texts", cuts.jobs(program, given.all), TEXT_FLOORS, given.jobs)
+    work = turmoil.jobs(program, given.all)
+    results += judged("behaviours that halt one another", work, turmoil.floors(given.all), given.jobs)
+    results += crowded(program, given.all, given.jobs)
+    with refusing() as library:
+        results += refused(library, program, given.all, given.jobs)
+    failed = sum(bool(it) for it in results)
+    print(f"{len(results) - failed} passed, {failed} failed")
+    return 1 if failed else 0
+
+
+if __name__ == "__main__":
+    sys.exit(main())

@@ -1,0 +1,142 @@
+"""The program's tasks, each with every growth and every thread refused in turn, and under falling limits of address space."""
+from __future__ import annotations
+
+import os
+import sys
+from collections import Counter
+from dataclasses import dataclass, field
+from typing import Callable, Iterator, List, Tuple
+
+from outcomes import Task, judged
+from refusing import TOP, Ran, Refusing, limited
+
+sys.path.append(os.path.join(TOP, "tests", "program"))
+
+from examples import bytes_of
+from rows import text
+from sizes import many_behaviours
+
+FORMS: Tuple[Tuple[str, ...], ...] = ((), ("--csv",), ("--history",))
+SCRIPTS = ("restart", "workers", "supervisor", "verdicts", "pumps")
+# A sweep goes on until so many runs in a row are refused nothing.
+BEHIND = 3
+# A sweep that has not come to its end by then never does.
+MOST = 100_000
+
+
+def tasks() -> List[Task]:
+    """Each mode with examples."""
+    found = []
+    for name in SCRIPTS:
+        given = bytes_of(f"{name}.script")
+        for live in ((), ("--live",)):
+            found += [Task(name, ("run", *live, *form), given) for form in FORMS]
+        found += [Task(name, ("explore", *form), given) for form in ((), ("--history",), ("--details",))]
+    found.append(Task("verdicts", ("run", "--stop-on", "fail"), bytes_of("verdicts.script")))
+    found.append(Task("a_refused_script", ("run",), text("testcase t;behaviour main;alive nobody;end;end")))
+    found.append(Task("a_misspelt_script", ("run", "--explain"), text("testcase t;behaviour main;setverdct pass;end;end")))
+    found.append(Task("sixty_four_behaviours", ("run", "--csv"), many_behaviours(64)))
+    found += [Task(name, ("replay",), bytes_of(f"{name}.moves")) for name in ("groups", "inconc", "restart", "stuck")]
+    found.append(Task("a_refused_list", ("replay",), text("behaviours 1;0 crate")))
+    found.append(Task("a_refused_list", ("replay", "--explain"), text("behaviours 1;0 crate")))
+    found.append(Task("a_refused_history", ("check", "--explain"), text("history 1 t 1;0 finish")))
+    found += [Task(name, ("check",), bytes_of(f"{name}.history")) for name in ("pumps", "restart", "supervisor")]
+    found.append(Task("an_illegal_history", ("check",), text("history 1 t 1;end pass")))
+    reported = [(name, form) for name in ("pumps", "supervisor") for form in ("--csv", "--junit", "--chart")]
+    found += [Task(name, ("report", form), bytes_of(f"{name}.history")) for name, form in reported]
+    words = (("--help",), ("run", "--help"), ("frobnicate",), ("run", "--stop-on", "maybe"))
+    return found + [Task("words_alone", it) for it in words]
+
+
+@dataclass
+class Sweep:
+    """What the runs of a task met."""
+
+    name: str
+    runs: int = 0
+    # How many runs were right, refused, aborted or wrong.
+    met: Counter = field(default_factory=Counter)
+    refused: int = 0
+    faults: List[str] = field(default_factory=list)
+
+    def add(self, task: Task, ample: Ran, ran: Ran, plan: str) -> None:
+        """Counts a run."""
+        outcome = judged(task, ample, ran)
+        self.runs += 1
+        self.refused += max(ran.refused, 0)
+        self.met[outcome.kind] += 1
+        if outcome.fault:
+            self.faults.append(f"{plan}: {outcome.fault}")
+
+
+def numbers(most: int, stride: int) -> Iterator[int]:
+    """From 1 to the most, each or every so many, the last ones with them."""
+    return (it for it in range(1, most + 1) if it % stride == 1 % stride or it > most - BEHIND)
+
+
+def sweep(refusing: Refusing, program: str, task: Task, what: str, behind: str, stride: int) -> Sweep:
+    """Refuses the growths or threads of a task in turn, until none is refused any more."""
+    words = [program, *task.words]
+    ample = refusing.run(words, task.given)
+    done = Sweep(f"{' '.join(task.words)} < {task.name}, {what} N{behind} refused")
+    most = ample.growths if what == "growth" else ample.threads
+    for number in numbers(most, stride):
+        plan = f"{what}:{number}{behind}"
+        done.add(task, ample, refusing.run(words, task.given, plan), plan)
+    spared = 0
+    while spared < BEHIND and most < MOST:
+        most += 1
+        plan = f"{what}:{most}{behind}"
+        ran = refusing.run(words, task.given, plan)
+        done.add(task, ample, ran, plan)
+        spared = 0 if ran.refused else spared + 1
+    if most == MOST:
+        done.faults.append(f"growths are refused up to {MOST}")
+    return done
+
+
+def limits(is_whole: bool) -> Iterator[int]:
+    """Limits of address space in kibibytes, from ample memory down to none."""
+    yield from range(640_000, 40_000, -10_000 if is_whole else -60_000)
+    yield from range(40_000, 6_000, -64 if is_whole else -2_000)
+    yield from range(6_000, 0, -4 if is_whole else -100)
+
+
+def is_unbegun(ran: Ran) -> bool:
+    """Whether the system could not load the program, which has then not begun: its loader ends with this status."""
+    return ran.status == 127 and not ran.output
+
+
+def falling(program: str, task: Task, is_whole: bool) -> Sweep:
+    """Runs a task under falling limits, until the program cannot be loaded."""
+    words = [program, *task.words]
+    ample = limited(words, task.given, "-v unlimited")
+    done = Sweep(f"{' '.join(task.words)} < {task.name}, falling limits of address space")
+    for limit in limits(is_whole):
+        ran = limited(words, task.given, f"-v {limit}")
+        if is_unbegun(ran):
+            return done
+        done.add(task, ample, ran, f"ulimit -v {limit}")
+    done.faults.append("the program was loaded under each limit")
+    return done
+
+
+def large_tasks() -> List[Task]:
+    """Tasks that want more memory than a program has at its start."""
+    moves = b"behaviours 1\n" + b"0 create\n" * 999 + b"0 running all\n" * 20_000
+    history = b"history 2 t 1\n" + b"0 getverdict -> none\n" * 100_000 + b"end none\n"
+    found = [Task("many_moves", ("replay",), moves), Task("a_long_history", ("check",), history)]
+    found += [Task("sixty_four_behaviours", ("run", *live, "--csv"), many_behaviours(64)) for live in ((), ("--live",))]
+    found += [Task("all_behaviours", ("run",), many_behaviours(256))]
+    found += [Task(name, ("run", *form), bytes_of(f"{name}.script")) for name in ("workers", "verdicts") for form in FORMS]
+    return found + [Task("supervisor", ("explore",), bytes_of("supervisor.script"))]
+
+
+def jobs(refusing: Refusing, program: str, is_whole: bool) -> List[Callable[[], Sweep]]:
+    """All sweeps; in the gate every so manyth growth alone is refused."""
+    found: List[Callable[[], Sweep]] = []
+    for at, task in enumerate(tasks()):
+        for what, behind, stride in (("growth", "", 5), ("growth", "..", 29), ("thread", "", 1), ("thread", "..", 7)):
+            step = 1 if is_whole else stride
+            found.append(lambda task=task, what=what, behind=behind, step=step: sweep(refusing, program, task, what, behind, step))
+    return found + [lambda task=task: falling(program, task, is_whole) for task in large_tasks()]

@@ -1,0 +1,309 @@
+"""Forms made of histories, held to a making of our own, to Python's reader of XML and to mscgen."""
+from __future__ import annotations
+
+import os
+import random
+import re
+import xml.etree.ElementTree as ElementTree
+from typing import Callable, Dict, Iterator, List, Optional, Tuple, Union
+
+import charts
+import examples
+from case import Case, Ran, difference, run
+from judged import Judgement
+from table import VERDICTS, Op, Table
+from texts import Block, Entry, check, read_history, status_of
+
+# The forms that histories have.
+FORMS = ("csv", "junit", "chart")
+# How many histories of random calls are reported, and the fewest of each kind that are to be among them.
+RANDOM_BLOCKS = 1000
+FLOORS: Dict[str, int] = {"none": 100, "pass": 20, "inconc": 20, "fail": 20, "error": 80, "unfinished": 100, "two components": 200}
+
+# A schema of our own: each element with its attributes, and the elements that may stand in it, by their order.
+SCHEMA: Dict[str, Tuple[Tuple[str, ...], str]] = {
+    "testsuites": (("tests", "failures", "errors", "skipped"), "testsuite"),
+    "testsuite": (("name", "tests", "failures", "errors", "skipped"), "properties( testcase)*"),
+    "properties": ((), "property"),
+    "property": (("name", "value"), ""),
+    "testcase": (("name", "classname"), "(failure |error |skipped )?system-out"),
+    "failure": (("type", "message"), ""),
+    "error": (("type", "message"), ""),
+    "skipped": ((), ""),
+    "system-out": ((), ""),
+}
+# The element for each end of a test case but pass: its name, its type and its message.
+ELEMENTS: Dict[str, Tuple[str, Optional[str], Optional[str]]] = {
+    "none": ("skipped", None, None),
+    "inconc": ("failure", "inconc", "verdict inconc"),
+    "fail": ("failure", "fail", "verdict fail"),
+    "error": ("error", "error", "verdict error"),
+    "unfinished": ("error", "unfinished", "the test case is not over"),
+}
+
+
+class Told:
+    """What a form tells of a block: its name, the local verdicts, and how it ended."""
+
+    def __init__(self, block: Block) -> None:
+        table = Table(block.behaviours)
+        for entry in block.entries:
+            table.play(entry.caller, entry.op)
+        self.name = block.name
+        self.locals = [it.verdict for it in table.components]
+        self.end = "unfinished" if table.components[0].phase == "running" else table.overall()
+
+
+def blocks_of(text: bytes) -> List[Told]:
+    """What the forms tell of a history text."""
+    blocks, refusal = read_history(text)
+    assert refusal is None, refusal
+    return [Told(it) for it in blocks]
+
+
+def status_for(told: List[Told]) -> int:
+    """The exit status."""
+    return max(status_of("error" if it.end == "unfinished" else it.end) for it in told)
+
+
+def csv_of(told: List[Told]) -> bytes:
+    """The CSV report."""
+    lines = [",".join(["testcase", "components", *VERDICTS, "verdict"])]
+    for it in told:
+        lines.append(",".join([it.name, str(len(it.locals)), *(str(it.locals.count(v)) for v in VERDICTS), it.end]))
+    return "".join(f"{it}\n" for it in lines).encode()
+
+
+def junit_of(told: List[Told], version: str) -> bytes:
+    """The JUnit report, byte by byte."""
+    kinds = [ELEMENTS.get(it.end, ("",))[0] for it in told]
+    counts = "".join(f' {name}="{count}"' for name, count in (
+        ("tests", len(told)), ("failures", kinds.count("failure")), ("errors", kinds.count("error")), ("skipped", kinds.count("skipped"))))
+    lines = ['<?xml version="1.0" encoding="UTF-8"?>', f"<testsuites{counts}>", f'<testsuite name="ttrun"{counts}>',
+             "<properties>", f'<property name="version" value="{version}"/>', "</properties>"]
+    for it in told:
+        lines.append(f'<testcase name="{it.name}" classname="ttrun">')
+        element, kind, message = ELEMENTS.get(it.end, ("", None, None))
+        if kind:
+            lines.append(f'<{element} type="{kind}" message="{message}"/>')
+        elif element:
+            lines.append(f"<{element}/>")
+        lines += ["<system-out>", *(f"local {at} {v}" for at, v in enumerate(it.locals)), "</system-out>", "</testcase>"]
+    return "".join(f"{it}\n" for it in [*lines, "</testsuite>", "</testsuites>"]).encode()
+
+
+def faults_of_element(element: ElementTree.Element) -> Iterator[str]:
+    """Why an element is none of the schema."""
+    if element.tag not in SCHEMA:
+        yield f"an element {element.tag}"
+        return
+    attributes, inside = SCHEMA[element.tag]
+    if tuple(element.attrib) != attributes:
+        yield f"{element.tag} has the attributes {list(element.attrib)}"
+    if not re.fullmatch(inside, " ".join(it.tag for it in element)):
+        yield f"{element.tag} has {[it.tag for it in element]}"
+    if element.tag != "system-out" and (element.text or "").strip():
+        yield f"{element.tag} has the text {element.text!r}"
+    for it in element:
+        yield from faults_of_element(it)
+
+
+def faults_of_counts(suite: ElementTree.Element) -> Iterator[str]:
+    """Counts of a suite that are not those of its elements."""
+    wanted = {"tests": suite.findall("testcase"), "failures": suite.findall("testcase/failure"),
+              "errors": suite.findall("testcase/error"), "skipped": suite.findall("testcase/skipped")}
+    for name, found in wanted.items():
+        if suite.get(name) != str(len(found)):
+            yield f"{name} is {suite.get(name)}, and there are {len(found)}"
+
+
+def faults_of_junit(text: bytes) -> List[str]:
+    """Why a text is no JUnit report by the schema, read by Python's own reader."""
+    root = ElementTree.fromstring(text)
+    faults = list(faults_of_element(root)) + ([] if root.tag == "testsuites" else [f"the root is {root.tag}"])
+    for suite in root.findall("testsuite"):
+        faults += faults_of_counts(suite)
+        faults += [f"the suites' {it} differs" for it in ("tests", "failures", "errors", "skipped") if suite.get(it) != root.get(it)]
+    return faults
+
+
+def version_in(text: bytes) -> str:
+    """The version that a JUnit report tells."""
+    found = ElementTree.fromstring(text).find("testsuite/properties/property[@name='version']")
+    return "" if found is None else found.get("value") or ""
+
+
+def faults_of_report(program: str, form: str, text: bytes) -> List[str]:
+    """What is wrong with the report of a legal history text."""
+    ran = run(Case("", ("report", f"--{form}"), text), program)
+    told = blocks_of(text)
+    if form == "csv":
+        wanted = csv_of(told)
+        faults = []
+    elif form == "chart":
+        wanted = charts.chart_of(read_history(text)[0])
+        faults = charts.faults_of_chart(ran.output)
+    else:
+        wanted = junit_of(told, version_in(ran.output))
+        faults = faults_of_junit(ran.output) + ([] if version_in(ran.output) else ["it tells no version"])
+    faults += difference(form, wanted, ran.output) + difference("standard error", b"", ran.errors)
+    return faults + ([] if ran.status == status_for(told) else [f"status {ran.status}, and {status_for(told)} is wanted"])
+
+
+def history_of(program: str, script: bytes) -> bytes:
+    """The histories of a run of the script."""
+    return run(Case("", ("run", "--history"), script), program).output
+
+
+def of_one_run(stem: str) -> Judgement:
+    """Each form of the history of one run."""
+
+    def judge(program: str) -> List[str]:
+        text = history_of(program, examples.bytes_of(f"{stem}.script"))
+        return [fault for form in FORMS for fault in faults_of_report(program, form, text)]
+
+    return Judgement(f"report_of_one_run_{stem}", f"ttrun run --history < examples/{stem}.script | ttrun report", judge)
+
+
+def tally_of(report: bytes) -> Dict[str, int]:
+    """The counts at the end of a text report."""
+    found = re.search(rb"^cases (\d+) none (\d+) pass (\d+) inconc (\d+) fail (\d+) error (\d+)$", report, re.M)
+    assert found is not None, report[-200:]
+    return dict(zip(("cases", *VERDICTS), map(int, found.groups())))
+
+
+def as_run(stem: str) -> Judgement:
+    """Of a script whose verdicts are the same in each run: the forms of `run` and of `report` are the same."""
+
+    def judge(program: str) -> List[str]:
+        script = examples.bytes_of(f"{stem}.script")
+        text = history_of(program, script)
+        faults = []
+        for form in ("csv", "junit"):
+            ran = run(Case("", ("run", f"--{form}"), script), program)
+            reported = run(Case("", ("report", f"--{form}"), text), program)
+            faults += difference(f"report --{form}", ran.output, reported.output)
+            faults += [] if ran.status == reported.status else [f"--{form}: status {ran.status}, and {reported.status}"]
+        tally = tally_of(run(Case("", ("run",), script), program).output)
+        suite = ElementTree.fromstring(run(Case("", ("run", "--junit"), script), program).output).find("testsuite")
+        counts = {"tests": tally["cases"], "failures": tally["inconc"] + tally["fail"], "errors": tally["error"], "skipped": tally["none"]}
+        return faults + [f"{name}: {suite.get(name)}, and the text report has {count}"
+                         for name, count in counts.items() if suite.get(name) != str(count)]
+
+    return Judgement(f"report_as_run_{stem}", f"ttrun run --csv < examples/{stem}.script", judge)
+
+
+def histories_of_examples() -> List[str]:
+    """The histories of examples/."""
+    return sorted(it for it in os.listdir(examples.FOLDER) if it.endswith(".history"))
+
+
+def of_a_history(name: str) -> Judgement:
+    """Each form of a history of examples/."""
+    return Judgement(f"report_of_{name}", f"ttrun report < examples/{name}", lambda program: [
+        fault for form in FORMS for fault in faults_of_report(program, form, examples.bytes_of(name))])
+
+
+def spoiled(text: bytes) -> List[bytes]:
+    """Texts of histories that are refused: by a line that is none, a reply or a verdict of another table, a part cut off."""
+    lines = text.split(b"\n")[:-1]
+    ends = [at for at, it in enumerate(lines) if it.startswith(b"end ")]
+    found = [b"", text[:-1].rpartition(b"\n")[0] + b"\n", b"history 3" + text[9:], text + b"x\n"]
+    for at, line in enumerate(lines):
+        if line.endswith(b" -> ok"):
+            found.append(b"\n".join([*lines[:at], line[:-2] + b"matched", *lines[at + 1:], b""]))
+    for at in ends:
+        for verdict in VERDICTS:
+            found.append(b"\n".join([*lines[:at], b"end " + verdict.encode(), *lines[at + 1:], b""]))
+    return [it for it in found if it == b"" or check(it).status != 0]
+
+
+def refused_as_by_check(name: str, fewest: int) -> Judgement:
+    """What `check` refuses is refused with its line, and nothing is written."""
+
+    def judge(program: str) -> List[str]:
+        texts = spoiled(examples.bytes_of(name))
+        faults = [] if len(texts) >= fewest else [f"{len(texts)} texts are fewer than {fewest}"]
+        for text in texts:
+            checked = run(Case("", ("check",), text), program)
+            line = checked.errors or b"ttrun: " + checked.output.splitlines(keepends=True)[-1]
+            for form in FORMS:
+                ran = run(Case("", ("report", f"--{form}"), text), program)
+                faults += difference("standard output", b"", ran.output) + difference("standard error", line, ran.errors)
+                faults += [] if ran.status == 3 and checked.status == 3 else [f"status {ran.status}"]
+        return faults
+
+    return Judgement(f"report_refuses_as_check_{name}", f"ttrun report < examples/{name}, with a change", judge)
+
+
+def random_block(source: random.Random, number: int) -> Tuple[str, str]:
+    """A legal history of random calls, with its kind: its overall verdict, or that it is not over."""
+    behaviours = source.randint(1, 4)
+    table = Table(behaviours)
+    lines: List[str] = []
+    for _ in range(source.randint(0, 12)):
+        runs = [it for it in table.component_of_run if table.is_going_on(it)]
+        if not runs:
+            break
+        caller = source.choice(runs)
+        op = random_op(source, table)
+        lines.append(f"{caller} {op.text()} -> {table.play(caller, op)}")
+    over = table.components[0].phase != "running"
+    text = "".join(f"{it}\n" for it in [f"history 2 t{number} {behaviours}", *lines, f"end {table.overall()}"])
+    return text, table.overall() if over else "unfinished"
+
+
+def random_op(source: random.Random, table: Table) -> Op:
+    """A call, mostly no error."""
+    comp = source.randrange(len(table.components))
+    run_ = source.randrange(table.behaviours)
+    return source.choice([
+        Op("create", alive=source.random() < 0.5, name=source.choice(["", "pump"])), Op("create"), Op("start", comp, run=run_),
+        Op("stop", comp), Op("kill", comp), Op("setverdict", verdict=source.choice(VERDICTS[:4])),
+        *(Op("setverdict", verdict=source.choice(VERDICTS[1:4])) for _ in range(4)), Op("getverdict"), Op("finish"), Op("alive", comp),
+        Op("wait", comp, awaited="done"),
+    ])
+
+
+def judgements(seed: int) -> List[Judgement]:
+    """Forms of histories of random calls."""
+
+    def judge(program: str) -> List[str]:
+        source = random.Random(seed)
+        blocks = [random_block(source, it) for it in range(RANDOM_BLOCKS)]
+        met = {it: sum(kind == it for _, kind in blocks) for it in FLOORS}
+        met["two components"] = sum("-> made 1" in text for text, _ in blocks)
+        faults = [f"{name}: {met[name]} are fewer than {floor}" for name, floor in FLOORS.items() if met[name] < floor]
+        text = "".join(it for it, _ in blocks).encode()
+        for form in FORMS:
+            faults += faults_of_report(program, form, text)
+            for one, _ in blocks[:40]:
+                faults += faults_of_report(program, form, one.encode())
+        return faults
+
+    return [Judgement("report_of_random_histories", f"ttrun report, seed {seed}", judge)]
+
+
+UNFINISHED = b"history 2 t 1\n0 create -> made 1\n0 setverdict pass -> ok\nend pass\n"
+
+
+def cases() -> List[Union[Case, Judgement]]:
+    """All of them, but those of random histories."""
+    names = sorted(os.listdir(examples.FOLDER))
+    stems = [it[: -len(".script")] for it in names if it.endswith(".script")]
+    fixed = [it for it in stems if f"{it}.csv" in names]
+    found: List[Union[Case, Judgement]] = [of_one_run(it) for it in stems] + [as_run(it) for it in fixed]
+    found += [of_a_history(it) for it in histories_of_examples()]
+    found += [refused_as_by_check("verdicts.history", 15), refused_as_by_check("restart.history", 10)]
+    unfinished = b"testcase,components,none,pass,inconc,fail,error,verdict\nt,2,1,1,0,0,0,unfinished\n"
+    full = b"ttrun: write fault\n"
+    found.append(Case("report_of_an_unfinished_history", ("report", "--csv"), UNFINISHED, unfinished, status=2))
+    for form in FORMS:
+        found.append(Judgement(f"report_of_an_unfinished_history_{form}", f"ttrun report --{form}",
+                               lambda program, form=form: faults_of_report(program, form, UNFINISHED)))
+        found.append(Case(f"report_{form}_on_a_full_device", ("report", f"--{form}"), UNFINISHED, b"", full, 3, redirect=">/dev/full"))
+        found.append(Case(f"report_{form}_to_nobody", ("report", f"--{form}"), UNFINISHED, b"", full, 3, is_broken=True))
+        found.append(Case(f"report_{form}_without_an_input", ("report", f"--{form}"), b"", b"", b"ttrun: read fault\n", 3, redirect="<&-"))
+        too_long = UNFINISHED * (16_777_216 // len(UNFINISHED) + 1)
+        found.append(Case(f"report_{form}_of_too_long_a_text", ("report", f"--{form}"), too_long, b"", b"ttrun: input too long\n", 3))
+    return found
