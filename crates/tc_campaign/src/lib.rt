@@ -17,6 +17,3 @@ pub use tc_report::{
     CampaignEnd, Finished, Form, LiveWriter, Observer, OutFault, Results, Tally, status_of, tally,
     write_abort, write_csv, write_history, write_text,
 };
-
-#[cfg(test)]
-mod tests;

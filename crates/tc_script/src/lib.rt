@@ -20,6 +20,3 @@ pub use limits::TEST_CASES;
 pub use reading::read_campaign;
 pub use tc_line::{Name, ScriptKind};
 pub use tc_step::{GroupPlace, Place, Places, STEPS, Script, Status, Step, TargetPlace};
-
-#[cfg(test)]
-mod tests;

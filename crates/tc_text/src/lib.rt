@@ -26,6 +26,3 @@ pub use reply::{name_of_fault, read_reply, take_reply, write_reply};
 pub use short::{ShortOp, take_short_move};
 pub use verdict::take_verdict;
 pub use writing::{write_move, write_op};
-
-#[cfg(test)]
-mod tests;

@@ -1,34 +1,11 @@
 //! The program: reads standard input, answers on standard output, and names a fault on standard error.
 #![tactic(auto)]
 
-mod answer;
-mod carry_out;
-mod check;
-mod check_lines;
-mod choosing;
-mod explained;
-mod explore;
-mod fault;
-mod give;
-mod jobs;
-mod judge;
-mod laws;
-mod listing;
-mod outcome;
-mod replay;
-mod report;
-mod run;
-mod script;
-mod tell;
-mod terminal;
-#[cfg(test)]
-mod tests;
-
-use crate::answer::answer;
-use crate::terminal::{Announcing, awaited_line};
 use std::io::IsTerminal;
 use std::process::ExitCode;
 use std::{env, io};
+use tc_program::answer::answer;
+use tc_program::terminal::{Announcing, awaited_line};
 
 fn words(rt: &HostRuntime) -> io::Result<Vec<String>> {
     Ok(env::args(rt)?.collect(rt.alloc())?)

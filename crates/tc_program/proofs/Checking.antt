@@ -1,0 +1,49 @@
+-- Histories, checked one after the other.
+use Rattle.std.proofs.Common.{ℕ, ◌≡◌, Bool, true, false, if◌then◌else◌, Option, Some, None, IfSome, List, [], ◌∷◌, ◌++◌, ap, ◌∙◌, append_assoc}
+use Rattle.std.proofs.lemmas.List.{append-nil}
+use Rattle.tc_text.specs.declared.fault.TextFault.{TextFault}
+use Rattle.tc_text.specs.declared.fault.TextFault.TheVariants as T
+use Rattle.tc_stream.specs.Output.{AppendsPrefix}
+use Rattle.tc_history.specs.declared.read.Block.{Block}
+use Rattle.tc_program.specs.declared.judge.Judgement.{Judgement}
+use Rattle.tc_history.specs.Text.{IsMadeOf, IsHistoryFault}
+use Rattle.tc_program.specs.declared.check.Checking.{Checking}
+use Rattle.tc_program.specs.Output.{WritesPrefix}
+use Rattle.tc_program.specs.Check.{IsJudgement, judges_legal, judgement_line, Checks, IsCheckOf, IsChecked}
+use Rattle.tc_program.specs.Inside.{Feeds, RefusesHistory, of_text}
+
+behind : (blocks more : List Block) (b : Block) → (blocks ++ b ∷ []) ++ more ≡ blocks ++ (b ∷ more)
+behind blocks more b = append_assoc blocks (b ∷ []) more
+
+-- one more block, for which something is printed
+pub printed_more : (blocks : List Block) (b : Block) (j : Judgement) (out out' : List ℕ) (t : Bool) → judges_legal j ≡ t → Feeds blocks out true → IsJudgement b j → out' ≡ out ++ judgement_line j → Feeds (blocks ++ b ∷ []) out' t
+printed_more blocks b j out out' true e before is added = λ more tail legal checks.
+    let lines : out' ++ tail ≡ out ++ (judgement_line j ++ tail) = ap (λ x. x ++ tail) added ∙ append_assoc out (judgement_line j) tail in
+    rw (behind blocks more b, lines) (before (b ∷ more) (judgement_line j ++ tail) legal (Checks.goes_on b more j tail legal e is checks))
+printed_more blocks b j out out' false e before is added = λ more. rw (behind blocks more b, added) (before (b ∷ more) (judgement_line j) false (Checks.stops b more j e is))
+
+-- one more block, behind one that is not legal
+pub passed_more : (blocks : List Block) (b : Block) (out : List ℕ) → Feeds blocks out false → Feeds (blocks ++ b ∷ []) out false
+passed_more blocks b out before = λ more. rw (behind blocks more b) (before (b ∷ more))
+
+pub whole : (blocks : List Block) (out : List ℕ) (legal : Bool) → Feeds blocks out legal → Checks blocks out legal
+whole blocks out true feeds = let all : Checks (blocks ++ []) (out ++ []) true = feeds [] [] true Checks.none in rw (append-nil blocks, append-nil out) at all
+whole blocks out false feeds = let all : Checks (blocks ++ []) out false = feeds [] in rw (append-nil blocks) at all
+
+-- what is printed for the histories of the text
+pub all_checked : (text : List ℕ) (c : Checking) → IsMadeOf (λ blocks (c : Checking). Feeds blocks c.out.items c.legal) text c → IsCheckOf text c.out.items c.legal
+all_checked text c so = record { blocks = so.blocks; histories = so.histories; checks = whole so.blocks c.out.items c.legal so.made }
+
+-- a fault of the text is the command's
+pub refused : (text : List ℕ) (fault : TextFault) → IsHistoryFault text fault → RefusesHistory text (of_text fault)
+refused text (T.At line kind) bad = bad
+refused text T.NoMemory bad = tt
+
+-- where the output was made and not written whole: the text is read as `read`, the output as `lent`
+pub prefix_checked : (input before after : Option (List ℕ)) (text read out lent : List ℕ) (legal : Bool) (status : ℕ) →
+    IfSome input (λ xs. text ≡ xs) → read ≡ text → IsCheckOf read out legal → status ≡ (if legal then 0 else 3) → lent ≡ out →
+    AppendsPrefix before after lent → WritesPrefix IsChecked input before after
+prefix_checked None before after text read out lent legal status same read_is check is lent_is written = tt
+prefix_checked (Some xs) before after text read out lent legal status same read_is check is lent_is written =
+    let entire : read ≡ xs = read_is ∙ same in
+    (out, status, record { legal = legal; check = rw entire at check; status_is = is }, rw lent_is at written)

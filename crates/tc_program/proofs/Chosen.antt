@@ -1,0 +1,84 @@
+-- The chosen ones of the test cases that were made of a script are those of the chosen ones of the script.
+use Rattle.std.proofs.Common.{ℕ, ◌≡◌, ◌∙◌, ◌+◌, ◌++◌, ◌&&◌, ◌||◌, Bool, true, false, List, [], ◌∷◌, Option, Some, None, All, ap, ap₂, refl, sym, true≢false}
+use Rattle.std.proofs.lemmas.List.Elements.{All-cons, All-head, All-tail}
+use Rattle.std.specs.List.{AllZip, flat_map, list_any}
+use Rattle.std.specs.Prelude.{filter, if◌then◌else◌}
+use Rattle.std.specs.Str.{bytes_eq}
+use Rattle.tc_campaign.specs.declared.choosing.Shard.{Shard}
+use Rattle.tc_campaign.specs.declared.case.Case.{Case}
+use Rattle.tc_campaign.specs.Choosing.{case_name, chosen, has_place, have_names, is_asked, named, placed}
+use Rattle.tc_step.specs.Steps.{ScriptView}
+use Rattle.tc_program.specs.Choosing.{list_text, script_name}
+use Rattle.tc_program.specs.Inside.{IsCaseOf, case_line}
+use Rattle.tc_program.specs.Scripted.{CaseView}
+
+module _ {C : Type 0} (P : C → Type 0) where
+  all_with : (b : Bool) (c : C) (cs : List C) → P c → All P cs → All P (if b then c ∷ cs else cs)
+  all_with true c cs one rest = All-cons P c cs one rest
+  all_with false c cs one rest = rest
+
+  all_filtered : (test : C → Bool) (cs : List C) → All P cs → All P (filter test cs)
+  all_filtered test [] each = each
+  all_filtered test (c ∷ cs) each = all_with (test c) c (filter test cs) (All-head P c cs each) (all_filtered test cs (All-tail P c cs each))
+
+  all_placed : (s : Shard) (place : ℕ) (cs : List C) → All P cs → All P (placed s place cs)
+  all_placed s place [] each = each
+  all_placed s place (c ∷ cs) each =
+      all_with (has_place s place) c (placed s (place + 1) cs) (All-head P c cs each) (all_placed s (place + 1) cs (All-tail P c cs each))
+
+  pub all_chosen : (name_of : C → List ℕ) (only : List (List ℕ)) (shard : Option Shard) (cs : List C) → All P cs → All P (chosen name_of only shard cs)
+  all_chosen name_of only None cs each = all_filtered (λ c. is_asked only (name_of c)) cs each
+  all_chosen name_of only (Some s) cs each = all_placed s 0 (named name_of only cs) (all_filtered (λ c. is_asked only (name_of c)) cs each)
+
+-- of two lists, each test case with the one at its place
+abbrev AreCases : List CaseView → List (Case ScriptView) → Type 0
+AreCases cs ks = AllZip IsCaseOf cs ks
+
+zip_with : (a b : Bool) (c : CaseView) (k : Case ScriptView) (cs : List CaseView) (ks : List (Case ScriptView)) → a ≡ b → IsCaseOf c k → AreCases cs ks
+    → AreCases (if a then c ∷ cs else cs) (if b then k ∷ ks else ks)
+zip_with true true c k cs ks same one rest = (one, rest)
+zip_with false false c k cs ks same one rest = rest
+zip_with true false c k cs ks same one rest = absurd (true≢false same)
+zip_with false true c k cs ks same one rest = absurd (true≢false (sym same))
+
+zip_named : (only : List (List ℕ)) (cs : List CaseView) (ks : List (Case ScriptView)) → AreCases cs ks → AreCases (named script_name only cs) (named case_name only ks)
+zip_named only [] [] each = tt
+zip_named only [] (k ∷ ks) each = absurd each
+zip_named only (c ∷ cs) [] each = absurd each
+zip_named only (c ∷ cs) (k ∷ ks) each =
+    zip_with (is_asked only (script_name c)) (is_asked only (case_name k)) c k (named script_name only cs) (named case_name only ks)
+    (ap (is_asked only) (sym each.0.name)) each.0 (zip_named only cs ks each.1)
+
+zip_placed : (s : Shard) (place : ℕ) (cs : List CaseView) (ks : List (Case ScriptView)) → AreCases cs ks → AreCases (placed s place cs) (placed s place ks)
+zip_placed s place [] [] each = tt
+zip_placed s place [] (k ∷ ks) each = absurd each
+zip_placed s place (c ∷ cs) [] each = absurd each
+zip_placed s place (c ∷ cs) (k ∷ ks) each =
+    zip_with (has_place s place) (has_place s place) c k (placed s (place + 1) cs) (placed s (place + 1) ks) refl each.0 (zip_placed s (place + 1) cs ks each.1)
+
+pub zip_chosen : (only : List (List ℕ)) (shard : Option Shard) (cs : List CaseView) (ks : List (Case ScriptView)) → AreCases cs ks
+    → AreCases (chosen script_name only shard cs) (chosen case_name only shard ks)
+zip_chosen only None cs ks each = zip_named only cs ks each
+zip_chosen only (Some s) cs ks each = zip_placed s 0 (named script_name only cs) (named case_name only ks) (zip_named only cs ks each)
+
+same_any : (word : List ℕ) (cs : List CaseView) (ks : List (Case ScriptView)) → AreCases cs ks
+    → list_any (λ c. bytes_eq word (script_name c)) cs ≡ list_any (λ k. bytes_eq word (case_name k)) ks
+same_any word [] [] each = refl
+same_any word [] (k ∷ ks) each = absurd each
+same_any word (c ∷ cs) [] each = absurd each
+same_any word (c ∷ cs) (k ∷ ks) each = ap₂ ◌||◌ (ap (bytes_eq word) (sym each.0.name)) (same_any word cs ks each.1)
+
+-- the names are those of the script
+pub same_names : (only : List (List ℕ)) (cs : List CaseView) (ks : List (Case ScriptView)) → AreCases cs ks → have_names script_name only cs ≡ have_names case_name only ks
+same_names [] cs ks each = refl
+same_names (word ∷ only) cs ks each = ap₂ ◌&&◌ (same_any word cs ks each) (same_names only cs ks each)
+
+same_lines : (cs : List CaseView) (ks : List (Case ScriptView)) → AreCases cs ks → flat_map case_line ks ≡ list_text cs
+same_lines [] [] each = refl
+same_lines [] (k ∷ ks) each = absurd each
+same_lines (c ∷ cs) [] each = absurd each
+same_lines (c ∷ cs) (k ∷ ks) each = ap₂ (λ (n : List ℕ) rest. (n ++ (10 ∷ [])) ++ rest) each.0.name (same_lines cs ks each.1)
+
+-- the list of test cases that were made of a script is the list of the script
+pub listed : (cs : List CaseView) (ks : List (Case ScriptView)) (text lent : List ℕ) → AreCases cs ks → text ≡ flat_map case_line ks → lent ≡ text → lent ≡ list_text cs
+listed cs ks text lent each is same = same ∙ is ∙ same_lines cs ks each

@@ -1,0 +1,76 @@
+-- A move list, played move by move.
+use Rattle.std.proofs.Common.{ℕ, ◌≡◌, Option, Some, None, IfSome, List, [], ◌∷◌, ◌++◌, map, reverse, refl, ap, subst, sym, ◌∙◌}
+use Rattle.std.proofs.lemmas.List.{append-nil, reverse-append, map-append}
+use Rattle.std.specs.List.{flat_map}
+use Rattle.std.proofs.lemmas.List.Concat.{flat_map-append}
+use Rattle.tc_verdict.specs.declared.verdict.Verdict.{Verdict}
+use Rattle.tc_entry.specs.declared.entry.Entry.{Entry}
+use Rattle.tc_entry.specs.declared.reply.Reply.{Reply}
+use Rattle.tc_text.specs.declared.fault.TextFault.{TextFault}
+use Rattle.tc_text.specs.declared.fault.TextFault.TheVariants as T
+use Rattle.tc_text.specs.MoveList.{Move, IsMadeOf, IsListFault}
+use Rattle.tc_text.specs.Spelling.{reply_text}
+use Rattle.tc_stream.specs.Output.{AppendsPrefix}
+use Rattle.tc_table.specs.Standing.{StandsFor}
+use Rattle.tc_table.proofs.Standing.{legal_for}
+use Rattle.tc_table.specs.Local.{overall}
+use Rattle.tc_program.specs.declared.replay.Replaying.{Replaying}
+use Rattle.tc_program.specs.Inside.{ArePlayed, RefusesText, of_text}
+use Rattle.tc_program.specs.Output.{WritesPrefix}
+use Rattle.tc_program.specs.Replay.{move_of, reply_line, IsReplayOf, Replays}
+use Rattle.tc_report.specs.Report.{verdict_line}
+use Rattle.tc_report.specs.Status.{verdict_status}
+
+one_line : (h : List Entry) (e : Entry) → flat_map reply_line (h ++ e ∷ []) ≡ flat_map reply_line h ++ reply_line e
+one_line h e = flat_map-append reply_line h (e ∷ []) ∙ ap (λ l. flat_map reply_line h ++ l) (append-nil (reply_line e))
+
+pub played_none : (n : ℕ) (r : Replaying) → r.state.behaviours ≡ n → StandsFor r.state [] → r.out.items ≡ [] → ArePlayed n [] r
+played_none n r same stands empty = record { history = []; moves_are = refl; behaviours = same; stands = stands; lines = empty }
+
+pub played_more : (n : ℕ) (moves : List Move) (r r' : Replaying) (m : Move) (reply : Reply) → ArePlayed n moves r → r'.state.behaviours ≡ r.state.behaviours →
+    ((past : List Entry) → StandsFor r.state past → StandsFor r'.state (record { caller = m.0; op = m.1; reply = reply } ∷ past)) →
+    r'.out.items ≡ r.out.items ++ (reply_text reply ++ 10 ∷ []) → ArePlayed n (moves ++ m ∷ []) r'
+played_more n moves r r' m reply before same plays wrote =
+    let h = before.history in
+    let e : Entry = record { caller = m.0; op = m.1; reply = reply } in
+    let one_more : map move_of (h ++ e ∷ []) ≡ map move_of h ++ m ∷ [] = map-append move_of h (e ∷ []) in
+    record {
+      history = h ++ e ∷ [];
+      moves_are = one_more ∙ ap (λ (ms : List Move). ms ++ m ∷ []) before.moves_are;
+      behaviours = same ∙ before.behaviours;
+      stands = subst (λ (past : List Entry). StandsFor r'.state past) (sym (reverse-append h (e ∷ []))) (plays (reverse h) before.stands);
+      lines = wrote ∙ (ap (λ l. l ++ reply_line e) before.lines ∙ sym (one_line h e));
+    }
+
+pub all_played : (text out : List ℕ) (r : Replaying) (verdict : Verdict) → IsMadeOf ArePlayed text r → ((past : List Entry) → StandsFor r.state past → verdict ≡ overall past) →
+    out ≡ r.out.items ++ verdict_line verdict → IsReplayOf text out verdict
+all_played text out r verdict so is more =
+    let played = so.made in
+    let h = played.history in
+    let right : verdict ≡ overall (reverse h) = is (reverse h) played.stands in
+    record {
+      behaviours = so.behaviours;
+      moves = so.moves;
+      list = so.list;
+      replayed = record {
+        history = h;
+        moves_are = played.moves_are;
+        legal = legal_for so.behaviours r.state (reverse h) played.behaviours played.stands;
+        out_is = more ∙ (ap (λ l. l ++ verdict_line verdict) played.lines ∙ ap (λ v. flat_map reply_line h ++ verdict_line v) right);
+        verdict_is = right;
+      };
+    }
+
+-- a fault of the list is the command's
+pub refused : (text : List ℕ) (fault : TextFault) → IsListFault text fault → RefusesText text (of_text fault)
+refused text (T.At line kind) bad = bad
+refused text T.NoMemory bad = tt
+
+-- where the output was made and not written whole: the text is read as `read`, the output as `lent`
+pub prefix_written : (input before after : Option (List ℕ)) (text read out lent : List ℕ) (verdict : Verdict) (status : ℕ) →
+    IfSome input (λ xs. text ≡ xs) → read ≡ text → IsReplayOf read out verdict → status ≡ verdict_status verdict → lent ≡ out →
+    AppendsPrefix before after lent → WritesPrefix Replays input before after
+prefix_written None before after text read out lent verdict status same read_is replay is lent_is written = tt
+prefix_written (Some xs) before after text read out lent verdict status same read_is replay is lent_is written =
+    let whole : read ≡ xs = read_is ∙ same in
+    (out, status, record { verdict = verdict; replay = rw whole at replay; status_is = is }, rw lent_is at written)

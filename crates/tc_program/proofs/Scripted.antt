@@ -1,0 +1,189 @@
+-- The results of the test cases that were made of a script are those of the script.
+use Rattle.std.proofs.Common.{ℕ, zero, suc, ◌≡◌, ◌∙◌, Bool, true, false, List, [], ◌∷◌, Option, Result, Ok, Err, IfOk, IfErr, All, length, map, take, arith, refl, sym, ap, subst, inr, ◌⊎◌}
+use Rattle.std.proofs.lemmas.List.{length-map}
+use Rattle.std.proofs.lemmas.List.Elements.{All-nil, All-cons, All-tail}
+use Rattle.std.specs.List.{AllZip}
+use Rattle.std.specs.Vec.{vec_len}
+use Rattle.std.specs.Prelude.{slice_get}
+use Rattle.std.specs.Io.KnownBytes.{Appends, Keeps}
+use Rattle.tc_stream.specs.Output.{AppendsPrefix}
+use Rattle.tc_verdict.specs.declared.verdict.Verdict.{Verdict}
+use Rattle.tc_step.specs.Steps.{ScriptView}
+use Rattle.tc_behaviour.specs.Acts.{Acts, MakesItsCalls}
+use Rattle.tc_behaviour.proofs.Running.{run_grown}
+use Rattle.tc_behaviour.proofs.Spelled.{are_called, made_of_calls}
+use Rattle.tc_script.specs.Law.{IsCase}
+use Rattle.tc_explore.proofs.Reports.{report_is_course}
+use Rattle.tc_book.specs.Passes.{PassState}
+use Rattle.tc_exec.specs.declared.job.Back.{Back}
+use Rattle.tc_exec.specs.Case.{IsCaseReport, IsMadeOf}
+use Rattle.tc_exec.proofs.Logs.{logs_by}
+use Rattle.tc_report.specs.declared.results.Finished.{Finished}
+use Rattle.tc_report.specs.declared.results.Results.{Results}
+use Rattle.tc_campaign.specs.declared.case.Case.{Case}
+use Rattle.tc_campaign.specs.Outline.{Outline, HasNames, outline_of}
+use Rattle.tc_campaign.specs.Campaign.{IsCalled, IsOfCase, IsReported, IsRight, IsWhy}
+use Rattle.tc_program.specs.Give.{is_live}
+use Rattle.tc_program.specs.declared.fault.RunFault.{RunFault}
+use Rattle.tc_command.specs.Asked.{Running}
+use Rattle.tc_program.specs.declared.run.Options.{Options}
+use Rattle.tc_program.specs.declared.outcome.Outcome.{Outcome}
+use Rattle.tc_program.specs.Limits.{HasAtMost, script_limit}
+use Rattle.tc_program.specs.Give.{text_of, LeavesUnwritten}
+use Rattle.tc_program.specs.Run.{AreFinished, AreResults, IsCutShort, IsRuleOf, IsRun, IsUnwritten}
+use Rattle.tc_program.specs.Choosing.{AreChosen}
+use Rattle.tc_program.specs.Program.{FailsRun, LeavesPart, RefusesScripted, RunsScript}
+use Rattle.tc_program.specs.Streams.{Streams}
+use Rattle.tc_program.specs.Scripted.{CaseView, IsScripted, names_of, scripts_of, script_outline}
+use Rattle.tc_program.specs.Inside.{IsCaseOf}
+
+count : (c : CaseView) (k : Case ScriptView) → IsCaseOf c k → vec_len k.jobs ≡ length c.1
+count c k is = omega (arith, ap length is.jobs, length-map c.1 (λ b. b.1))
+
+has_names : (c : CaseView) (k : Case ScriptView) → IsCaseOf c k → HasNames k
+has_names c k is = omega (arith, count c k is, ap length is.names, length-map c.1 (λ b. b.0))
+
+same_outline : (c : CaseView) (k : Case ScriptView) → IsCaseOf c k → outline_of k ≡ script_outline c
+same_outline c k is =
+    ap (λ n. let o : Outline = record { name = n; names = k.names.items; jobs = vec_len k.jobs } in o) is.name
+    ∙ ap (λ ns. let o : Outline = record { name = c.0; names = ns; jobs = vec_len k.jobs } in o) is.names
+    ∙ ap (λ n. let o : Outline = record { name = c.0; names = names_of c.1; jobs = n } in o) (count c k is)
+
+pub even : (cs : List CaseView) (ks : List (Case ScriptView)) → AllZip IsCaseOf cs ks → All HasNames ks
+even [] [] each = All-nil HasNames
+even [] (k ∷ ks) each = absurd each
+even (c ∷ cs) [] each = absurd each
+even (c ∷ cs) (k ∷ ks) each = All-cons HasNames k ks (has_names c k each.0) (even cs ks each.1)
+
+outlines : (cs : List CaseView) (ks : List (Case ScriptView)) → AllZip IsCaseOf cs ks → map outline_of ks ≡ map script_outline cs
+outlines [] [] each = refl
+outlines [] (k ∷ ks) each = absurd each
+outlines (c ∷ cs) [] each = absurd each
+outlines (c ∷ cs) (k ∷ ks) each = ap (λ o. o ∷ map outline_of ks) (same_outline c k each.0) ∙ ap (λ os. script_outline c ∷ os) (outlines cs ks each.1)
+
+-- a script hands back the pass of its own run
+own : (s : ScriptView) (p : PassState) (k : Back) → MakesItsCalls s p k → k.pass.run ≡ p.run
+own s p k is = ap (λ q. q.run) (run_grown s.steps p k.pass k.ending is.calls).1
+
+of_script : (c : CaseView) (k : Case ScriptView) (f : Finished) → IsCase c.1 → IsCaseOf c k → IsReported (script_outline c) f → IsCalled Acts k f → IsScripted c f
+of_script c k f lawful is report called =
+    let made : IsMadeOf Acts (scripts_of c.1) f.report = subst (λ js. IsMadeOf Acts js f.report) is.jobs called.1 in
+    let calls : IsMadeOf MakesItsCalls (scripts_of c.1) f.report = made_of_calls c.1 f.report lawful report.one_history report.behaviours made in
+    let as_many : IsCaseReport (length (scripts_of c.1)) f.report = subst (λ n. IsCaseReport n f.report) (sym (length-map c.1 (λ b. b.1))) report in (
+      are_called c.1 f.report lawful report.one_history report.behaviours made,
+      calls,
+      logs_by MakesItsCalls own f.report (scripts_of c.1) report.one_history (report.behaviours ∙ sym (length-map c.1 (λ b. b.1))) calls,
+      report_is_course (scripts_of c.1) f.report (record { report = as_many; made = calls }),
+    )
+
+scripted : (n : ℕ) (cs : List CaseView) (ks : List (Case ScriptView)) (fs : List Finished) → All (λ c. IsCase c.1) cs → AllZip IsCaseOf cs ks
+    → AllZip IsReported (take n (map script_outline cs)) fs → AllZip (IsCalled Acts) (take n ks) fs → AllZip IsScripted (take n cs) fs
+scripted zero cs ks [] lawful each reports called = tt
+scripted zero cs ks (f ∷ fs) lawful each reports called = absurd called
+scripted (suc n) [] [] [] lawful each reports called = tt
+scripted (suc n) [] [] (f ∷ fs) lawful each reports called = absurd called
+scripted (suc n) [] (k ∷ ks) fs lawful each reports called = absurd each
+scripted (suc n) (c ∷ cs) [] fs lawful each reports called = absurd each
+scripted (suc n) (c ∷ cs) (k ∷ ks) [] lawful each reports called = absurd called
+scripted (suc n) (c ∷ cs) (k ∷ ks) (f ∷ fs) lawful each reports called =
+    (of_script c k f (lawful 0 c (omega arith)) each.0 reports.0 called.0, scripted n cs ks fs (All-tail (λ c. IsCase c.1) c cs lawful) each.1 reports.1 called.1)
+
+-- right results of the test cases are right results of the script
+pub results : (cs : List CaseView) (ks : List (Case ScriptView)) (stop_on : Option Verdict) (r : Results) → All (λ c. IsCase c.1) cs → AllZip IsCaseOf cs ks
+    → AreResults outline_of (IsCalled Acts) ks stop_on r → AreResults script_outline IsScripted cs stop_on r
+results cs ks stop_on r lawful each are =
+    let same = outlines cs ks each in
+    let reports : AllZip IsReported (take (length r.finished) (map script_outline cs)) r.finished = subst (λ os. AllZip IsReported (take (length r.finished) os) r.finished) same are.reports in
+    record {
+      right = subst (λ os. IsRight os stop_on r) same are.right;
+      reports = reports;
+      calls = scripted (length r.finished) cs ks r.finished lawful each reports are.calls;
+      names = are.names;
+      behaviours = are.behaviours;
+      why = subst (λ os. IsWhy (slice_get os (length r.finished)) r.ending) same are.why;
+    }
+
+-- a run of the test cases that were made of the script of an input is a run of that script
+pub run_done : (o : Running) (input : Option (List ℕ)) (cs : List CaseView) (ks : List (Case ScriptView)) (options : Options) (streams : Streams) (r : Result Outcome RunFault)
+    → AreChosen o.choice input cs → All (λ c. IsCase c.1) cs → HasAtMost script_limit input → IsRuleOf o.stop_on options.stop_on → options.form ≡ o.form → AllZip IsCaseOf cs ks
+    → IfOk r (IsRun outline_of (IsCalled Acts) ks options streams) → IfOk r (RunsScript o input streams)
+run_done o input cs ks options streams (Err fault) spelled lawful fits named same each run = tt
+run_done o input cs ks options streams (Ok outcome) spelled lawful fits named same each run = record {
+  cases = cs;
+  rule = options.stop_on;
+  chosen = spelled;
+  fits = fits;
+  named = named;
+  run = record {
+    results = run.results;
+    right = results cs ks options.stop_on run.results lawful each run.right;
+    status = run.status;
+    written = subst (λ f. Appends streams.before streams.after (text_of f run.results)) same run.written;
+    told = run.told;
+  };
+}
+
+-- the words or the input were refused, or a part of the text of a run was left
+abbrev LeavesIn : Bool → Running → Option (List ℕ) → Option (List ℕ) → Option (List ℕ) → RunFault → Type 0
+LeavesIn live o input before after fault = (RefusesScripted o input fault × Keeps before after) ⊎ LeavesPart live o input before after fault
+
+run_refused : (o : Running) (input : Option (List ℕ)) (cs : List CaseView) (ks : List (Case ScriptView)) (options : Options) (before after : Option (List ℕ)) (r : Result Outcome RunFault)
+    → AreChosen o.choice input cs → All (λ c. IsCase c.1) cs → IsRuleOf o.stop_on options.stop_on → options.form ≡ o.form → AllZip IsCaseOf cs ks
+    → IfErr r (IsUnwritten outline_of (IsCalled Acts) ks options before after) → IfErr r (LeavesIn false o input before after)
+run_refused o input cs ks options before after (Ok outcome) spelled lawful named same each run = tt
+run_refused o input cs ks options before after (Err fault) spelled lawful named same each run = inr (record {
+  cases = cs;
+  rule = options.stop_on;
+  chosen = spelled;
+  named = named;
+  run = record {
+    results = run.results;
+    right = results cs ks options.stop_on run.results lawful each run.right;
+    left = subst (λ f. LeavesUnwritten before after (text_of f run.results) fault) same run.left;
+  };
+})
+
+-- the finished test cases are those of the script
+finished : (cs : List CaseView) (ks : List (Case ScriptView)) (stop_on : Option Verdict) (fs : List Finished) → All (λ c. IsCase c.1) cs → AllZip IsCaseOf cs ks
+    → AreFinished outline_of (IsCalled Acts) ks stop_on fs → AreFinished script_outline IsScripted cs stop_on fs
+finished cs ks stop_on fs lawful each are =
+    let same = outlines cs ks each in
+    let reports : AllZip IsReported (take (length fs) (map script_outline cs)) fs = subst (λ os. AllZip IsReported (take (length fs) os) fs) same are.reports in
+    record {
+      cases_are = subst (λ os. AllZip IsOfCase (take (length fs) os) fs) same are.cases_are;
+      better = are.better;
+      reports = reports;
+      calls = scripted (length fs) cs ks fs lawful each reports are.calls;
+      names = are.names;
+      behaviours = are.behaviours;
+    }
+
+run_cut : (o : Running) (input : Option (List ℕ)) (cs : List CaseView) (ks : List (Case ScriptView)) (options : Options) (before after : Option (List ℕ)) (r : Result Outcome RunFault)
+    → AreChosen o.choice input cs → All (λ c. IsCase c.1) cs → IsRuleOf o.stop_on options.stop_on → options.form ≡ o.form → AllZip IsCaseOf cs ks
+    → IfErr r (IsCutShort outline_of (IsCalled Acts) ks options before after) → IfErr r (LeavesIn true o input before after)
+run_cut o input cs ks options before after (Ok outcome) spelled lawful named same each run = tt
+run_cut o input cs ks options before after (Err fault) spelled lawful named same each run = inr (record {
+  cases = cs;
+  rule = options.stop_on;
+  chosen = spelled;
+  named = named;
+  run = record {
+    results = run.results;
+    each = finished cs ks options.stop_on run.results.finished lawful each run.each;
+    left = subst (λ f. AppendsPrefix before after (text_of f run.results)) same run.left;
+    why = run.why;
+  };
+})
+
+pub run_fails : (o : Running) (input : Option (List ℕ)) (cs : List CaseView) (ks : List (Case ScriptView)) (options : Options) (before after : Option (List ℕ)) (r : Result Outcome RunFault)
+    → AreChosen o.choice input cs → All (λ c. IsCase c.1) cs → IsRuleOf o.stop_on options.stop_on → options.form ≡ o.form → AllZip IsCaseOf cs ks
+    → (is_live options.form o.live ≡ false → IfErr r (IsUnwritten outline_of (IsCalled Acts) ks options before after))
+    → (is_live options.form o.live ≡ true → IfErr r (IsCutShort outline_of (IsCalled Acts) ks options before after)) → IfErr r (FailsRun o input before after)
+run_fails o input cs ks options before after r spelled lawful named same each whole cut =
+    subst (λ f. IfErr r (λ fault. (RefusesScripted o input fault × Keeps before after) ⊎ LeavesPart (is_live f o.live) o input before after fault)) same (go (is_live options.form o.live) r whole cut)
+  where
+    go : (live : Bool) (r : Result Outcome RunFault) → (live ≡ false → IfErr r (IsUnwritten outline_of (IsCalled Acts) ks options before after))
+        → (live ≡ true → IfErr r (IsCutShort outline_of (IsCalled Acts) ks options before after))
+        → IfErr r (λ fault. (RefusesScripted o input fault × Keeps before after) ⊎ LeavesPart live o input before after fault)
+    go false r whole cut = run_refused o input cs ks options before after r spelled lawful named same each (whole refl)
+    go true r whole cut = run_cut o input cs ks options before after r spelled lawful named same each (cut refl)

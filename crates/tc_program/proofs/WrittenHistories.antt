@@ -1,0 +1,160 @@
+-- Written histories are legal.
+use Rattle.std.proofs.Common.{ℕ, ◌≡◌, ◌≢◌, ◌∙◌, ◌+◌, ◌<◌, Bool, true, false, All, Option, Some, None, IfSome, if◌then◌else◌, inr, List, [], ◌∷◌, ◌++◌, length, reverse, take, drop, get_or, refl, ap, sym, arith}
+use Rattle.std.specs.List.{AllZip, flat_map}
+use Rattle.std.specs.Io.KnownBytes.{Appends}
+use Rattle.std.proofs.lemmas.List.{reverse-append, take_more, take-append-drop}
+use Rattle.std.proofs.lemmas.List.Elements.{All-nil, All-cons, All-head, All-tail}
+use Rattle.tc_entry.specs.declared.entry.Entry.{Entry}
+use Rattle.tc_entry.specs.declared.reply.Reply.{Reply}
+use Rattle.tc_table.specs.Legal.{IsLegal}
+use Rattle.tc_table.specs.Local.{overall}
+use Rattle.tc_table.specs.Check.{DiffersAt}
+use Rattle.tc_history.specs.declared.read.Block.{Block}
+use Rattle.tc_history.specs.Text.{AreBlocks, AreHistories, block_lines}
+use Rattle.tc_history.specs.Written.{text_of_blocks}
+use Rattle.tc_history.proofs.WrittenBlocks.{written_histories}
+use Rattle.tc_book.specs.Report.{IsOneHistory}
+use Rattle.tc_report.specs.declared.results.Finished.{Finished}
+use Rattle.tc_report.specs.declared.results.Results.{Results}
+use Rattle.tc_report.specs.Histories.{case_history, histories_text}
+use Rattle.tc_campaign.specs.Outline.{Outline}
+use Rattle.tc_campaign.specs.Campaign.{IsReported}
+use Rattle.tc_program.specs.declared.judge.Judgement.{Judgement}
+use Rattle.tc_program.specs.declared.judge.Judgement.TheVariants as J
+use Rattle.tc_program.specs.Check.{IsJudgement, Checks, judges_legal, judgement_line, legal_line}
+use Rattle.tc_program.specs.WrittenHistories.{block_of, blocks_of, WasRun, WereRun, legal_case, legal_cases, AreFoundLegal, AreReported}
+use Rattle.tc_program.specs.Inside.{FitsItsTypes}
+
+pub blocks_text : (line : ℕ) (fs : List Finished) → text_of_blocks (blocks_of line fs) ≡ flat_map case_history fs
+blocks_text line [] = refl
+blocks_text line (f ∷ fs) = ap (λ l. case_history f ++ l) (blocks_text (line + length (block_lines (block_of line f))) fs)
+
+are_blocks : (line : ℕ) (fs : List Finished) → All WasRun fs → AreBlocks line (blocks_of line fs)
+are_blocks line [] all = tt
+are_blocks line (f ∷ fs) all =
+    let this = All-head WasRun f fs all in
+    (record { header = this.header; entries = this.entries; first = refl }, are_blocks (line + length (block_lines (block_of line f))) fs (All-tail WasRun f fs all))
+
+some_blocks : (fs : List Finished) → fs ≢ [] → blocks_of 1 fs ≢ []
+some_blocks [] some = absurd (some refl)
+some_blocks (f ∷ fs) some = λ e. cc
+
+pub histories_of : (r : Results) → WereRun r → AreHistories (histories_text r) (blocks_of 1 r.finished)
+histories_of r ran = rw blocks_text at (written_histories (blocks_of 1 r.finished) (some_blocks r.finished ran.some) (are_blocks 1 r.finished ran.each))
+
+all_legal : (line : ℕ) (fs : List Finished) → All WasRun fs → Checks (blocks_of line fs) (flat_map legal_case fs) true
+all_legal line [] all = Checks.none
+all_legal line (f ∷ fs) all =
+    let this = All-head WasRun f fs all in
+    let next = line + length (block_lines (block_of line f)) in
+    Checks.goes_on (block_of line f) (blocks_of next fs) (J.Legal f.name (length f.report.history) f.report.verdict) (flat_map legal_case fs) true refl
+    (this.report.legal, this.report.verdict, refl, refl, refl) (all_legal next fs (All-tail WasRun f fs all))
+
+pub written_is_legal : (r : Results) → WereRun r → AreFoundLegal r
+written_is_legal r ran = record {
+  legal = true;
+  check = record { blocks = blocks_of 1 r.finished; histories = histories_of r ran; checks = all_legal 1 r.finished ran.each };
+  status_is = refl;
+}
+
+-- ---- a legal history is found legal, and nothing else
+
+-- a history that is legal is legal up to each of its entries
+legal_before : (n : ℕ) (later past : List Entry) → IsLegal n (later ++ past) → IsLegal n past
+legal_before n [] past legal = legal
+legal_before n (e ∷ later) past legal = legal_before n later past legal.1
+
+up_to : (list : List Entry) (at : ℕ) (d : Entry) → at < length list → reverse list ≡ reverse (drop (at + 1) list) ++ get_or list at d ∷ reverse (take at list)
+up_to list at d within =
+    ap reverse (sym (take-append-drop (at + 1) list) ∙ ap (λ l. l ++ drop (at + 1) list) (take_more list at d within))
+    ∙ (reverse-append (take at list ++ get_or list at d ∷ []) (drop (at + 1) list) ∙ ap (λ l. reverse (drop (at + 1) list) ++ l) (reverse-append (take at list) (get_or list at d ∷ [])))
+
+pub no_difference : (n : ℕ) (list : List Entry) (at : ℕ) (reply : Reply) → IsLegal n (reverse list) → DiffersAt n list at reply → ⊥
+no_difference n [] at reply legal differs = let within = differs.within in absurd (omega (arith, within))
+no_difference n (e ∷ es) at reply legal differs =
+    let list = e ∷ es in
+    let whole : IsLegal n (reverse (drop (at + 1) list) ++ get_or list at e ∷ reverse (take at list)) = rw (sym (up_to list at e differs.within)) legal in
+    differs.other e ((legal_before n (reverse (drop (at + 1) list)) (get_or list at e ∷ reverse (take at list)) whole).0 ∙ sym (differs.answers e))
+
+-- each reply is the table's, and the verdict is that of the history
+abbrev pub IsRight : Block → Type 0
+IsRight b = IsLegal b.behaviours (reverse b.entries) × (b.verdict ≡ overall (reverse b.entries))
+
+no_other : (b : Block) (j : Judgement) → IsRight b → judges_legal j ≡ false → IsJudgement b j → ⊥
+no_other b (J.Legal name entries verdict) right other is = absurd cc
+no_other b (J.OtherReply line given reply) right other is = no_difference b.behaviours b.entries is.at reply right.0 is.differs
+no_other b (J.OtherVerdict line given verdict) right other is = is.2 (right.1 ∙ sym is.1)
+
+-- the line of a block that is found legal
+abbrev pub block_line : Block → List ℕ
+block_line b = legal_line b.name (length b.entries) b.verdict
+
+said_of_legal : (b : Block) (j : Judgement) → judges_legal j ≡ true → IsJudgement b j → judgement_line j ≡ block_line b
+said_of_legal b (J.Legal name entries verdict) legal is = rw (is.2, is.3, is.4) refl
+said_of_legal b (J.OtherReply line given reply) legal is = absurd cc
+said_of_legal b (J.OtherVerdict line given verdict) legal is = absurd cc
+
+abbrev pub AreRight : List Block → Type 0
+AreRight [] = Unit {0}
+AreRight (b ∷ bs) = IsRight b × AreRight bs
+
+pub only_legal : (bs : List Block) (out : List ℕ) (legal : Bool) → AreRight bs → Checks bs out legal → (out ≡ flat_map block_line bs) × (legal ≡ true)
+only_legal _ _ _ all Checks.none = (refl, refl)
+only_legal _ _ _ all (Checks.goes_on b rest j out legal same is more) =
+    let two = only_legal rest out legal all.1 more in
+    (ap (λ l. l ++ out) (said_of_legal b j same is) ∙ ap (λ l. block_line b ++ l) two.0, two.1)
+only_legal _ _ _ all (Checks.stops b rest j other is) = absurd (no_other b j all.0 other is)
+
+pub are_right : (line : ℕ) (fs : List Finished) → All WasRun fs → AreRight (blocks_of line fs)
+are_right line [] all = tt
+are_right line (f ∷ fs) all =
+    let this = All-head WasRun f fs all in
+    ((this.report.legal, this.report.verdict), are_right (line + length (block_lines (block_of line f))) fs (All-tail WasRun f fs all))
+
+same_lines : (line : ℕ) (fs : List Finished) → flat_map block_line (blocks_of line fs) ≡ flat_map legal_case fs
+same_lines line [] = refl
+same_lines line (f ∷ fs) = ap (λ l. legal_case f ++ l) (same_lines (line + length (block_lines (block_of line f))) fs)
+
+-- what is said of these blocks
+said_of_written : (r : Results) (out : List ℕ) (legal : Bool) → WereRun r → Checks (blocks_of 1 r.finished) out legal → (out ≡ legal_cases r) × (legal ≡ true)
+said_of_written r out legal ran checks =
+    let two = only_legal (blocks_of 1 r.finished) out legal (are_right 1 r.finished ran.each) checks in
+    (two.0 ∙ same_lines 1 r.finished, two.1)
+
+-- ---- the steps of `check`
+
+pub written_read : (input : Option (List ℕ)) (text read : List ℕ) (r : Results) → WereRun r → input ≡ Some (histories_text r) → IfSome input (λ xs. text ≡ xs) → read ≡ text → AreHistories read (blocks_of 1 r.finished)
+written_read None text read r ran is all same = absurd cc
+written_read (Some xs) text read r ran is all same =
+    let whole : xs ≡ histories_text r = cc in
+    rw (same ∙ (all ∙ whole)) (histories_of r ran)
+
+pub written_said : (before after : Option (List ℕ)) (r : Results) (out lent : List ℕ) (legal : Bool) (status : ℕ) → WereRun r → Checks (blocks_of 1 r.finished) out legal →
+    status ≡ (if legal then 0 else 3) → lent ≡ out → Appends before after lent → (status ≡ 0) × Appends before after (legal_cases r)
+written_said before after r out lent legal status ran checks is lent_is written =
+    let two = said_of_written r out legal ran checks in
+    (is ∙ ap (λ t. if t then 0 else 3) two.1, rw (lent_is ∙ two.0) at written)
+
+-- ---- what the types give
+
+-- the report of the test case is one history
+abbrev pub HasHistory : Finished → Type 0
+HasHistory f = IsOneHistory f.report
+
+have_histories : (cases : List Outline) (fs : List Finished) → AllZip IsReported cases fs → All HasHistory fs
+have_histories [] [] each = All-nil HasHistory
+have_histories [] (f ∷ fs) each = absurd each
+have_histories (c ∷ cases) [] each = absurd each
+have_histories (c ∷ cases) (f ∷ fs) each = All-cons HasHistory f fs each.0.one_history (have_histories cases fs each.1)
+
+pub reported_were_run : (cases : List Outline) (r : Results) → All FitsItsTypes r.finished → AreReported cases r → WereRun r
+reported_were_run cases r fit reported = record {
+  some = reported.some;
+  each = λ k d within.
+      let fits = fit k d within in
+      record {
+        header = record { name_is = fits.0; few = reported.behaviours k d within; format = inr refl };
+        entries = fits.1;
+        report = have_histories (take (length r.finished) cases) r.finished reported.reports k d within;
+      };
+}

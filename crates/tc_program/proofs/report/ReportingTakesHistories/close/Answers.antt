@@ -1,0 +1,28 @@
+use Rattle.std.proofs.Common.{◌≡◌, true, false}
+use Rattle.std.specs.Prelude.{is_some}
+use Rattle.tc_program.specs.Check.{judges_legal}
+use Rattle.tc_program.proofs.Reporting.{illegal_next, legal_next}
+use Rattle.tc_program.proofs.report.ReportingTakesHistories.close.Goals as goal
+
+pub returns-in_ok-push : goal.returns-in_ok-push
+returns-in_ok-push c blocks b first line verdict played stood =
+    let said = c.is_some.ensures in
+    let tested = c.if-is_some.false in
+    let none : is_some c.args.self.now.illegal ≡ false = cc in
+    let found = c.is_legal.ensures in
+    let is = c.if-is_legal.true in
+    let legal : judges_legal c.judge-judgement.result ≡ true = cc in
+    legal_next c.args.self.now.illegal blocks b c.args.begun c.judge-judgement.result c.in_ok-summary.summary
+    c.args.self.now.summaries.items c.push.new.self.items none stood played (c.judge-judgement.ensures b played first line verdict) legal
+    c.in_ok-summary.ensures c.in_ok-push.ensures.items
+
+pub returns-else-is_legal : goal.returns-else-is_legal
+returns-else-is_legal c blocks b first line verdict played stood =
+    let said = c.is_some.ensures in
+    let tested = c.if-is_some.false in
+    let none : is_some c.args.self.now.illegal ≡ false = cc in
+    let found = c.is_legal.ensures in
+    let is = c.if-is_legal.false in
+    let illegal : judges_legal c.judge-judgement.result ≡ false = cc in
+    illegal_next c.args.self.now.illegal blocks b c.judge-judgement.result c.args.self.now.summaries.items c.args.self.now.summaries.items
+    none stood (c.judge-judgement.ensures b played first line verdict) illegal

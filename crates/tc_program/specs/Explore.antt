@@ -1,0 +1,79 @@
+-- What `explore` writes: the overall verdicts that were found of each test case of a script, or the histories that witness them.
+use Rattle.std.specs.Prelude.{ℕ, ◌≡◌, ◌==◌, ◌≤◌, if◌then◌else◌, Bool, true, false, Option, None, Some, Ok, List, [], ◌++◌, length}
+use Rattle.std.specs.List.{AllZip, flat_map, list_any}
+use Rattle.std.specs.Fmt.{decimal}
+use Rattle.std.specs.Io.KnownBytes.{Keeps}
+use Rattle.tc_script.specs.Campaign.{CampaignView, campaign}
+use Rattle.tc_explore.specs.declared.witness.Witness.{Witness}
+use Rattle.tc_explore.specs.Details.{details_text}
+use Rattle.tc_explore.specs.Found.{AreWitnesses, AreLegal}
+use Rattle.tc_explore.specs.Laws.{AllFound}
+use Rattle.tc_explore.specs.declared.explored.Ending.TheVariants as E
+use Rattle.tc_explore.specs.Told.{explored_line, explored_status, witnesses_text}
+use Rattle.tc_program.specs.declared.explore.ExploredCase.{ExploredCase}
+use Rattle.tc_program.specs.declared.fault.RunFault.{RunFault}
+use Rattle.tc_program.specs.declared.fault.RunFault.TheVariants as F
+use Rattle.tc_program.specs.Limits.{script_limit}
+use Rattle.tc_program.specs.Output.{WritesPrefix}
+use Rattle.tc_program.specs.Script.{RefusesScript}
+use Rattle.tc_program.specs.Scripted.{CaseView, scripts_of}
+
+-- a search may look at so many states at most
+abbrev pub IsStates : ℕ → Type 0
+IsStates n = (1 ≤ n) × (n ≤ 1000000)
+
+-- the states that the word names; without a word a hundred thousand
+abbrev pub IsStatesOf : Option (List ℕ) → ℕ → Type 0
+IsStatesOf None n = n ≡ 100000
+IsStatesOf (Some word) n = IsStates n × (word ≡ decimal n)
+
+-- there is a word, and it names no number of states
+abbrev pub IsNoStates : Option (List ℕ) → Type 0
+IsNoStates None = ⊥
+IsNoStates (Some word) = (n : ℕ) → IsStates n → word ≡ decimal n → ⊥
+
+-- the details of a test case of n behaviours, where they are asked for
+abbrev pub details_if : Bool → ℕ → List Witness → List ℕ
+details_if true n found = details_text n found
+details_if false n found = []
+
+-- a test case was explored, and each verdict that was found has a witness: a complete course of its scripts, which is legal;
+-- where the search says that it is complete, the verdict of each complete course of its scripts was found
+pub record IsExplored (details : Bool) (states : ℕ) (c : CaseView) (e : ExploredCase) : Type 0 where
+  pub name : e.name ≡ c.0
+  pub behaviours : e.behaviours ≡ length c.1
+  pub sound : AreWitnesses (scripts_of c.1) e.explored.found
+  pub legal : AreLegal (scripts_of c.1) e.explored.found
+  pub complete : e.explored.ending ≡ E.Complete → AllFound (scripts_of c.1) e.explored.found
+  pub within : e.explored.states ≤ states
+  pub details_are : e.details ≡ details_if details e.behaviours e.explored.found
+
+-- what is written of a test case: its line and its details, or the histories of its witnesses
+abbrev pub told_of : Bool → ExploredCase → List ℕ
+told_of false e = explored_line e.name e.explored ++ e.details
+told_of true e = witnesses_text e.name e.behaviours e.explored
+
+-- some test case has this status
+abbrev pub has_status : ℕ → List ExploredCase → Bool
+has_status status explored = list_any (λ e. explored_status e.explored == status) explored
+
+-- the status of test cases: 3 where a search did not come to its end, else 1 where some test case has more verdicts than one
+abbrev pub status_of_all : List ExploredCase → ℕ
+status_of_all explored = if has_status 3 explored then 3 else if has_status 1 explored then 1 else 0
+
+-- the test cases that the text spells were explored within so many states, and this is what is written of them, with their status
+pub record Explores (histories details : Bool) (states : ℕ) (text out : List ℕ) (status : ℕ) : Type 0 where
+  pub cases : CampaignView
+  pub explored : List ExploredCase
+  pub spelled : campaign text ≡ Ok cases
+  pub each : AllZip (IsExplored details states) cases explored
+  pub out_is : out ≡ flat_map (told_of histories) explored
+  pub status_is : status ≡ status_of_all explored
+
+-- what a fault of `explore` says: the word is refused; or it is good, and the input is refused; nothing was written then. Where
+-- the writer failed a prefix of the output was written
+abbrev pub RefusesExplore : Bool → Bool → Option (List ℕ) → Option (List ℕ) → Option (List ℕ) → Option (List ℕ) → RunFault → Type 0
+RefusesExplore histories details word input before after F.States = IsNoStates word × Keeps before after
+RefusesExplore histories details word input before after F.Write =
+    (states : ℕ) × IsStatesOf word states × WritesPrefix (Explores histories details states) input before after
+RefusesExplore histories details word input before after fault = RefusesScript script_limit input fault × Keeps before after

@@ -1,0 +1,112 @@
+-- What the functions inside of the program say, which no public clause names.
+use Rattle.std.specs.Prelude.{ℕ, ◌≡◌, ◌+◌, Bool, true, false, Option, Some, None, Result, MatchResult, List, [], ◌∷◌, ◌++◌, length, map, reverse}
+use Rattle.std.specs.Global.{Vec}
+use Rattle.std.specs.List.{flat_map}
+use Rattle.tc_verdict.specs.declared.verdict.Verdict.{Verdict}
+use Rattle.tc_stream.specs.declared.input.InputFault.{InputFault}
+use Rattle.tc_stream.specs.declared.input.InputFault.TheVariants as I
+use Rattle.tc_entry.specs.Name.{IsName}
+use Rattle.tc_entry.specs.declared.entry.Entry.{Entry}
+use Rattle.tc_text.specs.declared.fault.TextFault.{TextFault}
+use Rattle.tc_text.specs.declared.fault.TextFault.TheVariants as T
+use Rattle.tc_text.specs.MoveList.{Move, IsListFault}
+use Rattle.tc_step.specs.Steps.{ScriptView}
+use Rattle.tc_table.specs.Standing.{Kept, StandsFor}
+use Rattle.tc_table.specs.Legal.{IsLegal}
+use Rattle.tc_history.specs.declared.header.Header.{Header}
+use Rattle.tc_history.specs.declared.read.Block.{Block}
+use Rattle.tc_history.specs.Text.{AreEntries, AreHistories, IsHistoryFault, header_of}
+use Rattle.tc_report.specs.declared.fault.OutFault.{OutFault}
+use Rattle.tc_report.specs.declared.fault.OutFault.TheVariants as O
+use Rattle.tc_report.specs.declared.results.Finished.{Finished}
+use Rattle.tc_campaign.specs.declared.case.Case.{Case}
+use Rattle.tc_program.specs.declared.fault.RunFault.{RunFault}
+use Rattle.tc_program.specs.declared.fault.RunFault.TheVariants as F
+use Rattle.tc_program.specs.declared.judge.Difference.{Difference}
+use Rattle.tc_program.specs.declared.judge.Judgement.{Judgement}
+use Rattle.tc_program.specs.declared.judge.Playing.{Playing}
+use Rattle.tc_program.specs.declared.replay.Replaying.{Replaying}
+use Rattle.tc_program.specs.Check.{Checks, IsJudgement, IsOtherReply}
+use Rattle.tc_program.specs.Replay.{move_of, reply_line}
+use Rattle.tc_program.specs.Scripted.{CaseView, names_of, scripts_of}
+
+-- the fault for an input that could not be read whole
+abbrev pub of_input : InputFault → RunFault
+of_input I.TooLong = F.TooLong
+of_input I.Read = F.Read
+of_input I.NoMemory = F.NoMemory
+
+-- the fault for an output that was not written whole
+abbrev pub of_output : OutFault → RunFault
+of_output O.NoMemory = F.NoMemory
+of_output O.Write = F.Write
+
+-- the fault for a text that was refused
+abbrev pub of_text : TextFault → RunFault
+of_text (T.At line kind) = F.Text (T.At line kind)
+of_text T.NoMemory = F.NoMemory
+
+-- what a fault says of a text that should be a move list; want of memory says nothing
+abbrev pub RefusesText : List ℕ → RunFault → Type 0
+RefusesText text (F.Text fault) = IsListFault text fault
+RefusesText text F.NoMemory = Unit {0}
+RefusesText text fault = ⊥
+
+-- a test case is ready to be run: it has the names of this one, and its jobs are the scripts
+pub record IsCaseOf (c : CaseView) (ready : Case ScriptView) : Type 0 where
+  pub name : ready.name ≡ c.0
+  pub names : ready.names.items ≡ names_of c.1
+  pub jobs : ready.jobs.items ≡ scripts_of c.1
+
+-- the name of the test case is a name, and the numbers in its history are those of their types, so they are entries of format 2
+abbrev pub FitsItsTypes : Finished → Type 0
+FitsItsTypes f = IsName f.name × AreEntries 2 f.report.history
+
+-- these moves of a case of n behaviours are played: the state stands for their entries, and the lines of the replies are written
+pub record ArePlayed (n : ℕ) (moves : List Move) (r : Replaying) : Type 0 where
+  pub history : List Entry
+  pub moves_are : map move_of history ≡ moves
+  pub behaviours : r.state.behaviours ≡ n
+  pub stands : StandsFor r.state (reverse history)
+  pub lines : r.out.items ≡ flat_map reply_line history
+
+-- this state stands for the entries, each of whose replies is the table's, or this is their first difference
+abbrev pub IsPlayedTo : ℕ → ℕ → List Entry → Kept → Option Difference → Type 0
+IsPlayedTo n first_line entries k None = (k.behaviours ≡ n) × StandsFor k (reverse entries) × IsLegal n (reverse entries)
+IsPlayedTo n first_line entries k (Some d) = IsOtherReply n first_line entries d.line d.given d.reply
+
+-- these entries of a history, which stand below its first line, are played
+abbrev pub IsPlayed : ℕ → Header → List Entry → Playing → Type 0
+IsPlayed first_line h entries p = (p.header ≡ h) × IsPlayedTo h.behaviours first_line entries p.state p.difference
+
+-- the entry in this line was played behind those of a history, where it is the next
+abbrev pub PlaysNext : ℕ → Entry → Playing → Playing → Type 0
+PlaysNext line e before after =
+    (first_line : ℕ) (h : Header) (entries : List Entry) → line ≡ first_line + length entries + 1
+    → IsPlayed first_line h entries before → IsPlayed first_line h (entries ++ e ∷ []) after
+
+-- of a block that was played, with these first and last lines and this verdict, it is what the table says
+abbrev pub JudgesPlayed : Playing → ℕ → ℕ → Verdict → Judgement → Type 0
+JudgesPlayed p first_line line given j =
+    (b : Block) → IsPlayed b.first_line (header_of b) b.entries p → first_line ≡ b.first_line
+    → line ≡ b.first_line + length b.entries + 1 → given ≡ b.verdict → IsJudgement b j
+
+-- what is printed for these blocks: while all are legal, what is printed for those behind comes behind
+abbrev pub Feeds : List Block → List ℕ → Bool → Type 0
+Feeds blocks out true = (more : List Block) (tail : List ℕ) (legal : Bool) → Checks more tail legal → Checks (blocks ++ more) (out ++ tail) legal
+Feeds blocks out false = (more : List Block) → Checks (blocks ++ more) out false
+
+-- what a fault says of a text that should be that of histories
+abbrev pub RefusesHistory : List ℕ → RunFault → Type 0
+RefusesHistory text (F.Text fault) = IsHistoryFault text fault
+RefusesHistory text F.NoMemory = Unit {0}
+RefusesHistory text fault = ⊥
+
+-- a text of histories is refused for want of memory alone, and else this is what is printed for them, and whether all are legal
+abbrev pub ChecksText : List ℕ → Result (Vec ℕ × Bool) RunFault → Type 0
+ChecksText text result =
+    (blocks : List Block) → AreHistories text blocks → MatchResult result (λ r. Checks blocks r.0.items r.1) (λ fault. fault ≡ F.NoMemory)
+
+-- the line of a test case in a list
+abbrev pub case_line : {B : Type 0} → Case B → List ℕ
+case_line k = k.name ++ (10 ∷ [])

@@ -1,0 +1,130 @@
+//! What the program does with its words.
+ghost use Rattle.std.specs.Prelude.{◌≡◌, ℕ, List, IfOk, IfErr, OnErr, map, string_bytes};
+ghost use Rattle.std.specs.IoError.{error_kind};
+ghost use Rattle.clap.specs.Values.{kind_of};
+ghost use Rattle.clap.specs.declared.error.kind.ErrorKind.TheVariants.{DisplayHelp, DisplayVersion, OutOfMemory};
+ghost use Rattle.tc_program.specs.Answer.{IsAnswered, IsHelped, IsMistake, IsNoTask, IsRefusedLine, IsUnread, ShowsText};
+ghost use Rattle.tc_program.specs.Tell.{IsRefusal, IsTold};
+ghost use Rattle.tc_program.specs.declared.fault.RunFault.TheVariants.{NoMemory as WithoutMemory};
+ghost use Rattle.tc_program.specs.Streams.{held};
+
+use crate::carry_out::carry_out;
+use crate::fault::RunFault;
+use crate::outcome::{Outcome, REFUSED};
+use crate::tell::{refuse, tell_unmade};
+use clap::Error;
+use clap::error::ErrorKind;
+use std::alloc::Global;
+use std::io;
+use std::io::{Read, Write};
+use std::sync::Wait;
+use std::thread::Threads;
+use tc_command::{Task, read_task};
+use tc_stream::write_whole;
+
+// Writes the text of a command line that asks for no task.
+fn show<W: Write>(alloc: Global, error: &Error, writer: &mut W) -> Result<(), RunFault>
+    ensures { ShowsText (W.contents writer.old) (W.contents writer.new) result }
+{
+    let text = error.to_string(alloc)?;
+    write_whole(writer, text.as_bytes())?;
+    Ok(())
+}
+
+// Writes why a command line is refused, or, where memory is refused for that text, that it was.
+fn tell_mistake<E: Write>(alloc: Global, error: &Error, errors: &mut E) -> Result<(), RunFault>
+    ensures { (text : List ℕ) × IsTold (E.contents errors.old) (E.contents errors.new) text result }
+{
+    let Ok(text) = error.to_string(alloc) else {
+        return tell_unmade(errors);
+    };
+    write_whole(errors, text.as_bytes())?;
+    Ok(())
+}
+
+/// The outcome of words that ask for no task: help or the version is written, and for refused words standard error says why, in clap's
+/// texts. Where memory was refused for the words, standard error says that.
+pub fn answer_no_task<W: Write, E: Write>(
+    alloc: Global,
+    error: &Error,
+    writer: &mut W,
+    errors: &mut E,
+) -> Outcome
+    ensures help { kind_of error.now ≡ DisplayHelp → IsHelped (held W.contents writer.old writer.new E.contents errors.old errors.new) result }
+    ensures version { kind_of error.now ≡ DisplayVersion → IsHelped (held W.contents writer.old writer.new E.contents errors.old errors.new) result }
+    ensures refused { IsMistake (kind_of error.now) → IsRefusedLine (E.contents errors.old) (E.contents errors.new) result }
+    ensures memory { kind_of error.now ≡ OutOfMemory → IsRefusal (E.contents errors.old) (E.contents errors.new) result WithoutMemory }
+    ensures unwritten { IsMistake (kind_of error.now) → writer.new ≡ writer.old }
+    ensures wordless { kind_of error.now ≡ OutOfMemory → writer.new ≡ writer.old }
+{
+    if error.kind() == ErrorKind::OutOfMemory {
+        return refuse(alloc, errors, RunFault::NoMemory);
+    }
+    if error.use_stderr() {
+        return Outcome {
+            status: REFUSED,
+            told: tell_mistake(alloc, error, errors),
+        };
+    }
+    match show(alloc, error, writer) {
+        Ok(()) => Outcome {
+            status: 0,
+            told: Ok(()),
+        },
+        Err(fault) => refuse(alloc, errors, fault),
+    }
+}
+
+// The outcome of words that ask for no task, as one fact.
+fn answer_error<W: Write, E: Write>(
+    alloc: Global,
+    error: &Error,
+    writer: &mut W,
+    errors: &mut E,
+) -> Outcome
+    ensures shown { IsNoTask (kind_of error.now) (held W.contents writer.old writer.new E.contents errors.old errors.new) (writer.new ≡ writer.old) result }
+{
+    answer_no_task(alloc, error, writer, errors)
+}
+
+/// The outcome of words that could not be had; standard error says why.
+pub fn answer_unread<E: Write>(alloc: Global, error: &io::Error, errors: &mut E) -> Outcome
+    ensures { IsUnread (error_kind error.now) (E.contents errors.old) (E.contents errors.new) result }
+{
+    if error.kind() == io::ErrorKind::OutOfMemory {
+        return refuse(alloc, errors, RunFault::NoMemory);
+    }
+    let told = write_whole(errors, b"ttrun: an argument is not UTF-8\n");
+    Outcome {
+        status: REFUSED,
+        told: told.map_err(RunFault::from),
+    }
+}
+
+/// Does what the words ask for, the first of which is the program's name; they may not have been had.
+pub fn answer<R, I: Read, W: Write, E: Write>(
+    rt: &R,
+    alloc: Global,
+    words: io::Result<Vec<String>>,
+    reader: &mut I,
+    writer: &mut W,
+    errors: &mut E,
+) -> Outcome
+where
+    R: Threads + Wait + Copy + Send + 'static,
+    ensures had { IfOk words (λ given. IsAnswered (map string_bytes given.items) (I.remaining reader.old)
+        (held W.contents writer.old writer.new E.contents errors.old errors.new)
+        (reader.new ≡ reader.old) (writer.new ≡ writer.old) result) }
+    ensures not_had { IfErr words (λ error. IsUnread (error_kind error) (E.contents errors.old) (E.contents errors.new) result) }
+    ensures unread { OnErr words (reader.new ≡ reader.old) }
+    ensures unwritten { OnErr words (writer.new ≡ writer.old) }
+{
+    let words = match words {
+        Ok(words) => words,
+        Err(error) => return answer_unread(alloc, &error, errors),
+    };
+    match read_task(alloc, words.as_slice()) {
+        Ok(task) => carry_out(rt, alloc, task, reader, writer, errors),
+        Err(error) => answer_error(alloc, &error, writer, errors),
+    }
+}

@@ -1,0 +1,94 @@
+//! The lines that `check` prints.
+ghost use Rattle.std.specs.Prelude.{◌≡◌, ◌++◌, OnOk};
+ghost use Rattle.tc_text.specs.Spelling.{reply_text};
+ghost use Rattle.tc_verdict.specs.Verdict.{name_of};
+ghost use Rattle.tc_program.specs.Check.{gives_text, judgement_line, legal_line, other_line};
+
+use crate::fault::append_place;
+use crate::judge::Judgement;
+use tc_entry::Name;
+use tc_table::{NoMemory, Reply, Verdict};
+use tc_text::{append_number, append_text, write_reply};
+use tc_verdict::name as name_of_verdict;
+
+// Appends the line of a legal history; where memory is refused, a part of it.
+fn append_legal(
+    out: &mut Vec<u8>,
+    name: &Name,
+    entries: usize,
+    verdict: Verdict,
+) -> Result<(), NoMemory>
+    ensures { OnOk result (out.new.items ≡ out.old.items ++ legal_line name.now entries verdict) }
+{
+    append_text(out, "legal ")?;
+    out.extend_from_slice(name.bytes())?;
+    append_text(out, " ")?;
+    append_number(out, entries as u64)?;
+    append_text(out, " ")?;
+    append_text(out, name_of_verdict(verdict))?;
+    out.push(b'\n')?;
+    Ok(())
+}
+
+// Appends the words before what the table gives.
+#[tactic(auto, unfolding(crate::specs::Check::gives_text))]
+fn append_gives(out: &mut Vec<u8>) -> Result<(), NoMemory>
+    ensures { OnOk result (out.new.items ≡ out.old.items ++ gives_text) }
+{
+    append_text(out, ", table gives ")
+}
+
+// Appends the line of an entry with another reply than the table's; where memory is refused, a part of it.
+fn append_other_reply(
+    out: &mut Vec<u8>,
+    line: usize,
+    given: Reply,
+    reply: Reply,
+) -> Result<(), NoMemory>
+    ensures { OnOk result (out.new.items ≡ out.old.items ++ other_line line (reply_text given) (reply_text reply)) }
+{
+    append_place(out, line)?;
+    write_reply(out, &given)?;
+    append_gives(out)?;
+    write_reply(out, &reply)?;
+    out.push(b'\n')?;
+    Ok(())
+}
+
+// Appends the line of another verdict than the table's; where memory is refused, a part of it.
+fn append_other_verdict(
+    out: &mut Vec<u8>,
+    line: usize,
+    given: Verdict,
+    verdict: Verdict,
+) -> Result<(), NoMemory>
+    ensures { OnOk result (out.new.items ≡ out.old.items ++ other_line line (name_of given) (name_of verdict)) }
+{
+    append_place(out, line)?;
+    append_text(out, name_of_verdict(given))?;
+    append_gives(out)?;
+    append_text(out, name_of_verdict(verdict))?;
+    out.push(b'\n')?;
+    Ok(())
+}
+
+/// Appends what is printed for a history; where memory is refused, a part of it.
+pub(crate) fn append_judgement(out: &mut Vec<u8>, judgement: &Judgement) -> Result<(), NoMemory>
+    ensures { OnOk result (out.new.items ≡ out.old.items ++ judgement_line judgement.now) }
+{
+    match judgement {
+        Judgement::Legal {
+            name,
+            entries,
+            verdict,
+        } => append_legal(out, name, *entries, *verdict),
+        Judgement::OtherReply { line, given, reply } => {
+            append_other_reply(out, *line, *given, *reply)
+        }
+        Judgement::OtherVerdict {
+            line,
+            given,
+            verdict,
+        } => append_other_verdict(out, *line, *given, *verdict),
+    }
+}

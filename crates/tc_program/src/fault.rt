@@ -1,0 +1,217 @@
+//! The faults of the program, and their lines on standard error.
+ghost use Rattle.std.specs.Prelude.{◌≡◌, ◌++◌, OnOk, OnErr, Some};
+ghost use Rattle.std.specs.Io.{StartsWith};
+ghost use Rattle.tc_program.specs.Fault.{fault_text, line_number, line_of, place_text, words_of};
+
+use std::alloc::{AllocError, AllocFailed};
+use std::fmt;
+use tc_campaign::OutFault;
+use tc_script::ScriptFault;
+use tc_stream::WriteFault;
+use tc_table::{InputFault, NoMemory, TextFault};
+use tc_text::{append_number, append_text};
+use thiserror::Error;
+
+/// Why a command was not carried out.
+#[derive(Clone, Copy, Debug, PartialEq, Eq, Error)]
+pub enum RunFault {
+    /// The input has more bytes than its limit.
+    TooLong,
+    /// The input could not be read.
+    Read,
+    /// The output could not be written whole.
+    Write,
+    /// Memory was refused.
+    NoMemory,
+    /// The text of the input is none that the command takes.
+    Text(TextFault),
+    /// The input spells no campaign.
+    Script(ScriptFault),
+    /// The word of `--stop-on` is the name of no verdict.
+    StopOn,
+    /// The word of `--states` is no number of states.
+    States,
+    /// The word of `--shard` is none of a shard.
+    Shard,
+    /// A word of `--only` is the name of no test case of the script.
+    Only,
+}
+
+impl From<InputFault> for RunFault {
+    ghost use Rattle.std.specs.Prelude.{◌≡◌};
+    ghost use Rattle.tc_program.specs.Inside.{of_input};
+
+    ghost from_gives = { λ fault r. r ≡ of_input fault };
+
+    fn from(fault: InputFault) -> RunFault {
+        match fault {
+            InputFault::TooLong => RunFault::TooLong,
+            InputFault::Read => RunFault::Read,
+            InputFault::NoMemory => RunFault::NoMemory,
+        }
+    }
+}
+
+impl From<WriteFault> for RunFault {
+    ghost use Rattle.std.specs.Prelude.{◌≡◌};
+    ghost use Rattle.tc_program.specs.declared.fault.RunFault.TheVariants as faults;
+
+    ghost from_gives = { λ _ r. r ≡ faults.Write };
+
+    fn from(_: WriteFault) -> RunFault {
+        RunFault::Write
+    }
+}
+
+impl From<OutFault> for RunFault {
+    ghost use Rattle.std.specs.Prelude.{◌≡◌};
+    ghost use Rattle.tc_program.specs.Inside.{of_output};
+
+    ghost from_gives = { λ fault r. r ≡ of_output fault };
+
+    fn from(fault: OutFault) -> RunFault {
+        match fault {
+            OutFault::NoMemory => RunFault::NoMemory,
+            OutFault::Write => RunFault::Write,
+        }
+    }
+}
+
+impl From<NoMemory> for RunFault {
+    ghost use Rattle.std.specs.Prelude.{◌≡◌};
+    ghost use Rattle.tc_program.specs.declared.fault.RunFault.TheVariants as faults;
+
+    ghost from_gives = { λ _ r. r ≡ faults.NoMemory };
+
+    fn from(_: NoMemory) -> RunFault {
+        RunFault::NoMemory
+    }
+}
+
+impl From<AllocError> for RunFault {
+    ghost use Rattle.std.specs.Prelude.{◌≡◌};
+    ghost use Rattle.tc_program.specs.declared.fault.RunFault.TheVariants as faults;
+
+    ghost from_gives = { λ _ r. r ≡ faults.NoMemory };
+
+    fn from(_: AllocError) -> RunFault {
+        RunFault::NoMemory
+    }
+}
+
+impl<T: Drop> From<AllocFailed<T>> for RunFault {
+    ghost use Rattle.std.specs.Prelude.{◌≡◌};
+    ghost use Rattle.tc_program.specs.declared.fault.RunFault.TheVariants as faults;
+
+    ghost from_gives = { λ _ r. r ≡ faults.NoMemory };
+
+    fn from(_: AllocFailed<T>) -> RunFault {
+        RunFault::NoMemory
+    }
+}
+
+impl From<TextFault> for RunFault {
+    ghost use Rattle.std.specs.Prelude.{◌≡◌};
+    ghost use Rattle.tc_program.specs.Inside.{of_text};
+
+    ghost from_gives = { λ fault r. r ≡ of_text fault };
+
+    fn from(fault: TextFault) -> RunFault {
+        match fault {
+            TextFault::At { .. } => RunFault::Text(fault),
+            TextFault::NoMemory => RunFault::NoMemory,
+        }
+    }
+}
+
+impl RunFault {
+    // The number of the line that has the fault, where it is one of a line of the input.
+    fn line(&self) -> Option<usize>
+        ensures { result ≡ line_number self.now }
+    {
+        match self {
+            RunFault::Text(TextFault::At { line, .. }) => Some(*line),
+            RunFault::Script(fault) => Some(fault.line),
+            _ => None,
+        }
+    }
+
+    // The words that name the fault.
+    fn words(&self) -> &'static str
+        ensures { result.now ≡ words_of self.now }
+    {
+        match self {
+            RunFault::TooLong => InputFault::TooLong.text(),
+            RunFault::Read => InputFault::Read.text(),
+            RunFault::Write => WriteFault.text(),
+            RunFault::NoMemory | RunFault::Text(TextFault::NoMemory) => NoMemory.text(),
+            RunFault::Text(TextFault::At { kind, .. }) => kind.text(),
+            RunFault::Script(fault) => fault.kind.text(),
+            RunFault::StopOn => "--stop-on takes none, pass, inconc, fail or error",
+            RunFault::States => "--states takes a number from 1 to 1000000",
+            RunFault::Shard => "--shard takes K/N, with K from 1 to N",
+            RunFault::Only => "--only takes the name of a test case of the script",
+        }
+    }
+}
+
+impl fmt::Display for RunFault {
+    ghost output = { λ f. Some (fault_text f) };
+
+    #[tactic(auto, unfolding(crate::specs::Fault::place_text))]
+    fn fmt<W: fmt::Write>(&self, f: &mut fmt::Formatter<W>) -> fmt::Result {
+        let words = self.words();
+        match self.line() {
+            Some(line) => write!(f, "line {line}: {words}"),
+            None => f.write_str(words),
+        }
+    }
+}
+
+/// Appends the number of a line; where memory is refused, a part of it.
+#[tactic(auto, unfolding(crate::specs::Fault::place_text))]
+pub(crate) fn append_place(out: &mut Vec<u8>, line: usize) -> Result<(), NoMemory>
+    ensures ok { OnOk result (out.new.items ≡ out.old.items ++ place_text line) }
+    ensures err { OnErr result (StartsWith out.new.items out.old.items) }
+{
+    append_text(out, "line ")?;
+    append_number(out, line as u64)?;
+    append_text(out, ": ")
+}
+
+// Appends the text of the fault; where memory is refused, a part of it.
+fn append_fault(out: &mut Vec<u8>, fault: &RunFault) -> Result<(), NoMemory>
+    ensures ok { OnOk result (out.new.items ≡ out.old.items ++ fault_text fault.now) }
+    ensures err { OnErr result (StartsWith out.new.items out.old.items) }
+{
+    if let Some(line) = fault.line() {
+        append_place(out, line)?;
+    }
+    append_text(out, fault.words())
+}
+
+// Appends the whole line; where memory is refused, a part of it.
+fn append_line(out: &mut Vec<u8>, fault: &RunFault) -> Result<(), NoMemory>
+    ensures ok { OnOk result (out.new.items ≡ out.old.items ++ line_of fault.now) }
+    ensures err { OnErr result (StartsWith out.new.items out.old.items) }
+{
+    append_text(out, "ttrun: ")?;
+    append_fault(out, fault)?;
+    out.push(b'\n')?;
+    Ok(())
+}
+
+/// Appends the fault's line on standard error, its line feed included, or nothing where memory is refused.
+pub fn fault_line(fault: &RunFault, out: &mut Vec<u8>) -> Result<(), NoMemory>
+    ensures ok { OnOk result (out.new.items ≡ out.old.items ++ line_of fault.now) }
+    ensures err { OnErr result (out.new.items ≡ out.old.items) }
+{
+    let start = out.len();
+    match append_line(out, fault) {
+        Ok(()) => Ok(()),
+        Err(error) => {
+            out.truncate(start);
+            Err(error)
+        }
+    }
+}

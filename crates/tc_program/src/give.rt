@@ -1,0 +1,62 @@
+//! The results of a campaign, as the program writes them.
+ghost use Rattle.std.specs.Prelude.{◌≡◌, IfOk, IfErr, OnOk};
+ghost use Rattle.std.specs.Io.KnownBytes.{Appends};
+ghost use Rattle.tc_report.specs.Status.{results_status};
+ghost use Rattle.tc_report.specs.Output.{LeavesPrefix};
+ghost use Rattle.tc_program.specs.Give.{LeavesUnwritten, live_form as spec_form, text_of};
+
+use crate::fault::RunFault;
+use std::alloc::Global;
+use std::io::Write;
+use tc_campaign::{
+    Form as ReportForm, OutFault, Results, status_of, write_csv, write_history, write_text,
+};
+use tc_command::{Form, VERSION};
+use tc_forms::write_junit;
+
+/// The form in which test cases are written as they finish; a JUnit report has none, since its head counts all of them.
+pub(crate) fn live_form(form: Form) -> Option<ReportForm>
+    ensures { result ≡ spec_form form }
+{
+    match form {
+        Form::Text => Some(ReportForm::Text),
+        Form::Csv => Some(ReportForm::Csv),
+        Form::History => Some(ReportForm::History),
+        Form::Junit => None,
+    }
+}
+
+fn write<W: Write>(
+    alloc: Global,
+    results: &Results,
+    form: Form,
+    writer: &mut W,
+) -> Result<(), OutFault>
+    ensures done { OnOk result (Appends (W.contents writer.old) (W.contents writer.new) (text_of form results.now)) }
+    ensures refused { IfErr result (LeavesPrefix (W.contents writer.old) (W.contents writer.new) (text_of form results.now)) }
+{
+    match form {
+        Form::Text => write_text(alloc, results, writer),
+        Form::Csv => write_csv(alloc, results, writer),
+        Form::History => write_history(alloc, results, writer),
+        Form::Junit => write_junit(alloc, VERSION, results, writer),
+    }
+}
+
+/// Writes the results in this form, and answers the exit status for them. The text is made whole before anything is written.
+pub fn give<W: Write>(
+    alloc: Global,
+    results: &Results,
+    form: Form,
+    writer: &mut W,
+) -> Result<u8, RunFault>
+    ensures status { IfOk result (λ status. status ≡ results_status results.now) }
+    ensures done { OnOk result (Appends (W.contents writer.old) (W.contents writer.new) (text_of form results.now)) }
+    ensures refused { IfErr result (LeavesUnwritten (W.contents writer.old) (W.contents writer.new) (text_of form results.now)) }
+{
+    match write(alloc, results, form, writer) {
+        Ok(()) => Ok(status_of(results)),
+        Err(OutFault::NoMemory) => Err(RunFault::NoMemory),
+        Err(OutFault::Write) => Err(RunFault::Write),
+    }
+}

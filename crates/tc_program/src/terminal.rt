@@ -1,0 +1,42 @@
+//! What a person at a terminal is told before the input is read.
+ghost use Rattle.std.specs.Prelude.{◌≡◌, option_map};
+ghost use Rattle.tc_program.specs.Terminal.{awaited_line as spec_line};
+
+use std::io;
+use std::io::{Read, Write};
+
+/// The line that says which input this subcommand reads, and how it ends.
+pub fn awaited_line(subcommand: Option<&str>) -> &'static str
+    ensures { result.now ≡ spec_line (option_map (λ w. w.now) subcommand.entry) }
+{
+    match subcommand {
+        Some("check" | "report") => {
+            "ttrun: reads histories from the terminal; end them with Ctrl-D\n"
+        }
+        Some("replay") => "ttrun: reads a list of moves from the terminal; end it with Ctrl-D\n",
+        _ => "ttrun: reads a script from the terminal; end it with Ctrl-D\n",
+    }
+}
+
+/// A reader, before whose first read a line is written, where there is one. A device that does not take the line does not
+/// keep the input from being read.
+#[derive(Drop)]
+pub struct Announcing<R: Read + Drop, E: Write + Drop> {
+    /// What is read.
+    pub reader: R,
+    /// What the line is written to.
+    pub errors: E,
+    /// The line, until it is written.
+    pub line: Option<&'static str>,
+}
+
+impl<R: Read + Drop, E: Write + Drop> Read for Announcing<R, E> {
+    ghost remaining = { λ a. R.remaining a.reader };
+
+    fn read(&mut self, buf: &mut [u8]) -> io::Result<usize> {
+        if let Some(line) = self.line.take() {
+            let _ = self.errors.write_all(line.as_bytes());
+        }
+        self.reader.read(buf)
+    }
+}

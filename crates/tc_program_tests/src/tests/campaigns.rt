@@ -1,0 +1,313 @@
+//! Campaigns: scripts that are refused, and scripts that are run.
+use super::*;
+use tc_program::answer::answer;
+use tc_program::script::stop_word;
+use tc_stream::devices::SlowReader;
+use tc_verdict::Verdict;
+
+const CASES: &str =
+    "testcase a;behaviour main;setverdict pass;end;end;testcase b;behaviour main;setverdict fail;end;end;testcase c;behaviour main;setverdict pass;end;end";
+
+const TABLE: &str =
+    "testcase,components,none,pass,inconc,fail,error,verdict;a,1,0,1,0,0,0,pass;b,1,0,0,0,1,0,fail";
+
+const WHOLE_TABLE: &str =
+    "testcase,components,none,pass,inconc,fail,error,verdict;a,1,0,1,0,0,0,pass;b,1,0,0,0,1,0,fail;c,1,0,1,0,0,0,pass";
+
+const HISTORIES: &str =
+    "history 2 a 1;0 setverdict pass -> ok;0 finish -> ok;end pass;history 2 b 1;0 setverdict fail -> ok;0 finish -> ok;end fail;history 2 c 1;0 setverdict pass -> ok;0 finish -> ok;end pass";
+
+const REPORT: &str =
+    "testcase a;run 0 main on 0;  setverdict pass -> ok;  finish -> ok;local 0 pass;verdict pass;testcase b;run 0 main on 0;  setverdict fail -> ok;  finish -> ok;local 0 fail;verdict fail;testcase c;run 0 main on 0;  setverdict pass -> ok;  finish -> ok;local 0 pass;verdict pass;cases 3 none 0 pass 2 inconc 0 fail 1 error 0;complete";
+
+const STOPPED_REPORT: &str =
+    "testcase a;run 0 main on 0;  setverdict pass -> ok;  finish -> ok;local 0 pass;verdict pass;testcase b;run 0 main on 0;  setverdict fail -> ok;  finish -> ok;local 0 fail;verdict fail;cases 2 none 0 pass 1 inconc 0 fail 1 error 0;stopped after b";
+
+const TWO_CASES: &str =
+    "# two test cases;testcase t_pass;behaviour main;  create p;  start p worker mtc;  wait done p;  getverdict;end;behaviour worker boss;  alive boss;  setverdict pass;end;end;testcase t_again;behaviour main;  create p alive;  start p first;  wait done p;  start p second p;  wait done p;  kill all;  killed all;end;behaviour first;  setverdict pass;end;behaviour second me;  getverdict;  setverdict none;  running me;end;end";
+
+const TWO_REPORTS: &str =
+    "testcase t_pass;run 0 main on 0;  create -> made 1;  start 1 1 0 -> ok;  wait done 1 -> matched;  getverdict -> none;  finish -> ok;run 1 worker on 1;  alive 0 -> true;  setverdict pass -> ok;  finish -> ok;local 0 none;local 1 pass;verdict pass;testcase t_again;run 0 main on 0;  create alive -> made 1;  start 1 1 -> ok;  wait done 1 -> matched;  start 1 2 1 -> ok;  wait done 1 -> matched;  kill all -> ok;  killed all -> true;  finish -> ok;run 1 first on 1;  setverdict pass -> ok;  finish -> ok;run 2 second on 1;  getverdict -> pass;  setverdict none -> ok;  running 1 -> true;  finish -> ok;local 0 none;local 1 pass;verdict pass;cases 2 none 0 pass 2 inconc 0 fail 0 error 0;complete";
+
+const RESTART: &str =
+    "testcase t_fail;behaviour main;create p alive;start p first;wait done p;start p second;wait done p;setverdict pass;end;behaviour first;setverdict fail;end;behaviour second;getverdict;setverdict pass;end;end";
+
+const RESTART_REPORT: &str =
+    "testcase t_fail;run 0 main on 0;  create alive -> made 1;  start 1 1 -> ok;  wait done 1 -> matched;  start 1 2 -> ok;  wait done 1 -> matched;  setverdict pass -> ok;  finish -> ok;run 1 first on 1;  setverdict fail -> ok;  finish -> ok;run 2 second on 1;  getverdict -> fail;  setverdict pass -> ok;  finish -> ok;local 0 pass;local 1 fail;verdict fail;cases 1 none 0 pass 0 inconc 0 fail 1 error 0;complete";
+
+const STUCK: &str = "testcase solo;behaviour main;create p;setverdict pass;wait done p;end;end";
+
+const STUCK_HISTORY: &str =
+    "history 2 solo 1;0 create -> made 1;0 setverdict pass -> ok;0 wait done 1 -> parked;0 wake done 1 -> error stuck;end error";
+
+const NO_VERDICT: &str = "ttrun: --stop-on takes none, pass, inconc, fail or error";
+
+// Answers the words of the command line on the input, and compares what comes of it; what is told is told whole.
+fn answers<R: Abort + Threads + Wait + Copy + Send + 'static>(
+    rt: &R,
+    alloc: Global,
+    line: &str,
+    input: &str,
+    wanted: Wanted,
+) -> Result<(), Fail> {
+    let words = words_of(alloc, line)?;
+    let input = text_of(alloc, input)?;
+    let mut written = Vec::new(alloc);
+    let mut told = Vec::new(alloc);
+    let outcome = answer(
+        rt,
+        alloc,
+        Ok(words),
+        &mut input.as_slice(),
+        &mut written,
+        &mut told,
+    );
+    assert_eq!(rt;
+        told.as_slice(),
+        text_of(alloc, wanted.told)?.as_slice(),
+        "{line}"
+    );
+    assert_eq!(rt;
+        written.as_slice(),
+        text_of(alloc, wanted.written)?.as_slice(),
+        "{line}"
+    );
+    assert_eq!(rt;
+        outcome,
+        Outcome {
+            status: wanted.status,
+            told: Ok(())
+        },
+        "{line}"
+    );
+    Ok(())
+}
+
+#[test]
+fn each_command_line(rt: HostRuntime) -> Result<(), Fail> {
+    let lines = [
+        ("ttrun", CASES, REPORT, 1),
+        ("ttrun run", CASES, REPORT, 1),
+        ("ttrun run --csv", CASES, WHOLE_TABLE, 1),
+        ("ttrun run --history", CASES, HISTORIES, 1),
+        ("ttrun run --stop-on fail", CASES, STOPPED_REPORT, 1),
+        ("ttrun run --stop-on error", CASES, REPORT, 1),
+        (
+            "ttrun check",
+            HISTORIES,
+            "legal a 2 pass;legal b 2 fail;legal c 2 pass",
+            0,
+        ),
+        (
+            "ttrun replay",
+            "behaviours 1;0 setverdict inconc",
+            "ok;verdict inconc",
+            1,
+        ),
+    ];
+    for (line, input, written, status) in lines {
+        let wanted = Wanted {
+            written,
+            told: "",
+            status,
+        };
+        answers(&rt, rt.alloc(), line, input, wanted)?;
+    }
+    Ok(())
+}
+
+#[test]
+fn campaign_stops_on_fail(rt: HostRuntime) -> Result<(), Fail> {
+    let wanted = Wanted {
+        written: TABLE,
+        told: "",
+        status: 1,
+    };
+    answers(
+        &rt,
+        rt.alloc(),
+        "ttrun run --csv --stop-on fail",
+        CASES,
+        wanted,
+    )
+}
+
+#[test]
+fn stored_run(rt: HostRuntime) -> Result<(), Fail> {
+    let wanted = Wanted {
+        written: TWO_REPORTS,
+        told: "",
+        status: 0,
+    };
+    answers(&rt, rt.alloc(), "ttrun", TWO_CASES, wanted)
+}
+
+#[test]
+fn restarted_component_report(rt: HostRuntime) -> Result<(), Fail> {
+    let wanted = Wanted {
+        written: RESTART_REPORT,
+        told: "",
+        status: 1,
+    };
+    answers(&rt, rt.alloc(), "ttrun run", RESTART, wanted)
+}
+
+#[test]
+fn history_of_a_stuck_case(rt: HostRuntime) -> Result<(), Fail> {
+    let wanted = Wanted {
+        written: STUCK_HISTORY,
+        told: "",
+        status: 2,
+    };
+    answers(&rt, rt.alloc(), "ttrun run --history", STUCK, wanted)
+}
+
+#[test]
+fn refused_scripts(rt: HostRuntime) -> Result<(), Fail> {
+    let scripts = [
+        (
+            "testcase t\nbehaviour main\ncreate p\nstart q worker\nend\nbehaviour worker\nend\nend\n",
+            "ttrun: line 4: unbound reference",
+        ),
+        (
+            "testcase t\nbehaviour main\ncreate p\nstart p worker mtc\nend\nbehaviour worker\nend\nend\n",
+            "ttrun: line 4: wrong number of arguments",
+        ),
+        (
+            "testcase t\nbehaviour main\nsetver",
+            "ttrun: line 3: line not understood",
+        ),
+        (
+            "testcase t\nbehaviour main\nsetverdict pass\n",
+            "ttrun: line 4: text ends too early",
+        ),
+        ("", "ttrun: line 1: text ends too early"),
+    ];
+    for (script, told) in scripts {
+        for form in [Form::Text, Form::Csv, Form::History] {
+            for live in [false, true] {
+                let wanted = Wanted {
+                    written: "",
+                    told,
+                    status: 3,
+                };
+                let task = run_task(rt.alloc(), form, live, None);
+                carries_out(&rt, rt.alloc(), task, script.as_bytes(), wanted)?;
+            }
+        }
+    }
+    Ok(())
+}
+
+#[test]
+fn words_of_stop_on(rt: HostRuntime) -> Result<(), Fail> {
+    assert_eq!(rt; stop_word("error"), Ok(Verdict::Error));
+    assert_eq!(rt; stop_word("inconc"), Ok(Verdict::Inconc));
+    for word in ["maybe", "Fail", ""] {
+        assert_eq!(rt; stop_word(word), Err(RunFault::StopOn));
+        let mut reader = SlowReader {
+            rest: CASES.as_bytes(),
+            reads: 0,
+            fails_at: usize::MAX,
+        };
+        let mut written = Vec::new(rt.alloc());
+        let mut told = Vec::new(rt.alloc());
+        let task = run_task(rt.alloc(), Form::Text, false, Some(word));
+        let outcome = carry_out(&rt, rt.alloc(), task, &mut reader, &mut written, &mut told);
+        assert_eq!(rt;
+            outcome,
+            Outcome {
+                status: 3,
+                told: Ok(())
+            },
+            "{word}"
+        );
+        assert_eq!(rt; told.as_slice(), lines(rt.alloc(), NO_VERDICT)?.as_slice());
+        assert!(rt; written.is_empty());
+        assert_eq!(rt; reader.reads, 0, "{word}");
+    }
+    Ok(())
+}
+
+// A test case of 256 behaviours: the first makes 255 components, starts the others on them, and waits for them.
+fn many_behaviours(alloc: Global) -> Result<String, Fail> {
+    let mut text = "testcase t\nbehaviour main\n".to_string(alloc)?;
+    for number in 1..256 {
+        let steps = format!(in alloc; "create p{number}\nstart p{number} b{number}\n")?;
+        text.push_str(steps.as_str())?;
+    }
+    text.push_str("wait done all\nend\n")?;
+    for number in 1..256 {
+        let behaviour = format!(in alloc; "behaviour b{number}\nsetverdict pass\nend\n")?;
+        text.push_str(behaviour.as_str())?;
+    }
+    text.push_str("end\n")?;
+    Ok(text)
+}
+
+#[test]
+fn a_case_of_256_behaviours(rt: HostRuntime) -> Result<(), Fail> {
+    let text = many_behaviours(rt.alloc())?;
+    let wanted = Wanted {
+        written: "testcase,components,none,pass,inconc,fail,error,verdict;t,256,1,255,0,0,0,pass",
+        told: "",
+        status: 0,
+    };
+    let task = run_task(rt.alloc(), Form::Csv, false, None);
+    carries_out(&rt, rt.alloc(), task, text.as_bytes(), wanted)
+}
+
+// What a script's run writes in this form, and what comes of it.
+fn run_of<R: Threads + Wait + Copy + Send + 'static>(
+    rt: &R,
+    alloc: Global,
+    script: &str,
+    line: &str,
+) -> Result<(Vec<u8>, Vec<u8>, Outcome), Fail> {
+    let words = words_of(alloc, line)?;
+    let input = lines(alloc, script)?;
+    let mut written = Vec::new(alloc);
+    let mut told = Vec::new(alloc);
+    let outcome = answer(
+        rt,
+        alloc,
+        Ok(words),
+        &mut input.as_slice(),
+        &mut written,
+        &mut told,
+    );
+    Ok((written, told, outcome))
+}
+
+// Whether a live run writes, tells and answers what a run with these options does.
+fn compare_with_live<R: Abort + Threads + Wait + Copy + Send + 'static>(
+    rt: &R,
+    alloc: Global,
+    script: &str,
+    options: &str,
+) -> Result<(), Fail> {
+    let plain = format!(in alloc; "ttrun run{options}")?;
+    let live = format!(in alloc; "ttrun run --live{options}")?;
+    let (written, told, outcome) = run_of(rt, alloc, script, plain.as_str())?;
+    let (live_written, live_told, live_outcome) = run_of(rt, alloc, script, live.as_str())?;
+    assert!(rt; !written.is_empty(), "{options}");
+    assert_eq!(rt; live_written.as_slice(), written.as_slice(), "{options}");
+    assert_eq!(rt; live_told.as_slice(), told.as_slice(), "{options}");
+    assert_eq!(rt; live_outcome, outcome, "{options}");
+    Ok(())
+}
+
+// The history of a test case of two threads depends on their order, so the restart has none here.
+#[test]
+fn live_runs_write_the_same(rt: HostRuntime) -> Result<(), Fail> {
+    let alloc = rt.alloc();
+    for script in [CASES, RESTART, STUCK] {
+        for options in ["", " --csv", " --stop-on fail", " --csv --stop-on pass"] {
+            compare_with_live(&rt, alloc, script, options)?;
+        }
+    }
+    for script in [CASES, STUCK] {
+        compare_with_live(&rt, alloc, script, " --history")?;
+    }
+    Ok(())
+}

@@ -1,0 +1,139 @@
+//! Forms of histories, and histories that are refused.
+use super::{lines, text_of};
+use tc_program::fault::RunFault;
+use tc_program::outcome::Outcome;
+use tc_program::report::report;
+use std::alloc::AllocGlobal;
+use std::process::Abort;
+use std::test::Fail;
+use tc_command::ReportForm;
+
+// Reports the input, and compares what is written, what is told, and the status.
+fn reports<R: Abort + AllocGlobal>(
+    rt: &R,
+    form: ReportForm,
+    input: &str,
+    written: &str,
+    told: &str,
+    status: u8,
+) -> Result<(), Fail> {
+    let given = lines(rt.alloc(), input)?;
+    let mut reader = given.as_slice();
+    let mut out = Vec::new(rt.alloc());
+    let mut errors = Vec::new(rt.alloc());
+    let mut kept = Vec::new(rt.alloc());
+    let outcome = report(
+        rt.alloc(),
+        form,
+        &mut kept,
+        &mut reader,
+        &mut out,
+        &mut errors,
+    )?;
+    assert_eq!(rt; errors.as_slice(), text_of(rt.alloc(), told)?.as_slice());
+    assert_eq!(rt; out.as_slice(), text_of(rt.alloc(), written)?.as_slice());
+    assert_eq!(rt;
+        outcome,
+        Outcome {
+            status,
+            told: Ok(())
+        }
+    );
+    Ok(())
+}
+
+const TWO: &str =
+    "history 2 a 2;0 create named p -> made 1;0 start 1 1 -> ok;1 setverdict fail -> ok;0 finish -> ok;end fail;history 1 b 1;0 finish -> ok;end none";
+
+#[test]
+fn csv_of_two_histories(rt: HostRuntime) -> Result<(), Fail> {
+    let table =
+        "testcase,components,none,pass,inconc,fail,error,verdict;a,2,1,0,0,1,0,fail;b,1,1,0,0,0,0,none";
+    reports(&rt, ReportForm::Csv, TWO, table, "", 1)
+}
+
+#[test]
+fn chart_of_a_history(rt: HostRuntime) -> Result<(), Fail> {
+    let given = lines(
+        rt.alloc(),
+        "history 2 a 1;0 create named p -> made 1;0 setverdict pass -> ok;0 finish -> ok;end pass",
+    )?;
+    let mut reader = given.as_slice();
+    let mut out = Vec::new(rt.alloc());
+    let mut errors = Vec::new(rt.alloc());
+    let outcome = report(
+        rt.alloc(),
+        ReportForm::Chart,
+        &mut Vec::new(rt.alloc()),
+        &mut reader,
+        &mut out,
+        &mut errors,
+    )?;
+    assert_eq!(rt; outcome.status, 0);
+    assert!(rt; errors.is_empty());
+    let wanted: &[u8] =
+        b"msc {\nwidth=\"400\", wordwraparcs=\"1\";\nc0 [label=\"mtc\"], c1 [label=\"1 p\"];\n--- [label=\"testcase a\"];\nc0>>c1 [label=\"create named p\"];\nc0 rbox c0 [label=\"setverdict pass\", textbgcolour=\"#99ff99\"];\nc0 abox c0 [label=\"finish run 0\"];\nc0 rbox c0 [label=\"local pass\", textbgcolour=\"#99ff99\"],\nc1 rbox c1 [label=\"local none\", textbgcolour=\"#eeeeee\"];\nc0 abox c1 [label=\"verdict pass\", textbgcolour=\"#99ff99\"];\n|||;\n}\n";
+    assert_eq!(rt; out.as_slice(), wanted);
+    Ok(())
+}
+
+#[test]
+fn junit_of_two_histories(rt: HostRuntime) -> Result<(), Fail> {
+    let given = lines(rt.alloc(), TWO)?;
+    let mut reader = given.as_slice();
+    let mut out = Vec::new(rt.alloc());
+    let mut errors = Vec::new(rt.alloc());
+    let outcome = report(
+        rt.alloc(),
+        ReportForm::Junit,
+        &mut Vec::new(rt.alloc()),
+        &mut reader,
+        &mut out,
+        &mut errors,
+    )?;
+    assert_eq!(rt; outcome.status, 1);
+    assert!(rt; errors.is_empty());
+    let start = lines(
+        rt.alloc(),
+        "<?xml version=\"1.0\" encoding=\"UTF-8\"?>;<testsuites tests=\"2\" failures=\"1\" errors=\"0\" skipped=\"1\">",
+    )?;
+    assert!(rt; out.as_slice().starts_with(start.as_slice()));
+    Ok(())
+}
+
+#[test]
+fn unfinished_history(rt: HostRuntime) -> Result<(), Fail> {
+    let table = "testcase,components,none,pass,inconc,fail,error,verdict;a,1,0,1,0,0,0,unfinished";
+    let input = "history 2 a 1;0 setverdict pass -> ok;end pass";
+    reports(&rt, ReportForm::Csv, input, table, "", 2)
+}
+
+// The line is that of `check`, and nothing is written.
+#[test]
+fn histories_that_are_not_legal(rt: HostRuntime) -> Result<(), Fail> {
+    let reply =
+        "history 2 a 1;0 finish -> ok;end none;history 2 b 1;0 create -> made 2;end none;history 2 c 1;end pass";
+    let line = "ttrun: line 5: made 2, table gives made 1";
+    reports(&rt, ReportForm::Csv, reply, "", line, 3)?;
+    let verdict = "history 2 a 1;0 finish -> ok;end pass";
+    let line = "ttrun: line 3: pass, table gives none";
+    reports(&rt, ReportForm::Junit, verdict, "", line, 3)
+}
+
+#[test]
+fn text_that_is_none_of_histories(rt: HostRuntime) -> Result<(), Fail> {
+    let mut reader: &[u8] = b"history 2 a 1\n";
+    let mut out = Vec::new(rt.alloc());
+    let mut errors = Vec::new(rt.alloc());
+    let answer = report(
+        rt.alloc(),
+        ReportForm::Csv,
+        &mut Vec::new(rt.alloc()),
+        &mut reader,
+        &mut out,
+        &mut errors,
+    );
+    assert!(rt; matches!(answer, Err(RunFault::Text(_))));
+    assert!(rt; out.is_empty() && errors.is_empty());
+    Ok(())
+}

@@ -1,0 +1,508 @@
+//! Texts of moves, replies and lists of moves.
+use tc_text::*;
+use std::process::Abort;
+use std::test::Fail;
+use tc_entry::{
+    Args, Comp, Fault, Group, Name, NoMemory, Op, Reply, Run, Target, UserVerdict, Verdict,
+};
+
+fn is_spelled(
+    rt: &impl Abort,
+    out: &mut Vec<u8>,
+    caller: u16,
+    op: Op,
+    text: &str,
+) -> Result<(), NoMemory> {
+    out.clear();
+    write_move(out, Run(caller), &op)?;
+    assert_eq!(rt; out.as_slice(), text.as_bytes());
+    let read = read_move(text.as_bytes());
+    assert!(rt; read.is_some(), "{text}");
+    if let Some((run, read)) = read {
+        assert_eq!(rt; run, Run(caller));
+        assert!(rt; read.same(&op), "{text}");
+    }
+    Ok(())
+}
+
+fn is_reply(rt: &impl Abort, out: &mut Vec<u8>, reply: Reply, text: &str) -> Result<(), NoMemory> {
+    out.clear();
+    write_reply(out, &reply)?;
+    assert_eq!(rt; out.as_slice(), text.as_bytes());
+    assert_eq!(rt; read_reply(text.as_bytes()), Some(reply), "{text}");
+    Ok(())
+}
+
+fn args(comps: &[u32]) -> Args {
+    let mut args = Args::new();
+    for comp in comps {
+        let _ = args.push(Comp(*comp));
+    }
+    args
+}
+
+fn start(comp: u32, run: u16, comps: &[u32]) -> Op {
+    Op::Start {
+        comp: Comp(comp),
+        run: Run(run),
+        args: args(comps),
+    }
+}
+
+#[test]
+fn single_texts(rt: HostRuntime) -> Result<(), NoMemory> {
+    let mut out = Vec::new(rt.alloc());
+    write_move(&mut out, Run(0), &start(1, 2, &[3]))?;
+    assert_eq!(rt; out.as_slice(), b"0 start 1 2 3".as_slice());
+    let mut out = Vec::new(rt.alloc());
+    write_op(&mut out, &start(1, 2, &[3]))?;
+    assert_eq!(rt; out.as_slice(), b"start 1 2 3".as_slice());
+    let mut out = Vec::new(rt.alloc());
+    write_reply(&mut out, &Reply::Fault(Fault::Stuck))?;
+    assert_eq!(rt; out.as_slice(), b"error stuck".as_slice());
+    assert_eq!(rt; read_reply(b"made 7"), Some(Reply::Made(Comp(7))));
+    assert_eq!(rt; read_reply(b"error"), Some(Reply::Local(Verdict::Error)));
+    assert_eq!(rt; read_reply(b"made 07"), None);
+    Ok(())
+}
+
+/// Some name, where the text is one.
+fn named(alive: bool, name: &str) -> Op {
+    Op::Create {
+        alive,
+        name: Name::read(name),
+    }
+}
+
+#[test]
+fn created_components_with_names(rt: HostRuntime) -> Result<(), NoMemory> {
+    let mut buffer = Vec::new(rt.alloc());
+    let out = &mut buffer;
+    let longest = "abcdefghijklmnopqrstuvwxyz_ABC12";
+    is_spelled(&rt, out, 0, named(false, "pump"), "0 create named pump")?;
+    is_spelled(
+        &rt,
+        out,
+        7,
+        named(true, "pump"),
+        "7 create alive named pump",
+    )?;
+    is_spelled(&rt, out, 0, named(false, "named"), "0 create named named")?;
+    is_spelled(&rt, out, 0, named(false, "alive"), "0 create named alive")?;
+    is_spelled(
+        &rt,
+        out,
+        0,
+        named(true, longest),
+        "0 create alive named abcdefghijklmnopqrstuvwxyz_ABC12",
+    )?;
+    for text in [
+        "0 create named",
+        "0 create named ",
+        "0 create named mtc",
+        "0 create named 1",
+        "0 create named _a",
+        "0 create named a-b",
+        "0 create named pump alive",
+        "0 create named pump named valve",
+        "0 create  named pump",
+        "0 create named  pump",
+        "0 create named pump ",
+        "0 create named abcdefghijklmnopqrstuvwxyz_ABC123",
+    ] {
+        assert!(rt; read_move(text.as_bytes()).is_none(), "{text}");
+    }
+    assert_eq!(rt; take_short_move(b"0 create named pump"), None);
+    assert_eq!(rt;
+        take_move(b"0 create named pump -> made 1"),
+        Some(((Run(0), named(false, "pump")), b" -> made 1".as_slice()))
+    );
+    assert_eq!(rt;
+        take_name(b"t_1 64\n"),
+        Name::read("t_1").map(|name| (name, b" 64\n".as_slice()))
+    );
+    assert_eq!(rt; take_name(b"all 64"), None);
+    Ok(())
+}
+
+#[test]
+fn operations_without_a_target(rt: HostRuntime) -> Result<(), NoMemory> {
+    let mut buffer = Vec::new(rt.alloc());
+    let out = &mut buffer;
+    is_spelled(
+        &rt,
+        out,
+        0,
+        Op::Create {
+            alive: false,
+            name: None,
+        },
+        "0 create",
+    )?;
+    is_spelled(
+        &rt,
+        out,
+        63,
+        Op::Create {
+            alive: true,
+            name: None,
+        },
+        "63 create alive",
+    )?;
+    is_spelled(
+        &rt,
+        out,
+        65535,
+        start(4294967295, 65535, &[]),
+        "65535 start 4294967295 65535",
+    )?;
+    is_spelled(
+        &rt,
+        out,
+        1,
+        start(10, 20, &[0, 1, 2, 999]),
+        "1 start 10 20 0 1 2 999",
+    )?;
+    is_spelled(&rt, out, 1, Op::Stop(Group::One(Comp(4))), "1 stop 4")?;
+    is_spelled(&rt, out, 1, Op::Stop(Group::All), "1 stop all")?;
+    is_spelled(&rt, out, 1, Op::Kill(Group::One(Comp(0))), "1 kill 0")?;
+    is_spelled(&rt, out, 1, Op::Kill(Group::All), "1 kill all")?;
+    is_spelled(
+        &rt,
+        out,
+        2,
+        Op::SetVerdict(UserVerdict::None),
+        "2 setverdict none",
+    )?;
+    is_spelled(
+        &rt,
+        out,
+        2,
+        Op::SetVerdict(UserVerdict::Pass),
+        "2 setverdict pass",
+    )?;
+    is_spelled(
+        &rt,
+        out,
+        2,
+        Op::SetVerdict(UserVerdict::Inconc),
+        "2 setverdict inconc",
+    )?;
+    is_spelled(
+        &rt,
+        out,
+        2,
+        Op::SetVerdict(UserVerdict::Fail),
+        "2 setverdict fail",
+    )?;
+    is_spelled(&rt, out, 2, Op::GetVerdict, "2 getverdict")?;
+    is_spelled(&rt, out, 2, Op::StopCase, "2 stopcase")?;
+    is_spelled(&rt, out, 2, Op::Finish, "2 finish")
+}
+
+#[test]
+fn operations_on_a_target(rt: HostRuntime) -> Result<(), NoMemory> {
+    let mut buffer = Vec::new(rt.alloc());
+    let out = &mut buffer;
+    let one = Target::One(Comp(12));
+    is_spelled(&rt, out, 3, Op::Running(one), "3 running 12")?;
+    is_spelled(&rt, out, 3, Op::Running(Target::Any), "3 running any")?;
+    is_spelled(&rt, out, 3, Op::Alive(one), "3 alive 12")?;
+    is_spelled(&rt, out, 3, Op::Alive(Target::All), "3 alive all")?;
+    is_spelled(&rt, out, 3, Op::Done(one), "3 done 12")?;
+    is_spelled(&rt, out, 3, Op::Done(Target::Any), "3 done any")?;
+    is_spelled(&rt, out, 3, Op::Killed(one), "3 killed 12")?;
+    is_spelled(&rt, out, 3, Op::Killed(Target::All), "3 killed all")?;
+    for (killed, wait, wake) in [
+        (false, "3 wait done 12", "3 wake done 12"),
+        (true, "3 wait killed 12", "3 wake killed 12"),
+    ] {
+        is_spelled(
+            &rt,
+            out,
+            3,
+            Op::Wait {
+                killed,
+                target: one,
+            },
+            wait,
+        )?;
+        is_spelled(
+            &rt,
+            out,
+            3,
+            Op::Wake {
+                killed,
+                target: one,
+            },
+            wake,
+        )?;
+    }
+    let target = Target::All;
+    is_spelled(
+        &rt,
+        out,
+        3,
+        Op::Wait {
+            killed: true,
+            target,
+        },
+        "3 wait killed all",
+    )?;
+    let target = Target::Any;
+    is_spelled(
+        &rt,
+        out,
+        3,
+        Op::Wake {
+            killed: false,
+            target,
+        },
+        "3 wake done any",
+    )
+}
+
+#[test]
+fn replies(rt: HostRuntime) -> Result<(), NoMemory> {
+    let mut buffer = Vec::new(rt.alloc());
+    let out = &mut buffer;
+    is_reply(&rt, out, Reply::Made(Comp(999)), "made 999")?;
+    is_reply(&rt, out, Reply::Ok, "ok")?;
+    is_reply(&rt, out, Reply::Answer(true), "true")?;
+    is_reply(&rt, out, Reply::Answer(false), "false")?;
+    is_reply(&rt, out, Reply::Local(Verdict::None), "none")?;
+    is_reply(&rt, out, Reply::Local(Verdict::Pass), "pass")?;
+    is_reply(&rt, out, Reply::Local(Verdict::Inconc), "inconc")?;
+    is_reply(&rt, out, Reply::Local(Verdict::Fail), "fail")?;
+    is_reply(&rt, out, Reply::Local(Verdict::Error), "error")?;
+    is_reply(&rt, out, Reply::Matched, "matched")?;
+    is_reply(&rt, out, Reply::Parked, "parked")?;
+    is_reply(&rt, out, Reply::Ended, "ended")
+}
+
+#[test]
+fn faults(rt: HostRuntime) -> Result<(), NoMemory> {
+    let mut out = Vec::new(rt.alloc());
+    for (fault, text) in [
+        (Fault::NoComponent, "error no-component"),
+        (Fault::NotMain, "error not-main"),
+        (Fault::StartMain, "error start-main"),
+        (Fault::AlreadyRunning, "error already-running"),
+        (Fault::NotStartable, "error not-startable"),
+        (Fault::NoBehaviour, "error no-behaviour"),
+        (Fault::TooMany, "error too-many"),
+        (Fault::Stuck, "error stuck"),
+    ] {
+        is_reply(&rt, &mut out, Reply::Fault(fault), text)?;
+    }
+    Ok(())
+}
+
+#[test]
+fn texts_that_are_no_move(rt: HostRuntime) {
+    for text in [
+        "",
+        "0",
+        "0 ",
+        "00 finish",
+        " 0 finish",
+        "0 finish ",
+        "0  finish",
+        "65536 finish",
+        "0 create  alive",
+        "0 stop any",
+        "0 kill 4294967296",
+        "0 setverdict error",
+        "0 start 1",
+        "0 start 1 65536",
+        "0 start 1 2 0 1 2 3 4",
+        "0 wait all",
+        "0 finish\n",
+    ] {
+        assert!(rt; read_move(text.as_bytes()).is_none(), "{text}");
+    }
+}
+
+fn fault_of(rt: &HostRuntime, text: &[u8]) -> Option<TextFault> {
+    read_moves(rt.alloc(), text).err()
+}
+
+#[test]
+fn refused_move_lists(rt: HostRuntime) {
+    let first = |line| Some(TextFault::At {
+        line,
+        kind: TextKind::FirstLine,
+    });
+    let bad = |line| Some(TextFault::At {
+        line,
+        kind: TextKind::Move,
+    });
+    assert_eq!(rt; fault_of(&rt, b"behaviours 0\n"), first(1));
+    assert_eq!(rt; fault_of(&rt, b"behaviours 257\n"), first(1));
+    assert_eq!(rt; fault_of(&rt, b"\n"), first(1));
+    assert_eq!(rt;
+        fault_of(&rt, b"behaviours 1\n0 setverdict error\n"),
+        bad(2)
+    );
+    assert_eq!(rt; fault_of(&rt, b"behaviours 1\n0  getverdict\n"), bad(2));
+    assert_eq!(rt; fault_of(&rt, b"behaviours 1\n0 finish\n\n"), bad(3));
+    assert_eq!(rt;
+        fault_of(&rt, b""),
+        Some(TextFault::At {
+            line: 1,
+            kind: TextKind::Early
+        })
+    );
+}
+
+#[test]
+fn move_lists(rt: HostRuntime) -> Result<(), Fail> {
+    for (text, behaviours) in [
+        (b"behaviours 256\n0 create\n255 finish\n".as_slice(), 256),
+        (b"behaviours 1\n0 create\n255 finish".as_slice(), 1),
+    ] {
+        let list = read_moves(rt.alloc(), text).ok().ok_or("a list")?;
+        assert_eq!(rt; list.behaviours, behaviours);
+        assert_eq!(rt; list.moves.len(), 2);
+        assert!(rt;
+            list.moves[0].1.same(&Op::Create {
+                alive: false,
+                name: None
+            })
+        );
+        assert_eq!(rt; list.moves[1].0, Run(255));
+        assert!(rt; list.moves[1].1.same(&Op::Finish));
+    }
+    let list = read_moves(rt.alloc(), b"behaviours 7")
+        .ok()
+        .ok_or("a list")?;
+    assert_eq!(rt; list.moves.len(), 0);
+    Ok(())
+}
+
+#[test]
+fn numbers_and_words(rt: HostRuntime) -> Result<(), NoMemory> {
+    let mut out = Vec::new(rt.alloc());
+    append_number(&mut out, 0)?;
+    append_text(&mut out, " and ")?;
+    append_number(&mut out, 10)?;
+    append_text(&mut out, "")?;
+    append_text(&mut out, ", ")?;
+    append_number(&mut out, 18446744073709551615)?;
+    assert_eq!(rt;
+        out.as_slice(),
+        b"0 and 10, 18446744073709551615".as_slice()
+    );
+    Ok(())
+}
+
+#[test]
+fn texts_of_the_faults(rt: HostRuntime) -> Result<(), Fail> {
+    for (kind, text, fault) in [
+        (
+            TextKind::FirstLine,
+            "bad first line",
+            "line 7: bad first line",
+        ),
+        (TextKind::Move, "bad move", "line 7: bad move"),
+        (TextKind::Entry, "bad entry", "line 7: bad entry"),
+        (
+            TextKind::Early,
+            "text ends too early",
+            "line 7: text ends too early",
+        ),
+    ] {
+        assert_eq!(rt; kind.text(), text);
+        assert_eq!(rt; kind.to_string(rt.alloc())?.as_str(), text);
+        let found = TextFault::At { line: 7, kind }.to_string(rt.alloc())?;
+        assert_eq!(rt; found.as_str(), fault);
+    }
+    let refused = TextFault::NoMemory.to_string(rt.alloc())?;
+    assert_eq!(rt; refused.as_str(), "no memory");
+    Ok(())
+}
+
+#[test]
+fn parts_are_taken(rt: HostRuntime) {
+    assert_eq!(rt; after(b"end pass", b"end "), Some(b"pass".as_slice()));
+    assert_eq!(rt; after(b"end", b"end "), None);
+    assert_eq!(rt; take_line_end(b"\nend"), Some(b"end".as_slice()));
+    assert_eq!(rt; take_line_end(b""), Some(b"".as_slice()));
+    assert_eq!(rt; take_line_end(b" \n"), None);
+    assert_eq!(rt; take_number(b"10 "), Some((10, b" ".as_slice())));
+    assert_eq!(rt; take_number(b"010"), None);
+    assert_eq!(rt; as_behaviours(256), Some(256));
+    assert_eq!(rt; as_behaviours(257), None);
+    assert_eq!(rt;
+        take_verdict(b"inconc\n"),
+        Some((Verdict::Inconc, b"\n".as_slice()))
+    );
+    assert_eq!(rt;
+        take_reply(b"error\n"),
+        Some((Reply::Local(Verdict::Error), b"\n".as_slice()))
+    );
+    assert_eq!(rt;
+        take_reply(b"error stuck\n"),
+        Some((Reply::Fault(Fault::Stuck), b"\n".as_slice()))
+    );
+    assert_eq!(rt;
+        take_reply(b"made 7\n"),
+        Some((Reply::Made(Comp(7)), b"\n".as_slice()))
+    );
+    assert_eq!(rt;
+        take_reply(b"errors"),
+        Some((Reply::Local(Verdict::Error), b"s".as_slice()))
+    );
+    assert_eq!(rt; take_reply(b"maybe"), None);
+}
+
+#[test]
+fn moves_are_taken(rt: HostRuntime) {
+    let wait = Op::Wait {
+        killed: true,
+        target: Target::Any,
+    };
+    assert_eq!(rt;
+        take_move(b"3 wait killed any -> ok"),
+        Some(((Run(3), wait), b" -> ok".as_slice()))
+    );
+    let start = Op::Start {
+        comp: Comp(1),
+        run: Run(2),
+        args: Args::new(),
+    };
+    assert_eq!(rt;
+        take_move(b"0 start 1 2\n"),
+        Some(((Run(0), start), b"\n".as_slice()))
+    );
+    assert_eq!(rt; take_move(b"0 stop any"), None);
+}
+
+#[test]
+fn a_start_is_no_short_move(rt: HostRuntime) {
+    let mut args = Args::new();
+    assert!(rt; args.push(Comp(7)));
+    let start = Op::Start {
+        comp: Comp(1),
+        run: Run(2),
+        args,
+    };
+    assert_eq!(rt;
+        take_long_move(b"0 start 1 2 7 -> ok"),
+        Some(((Run(0), start), b" -> ok".as_slice()))
+    );
+    assert_eq!(rt; take_long_move(b"0 stop 1"), None);
+    assert_eq!(rt; take_short_move(b"0 start 1 2"), None);
+    let Some(((run, short), rest)) = take_short_move(b"5 create alive\n") else {
+        panic!(rt; "a create was not read")
+    };
+    assert_eq!(rt; run, Run(5));
+    assert_eq!(rt;
+        short.op(),
+        Op::Create {
+            alive: true,
+            name: None
+        }
+    );
+    assert_eq!(rt; rest, b"\n".as_slice());
+}

@@ -1,7 +1,0 @@
-use Rattle.std.proofs.Common.{All, take}
-use Rattle.ttrun.specs.Inside.{FitsItsTypes}
-use Rattle.ttrun.proofs.laws.cases_fit.Given as goal
-
--- those so far fit
-abbrev pub invariant-loop-case : goal.invariant-loop-case
-invariant-loop-case l = All FitsItsTypes (take l.case-index l.cases)

@@ -1,7 +1,0 @@
-use Rattle.std.proofs.Common.{All, subst}
-use Rattle.ttrun.specs.Inside.{FitsItsTypes}
-use Rattle.ttrun.proofs.WrittenHistories.{reported_were_run}
-use Rattle.ttrun.proofs.laws.were_run.Goals as goal
-
-pub returns : goal.returns
-returns c cases reported = reported_were_run cases c.args.results.now (subst (All FitsItsTypes) c.as_slice.ensures c.cases_fit.ensures) reported

@@ -1,8 +1,0 @@
-use Rattle.ttrun.proofs.Running.{cut_up, live_done}
-use Rattle.ttrun.proofs.run.run_cases_live.Goals as goal
-
-pub returns-clause-done : goal.returns-clause-done
-returns-clause-done g c = live_done _ _ _ _ _ _ _ _ c.requires.form c.in_ok-ending.ensures.done c.tell_abort-told.ensures
-
-pub returns-in_err-ending-clause-refused : goal.returns-in_err-ending-clause-refused
-returns-in_err-ending-clause-refused g c = cut_up _ _ _ _ _ _ _ _ c.from_residual.result c.requires.form c.from_residual.ensures.1 c.in_err-ending.ensures.part
