@@ -10,6 +10,3 @@ pub use behaviour::Behaviour;
 pub use job::ScriptJob;
 pub use tc_exec::{Back, Ending};
 pub use tc_step::Script;
-
-#[cfg(test)]
-mod tests;

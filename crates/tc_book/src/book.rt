@@ -172,6 +172,13 @@ impl Book {
         Some(reply)
     }
 
+    /// Whether a place is still kept for the leaving of a run.
+    pub(crate) fn has_place(&self, run: Run) -> bool
+        ensures { result ≡ (places_at self.now.places run).leave }
+    {
+        places_of(&self.places, run).leave
+    }
+
     /// The component and the arguments with which a run was started.
     pub fn start_of(&self, run: Run) -> Option<(Comp, Args)>
         ensures start { result ≡ starts.start_of (past_of self.now) run.0 }

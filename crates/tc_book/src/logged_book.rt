@@ -161,6 +161,13 @@ impl LoggedBook {
         self.book.leave(run, true).is_some()
     }
 
+    /// Whether a place is still kept for the leaving of a run.
+    pub(crate) fn has_place(&self, run: Run) -> bool
+        ensures { result ≡ (places_at self.now.book.places run).leave }
+    {
+        self.book.has_place(run)
+    }
+
     /// What one that waits for a run's start is answered: its start, once its hand has met its word, or none where the case is
     /// over without. Nothing while it waits on for its start.
     pub(crate) fn start_or_end(

@@ -147,6 +147,12 @@ impl Shared {
         unreachable!()
     }
 
+    /// Whether a place in the history is still kept for the leaving of a run: until its behaviour has left, or its ticket
+    /// has found the case over. Where other threads are at work it may be given up right after the answer.
+    pub fn has_place<R: Wait>(&self, rt: &R, run: Run) -> bool {
+        self.held.book.lock(rt).has_place(run)
+    }
+
     /// Closes the case.
     pub(crate) fn close<R: Wait>(
         &self,
@@ -160,6 +166,3 @@ impl Shared {
         self.held.book.lock(rt).close(alloc, lefts)
     }
 }
-
-#[cfg(test)]
-mod tests;

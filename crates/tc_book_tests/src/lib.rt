@@ -4,6 +4,8 @@
 #[cfg(test)]
 mod books;
 #[cfg(test)]
+mod places;
+#[cfg(test)]
 mod verdicts;
 #[cfg(test)]
 mod waking;

@@ -6,8 +6,6 @@ pub mod laws;
 mod read;
 mod refusal;
 mod task;
-#[cfg(test)]
-mod tests;
 
 pub use command::VERSION;
 pub use read::read_task;

@@ -17,6 +17,3 @@ pub use job::{Back, Ending, Job};
 pub use refusal::CaseError;
 pub use tc_book::Closed as CaseReport;
 pub use worker::WORKER_STACK;
-
-#[cfg(test)]
-mod tests;

@@ -16,6 +16,3 @@ pub use tc_entry::{Name, Sequence, UserVerdict};
 pub use tc_step::{GroupPlace, Place, Status, TargetPlace};
 pub use text::{Lines, read_words};
 pub use word::read_name;
-
-#[cfg(test)]
-mod tests;

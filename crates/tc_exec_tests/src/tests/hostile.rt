@@ -2,7 +2,7 @@
 ghost use Rattle.std.specs.Prelude.{⊤};
 
 use crate::tests::{Behaviour, starts_all};
-use crate::*;
+use tc_exec::*;
 use std::alloc::Global;
 use std::rt::Files;
 use std::sync::atomic::{AtomicU64, Ordering};

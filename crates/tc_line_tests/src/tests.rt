@@ -1,5 +1,5 @@
 //! Lines of scripts, their words and their faults.
-use super::*;
+use tc_line::*;
 use std::process::Abort;
 use std::test::Fail;
 

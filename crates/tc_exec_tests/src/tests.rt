@@ -1,7 +1,7 @@
 //! Cases whose behaviours run on threads.
 mod hostile;
 
-use crate::*;
+use tc_exec::*;
 use std::sync::atomic::{AtomicU64, Ordering};
 use std::sync::{Arc, Wait};
 use std::test::Fail;

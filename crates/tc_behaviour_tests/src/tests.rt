@@ -1,7 +1,7 @@
 //! Scripts as they are run on a pass and in a case.
 ghost use Rattle.std.specs.Prelude.{◌≡◌, []};
 
-use super::*;
+use tc_behaviour::*;
 use std::alloc::Global;
 use std::process::Abort;
 use std::sync::Wait;

@@ -1,13 +1,7 @@
-//! What is behind the lock after a leave: no clause sees it.
-use crate::*;
-use std::sync::Wait;
+//! The places that are kept behind the lock until each run has left: no clause sees them.
 use std::test::Fail;
+use tc_book::open_case;
 use tc_entry::{Args, Comp, Group, Run};
-
-/// Whether a place was still kept for the leaving of a run.
-fn had_place<R: Wait>(rt: &R, shared: &Shared, run: u16) -> bool {
-    shared.held.book.lock(rt).give_up(Run(run))
-}
 
 /// Run 0 leaves with a Finish, run 1 after it was stopped, run 2 was never started.
 #[test]
@@ -26,9 +20,11 @@ fn places_are_given_up(rt: HostRuntime) -> Result<(), Fail> {
     pass.leave(&rt);
     assert!(rt; tickets.remove(0).await_start(&rt).is_err());
     for run in 0..3u16 {
-        assert!(rt; !had_place(&rt, &shared, run), "run {run} has left");
+        assert!(rt; !shared.has_place(&rt, Run(run)), "run {run} has left");
     }
-    assert!(rt; had_place(&rt, &shared, 3));
-    assert!(rt; !had_place(&rt, &shared, 3));
+    assert!(rt; shared.has_place(&rt, Run(3)));
+    assert!(rt; tickets.remove(0).await_start(&rt).is_err());
+    assert!(rt; !shared.has_place(&rt, Run(3)));
+    assert!(rt; !shared.has_place(&rt, Run(4)), "there is no such run");
     Ok(())
 }

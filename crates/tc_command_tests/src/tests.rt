@@ -1,5 +1,5 @@
 //! Command lines, of which each two words have a space between them.
-use super::*;
+use tc_command::*;
 use clap::error::ErrorKind;
 use std::alloc::{AllocError, AllocGlobal, Global};
 use std::process::Abort;
