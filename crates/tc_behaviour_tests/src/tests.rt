@@ -1,11 +1,11 @@
 //! Scripts as they are run on a pass and in a case.
 ghost use Rattle.std.specs.Prelude.{◌≡◌, []};
 
-use tc_behaviour::*;
 use std::alloc::Global;
 use std::process::Abort;
 use std::sync::Wait;
 use std::test::Fail;
+use tc_behaviour::*;
 use tc_book::{Pass, RunLog, open_case};
 use tc_entry::{
     Args, Comp, Entry, Fault, Group, Name, Op, Reply, Run, Target, UserVerdict, Verdict,

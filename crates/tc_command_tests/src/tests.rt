@@ -1,9 +1,9 @@
 //! Command lines, of which each two words have a space between them.
-use tc_command::*;
 use clap::error::ErrorKind;
 use std::alloc::{AllocError, AllocGlobal, Global};
 use std::process::Abort;
 use std::test::Fail;
+use tc_command::*;
 
 const CHECK: Result<Task<'static>, ErrorKind> = Ok(Task::Check { explains: false });
 

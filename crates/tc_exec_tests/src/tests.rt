@@ -1,7 +1,6 @@
 //! Cases whose behaviours run on threads.
 mod hostile;
 
-use tc_exec::*;
 use std::sync::atomic::{AtomicU64, Ordering};
 use std::sync::{Arc, Wait};
 use std::test::Fail;
@@ -9,6 +8,7 @@ use tc_book::{CloseFault, Halt, Pass, open_case};
 use tc_entry::{
     Args, Comp, Entry, Fault, Group, Name, Op, Reply, Run, Target, UserVerdict, Verdict,
 };
+use tc_exec::*;
 
 type Behaviour = Box<dyn FnOnce(Pass) -> Back + Send>;
 

@@ -1,7 +1,7 @@
 //! Lines of scripts, their words and their faults.
-use tc_line::*;
 use std::process::Abort;
 use std::test::Fail;
+use tc_line::*;
 
 fn kind_of<R: Abort + AllocGlobal>(rt: &R, line: &str) -> Option<ScriptKind> {
     match read_line(rt.alloc(), line.as_bytes(), &mut Vec::new(rt.alloc())) {

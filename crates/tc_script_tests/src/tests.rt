@@ -1,7 +1,7 @@
 //! Scripts that are read, and scripts that are refused.
-use tc_script::*;
 use std::process::Abort;
 use std::test::Fail;
+use tc_script::*;
 use tc_step::{GroupPlace, Place, Run, Script, Status, Step, TargetPlace, UserVerdict};
 
 const STORED: &[u8] = b"# two test cases

@@ -1,10 +1,10 @@
 //! Texts of moves, replies and lists of moves.
-use tc_text::*;
 use std::process::Abort;
 use std::test::Fail;
 use tc_entry::{
     Args, Comp, Fault, Group, Name, NoMemory, Op, Reply, Run, Target, UserVerdict, Verdict,
 };
+use tc_text::*;
 
 fn is_spelled(
     rt: &impl Abort,

@@ -2,7 +2,6 @@
 ghost use Rattle.std.specs.Prelude.{⊤};
 
 use crate::tests::{Behaviour, starts_all};
-use tc_exec::*;
 use std::alloc::Global;
 use std::rt::Files;
 use std::sync::atomic::{AtomicU64, Ordering};
@@ -12,6 +11,7 @@ use std::time::{Clock, Duration};
 use std::{fs, thread};
 use tc_book::{Halt, Pass, open_case};
 use tc_entry::{Args, Comp, Group, Reply, Run, UserVerdict, Verdict};
+use tc_exec::*;
 use tc_table::replay_check;
 
 /// Allows no worker of one run, and keeps the runs that it was asked for.
