@@ -7,7 +7,6 @@ pub mod Simulation
 pub mod Places
 pub mod Closing
 pub mod Sameness
-pub mod AliveTypes
 pub mod Completeness
 pub mod Searching
 pub mod Seeing
