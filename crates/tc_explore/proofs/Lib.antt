@@ -10,6 +10,8 @@ pub mod Sameness
 pub mod Completeness
 pub mod Searching
 pub mod Seeing
+pub mod Noting
+pub mod Room
 pub mod Closed
 pub mod States
 pub mod Logging
