@@ -238,6 +238,15 @@ fn a_search_ends_at_its_limit(rt: HostRuntime) -> Result<(), Fail> {
     Ok(())
 }
 
+#[test]
+fn without_behaviours_nothing_is_decided(rt: HostRuntime) -> Result<(), Fail> {
+    let explored = explore(rt.alloc(), &[], MANY)?;
+    assert!(rt; explored.ending == Ending::Undecided);
+    assert_eq!(rt; explored.states, 0);
+    assert!(rt; explored.found.as_slice().is_empty());
+    Ok(())
+}
+
 // The line that is told of a test case t, and its status.
 fn told(alloc: Global, explored: &Explored) -> Result<(String, u8), Fail> {
     let name = Name::read("t").ok_or("a name")?;
