@@ -1,6 +1,10 @@
 #!/usr/bin/env python3
-"""Times `explore` on generated test cases, of which three in ten race: measure.py PROGRAM. The cases are the same at every run."""
+"""Times `explore` on generated test cases, of which three in ten race, and counts how their lines end: measure.py PROGRAM.
+
+The cases are the same at every run.
+"""
 import random
+import resource
 import statistics
 import subprocess
 import sys
@@ -8,6 +12,7 @@ import time
 
 SIZES = ((4, 10, 40), (8, 10, 40), (16, 10, 40), (32, 8, 20), (64, 8, 10))
 LONGEST = 60
+ENDINGS = ("complete", "looked at", "undecided")
 
 
 def behaviour(chance, at, steps, racing):
@@ -41,8 +46,19 @@ def testcase(chance, name, count, steps):
     return "\n".join(lines + ["end"]) + "\n"
 
 
+def ending(line):
+    """How the line of a test case ends."""
+    return next((it for it in ENDINGS if f" {it}" in line), "no line")
+
+
+def processor_seconds():
+    """The seconds that the ended programs have had of a processor."""
+    used = resource.getrusage(resource.RUSAGE_CHILDREN)
+    return used.ru_utime + used.ru_stime
+
+
 def measure(program, count, steps, cases):
-    """The seconds that each of these test cases took, and how many took longer than is waited for."""
+    """The seconds that each of these test cases took, how many took longer than is waited for, and how many lines end how."""
     chance = random.Random(f"{count} {steps}")
     seconds, unended, told = [], 0, {}
     for at in range(cases):
@@ -51,7 +67,8 @@ def measure(program, count, steps, cases):
         try:
             ran = subprocess.run([program, "explore"], input=text.encode(), capture_output=True, timeout=LONGEST, check=False)
             seconds.append(time.monotonic() - begun)
-            told[ran.returncode] = told.get(ran.returncode, 0) + 1
+            end = ending(ran.stdout.decode())
+            told[end] = told.get(end, 0) + 1
         except subprocess.TimeoutExpired:
             unended += 1
     return seconds, unended, told
@@ -59,10 +76,13 @@ def measure(program, count, steps, cases):
 
 def main():
     for count, steps, cases in SIZES:
+        before = processor_seconds()
         seconds, unended, told = measure(sys.argv[1], count, steps, cases)
+        used = processor_seconds() - before
         if seconds:
+            ends = ", ".join(f"{told[it]} {it}" for it in (*ENDINGS, "no line") if it in told)
             print(f"{count} behaviours, {steps} steps, {cases} cases: median {statistics.median(seconds):.3f} s, "
-                  f"longest {max(seconds):.3f} s, {unended} took more than {LONGEST} s; by status {dict(sorted(told.items()))}", flush=True)
+                  f"longest {max(seconds):.3f} s, {unended} took more than {LONGEST} s; {used:.2f} s of a processor together; {ends}", flush=True)
         else:
             print(f"{count} behaviours, {steps} steps, {cases} cases: each took more than {LONGEST} s", flush=True)
 

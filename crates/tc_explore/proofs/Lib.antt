@@ -7,10 +7,11 @@ pub mod Simulation
 pub mod Places
 pub mod Closing
 pub mod Sameness
-pub mod AliveTypes
 pub mod Completeness
 pub mod Searching
 pub mod Seeing
+pub mod Noting
+pub mod Room
 pub mod Closed
 pub mod States
 pub mod Logging

@@ -146,6 +146,11 @@ abbrev pub IsCourse : List ScriptView → List Entry → Type 0
 IsCourse scripts [] = Unit {0}
 IsCourse scripts (e ∷ past) = IsTurn scripts past e × IsCourse scripts past
 
+-- what a state counts for in the search by the calls of all runs: one more than the steps of the scripts together
+abbrev pub room_of : List ScriptView → ℕ
+room_of [] = 1
+room_of (script ∷ scripts) = room_of scripts + length script.steps
+
 -- it is complete: no run has a call left
 abbrev pub IsComplete : List ScriptView → List Entry → Type 0
 IsComplete scripts past = (b : ℕ) → b < length scripts → turn scripts past b ≡ None

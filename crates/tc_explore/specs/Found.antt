@@ -42,6 +42,16 @@ OnOkEach (Err e) P = Unit {0}
 abbrev pub AreWitnesses : List ScriptView → List Witness → Type 0
 AreWitnesses scripts found = All (λ w. IsWitness scripts w.history w.verdict) found
 
+-- no verdict has two witnesses
+abbrev pub IsOnce : List Witness → Type 0
+IsOnce found =
+    (i j : ℕ) (d : Witness) → i < length found → j < length found → (slice_index_or found i d).verdict ≡ (slice_index_or found j d).verdict → i ≡ j
+
+-- each is a witness, and no verdict has two
+pub record AreNoted (scripts : List ScriptView) (found : List Witness) : Type 0 where
+  pub sound : AreWitnesses scripts found
+  pub once : IsOnce found
+
 -- each is a history in which each reply is the component table's
 abbrev pub AreLegal : List ScriptView → List Witness → Type 0
 AreLegal scripts found = All (λ w. IsLegal (length scripts) (reverse w.history)) found

@@ -1,5 +1,5 @@
 //! A course: what is known of a case after some turns.
-ghost use Rattle.std.specs.Prelude.{◌≡◌, ◌≤◌, ◌<◌, ◌∷◌, ◌&&◌, if◌then◌else◌, ℕ, [], IfOk, IsTrue, None, length, reverse, slice_index_or};
+ghost use Rattle.std.specs.Prelude.{◌≡◌, ◌≤◌, ◌<◌, ◌∷◌, ℕ, [], IfOk, IsTrue, None, length, slice_index_or};
 ghost use Rattle.tc_entry.specs.declared.limits.TheConstants.{BEHAVIOURS};
 ghost use Rattle.tc_table.specs.Case.{past_of};
 ghost use Rattle.tc_table.specs.Answers as answers;
@@ -16,16 +16,14 @@ use std::alloc::Global;
 use std::marker::Model;
 use tc_entry::{Comp, Entry, Op, Phase, Reply};
 use tc_step::{Script, Step};
-use tc_table::{Table, created, is_alive_create, is_comp};
+use tc_table::Table;
 use tc_verdict::{NoMemory, Run, Verdict};
 
-/// The entries of a case so far, what is known of each run by them, and which components are alive-type. Contracts see
-/// the case as that of its table.
+/// The entries of a case so far, and what is known of each run by them. Contracts see the case as that of its table.
 #[derive(Drop)]
 pub(crate) struct Course {
     table: Table,
     standings: Vec<Standing>,
-    alive_types: Vec<bool>,
 }
 
 impl Model for Course {
@@ -89,37 +87,6 @@ fn steps_of(scripts: &[Script], run: Run) -> &[Step]
     }
 }
 
-// Whether a component is there after one more entry.
-fn known_after(known: bool, entry: &Entry, comp: u32) -> bool
-    ensures { result ≡ (if known then known else history.is_comp (history.created entry.now.op entry.now.reply) comp) }
-{
-    known || is_comp(created(&entry.op, entry.reply), comp)
-}
-
-// Whether a component is alive-type after one more entry.
-fn kind_after(known: bool, kind: bool, entry: &Entry, comp: u32) -> bool
-    ensures { result ≡ (if known then kind else history.is_comp (history.created entry.now.op entry.now.reply) comp && history.is_alive_create entry.now.op) }
-{
-    if known {
-        return kind;
-    }
-    is_comp(created(&entry.op, entry.reply), comp) && is_alive_create(&entry.op)
-}
-
-// Whether the Create that made a component said that it is alive-type.
-#[tactic(auto, using(crate::proofs::AliveTypes::kind_rules))]
-fn kind_in(entries: &[Entry], comp: u32) -> bool
-    ensures { result ≡ history.is_alive_type (reverse entries.now) comp }
-{
-    let mut known = comp == 0;
-    let mut kind = false;
-    for entry in entries {
-        kind = kind_after(known, kind, entry, comp);
-        known = known_after(known, entry, comp);
-    }
-    kind
-}
-
 // What a component is doing, as a number.
 fn phase_key(phase: Option<Phase>) -> u16 {
     match phase {
@@ -141,11 +108,7 @@ impl Course {
     {
         let table = Table::new(alloc, behaviours)?;
         let standings = opening_standings(alloc, behaviours)?;
-        Ok(Course {
-            table,
-            standings,
-            alive_types: Vec::new(alloc),
-        })
+        Ok(Course { table, standings })
     }
 
     /// The same course.
@@ -155,13 +118,7 @@ impl Course {
     {
         let table = self.table.copied(alloc)?;
         let standings = copied_standings(alloc, self.standings.as_slice())?;
-        let mut alive_types = Vec::with_capacity(alloc, self.alive_types.len())?;
-        alive_types.extend_from_slice(self.alive_types.as_slice())?;
-        Ok(Course {
-            table,
-            standings,
-            alive_types,
-        })
+        Ok(Course { table, standings })
     }
 
     /// What a run calls next.
@@ -185,14 +142,9 @@ impl Course {
         ensures behaviours { IfOk result (λ c. c.behaviours ≡ self.behaviours) }
         ensures added { IfOk result (λ c. past_of c ≡ courses.taken self.behaviours (past_of self) run op ∷ past_of self) }
     {
-        let Course {
-            table,
-            standings,
-            alive_types,
-        } = self;
+        let Course { table, standings } = self;
         let mut table = table;
         let mut standings = standings;
-        let mut alive_types = alive_types;
         let entry_op = op.copy();
         let reply = table.play(run, op)?;
         let entry = Entry {
@@ -201,14 +153,7 @@ impl Course {
             reply,
         };
         take_in_all(&mut standings, &entry)?;
-        if created(&entry.op, entry.reply).is_some() {
-            alive_types.push(is_alive_create(&entry.op))?;
-        }
-        Ok(Course {
-            table,
-            standings,
-            alive_types,
-        })
+        Ok(Course { table, standings })
     }
 
     /// Whether the case is over.
@@ -236,7 +181,7 @@ impl Course {
     pub(crate) fn is_alive_type(&self, comp: u32) -> bool
         ensures { result ≡ history.is_alive_type (past_of self.now) comp }
     {
-        kind_in(self.table.history(), comp)
+        self.table.is_alive_type(Comp(comp))
     }
 
     /// Whether a run goes on.
@@ -318,9 +263,7 @@ impl Course {
         }
         for comp in 0..self.table.components() {
             key.push(phase_key(self.table.phase_of(Comp(comp))))?;
-        }
-        for alive in &self.alive_types {
-            key.push(if *alive { 1 } else { 0 })?;
+            key.push(u16::from(self.is_alive_type(comp)))?;
         }
         Ok(key)
     }

@@ -1,9 +1,11 @@
 //! The search for the overall verdicts of a test case.
-ghost use Rattle.std.specs.Prelude.{◌≡◌, ◌≤◌, IfOk, OnOk, length};
+ghost use Rattle.std.specs.Prelude.{◌≡◌, ◌≤◌, ◌*◌, [], IfOk, IfSome, OnOk, length};
 ghost use Rattle.tc_entry.specs.declared.limits.TheConstants.{BEHAVIOURS};
-ghost use Rattle.tc_explore.specs.Found.{AreWitnesses, AreLegal};
+ghost use Rattle.tc_explore.specs.Found.{AreWitnesses, AreNoted, AreLegal, IsOnce};
+ghost use Rattle.tc_explore.specs.Course.{room_of};
 ghost use Rattle.tc_explore.specs.Laws.{AllFound};
-ghost use Rattle.tc_explore.specs.declared.explored.Ending.TheVariants.{Complete};
+ghost use Rattle.tc_explore.specs.declared.explored.TheConstants.{KEPT};
+ghost use Rattle.tc_explore.specs.declared.explored.Ending.TheVariants.{Complete, Undecided};
 
 use crate::full::search_all;
 use crate::search::{Extent, search_reduced};
@@ -44,12 +46,28 @@ struct Reach {
 // How many entries the states of the search by the calls of all runs may have together: each keeps those of a course.
 const KEPT: usize = 2_000_000;
 
-// How many states that search looks at: no more than the other, and fewer where the scripts have many steps.
-fn full_limit(scripts: &[Script], limit: usize) -> usize {
+// One more than the steps of the scripts together, if a number can hold it.
+#[tactic(auto, using(crate::proofs::Room::room_rules))]
+fn room_for_one(scripts: &[Script]) -> Option<usize>
+    ensures some { IfSome result (λ n. 1 ≤ n) }
+    ensures is { IfSome result (λ n. n ≡ room_of scripts.now) }
+{
     let mut entries: usize = 1;
     for script in scripts {
-        entries = entries.saturating_add(script.steps().len());
+        entries = entries.checked_add(script.steps().len())?;
     }
+    Some(entries)
+}
+
+// How many states that search looks at: no more than the other, and fewer where the scripts have many steps.
+#[tactic(auto, using(crate::proofs::Room::room_rules))]
+fn full_limit(scripts: &[Script], limit: usize) -> usize
+    ensures within { result ≤ limit }
+    ensures kept { result * room_of scripts.now ≤ KEPT }
+{
+    let Some(entries) = room_for_one(scripts) else {
+        return 0;
+    };
     let most = KEPT / entries;
     if limit < most { limit } else { most }
 }
@@ -63,10 +81,11 @@ fn search_both(
 ) -> Result<Reach, NoMemory>
     requires some { 1 ≤ length scripts.now }
     requires few { length scripts.now ≤ BEHAVIOURS }
-    requires found { AreWitnesses scripts.now found.old.items }
-    ensures found { OnOk result (AreWitnesses scripts.now found.new.items) }
+    requires found { AreNoted scripts.now found.old.items }
+    ensures found { OnOk result (AreNoted scripts.now found.new.items) }
     ensures complete { IfOk result (λ r. r.ending ≡ Complete → AllFound scripts.now found.new.items) }
     ensures within { IfOk result (λ r. r.states ≤ limit) }
+    ensures undecided { IfOk result (λ r. r.ending ≡ Undecided → r.states ≡ limit) }
 {
     let reduced = search_reduced(alloc, scripts, limit, found)?;
     let states = reduced.states;
@@ -87,13 +106,16 @@ fn search_both(
 /// with reductions looks at so many states at most; where it comes to its end, one by the calls of all runs follows, which
 /// keeps no more states, and fewer of a test case with many steps. Where that comes to its end too, the verdict of each
 /// complete course is found. A test case without behaviours is left undecided.
-#[tactic(auto, using(crate::proofs::Legality::legal_rules))]
+#[tactic(auto, using(crate::proofs::Legality::legal_rules, crate::proofs::Noting::noting_rules))]
 pub fn explore(alloc: Global, scripts: &[Script], limit: usize) -> Result<Explored, NoMemory>
     requires few { length scripts.now ≤ BEHAVIOURS }
     ensures sound { IfOk result (λ e. AreWitnesses scripts.now e.found) }
     ensures legal { IfOk result (λ e. AreLegal scripts.now e.found) }
     ensures complete { IfOk result (λ e. e.ending ≡ Complete → AllFound scripts.now e.found) }
     ensures within { IfOk result (λ e. e.states ≤ limit) }
+    ensures once { IfOk result (λ e. IsOnce e.found) }
+    ensures undecided { IfOk result (λ e. e.ending ≡ Undecided → 1 ≤ length scripts.now → e.states ≡ limit) }
+    ensures nothing { IfOk result (λ e. scripts.now ≡ [] → (e.ending ≡ Undecided) × (e.found ≡ []) × (e.states ≡ 0)) }
 {
     let mut found = Vec::new(alloc);
     if scripts.is_empty() {

@@ -8,7 +8,7 @@ ghost use Rattle.tc_table.specs.Answers as answers;
 ghost use Rattle.tc_table.specs.History as history;
 ghost use Rattle.tc_table.specs.Local as verdicts;
 ghost use Rattle.tc_explore.specs.Course as courses;
-ghost use Rattle.tc_explore.specs.Found.{IsOn, AreWitnesses};
+ghost use Rattle.tc_explore.specs.Found.{IsOn, AreNoted};
 ghost use Rattle.tc_explore.specs.Inside.Simulation as moves;
 ghost use Rattle.tc_explore.specs.Laws.{IsClosedAt, AreClosed, AllFound};
 ghost use Rattle.tc_explore.specs.Inside.Seen.{IsSeen, IsLonger, StandsOn, IsAfter, IsRunClosed};
@@ -152,6 +152,8 @@ fn place(
     requires states { All (λ t. IsOn scripts.now t) full.old.states.items }
     ensures states { OnOk result (All (λ t. IsOn scripts.now t) full.new.states.items) }
     ensures longer { OnOk result (IsLonger full.old.states.items full.new.states.items) }
+    ensures limit { full.new.limit ≡ full.old.limit }
+    ensures within { length full.old.states.items ≤ full.old.limit → length full.new.states.items ≤ full.old.limit }
     ensures seen { IfOk result (λ is_seen. is_seen ≡ true → IsSeen full.new.states.items (past_of course)) }
 {
     let key = course.key(alloc)?;
@@ -199,10 +201,10 @@ fn after_call(
     requires on { IsOn scripts.now course.now }
     requires turn { courses.IsTurn scripts.now (past_of course.now) (courses.taken course.now.behaviours (past_of course.now) run op) }
     requires states { All (λ t. IsOn scripts.now t) full.old.states.items }
-    requires found { AreWitnesses scripts.now found.old.items }
+    requires found { AreNoted scripts.now found.old.items }
     ensures states { OnOk result (All (λ t. IsOn scripts.now t) full.new.states.items) }
     ensures more_states { OnOk result (IsLonger full.old.states.items full.new.states.items) }
-    ensures found { OnOk result (AreWitnesses scripts.now found.new.items) }
+    ensures found { OnOk result (AreNoted scripts.now found.new.items) }
     ensures more_found { OnOk result (IsLonger found.old.items found.new.items) }
     ensures closed { IfOk result (λ is_closed. is_closed ≡ true → IsAfter scripts.now full.new.states.items found.new.items (past_of course.now) (courses.taken course.now.behaviours (past_of course.now) run op)) }
 {
@@ -258,10 +260,10 @@ fn try_run(
     requires within { run.0 < length scripts.now }
     requires on { IsOn scripts.now course.now }
     requires states { All (λ t. IsOn scripts.now t) full.old.states.items }
-    requires found { AreWitnesses scripts.now found.old.items }
+    requires found { AreNoted scripts.now found.old.items }
     ensures states { OnOk result (All (λ t. IsOn scripts.now t) full.new.states.items) }
     ensures more_states { OnOk result (IsLonger full.old.states.items full.new.states.items) }
-    ensures found { OnOk result (AreWitnesses scripts.now found.new.items) }
+    ensures found { OnOk result (AreNoted scripts.now found.new.items) }
     ensures more_found { OnOk result (IsLonger found.old.items found.new.items) }
     ensures closed { IfOk result (λ t. t.is_closed ≡ true → IsRunClosed scripts.now full.new.states.items found.new.items (past_of course.now) run.0) }
     ensures goes_on { IfOk result (λ t. t.goes_on ≡ true → moves.GoesOn scripts.now (past_of course.now)) }
@@ -304,10 +306,10 @@ fn try_runs(
     requires few { length scripts.now ≤ BEHAVIOURS }
     requires on { IsOn scripts.now course.now }
     requires states { All (λ t. IsOn scripts.now t) full.old.states.items }
-    requires found { AreWitnesses scripts.now found.old.items }
+    requires found { AreNoted scripts.now found.old.items }
     ensures states { OnOk result (All (λ t. IsOn scripts.now t) full.new.states.items) }
     ensures more_states { OnOk result (IsLonger full.old.states.items full.new.states.items) }
-    ensures found { OnOk result (AreWitnesses scripts.now found.new.items) }
+    ensures found { OnOk result (AreNoted scripts.now found.new.items) }
     ensures more_found { OnOk result (IsLonger found.old.items found.new.items) }
     ensures closed { IfOk result (λ t. t.is_closed ≡ true → (b : ℕ) → b < length scripts.now → IsRunClosed scripts.now full.new.states.items found.new.items (past_of course.now) b) }
     ensures goes_on { IfOk result (λ t. t.goes_on ≡ true → moves.GoesOn scripts.now (past_of course.now)) }
@@ -340,10 +342,10 @@ fn expand_course(
     requires few { length scripts.now ≤ BEHAVIOURS }
     requires on { IsOn scripts.now course }
     requires states { All (λ t. IsOn scripts.now t) full.old.states.items }
-    requires found { AreWitnesses scripts.now found.old.items }
+    requires found { AreNoted scripts.now found.old.items }
     ensures states { OnOk result (All (λ t. IsOn scripts.now t) full.new.states.items) }
     ensures more_states { OnOk result (IsLonger full.old.states.items full.new.states.items) }
-    ensures found { OnOk result (AreWitnesses scripts.now found.new.items) }
+    ensures found { OnOk result (AreNoted scripts.now found.new.items) }
     ensures more_found { OnOk result (IsLonger found.old.items found.new.items) }
     ensures closed { IfOk result (λ is_closed. is_closed ≡ true → moves.IsClosed scripts.now (IsSeen full.new.states.items) found.new.items (past_of course)) }
 {
@@ -375,10 +377,10 @@ fn expand(
     requires few { length scripts.now ≤ BEHAVIOURS }
     requires within { at < length full.old.states.items }
     requires states { All (λ t. IsOn scripts.now t) full.old.states.items }
-    requires found { AreWitnesses scripts.now found.old.items }
+    requires found { AreNoted scripts.now found.old.items }
     ensures states { OnOk result (All (λ t. IsOn scripts.now t) full.new.states.items) }
     ensures more_states { OnOk result (IsLonger full.old.states.items full.new.states.items) }
-    ensures found { OnOk result (AreWitnesses scripts.now found.new.items) }
+    ensures found { OnOk result (AreNoted scripts.now found.new.items) }
     ensures more_found { OnOk result (IsLonger found.old.items found.new.items) }
     ensures closed { IfOk result (λ is_closed. is_closed ≡ true → IsClosedAt scripts.now full.new.states.items found.new.items at) }
 {
@@ -398,9 +400,9 @@ fn expand_all(
     requires some { 1 ≤ length scripts.now }
     requires few { length scripts.now ≤ BEHAVIOURS }
     requires states { All (λ t. IsOn scripts.now t) full.old.states.items }
-    requires found { AreWitnesses scripts.now found.old.items }
+    requires found { AreNoted scripts.now found.old.items }
     ensures more_states { OnOk result (IsLonger full.old.states.items full.new.states.items) }
-    ensures found { OnOk result (AreWitnesses scripts.now found.new.items) }
+    ensures found { OnOk result (AreNoted scripts.now found.new.items) }
     ensures closed { IfOk result (λ is_closed. is_closed ≡ true → AreClosed scripts.now full.new.states.items found.new.items) }
     ensures within { IfOk result (λ is_closed. is_closed ≡ true → length full.new.states.items ≤ limit) }
 {
@@ -426,8 +428,8 @@ pub(crate) fn search_all(
 ) -> Result<Extent, NoMemory>
     requires some { 1 ≤ length scripts.now }
     requires few { length scripts.now ≤ BEHAVIOURS }
-    requires found { AreWitnesses scripts.now found.old.items }
-    ensures found { OnOk result (AreWitnesses scripts.now found.new.items) }
+    requires found { AreNoted scripts.now found.old.items }
+    ensures found { OnOk result (AreNoted scripts.now found.new.items) }
     ensures complete { IfOk result (λ e. e.is_whole ≡ true → AllFound scripts.now found.new.items) }
     ensures within { IfOk result (λ e. e.is_whole ≡ true → e.states ≤ limit) }
 {

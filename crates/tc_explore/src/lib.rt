@@ -23,6 +23,3 @@ mod witness;
 
 pub use explored::{Ending, Explored, explore};
 pub use witness::Witness;
-
-#[cfg(test)]
-mod tests;

@@ -1,7 +1,7 @@
 //! The search with reductions: fast, and what it finds is sound; nothing is proved of what it may miss.
-ghost use Rattle.std.specs.Prelude.{◌≤◌, IfOk, IfSome, OnOk, length};
+ghost use Rattle.std.specs.Prelude.{◌≡◌, ◌≤◌, false, IfOk, IfSome, OnOk, length};
 ghost use Rattle.tc_entry.specs.declared.limits.TheConstants.{BEHAVIOURS};
-ghost use Rattle.tc_explore.specs.Found.{IsOn, IsWitness, AreWitnesses};
+ghost use Rattle.tc_explore.specs.Found.{IsOn, IsWitness, AreNoted};
 ghost use Rattle.tc_explore.specs.Inside.Seen.{IsLonger};
 
 use crate::course::Course;
@@ -52,6 +52,21 @@ fn witness_of(
     Ok(Some(Witness { verdict, history }))
 }
 
+// Adds a witness, if its verdict is new.
+#[tactic(auto, using(crate::proofs::Seeing::seeing_rules, crate::proofs::Noting::noting_rules))]
+fn add_new(scripts: &[Script], witness: Witness, found: &mut Vec<Witness>) -> Result<(), NoMemory>
+    requires witness { IsWitness scripts.now witness.history witness.verdict }
+    requires found { AreNoted scripts.now found.old.items }
+    ensures found { AreNoted scripts.now found.new.items }
+    ensures more_found { IsLonger found.old.items found.new.items }
+{
+    if is_found(found, witness.verdict) {
+        return Ok(());
+    }
+    found.push(witness)?;
+    Ok(())
+}
+
 /// Notes the verdict of a case that is over, if it is new; each run makes its last call first, which is answered Ended.
 #[tactic(auto, using(crate::proofs::Seeing::seeing_rules))]
 pub(crate) fn note(
@@ -62,19 +77,18 @@ pub(crate) fn note(
 ) -> Result<(), NoMemory>
     requires few { length scripts.now ≤ BEHAVIOURS }
     requires on { IsOn scripts.now course }
-    requires found { AreWitnesses scripts.now found.old.items }
-    ensures found { AreWitnesses scripts.now found.new.items }
+    requires found { AreNoted scripts.now found.old.items }
+    ensures found { AreNoted scripts.now found.new.items }
     ensures more_found { IsLonger found.old.items found.new.items }
 {
     if is_found(found, course.verdict()) {
         return Ok(());
     }
     let course = step_all(course, scripts)?;
-    let Some(witness) = witness_of(alloc, scripts, &course)? else {
-        return Ok(());
-    };
-    found.push(witness)?;
-    Ok(())
+    match witness_of(alloc, scripts, &course)? {
+        None => Ok(()),
+        Some(witness) => add_new(scripts, witness, found),
+    }
 }
 
 impl Search {
@@ -105,8 +119,8 @@ fn offer(
 ) -> Result<(), NoMemory>
     requires few { length scripts.now ≤ BEHAVIOURS }
     requires on { IsOn scripts.now course }
-    requires found { AreWitnesses scripts.now found.old.items }
-    ensures { AreWitnesses scripts.now found.new.items }
+    requires found { AreNoted scripts.now found.old.items }
+    ensures { AreNoted scripts.now found.new.items }
 {
     if course.is_over() {
         note(alloc, scripts, course, found)
@@ -126,8 +140,8 @@ fn go(
 ) -> Result<bool, NoMemory>
     requires few { length scripts.now ≤ BEHAVIOURS }
     requires on { IsOn scripts.now course }
-    requires found { AreWitnesses scripts.now found.old.items }
-    ensures { AreWitnesses scripts.now found.new.items }
+    requires found { AreNoted scripts.now found.old.items }
+    ensures { AreNoted scripts.now found.new.items }
 {
     let course = with_before(course, scripts, way.before)?;
     let course = with_quiet(course, scripts, way.run, WORST)?;
@@ -154,8 +168,8 @@ fn go_all(
 ) -> Result<bool, NoMemory>
     requires few { length scripts.now ≤ BEHAVIOURS }
     requires on { IsOn scripts.now course.now }
-    requires found { AreWitnesses scripts.now found.old.items }
-    ensures { AreWitnesses scripts.now found.new.items }
+    requires found { AreNoted scripts.now found.old.items }
+    ensures { AreNoted scripts.now found.new.items }
 {
     let mut any = false;
     for way in moves {
@@ -192,8 +206,8 @@ fn expand(
 ) -> Result<(), NoMemory>
     requires some { 1 ≤ length scripts.now }
     requires few { length scripts.now ≤ BEHAVIOURS }
-    requires found { AreWitnesses scripts.now found.old.items }
-    ensures { AreWitnesses scripts.now found.new.items }
+    requires found { AreNoted scripts.now found.old.items }
+    ensures { AreNoted scripts.now found.new.items }
 {
     let course = follow(alloc, scripts, schedule)?;
     let moves = moves_of(alloc, &course, scripts)?;
@@ -214,8 +228,8 @@ fn look(
 ) -> Result<usize, NoMemory>
     requires some { 1 ≤ length scripts.now }
     requires few { length scripts.now ≤ BEHAVIOURS }
-    requires found { AreWitnesses scripts.now found.old.items }
-    ensures found { AreWitnesses scripts.now found.new.items }
+    requires found { AreNoted scripts.now found.old.items }
+    ensures found { AreNoted scripts.now found.new.items }
     ensures within { IfOk result (λ states. states ≤ limit) }
 {
     for states in 0..limit {
@@ -237,9 +251,10 @@ pub(crate) fn search_reduced(
 ) -> Result<Extent, NoMemory>
     requires some { 1 ≤ length scripts.now }
     requires few { length scripts.now ≤ BEHAVIOURS }
-    requires found { AreWitnesses scripts.now found.old.items }
-    ensures found { OnOk result (AreWitnesses scripts.now found.new.items) }
+    requires found { AreNoted scripts.now found.old.items }
+    ensures found { OnOk result (AreNoted scripts.now found.new.items) }
     ensures within { IfOk result (λ e. e.states ≤ limit) }
+    ensures cut { IfOk result (λ e. e.is_whole ≡ false → e.states ≡ limit) }
 {
     let mut search = Search {
         seen: IndexSet::new(alloc),
@@ -252,6 +267,6 @@ pub(crate) fn search_reduced(
     let states = look(alloc, scripts, limit, &mut search, found)?;
     Ok(Extent {
         states,
-        is_whole: search.left.is_empty() && !search.is_cut,
+        is_whole: states < limit || (search.left.is_empty() && !search.is_cut),
     })
 }

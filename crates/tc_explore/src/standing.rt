@@ -201,7 +201,7 @@ impl Standing {
         false
     }
 
-    /// All that what the run can still call depends on, as numbers.
+    /// All that what the run can still call depends on, as numbers; of one that is halted its component.
     pub(crate) fn add_key(&self, key: &mut Vec<u16>, goes_on: bool) -> Result<(), NoMemory> {
         let Some(comp) = self.comp else {
             key.push(NOT_STARTED)?;
@@ -209,6 +209,7 @@ impl Standing {
         };
         if !goes_on {
             key.push(HALTED)?;
+            key.push(small(u64::from(comp.0)))?;
             return Ok(());
         }
         key.push(small(u64::from(comp.0)))?;

@@ -9,7 +9,7 @@ use Rattle.tc_entry.specs.declared.entry.Entry.{Entry}
 use Rattle.tc_table.specs.declared.component_state.ComponentState.{ComponentState}
 use Rattle.tc_table.specs.declared.run_state.RunState.{RunState}
 use Rattle.tc_table.specs.Status.{running, alive, done, killed, is_running, is_killed, is_done}
-use Rattle.tc_table.specs.History.{comps, comp_of, ptcs, exists, is_in}
+use Rattle.tc_table.specs.History.{comps, comp_of, ptcs, exists, is_in, is_alive_type}
 use Rattle.tc_table.specs.Phases.{phase_if_any, phase, last_run, is_excused}
 use Rattle.tc_table.specs.Local.{local_if_any, local, overall}
 use Rattle.tc_verdict.specs.Verdict.{worst}
@@ -161,6 +161,12 @@ module _ {n : ℕ} {past : List Entry} {states : List ComponentState} {runs : Li
   pub no_last : (c : ℕ) → IsKept n past states runs over → length states ≤ c → last_run past c ≡ None
   no_last c kept h = ap (λ s. s.last) (kept.fresh c h)
 
+  pub kind_kept : (c : ℕ) (d : ComponentState) → IsKept n past states runs over → c < length states → (get_or states c d).alive_type ≡ is_alive_type past c
+  kind_kept c d kept h = ap (λ s. s.alive_type) (kept.each_state c d h)
+
+  pub no_kind : (c : ℕ) → IsKept n past states runs over → length states ≤ c → is_alive_type past c ≡ false
+  no_kind c kept h = ap (λ s. s.alive_type) (kept.fresh c h)
+
   pub waiting_kept : (b : ℕ) (d : RunState) → IsKept n past states runs over → b < length runs → (get_or runs b d).waiting ≡ waiting past b
   waiting_kept b d kept h = ap (λ s. s.waiting) (kept.each_run b d (omega (arith, kept.as_many_runs)))
 
@@ -241,3 +247,5 @@ pub ruleset wait_rules = (waiting_kept, not_waiting, local_state)
 pub ruleset overall_rules = (overall_kept)
 
 pub ruleset last_rules = (last_kept, no_last)
+
+pub ruleset kind_rules = (kind_kept, no_kind)

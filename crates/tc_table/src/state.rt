@@ -132,6 +132,19 @@ impl CaseState {
         }
     }
 
+    /// Whether a component is there and alive-type.
+    #[tactic(auto, using(crate::proofs::KeptLemmas::kind_rules), unfolding(crate::specs::Standing::StandsFor))]
+    pub fn is_alive_type(&self, comp: Comp) -> bool
+        ensures { (past : List Entry) → StandsFor self.now past → result ≡ history.is_alive_type past comp.0 }
+    {
+        let states = self.states.as_slice();
+        if (comp.0 as usize) < states.len() {
+            states[comp.0 as usize].alive_type
+        } else {
+            false
+        }
+    }
+
     /// The last run that was started on a component.
     #[tactic(auto, using(crate::proofs::KeptLemmas::last_rules), unfolding(crate::specs::Standing::StandsFor))]
     pub fn last_run(&self, comp: Comp) -> Option<Run>

@@ -157,6 +157,13 @@ impl Table {
         self.state.phase_of(comp)
     }
 
+    /// Whether a component is there and alive-type.
+    pub fn is_alive_type(&self, comp: Comp) -> bool
+        ensures { result ≡ history.is_alive_type (past_of self.now) comp.0 }
+    {
+        self.state.is_alive_type(comp)
+    }
+
     /// The local verdict of a component.
     pub fn local(&self, comp: Comp) -> Option<Verdict>
         ensures { result ≡ verdicts.local_if_any (past_of self.now) comp.0 }

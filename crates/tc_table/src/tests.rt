@@ -55,6 +55,8 @@ fn calls_on_a_table(rt: HostRuntime) -> Result<(), Fail> {
     assert_eq!(rt; table.phase_of(Comp(0)), Some(Phase::Running(Run(0))));
     assert_eq!(rt; table.phase_of(Comp(1)), Some(Phase::Stopped));
     assert_eq!(rt; table.phase_of(Comp(2)), None);
+    assert!(rt; table.is_alive_type(Comp(1)));
+    assert!(rt; !table.is_alive_type(Comp(0)) && !table.is_alive_type(Comp(2)));
     assert_eq!(rt; table.local(Comp(1)), Some(Verdict::Fail));
     assert_eq!(rt; table.local(Comp(2)), None);
     assert_eq!(rt; table.overall(), Verdict::Fail);
@@ -142,6 +144,7 @@ fn calls_on_a_state(rt: HostRuntime) -> Result<(), Fail> {
     assert_eq!(rt; state.phase_of(Comp(1)), Some(Phase::Killed));
     assert_eq!(rt; state.phase_of(Comp(2)), None);
     assert_eq!(rt; state.local(Comp(0)), Some(Verdict::None));
+    assert!(rt; !state.is_alive_type(Comp(1)));
     assert_eq!(rt; state.local(Comp(1)), Some(Verdict::Inconc));
     assert_eq!(rt; state.local(Comp(2)), None);
     assert_eq!(rt; state.overall(), Verdict::Inconc);

@@ -1,5 +1,5 @@
 use Rattle.std.proofs.Common.{◌<◌, ℕ, All}
-use Rattle.tc_explore.specs.Found.{IsOn, AreWitnesses}
+use Rattle.tc_explore.specs.Found.{IsOn, AreNoted}
 use Rattle.tc_explore.specs.Inside.Seen.{IsLonger}
 use Rattle.tc_explore.specs.Laws.{IsClosedAt}
 use Rattle.tc_explore.proofs.full.expand_all.Given as goal
@@ -8,6 +8,6 @@ abbrev pub invariant-loop-at : goal.invariant-loop-at
 invariant-loop-at l =
     All (λ t. IsOn l.scripts t) l.full.states.items
     × IsLonger l.initial.full.states.items l.full.states.items
-    × AreWitnesses l.scripts l.found.items
+    × AreNoted l.scripts l.found.items
     × IsLonger l.initial.found.items l.found.items
     × ((i : ℕ) → i < l.at → IsClosedAt l.scripts l.full.states.items l.found.items i)

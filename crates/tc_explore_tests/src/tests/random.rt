@@ -1,19 +1,11 @@
-//! Runs of random scripts on threads: the history of each report is a complete course of its scripts.
+//! Random scripts.
 ghost use Rattle.std.specs.Prelude.{◌<◌};
 
-use super::super::*;
-use crate::turns::{follow, is_complete};
 use std::alloc::Global;
 use std::process::Abort;
 use std::test::Fail;
-use tc_behaviour::ScriptJob;
-use tc_entry::{Entry, Reply};
-use tc_exec::{CaseReport, Everyone, run_case_with};
 use tc_step::{GroupPlace, Place, Places, Script, Status, Step, TargetPlace};
 use tc_verdict::{Run, UserVerdict};
-
-/// How many cases are run.
-const CASES: u64 = 600;
 
 /// Numbers that a seed determines.
 #[derive(Drop)]
@@ -109,6 +101,7 @@ fn script<R: Abort>(
     alloc: Global,
     random: &mut Random,
     is_main: bool,
+    longest: u32,
 ) -> Result<Script, Fail> {
     let mut steps = Vec::new(alloc);
     let parameters = if is_main { 0 } else { 1 };
@@ -119,99 +112,24 @@ fn script<R: Abort>(
         })?;
         steps.push(random.start())?;
     }
-    for _ in 0..random.below(6) {
+    for _ in 0..random.below(longest) {
         steps.push(random.step())?;
     }
     assert!(rt; Script::is_script(parameters, steps.as_slice()));
     Ok(Script::new(parameters, steps))
 }
 
-// The three scripts of a case.
-fn scripts<R: Abort>(rt: &R, alloc: Global, seed: u64) -> Result<Vec<Script>, Fail> {
+/// The three scripts of a case, each with fewer steps than that behind those that make and start a component.
+pub fn random_scripts<R: Abort>(
+    rt: &R,
+    alloc: Global,
+    seed: u64,
+    longest: u32,
+) -> Result<Vec<Script>, Fail> {
     let mut random = Random { state: seed };
     let mut scripts = Vec::new(alloc);
     for run in 0..3u16 {
-        scripts.push(script(rt, alloc, &mut random, run == 0)?)?;
+        scripts.push(script(rt, alloc, &mut random, run == 0, longest)?)?;
     }
     Ok(scripts)
-}
-
-// The callers of a history, one after the other.
-fn callers(alloc: Global, history: &[Entry]) -> Result<Vec<u16>, Fail> {
-    let mut callers = Vec::new(alloc);
-    for entry in history {
-        callers.push(entry.caller.0)?;
-    }
-    Ok(callers)
-}
-
-// Whether a report is of the course in which these called, and no run has a call left then.
-fn is_course<R: Abort>(
-    rt: &R,
-    alloc: Global,
-    scripts: &[Script],
-    report: &CaseReport,
-) -> Result<bool, Fail> {
-    assert!(rt; 1 <= scripts.len() && scripts.len() <= 64);
-    let schedule = callers(alloc, report.history.as_slice())?;
-    let course = follow(alloc, scripts, schedule.as_slice())?;
-    let same = course.history().len() == report.history.as_slice().len()
-        && course
-            .history()
-            .iter()
-            .zip(report.history.as_slice())
-            .all(|(one, other)| one.same(other));
-    Ok(same && is_complete(&course, scripts) && course.verdict() == report.verdict)
-}
-
-// What was met in the histories of reports.
-#[derive(Drop)]
-struct Met {
-    entries: usize,
-    parked: usize,
-    ended: usize,
-    faults: usize,
-}
-
-impl Met {
-    fn take(&mut self, history: &[Entry]) {
-        for entry in history {
-            self.entries = self.entries.saturating_add(1);
-            match entry.reply {
-                Reply::Parked => self.parked = self.parked.saturating_add(1),
-                Reply::Ended => self.ended = self.ended.saturating_add(1),
-                Reply::Fault(_) => self.faults = self.faults.saturating_add(1),
-                _ => {}
-            }
-        }
-    }
-}
-
-#[test]
-fn histories_of_runs_are_complete_courses(rt: HostRuntime) -> Result<(), Fail> {
-    let alloc = rt.alloc();
-    let mut met = Met {
-        entries: 0,
-        parked: 0,
-        ended: 0,
-        faults: 0,
-    };
-    for seed in 0..CASES {
-        let mut jobs = Vec::new(alloc);
-        for script in scripts(&rt, alloc, seed)? {
-            jobs.push(ScriptJob::new(rt, alloc, script))?;
-        }
-        let report = run_case_with(&rt, alloc, jobs, 2, &mut Everyone)?;
-        let scripts = scripts(&rt, alloc, seed)?;
-        assert!(rt;
-            is_course(&rt, alloc, scripts.as_slice(), &report)?,
-            "{seed}"
-        );
-        met.take(report.history.as_slice());
-    }
-    assert!(rt; met.entries > 2000, "{}", met.entries);
-    assert!(rt; met.parked > 40, "{}", met.parked);
-    assert!(rt; met.ended > 100, "{}", met.ended);
-    assert!(rt; met.faults > 100, "{}", met.faults);
-    Ok(())
 }

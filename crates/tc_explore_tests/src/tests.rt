@@ -1,13 +1,18 @@
 //! Test cases with one verdict and with several.
+mod details;
+mod play;
+mod random;
 mod runs;
+mod schedules;
 
-use super::*;
-use crate::search::search_reduced;
+use play::verdicts_of_all;
 use std::alloc::Global;
 use std::process::Abort;
 use std::test::Fail;
 use tc_entry::{Name, Op, Reply};
+use tc_explore::{Ending, Explored, explore};
 use tc_step::{GroupPlace, Place, Places, Script, Step, TargetPlace};
+use tc_table::replay_check;
 use tc_verdict::{Run, UserVerdict, Verdict};
 
 const P: Place = Place::Bound(0);
@@ -15,6 +20,9 @@ const P: Place = Place::Bound(0);
 const Q: Place = Place::Bound(1);
 
 const MANY: usize = 10_000;
+
+/// So many calls a plain search makes.
+const CALLS: usize = 200_000;
 
 fn create(alive: bool) -> Step {
     Step::Create { alive, name: None }
@@ -40,25 +48,39 @@ fn script<R: Abort>(rt: &R, steps: Vec<Step>) -> Script {
     Script::new(0, steps)
 }
 
-// The verdicts that were found, as they were found; of a search that misses none. The search with reductions alone finds the
-// same.
+// The verdicts of the witnesses, each judged by the component table.
+fn witnessed<R: Abort>(
+    rt: &R,
+    alloc: Global,
+    scripts: &[Script],
+    explored: &Explored,
+) -> Result<Vec<Verdict>, Fail> {
+    assert!(rt; 1 <= scripts.len() && scripts.len() <= 64);
+    let behaviours = scripts.len() as u16;
+    let mut verdicts = Vec::new(alloc);
+    for witness in explored.found.as_slice() {
+        let replayed = replay_check(alloc, behaviours, witness.history.as_slice())?;
+        assert_eq!(rt; replayed, witness.verdict);
+        verdicts.push(witness.verdict)?;
+    }
+    Ok(verdicts)
+}
+
+// Whether two lists, of which none holds a verdict twice, hold the same ones.
+fn are_same(one: &[Verdict], other: &[Verdict]) -> bool {
+    one.len() == other.len() && one.iter().all(|verdict| other.contains(verdict))
+}
+
+// The verdicts that a search found which misses none: those of all schedules, of each one witness, which has its verdict by
+// the component table.
 fn verdicts<R: Abort>(rt: &R, alloc: Global, scripts: &[Script]) -> Result<Vec<Verdict>, Fail> {
     assert!(rt; 1 <= scripts.len() && scripts.len() <= 64);
     let explored = explore(alloc, scripts, MANY)?;
     assert!(rt; explored.ending == Ending::Complete);
-    let mut verdicts = Vec::new(alloc);
-    for witness in explored.found.as_slice() {
-        verdicts.push(witness.verdict)?;
-    }
-    let mut found = Vec::new(alloc);
-    let extent = search_reduced(alloc, scripts, MANY, &mut found)?;
-    assert!(rt; extent.is_whole);
-    assert_eq!(rt; extent.states, explored.states);
-    assert_eq!(rt; found.len(), verdicts.len());
-    for witness in &found {
-        assert!(rt; verdicts.contains(&witness.verdict));
-    }
-    Ok(verdicts)
+    let found = witnessed(rt, alloc, scripts, &explored)?;
+    let all = verdicts_of_all(alloc, scripts, CALLS)?.ok_or("fewer calls")?;
+    assert!(rt; are_same(found.as_slice(), all.as_slice()));
+    Ok(found)
 }
 
 // A main behaviour that starts one on a component, with this step behind.
@@ -175,6 +197,30 @@ fn a_restart_comes_too_early_or_not(rt: HostRuntime) -> Result<(), Fail> {
     Ok(())
 }
 
+// Two components make one each and start a behaviour on it: which of these is the third component differs, also of the
+// behaviours that have ended.
+#[test]
+fn ended_behaviours_on_either_of_two_components(rt: HostRuntime) -> Result<(), Fail> {
+    let alloc = rt.alloc();
+    let steps = vec![in alloc;
+        create(false),
+        create(false),
+        start(P, 1),
+        start(Q, 2),
+        wait(TargetPlace::All),
+    ]?;
+    let scripts = vec![in alloc;
+        script(&rt, steps),
+        script(&rt, vec![in alloc; create(false), start(P, 3)]?),
+        script(&rt, vec![in alloc; create(false), start(P, 4)]?),
+        script(&rt, Vec::new(alloc)),
+        script(&rt, Vec::new(alloc)),
+    ]?;
+    let found = verdicts(&rt, alloc, scripts.as_slice())?;
+    assert!(rt; found.len() == 1 && found[0] == Verdict::None);
+    Ok(())
+}
+
 #[test]
 fn a_search_ends_at_its_limit(rt: HostRuntime) -> Result<(), Fail> {
     let alloc = rt.alloc();
@@ -189,6 +235,15 @@ fn a_search_ends_at_its_limit(rt: HostRuntime) -> Result<(), Fail> {
     }
     let explored = explore(alloc, scripts.as_slice(), 3)?;
     assert!(rt; explored.ending == Ending::Reduced);
+    Ok(())
+}
+
+#[test]
+fn without_behaviours_nothing_is_decided(rt: HostRuntime) -> Result<(), Fail> {
+    let explored = explore(rt.alloc(), &[], MANY)?;
+    assert!(rt; explored.ending == Ending::Undecided);
+    assert_eq!(rt; explored.states, 0);
+    assert!(rt; explored.found.as_slice().is_empty());
     Ok(())
 }
 
@@ -230,5 +285,3 @@ fn lines_and_statuses(rt: HostRuntime) -> Result<(), Fail> {
     assert_eq!(rt; out.as_slice(), wanted.as_bytes());
     Ok(())
 }
-
-mod details;
