@@ -1,5 +1,5 @@
 -- What is told of a refused text, besides its fault.
-use Rattle.std.specs.Prelude.{ℕ, ◌+◌, ◌-◌, ◌==◌, ◌&&◌, nat_le, nat_lt, Bool, true, false, if◌then◌else◌, Option, Some, None, List, [], ◌∷◌, ◌++◌, length, drop, codes, is_some, slice_get}
+use Rattle.std.specs.Prelude.{ℕ, ◌+◌, ◌-◌, ◌&&◌, nat_le, nat_lt, Bool, true, false, if◌then◌else◌, Option, Some, None, List, [], ◌∷◌, ◌++◌, length, drop, codes, slice_get}
 use Rattle.std.specs.List.{flat_map, position}
 use Rattle.std.specs.Fmt.{decimal}
 use Rattle.tc_line.specs.declared.kind.ScriptKind.{ScriptKind}

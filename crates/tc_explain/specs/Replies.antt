@@ -1,5 +1,5 @@
 -- What may stand at a place of a line of a history, word by word: an entry to the end of its reply, or the last line.
-use Rattle.std.specs.Prelude.{ℕ, suc, ◌&&◌, ◌||◌, nat_le, Bool, true, false, if◌then◌else◌, Option, Some, None, List, [], ◌∷◌, length, codes}
+use Rattle.std.specs.Prelude.{ℕ, suc, ◌&&◌, nat_le, Bool, true, false, if◌then◌else◌, Option, Some, None, List, [], ◌∷◌, codes}
 use Rattle.std.specs.List.{list_any}
 use Rattle.tc_line.specs.declared.line.Keyword.TheVariants as K
 use Rattle.tc_line.specs.Words.{is_text, keyword_text}
