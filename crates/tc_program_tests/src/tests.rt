@@ -1,15 +1,15 @@
 //! Worked cases, each a whole input with its whole output.
-use tc_program::carry_out::carry_out;
-use tc_program::check::check;
-use tc_program::fault::{RunFault, fault_line};
-use tc_program::outcome::Outcome;
-use tc_program::replay::replay;
 use std::alloc::{AllocError, Global};
 use std::process::Abort;
 use std::sync::Wait;
 use std::test::Fail;
 use std::thread::Threads;
 use tc_command::{Choice, Form, RunOptions, Task};
+use tc_program::carry_out::carry_out;
+use tc_program::check::check;
+use tc_program::fault::{RunFault, fault_line};
+use tc_program::outcome::Outcome;
+use tc_program::replay::replay;
 
 mod campaigns;
 mod choosing;

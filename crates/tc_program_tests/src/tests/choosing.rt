@@ -1,8 +1,8 @@
 //! Test cases that are chosen, and lists of them.
 use super::*;
+use tc_campaign::Shard;
 use tc_program::answer::answer;
 use tc_program::choosing::shard_of;
-use tc_campaign::Shard;
 
 const SCRIPT: &str =
     "testcase a;behaviour main;setverdict pass;end;end;testcase b;behaviour main;setverdict fail;end;end;testcase c;behaviour main;end;end;testcase d;behaviour main;setverdict inconc;end;end";

@@ -2,13 +2,13 @@
 ghost use Rattle.tc_campaign.specs.Outline.{HasNames};
 
 use super::*;
-use tc_program::jobs::run_script;
-use tc_program::run::{Options, run_cases, run_cases_live};
 use tc_behaviour::{Behaviour, ScriptJob};
 use tc_book::open_case;
 use tc_campaign::{Case, Form as ReportForm};
 use tc_entry::Name;
 use tc_exec::{Callable, Ending, Job};
+use tc_program::jobs::run_script;
+use tc_program::run::{Options, run_cases, run_cases_live};
 use tc_script::read_campaign;
 use tc_stream::devices::{NarrowWriter, WriteFailure};
 

@@ -1,12 +1,12 @@
 //! Forms of histories, and histories that are refused.
 use super::{lines, text_of};
-use tc_program::fault::RunFault;
-use tc_program::outcome::Outcome;
-use tc_program::report::report;
 use std::alloc::AllocGlobal;
 use std::process::Abort;
 use std::test::Fail;
 use tc_command::ReportForm;
+use tc_program::fault::RunFault;
+use tc_program::outcome::Outcome;
+use tc_program::report::report;
 
 // Reports the input, and compares what is written, what is told, and the status.
 fn reports<R: Abort + AllocGlobal>(

@@ -1,7 +1,7 @@
 //! The line before an input that is typed.
 use super::*;
-use tc_program::terminal::{Announcing, awaited_line};
 use std::io::Read;
+use tc_program::terminal::{Announcing, awaited_line};
 use tc_stream::devices::{NarrowWriter, SlowReader, WriteFailure};
 
 #[test]

@@ -1,9 +1,9 @@
 //! Command lines.
 use super::*;
-use tc_program::answer::{answer, answer_no_task, answer_unread};
 use clap::error::ErrorKind;
 use std::{io, str};
 use tc_command::read_task;
+use tc_program::answer::{answer, answer_no_task, answer_unread};
 use tc_stream::devices::{NarrowWriter, SlowReader, WriteFailure};
 
 #[test]
