@@ -7,6 +7,8 @@ from case import Case
 
 STEPS = "end create start stop kill stopcase running alive done killed wait setverdict getverdict"
 VERBS = "create start stop kill stopcase running alive done killed wait setverdict getverdict wake finish"
+REPLIES = "made ok true false none pass inconc fail error matched parked ended"
+ERRORS = "no-component not-main start-main already-running not-startable no-behaviour too-many stuck"
 IN_BEHAVIOUR = ("  a behaviour began in line 2", "  a test case began in line 1")
 IN_HISTORY = ("  a history began in line 1",)
 RETURN = "a carriage return; a line ends with a line feed alone"
@@ -68,9 +70,20 @@ MOVE_LINES: List[Tuple[str, str, Tuple[str, ...]]] = [
 # Name, line 2 of a history, what is told of it.
 ENTRY_LINES: List[Tuple[str, str, Tuple[str, ...]]] = [
     ("no_reply", "0 finish", ("column 9: the end of the line", "understood there: -> and a reply")),
-    ("a_reply_that_is_none", "0 finish -> oki", ("column 13: `oki`", "understood there: a reply")),
+    ("no_arrow", "0 finish ok", ("column 10: `ok`", "understood there: -> and a reply")),
+    ("nothing_behind_the_arrow", "0 finish ->", ("column 12: the end of the line", f"understood there: {REPLIES}")),
+    ("a_reply_that_is_none", "0 finish -> oki", ("column 13: `oki`", f"understood there: {REPLIES}", "nearest: ok")),
+    ("a_reply_like_no_other", "0 finish -> done", ("column 13: `done`", f"understood there: {REPLIES}", "nearest: none")),
+    ("made_without_its_number", "0 create -> made",
+     ("column 17: the end of the line", "understood there: the number of a component")),
+    ("an_error_misspelt", "0 stop 1 -> error no-componant",
+     ("column 19: `no-componant`", f"understood there: {ERRORS}, or the end of the line", "nearest: no-component")),
+    ("a_word_behind_the_reply", "0 finish -> ok now", ("column 16: `now`", "understood there: the end of the line")),
+    ("a_reply_with_a_zero", "0 create -> made 01",
+     ("a number is too large or begins with 0, there are more than 4 arguments, or a history of format 1 names a component",)),
     ("no_verdict", "end passed", ("column 5: `passed`", "understood there: none, pass, inconc, fail or error")),
-    ("a_history_in_a_history", "history 2 b 1", ("column 1: `history`", "understood there: the number of a run")),
+    ("a_word_behind_the_verdict", "end none 1", ("column 10: `1`", "understood there: the end of the line")),
+    ("a_history_in_a_history", "history 2 b 1", ("column 1: `history`", "understood there: the number of a run, or end")),
 ]
 
 # Name, the words before --explain, the whole input, what is told: the fault, and the notes.

@@ -1,5 +1,5 @@
 -- What is told of a refused text, besides its fault.
-use Rattle.std.specs.Prelude.{ℕ, ◌+◌, ◌-◌, ◌==◌, ◌&&◌, nat_le, nat_lt, Bool, true, false, if◌then◌else◌, Option, Some, None, List, [], ◌∷◌, ◌++◌, length, drop, codes, is_some, slice_get}
+use Rattle.std.specs.Prelude.{ℕ, ◌+◌, ◌-◌, ◌&&◌, nat_le, nat_lt, Bool, true, false, if◌then◌else◌, Option, Some, None, List, [], ◌∷◌, ◌++◌, length, drop, codes, slice_get}
 use Rattle.std.specs.List.{flat_map, position}
 use Rattle.std.specs.Fmt.{decimal}
 use Rattle.tc_line.specs.declared.kind.ScriptKind.{ScriptKind}
@@ -17,7 +17,8 @@ use Rattle.tc_explain.specs.declared.slot.Slot.TheVariants as P
 use Rattle.tc_explain.specs.declared.stop.Stop.{Stop}
 use Rattle.tc_explain.specs.Quote.{quoted}
 use Rattle.tc_explain.specs.Scan.{Found, find, nothing, seems}
-use Rattle.tc_explain.specs.Slots.{entry_stop, may_end, slot_text, walk}
+use Rattle.tc_explain.specs.Slots.{may_end, slot_text, walk}
+use Rattle.tc_explain.specs.Replies.{entry_stop, fault_words, is_whole, reply_words}
 use Rattle.tc_explain.specs.Places.{is_odd, odd_text, spaced, starts}
 use Rattle.tc_explain.specs.Nearest.{all_words, move_words, near_word, script_words}
 
@@ -70,6 +71,10 @@ listed word = 32 ∷ word
 abbrev pub list_note : List (List ℕ) → List ℕ
 list_note table = codes "  understood there:" ++ (flat_map listed table ++ (10 ∷ []))
 
+-- the same, where the line may end there too
+unfoldable pub open_list_note : List (List ℕ) → List ℕ
+open_list_note table = codes "  understood there:" ++ (flat_map listed table ++ (codes ", or the end of the line" ++ (10 ∷ [])))
+
 -- the nearest word, where there is one
 abbrev pub near_note : Option (List ℕ) → List ℕ
 near_note None = []
@@ -89,6 +94,8 @@ stopped_at (Some word) = quoted word
 abbrev pub wanted : Opened → Slot → Option (List ℕ) → List ℕ
 wanted o P.Keyword word = list_note (script_words o) ++ nearest_note word all_words
 wanted o P.Verb word = list_note move_words ++ nearest_note word move_words
+wanted o P.Reply word = list_note reply_words ++ nearest_note word reply_words
+wanted o P.Error word = open_list_note fault_words ++ nearest_note word fault_words
 wanted o slot word = wanted_note (slot_text slot)
 
 -- the word at a place of the line, with its column
@@ -125,10 +132,18 @@ abbrev pub move_note : Opened → List ℕ → Stop → List ℕ
 move_note o line stop =
     if may_end stop.slot && nat_le (length (words line)) stop.place then note number_text else stop_note o line stop
 
+-- what is wrong with an entry each word of which may stand where it stands
+abbrev pub entry_text : List ℕ
+entry_text = codes "a number is too large or begins with 0, there are more than 4 arguments, or a history of format 1 names a component"
+
+-- what is wrong with a line of histories
+abbrev pub entry_note : Opened → List ℕ → Stop → List ℕ
+entry_note o line stop = if is_whole stop (length (words line)) then note entry_text else stop_note o line stop
+
 -- what is wrong with a line of moves or of histories
 abbrev pub text_note : Bool → TextKind → Opened → List ℕ → List ℕ
 text_note moves T.Move o line = move_note o line (walk true P.Run 0 (words line))
-text_note moves T.Entry o line = stop_note o line (entry_stop (words line))
+text_note moves T.Entry o line = entry_note o line (entry_stop (words line))
 text_note true T.FirstLine o line = wanted_note (codes "behaviours N, with N from 1 to 256")
 text_note false T.FirstLine o line = wanted_note (codes "history F NAME N, with F 1 or 2, and N from 1 to 64 or to 256")
 text_note moves T.Early o line = []

@@ -2,6 +2,7 @@
 pub mod Quote
 pub mod Scan
 pub mod Slots
+pub mod Replies
 pub mod Places
 pub mod Nearest
 pub mod Explanation

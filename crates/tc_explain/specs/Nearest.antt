@@ -1,5 +1,5 @@
 -- The keywords that may stand at a place, and the nearest to a word.
-use Rattle.std.specs.Prelude.{ℕ, ◌*◌, nat_le, nat_eq, max, Bool, true, false, if◌then◌else◌, Option, Some, None, List, [], ◌∷◌, ◌++◌, length, map, filter, is_some}
+use Rattle.std.specs.Prelude.{ℕ, ◌≡◌, ◌<◌, ◌≤◌, ◌⊎◌, ◌*◌, nat_le, nat_eq, max, Bool, true, false, if◌then◌else◌, Option, Some, None, List, [], ◌∷◌, ◌++◌, length, map, filter, All}
 use Rattle.strsim.specs.Edits.{levenshtein_row}
 use Rattle.tc_line.specs.declared.line.Keyword.{Keyword}
 use Rattle.tc_line.specs.declared.line.Keyword.TheVariants as K
@@ -65,3 +65,9 @@ helpful word (Some near) = if nat_le (3 * distance word near) (max 3 (length wor
 -- the nearest word of the table that helps, for a word that is not long
 abbrev pub near_word : List ℕ → List (List ℕ) → Option (List ℕ)
 near_word word table = if nat_le (length word) 16 then helpful word (nearest word table) else None
+
+-- the word is the first of the nearest in the table: no other is nearer, and each before it is farther
+abbrev pub IsFirstNearest : List ℕ → List ℕ → List (List ℕ) → Type 0
+IsFirstNearest word near [] = ⊥
+IsFirstNearest word near (w ∷ ws) =
+    ((near ≡ w) × All (λ other. distance word w ≤ distance word other) ws) ⊎ ((distance word near < distance word w) × IsFirstNearest word near ws)

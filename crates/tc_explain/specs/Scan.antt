@@ -1,5 +1,5 @@
 -- What a text seems to be, and what is open before one of its lines.
-use Rattle.std.specs.Prelude.{ℕ, suc, ◌==◌, ◌||◌, nat_le, Bool, true, false, if◌then◌else◌, Option, Some, None, is_some, List, [], ◌∷◌, codes, slice_index}
+use Rattle.std.specs.Prelude.{ℕ, suc, ◌==◌, ◌||◌, nat_le, true, false, if◌then◌else◌, Option, Some, None, is_some, List, [], ◌∷◌, codes, slice_index}
 use Rattle.std.specs.List.{list_any}
 use Rattle.tc_line.specs.declared.line.Keyword.{Keyword}
 use Rattle.tc_line.specs.declared.line.Keyword.TheVariants as K

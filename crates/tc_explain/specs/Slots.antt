@@ -1,5 +1,5 @@
 -- What may stand at a place of a line, word by word.
-use Rattle.std.specs.Prelude.{ℕ, suc, ◌==◌, ◌&&◌, ◌||◌, not, nat_le, Bool, true, false, if◌then◌else◌, Option, Some, None, is_some, is_ok, List, [], ◌∷◌, length, codes, slice_get}
+use Rattle.std.specs.Prelude.{ℕ, suc, ◌==◌, ◌&&◌, ◌||◌, not, nat_le, Bool, true, false, if◌then◌else◌, Option, Some, None, is_some, is_ok, List, [], ◌∷◌, length, codes}
 use Rattle.std.specs.List.{list_all}
 use Rattle.tc_line.specs.declared.line.Keyword.{Keyword}
 use Rattle.tc_line.specs.declared.line.Keyword.TheVariants as K
@@ -84,11 +84,15 @@ next moves S.Target w = slot_if (is_text w (codes "any") || is_text w (codes "al
 next moves S.Status w = slot_if (is_text w (keyword_text (K.Ask Q.Done)) || is_text w (keyword_text (K.Ask Q.Killed))) S.Target
 next moves S.Verdict w = slot_if (is_some (verdict w)) S.End
 next moves S.End w = None
+next moves S.Entry w = None
 next moves S.Arrow w = None
 next moves S.Reply w = None
+next moves S.Made w = None
+next moves S.Error w = None
 next moves S.Overall w = None
+next moves S.LineEnd w = None
 
--- the line may end here
+-- the call may end here
 abbrev pub may_end : Slot → Bool
 may_end S.Parameters = true
 may_end S.Kind = true
@@ -123,26 +127,10 @@ slot_text S.Target = codes "any, all or a component"
 slot_text S.Status = codes "done or killed"
 slot_text S.Verdict = codes "none, pass, inconc or fail"
 slot_text S.End = codes "the end of the call"
+slot_text S.Entry = codes "the number of a run, or end"
 slot_text S.Arrow = codes "-> and a reply"
 slot_text S.Reply = codes "a reply"
+slot_text S.Made = codes "the number of a component"
+slot_text S.Error = codes "the name of a dynamic error, or the end of the line"
 slot_text S.Overall = codes "none, pass, inconc, fail or error"
-
--- where a line of a history stops whose move ends here
-abbrev pub behind_move : Stop → Option (List ℕ) → Stop
-behind_move stop None = record { place = stop.place; slot = S.Arrow }
-behind_move stop (Some w) = if is_text w (codes "->") then record { place = suc stop.place; slot = S.Reply } else stop
-
--- the first word is this one
-abbrev pub first_is : List ℕ → List (List ℕ) → Bool
-first_is text [] = false
-first_is text (w ∷ ws) = is_text w text
-
--- where a line of a history stops that stops so as a move
-abbrev pub move_end : Stop → List (List ℕ) → Stop
-move_end stop words = if may_end stop.slot then behind_move stop (slice_get words stop.place) else stop
-
--- the first word that may not stand where it stands in a line of a history
-abbrev pub entry_stop : List (List ℕ) → Stop
-entry_stop words =
-    if first_is (keyword_text K.End) words then record { place = 1; slot = S.Overall }
-    else move_end (walk true S.Run 0 words) words
+slot_text S.LineEnd = codes "the end of the line"

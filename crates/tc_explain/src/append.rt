@@ -1,7 +1,7 @@
 //! The lines of an explanation.
 ghost use Rattle.std.specs.Prelude.{◌≡◌, ◌<◌, ◌+◌, ◌^◌, ◌++◌, OnOk, map, option_copied};
 ghost use Rattle.std.specs.List.{flat_map};
-ghost use Rattle.tc_explain.specs.Explanation.{began, begun, column_text, last_number, list_note, listed, near_note, nearest_note, note, stopped_at, wanted_note};
+ghost use Rattle.tc_explain.specs.Explanation.{began, begun, column_text, last_number, list_note, listed, near_note, nearest_note, note, open_list_note, stopped_at, wanted_note};
 
 use crate::nearest::near_word;
 use crate::quote::append_quoted;
@@ -76,6 +76,18 @@ pub(crate) fn append_list(out: &mut Vec<u8>, words: &[&str]) -> Result<(), NoMem
 {
     append_text(out, "  understood there:")?;
     append_words(out, words)?;
+    out.push(b'\n')?;
+    Ok(())
+}
+
+/// The same, where the line may end there too.
+#[tactic(auto, unfolding(crate::specs::Explanation::open_list_note))]
+pub(crate) fn append_open_list(out: &mut Vec<u8>, words: &[&str]) -> Result<(), NoMemory>
+    ensures { OnOk result (out.new.items ≡ out.old.items ++ open_list_note (map (λ w. w.now) words.now)) }
+{
+    append_text(out, "  understood there:")?;
+    append_words(out, words)?;
+    append_text(out, ", or the end of the line")?;
     out.push(b'\n')?;
     Ok(())
 }

@@ -6,6 +6,7 @@ mod nearest;
 mod odd;
 mod places;
 mod quote;
+mod reply;
 mod scan;
 mod slot;
 mod sort;

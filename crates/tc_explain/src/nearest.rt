@@ -1,7 +1,7 @@
 //! The keywords that may stand at a place, and the nearest to a word.
 ghost use Rattle.std.specs.Prelude.{◌≡◌, ◌≤◌, ◌*◌, nat_le, max, IfOk, IfSome, Some, map, option_copied, option_map};
 ghost use Rattle.tc_line.specs.Words.{keyword_text};
-ghost use Rattle.tc_explain.specs.Nearest.{all_words as words_of_scripts, distance, is_step as step_test, may_stand, move_words as words_of_moves, near_word as near_of, nearest as nearest_of, script_words as words_at, spelled};
+ghost use Rattle.tc_explain.specs.Nearest.{IsFirstNearest, all_words as words_of_scripts, distance, is_step as step_test, may_stand, move_words as words_of_moves, near_word as near_of, nearest as nearest_of, script_words as words_at, spelled};
 
 use crate::scan::Opened;
 use crate::slot::{FINISH, WAKE};
@@ -135,12 +135,14 @@ fn helps(distance: usize, letters: usize) -> bool
 }
 
 /// The nearest word of the table that helps, for a word that is not long.
+#[tactic(auto, using(crate::proofs::Least::told_is))]
 pub(crate) fn near_word<'t>(
     alloc: Global,
     word: &[u8],
     table: &[&'t str],
 ) -> Result<Option<&'t str>, NoMemory>
-    ensures { IfOk result (λ n. option_copied n ≡ near_of word.now (map (λ w. w.now) table.now)) }
+    ensures is { IfOk result (λ n. option_copied n ≡ near_of word.now (map (λ w. w.now) table.now)) }
+    ensures least { IfOk result (λ n. IfSome (option_copied n) (λ near. IsFirstNearest word.now near (map (λ w. w.now) table.now))) }
 {
     if word.len() > 16 {
         return Ok(None);

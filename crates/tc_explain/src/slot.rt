@@ -52,12 +52,20 @@ pub(crate) enum Slot {
     Verdict,
     /// Nothing more.
     End,
+    /// The first word of a line of a history.
+    Entry,
     /// The arrow behind a move of a history.
     Arrow,
     /// The reply behind the arrow.
     Reply,
+    /// The component that was made.
+    Made,
+    /// The name of a dynamic error, or no more.
+    Error,
     /// The overall verdict of a history.
     Overall,
+    /// The end of a line of a history.
+    LineEnd,
 }
 
 // Whether each byte is a digit.
@@ -67,8 +75,8 @@ fn has_digits(word: &[u8]) -> bool
     word.iter().all(|byte| 48 <= *byte && *byte <= 57)
 }
 
-// Whether the word is of digits.
-fn is_digits(word: &[u8]) -> bool
+/// Whether the word is of digits.
+pub(crate) fn is_digits(word: &[u8]) -> bool
     ensures { result ≡ digits word.now }
 {
     !word.is_empty() && has_digits(word)
@@ -146,8 +154,8 @@ fn behind_verb(word: &[u8]) -> Option<Slot>
     }
 }
 
-// The slot, where the word may stand.
-fn slot_where(stands: bool, slot: Slot) -> Option<Slot>
+/// The slot, where the word may stand.
+pub(crate) fn slot_where(stands: bool, slot: Slot) -> Option<Slot>
     ensures { result ≡ slot_if stands slot }
 {
     if stands { Some(slot) } else { None }
@@ -190,11 +198,13 @@ impl Slot {
                 slot_where(stands, Slot::Target)
             }
             Slot::Verdict => slot_where(read_verdict(word).is_some(), Slot::End),
-            Slot::End | Slot::Arrow | Slot::Reply | Slot::Overall => None,
+            Slot::End => None,
+            Slot::Entry | Slot::Arrow | Slot::Reply | Slot::Made => None,
+            Slot::Error | Slot::Overall | Slot::LineEnd => None,
         }
     }
 
-    /// Whether the line may end here.
+    /// Whether the call may end here.
     pub(crate) fn may_end(self) -> bool
         ensures { result ≡ may_end self }
     {
@@ -227,9 +237,13 @@ impl Slot {
             Slot::Status => "done or killed",
             Slot::Verdict => "none, pass, inconc or fail",
             Slot::End => "the end of the call",
+            Slot::Entry => "the number of a run, or end",
             Slot::Arrow => "-> and a reply",
             Slot::Reply => "a reply",
+            Slot::Made => "the number of a component",
+            Slot::Error => "the name of a dynamic error, or the end of the line",
             Slot::Overall => "none, pass, inconc, fail or error",
+            Slot::LineEnd => "the end of the line",
         }
     }
 }

@@ -1,12 +1,11 @@
 //! Where a line stops to be understood.
 ghost use Rattle.std.specs.Prelude.{◌≡◌, false, map, true};
-ghost use Rattle.tc_line.specs.declared.line.Keyword.TheVariants as K;
-ghost use Rattle.tc_line.specs.Words.{keyword_text};
 ghost use Rattle.tc_explain.specs.declared.slot.Slot.TheVariants as S;
-ghost use Rattle.tc_explain.specs.Slots.{behind_move, entry_stop as entry_end, first_is, move_end as behind, walk};
+ghost use Rattle.tc_explain.specs.Slots.{walk};
+ghost use Rattle.tc_explain.specs.Replies.{entry_stop as entry_end, is_whole as whole};
 
+use crate::reply::{arrow_at, entry_ends, entry_next};
 use crate::slot::Slot;
-use tc_line::{Keyword, is_word};
 
 /// The place, among the words of a line, of the first that may not stand where it stands, and what may stand there. Where
 /// each may, the place of the end.
@@ -47,45 +46,27 @@ pub(crate) fn move_stop(words: &[&[u8]]) -> Stop
     walk_from(true, Slot::Run, words)
 }
 
-// Whether the first word is that of the end.
-fn begins_end(words: &[&[u8]]) -> bool
-    ensures { result ≡ first_is (keyword_text K.End) (map (λ w. w.now) words.now) }
-{
-    match words {
-        [first, ..] => is_word(first, Keyword::End.text().as_bytes()),
-        [] => false,
-    }
-}
-
-// Where a line of a history stops that stops so as a move.
-fn behind_move_of(stop: Stop, words: &[&[u8]]) -> Stop
-    ensures { result ≡ behind stop (map (λ w. w.now) words.now) }
-{
-    if !stop.slot.may_end() {
-        return stop;
-    }
-    match words.get(stop.place) {
-        None => Stop {
-            place: stop.place,
-            slot: Slot::Arrow,
-        },
-        Some(word) if is_word(word, b"->") => Stop {
-            place: stop.place + 1,
-            slot: Slot::Reply,
-        },
-        Some(_) => stop,
-    }
-}
-
 /// Where a line of a history stops.
 pub(crate) fn entry_stop(words: &[&[u8]]) -> Stop
     ensures { result ≡ entry_end (map (λ w. w.now) words.now) }
 {
-    if begins_end(words) {
-        return Stop {
-            place: 1,
-            slot: Slot::Overall,
+    let mut slot = Slot::Entry;
+    for (place, word) in words.iter().enumerate() {
+        let Some(behind) = entry_next(slot, word) else {
+            let slot = arrow_at(false, slot);
+            return Stop { place, slot };
         };
+        slot = behind;
     }
-    behind_move_of(move_stop(words), words)
+    Stop {
+        place: words.len(),
+        slot: arrow_at(true, slot),
+    }
+}
+
+/// Whether each word of a line of a history, of so many, may stand where it stands.
+pub(crate) fn is_whole(stop: Stop, count: usize) -> bool
+    ensures { result ≡ whole stop count }
+{
+    entry_ends(stop.slot) && count <= stop.place
 }

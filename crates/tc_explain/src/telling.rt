@@ -5,20 +5,22 @@ ghost use Rattle.tc_line.specs.Text.{lines, words as words_of};
 ghost use Rattle.tc_explain.specs.declared.slot.Slot.TheVariants as S;
 ghost use Rattle.tc_explain.specs.Places.{is_odd};
 ghost use Rattle.tc_explain.specs.Slots.{walk};
-ghost use Rattle.tc_explain.specs.Explanation.{byte_note, ended_note, explanation, kind_note, line_note, move_note, open_note, place_note, rule_text, script_note, shown_line, sort_note, spaced_note, stop_note, text_note, wanted};
+ghost use Rattle.tc_explain.specs.Replies.{entry_stop as entry_end};
+ghost use Rattle.tc_explain.specs.Explanation.{byte_note, ended_note, entry_note, explanation, kind_note, line_note, move_note, open_note, place_note, rule_text, script_note, shown_line, sort_note, spaced_note, stop_note, text_note, wanted};
 
 use crate::append::{
     append_begun, append_column, append_last_number, append_list, append_nearest, append_note,
-    append_stopped, append_wanted,
+    append_open_list, append_stopped, append_wanted,
 };
 use crate::nearest::{all_words, move_words, script_words};
 use crate::odd::{append_odd, odd_place};
 use crate::places::{space_of, start_of};
 use crate::quote::append_quoted;
+use crate::reply::{fault_table, reply_table};
 use crate::scan::{Opened, find_line};
 use crate::slot::Slot;
 use crate::sort::{Refusal, Sort, seen_sort};
-use crate::stop::{Stop, entry_stop, move_stop, script_stop};
+use crate::stop::{Stop, entry_stop, is_whole, move_stop, script_stop};
 use std::alloc::Global;
 use tc_line::{ScriptKind, read_words};
 use tc_text::{TextKind, append_text};
@@ -80,6 +82,14 @@ fn append_slot(
             let table = move_words(alloc)?;
             append_list(out, table.as_slice())?;
             append_nearest(alloc, out, word, table.as_slice())
+        }
+        Slot::Reply => {
+            append_list(out, reply_table())?;
+            append_nearest(alloc, out, word, reply_table())
+        }
+        Slot::Error => {
+            append_open_list(out, fault_table())?;
+            append_nearest(alloc, out, word, fault_table())
         }
         _ => append_wanted(out, slot.text()),
     }
@@ -166,6 +176,27 @@ fn append_move(
     append_stop(alloc, out, opened, line, words, stop)
 }
 
+// Appends what is wrong with a line of histories.
+fn append_entry(
+    alloc: Global,
+    out: &mut Vec<u8>,
+    opened: Opened,
+    line: &[u8],
+    words: &[&[u8]],
+) -> Result<(), NoMemory>
+    requires { map (λ w. w.now) words.now ≡ words_of line.now }
+    ensures { OnOk result (out.new.items ≡ out.old.items ++ entry_note opened line.now (entry_end (words_of line.now))) }
+{
+    let stop = entry_stop(words);
+    if is_whole(stop, words.len()) {
+        return append_note(
+            out,
+            "a number is too large or begins with 0, there are more than 4 arguments, or a history of format 1 names a component",
+        );
+    }
+    append_stop(alloc, out, opened, line, words, stop)
+}
+
 // Appends what is wrong with a line of moves or of histories.
 fn append_text_note(
     alloc: Global,
@@ -181,7 +212,7 @@ fn append_text_note(
 {
     match kind {
         TextKind::Move => append_move(alloc, out, opened, line, words),
-        TextKind::Entry => append_stop(alloc, out, opened, line, words, entry_stop(words)),
+        TextKind::Entry => append_entry(alloc, out, opened, line, words),
         TextKind::FirstLine if moves => append_wanted(out, "behaviours N, with N from 1 to 256"),
         TextKind::FirstLine => append_wanted(
             out,

@@ -1,10 +1,11 @@
 //! Explanations, by text.
+use crate::reply::{fault_table, reply_table};
 use crate::{Refusal, explain};
 use std::alloc::Global;
 use std::process::Abort;
 use std::test::Fail;
 use tc_line::ScriptKind;
-use tc_text::{TextKind, read_move};
+use tc_text::{TextKind, read_move, read_reply};
 
 fn expect(
     rt: &impl Abort,
@@ -207,6 +208,29 @@ fn lines_of_moves(rt: HostRuntime) -> Result<(), Fail> {
     Ok(())
 }
 
+// What is told of a line of a history.
+fn expect_entry(
+    rt: &impl Abort,
+    alloc: Global,
+    line: &str,
+    place: &str,
+    wanted: &str,
+) -> Result<(), Fail> {
+    let text = format!(in alloc; "history 1 a 1\n{line}\n")?;
+    let told = format!(in alloc;
+        "  line: `{line}`\n  {place}\n{wanted}  a history began in line 1\n"
+    )?;
+    let refusal = Refusal::Histories(TextKind::Entry);
+    expect(
+        rt,
+        alloc,
+        text.as_str().as_bytes(),
+        2,
+        refusal,
+        told.as_str(),
+    )
+}
+
 #[test]
 fn lines_of_histories(rt: HostRuntime) -> Result<(), Fail> {
     let lines = [
@@ -215,28 +239,97 @@ fn lines_of_histories(rt: HostRuntime) -> Result<(), Fail> {
             "column 9: the end of the line",
             "-> and a reply",
         ),
-        ("0 finish -> oki", "column 13: `oki`", "a reply"),
-        ("0 finish ok", "column 10: `ok`", "the end of the call"),
+        (
+            "0 create",
+            "column 9: the end of the line",
+            "-> and a reply",
+        ),
+        ("0 finish ok", "column 10: `ok`", "-> and a reply"),
+        ("0 finish - > ok", "column 10: `-`", "-> and a reply"),
+        (
+            "0 create ok",
+            "column 10: `ok`",
+            "alive, named, or the end of the call",
+        ),
+        (
+            "x finish -> ok",
+            "column 1: `x`",
+            "the number of a run, or end",
+        ),
         (
             "end passed",
             "column 5: `passed`",
             "none, pass, inconc, fail or error",
         ),
+        ("end pass 1", "column 10: `1`", "the end of the line"),
     ];
-    for (line, place, wanted) in lines {
-        let text = format!(in rt.alloc(); "history 1 a 1\n{line}\n")?;
-        let told = format!(in rt.alloc();
-            "  line: `{line}`\n  {place}\n  understood there: {wanted}\n  a history began in line 1\n"
-        )?;
-        let refusal = Refusal::Histories(TextKind::Entry);
-        expect(
-            &rt,
-            rt.alloc(),
-            text.as_str().as_bytes(),
-            2,
-            refusal,
-            told.as_str(),
-        )?;
+    for (line, place, what) in lines {
+        let wanted = format!(in rt.alloc(); "  understood there: {what}\n")?;
+        expect_entry(&rt, rt.alloc(), line, place, wanted.as_str())?;
+    }
+    Ok(())
+}
+
+#[test]
+fn replies_of_histories(rt: HostRuntime) -> Result<(), Fail> {
+    let replies =
+        "  understood there: made ok true false none pass inconc fail error matched parked ended\n";
+    let faults =
+        "  understood there: no-component not-main start-main already-running not-startable no-behaviour too-many stuck, or the end of the line\n";
+    let number = "  understood there: the number of a component\n";
+    let end = "  understood there: the end of the line\n";
+    let lines = [
+        ("0 finish ->", "column 12: the end of the line", replies, ""),
+        (
+            "0 create -> mad 1",
+            "column 13: `mad`",
+            replies,
+            "  nearest: made\n",
+        ),
+        (
+            "0 wait done 1 -> matchd",
+            "column 18: `matchd`",
+            replies,
+            "  nearest: matched\n",
+        ),
+        (
+            "0 create -> made",
+            "column 17: the end of the line",
+            number,
+            "",
+        ),
+        ("0 create -> made p", "column 18: `p`", number, ""),
+        ("0 create -> made 1 2", "column 20: `2`", end, ""),
+        ("0 finish -> ok now", "column 16: `now`", end, ""),
+        ("0 finish -> ok -> ok", "column 16: `->`", end, ""),
+        (
+            "0 stop 1 -> error no-componant",
+            "column 19: `no-componant`",
+            faults,
+            "  nearest: no-component\n",
+        ),
+        ("0 stop 1 -> error stuck 1", "column 25: `1`", end, ""),
+    ];
+    for (line, place, wanted, near) in lines {
+        let both = format!(in rt.alloc(); "{wanted}{near}")?;
+        expect_entry(&rt, rt.alloc(), line, place, both.as_str())?;
+    }
+    Ok(())
+}
+
+#[test]
+fn entries_of_words_that_may_stand(rt: HostRuntime) -> Result<(), Fail> {
+    let told =
+        "a number is too large or begins with 0, there are more than 4 arguments, or a history of format 1 names a component";
+    let lines = [
+        "0 create -> made 01",
+        "65536 finish -> ok",
+        "0 start 1 1 0 0 0 0 0 -> error too-many",
+        "0 create named p -> made 1",
+        "0 create alive named p -> error",
+    ];
+    for line in lines {
+        expect_entry(&rt, rt.alloc(), line, told, "")?;
     }
     Ok(())
 }
@@ -258,4 +351,20 @@ fn long_lines_are_cut(rt: HostRuntime) -> Result<(), Fail> {
 fn moves_of_the_words_that_are_no_keywords(rt: HostRuntime) {
     assert!(&rt; read_move(b"0 finish").is_some());
     assert!(&rt; read_move(b"0 wake done all").is_some());
+}
+
+#[test]
+fn replies_of_the_words_that_begin_one(rt: HostRuntime) -> Result<(), Fail> {
+    for word in reply_table() {
+        let text = match *word {
+            "made" => "made 1",
+            word => word,
+        };
+        assert!(&rt; read_reply(text.as_bytes()).is_some(), "{text}");
+    }
+    for word in fault_table() {
+        let text = format!(in rt.alloc(); "error {word}")?;
+        assert!(&rt; read_reply(text.as_str().as_bytes()).is_some(), "{word}");
+    }
+    Ok(())
 }

@@ -1,5 +1,5 @@
 -- A fault of an input that was kept, and what is told of it.
-use Rattle.std.proofs.Common.{ℕ, ◌≡◌, Bool, true, false, Option, Some, None, Result, Ok, Err, IfErr, List}
+use Rattle.std.proofs.Common.{ℕ, Bool, true, false, Option, Result, Ok, Err, IfErr, List}
 use Rattle.tc_text.specs.declared.fault.TextFault.TheVariants as T
 use Rattle.tc_program.specs.declared.fault.RunFault.{RunFault}
 use Rattle.tc_program.specs.declared.fault.RunFault.TheVariants as F

@@ -29,6 +29,7 @@ use Rattle.tc_report.specs.declared.form.Form.TheVariants as ReportForms
 use Rattle.tc_program.specs.Inside.{of_output}
 use Rattle.tc_program.specs.Streams.{Streams}
 use Rattle.tc_program.specs.Tell.{IsToldAlways}
+use Rattle.tc_program.specs.Explore.{IsNoStates, IsStatesOf}
 use Rattle.tc_program.specs.Run.{IsCutShort, IsRuleOf, IsRun, IsNoName, RefusesWord}
 
 -- what holds where there is no error
@@ -51,6 +52,12 @@ refused_word word (Err F.StopOn) taken refused unnamed = refl
 refused_word word (Err F.States) taken refused unnamed = absurd refused
 refused_word word (Err F.Shard) taken refused unnamed = absurd refused
 refused_word word (Err F.Only) taken refused unnamed = absurd refused
+
+-- a word that names no number of states is refused for it
+pub refused_states : (word : Option (List ℕ)) (r : Result ℕ RunFault) → IfOk r (IsStatesOf word) → IfErr r (λ fault. (fault ≡ F.States) × IsNoStates word) → IsNoStates word → r ≡ Err F.States
+refused_states None r taken refused unnamed = absurd unnamed
+refused_states (Some word) (Ok n) taken refused unnamed = absurd (unnamed n taken.0 taken.1)
+refused_states (Some word) (Err fault) taken refused unnamed = ap Err refused.0
 
 -- the text in a form that is written live is that of the form that was asked for
 live_text : (form : Form) (live : ReportForm) (r : Results) → live_form form ≡ Some live → form_text live r ≡ text_of form r

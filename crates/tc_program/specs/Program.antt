@@ -1,5 +1,5 @@
 -- What the program does with what it is asked for: what it writes, its statuses, and its lines on standard error.
-use Rattle.std.specs.Prelude.{ℕ, ◌≡◌, ◌⊎◌, Bool, true, false, List, Option, IfOk, IfErr, OnOk, Result, option_copied}
+use Rattle.std.specs.Prelude.{ℕ, ◌≡◌, ◌⊎◌, Bool, true, false, List, Option, IfOk, IfErr, OnOk, Err, Result, option_copied}
 use Rattle.std.specs.Io.KnownBytes.{Appends, Keeps}
 use Rattle.tc_stream.specs.Output.{AppendsPrefix}
 use Rattle.tc_verdict.specs.declared.verdict.Verdict.{Verdict}
@@ -16,7 +16,7 @@ use Rattle.tc_program.specs.Report.{AnswersReport}
 use Rattle.tc_program.specs.Limits.{HasAtMost, history_limit, move_list_limit, script_limit}
 use Rattle.tc_program.specs.Output.{Writes}
 use Rattle.tc_program.specs.Replay.{RefusesReplay, Replays}
-use Rattle.tc_program.specs.Explore.{Explores, IsStatesOf, RefusesExplore}
+use Rattle.tc_program.specs.Explore.{Explores, IsNoStates, IsStatesOf, RefusesExplore}
 use Rattle.tc_program.specs.Check.{IsChecked, RefusesCheck}
 use Rattle.tc_program.specs.Run.{IsCutShort, IsNoName, IsRuleOf, RefusesRun, IsRun, IsUnwritten}
 use Rattle.tc_program.specs.Script.{RefusesScript}
@@ -99,16 +99,22 @@ pub record AnswersExplore (histories details : Bool) (word input before after : 
   pub done : IfOk answer (λ status. (states : ℕ) × IsStatesOf word states × Writes (Explores histories details states) input before after status)
   pub fits : OnOk answer (HasAtMost script_limit input)
   pub refused : IfErr answer (RefusesExplore histories details word input before after)
+  -- a word that names no number of states is refused as one
+  pub states : IsNoStates word → answer ≡ Err F.States
 
 -- what `run` answers
 pub record AnswersRun (o : Running) (input : Option (List ℕ)) (streams : Streams) (answer : Result Outcome RunFault) : Type 0 where
   pub done : IfOk answer (RunsScript o input streams)
   pub refused : IfErr answer (FailsRun o input streams.before streams.after)
+  -- a word that names no shard is refused as one
+  pub shard : IsNoShard o.choice.shard → answer ≡ Err F.Shard
 
 -- what `run --list` answers
 pub record AnswersList (choice : Chosen) (input before after : Option (List ℕ)) (answer : Result ℕ RunFault) : Type 0 where
   pub done : IfOk answer (ListsScript choice input before after)
   pub refused : IfErr answer (FailsList choice input before after)
+  -- a word that names no shard is refused as one
+  pub shard : IsNoShard choice.shard → answer ≡ Err F.Shard
 
 -- a task was carried out with such an answer: what is done has such an outcome, and a fault is told and has the status 3
 pub record Ends {T : Type 0} (IsAnswer : Result T RunFault → Type 0) (IsOutcome : T → Type 0) (streams : Streams) (outcome : Outcome) : Type 0 where
@@ -138,8 +144,10 @@ IsCarriedOut (T.Report form explains) input s outcome =
 IsCarriedOut (T.Explore histories details word) input s outcome =
     Ends (AnswersExplore histories details (option_copied word) input s.before s.after) (IsSilent s.untold s.told outcome) s outcome
 
--- the task is a run, and its word names no verdict, or no shard; or it is a list, and its word names no shard
+-- the task is a run, and its word names no verdict, or no shard; or it is a list, and its word names no shard; or it is to explore, and
+-- its word names no number of states
 abbrev pub HasNoRule : Task → Type 0
 HasNoRule (T.Run options) = IsNoName (running_of options).stop_on ⊎ IsNoShard (running_of options).choice.shard
 HasNoRule (T.List choice) = IsNoShard (chosen_of choice).shard
+HasNoRule (T.Explore histories details word) = IsNoStates (option_copied word)
 HasNoRule task = ⊥

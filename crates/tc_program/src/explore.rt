@@ -1,5 +1,5 @@
 //! The subcommand `explore`.
-ghost use Rattle.std.specs.Prelude.{◌≡◌, ◌≤◌, All, IfOk, IfErr, IfNone, IfSome, OnOk, ℕ, length, option_copied};
+ghost use Rattle.std.specs.Prelude.{◌≡◌, ◌≤◌, All, Err, IfOk, IfErr, IfNone, IfSome, OnOk, ℕ, length, option_copied};
 ghost use Rattle.std.specs.List.{AllZip, flat_map};
 ghost use Rattle.std.specs.Fmt.{decimal};
 ghost use Rattle.tc_entry.specs.declared.limits.TheConstants.{BEHAVIOURS};
@@ -120,9 +120,11 @@ fn explore_cases(
 }
 
 // The number of states that the word names, or that there is without one.
+#[tactic(auto, using(crate::proofs::Running::refused_states))]
 fn states_of(word: Option<&str>) -> Result<usize, RunFault>
     ensures taken { IfOk result (IsStatesOf (option_copied word.entry)) }
     ensures refused { IfErr result (λ fault. (fault ≡ States) × IsNoStates (option_copied word.entry)) }
+    ensures judged { IsNoStates (option_copied word.entry) → result ≡ Err States }
 {
     match word {
         None => Ok(STATES),
@@ -190,6 +192,7 @@ pub fn explore_script<R: Read, W: Write>(
     ensures fits { OnOk result (HasAtMost script_limit (R.remaining reader.old)) }
     ensures refused { IfErr result (RefusesExplore histories details (option_copied word.entry) (R.remaining reader.old)
         (W.contents writer.old) (W.contents writer.new)) }
+    ensures unread { IsNoStates (option_copied word.entry) → (result ≡ Err States) × (reader.new ≡ reader.old) }
 {
     let states = states_of(word)?;
     let mut kept = Vec::new(alloc);

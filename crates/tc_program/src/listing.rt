@@ -1,7 +1,8 @@
 //! The list of the chosen test cases of a script.
-ghost use Rattle.std.specs.Prelude.{◌≡◌, IfOk, IfErr};
+ghost use Rattle.std.specs.Prelude.{◌≡◌, Err, IfOk, IfErr};
 ghost use Rattle.std.specs.List.{flat_map};
 ghost use Rattle.tc_command.specs.Asked.{chosen_of};
+ghost use Rattle.tc_program.specs.declared.fault.RunFault.TheVariants.{Shard as NoShard};
 ghost use Rattle.tc_program.specs.Choosing.{IsNoShard};
 ghost use Rattle.tc_program.specs.Inside.{case_line};
 ghost use Rattle.tc_program.specs.Program.{FailsList, ListsScript};
@@ -41,7 +42,7 @@ pub fn list_script<R: Wait + Copy + Send + 'static, I: Read, W: Write>(
 ) -> Result<u8, RunFault>
     ensures done { IfOk result (ListsScript (chosen_of choice.now) (I.remaining reader.old) (W.contents writer.old) (W.contents writer.new)) }
     ensures refused { IfErr result (FailsList (chosen_of choice.now) (I.remaining reader.old) (W.contents writer.old) (W.contents writer.new)) }
-    ensures unread { IsNoShard (chosen_of choice.now).shard → reader.new ≡ reader.old }
+    ensures unread { IsNoShard (chosen_of choice.now).shard → (result ≡ Err NoShard) × (reader.new ≡ reader.old) }
 {
     let shard = shard_of(choice.shard)?;
     let mut kept = Vec::new(alloc);

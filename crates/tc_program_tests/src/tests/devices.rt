@@ -1,5 +1,6 @@
 //! Readers and writers that fail.
 use super::*;
+use tc_command::{ReportForm, VERSION};
 use tc_stream::devices::{NarrowWriter, SlowReader, WriteFailure};
 
 const MOVES: &str = "behaviours 3;0 create;0 start 1 1;0 start 1 2;1 getverdict";
@@ -22,51 +23,81 @@ const WRITTEN_HISTORY: &str = "history 2 t 1;0 setverdict fail -> ok;0 finish ->
 
 const INCONC: &str = "behaviours 1;0 setverdict inconc;0 setverdict pass;0 getverdict";
 
-// An input of the task with this number, and what comes of it.
+// The JUnit report of that history, before and behind the version.
+const SUITE: &str =
+    "<?xml version=\"1.0\" encoding=\"UTF-8\"?>;<testsuites tests=\"1\" failures=\"1\" errors=\"0\" skipped=\"0\">;<testsuite name=\"ttrun\" tests=\"1\" failures=\"1\" errors=\"0\" skipped=\"0\">;<properties>;<property name=\"version\" value=\"";
+
+const ELEMENTS: &str =
+    "\"/>;</properties>;<testcase name=\"t\" classname=\"ttrun\">;<failure type=\"fail\" message=\"verdict fail\"/>;<system-out>;local 0 fail;</system-out>;</testcase>;</testsuite>;</testsuites>";
+
+// An input of a task, and what comes of it.
 #[derive(Drop)]
 struct Row {
     task: Task<'static>,
     input: &'static str,
-    output: &'static str,
+    output: String,
     status: u8,
 }
 
-const ROWS: usize = 8;
+const ROWS: usize = 12;
 
-fn row_of(alloc: Global, number: usize) -> Row {
-    let run = |form| run_task(alloc, form, number >= 5, None);
-    match number {
-        0 => Row {
-            task: Task::Replay { explains: false },
-            input: MOVES,
-            output: REPLIES,
-            status: 2,
-        },
-        1 => Row {
-            task: Task::Check { explains: false },
-            input: HISTORY,
-            output: JUDGED,
-            status: 3,
-        },
-        2 | 5 => Row {
-            task: run(Form::Text),
-            input: SCRIPT,
-            output: REPORT,
-            status: 1,
-        },
-        3 | 6 => Row {
-            task: run(Form::Csv),
-            input: SCRIPT,
-            output: TABLE,
-            status: 1,
-        },
-        _ => Row {
-            task: run(Form::History),
-            input: SCRIPT,
-            output: WRITTEN_HISTORY,
-            status: 1,
-        },
-    }
+// A row of a task that is no run.
+fn other_row(alloc: Global, number: usize) -> Result<Row, Fail> {
+    let explains = false;
+    let form = if number == 2 {
+        ReportForm::Csv
+    } else {
+        ReportForm::Junit
+    };
+    let (task, input, status) = match number {
+        0 => (Task::Replay { explains }, MOVES, 2),
+        1 => (Task::Check { explains }, HISTORY, 3),
+        2 | 3 => (Task::Report { form, explains }, WRITTEN_HISTORY, 1),
+        4 => (
+            Task::Explore {
+                histories: false,
+                details: false,
+                states: None,
+            },
+            SCRIPT,
+            0,
+        ),
+        _ => (
+            Task::List(run_options(alloc, Form::Text, false, None).choice),
+            SCRIPT,
+            0,
+        ),
+    };
+    let output = match number {
+        0 => REPLIES.to_string(alloc)?,
+        1 => JUDGED.to_string(alloc)?,
+        2 => TABLE.to_string(alloc)?,
+        3 => format!(in alloc; "{SUITE}{VERSION}{ELEMENTS}")?,
+        4 => "t fail complete".to_string(alloc)?,
+        _ => "t".to_string(alloc)?,
+    };
+    Ok(Row {
+        task,
+        input,
+        output,
+        status,
+    })
+}
+
+// The row of a task with this number: the runs are the last, at the end and live.
+fn row_of(alloc: Global, number: usize) -> Result<Row, Fail> {
+    let (form, output) = match number {
+        6 | 9 => (Form::Text, REPORT),
+        7 | 10 => (Form::Csv, TABLE),
+        8 | 11 => (Form::History, WRITTEN_HISTORY),
+        _ => return other_row(alloc, number),
+    };
+    Ok(Row {
+        task: run_task(alloc, form, number >= 9, None),
+        input: SCRIPT,
+        output: output.to_string(alloc)?,
+        status: 1,
+    })
 }
 
 // What comes of the row's task where the reader fails at this read.
@@ -88,7 +119,10 @@ fn reads<R: Abort + Threads + Wait + Copy + Send + 'static>(
     assert_eq!(rt; outcome.told, Ok(()));
     if fails_at > input.len() {
         assert_eq!(rt; outcome.status, row.status);
-        assert_eq!(rt; written.as_slice(), lines(alloc, row.output)?.as_slice());
+        assert_eq!(rt;
+            written.as_slice(),
+            lines(alloc, row.output.as_str())?.as_slice()
+        );
         assert!(rt; told.is_empty());
         return Ok(());
     }
@@ -108,7 +142,7 @@ fn writes<R: Abort + Threads + Wait + Copy + Send + 'static>(
     failure: WriteFailure,
 ) -> Result<(), Fail> {
     let input = lines(alloc, row.input)?;
-    let output = lines(alloc, row.output)?;
+    let output = lines(alloc, row.output.as_str())?;
     let mut writer = NarrowWriter {
         taken: Vec::new(alloc),
         writes: 0,
@@ -144,16 +178,16 @@ fn writes<R: Abort + Threads + Wait + Copy + Send + 'static>(
 fn failing_devices(rt: HostRuntime) -> Result<(), Fail> {
     let mut failed = 0usize;
     for number in 0..ROWS {
-        for fails_at in 0..row_of(rt.alloc(), number).input.len() + 3 {
-            reads(&rt, rt.alloc(), row_of(rt.alloc(), number), fails_at)?;
+        for fails_at in 0..row_of(rt.alloc(), number)?.input.len() + 3 {
+            reads(&rt, rt.alloc(), row_of(rt.alloc(), number)?, fails_at)?;
             failed = failed.saturating_add(1);
         }
         for failure in [WriteFailure::Broken, WriteFailure::Full] {
-            for fails_at in 0..row_of(rt.alloc(), number).output.len() + 2 {
+            for fails_at in 0..row_of(rt.alloc(), number)?.output.len() + 2 {
                 writes(
                     &rt,
                     rt.alloc(),
-                    row_of(rt.alloc(), number),
+                    row_of(rt.alloc(), number)?,
                     fails_at,
                     failure,
                 )?;
@@ -162,6 +196,27 @@ fn failing_devices(rt: HostRuntime) -> Result<(), Fail> {
         }
     }
     assert!(rt; failed > 1_000, "{failed} calls");
+    Ok(())
+}
+
+#[test]
+fn bad_states_are_refused_before_a_read(rt: HostRuntime) -> Result<(), Fail> {
+    for word in ["", "0", "01", "1000001", "many"] {
+        let mut reader = SlowReader::new(SCRIPT.as_bytes(), 0);
+        let mut written = Vec::new(rt.alloc());
+        let mut told = Vec::new(rt.alloc());
+        let task = Task::Explore {
+            histories: false,
+            details: false,
+            states: Some(word),
+        };
+        let outcome = carry_out(&rt, rt.alloc(), task, &mut reader, &mut written, &mut told);
+        let line = b"ttrun: --states takes a number from 1 to 1000000\n".as_slice();
+        assert_eq!(rt; told.as_slice(), line, "{word}");
+        assert_eq!(rt; outcome.status, 3);
+        assert!(rt; written.is_empty());
+        assert_eq!(rt; reader.reads, 0, "{word}");
+    }
     Ok(())
 }
 

@@ -28,7 +28,7 @@ fn a_history_is_explained(rt: HostRuntime) -> Result<(), Fail> {
         rt.alloc(),
         Task::Check { explains: true },
         HISTORY,
-        "ttrun: line 2: bad entry\n  line: `0 finish -> oki`\n  column 13: `oki`\n  understood there: a reply\n  a history began in line 1\n",
+        "ttrun: line 2: bad entry\n  line: `0 finish -> oki`\n  column 13: `oki`\n  understood there: made ok true false none pass inconc fail error matched parked ended\n  nearest: ok\n  a history began in line 1\n",
     )
 }
 
