@@ -8,12 +8,12 @@ mod refusals;
 mod scripts;
 mod turns;
 
-use tc_campaign::*;
 use std::alloc::Global;
 use std::sync::atomic::{AtomicU64, Ordering};
 use std::sync::{Arc, Wait};
 use std::test::Fail;
 use tc_book::{Halt, Pass};
+use tc_campaign::*;
 use tc_entry::{Args, Comp, Name, Run, UserVerdict, Verdict};
 use tc_exec::{Back, CaseError, Ending, Job};
 

@@ -3,11 +3,11 @@ ghost use Rattle.std.specs.Prelude.{IfOk, ⊤};
 ghost use Rattle.tc_campaign.specs.Outline.{HasNames};
 
 use crate::tests::{back, name};
-use tc_campaign::*;
 use std::alloc::Global;
 use std::process::Abort;
 use std::test::Fail;
 use tc_book::{Halt, Pass, open_case};
+use tc_campaign::*;
 use tc_exec::{Back, Callable, CaseError};
 
 /// A behaviour that does what its kind says.

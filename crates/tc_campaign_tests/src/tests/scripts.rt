@@ -3,13 +3,13 @@ ghost use Rattle.std.specs.Prelude.{IfOk};
 ghost use Rattle.tc_campaign.specs.Outline.{HasNames};
 
 use crate::tests::name;
-use tc_campaign::*;
 use std::alloc::Global;
 use std::process::Abort;
 use std::sync::Wait;
 use std::test::Fail;
 use tc_behaviour::{Script, ScriptJob};
 use tc_book::RunLog;
+use tc_campaign::*;
 use tc_entry::{Reply, Run, UserVerdict, Verdict};
 use tc_step::{Place, Places, Status, Step, TargetPlace};
 

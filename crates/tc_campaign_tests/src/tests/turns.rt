@@ -3,12 +3,12 @@ ghost use Rattle.std.specs.Prelude.{IfOk, ⊤};
 ghost use Rattle.tc_campaign.specs.Outline.{HasNames};
 
 use crate::tests::{back, name};
-use tc_campaign::*;
 use std::alloc::Global;
 use std::sync::Arc;
 use std::sync::atomic::{AtomicU64, Ordering};
 use std::test::Fail;
 use tc_book::Pass;
+use tc_campaign::*;
 use tc_entry::UserVerdict;
 use tc_exec::{Back, Callable};
 
