@@ -5,3 +5,4 @@ pub mod Keeping
 pub mod Pieces
 pub mod Places
 pub mod Rightness
+pub mod Sharding

@@ -1,5 +1,5 @@
 -- Which test cases of a campaign are chosen.
-use Rattle.std.specs.Prelude.{ℕ, ◌≡◌, ◌+◌, ◌%◌, ◌==◌, ◌&&◌, ◌||◌, Bool, List, [], ◌∷◌, Option, Some, None, filter, if◌then◌else◌, length, nat_lt}
+use Rattle.std.specs.Prelude.{ℕ, ◌≡◌, ◌+◌, ◌%◌, ◌<◌, ◌⊎◌, ◌==◌, ◌&&◌, ◌||◌, Bool, true, List, [], ◌∷◌, Option, Some, None, filter, if◌then◌else◌, length, nat_lt}
 use Rattle.std.specs.List.{list_all, list_any}
 use Rattle.std.specs.Str.{bytes_eq}
 use Rattle.tc_campaign.specs.declared.choosing.Shard.{Shard}
@@ -8,6 +8,14 @@ use Rattle.tc_campaign.specs.declared.case.Case.{Case}
 -- the name is asked for; where none is, each is
 abbrev pub is_asked : List (List ℕ) → List ℕ → Bool
 is_asked only name = (length only == 0) || list_any (λ word. bytes_eq word name) only
+
+-- there is such a shard
+abbrev pub IsShard : Shard → Type 0
+IsShard s = s.place < s.shards
+
+-- of so many shards none has this number, which counts from 1
+abbrev pub HasNoShard : ℕ → ℕ → Type 0
+HasNoShard number of = (number ≡ 0) ⊎ (of < number)
 
 -- the shard has the test case at this place, which counts from 0
 abbrev pub has_place : Shard → ℕ → Bool
@@ -39,3 +47,15 @@ module _ {C : Type 0} (name_of : C → List ℕ) where
 -- the name of a test case
 abbrev pub case_name : {B : Type 0} → Case B → List ℕ
 case_name c = c.name
+
+-- of so many shards one has the test case at this place, and no other has it
+pub record IsInOne (shards place : ℕ) : Type 0 where
+  pub holder : Shard
+  pub is_shard : IsShard holder
+  pub is_of : holder.shards ≡ shards
+  pub has : has_place holder place ≡ true
+  pub alone : (s : Shard) → IsShard s → s.shards ≡ shards → has_place s place ≡ true → s.place ≡ holder.place
+
+-- all shards of so many, one at least, have each test case exactly once
+abbrev pub ShardsAreAll : Type 0
+ShardsAreAll = (shards : ℕ) → 0 < shards → (place : ℕ) → IsInOne shards place

@@ -5,6 +5,7 @@ mod campaign;
 mod case;
 mod choosing;
 mod kept;
+pub mod laws;
 mod live;
 mod step;
 mod stopping;

@@ -20,14 +20,7 @@ fn read_shard(word: &str) -> Option<Shard>
     if *slash != b'/' {
         return None;
     }
-    let shards = read_number(rest)?;
-    if number < 1 || shards < number {
-        return None;
-    }
-    Some(Shard {
-        place: number - 1,
-        shards,
-    })
+    Shard::new(number, read_number(rest)?)
 }
 
 /// The shard of the word of `--shard`, where there is one. It takes no memory.

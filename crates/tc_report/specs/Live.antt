@@ -80,11 +80,13 @@ pub record IsWritten (before : LiveState) (f : Finished) (after : LiveState) : T
   pub worst : after.worst ≡ worse before.worst f.report.verdict
   pub fault : after.fault ≡ before.fault
 
--- the test case was not written whole, and the fault says what is out of it
+-- the test case was not written whole, and the fault says what is out of it; it is not counted
 pub record IsUnwritten (before : LiveState) (f : Finished) (after : LiveState) : Type 0 where
   pub form : after.form ≡ before.form
   pub fault : OutFault
   pub why : after.fault ≡ Some fault
+  pub uncounted : after.tally ≡ before.tally
+  pub unjudged : after.worst ≡ before.worst
   pub left : LeavesPrefix before.out after.out (part_text before.form f) fault
 
 -- what a test case does to a live writer, by whether the campaign goes on

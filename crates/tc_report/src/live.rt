@@ -1,5 +1,5 @@
 //! The text of a campaign, written as its test cases finish.
-ghost use Rattle.std.specs.Prelude.{◌≡◌, None, OnOk, IfOk, IfErr};
+ghost use Rattle.std.specs.Prelude.{◌≡◌, None, OnOk, OnErr, IfOk, IfErr};
 ghost use Rattle.std.specs.Io.KnownBytes.{Appends};
 ghost use Rattle.tc_verdict.specs.declared.verdict.Verdict.TheVariants.{None as NoVerdict};
 ghost use Rattle.tc_verdict.specs.Verdict.{worse};
@@ -123,6 +123,8 @@ impl<'a, W: Write> LiveWriter<'a, W> {
         ensures form { self.new.form ≡ self.old.form }
         ensures tally { OnOk result (self.new.tally ≡ tally_with self.old.tally case.now.report.verdict) }
         ensures worst { OnOk result (self.new.worst ≡ worse self.old.worst case.now.report.verdict) }
+        ensures uncounted { OnErr result (self.new.tally ≡ self.old.tally) }
+        ensures unjudged { OnErr result (self.new.worst ≡ self.old.worst) }
         ensures fault { self.new.fault ≡ self.old.fault }
         ensures same { self.new.writer.ghost_name ≡ self.old.writer.ghost_name }
     {

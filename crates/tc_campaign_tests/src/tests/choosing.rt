@@ -63,6 +63,28 @@ fn chosen_test_cases(rt: HostRuntime) -> Result<(), Fail> {
     Ok(())
 }
 
+// Each number of a shard from 0 on, and one behind the last.
+#[test]
+fn shards_by_their_numbers(rt: HostRuntime) -> Result<(), Fail> {
+    let shard = |place: u32, shards: u32| Some(Shard { place, shards });
+    let rows = [
+        (0, 0, None),
+        (1, 0, None),
+        (0, 1, None),
+        (1, 1, shard(0, 1)),
+        (2, 1, None),
+        (0, 3, None),
+        (1, 3, shard(0, 3)),
+        (3, 3, shard(2, 3)),
+        (4, 3, None),
+        (u32::MAX, u32::MAX, shard(u32::MAX - 1, u32::MAX)),
+    ];
+    for (number, of, wanted) in rows {
+        assert_eq!(rt; Shard::new(number, of), wanted);
+    }
+    Ok(())
+}
+
 #[test]
 fn names_of_test_cases(rt: HostRuntime) -> Result<(), Fail> {
     let alloc = rt.alloc();
