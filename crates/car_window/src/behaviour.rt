@@ -1,7 +1,7 @@
 //! The behaviours of each test case.
 ghost use Rattle.std.specs.Prelude.{⊤};
 
-use crate::window::{CLOSED, Window};
+use crate::window::{CLOSED, Stand, Window};
 use std::alloc::AllocError;
 use std::sync::{Arc, Wait};
 use tc_book::{Halt, Pass};
@@ -15,10 +15,10 @@ pub(crate) enum Part {
     Lead,
     /// Closes the window.
     Motor,
-    /// Judges whether the window stands where it should, when the motor is done.
-    Judge { wanted: u64 },
+    /// Judges whether the window stands so, when the motor is done.
+    Judge { wanted: Stand },
     /// The same, but looks at once: whoever is first decides what is seen.
-    HastyJudge { wanted: u64 },
+    HastyJudge { wanted: Stand },
 }
 
 /// A behaviour with what it shares with the others of its test case.
@@ -84,16 +84,16 @@ pub(crate) fn close(window: &Window) {
 }
 
 /// Waits until the motor, which is its argument, is done, and judges then.
-fn judge<R: Wait>(rt: &R, pass: &mut Pass, window: &Window, wanted: u64) -> Result<(), Halt> {
+fn judge<R: Wait>(rt: &R, pass: &mut Pass, window: &Window, wanted: Stand) -> Result<(), Halt> {
     if let [motor] = *pass.args() {
         pass.wait_done(rt, Target::One(motor))?;
     }
     judge_now(pass, window, wanted)
 }
 
-/// Sets pass if the window stands where it should, else fail.
-fn judge_now(pass: &mut Pass, window: &Window, wanted: u64) -> Result<(), Halt> {
-    pass.set_verdict(if window.position() == wanted {
+/// Sets pass if the window stands where it should and has been as far as it should, else fail.
+fn judge_now(pass: &mut Pass, window: &Window, wanted: Stand) -> Result<(), Halt> {
+    pass.set_verdict(if window.stand() == wanted {
         UserVerdict::Pass
     } else {
         UserVerdict::Fail

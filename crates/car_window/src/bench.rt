@@ -30,7 +30,7 @@ impl<W: Write> Observer for Bench<'_, W> {
 
     fn take(&mut self, case: Finished) -> bool {
         let name = case.name.copy();
-        let is_noted = case.report.verdict == Verdict::Pass || self.failed.push(name).is_ok();
-        is_noted && self.live.take(case)
+        let has_passed = case.report.verdict == Verdict::Pass;
+        self.live.take(case) && (has_passed || self.failed.push(name).is_ok())
     }
 }

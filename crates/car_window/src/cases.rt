@@ -4,11 +4,26 @@ ghost use Rattle.tc_campaign.specs.Outline.{HasNames};
 ghost use Rattle.tc_entry.specs.Name.{IsName};
 
 use crate::behaviour::{Behaviour, Part};
-use crate::window::{CLOSED, OPEN, Window};
+use crate::window::{CLOSED, OPEN, Stand, Window};
 use std::alloc::Global;
 use std::sync::{Arc, Wait};
 use tc_campaign::Case;
 use tc_entry::{Name, NoMemory};
+
+/// Where the way of a window is blocked.
+const OBSTACLE: u64 = 5;
+
+/// What is wanted of a window on a free way.
+pub(crate) const CLOSES: Stand = Stand {
+    position: CLOSED,
+    farthest: CLOSED,
+};
+
+/// What is wanted of a window that meets something: it has come so far, and is open again.
+pub(crate) const OPENS_AGAIN: Stand = Stand {
+    position: OPEN,
+    farthest: OBSTACLE,
+};
 
 /// The name of a text that is one.
 fn name(text: &str) -> Name
@@ -52,18 +67,15 @@ pub(crate) fn cases<R: Wait + Copy + Send + 'static>(
     ensures { IfOk result (λ v. All HasNames v.items) }
 {
     let free = Window::new(None, false);
-    let blocked = Window::new(Some(5), false);
-    let broken = Window::new(Some(5), true);
+    let blocked = Window::new(Some(OBSTACLE), false);
+    let broken = Window::new(Some(OBSTACLE), true);
+    let opens_again = Part::Judge {
+        wanted: OPENS_AGAIN,
+    };
     let cases = vec![in alloc;
-        case(rt, alloc, "closes", Part::Judge { wanted: CLOSED }, free)?,
-        case(
-            rt,
-            alloc,
-            "opens_again",
-            Part::Judge { wanted: OPEN },
-            blocked
-        )?,
-        case(rt, alloc, "pinches", Part::Judge { wanted: OPEN }, broken)?,
+        case(rt, alloc, "closes", Part::Judge { wanted: CLOSES }, free)?,
+        case(rt, alloc, "opens_again", opens_again, blocked)?,
+        case(rt, alloc, "pinches", opens_again, broken)?,
     ]?;
     Ok(cases)
 }

@@ -1,8 +1,8 @@
 //! What the judges say of each window, and of a window that moves while it is looked at.
 use crate::WORKERS;
 use crate::behaviour::{Part, close};
-use crate::cases::{case, cases};
-use crate::window::{CLOSED, OPEN, Window};
+use crate::cases::{CLOSES, OPENS_AGAIN, case, cases};
+use crate::window::{OPEN, Window};
 use std::test::Fail;
 use tc_campaign::run_campaign;
 use tc_entry::Verdict;
@@ -29,14 +29,14 @@ fn a_hasty_judge_may_fail_a_sound_window(rt: HostRuntime) -> Result<(), Fail> {
             rt,
             alloc,
             "hasty",
-            Part::HastyJudge { wanted: CLOSED },
+            Part::HastyJudge { wanted: CLOSES },
             Window::new(None, false),
         )?;
         let patient = case(
             rt,
             alloc,
             "patient",
-            Part::Judge { wanted: CLOSED },
+            Part::Judge { wanted: CLOSES },
             Window::new(None, false),
         )?;
         let cases = vec![in alloc; hasty, patient]?;
@@ -50,16 +50,33 @@ fn a_hasty_judge_may_fail_a_sound_window(rt: HostRuntime) -> Result<(), Fail> {
     Ok(())
 }
 
+/// A motor that does not move leaves the window as open as one that opens again does.
+#[test]
+fn a_window_that_does_not_move_fails(rt: HostRuntime) -> Result<(), Fail> {
+    let alloc = rt.alloc();
+    for wanted in [CLOSES, OPENS_AGAIN] {
+        let stuck = Window::new(Some(OPEN), false);
+        let judge = Part::Judge { wanted };
+        let cases = vec![in alloc; case(rt, alloc, "stuck", judge, stuck)?]?;
+        let results = run_campaign(&rt, alloc, cases, None, WORKERS);
+        let [stuck] = results.finished.as_slice() else {
+            return Err(Fail::from("one report"));
+        };
+        assert_eq!(rt; stuck.report.verdict, Verdict::Fail);
+    }
+    Ok(())
+}
+
 #[test]
 fn a_window_opens_where_it_meets_something(rt: HostRuntime) -> Result<(), Fail> {
     for (obstacle, is_broken, wanted) in [
-        (None, false, CLOSED),
-        (Some(5), false, OPEN),
-        (Some(5), true, CLOSED),
+        (None, false, CLOSES),
+        (Some(5), false, OPENS_AGAIN),
+        (Some(5), true, CLOSES),
     ] {
         let window = Window::new(obstacle, is_broken);
         close(&window);
-        assert_eq!(rt; window.position(), wanted);
+        assert_eq!(rt; window.stand(), wanted);
     }
     Ok(())
 }

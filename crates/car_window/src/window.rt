@@ -7,10 +7,18 @@ pub(crate) const CLOSED: u64 = 8;
 /// Where a window stands that is open.
 pub(crate) const OPEN: u64 = 0;
 
+/// Where a window stands, and how far it has been closed at most, in steps.
+#[derive(Clone, Copy, PartialEq, Eq, Debug)]
+pub(crate) struct Stand {
+    pub(crate) position: u64,
+    pub(crate) farthest: u64,
+}
+
 /// A window that a motor closes. Where it meets something in its way it opens again; a broken one closes on.
 #[derive(Drop)]
 pub(crate) struct Window {
     position: AtomicU64,
+    farthest: AtomicU64,
     obstacle: Option<u64>,
     is_broken: bool,
 }
@@ -20,19 +28,23 @@ impl Window {
     pub(crate) fn new(obstacle: Option<u64>, is_broken: bool) -> Window {
         Window {
             position: AtomicU64::new(OPEN),
+            farthest: AtomicU64::new(OPEN),
             obstacle,
             is_broken,
         }
     }
 
-    /// How far it is closed, in steps.
-    pub(crate) fn position(&self) -> u64 {
-        self.position.load(Ordering::SeqCst)
+    /// Where it stands, and how far it has been closed at most.
+    pub(crate) fn stand(&self) -> Stand {
+        Stand {
+            position: self.position.load(Ordering::SeqCst),
+            farthest: self.farthest.load(Ordering::SeqCst),
+        }
     }
 
     /// Moves it by a step; says whether it goes on.
     pub(crate) fn step(&self) -> bool {
-        let position = self.position();
+        let position = self.position.load(Ordering::SeqCst);
         if position >= CLOSED {
             return false;
         }
@@ -40,6 +52,7 @@ impl Window {
             self.position.store(OPEN, Ordering::SeqCst);
             return false;
         }
+        self.farthest.store(position + 1, Ordering::SeqCst);
         self.position.store(position + 1, Ordering::SeqCst);
         true
     }
