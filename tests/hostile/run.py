@@ -31,6 +31,8 @@ import turmoil
 from refusing import TOP, Refusing, refusing
 from sweeps import Sweep
 
+from lanes import lanes
+
 # What is to be met in the gate, by the tests that refuse something, and by those of texts.
 REFUSING_FLOORS = {"right": 900, "refused": 1000, "aborted": 800}
 DEVICE_FLOORS = {"reads failed": 300, "writes failed": 200, "right": 100, "long inputs": 3}
@@ -87,7 +89,7 @@ def main() -> int:
     parser = argparse.ArgumentParser(description="hostile use of the built ttrun")
     parser.add_argument("--program", default=os.path.join(TOP, "crates", "ttrun", "out", "ttrun"))
     parser.add_argument("--all", action="store_true", help="each growth and each byte")
-    parser.add_argument("--jobs", type=int, default=os.cpu_count() or 1, help="runs at a time")
+    parser.add_argument("--jobs", type=int, default=lanes(), help="runs at a time")
     given = parser.parse_args()
     program = os.path.abspath(given.program)
     for it in (program, calls.PROGRAM):

@@ -22,6 +22,8 @@ SCRIPTS = ("restart", "workers", "supervisor", "verdicts", "pumps")
 BEHIND = 3
 # A sweep that has not come to its end by then never does.
 MOST = 100_000
+# A sweep ends at so many faults: what is wrong so often is wrong everywhere, and may hang each time.
+FAULTS = 5
 
 
 def tasks() -> List[Task]:
@@ -68,6 +70,10 @@ class Sweep:
         if outcome.fault:
             self.faults.append(f"{plan}: {outcome.fault}")
 
+    def is_given_up(self) -> bool:
+        """Whether it has met so many faults that it ends."""
+        return len(self.faults) >= FAULTS
+
 
 def numbers(most: int, stride: int) -> Iterator[int]:
     """From 1 to the most, each or every so many, the last ones with them."""
@@ -83,8 +89,10 @@ def sweep(refusing: Refusing, program: str, task: Task, what: str, behind: str, 
     for number in numbers(most, stride):
         plan = f"{what}:{number}{behind}"
         done.add(task, ample, refusing.run(words, task.given, plan), plan)
+        if done.is_given_up():
+            return done
     spared = 0
-    while spared < BEHIND and most < MOST:
+    while spared < BEHIND and most < MOST and not done.is_given_up():
         most += 1
         plan = f"{what}:{most}{behind}"
         ran = refusing.run(words, task.given, plan)
@@ -117,6 +125,8 @@ def falling(program: str, task: Task, is_whole: bool) -> Sweep:
         if is_unbegun(ran):
             return done
         done.add(task, ample, ran, f"ulimit -v {limit}")
+        if done.is_given_up():
+            return done
     done.faults.append("the program was loaded under each limit")
     return done
 

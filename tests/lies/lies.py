@@ -25,18 +25,18 @@ LIES = (
     )),
     Lie("check_and_replay_are_exchanged", (
         ("""\
-        Task::Replay => {
-            let answer = replay(alloc, reader, writer);
+        Task::Replay { explains } => {
+            let answer = replay(alloc, &mut kept, reader, writer);
 """, """\
-        Task::Replay => {
-            let answer = check(alloc, reader, writer);
+        Task::Replay { explains } => {
+            let answer = check(alloc, &mut kept, reader, writer);
 """),
         ("""\
-        Task::Check => {
-            let answer = check(alloc, reader, writer);
+        Task::Check { explains } => {
+            let answer = check(alloc, &mut kept, reader, writer);
 """, """\
-        Task::Check => {
-            let answer = replay(alloc, reader, writer);
+        Task::Check { explains } => {
+            let answer = replay(alloc, &mut kept, reader, writer);
 """),
     )),
     Lie("csv_is_ignored", (

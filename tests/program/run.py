@@ -35,6 +35,7 @@ import terminal
 import words
 from case import Case, faults_of, run, shown_command
 from judged import Judgement
+from lanes import lanes
 
 Test = Union[Case, Judgement]
 
@@ -104,7 +105,7 @@ def main() -> int:
         print(f"there is no program {program}: ./ttrun --help builds it", file=sys.stderr)
         return 3
     began = time.monotonic()
-    with ThreadPoolExecutor(os.cpu_count() or 1) as pool:
+    with ThreadPoolExecutor(lanes()) as pool:
         answers = list(pool.map(lambda it: faults_in(it, program), chosen))
     failed = [(test, faults) for test, faults in zip(chosen, answers) if faults]
     for test, faults in failed:

@@ -1,0 +1,10 @@
+"""How many runs go side by side."""
+from __future__ import annotations
+
+import os
+
+
+def lanes() -> int:
+    """As many as RT_JOBS says, which ./gate sets; else one for each processor that there is to use."""
+    said = os.environ.get("RT_JOBS", "")
+    return int(said) if said.isdigit() and int(said) else len(os.sched_getaffinity(0))
