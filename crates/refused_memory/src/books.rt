@@ -231,7 +231,7 @@ fn counted(found: Option<usize>, ample: Option<usize>, wanted: usize) -> Outcome
 }
 
 /// A board for one, some or the most behaviours.
-pub fn new_board(alloc: Global, place: usize, refusal: &mut Refusal) -> Option<Outcome> {
+pub(crate) fn new_board(alloc: Global, place: usize, refusal: &mut Refusal) -> Option<Outcome> {
     let behaviours = behaviours_in(place)?;
     refusal.begin();
     let found = hands_of_board(alloc, behaviours);
@@ -241,7 +241,7 @@ pub fn new_board(alloc: Global, place: usize, refusal: &mut Refusal) -> Option<O
 }
 
 /// The open of a case of one, some or the most behaviours.
-pub fn open(alloc: Global, place: usize, refusal: &mut Refusal) -> Option<Outcome> {
+pub(crate) fn open(alloc: Global, place: usize, refusal: &mut Refusal) -> Option<Outcome> {
     let behaviours = behaviours_in(place)?;
     refusal.begin();
     let found = tickets_of_case(alloc, behaviours);
@@ -317,7 +317,7 @@ fn are_closed_alike(left: Option<Closed>, right: Option<Closed>) -> bool {
 }
 
 /// Each of the calls, behind those before it and before those behind it, in a case beside one that is refused nothing.
-pub fn call<R: Wait>(
+pub(crate) fn call<R: Wait>(
     rt: &R,
     alloc: Global,
     place: usize,
@@ -386,7 +386,7 @@ fn close_one<R: Wait>(
 }
 
 /// The close of a case behind all calls, and the merge of its logs.
-pub fn close<R: Wait>(
+pub(crate) fn close<R: Wait>(
     rt: &R,
     alloc: Global,
     place: usize,
@@ -408,7 +408,7 @@ fn left_by_main<R: Wait>(rt: &R, opened: Opened) -> Left {
 }
 
 /// The leave of a pass behind the first calls.
-pub fn leave<R: Wait>(rt: &R, alloc: Global, refusal: &mut Refusal) -> Option<Outcome> {
+pub(crate) fn leave<R: Wait>(rt: &R, alloc: Global, refusal: &mut Refusal) -> Option<Outcome> {
     let list = calls(alloc)?;
     let Both { opened, other } = Both::behind(rt, alloc, list.moves.get(..10)?)?;
     let wanted = left_by_main(rt, other);
@@ -426,7 +426,11 @@ pub fn leave<R: Wait>(rt: &R, alloc: Global, refusal: &mut Refusal) -> Option<Ou
 }
 
 /// The leave of a pass that has ended.
-pub fn leave_ended<R: Wait>(rt: &R, alloc: Global, refusal: &mut Refusal) -> Option<Outcome> {
+pub(crate) fn leave_ended<R: Wait>(
+    rt: &R,
+    alloc: Global,
+    refusal: &mut Refusal,
+) -> Option<Outcome> {
     let mut opened = Opened::new(alloc)?;
     opened.main.stop_case(rt).ok()?;
     refusal.begin_each();
@@ -439,7 +443,11 @@ pub fn leave_ended<R: Wait>(rt: &R, alloc: Global, refusal: &mut Refusal) -> Opt
 }
 
 /// What tickets give: the pass of a run that was started, and what one leaves that was not.
-pub fn await_starts<R: Wait>(rt: &R, alloc: Global, refusal: &mut Refusal) -> Option<Outcome> {
+pub(crate) fn await_starts<R: Wait>(
+    rt: &R,
+    alloc: Global,
+    refusal: &mut Refusal,
+) -> Option<Outcome> {
     let (_shared, mut main, mut tickets) = open_case(alloc, 3).ok()?;
     let (last, first) = (tickets.pop()?, tickets.pop()?);
     let comp = main.create(rt, false).ok()?;
@@ -459,7 +467,7 @@ pub fn await_starts<R: Wait>(rt: &R, alloc: Global, refusal: &mut Refusal) -> Op
 }
 
 /// All calls on a pass that has ended.
-pub fn call_ended<R: Wait>(rt: &R, alloc: Global, refusal: &mut Refusal) -> Option<Outcome> {
+pub(crate) fn call_ended<R: Wait>(rt: &R, alloc: Global, refusal: &mut Refusal) -> Option<Outcome> {
     let list = calls(alloc)?;
     let mut opened = Opened::new(alloc)?;
     opened.main.stop_case(rt).ok()?;

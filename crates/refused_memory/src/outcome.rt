@@ -12,7 +12,7 @@ pub enum Outcome {
 }
 
 /// Right where it is so, else wrong for this reason.
-pub fn right_if(is_right: bool, why: &'static str) -> Outcome {
+pub(crate) fn right_if(is_right: bool, why: &'static str) -> Outcome {
     if is_right {
         Outcome::Right
     } else {
@@ -21,7 +21,7 @@ pub fn right_if(is_right: bool, why: &'static str) -> Outcome {
 }
 
 /// Refused where all is as it should be, else wrong for this reason.
-pub fn refused_if(is_right: bool, why: &'static str) -> Outcome {
+pub(crate) fn refused_if(is_right: bool, why: &'static str) -> Outcome {
     if is_right {
         Outcome::Refused
     } else {
@@ -42,7 +42,7 @@ pub struct Sum {
 
 impl Sum {
     /// Counts an outcome; nothing may be told as refused where nothing was.
-    pub fn count(&mut self, outcome: Outcome, was_refused: bool) {
+    pub(crate) fn count(&mut self, outcome: Outcome, was_refused: bool) {
         match outcome {
             Outcome::Right if was_refused => self.absorbed = self.absorbed.saturating_add(1),
             Outcome::Right => {}

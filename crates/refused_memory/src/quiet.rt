@@ -10,7 +10,7 @@ use tc_book::laws::Book;
 use tc_entry::{Args, Comp, Op, Reply, Run, Target, UserVerdict};
 
 /// The call in a place.
-pub fn call<R: Threads + Wait + Copy + Send + 'static>(
+pub(crate) fn call<R: Threads + Wait + Copy + Send + 'static>(
     rt: &R,
     alloc: Global,
     place: usize,
@@ -36,7 +36,7 @@ pub fn call<R: Threads + Wait + Copy + Send + 'static>(
 }
 
 /// Whether that was right, and asked for no memory.
-pub fn call_unfed<R: Threads + Wait + Copy + Send + 'static>(
+pub(crate) fn call_unfed<R: Threads + Wait + Copy + Send + 'static>(
     rt: &R,
     alloc: Global,
     place: usize,

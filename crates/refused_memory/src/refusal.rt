@@ -32,7 +32,7 @@ fn is_heard(alloc: Global) -> bool {
 
 impl Refusal {
     /// No growth is refused yet.
-    pub fn new(alloc: Global) -> Refusal {
+    pub(crate) fn new(alloc: Global) -> Refusal {
         Refusal {
             alloc,
             is_heard: is_heard(alloc),
@@ -42,23 +42,23 @@ impl Refusal {
     }
 
     /// Whether there is a library that refuses.
-    pub fn is_heard(&self) -> bool {
+    pub(crate) fn is_heard(&self) -> bool {
         self.is_heard
     }
 
     /// The growth with this number will be refused, counted from 0 at the next begin.
-    pub fn set(&mut self, number: u16) {
+    pub(crate) fn set(&mut self, number: u16) {
         self.told = MARK + 1 + usize::from(number);
         self.is_met = false;
     }
 
     /// The growths from here on are counted; the one that is meant is refused.
-    pub fn begin(&self) {
+    pub(crate) fn begin(&self) {
         self.tell(self.told);
     }
 
     /// Each growth from here on is refused.
-    pub fn begin_each(&self) {
+    pub(crate) fn begin_each(&self) {
         self.tell(MARK + 1 + EACH);
     }
 
@@ -70,14 +70,14 @@ impl Refusal {
     }
 
     /// No growth is refused from here on.
-    pub fn end(&mut self) {
+    pub(crate) fn end(&mut self) {
         if self.is_heard && given(self.alloc, MARK).is_none() {
             self.is_met = true;
         }
     }
 
     /// Whether a growth was refused between a begin and its end.
-    pub fn was_met(&self) -> bool {
+    pub(crate) fn was_met(&self) -> bool {
         self.is_met
     }
 }

@@ -38,7 +38,7 @@ fn run_refused<R: Threads + Wait + Copy + Send + 'static>(
 }
 
 /// The run of no job.
-pub fn run_no_job<R: Threads + Wait + Copy + Send + 'static>(
+pub(crate) fn run_no_job<R: Threads + Wait + Copy + Send + 'static>(
     rt: &R,
     alloc: Global,
     refusal: &mut Refusal,
@@ -47,7 +47,7 @@ pub fn run_no_job<R: Threads + Wait + Copy + Send + 'static>(
 }
 
 /// The run of one job more than a test case may have.
-pub fn run_too_many_jobs<R: Threads + Wait + Copy + Send + 'static>(
+pub(crate) fn run_too_many_jobs<R: Threads + Wait + Copy + Send + 'static>(
     rt: &R,
     alloc: Global,
     refusal: &mut Refusal,
@@ -63,7 +63,7 @@ pub fn run_too_many_jobs<R: Threads + Wait + Copy + Send + 'static>(
 }
 
 /// The run of three jobs with one worker.
-pub fn run_without_workers<R: Threads + Wait + Copy + Send + 'static>(
+pub(crate) fn run_without_workers<R: Threads + Wait + Copy + Send + 'static>(
     rt: &R,
     alloc: Global,
     refusal: &mut Refusal,
@@ -72,7 +72,7 @@ pub fn run_without_workers<R: Threads + Wait + Copy + Send + 'static>(
 }
 
 /// The run of a campaign of no test case.
-pub fn run_no_case<R: Threads + Wait + Copy + Send + 'static>(
+pub(crate) fn run_no_case<R: Threads + Wait + Copy + Send + 'static>(
     rt: &R,
     alloc: Global,
     refusal: &mut Refusal,

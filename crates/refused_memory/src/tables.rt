@@ -60,7 +60,7 @@ fn played(alloc: Global, moves: &[(Run, Op)]) -> Option<Table> {
 }
 
 /// Whether two lists have the same entries.
-pub fn are_same(left: &[Entry], right: &[Entry]) -> bool {
+pub(crate) fn are_same(left: &[Entry], right: &[Entry]) -> bool {
     left.len() == right.len() && left.iter().zip(right).all(|(one, other)| one.same(other))
 }
 
@@ -83,7 +83,7 @@ fn is_like(left: &Table, right: &Table) -> bool {
 }
 
 /// How many behaviours there are in a place.
-pub fn behaviours_in(place: usize) -> Option<u16>
+pub(crate) fn behaviours_in(place: usize) -> Option<u16>
     ensures some { IfSome result (λ n. 1 ≤ n) }
     ensures few { IfSome result (λ n. n ≤ BEHAVIOURS) }
 {
@@ -96,7 +96,7 @@ pub fn behaviours_in(place: usize) -> Option<u16>
 }
 
 /// A table for one, some or the most behaviours.
-pub fn open(alloc: Global, place: usize, refusal: &mut Refusal) -> Option<Outcome> {
+pub(crate) fn open(alloc: Global, place: usize, refusal: &mut Refusal) -> Option<Outcome> {
     let behaviours = behaviours_in(place)?;
     refusal.begin();
     let table = Table::new(alloc, behaviours);
@@ -110,12 +110,12 @@ pub fn open(alloc: Global, place: usize, refusal: &mut Refusal) -> Option<Outcom
 }
 
 /// The moves.
-pub fn moves(alloc: Global) -> Option<MoveList> {
+pub(crate) fn moves(alloc: Global) -> Option<MoveList> {
     read_moves(alloc, MOVES.as_bytes()).ok()
 }
 
 /// Each of the moves, behind those before it.
-pub fn play(alloc: Global, place: usize, refusal: &mut Refusal) -> Option<Outcome> {
+pub(crate) fn play(alloc: Global, place: usize, refusal: &mut Refusal) -> Option<Outcome> {
     let list = moves(alloc)?;
     let (run, op) = list.moves.get(place)?;
     let before = list.moves.get(..place)?;
@@ -141,7 +141,7 @@ pub fn play(alloc: Global, place: usize, refusal: &mut Refusal) -> Option<Outcom
 }
 
 /// Room for one, some and many moves, on a table with moves.
-pub fn make_room(alloc: Global, place: usize, refusal: &mut Refusal) -> Option<Outcome> {
+pub(crate) fn make_room(alloc: Global, place: usize, refusal: &mut Refusal) -> Option<Outcome> {
     let more = [1usize, 40, 5000].get(place).copied()?;
     let list = moves(alloc)?;
     let mut table = played(alloc, list.moves.as_slice())?;
@@ -161,7 +161,7 @@ pub fn make_room(alloc: Global, place: usize, refusal: &mut Refusal) -> Option<O
 }
 
 /// The check of the whole history of the moves, and of one whose last reply is another's.
-pub fn replay(alloc: Global, place: usize, refusal: &mut Refusal) -> Option<Outcome> {
+pub(crate) fn replay(alloc: Global, place: usize, refusal: &mut Refusal) -> Option<Outcome> {
     let list = moves(alloc)?;
     let table = played(alloc, list.moves.as_slice())?;
     let entries = table.history();
@@ -179,7 +179,7 @@ pub fn replay(alloc: Global, place: usize, refusal: &mut Refusal) -> Option<Outc
 }
 
 /// Each of the moves but the creates, behind those before it, where there is room for it.
-pub fn play_in_room(alloc: Global, refusal: &mut Refusal) -> Option<Outcome> {
+pub(crate) fn play_in_room(alloc: Global, refusal: &mut Refusal) -> Option<Outcome> {
     let list = moves(alloc)?;
     let mut table = Table::new(alloc, BEHAVIOURS as u16).ok()?;
     let mut is_right = true;

@@ -184,7 +184,7 @@ fn read_bytes(alloc: Global, refusal: &mut Refusal) -> Outcome {
 }
 
 /// The readers of moves, of histories, of a script and of an input, and the explanation of a script.
-pub fn read(alloc: Global, place: usize, refusal: &mut Refusal) -> Option<Outcome> {
+pub(crate) fn read(alloc: Global, place: usize, refusal: &mut Refusal) -> Option<Outcome> {
     match place {
         0 => read_list(alloc, refusal),
         1 => read_blocks(alloc, refusal),
@@ -235,7 +235,7 @@ fn append_one(alloc: Global, text: &Text, refusal: &mut Refusal) -> Option<Outco
 }
 
 /// The writers of each of the moves, of a reply, and of the history of all moves.
-pub fn write(alloc: Global, place: usize, refusal: &mut Refusal) -> Option<Outcome> {
+pub(crate) fn write(alloc: Global, place: usize, refusal: &mut Refusal) -> Option<Outcome> {
     let list = moves(alloc)?;
     if let Some((run, op)) = list.moves.get(place) {
         return append_one(alloc, &Text::Move(*run, op), refusal);
@@ -261,7 +261,7 @@ fn takes_behaviours(case: CaseScript, wanted: usize) -> bool {
 }
 
 /// The test cases of a campaign and their behaviours, taken out one by one.
-pub fn take_all(alloc: Global, refusal: &mut Refusal) -> Option<Outcome> {
+pub(crate) fn take_all(alloc: Global, refusal: &mut Refusal) -> Option<Outcome> {
     let mut campaign = read_campaign(alloc, SCRIPT.as_bytes()).ok()?;
     refusal.begin_each();
     let (first, second, none) = (
