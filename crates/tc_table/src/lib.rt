@@ -25,6 +25,3 @@ pub use tc_stream::{InputFault, read_input};
 pub use tc_text::{
     MoveList, TextFault, TextKind, read_move, read_moves, read_reply, write_move, write_reply,
 };
-
-#[cfg(test)]
-mod tests;

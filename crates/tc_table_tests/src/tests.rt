@@ -1,6 +1,16 @@
-//! Calls on a table and on a state, and lists of entries.
-use super::*;
+//! Calls on a table and on a state, and lists of entries. What a test calls again and again stands in functions without
+//! clauses, so that its proof carries none of the table's.
+use std::alloc::Global;
 use std::test::Fail;
+use tc_table::{
+    Args, CaseState, CheckFault, Comp, Entry, Fault, Group, NoMemory, Op, Phase, Reply, Run, Table,
+    Target, UserVerdict, Verdict, copied_entries, replay, replay_check,
+};
+
+/// A Create without a name.
+fn create(alive: bool) -> Op {
+    Op::Create { alive, name: None }
+}
 
 fn start(comp: u32, run: u16) -> Op {
     Op::Start {
@@ -21,25 +31,9 @@ fn entry(op: Op, reply: Reply) -> Entry {
 #[test]
 fn calls_on_a_table(rt: HostRuntime) -> Result<(), Fail> {
     let mut table = Table::new(rt.alloc(), 2)?;
-    assert_eq!(rt;
-        table.would(
-            Run(0),
-            &Op::Create {
-                alive: true,
-                name: None
-            }
-        ),
-        Reply::Made(Comp(1))
-    );
+    assert_eq!(rt; table.would(Run(0), &create(true)), Reply::Made(Comp(1)));
     let moves = [
-        (
-            0,
-            Op::Create {
-                alive: true,
-                name: None,
-            },
-            Reply::Made(Comp(1)),
-        ),
+        (0, create(true), Reply::Made(Comp(1))),
         (0, start(1, 1), Reply::Ok),
         (1, Op::SetVerdict(UserVerdict::Fail), Reply::Ok),
         (1, Op::GetVerdict, Reply::Local(Verdict::Fail)),
@@ -74,14 +68,7 @@ fn stop_of_a_case(rt: HostRuntime) -> Result<(), Fail> {
     let mut state = CaseState::new(rt.alloc(), 2)?;
     let moves = [
         (1, Op::StopCase, Reply::Ended),
-        (
-            0,
-            Op::Create {
-                alive: true,
-                name: None,
-            },
-            Reply::Made(Comp(1)),
-        ),
+        (0, create(true), Reply::Made(Comp(1))),
         (0, start(1, 1), Reply::Ok),
         (1, Op::SetVerdict(UserVerdict::Pass), Reply::Ok),
         (1, Op::StopCase, Reply::Ok),
@@ -105,29 +92,13 @@ fn stop_of_a_case(rt: HostRuntime) -> Result<(), Fail> {
 fn calls_on_a_state(rt: HostRuntime) -> Result<(), Fail> {
     let mut state = CaseState::new(rt.alloc(), 2)?;
     assert_eq!(rt; state.components(), 1);
-    assert_eq!(rt;
-        state.would(
-            Run(0),
-            &Op::Create {
-                alive: false,
-                name: None
-            }
-        ),
-        Reply::Made(Comp(1))
-    );
+    assert_eq!(rt; state.would(Run(0), &create(false)), Reply::Made(Comp(1)));
     let wait = Op::Wait {
         killed: false,
         target: Target::All,
     };
     let moves = [
-        (
-            0,
-            Op::Create {
-                alive: false,
-                name: None,
-            },
-            Reply::Made(Comp(1)),
-        ),
+        (0, create(false), Reply::Made(Comp(1))),
         (0, start(1, 1), Reply::Ok),
         (0, wait, Reply::Parked),
         (1, Op::SetVerdict(UserVerdict::Inconc), Reply::Ok),
@@ -179,13 +150,7 @@ fn replay_check_of_a_list(rt: HostRuntime) -> Result<(), Fail> {
         target: Target::One(Comp(1)),
     };
     let mut list = [
-        entry(
-            Op::Create {
-                alive: false,
-                name: None,
-            },
-            Reply::Made(Comp(1)),
-        ),
+        entry(create(false), Reply::Made(Comp(1))),
         entry(Op::Stop(Group::One(Comp(1))), Reply::Ok),
         entry(Op::Alive(Target::One(Comp(1))), Reply::Answer(true)),
         entry(wait, Reply::Matched),
@@ -208,13 +173,7 @@ fn replay_check_of_a_list(rt: HostRuntime) -> Result<(), Fail> {
 #[test]
 fn replay_of_a_restart(rt: HostRuntime) -> Result<(), Fail> {
     let list = [
-        entry(
-            Op::Create {
-                alive: true,
-                name: None,
-            },
-            Reply::Made(Comp(1)),
-        ),
+        entry(create(true), Reply::Made(Comp(1))),
         entry(start(1, 1), Reply::Ok),
         entry(Op::Stop(Group::One(Comp(1))), Reply::Ok),
         entry(start(1, 2), Reply::Ok),
@@ -253,10 +212,7 @@ fn texts_of_a_check(rt: HostRuntime) -> Result<(), Fail> {
 fn a_copy_goes_on_by_itself(rt: HostRuntime) -> Result<(), Fail> {
     let alloc = rt.alloc();
     let mut table = Table::new(alloc, 2)?;
-    let create = Op::Create {
-        alive: false,
-        name: None,
-    };
+    let create = create(false);
     assert_eq!(rt; table.play(Run(0), create)?, Reply::Made(Comp(1)));
     assert_eq!(rt; table.play(Run(0), start(1, 1))?, Reply::Ok);
     let mut copy = table.copied(alloc)?;
