@@ -12,7 +12,7 @@ from typing import Callable, Iterator, List, Optional
 
 from outcomes import Task
 from refusing import plainly
-from sweeps import FORMS, SCRIPTS, Sweep, bytes_of, many_behaviours, numbers
+from sweeps import FORMS, LIVE_FORMS, SCRIPTS, Sweep, bytes_of, many_behaviours, numbers
 
 # The users are numbers that no account is likely to have, and others for each call of these tests.
 USERS = itertools.count(20_000 + os.getpid() * 131 % 20_000)
@@ -43,9 +43,9 @@ class Crowds:
 def tasks() -> Iterator[Task]:
     """Runs of the examples, and of test cases of many behaviours."""
     for name in SCRIPTS:
-        for live in ((), ("--live",)):
-            for form in FORMS:
-                yield Task(name, ("run", *live, *form), bytes_of(f"{name}.script"))
+        given = bytes_of(f"{name}.script")
+        yield from (Task(name, ("run", *form), given) for form in FORMS)
+        yield from (Task(name, ("run", "--live", *form), given) for form in LIVE_FORMS)
 
 
 def jobs(crowds: Crowds, is_whole: bool) -> List[Callable[[], Sweep]]:

@@ -19,12 +19,23 @@ HEADER = text("testcase,components,none,pass,inconc,fail,error,verdict")
 RECORD = text("a,1,0,1,0,0,0,pass")
 HISTORY = text("history 2 a 1;0 setverdict pass -> ok;0 finish -> ok;end pass;history 2 b 1;0 finish -> ok;end none")
 
+COUNTS = b'tests="2" failures="0" errors="0" skipped="1"'
+HEAD = (b'<?xml version="1.0" encoding="UTF-8"?>\n<testsuites COUNTS>\n<testsuite name="ttrun" COUNTS>\n'
+        b'<properties>\n<property name="version" value="1"/>\n</properties>\n')
+OF_A = b'<testcase name="a" classname="ttrun">\n<system-out>\nlocal 0 pass\n</system-out>\n</testcase>\n'
+OF_B = b'<testcase name="b" classname="ttrun">\n<skipped/>\n<system-out>\nlocal 0 none\n</system-out>\n</testcase>\n'
+NOT_B = OF_B.replace(b"<skipped/>", b'<error type="aborted" message="no memory"/>').replace(b"local 0 none\n", b"")
+TAIL = b"</testsuite>\n</testsuites>\n"
+JUNIT = HEAD.replace(b"COUNTS", COUNTS) + OF_A + OF_B + TAIL
+ABORTED_JUNIT = HEAD.replace(b"COUNTS", b'tests="2" failures="0" errors="1" skipped="0"') + OF_A + NOT_B + TAIL
+
 PLAIN = Task("two", ("run",), SCRIPT)
 LIVE = Task("two", ("run", "--live"), SCRIPT)
 TABLE = Task("two", ("run", "--csv"), SCRIPT)
 HISTORIES = Task("two", ("run", "--history"), SCRIPT)
+SUITE = Task("two", ("run", "--junit"), SCRIPT)
 AMPLE = {PLAIN.words: WHOLE, LIVE.words: WHOLE, TABLE.words: HEADER + RECORD + text("b,1,1,0,0,0,0,none"),
-         HISTORIES.words: HISTORY}
+         HISTORIES.words: HISTORY, SUITE.words: JUNIT}
 
 
 def answers() -> Iterator[Tuple[str, Task, Ran]]:
@@ -41,7 +52,9 @@ def answers() -> Iterator[Tuple[str, Task, Ran]]:
         (LIVE, FIRST[:-1], NO_MEMORY, 3), (LIVE, FIRST + SECOND[:20], NO_MEMORY, 3), (LIVE, SECOND, NO_MEMORY, 3),
         (TABLE, HEADER + RECORD, NO_MEMORY, 3), (TABLE, HEADER, AT_B, 3), (TABLE, RECORD, AT_B, 3),
         (HISTORIES, HISTORY[:-10], b"", 0), (HISTORIES, HISTORY.replace(b"setverdict pass", b"setverdict fail"), b"", 0),
-        (HISTORIES, b"", AT_B, 3), (HISTORIES, HISTORY, AT_B, 3),
+        (HISTORIES, b"", AT_B, 3), (HISTORIES, HISTORY, AT_B, 3), (SUITE, JUNIT, AT_B, 3), (SUITE, JUNIT, NO_MEMORY, 3),
+        (SUITE, ABORTED_JUNIT, NO_MEMORY, 3), (SUITE, ABORTED_JUNIT.replace(b'errors="1"', b'errors="0"', 1), AT_B, 3),
+        (SUITE, ABORTED_JUNIT.replace(NOT_B, b""), AT_B, 3), (SUITE, JUNIT.replace(TAIL, b""), b"", 0),
     ]
     for task, output, errors, status in wrong:
         yield "wrong", task, Ran(output, errors, status, refused=1)
@@ -53,6 +66,7 @@ def answers() -> Iterator[Tuple[str, Task, Ran]]:
     true: List[Tuple[str, Task, bytes, bytes, int]] = [
         ("right", PLAIN, WHOLE, b"", 0), ("right", HISTORIES, HISTORY, b"", 0), ("refused", PLAIN, b"", NO_MEMORY, 3),
         ("aborted", PLAIN, ABORTED, AT_B, 3), ("aborted", TABLE, HEADER + RECORD, AT_B, 3), ("aborted", HISTORIES, one, AT_B, 3),
+        ("right", SUITE, JUNIT, b"", 0), ("aborted", SUITE, ABORTED_JUNIT, AT_B, 3), ("refused", SUITE, b"", NO_MEMORY, 3),
         ("refused", LIVE, FIRST, NO_MEMORY, 3), ("refused", LIVE, FIRST + SECOND, NO_MEMORY, 3), ("aborted", LIVE, ABORTED, AT_B, 3),
     ]
     for kind, task, output, errors, status in true:

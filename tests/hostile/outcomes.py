@@ -17,7 +17,8 @@ from script_reader import Campaign, read_script
 from table import VERDICTS
 
 NO_MEMORY = b"ttrun: no memory\n"
-CSV, HISTORY = "--csv", "--history"
+CSV, HISTORY, JUNIT = "--csv", "--history", "--junit"
+SUITE_END = "</testsuite>\n</testsuites>\n"
 
 
 @dataclass
@@ -41,6 +42,19 @@ class Task:
         """The campaign of the input."""
         return read_script(self.given)
 
+    def behind(self, option: str) -> List[str]:
+        """The words that stand behind an option."""
+        return [word for before, word in zip(self.words, self.words[1:]) if before == option]
+
+    def chosen(self) -> List[str]:
+        """The names of the test cases that are run: those behind `--only`, or all, and of these the shard's."""
+        only = self.behind("--only")
+        names = [it.name for it in self.campaign() if not only or it.name in only]
+        for shard in self.behind("--shard"):
+            number, shards = map(int, shard.split("/"))
+            names = names[number - 1::shards]
+        return names
+
 
 @dataclass
 class Outcome:
@@ -55,6 +69,8 @@ def pieces_of(task: Task, text: bytes) -> List[bytes]:
     if task.has(CSV):
         lines = text.splitlines(keepends=True)
         return [b"".join(lines[:2]), *lines[2:]]
+    if task.has(JUNIT):
+        return re.findall(rb"<testcase .*?</testcase>\n", text, re.DOTALL)
     body = text[: text.index(b"\ncases ") + 1] if b"\ncases " in text else text
     starts = [it.start() for it in re.finditer(rb"(?m)^history " if task.has(HISTORY) else rb"(?m)^testcase ", body)]
     return [body[at:end] for at, end in zip(starts, [*starts[1:], len(body)])]
@@ -75,13 +91,26 @@ def tally_of(verdicts: List[str]) -> str:
     return " ".join([f"cases {len(verdicts)}", *(f"{it} {verdicts.count(it)}" for it in VERDICTS)]) + "\n"
 
 
-def aborted_report(task: Task, ample: bytes, finished: int, ending: str) -> bytes:
-    """The output of a campaign that was aborted behind so many test cases."""
+def aborted_suite(ample: bytes, pieces: List[bytes], name: str, why: str) -> bytes:
+    """The JUnit report of a campaign that was aborted at this test case, behind those that had finished."""
+    refused = (f'<testcase name="{name}" classname="ttrun">\n<error type="aborted" message="{why}"/>\n'
+               "<system-out>\n</system-out>\n</testcase>\n").encode()
+    elements = [*pieces, refused]
+    failures, errors, skipped = (sum(it.count(kind) for it in elements) for kind in (b"\n<failure ", b"\n<error ", b"\n<skipped/>"))
+    counts = f'tests="{len(elements)}" failures="{failures}" errors="{errors}" skipped="{skipped}"'
+    head = re.sub(rb'tests="\d+" failures="\d+" errors="\d+" skipped="\d+"', counts.encode(), ample[: ample.index(b"<testcase ")])
+    return head + b"".join(elements) + SUITE_END.encode()
+
+
+def aborted_report(task: Task, ample: bytes, finished: int, name: str, why: str) -> bytes:
+    """The output of a campaign that was aborted at this test case, behind so many that had finished."""
     pieces = pieces_of(task, ample)[:finished]
+    if task.has(JUNIT):
+        return aborted_suite(ample, pieces, name, why)
     text = b"".join(pieces) or header_of(task, ample)
     if task.has(CSV) or task.has(HISTORY):
         return text
-    return text + (tally_of(verdicts_of(task, pieces)) + ending).encode()
+    return text + (tally_of(verdicts_of(task, pieces)) + f"aborted at {name}: {why}\n").encode()
 
 
 def whole_pieces(task: Task, ample: bytes) -> List[bytes]:
@@ -108,7 +137,7 @@ def differs(task: Task, wanted: bytes, ran: Ran, count: int) -> List[str]:
 
 def judged_right(task: Task, ample: Ran, ran: Ran) -> Outcome:
     """A run that ended with the status of ample memory."""
-    count = len(task.campaign()) if task.is_run and task.has(HISTORY) else 0
+    count = len(task.chosen()) if task.is_run and task.has(HISTORY) else 0
     faults = differs(task, ample.output, ran, count)
     if ran.errors != ample.errors:
         faults.append(f"standard error: {ran.errors[:200]!r}")
@@ -117,11 +146,11 @@ def judged_right(task: Task, ample: Ran, ran: Ran) -> Outcome:
 
 def judged_aborted(task: Task, ample: Ran, ran: Ran, name: str, why: str) -> Outcome:
     """A campaign that was aborted at a test case."""
-    names = [it.name for it in task.campaign()]
+    names = task.chosen()
     if name not in names or why not in ("no memory", "no thread"):
         return Outcome("wrong", f"aborted at {name}: {why}")
     finished = names.index(name)
-    wanted = aborted_report(task, ample.output, finished, f"aborted at {name}: {why}\n")
+    wanted = aborted_report(task, ample.output, finished, name, why)
     faults = differs(task, wanted, ran, finished)
     return Outcome("wrong", "; ".join(faults)) if faults else Outcome("aborted")
 

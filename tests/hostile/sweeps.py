@@ -16,7 +16,9 @@ from examples import bytes_of
 from rows import text
 from sizes import many_behaviours
 
-FORMS: Tuple[Tuple[str, ...], ...] = ((), ("--csv",), ("--history",))
+# The forms of `run`: each can be written live but the JUnit report.
+LIVE_FORMS: Tuple[Tuple[str, ...], ...] = ((), ("--csv",), ("--history",))
+FORMS = (*LIVE_FORMS, ("--junit",))
 SCRIPTS = ("restart", "workers", "supervisor", "verdicts", "pumps")
 # A sweep goes on until so many runs in a row are refused nothing.
 BEHIND = 3
@@ -31,10 +33,15 @@ def tasks() -> List[Task]:
     found = []
     for name in SCRIPTS:
         given = bytes_of(f"{name}.script")
-        for live in ((), ("--live",)):
-            found += [Task(name, ("run", *live, *form), given) for form in FORMS]
+        found += [Task(name, ("run", *form), given) for form in FORMS]
+        found += [Task(name, ("run", "--live", *form), given) for form in LIVE_FORMS]
+        found.append(Task(name, ("run", "--list"), given))
         found += [Task(name, ("explore", *form), given) for form in ((), ("--history",), ("--details",))]
     found.append(Task("verdicts", ("run", "--stop-on", "fail"), bytes_of("verdicts.script")))
+    chosen = ("--only", "t_fail", "--only", "t_pass")
+    found += [Task("verdicts", ("run", *chosen, *form), bytes_of("verdicts.script")) for form in FORMS]
+    found.append(Task("verdicts", ("run", "--only", "t_nowhere"), bytes_of("verdicts.script")))
+    found += [Task("verdicts", ("run", "--shard", "2/3", it), bytes_of("verdicts.script")) for it in ("--list", "--junit")]
     found.append(Task("a_refused_script", ("run",), text("testcase t;behaviour main;alive nobody;end;end")))
     found.append(Task("a_misspelt_script", ("run", "--explain"), text("testcase t;behaviour main;setverdct pass;end;end")))
     found.append(Task("sixty_four_behaviours", ("run", "--csv"), many_behaviours(64)))
