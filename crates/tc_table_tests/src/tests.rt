@@ -1,11 +1,38 @@
-//! Calls on a table and on a state, and lists of entries. What a test calls again and again stands in functions without
-//! clauses, so that its proof carries none of the table's.
+//! Calls on a table and on a state, and lists of entries. The calls of the library stand in small functions without
+//! clauses, so that the proof of a test carries none of the library's.
 use std::alloc::Global;
+use std::process::Abort;
 use std::test::Fail;
 use tc_table::{
     Args, CaseState, CheckFault, Comp, Entry, Fault, Group, NoMemory, Op, Phase, Reply, Run, Table,
     Target, UserVerdict, Verdict, copied_entries, replay, replay_check,
 };
+
+/// What is seen of a component.
+#[derive(Clone, Copy, PartialEq, Eq, Debug)]
+struct Seen {
+    phase: Option<Phase>,
+    local: Option<Verdict>,
+    last_run: Option<Run>,
+    is_alive_type: bool,
+}
+
+/// What is seen of a component that there is not.
+const NOTHING: Seen = Seen {
+    phase: None,
+    local: None,
+    last_run: None,
+    is_alive_type: false,
+};
+
+/// What is seen of a test case.
+#[derive(Clone, Copy, PartialEq, Eq, Debug)]
+struct Whole {
+    behaviours: u16,
+    components: u32,
+    overall: Verdict,
+    is_over: bool,
+}
 
 /// A Create without a name.
 fn create(alive: bool) -> Op {
@@ -28,10 +55,123 @@ fn entry(op: Op, reply: Reply) -> Entry {
     }
 }
 
+/// A table of two behaviours.
+fn new_table(alloc: Global) -> Result<Table, NoMemory> {
+    Table::new(alloc, 2)
+}
+
+fn would(table: &Table, caller: u16, op: &Op) -> Reply {
+    table.would(Run(caller), op)
+}
+
+fn play(table: &mut Table, caller: u16, op: &Op) -> Result<Reply, NoMemory> {
+    table.play(Run(caller), op.copy())
+}
+
+fn copied(table: &Table, alloc: Global) -> Result<Table, NoMemory> {
+    table.copied(alloc)
+}
+
+fn room(table: &Table) -> usize {
+    table.room()
+}
+
+fn is_active(table: &Table, run: u16) -> bool {
+    table.is_active(Run(run))
+}
+
+fn entries(table: &Table) -> usize {
+    table.history().len()
+}
+
+fn seen_in(table: &Table, comp: u32) -> Seen {
+    Seen {
+        phase: table.phase_of(Comp(comp)),
+        local: table.local(Comp(comp)),
+        last_run: table.last_run(Comp(comp)),
+        is_alive_type: table.is_alive_type(Comp(comp)),
+    }
+}
+
+fn whole_of(table: &Table) -> Whole {
+    Whole {
+        behaviours: table.behaviours(),
+        components: table.components(),
+        overall: table.overall(),
+        is_over: table.is_over(),
+    }
+}
+
+/// A state of two behaviours at its opening.
+fn new_state(alloc: Global) -> Result<CaseState, NoMemory> {
+    CaseState::new(alloc, 2)
+}
+
+fn state_would(state: &CaseState, caller: u16, op: &Op) -> Reply {
+    state.would(Run(caller), op)
+}
+
+fn state_play(state: &mut CaseState, caller: u16, op: &Op) -> Result<Reply, NoMemory> {
+    state.play(Run(caller), op.copy())
+}
+
+fn state_copied(state: &CaseState, alloc: Global) -> Result<CaseState, NoMemory> {
+    state.copied(alloc)
+}
+
+fn seen_in_state(state: &CaseState, comp: u32) -> Seen {
+    Seen {
+        phase: state.phase_of(Comp(comp)),
+        local: state.local(Comp(comp)),
+        last_run: state.last_run(Comp(comp)),
+        is_alive_type: state.is_alive_type(Comp(comp)),
+    }
+}
+
+fn whole_of_state(state: &CaseState) -> Whole {
+    Whole {
+        behaviours: state.behaviours(),
+        components: state.components(),
+        overall: state.overall(),
+        is_over: state.is_over(),
+    }
+}
+
+/// The check of a list of entries of a test case of one behaviour.
+fn checked(alloc: Global, list: &[Entry]) -> Result<Verdict, CheckFault> {
+    replay_check(alloc, 1, list)
+}
+
+/// The state behind a list of entries of a test case of three behaviours.
+fn replayed(alloc: Global, list: &[Entry]) -> Result<CaseState, CheckFault> {
+    replay(alloc, 3, list)
+}
+
+/// Plays the moves on a table, and compares the replies.
+fn plays<R: Abort>(rt: &R, table: &mut Table, moves: &[(u16, Op, Reply)]) -> Result<(), Fail> {
+    for (caller, op, reply) in moves {
+        assert_eq!(rt; play(table, *caller, op)?, *reply);
+    }
+    Ok(())
+}
+
+/// Asks a state what it would reply to each of the moves, plays it, and compares both replies.
+fn state_plays<R: Abort>(
+    rt: &R,
+    state: &mut CaseState,
+    moves: &[(u16, Op, Reply)],
+) -> Result<(), Fail> {
+    for (caller, op, reply) in moves {
+        assert_eq!(rt; state_would(state, *caller, op), *reply);
+        assert_eq!(rt; state_play(state, *caller, op)?, *reply);
+    }
+    Ok(())
+}
+
 #[test]
 fn calls_on_a_table(rt: HostRuntime) -> Result<(), Fail> {
-    let mut table = Table::new(rt.alloc(), 2)?;
-    assert_eq!(rt; table.would(Run(0), &create(true)), Reply::Made(Comp(1)));
+    let mut table = new_table(rt.alloc())?;
+    assert_eq!(rt; would(&table, 0, &create(true)), Reply::Made(Comp(1)));
     let moves = [
         (0, create(true), Reply::Made(Comp(1))),
         (0, start(1, 1), Reply::Ok),
@@ -39,33 +179,39 @@ fn calls_on_a_table(rt: HostRuntime) -> Result<(), Fail> {
         (1, Op::GetVerdict, Reply::Local(Verdict::Fail)),
         (0, Op::Stop(Group::All), Reply::Ok),
     ];
-    for (caller, op, reply) in moves {
-        assert_eq!(rt; table.play(Run(caller), op)?, reply);
-    }
-    assert_eq!(rt; table.behaviours(), 2);
-    assert_eq!(rt; table.last_run(Comp(1)), Some(Run(1)));
-    assert!(rt; !table.is_active(Run(1)));
-    assert_eq!(rt; table.components(), 2);
-    assert_eq!(rt; table.phase_of(Comp(0)), Some(Phase::Running(Run(0))));
-    assert_eq!(rt; table.phase_of(Comp(1)), Some(Phase::Stopped));
-    assert_eq!(rt; table.phase_of(Comp(2)), None);
-    assert!(rt; table.is_alive_type(Comp(1)));
-    assert!(rt; !table.is_alive_type(Comp(0)) && !table.is_alive_type(Comp(2)));
-    assert_eq!(rt; table.local(Comp(1)), Some(Verdict::Fail));
-    assert_eq!(rt; table.local(Comp(2)), None);
-    assert_eq!(rt; table.overall(), Verdict::Fail);
-    assert_eq!(rt; table.history().len(), 5);
-    assert!(rt; !table.is_over());
-    assert_eq!(rt; table.play(Run(0), Op::Finish)?, Reply::Ok);
-    assert!(rt; table.is_over());
-    assert_eq!(rt; table.phase_of(Comp(1)), Some(Phase::Killed));
-    assert_eq!(rt; table.play(Run(0), Op::Finish)?, Reply::Ended);
+    plays(&rt, &mut table, &moves)?;
+    assert!(rt; !is_active(&table, 1));
+    assert_eq!(rt; entries(&table), 5);
+    let mut case = Whole {
+        behaviours: 2,
+        components: 2,
+        overall: Verdict::Fail,
+        is_over: false,
+    };
+    assert_eq!(rt; whole_of(&table), case);
+    let mut component = Seen {
+        phase: Some(Phase::Stopped),
+        local: Some(Verdict::Fail),
+        last_run: Some(Run(1)),
+        is_alive_type: true,
+    };
+    assert_eq!(rt; seen_in(&table, 1), component);
+    assert_eq!(rt; seen_in(&table, 2), NOTHING);
+    let main = seen_in(&table, 0);
+    assert_eq!(rt; main.phase, Some(Phase::Running(Run(0))));
+    assert!(rt; !main.is_alive_type);
+    assert_eq!(rt; play(&mut table, 0, &Op::Finish)?, Reply::Ok);
+    case.is_over = true;
+    assert_eq!(rt; whole_of(&table), case);
+    component.phase = Some(Phase::Killed);
+    assert_eq!(rt; seen_in(&table, 1), component);
+    assert_eq!(rt; play(&mut table, 0, &Op::Finish)?, Reply::Ended);
     Ok(())
 }
 
 #[test]
 fn stop_of_a_case(rt: HostRuntime) -> Result<(), Fail> {
-    let mut state = CaseState::new(rt.alloc(), 2)?;
+    let mut state = new_state(rt.alloc())?;
     let moves = [
         (1, Op::StopCase, Reply::Ended),
         (0, create(true), Reply::Made(Comp(1))),
@@ -75,24 +221,26 @@ fn stop_of_a_case(rt: HostRuntime) -> Result<(), Fail> {
         (0, Op::GetVerdict, Reply::Ended),
         (1, Op::StopCase, Reply::Ended),
     ];
-    for (caller, op, reply) in moves {
-        assert_eq!(rt; state.would(Run(caller), &op), reply);
-        assert_eq!(rt; state.play(Run(caller), op)?, reply);
-    }
-    assert!(rt; state.is_over());
-    assert_eq!(rt; state.phase_of(Comp(0)), Some(Phase::Killed));
-    assert_eq!(rt; state.phase_of(Comp(1)), Some(Phase::Killed));
-    assert_eq!(rt; state.local(Comp(0)), Some(Verdict::None));
-    assert_eq!(rt; state.local(Comp(1)), Some(Verdict::Error));
-    assert_eq!(rt; state.overall(), Verdict::Error);
+    state_plays(&rt, &mut state, &moves)?;
+    let (main, component) = (seen_in_state(&state, 0), seen_in_state(&state, 1));
+    assert_eq!(rt; main.phase, Some(Phase::Killed));
+    assert_eq!(rt; main.local, Some(Verdict::None));
+    assert_eq!(rt; component.phase, Some(Phase::Killed));
+    assert_eq!(rt; component.local, Some(Verdict::Error));
+    let case = whole_of_state(&state);
+    assert!(rt; case.is_over);
+    assert_eq!(rt; case.overall, Verdict::Error);
     Ok(())
 }
 
 #[test]
 fn calls_on_a_state(rt: HostRuntime) -> Result<(), Fail> {
-    let mut state = CaseState::new(rt.alloc(), 2)?;
-    assert_eq!(rt; state.components(), 1);
-    assert_eq!(rt; state.would(Run(0), &create(false)), Reply::Made(Comp(1)));
+    let mut state = new_state(rt.alloc())?;
+    assert_eq!(rt; whole_of_state(&state).components, 1);
+    assert_eq!(rt;
+        state_would(&state, 0, &create(false)),
+        Reply::Made(Comp(1))
+    );
     let wait = Op::Wait {
         killed: false,
         target: Target::All,
@@ -106,26 +254,27 @@ fn calls_on_a_state(rt: HostRuntime) -> Result<(), Fail> {
         (1, Op::Finish, Reply::Ok),
         (1, Op::GetVerdict, Reply::Ended),
     ];
-    for (caller, op, reply) in moves {
-        assert_eq!(rt; state.would(Run(caller), &op), reply);
-        assert_eq!(rt; state.play(Run(caller), op)?, reply);
-    }
-    assert_eq!(rt; state.components(), 2);
-    assert_eq!(rt; state.phase_of(Comp(0)), Some(Phase::Running(Run(0))));
-    assert_eq!(rt; state.phase_of(Comp(1)), Some(Phase::Killed));
-    assert_eq!(rt; state.phase_of(Comp(2)), None);
-    assert_eq!(rt; state.local(Comp(0)), Some(Verdict::None));
-    assert!(rt; !state.is_alive_type(Comp(1)));
-    assert_eq!(rt; state.local(Comp(1)), Some(Verdict::Inconc));
-    assert_eq!(rt; state.local(Comp(2)), None);
-    assert_eq!(rt; state.overall(), Verdict::Inconc);
-    assert!(rt; !state.is_over());
-    assert_eq!(rt;
-        state.play(Run(0), Op::Stop(Group::One(Comp(7))))?,
-        Reply::Fault(Fault::NoComponent)
-    );
-    assert!(rt; state.is_over());
-    assert_eq!(rt; state.overall(), Verdict::Error);
+    state_plays(&rt, &mut state, &moves)?;
+    let mut case = Whole {
+        behaviours: 2,
+        components: 2,
+        overall: Verdict::Inconc,
+        is_over: false,
+    };
+    assert_eq!(rt; whole_of_state(&state), case);
+    let (main, component) = (seen_in_state(&state, 0), seen_in_state(&state, 1));
+    assert_eq!(rt; main.phase, Some(Phase::Running(Run(0))));
+    assert_eq!(rt; main.local, Some(Verdict::None));
+    assert_eq!(rt; component.phase, Some(Phase::Killed));
+    assert_eq!(rt; component.local, Some(Verdict::Inconc));
+    assert!(rt; !component.is_alive_type);
+    assert_eq!(rt; seen_in_state(&state, 2), NOTHING);
+    let stop = Op::Stop(Group::One(Comp(7)));
+    let reply = state_play(&mut state, 0, &stop)?;
+    assert_eq!(rt; reply, Reply::Fault(Fault::NoComponent));
+    case.is_over = true;
+    case.overall = Verdict::Error;
+    assert_eq!(rt; whole_of_state(&state), case);
     Ok(())
 }
 
@@ -133,13 +282,11 @@ fn calls_on_a_state(rt: HostRuntime) -> Result<(), Fail> {
 fn quiet_calls(rt: HostRuntime) -> Result<(), Fail> {
     let mut table = Table::new(rt.alloc(), 1)?;
     table.make_room(2)?;
-    assert!(rt; 2 <= table.room());
-    let before = table.room();
-    assert_eq!(rt;
-        table.play(Run(0), Op::GetVerdict)?,
-        Reply::Local(Verdict::None)
-    );
-    assert!(rt; before <= table.room() + 1);
+    let before = room(&table);
+    assert!(rt; 2 <= before);
+    let reply = play(&mut table, 0, &Op::GetVerdict)?;
+    assert_eq!(rt; reply, Reply::Local(Verdict::None));
+    assert!(rt; before.saturating_sub(1) <= room(&table));
     Ok(())
 }
 
@@ -155,18 +302,13 @@ fn replay_check_of_a_list(rt: HostRuntime) -> Result<(), Fail> {
         entry(Op::Alive(Target::One(Comp(1))), Reply::Answer(true)),
         entry(wait, Reply::Matched),
     ];
-    match replay_check(rt.alloc(), 1, &list) {
-        Err(CheckFault::Differs { at, reply }) => {
-            assert_eq!(rt; at, 3);
-            assert_eq!(rt; reply, Reply::Parked);
-        }
-        _ => panic!(rt; "a matched wait was found legal"),
-    }
+    let differs = CheckFault::Differs {
+        at: 3,
+        reply: Reply::Parked,
+    };
+    assert_eq!(rt; checked(rt.alloc(), &list), Err(differs));
     list[3].reply = Reply::Parked;
-    match replay_check(rt.alloc(), 1, &list) {
-        Ok(verdict) => assert_eq!(rt; verdict, Verdict::None),
-        Err(_) => panic!(rt; "a parked wait was not found legal"),
-    }
+    assert_eq!(rt; checked(rt.alloc(), &list), Ok(Verdict::None));
     Ok(())
 }
 
@@ -178,24 +320,23 @@ fn replay_of_a_restart(rt: HostRuntime) -> Result<(), Fail> {
         entry(Op::Stop(Group::One(Comp(1))), Reply::Ok),
         entry(start(1, 2), Reply::Ok),
     ];
-    let Ok(state) = replay(rt.alloc(), 3, &list) else {
-        panic!(rt; "a restart was not found legal")
-    };
-    assert_eq!(rt; state.behaviours(), 3);
-    assert_eq!(rt; state.last_run(Comp(0)), Some(Run(0)));
-    assert_eq!(rt; state.last_run(Comp(1)), Some(Run(2)));
-    assert_eq!(rt; state.last_run(Comp(2)), None);
-    assert!(rt; state.is_active(Run(0)));
-    assert!(rt; !state.is_active(Run(1)));
-    assert!(rt; state.is_active(Run(2)));
-    assert_eq!(rt; state.local(Comp(1)), Some(Verdict::None));
+    let state = replayed(rt.alloc(), &list)?;
+    assert_eq!(rt; whole_of_state(&state).behaviours, 3);
+    let (main, component) = (seen_in_state(&state, 0), seen_in_state(&state, 1));
+    assert_eq!(rt; main.last_run, Some(Run(0)));
+    assert_eq!(rt; component.last_run, Some(Run(2)));
+    assert_eq!(rt; component.local, Some(Verdict::None));
+    assert_eq!(rt; seen_in_state(&state, 2).last_run, None);
+    for (run, wanted) in [(0, true), (1, false), (2, true)] {
+        assert_eq!(rt; state.is_active(Run(run)), wanted, "run {run}");
+    }
     Ok(())
 }
 
 #[test]
 fn texts_of_a_check(rt: HostRuntime) -> Result<(), Fail> {
     let list = [entry(Op::GetVerdict, Reply::Ok)];
-    let Err(differs) = replay_check(rt.alloc(), 1, &list) else {
+    let Err(differs) = checked(rt.alloc(), &list) else {
         panic!(rt; "a verdict call replied ok was found legal")
     };
     for (fault, text) in [
@@ -208,29 +349,53 @@ fn texts_of_a_check(rt: HostRuntime) -> Result<(), Fail> {
     Ok(())
 }
 
+/// Whether both have the same entries, as many as this.
+fn have_same(table: &Table, copy: &Table, wanted: usize) -> bool {
+    let (all, copies) = (table.history(), copy.history());
+    all.len() == wanted
+        && copies.len() == wanted
+        && all
+            .iter()
+            .zip(copies)
+            .all(|(entry, other)| entry.same(other))
+}
+
+/// How many entries a copy of the history has.
+fn copies(table: &Table, alloc: Global) -> Result<usize, NoMemory> {
+    Ok(copied_entries(alloc, table.history())?.len())
+}
+
 #[test]
 fn a_copy_goes_on_by_itself(rt: HostRuntime) -> Result<(), Fail> {
     let alloc = rt.alloc();
-    let mut table = Table::new(alloc, 2)?;
-    let create = create(false);
-    assert_eq!(rt; table.play(Run(0), create)?, Reply::Made(Comp(1)));
-    assert_eq!(rt; table.play(Run(0), start(1, 1))?, Reply::Ok);
-    let mut copy = table.copied(alloc)?;
-    assert_eq!(rt; copy.behaviours(), 2);
-    assert_eq!(rt; copied_entries(alloc, copy.history())?.len(), 2);
-    for (entry, other) in table.history().iter().zip(copy.history()) {
-        assert!(rt; entry.same(other));
-    }
-    assert_eq!(rt; copy.play(Run(0), Op::Finish)?, Reply::Ok);
-    assert!(rt; copy.is_over() && !table.is_over());
+    let mut table = new_table(alloc)?;
+    let moves = [
+        (0, create(false), Reply::Made(Comp(1))),
+        (0, start(1, 1), Reply::Ok),
+    ];
+    plays(&rt, &mut table, &moves)?;
+    let mut copy = copied(&table, alloc)?;
+    assert_eq!(rt; whole_of(&copy).behaviours, 2);
+    assert_eq!(rt; copies(&copy, alloc)?, 2);
+    assert!(rt; have_same(&table, &copy, 2));
+    assert_eq!(rt; play(&mut copy, 0, &Op::Finish)?, Reply::Ok);
+    assert!(rt; whole_of(&copy).is_over && !whole_of(&table).is_over);
     let pass = Op::SetVerdict(UserVerdict::Pass);
-    assert_eq!(rt; copy.would(Run(1), &pass), Reply::Ended);
-    assert_eq!(rt; table.play(Run(1), pass)?, Reply::Ok);
-    assert_eq!(rt; table.overall(), Verdict::Pass);
-    assert_eq!(rt; copy.overall(), Verdict::None);
-    let mut state = CaseState::new(alloc, 1)?;
-    assert!(rt; !state.copied(alloc)?.is_over());
-    assert_eq!(rt; state.play(Run(0), Op::Finish)?, Reply::Ok);
-    assert!(rt; state.copied(alloc)?.is_over());
+    assert_eq!(rt; would(&copy, 1, &pass), Reply::Ended);
+    assert_eq!(rt; play(&mut table, 1, &pass)?, Reply::Ok);
+    assert_eq!(rt; whole_of(&table).overall, Verdict::Pass);
+    assert_eq!(rt; whole_of(&copy).overall, Verdict::None);
+    Ok(())
+}
+
+#[test]
+fn a_copy_of_a_state(rt: HostRuntime) -> Result<(), Fail> {
+    let mut state = new_state(rt.alloc())?;
+    let early = state_copied(&state, rt.alloc())?;
+    assert!(rt; !whole_of_state(&early).is_over);
+    assert_eq!(rt; state_play(&mut state, 0, &Op::Finish)?, Reply::Ok);
+    let late = state_copied(&state, rt.alloc())?;
+    assert!(rt; whole_of_state(&late).is_over);
+    assert!(rt; !whole_of_state(&early).is_over);
     Ok(())
 }
