@@ -1,16 +1,18 @@
-//! Worked cases, each a whole input with its whole output.
+//! Worked cases, each a whole input with its whole output. The calls of the library stand in small functions without
+//! clauses, so that the proof of a test carries none of the library's.
+use calls::{answer, carry_out, fault_line};
 use std::alloc::{AllocError, Global};
 use std::process::Abort;
 use std::sync::Wait;
 use std::test::Fail;
 use std::thread::Threads;
 use tc_command::{Choice, Form, RunOptions, Task};
-use tc_program::carry_out::carry_out;
 use tc_program::check::check;
-use tc_program::fault::{RunFault, fault_line};
+use tc_program::fault::RunFault;
 use tc_program::outcome::Outcome;
 use tc_program::replay::replay;
 
+mod calls;
 mod campaigns;
 mod choosing;
 mod devices;
@@ -138,7 +140,89 @@ fn run_task<'a>(alloc: Global, form: Form, live: bool, stop_on: Option<&'a str>)
     Task::Run(run_options(alloc, form, live, stop_on))
 }
 
-// Carries out the task on the input, and compares what comes of it; what is told is told whole.
+// What is written and told of an input, and what comes of it.
+#[derive(Drop)]
+struct Came {
+    written: Vec<u8>,
+    told: Vec<u8>,
+    outcome: Outcome,
+}
+
+impl Came {
+    // Compares it with what is wanted; what is told is told whole.
+    fn compare<R: Abort>(
+        &self,
+        rt: &R,
+        alloc: Global,
+        wanted: &Wanted,
+        of: &str,
+    ) -> Result<(), Fail> {
+        let told = text_of(alloc, wanted.told)?;
+        let written = text_of(alloc, wanted.written)?;
+        assert_eq!(rt; self.told.as_slice(), told.as_slice(), "{of}");
+        assert_eq!(rt; self.written.as_slice(), written.as_slice(), "{of}");
+        compare_outcome(rt, &self.outcome, wanted.status, of);
+        Ok(())
+    }
+}
+
+// Compares the outcome with one of this status, of which all was told.
+fn compare_outcome<R: Abort>(rt: &R, outcome: &Outcome, status: u8, of: &str) {
+    assert_eq!(rt; outcome.told, Ok(()), "{of}");
+    assert_eq!(rt; outcome.status, status, "{of}");
+}
+
+// What comes of the task on the input.
+fn came_of<R: Threads + Wait + Copy + Send + 'static>(
+    rt: &R,
+    alloc: Global,
+    task: Task,
+    input: &[u8],
+) -> Came {
+    let mut reader = input;
+    let mut written = Vec::new(alloc);
+    let mut told = Vec::new(alloc);
+    let outcome = carry_out(rt, alloc, task, &mut reader, &mut written, &mut told);
+    Came {
+        written,
+        told,
+        outcome,
+    }
+}
+
+// What comes of the words of the command line on the input.
+fn came_of_line<R: Threads + Wait + Copy + Send + 'static>(
+    rt: &R,
+    alloc: Global,
+    line: &str,
+    input: &[u8],
+) -> Result<Came, AllocError> {
+    let words = Ok(words_of(alloc, line)?);
+    let mut reader = input;
+    let mut written = Vec::new(alloc);
+    let mut told = Vec::new(alloc);
+    let outcome = answer(rt, alloc, words, &mut reader, &mut written, &mut told);
+    Ok(Came {
+        written,
+        told,
+        outcome,
+    })
+}
+
+// Answers the words of the command line on the input, and compares what comes of it.
+fn answers<R: Abort + Threads + Wait + Copy + Send + 'static>(
+    rt: &R,
+    alloc: Global,
+    line: &str,
+    input: &str,
+    wanted: Wanted,
+) -> Result<(), Fail> {
+    let input = text_of(alloc, input)?;
+    let came = came_of_line(rt, alloc, line, input.as_slice())?;
+    came.compare(rt, alloc, &wanted, line)
+}
+
+// Carries out the task on the input, and compares what comes of it.
 fn carries_out<R: Abort + Threads + Wait + Copy + Send + 'static>(
     rt: &R,
     alloc: Global,
@@ -146,23 +230,7 @@ fn carries_out<R: Abort + Threads + Wait + Copy + Send + 'static>(
     input: &[u8],
     wanted: Wanted,
 ) -> Result<(), Fail> {
-    let mut reader = input;
-    let mut written = Vec::new(alloc);
-    let mut told = Vec::new(alloc);
-    let outcome = carry_out(rt, alloc, task, &mut reader, &mut written, &mut told);
-    assert_eq!(rt; told.as_slice(), text_of(alloc, wanted.told)?.as_slice());
-    assert_eq!(rt;
-        written.as_slice(),
-        text_of(alloc, wanted.written)?.as_slice()
-    );
-    assert_eq!(rt;
-        outcome,
-        Outcome {
-            status: wanted.status,
-            told: Ok(())
-        }
-    );
-    Ok(())
+    came_of(rt, alloc, task, input).compare(rt, alloc, &wanted, "a task")
 }
 
 // No bytes for no text, else its lines.

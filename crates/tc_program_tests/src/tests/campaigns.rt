@@ -1,6 +1,5 @@
 //! Campaigns: scripts that are refused, and scripts that are run.
 use super::*;
-use tc_program::answer::answer;
 use tc_program::script::stop_word;
 use tc_stream::devices::SlowReader;
 use tc_verdict::Verdict;
@@ -41,47 +40,6 @@ const STUCK_HISTORY: &str =
     "history 2 solo 1;0 create -> made 1;0 setverdict pass -> ok;0 wait done 1 -> parked;0 wake done 1 -> error stuck;end error";
 
 const NO_VERDICT: &str = "ttrun: --stop-on takes none, pass, inconc, fail or error";
-
-// Answers the words of the command line on the input, and compares what comes of it; what is told is told whole.
-fn answers<R: Abort + Threads + Wait + Copy + Send + 'static>(
-    rt: &R,
-    alloc: Global,
-    line: &str,
-    input: &str,
-    wanted: Wanted,
-) -> Result<(), Fail> {
-    let words = words_of(alloc, line)?;
-    let input = text_of(alloc, input)?;
-    let mut written = Vec::new(alloc);
-    let mut told = Vec::new(alloc);
-    let outcome = answer(
-        rt,
-        alloc,
-        Ok(words),
-        &mut input.as_slice(),
-        &mut written,
-        &mut told,
-    );
-    assert_eq!(rt;
-        told.as_slice(),
-        text_of(alloc, wanted.told)?.as_slice(),
-        "{line}"
-    );
-    assert_eq!(rt;
-        written.as_slice(),
-        text_of(alloc, wanted.written)?.as_slice(),
-        "{line}"
-    );
-    assert_eq!(rt;
-        outcome,
-        Outcome {
-            status: wanted.status,
-            told: Ok(())
-        },
-        "{line}"
-    );
-    Ok(())
-}
 
 #[test]
 fn each_command_line(rt: HostRuntime) -> Result<(), Fail> {
@@ -205,23 +163,12 @@ fn words_of_stop_on(rt: HostRuntime) -> Result<(), Fail> {
     assert_eq!(rt; stop_word("inconc"), Ok(Verdict::Inconc));
     for word in ["maybe", "Fail", ""] {
         assert_eq!(rt; stop_word(word), Err(RunFault::StopOn));
-        let mut reader = SlowReader {
-            rest: CASES.as_bytes(),
-            reads: 0,
-            fails_at: usize::MAX,
-        };
+        let mut reader = SlowReader::new(CASES.as_bytes(), usize::MAX);
         let mut written = Vec::new(rt.alloc());
         let mut told = Vec::new(rt.alloc());
         let task = run_task(rt.alloc(), Form::Text, false, Some(word));
         let outcome = carry_out(&rt, rt.alloc(), task, &mut reader, &mut written, &mut told);
-        assert_eq!(rt;
-            outcome,
-            Outcome {
-                status: 3,
-                told: Ok(())
-            },
-            "{word}"
-        );
+        compare_outcome(&rt, &outcome, 3, word);
         assert_eq!(rt; told.as_slice(), lines(rt.alloc(), NO_VERDICT)?.as_slice());
         assert!(rt; written.is_empty());
         assert_eq!(rt; reader.reads, 0, "{word}");
@@ -257,28 +204,6 @@ fn a_case_of_256_behaviours(rt: HostRuntime) -> Result<(), Fail> {
     carries_out(&rt, rt.alloc(), task, text.as_bytes(), wanted)
 }
 
-// What a script's run writes in this form, and what comes of it.
-fn run_of<R: Threads + Wait + Copy + Send + 'static>(
-    rt: &R,
-    alloc: Global,
-    script: &str,
-    line: &str,
-) -> Result<(Vec<u8>, Vec<u8>, Outcome), Fail> {
-    let words = words_of(alloc, line)?;
-    let input = lines(alloc, script)?;
-    let mut written = Vec::new(alloc);
-    let mut told = Vec::new(alloc);
-    let outcome = answer(
-        rt,
-        alloc,
-        Ok(words),
-        &mut input.as_slice(),
-        &mut written,
-        &mut told,
-    );
-    Ok((written, told, outcome))
-}
-
 // Whether a live run writes, tells and answers what a run with these options does.
 fn compare_with_live<R: Abort + Threads + Wait + Copy + Send + 'static>(
     rt: &R,
@@ -288,12 +213,17 @@ fn compare_with_live<R: Abort + Threads + Wait + Copy + Send + 'static>(
 ) -> Result<(), Fail> {
     let plain = format!(in alloc; "ttrun run{options}")?;
     let live = format!(in alloc; "ttrun run --live{options}")?;
-    let (written, told, outcome) = run_of(rt, alloc, script, plain.as_str())?;
-    let (live_written, live_told, live_outcome) = run_of(rt, alloc, script, live.as_str())?;
-    assert!(rt; !written.is_empty(), "{options}");
-    assert_eq!(rt; live_written.as_slice(), written.as_slice(), "{options}");
-    assert_eq!(rt; live_told.as_slice(), told.as_slice(), "{options}");
-    assert_eq!(rt; live_outcome, outcome, "{options}");
+    let input = lines(alloc, script)?;
+    let run = came_of_line(rt, alloc, plain.as_str(), input.as_slice())?;
+    let live_run = came_of_line(rt, alloc, live.as_str(), input.as_slice())?;
+    assert!(rt; !run.written.is_empty(), "{options}");
+    assert_eq!(rt;
+        live_run.written.as_slice(),
+        run.written.as_slice(),
+        "{options}"
+    );
+    assert_eq!(rt; live_run.told.as_slice(), run.told.as_slice(), "{options}");
+    assert_eq!(rt; live_run.outcome, run.outcome, "{options}");
     Ok(())
 }
 

@@ -1,38 +1,10 @@
 //! Test cases that are chosen, and lists of them.
 use super::*;
 use tc_campaign::Shard;
-use tc_program::answer::answer;
 use tc_program::choosing::shard_of;
 
 const SCRIPT: &str =
     "testcase a;behaviour main;setverdict pass;end;end;testcase b;behaviour main;setverdict fail;end;end;testcase c;behaviour main;end;end;testcase d;behaviour main;setverdict inconc;end;end";
-
-// Answers the words on the script, and compares what is written, what is told, and the status.
-fn answers<R: Abort + Threads + Wait + Copy + Send + 'static>(
-    rt: &R,
-    alloc: Global,
-    line: &str,
-    wanted: Wanted,
-) -> Result<(), Fail> {
-    let words = words_of(alloc, line)?;
-    let input = lines(alloc, SCRIPT)?;
-    let mut written = Vec::new(alloc);
-    let mut told = Vec::new(alloc);
-    let outcome = answer(
-        rt,
-        alloc,
-        Ok(words),
-        &mut input.as_slice(),
-        &mut written,
-        &mut told,
-    );
-    let output = text_of(alloc, wanted.written)?;
-    let line_told = text_of(alloc, wanted.told)?;
-    assert_eq!(rt; told.as_slice(), line_told.as_slice(), "{line}");
-    assert_eq!(rt; written.as_slice(), output.as_slice(), "{line}");
-    assert_eq!(rt; outcome.status, wanted.status, "{line}");
-    Ok(())
-}
 
 #[test]
 fn lists_and_runs_of_chosen_test_cases(rt: HostRuntime) -> Result<(), Fail> {
@@ -52,7 +24,7 @@ fn lists_and_runs_of_chosen_test_cases(rt: HostRuntime) -> Result<(), Fail> {
             told: "",
             status,
         };
-        answers(&rt, rt.alloc(), line.as_str(), wanted)?;
+        answers(&rt, rt.alloc(), line.as_str(), SCRIPT, wanted)?;
     }
     let runs = [
         (" --only a", ";a,1,0,1,0,0,0,pass", 0),
@@ -79,7 +51,7 @@ fn lists_and_runs_of_chosen_test_cases(rt: HostRuntime) -> Result<(), Fail> {
                 told: "",
                 status,
             };
-            answers(&rt, rt.alloc(), line.as_str(), wanted)?;
+            answers(&rt, rt.alloc(), line.as_str(), SCRIPT, wanted)?;
         }
     }
     Ok(())
@@ -111,7 +83,7 @@ fn choices_that_are_refused(rt: HostRuntime) -> Result<(), Fail> {
                 told,
                 status: 3,
             };
-            answers(&rt, rt.alloc(), line.as_str(), wanted)?;
+            answers(&rt, rt.alloc(), line.as_str(), SCRIPT, wanted)?;
         }
     }
     Ok(())

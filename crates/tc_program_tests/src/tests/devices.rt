@@ -41,45 +41,56 @@ struct Row {
 
 const ROWS: usize = 12;
 
-// A row of a task that is no run.
-fn other_row(alloc: Global, number: usize) -> Result<Row, Fail> {
+// The task of a row that is no run, its input and its status.
+fn other_task(alloc: Global, number: usize) -> (Task<'static>, &'static str, u8) {
     let explains = false;
-    let form = if number == 2 {
-        ReportForm::Csv
-    } else {
-        ReportForm::Junit
-    };
-    let (task, input, status) = match number {
+    match number {
         0 => (Task::Replay { explains }, MOVES, 2),
         1 => (Task::Check { explains }, HISTORY, 3),
-        2 | 3 => (Task::Report { form, explains }, WRITTEN_HISTORY, 1),
-        4 => (
-            Task::Explore {
-                histories: false,
-                details: false,
-                states: None,
-            },
-            SCRIPT,
-            0,
-        ),
-        _ => (
-            Task::List(run_options(alloc, Form::Text, false, None).choice),
-            SCRIPT,
-            0,
-        ),
-    };
+        2 => (report_task(ReportForm::Csv), WRITTEN_HISTORY, 1),
+        3 => (report_task(ReportForm::Junit), WRITTEN_HISTORY, 1),
+        4 => (explore_task(None), SCRIPT, 0),
+        _ => {
+            let options = run_options(alloc, Form::Text, false, None);
+            (Task::List(options.choice), SCRIPT, 0)
+        }
+    }
+}
+
+fn report_task(form: ReportForm) -> Task<'static> {
+    Task::Report {
+        form,
+        explains: false,
+    }
+}
+
+fn explore_task<'a>(states: Option<&'a str>) -> Task<'a> {
+    Task::Explore {
+        histories: false,
+        details: false,
+        states,
+    }
+}
+
+// The output of a row that is no run.
+fn other_output(alloc: Global, number: usize) -> Result<String, Fail> {
     let output = match number {
-        0 => REPLIES.to_string(alloc)?,
-        1 => JUDGED.to_string(alloc)?,
-        2 => TABLE.to_string(alloc)?,
-        3 => format!(in alloc; "{SUITE}{VERSION}{ELEMENTS}")?,
-        4 => "t fail complete".to_string(alloc)?,
-        _ => "t".to_string(alloc)?,
+        0 => REPLIES,
+        1 => JUDGED,
+        2 => TABLE,
+        3 => return Ok(format!(in alloc; "{SUITE}{VERSION}{ELEMENTS}")?),
+        4 => "t fail complete",
+        _ => "t",
     };
+    Ok(output.to_string(alloc)?)
+}
+
+fn other_row(alloc: Global, number: usize) -> Result<Row, Fail> {
+    let (task, input, status) = other_task(alloc, number);
     Ok(Row {
         task,
         input,
-        output,
+        output: other_output(alloc, number)?,
         status,
     })
 }
@@ -108,11 +119,7 @@ fn reads<R: Abort + Threads + Wait + Copy + Send + 'static>(
     fails_at: usize,
 ) -> Result<(), Fail> {
     let input = lines(alloc, row.input)?;
-    let mut reader = SlowReader {
-        rest: input.as_slice(),
-        reads: 0,
-        fails_at,
-    };
+    let mut reader = SlowReader::new(input.as_slice(), fails_at);
     let mut written = Vec::new(alloc);
     let mut told = Vec::new(alloc);
     let outcome = carry_out(rt, alloc, row.task, &mut reader, &mut written, &mut told);
@@ -129,7 +136,7 @@ fn reads<R: Abort + Threads + Wait + Copy + Send + 'static>(
     assert_eq!(rt; outcome.status, 3, "at {fails_at}");
     assert_eq!(rt; told.as_slice(), b"ttrun: read fault\n".as_slice());
     assert!(rt; written.is_empty());
-    assert_eq!(rt; reader.reads, fails_at + 1);
+    assert_eq!(rt; Some(reader.reads), fails_at.checked_add(1));
     Ok(())
 }
 
@@ -174,25 +181,41 @@ fn writes<R: Abort + Threads + Wait + Copy + Send + 'static>(
     Ok(())
 }
 
+// Fails each read of the row's task in turn, and none; how many there were.
+fn reads_each<R: Abort + Threads + Wait + Copy + Send + 'static>(
+    rt: &R,
+    alloc: Global,
+    number: usize,
+) -> Result<usize, Fail> {
+    let count = row_of(alloc, number)?.input.len().saturating_add(3);
+    for fails_at in 0..count {
+        reads(rt, alloc, row_of(alloc, number)?, fails_at)?;
+    }
+    Ok(count)
+}
+
+// Fails each write of the row's task in turn, and none; how many there were.
+fn writes_each<R: Abort + Threads + Wait + Copy + Send + 'static>(
+    rt: &R,
+    alloc: Global,
+    number: usize,
+    failure: WriteFailure,
+) -> Result<usize, Fail> {
+    let count = row_of(alloc, number)?.output.len().saturating_add(2);
+    for fails_at in 0..count {
+        writes(rt, alloc, row_of(alloc, number)?, fails_at, failure)?;
+    }
+    Ok(count)
+}
+
 #[test]
 fn failing_devices(rt: HostRuntime) -> Result<(), Fail> {
+    let alloc = rt.alloc();
     let mut failed = 0usize;
     for number in 0..ROWS {
-        for fails_at in 0..row_of(rt.alloc(), number)?.input.len() + 3 {
-            reads(&rt, rt.alloc(), row_of(rt.alloc(), number)?, fails_at)?;
-            failed = failed.saturating_add(1);
-        }
+        failed = failed.saturating_add(reads_each(&rt, alloc, number)?);
         for failure in [WriteFailure::Broken, WriteFailure::Full] {
-            for fails_at in 0..row_of(rt.alloc(), number)?.output.len() + 2 {
-                writes(
-                    &rt,
-                    rt.alloc(),
-                    row_of(rt.alloc(), number)?,
-                    fails_at,
-                    failure,
-                )?;
-                failed = failed.saturating_add(1);
-            }
+            failed = failed.saturating_add(writes_each(&rt, alloc, number, failure)?);
         }
     }
     assert!(rt; failed > 1_000, "{failed} calls");
@@ -201,17 +224,13 @@ fn failing_devices(rt: HostRuntime) -> Result<(), Fail> {
 
 #[test]
 fn bad_states_are_refused_before_a_read(rt: HostRuntime) -> Result<(), Fail> {
+    let line = "ttrun: --states takes a number from 1 to 1000000\n".as_bytes();
     for word in ["", "0", "01", "1000001", "many"] {
         let mut reader = SlowReader::new(SCRIPT.as_bytes(), 0);
         let mut written = Vec::new(rt.alloc());
         let mut told = Vec::new(rt.alloc());
-        let task = Task::Explore {
-            histories: false,
-            details: false,
-            states: Some(word),
-        };
+        let task = explore_task(Some(word));
         let outcome = carry_out(&rt, rt.alloc(), task, &mut reader, &mut written, &mut told);
-        let line = b"ttrun: --states takes a number from 1 to 1000000\n".as_slice();
         assert_eq!(rt; told.as_slice(), line, "{word}");
         assert_eq!(rt; outcome.status, 3);
         assert!(rt; written.is_empty());
@@ -245,44 +264,57 @@ fn standard_error_that_fails(rt: HostRuntime) -> Result<(), Fail> {
         } else {
             Err(RunFault::Write)
         };
-        assert_eq!(rt; outcome, Outcome { status: 3, told });
+        assert_eq!(rt; outcome.status, 3);
+        assert_eq!(rt; outcome.told, told);
         assert_eq!(rt; Some(errors.taken.as_slice()), line.get(..fails_at));
         assert!(rt; written.is_empty());
     }
     Ok(())
 }
 
-#[test]
-fn each_byte_in_place_of_each(rt: HostRuntime) -> Result<(), Fail> {
-    let mut text = lines(rt.alloc(), INCONC)?;
-    let mut answered = 0usize;
-    let mut refused = 0usize;
-    for place in 0..INCONC.len() {
-        let Some(kept) = text.as_slice().get(place).copied() else {
-            return Err(Fail::from("a place"));
-        };
-        for byte in 0..=255 {
-            if let Some(at) = text.as_mut_slice().get_mut(place) {
-                *at = byte;
+// How many inputs were answered, and how many were refused.
+#[derive(Default, Drop)]
+struct Tried {
+    answered: usize,
+    refused: usize,
+}
+
+impl Tried {
+    // Replays an input, which is answered or none of a list of moves.
+    fn replay<R: Abort>(&mut self, rt: &R, alloc: Global, input: &[u8]) {
+        let mut written = Vec::new(alloc);
+        match Command::Replay.answer(alloc, input, &mut written) {
+            Ok(status) => {
+                assert!(rt; status < 3);
+                self.answered = self.answered.saturating_add(1);
             }
-            let mut written = Vec::new(rt.alloc());
-            let mut read = Vec::new(rt.alloc());
-            match replay(rt.alloc(), &mut read, &mut text.as_slice(), &mut written) {
-                Ok(status) => {
-                    assert!(rt; status < 3);
-                    answered = answered.saturating_add(1);
-                }
-                Err(fault) => {
-                    assert!(rt; matches!(fault, RunFault::Text(_)));
-                    assert!(rt; written.is_empty());
-                    refused = refused.saturating_add(1);
-                }
+            Err(fault) => {
+                assert!(rt; matches!(fault, RunFault::Text(_)));
+                assert!(rt; written.is_empty());
+                self.refused = self.refused.saturating_add(1);
             }
-        }
-        if let Some(at) = text.as_mut_slice().get_mut(place) {
-            *at = kept;
         }
     }
+}
+
+// The text with this byte in this place.
+fn with_byte(alloc: Global, text: &str, place: usize, byte: u8) -> Result<Vec<u8>, Fail> {
+    let mut bytes = lines(alloc, text)?;
+    let at = bytes.as_mut_slice().get_mut(place).ok_or("a place")?;
+    *at = byte;
+    Ok(bytes)
+}
+
+#[test]
+fn each_byte_in_place_of_each(rt: HostRuntime) -> Result<(), Fail> {
+    let mut tried = Tried::default();
+    for place in 0..INCONC.len() {
+        for byte in 0..=255 {
+            let input = with_byte(rt.alloc(), INCONC, place, byte)?;
+            tried.replay(&rt, rt.alloc(), input.as_slice());
+        }
+    }
+    let Tried { answered, refused } = tried;
     assert!(rt; answered >= INCONC.len(), "{answered} answered");
     assert!(rt; refused > 15_000, "{refused} refused");
     Ok(())

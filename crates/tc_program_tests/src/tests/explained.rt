@@ -9,13 +9,10 @@ fn tells<R: Abort + Threads + Wait + Copy + Send + 'static>(
     input: &[u8],
     lines: &str,
 ) -> Result<(), Fail> {
-    let mut reader = input;
-    let mut written: Vec<u8> = Vec::new(alloc);
-    let mut errors: Vec<u8> = Vec::new(alloc);
-    let outcome = carry_out(rt, alloc, task, &mut reader, &mut written, &mut errors);
-    assert_eq!(rt; outcome.status, 3);
-    assert!(rt; written.is_empty());
-    assert_eq!(rt; errors.as_slice(), lines.as_bytes());
+    let came = came_of(rt, alloc, task, input);
+    assert_eq!(rt; came.outcome.status, 3);
+    assert!(rt; came.written.is_empty());
+    assert_eq!(rt; came.told.as_slice(), lines.as_bytes());
     Ok(())
 }
 

@@ -1,15 +1,16 @@
 //! What the program runs: test cases and their scripts.
 ghost use Rattle.tc_campaign.specs.Outline.{HasNames};
 
+use super::calls::run_script;
 use super::*;
+use std::io::Write;
 use tc_behaviour::{Behaviour, ScriptJob};
 use tc_book::open_case;
 use tc_campaign::{Case, Form as ReportForm};
 use tc_entry::Name;
-use tc_exec::{Callable, Ending, Job};
-use tc_program::jobs::run_script;
+use tc_exec::{Back, Callable, Ending, Job};
 use tc_program::run::{Options, run_cases, run_cases_live};
-use tc_script::read_campaign;
+use tc_script::{Script, read_campaign};
 use tc_stream::devices::{NarrowWriter, WriteFailure};
 
 const ABORTED: &[u8] = b"ttrun: aborted at a: no behaviours\n";
@@ -25,24 +26,72 @@ fn empty(alloc: Global, name: Name) -> Case<Job>
     }
 }
 
-#[test]
-fn wrong_argument_count_runs_nothing(rt: HostRuntime) -> Result<(), Fail> {
-    let alloc = rt.alloc();
+// The run of a test case of no behaviours.
+fn run_empty<R: Threads + Wait + Copy + Send + 'static, E: Write>(
+    rt: &R,
+    alloc: Global,
+    written: &mut Vec<u8>,
+    errors: &mut E,
+) -> Result<Outcome, Fail> {
+    let name = Name::read("a").ok_or("a name")?;
+    let options = Options {
+        stop_on: None,
+        form: Form::Text,
+    };
+    let cases = vec![in alloc; empty(alloc, name)]?;
+    Ok(run_cases(rt, alloc, cases, options, written, errors)?)
+}
+
+// The same, live.
+fn run_empty_live<R: Threads + Wait + Copy + Send + 'static>(
+    rt: &R,
+    alloc: Global,
+    written: &mut Vec<u8>,
+    errors: &mut Vec<u8>,
+) -> Result<Outcome, Fail> {
+    let name = Name::read("a").ok_or("a name")?;
+    let options = Options {
+        stop_on: None,
+        form: Form::Text,
+    };
+    let cases = vec![in alloc; empty(alloc, name)]?;
+    let form = ReportForm::Text;
+    Ok(run_cases_live(rt, alloc, cases, options, form, written, errors)?)
+}
+
+// A script of one parameter.
+fn script_of_one_parameter(alloc: Global) -> Result<Script, Fail> {
     let text = lines(
         alloc,
         "testcase t;behaviour main;start mtc w mtc;end;behaviour w a;end;end",
     )?;
+    let mut campaign = read_campaign(alloc, text.as_slice())?;
+    let (_, mut scripts) = campaign.take_first().ok_or("a test case")?;
+    let _main = scripts.take_first().ok_or("a behaviour")?;
+    let (_, script) = scripts.take_first().ok_or("a behaviour of one parameter")?;
+    Ok(script)
+}
+
+// How the script comes back, run by itself or as a job, from a pass of no arguments.
+fn back_of<R: Wait + Copy + Send + 'static>(
+    rt: &R,
+    alloc: Global,
+    script: Script,
+    as_job: bool,
+) -> Result<Back, Fail> {
+    let (_, pass, _) = open_case(alloc, 1)?;
+    Ok(if as_job {
+        ScriptJob::new(*rt, alloc, script).call(pass)
+    } else {
+        script.run(rt, alloc, pass)
+    })
+}
+
+#[test]
+fn wrong_argument_count_runs_nothing(rt: HostRuntime) -> Result<(), Fail> {
     for as_job in [false, true] {
-        let mut campaign = read_campaign(alloc, text.as_slice())?;
-        let (_, mut scripts) = campaign.take_first().ok_or("a test case")?;
-        let _main = scripts.take_first().ok_or("a behaviour")?;
-        let (_, script) = scripts.take_first().ok_or("a behaviour of one parameter")?;
-        let (_, pass, _) = open_case(alloc, 1)?;
-        let back = if as_job {
-            ScriptJob::new(rt, alloc, script).call(pass)
-        } else {
-            script.run(&rt, alloc, pass)
-        };
+        let script = script_of_one_parameter(rt.alloc())?;
+        let back = back_of(&rt, rt.alloc(), script, as_job)?;
         assert_eq!(rt; back.ending, Ending::Returned);
         assert!(rt; back.pass.log().is_empty());
         assert!(rt; !back.pass.is_ended());
@@ -50,82 +99,58 @@ fn wrong_argument_count_runs_nothing(rt: HostRuntime) -> Result<(), Fail> {
     Ok(())
 }
 
-#[test]
-fn one_script_run(rt: HostRuntime) -> Result<(), Fail> {
-    let alloc = rt.alloc();
-    let text = lines(alloc, "testcase t;behaviour main;setverdict inconc;end;end")?;
+// Runs the script with these options, and compares what comes of it.
+fn runs_script<R: Abort + Threads + Wait + Copy + Send + 'static>(
+    rt: &R,
+    alloc: Global,
+    options: &RunOptions,
+    script: &str,
+    wanted: Wanted,
+) -> Result<(), Fail> {
+    let text = lines(alloc, script)?;
+    let mut reader = text.as_slice();
     let mut written = Vec::new(alloc);
     let mut told = Vec::new(alloc);
-    let options = run_options(alloc, Form::Csv, false, Some("pass"));
-    let outcome = run_script(
-        &rt,
-        alloc,
-        &options,
-        &mut Vec::new(alloc),
-        &mut text.as_slice(),
-        &mut written,
-        &mut told,
-    )?;
-    assert_eq!(rt;
+    let outcome = run_script(rt, alloc, options, &mut reader, &mut written, &mut told)?;
+    let came = Came {
+        written,
+        told,
         outcome,
-        Outcome {
-            status: 1,
-            told: Ok(())
-        }
-    );
-    let wanted = lines(
-        alloc,
-        "testcase,components,none,pass,inconc,fail,error,verdict;t,1,0,0,1,0,0,inconc",
-    )?;
-    assert_eq!(rt; written.as_slice(), wanted.as_slice());
-    assert!(rt; told.is_empty());
-    Ok(())
+    };
+    came.compare(rt, alloc, &wanted, script)
+}
+
+#[test]
+fn one_script_run(rt: HostRuntime) -> Result<(), Fail> {
+    let options = run_options(rt.alloc(), Form::Csv, false, Some("pass"));
+    let wanted = Wanted {
+        written: "testcase,components,none,pass,inconc,fail,error,verdict;t,1,0,0,1,0,0,inconc",
+        told: "",
+        status: 1,
+    };
+    let script = "testcase t;behaviour main;setverdict inconc;end;end";
+    runs_script(&rt, rt.alloc(), &options, script, wanted)
 }
 
 #[test]
 fn stop_of_a_case(rt: HostRuntime) -> Result<(), Fail> {
-    let alloc = rt.alloc();
-    let text = lines(
-        alloc,
-        "testcase s;behaviour main;stopcase;setverdict pass;end;end",
-    )?;
-    let mut written = Vec::new(alloc);
-    let mut told = Vec::new(alloc);
-    let options = run_options(alloc, Form::Text, true, None);
-    let outcome = run_script(
-        &rt,
-        alloc,
-        &options,
-        &mut Vec::new(alloc),
-        &mut text.as_slice(),
-        &mut written,
-        &mut told,
-    )?;
-    assert_eq!(rt;
-        outcome,
-        Outcome {
-            status: 2,
-            told: Ok(())
-        }
-    );
-    let wanted = lines(
-        alloc,
-        "testcase s;run 0 main on 0;  stopcase -> ok;local 0 error;verdict error;cases 1 none 0 pass 0 inconc 0 fail 0 error 1;complete",
-    )?;
-    assert_eq!(rt; written.as_slice(), wanted.as_slice());
-    assert!(rt; told.is_empty());
-    Ok(())
+    let options = run_options(rt.alloc(), Form::Text, true, None);
+    let wanted = Wanted {
+        written: "testcase s;run 0 main on 0;  stopcase -> ok;local 0 error;verdict error;cases 1 none 0 pass 0 inconc 0 fail 0 error 1;complete",
+        told: "",
+        status: 2,
+    };
+    let script = "testcase s;behaviour main;stopcase;setverdict pass;end;end";
+    runs_script(&rt, rt.alloc(), &options, script, wanted)
 }
+
+const ABORTED_RUN: &str =
+    "cases 0 none 0 pass 0 inconc 0 fail 0 error 0;aborted at a: no behaviours";
 
 #[test]
 fn empty_case_is_told_of(rt: HostRuntime) -> Result<(), Fail> {
     let alloc = rt.alloc();
     for fails_at in 0..=ABORTED.len() {
-        let name = Name::read("a").ok_or("a name")?;
-        let options = Options {
-            stop_on: None,
-            form: Form::Text,
-        };
         let mut written = Vec::new(alloc);
         let mut errors = NarrowWriter {
             taken: Vec::new(alloc),
@@ -133,16 +158,11 @@ fn empty_case_is_told_of(rt: HostRuntime) -> Result<(), Fail> {
             fails_at,
             failure: WriteFailure::Broken,
         };
-        let cases = vec![in alloc; empty(alloc, name)]?;
-        let outcome = run_cases(&rt, alloc, cases, options, &mut written, &mut errors)?;
+        let outcome = run_empty(&rt, alloc, &mut written, &mut errors)?;
         assert_eq!(rt; outcome.status, 3);
         assert_eq!(rt; outcome.told.is_ok(), fails_at == ABORTED.len());
         assert_eq!(rt; Some(errors.taken.as_slice()), ABORTED.get(..fails_at));
-        let wanted = lines(
-            alloc,
-            "cases 0 none 0 pass 0 inconc 0 fail 0 error 0;aborted at a: no behaviours",
-        )?;
-        assert_eq!(rt; written.as_slice(), wanted.as_slice());
+        assert_eq!(rt; written.as_slice(), lines(alloc, ABORTED_RUN)?.as_slice());
     }
     Ok(())
 }
@@ -150,35 +170,11 @@ fn empty_case_is_told_of(rt: HostRuntime) -> Result<(), Fail> {
 #[test]
 fn empty_case_of_a_live_run(rt: HostRuntime) -> Result<(), Fail> {
     let alloc = rt.alloc();
-    let name = Name::read("a").ok_or("a name")?;
-    let options = Options {
-        stop_on: None,
-        form: Form::Text,
-    };
     let mut written = Vec::new(alloc);
     let mut errors = Vec::new(alloc);
-    let cases = vec![in alloc; empty(alloc, name)]?;
-    let outcome = run_cases_live(
-        &rt,
-        alloc,
-        cases,
-        options,
-        ReportForm::Text,
-        &mut written,
-        &mut errors,
-    )?;
-    assert_eq!(rt;
-        outcome,
-        Outcome {
-            status: 3,
-            told: Ok(())
-        }
-    );
+    let outcome = run_empty_live(&rt, alloc, &mut written, &mut errors)?;
+    compare_outcome(&rt, &outcome, 3, "a live run");
     assert_eq!(rt; errors.as_slice(), ABORTED);
-    let wanted = lines(
-        alloc,
-        "cases 0 none 0 pass 0 inconc 0 fail 0 error 0;aborted at a: no behaviours",
-    )?;
-    assert_eq!(rt; written.as_slice(), wanted.as_slice());
+    assert_eq!(rt; written.as_slice(), lines(alloc, ABORTED_RUN)?.as_slice());
     Ok(())
 }

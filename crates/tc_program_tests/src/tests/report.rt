@@ -1,12 +1,25 @@
 //! Forms of histories, and histories that are refused.
-use super::{lines, text_of};
-use std::alloc::AllocGlobal;
+use super::calls::report;
+use super::{Came, Wanted, lines};
+use std::alloc::{AllocGlobal, Global};
 use std::process::Abort;
 use std::test::Fail;
 use tc_command::ReportForm;
 use tc_program::fault::RunFault;
-use tc_program::outcome::Outcome;
-use tc_program::report::report;
+
+// What comes of a report of the input.
+fn report_of(alloc: Global, form: ReportForm, input: &str) -> Result<Came, Fail> {
+    let given = lines(alloc, input)?;
+    let mut reader = given.as_slice();
+    let mut written = Vec::new(alloc);
+    let mut told = Vec::new(alloc);
+    let outcome = report(alloc, form, &mut reader, &mut written, &mut told)?;
+    Ok(Came {
+        written,
+        told,
+        outcome,
+    })
+}
 
 // Reports the input, and compares what is written, what is told, and the status.
 fn reports<R: Abort + AllocGlobal>(
@@ -17,29 +30,12 @@ fn reports<R: Abort + AllocGlobal>(
     told: &str,
     status: u8,
 ) -> Result<(), Fail> {
-    let given = lines(rt.alloc(), input)?;
-    let mut reader = given.as_slice();
-    let mut out = Vec::new(rt.alloc());
-    let mut errors = Vec::new(rt.alloc());
-    let mut kept = Vec::new(rt.alloc());
-    let outcome = report(
-        rt.alloc(),
-        form,
-        &mut kept,
-        &mut reader,
-        &mut out,
-        &mut errors,
-    )?;
-    assert_eq!(rt; errors.as_slice(), text_of(rt.alloc(), told)?.as_slice());
-    assert_eq!(rt; out.as_slice(), text_of(rt.alloc(), written)?.as_slice());
-    assert_eq!(rt;
-        outcome,
-        Outcome {
-            status,
-            told: Ok(())
-        }
-    );
-    Ok(())
+    let wanted = Wanted {
+        written,
+        told,
+        status,
+    };
+    report_of(rt.alloc(), form, input)?.compare(rt, rt.alloc(), &wanted, input)
 }
 
 const TWO: &str =
@@ -54,50 +50,27 @@ fn csv_of_two_histories(rt: HostRuntime) -> Result<(), Fail> {
 
 #[test]
 fn chart_of_a_history(rt: HostRuntime) -> Result<(), Fail> {
-    let given = lines(
-        rt.alloc(),
-        "history 2 a 1;0 create named p -> made 1;0 setverdict pass -> ok;0 finish -> ok;end pass",
-    )?;
-    let mut reader = given.as_slice();
-    let mut out = Vec::new(rt.alloc());
-    let mut errors = Vec::new(rt.alloc());
-    let outcome = report(
-        rt.alloc(),
-        ReportForm::Chart,
-        &mut Vec::new(rt.alloc()),
-        &mut reader,
-        &mut out,
-        &mut errors,
-    )?;
-    assert_eq!(rt; outcome.status, 0);
-    assert!(rt; errors.is_empty());
+    let input =
+        "history 2 a 1;0 create named p -> made 1;0 setverdict pass -> ok;0 finish -> ok;end pass";
+    let came = report_of(rt.alloc(), ReportForm::Chart, input)?;
+    assert_eq!(rt; came.outcome.status, 0);
+    assert!(rt; came.told.is_empty());
     let wanted: &[u8] =
         b"msc {\nwidth=\"400\", wordwraparcs=\"1\";\nc0 [label=\"mtc\"], c1 [label=\"1 p\"];\n--- [label=\"testcase a\"];\nc0>>c1 [label=\"create named p\"];\nc0 rbox c0 [label=\"setverdict pass\", textbgcolour=\"#99ff99\"];\nc0 abox c0 [label=\"finish run 0\"];\nc0 rbox c0 [label=\"local pass\", textbgcolour=\"#99ff99\"],\nc1 rbox c1 [label=\"local none\", textbgcolour=\"#eeeeee\"];\nc0 abox c1 [label=\"verdict pass\", textbgcolour=\"#99ff99\"];\n|||;\n}\n";
-    assert_eq!(rt; out.as_slice(), wanted);
+    assert_eq!(rt; came.written.as_slice(), wanted);
     Ok(())
 }
 
 #[test]
 fn junit_of_two_histories(rt: HostRuntime) -> Result<(), Fail> {
-    let given = lines(rt.alloc(), TWO)?;
-    let mut reader = given.as_slice();
-    let mut out = Vec::new(rt.alloc());
-    let mut errors = Vec::new(rt.alloc());
-    let outcome = report(
-        rt.alloc(),
-        ReportForm::Junit,
-        &mut Vec::new(rt.alloc()),
-        &mut reader,
-        &mut out,
-        &mut errors,
-    )?;
-    assert_eq!(rt; outcome.status, 1);
-    assert!(rt; errors.is_empty());
+    let came = report_of(rt.alloc(), ReportForm::Junit, TWO)?;
+    assert_eq!(rt; came.outcome.status, 1);
+    assert!(rt; came.told.is_empty());
     let start = lines(
         rt.alloc(),
         "<?xml version=\"1.0\" encoding=\"UTF-8\"?>;<testsuites tests=\"2\" failures=\"1\" errors=\"0\" skipped=\"1\">",
     )?;
-    assert!(rt; out.as_slice().starts_with(start.as_slice()));
+    assert!(rt; came.written.as_slice().starts_with(start.as_slice()));
     Ok(())
 }
 
@@ -128,7 +101,6 @@ fn text_that_is_none_of_histories(rt: HostRuntime) -> Result<(), Fail> {
     let answer = report(
         rt.alloc(),
         ReportForm::Csv,
-        &mut Vec::new(rt.alloc()),
         &mut reader,
         &mut out,
         &mut errors,

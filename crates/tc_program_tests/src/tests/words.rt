@@ -1,31 +1,38 @@
 //! Command lines.
+use super::calls::{answer_no_task, read_task};
 use super::*;
+use clap::Error;
 use clap::error::ErrorKind;
 use std::{io, str};
-use tc_command::read_task;
-use tc_program::answer::{answer, answer_no_task, answer_unread};
+use tc_program::answer::answer_unread;
 use tc_stream::devices::{NarrowWriter, SlowReader, WriteFailure};
+
+// Compares the task of the command line.
+fn asks_for<R: Abort>(rt: &R, alloc: Global, line: &str, task: Task) -> Result<(), Fail> {
+    let words = words_of(alloc, line)?;
+    assert_eq!(rt; read_task(alloc, words.as_slice())?, task);
+    Ok(())
+}
+
+// Why the command line asks for no task.
+fn refusal_of(alloc: Global, line: &str) -> Result<Error, Fail> {
+    let words = words_of(alloc, line)?;
+    let error = read_task(alloc, words.as_slice()).err();
+    Ok(error.ok_or("refused")?)
+}
 
 #[test]
 fn words_and_tasks(rt: HostRuntime) -> Result<(), Fail> {
     let alloc = rt.alloc();
-    let mut words: Vec<String> = Vec::new(alloc);
-    words.push("ttrun".to_string(alloc)?)?;
-    assert_eq!(rt;
-        read_task(alloc, words.as_slice())?,
-        run_task(alloc, Form::Text, false, None)
-    );
-    words.push("run".to_string(alloc)?)?;
-    words.push("--csv".to_string(alloc)?)?;
-    words.push("--live".to_string(alloc)?)?;
-    words.push("--stop-on".to_string(alloc)?)?;
-    words.push("fail".to_string(alloc)?)?;
-    assert_eq!(rt;
-        read_task(alloc, words.as_slice())?,
-        run_task(alloc, Form::Csv, true, Some("fail"))
-    );
-    words.push("--history".to_string(alloc)?)?;
-    let error = read_task(alloc, words.as_slice()).err().ok_or("refused")?;
+    asks_for(
+        &rt,
+        alloc,
+        "ttrun",
+        run_task(alloc, Form::Text, false, None),
+    )?;
+    let task = run_task(alloc, Form::Csv, true, Some("fail"));
+    asks_for(&rt, alloc, "ttrun run --csv --live --stop-on fail", task)?;
+    let error = refusal_of(alloc, "ttrun run --csv --live --stop-on fail --history")?;
     assert_eq!(rt; error.kind(), ErrorKind::ArgumentConflict);
     Ok(())
 }
@@ -33,22 +40,34 @@ fn words_and_tasks(rt: HostRuntime) -> Result<(), Fail> {
 #[test]
 fn words_without_options(rt: HostRuntime) -> Result<(), Fail> {
     let alloc = rt.alloc();
-    let mut words: Vec<String> = Vec::new(alloc);
-    words.push("ttrun".to_string(alloc)?)?;
-    words.push("check".to_string(alloc)?)?;
-    assert_eq!(rt;
-        read_task(alloc, words.as_slice())?,
-        Task::Check { explains: false }
-    );
-    words.pop();
-    words.push("replay".to_string(alloc)?)?;
-    assert_eq!(rt;
-        read_task(alloc, words.as_slice())?,
-        Task::Replay { explains: false }
-    );
-    words.push("more".to_string(alloc)?)?;
-    assert!(rt; read_task(alloc, words.as_slice()).is_err());
+    let explains = false;
+    asks_for(&rt, alloc, "ttrun check", Task::Check { explains })?;
+    asks_for(&rt, alloc, "ttrun replay", Task::Replay { explains })?;
+    refusal_of(alloc, "ttrun replay more")?;
     Ok(())
+}
+
+// What the command line shows, in the place that is its status's alone; nothing is read.
+fn shown_unread<R: Abort + Threads + Wait + Copy + Send + 'static>(
+    rt: &R,
+    alloc: Global,
+    line: &str,
+    status: u8,
+) -> Result<Vec<u8>, Fail> {
+    let mut reader = SlowReader::new(b"behaviours 1\n", usize::MAX);
+    let words = Ok(words_of(alloc, line)?);
+    let mut written = Vec::new(alloc);
+    let mut told = Vec::new(alloc);
+    let outcome = answer(rt, alloc, words, &mut reader, &mut written, &mut told);
+    compare_outcome(rt, &outcome, status, line);
+    assert_eq!(rt; reader.reads, 0, "{line}");
+    let (shown, other) = if status == 0 {
+        (written, told)
+    } else {
+        (told, written)
+    };
+    assert!(rt; other.is_empty(), "{line}");
+    Ok(shown)
 }
 
 #[test]
@@ -63,36 +82,7 @@ fn words_that_ask_for_no_task(rt: HostRuntime) -> Result<(), Fail> {
         ("ttrun run --stop-on", 3, "--stop-on"),
     ];
     for (line, status, part) in command_lines {
-        let mut reader = SlowReader {
-            rest: b"behaviours 1\n",
-            reads: 0,
-            fails_at: usize::MAX,
-        };
-        let mut written = Vec::new(alloc);
-        let mut told = Vec::new(alloc);
-        let outcome = answer(
-            &rt,
-            alloc,
-            Ok(words_of(alloc, line)?),
-            &mut reader,
-            &mut written,
-            &mut told,
-        );
-        assert_eq!(rt;
-            outcome,
-            Outcome {
-                status,
-                told: Ok(())
-            },
-            "{line}"
-        );
-        assert_eq!(rt; reader.reads, 0, "{line}");
-        let (shown, other) = if status == 0 {
-            (written, told)
-        } else {
-            (told, written)
-        };
-        assert!(rt; other.is_empty(), "{line}");
+        let shown = shown_unread(&rt, alloc, line, status)?;
         let shown = str::from_utf8(shown.as_slice()).map_err(|_| "a text")?;
         assert!(rt; shown.contains(part), "{line}: {shown}");
         assert_eq!(rt; shown.starts_with("error: "), status == 3, "{shown}");
@@ -103,8 +93,7 @@ fn words_that_ask_for_no_task(rt: HostRuntime) -> Result<(), Fail> {
 #[test]
 fn help_that_is_not_written(rt: HostRuntime) -> Result<(), Fail> {
     let alloc = rt.alloc();
-    let line = words_of(alloc, "ttrun --help")?;
-    let error = read_task(alloc, line.as_slice()).err().ok_or("help")?;
+    let error = refusal_of(alloc, "ttrun --help")?;
     assert_eq!(rt; error.kind(), ErrorKind::DisplayHelp);
     for fails_at in 0..9 {
         let mut writer = NarrowWriter {
@@ -115,16 +104,29 @@ fn help_that_is_not_written(rt: HostRuntime) -> Result<(), Fail> {
         };
         let mut told = Vec::new(alloc);
         let outcome = answer_no_task(alloc, &error, &mut writer, &mut told);
-        assert_eq!(rt;
-            outcome,
-            Outcome {
-                status: 3,
-                told: Ok(())
-            }
-        );
+        compare_outcome(&rt, &outcome, 3, "help");
         assert_eq!(rt; told.as_slice(), b"ttrun: write fault\n".as_slice());
         assert_eq!(rt; writer.taken.len(), fails_at);
     }
+    Ok(())
+}
+
+// What is answered where the words were not had for this reason; nothing is read.
+fn compare_unread<R: Abort + Threads + Wait + Copy + Send + 'static>(
+    rt: &R,
+    alloc: Global,
+    kind: io::ErrorKind,
+    line: &str,
+) -> Result<(), Fail> {
+    let mut reader = SlowReader::new(b"behaviours 1\n", usize::MAX);
+    let mut written = Vec::new(alloc);
+    let mut told = Vec::new(alloc);
+    let error = Err(io::Error::from(kind));
+    let outcome = answer(rt, alloc, error, &mut reader, &mut written, &mut told);
+    compare_outcome(rt, &outcome, 3, line);
+    assert_eq!(rt; told.as_slice(), lines(alloc, line)?.as_slice());
+    assert!(rt; written.is_empty());
+    assert_eq!(rt; reader.reads, 0);
     Ok(())
 }
 
@@ -139,34 +141,10 @@ fn words_that_were_not_had(rt: HostRuntime) -> Result<(), Fail> {
         (io::ErrorKind::OutOfMemory, "ttrun: no memory"),
     ];
     for (kind, line) in cases {
-        let mut reader = SlowReader {
-            rest: b"behaviours 1\n",
-            reads: 0,
-            fails_at: usize::MAX,
-        };
-        let mut written = Vec::new(alloc);
-        let mut told = Vec::new(alloc);
-        let error = io::Error::from(kind);
-        let outcome = answer(&rt, alloc, Err(error), &mut reader, &mut written, &mut told);
-        assert_eq!(rt;
-            outcome,
-            Outcome {
-                status: 3,
-                told: Ok(())
-            }
-        );
-        assert_eq!(rt; told.as_slice(), lines(alloc, line)?.as_slice());
-        assert!(rt; written.is_empty());
-        assert_eq!(rt; reader.reads, 0);
+        compare_unread(&rt, alloc, kind, line)?;
         let mut told = Vec::new(alloc);
         let outcome = answer_unread(alloc, &io::Error::from(kind), &mut told);
-        assert_eq!(rt;
-            outcome,
-            Outcome {
-                status: 3,
-                told: Ok(())
-            }
-        );
+        compare_outcome(&rt, &outcome, 3, line);
         assert_eq!(rt; told.as_slice(), lines(alloc, line)?.as_slice());
     }
     Ok(())

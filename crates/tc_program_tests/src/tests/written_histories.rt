@@ -19,33 +19,63 @@ const FAILS_FIRST: &str =
 const EIGHT: &str =
     "testcase t_eight;behaviour main;create a;create b;create c;create d;create e;create f;create g;start a one;start b two;start c three;start d four;start e five;start f six;start g seven;wait done all;setverdict pass;end;behaviour one;setverdict pass;end;behaviour two;setverdict inconc;end;behaviour three;getverdict;end;behaviour four;setverdict pass;end;behaviour five;stop self;end;behaviour six;kill self;end;behaviour seven;setverdict none;end;end";
 
+// Appends what `check` writes of this line of a history, which stands behind so many entries; how many there are then.
+fn append_legal(
+    alloc: Global,
+    line: &str,
+    entries: usize,
+    legal: &mut String,
+) -> Result<usize, Fail> {
+    let mut words = line.split(' ');
+    match words.next() {
+        Some("history") => {
+            let name = words.nth(1).ok_or("a name")?;
+            legal.push_str(format!(in alloc; "legal {name} ")?.as_str())?;
+            Ok(0)
+        }
+        Some("end") => {
+            let verdict = words.next().ok_or("a verdict")?;
+            legal.push_str(format!(in alloc; "{entries} {verdict}\n")?.as_str())?;
+            Ok(entries)
+        }
+        _ => Ok(entries.saturating_add(1)),
+    }
+}
+
 // The line of each history of the text: its name, how many lines stand between its first and its last, and its verdict.
 fn legal_lines(alloc: Global, histories: &str) -> Result<String, Fail> {
-    let mut wanted = String::new(alloc);
+    let mut legal = String::new(alloc);
     let mut entries = 0usize;
     for line in histories.lines() {
-        let mut words = line.split(' ');
-        match words.next() {
-            Some("history") => {
-                let name = words.nth(1).ok_or("a name")?;
-                let legal = format!(in alloc; "legal {name} ")?;
-                wanted.push_str(legal.as_str())?;
-                entries = 0;
-            }
-            Some("end") => {
-                let verdict = words.next().ok_or("a verdict")?;
-                let counted = format!(in alloc; "{entries} {verdict}\n")?;
-                wanted.push_str(counted.as_str())?;
-            }
-            _ => entries = entries.saturating_add(1),
-        }
+        entries = append_legal(alloc, line, entries, &mut legal)?;
     }
-    Ok(wanted)
+    Ok(legal)
+}
+
+// Runs the campaign, and checks the histories that it writes: each of so many is legal.
+fn writes_legal<R: Abort + Threads + Wait + Copy + Send + 'static>(
+    rt: &R,
+    alloc: Global,
+    (text, stop_on, finished): (&str, Option<&str>, usize),
+) -> Result<(), Fail> {
+    let text = lines(alloc, text)?;
+    let task = run_task(alloc, Form::History, false, stop_on);
+    let run = came_of(rt, alloc, task, text.as_slice());
+    assert!(rt; run.outcome.status < 3);
+    assert!(rt; run.told.is_empty());
+    let histories = str::from_utf8(run.written.as_slice()).map_err(|_| "a text")?;
+    let legal = legal_lines(alloc, histories)?;
+    assert_eq!(rt; legal.as_str().lines().count(), finished);
+    let check = Task::Check { explains: false };
+    let checked = came_of(rt, alloc, check, histories.as_bytes());
+    compare_outcome(rt, &checked.outcome, 0, "a check");
+    assert_eq!(rt; checked.written.as_slice(), legal.as_bytes());
+    assert!(rt; checked.told.is_empty());
+    Ok(())
 }
 
 #[test]
 fn written_histories_are_legal(rt: HostRuntime) -> Result<(), Fail> {
-    let alloc = rt.alloc();
     let campaigns = [
         (WORKERS, None, 2),
         (RESTART, None, 1),
@@ -56,42 +86,9 @@ fn written_histories_are_legal(rt: HostRuntime) -> Result<(), Fail> {
     ];
     let mut checked = 0usize;
     for round in 0..120 {
-        let (text, stop_on, finished) = campaigns[round % 6];
-        let text = lines(alloc, text)?;
-        let mut histories = Vec::new(alloc);
-        let mut told = Vec::new(alloc);
-        let task = run_task(alloc, Form::History, false, stop_on);
-        let ran = carry_out(
-            &rt,
-            alloc,
-            task,
-            &mut text.as_slice(),
-            &mut histories,
-            &mut told,
-        );
-        assert!(rt; ran.status < 3);
-        let histories = str::from_utf8(histories.as_slice()).map_err(|_| "a text")?;
-        let wanted = legal_lines(alloc, histories)?;
-        assert_eq!(rt; wanted.as_str().lines().count(), finished);
-        let mut printed = Vec::new(alloc);
-        let found = carry_out(
-            &rt,
-            alloc,
-            Task::Check { explains: false },
-            &mut histories.as_bytes(),
-            &mut printed,
-            &mut told,
-        );
-        assert_eq!(rt;
-            found,
-            Outcome {
-                status: 0,
-                told: Ok(())
-            }
-        );
-        assert_eq!(rt; printed.as_slice(), wanted.as_bytes());
-        assert!(rt; told.is_empty());
-        checked = checked.saturating_add(finished);
+        let campaign = campaigns[round % 6];
+        writes_legal(&rt, rt.alloc(), campaign)?;
+        checked = checked.saturating_add(campaign.2);
     }
     assert_eq!(rt; checked, 140);
     Ok(())
