@@ -25,6 +25,3 @@ pub use records::{csv_header, csv_row, end_word, write_csv};
 pub use report::{append_locals, append_verdict, write_text};
 pub use results::{CampaignEnd, CaseEnd, Finished, Results, Tally};
 pub use status::{status_of, verdict_status};
-
-#[cfg(test)]
-mod tests;

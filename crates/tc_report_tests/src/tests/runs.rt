@@ -2,6 +2,7 @@
 use super::*;
 use std::str;
 use std::sync::Wait;
+use std::thread::Threads;
 use tc_book::{Halt, Pass};
 use tc_exec::{Back, Ending, Job, run_case};
 
@@ -19,6 +20,20 @@ fn stops_itself<R: Wait>(rt: &R, pass: &mut Pass) -> Result<(), Halt> {
     pass.killed(rt, Target::All)?;
     pass.get_verdict()?;
     pass.stop(rt, Group::One(Comp(0)))
+}
+
+// The test case of these jobs, as it was run.
+fn ran<R: Threads + Wait + Copy + Send + 'static>(
+    rt: &R,
+    alloc: Global,
+    text: &str,
+    jobs: Vec<Job>,
+) -> Result<Finished, Fail> {
+    Ok(Finished {
+        name: name(text)?,
+        names: names(alloc, &["main"])?,
+        report: run_case(rt, alloc, jobs, 64)?,
+    })
 }
 
 // The two cases have one behaviour each, so each has one history.
@@ -44,18 +59,10 @@ fn histories_of_run_cases(rt: HostRuntime) -> Result<(), Fail> {
     let mut finished = Vec::new(alloc);
     for (text, behaviour) in [("solo", first), ("stopped", second)] {
         let jobs = vec![in alloc; Job::new(behaviour)]?;
-        finished.push(Finished {
-            name: name(text)?,
-            names: names(alloc, &["main"])?,
-            report: run_case(&rt, alloc, jobs, 64)?,
-        })?;
+        finished.push(ran(&rt, alloc, text, jobs)?)?;
     }
-    let results = Results {
-        finished: Sequence::new(finished),
-        ending: CampaignEnd::Complete,
-    };
-    let mut out = Vec::new(alloc);
-    assert_eq!(rt; write_history(alloc, &results, &mut out), Ok(()));
+    let results = ended(finished, CampaignEnd::Complete);
+    let out = text_of(alloc, Form::History, &results)?;
     let wanted = "history 2 solo 1
 0 create -> made 1
 0 setverdict pass -> ok
@@ -76,6 +83,6 @@ end none
         assert_eq!(rt; lines.next(), Some(line));
     }
     assert_eq!(rt; lines.next(), None);
-    assert_eq!(rt; status_of(&results), 2);
+    assert_eq!(rt; status(&results), 2);
     Ok(())
 }

@@ -1,7 +1,8 @@
 //! Texts that are written as test cases finish.
 use super::*;
 use std::io;
-use std::io::Write;
+use std::process::Abort;
+use tc_report::{LiveWriter, Observer};
 use tc_stream::devices::{NarrowWriter, WriteFailure};
 
 /// Takes all bytes, and notes how many there were at each flush; the flush of this number fails, counted from 0.
@@ -37,26 +38,29 @@ impl Write for Flushed {
     }
 }
 
+/// Writes what stands before the test cases.
+fn begin<W: Write>(live: &mut LiveWriter<'_, W>) -> Result<(), OutFault> {
+    live.begin()
+}
+
+/// Whether the test case is written, and the campaign goes on.
+fn take<W: Write>(live: &mut LiveWriter<'_, W>, case: Finished) -> bool {
+    live.take(case)
+}
+
+/// Writes what stands behind the test cases of a campaign that is complete.
+fn end<W: Write>(live: &mut LiveWriter<'_, W>) -> Result<u8, OutFault> {
+    live.end(&CampaignEnd::Complete)
+}
+
 /// Two test cases, and how the campaign ended.
 fn results(alloc: Global) -> Result<Results, Fail> {
-    let mut finished = Vec::new(alloc);
-    finished.push(restarted_case(alloc)?)?;
-    finished.push(stuck_case(alloc)?)?;
-    Ok(Results {
-        finished: Sequence::new(finished),
-        ending: CampaignEnd::Complete,
-    })
+    let finished = vec![in alloc; restarted_case(alloc)?, stuck_case(alloc)?]?;
+    Ok(ended(finished, CampaignEnd::Complete))
 }
 
 fn whole_text(alloc: Global, form: Form) -> Result<Vec<u8>, Fail> {
-    let results = results(alloc)?;
-    let mut out = Vec::new(alloc);
-    match form {
-        Form::Text => write_text(alloc, &results, &mut out)?,
-        Form::Csv => write_csv(alloc, &results, &mut out)?,
-        Form::History => write_history(alloc, &results, &mut out)?,
-    }
-    Ok(out)
+    Ok(text_of(alloc, form, &results(alloc)?)?)
 }
 
 /// Writes the same results as they come, and says how many of them were taken, and what came of it.
@@ -66,50 +70,54 @@ fn write_live<W: Write>(
     writer: &mut W,
 ) -> Result<(usize, Result<u8, OutFault>), Fail> {
     let mut live = LiveWriter::new(alloc, form, writer);
-    if let Err(fault) = live.begin() {
+    if let Err(fault) = begin(&mut live) {
         return Ok((0, Err(fault)));
     }
-    if !live.take(restarted_case(alloc)?) {
+    if !take(&mut live, restarted_case(alloc)?) {
         return Ok((0, Err(live.fault.ok_or("a fault")?)));
     }
-    if !live.take(stuck_case(alloc)?) {
+    if !take(&mut live, stuck_case(alloc)?) {
         return Ok((1, Err(live.fault.ok_or("a fault")?)));
     }
-    Ok((2, live.end(&CampaignEnd::Complete)))
+    Ok((2, end(&mut live)))
 }
 
 #[test]
 fn the_text_and_the_status_are_those_of_the_end(rt: HostRuntime) -> Result<(), Fail> {
     let alloc = rt.alloc();
-    for form in [Form::Text, Form::Csv, Form::History] {
+    for form in FORMS {
         let mut writer = Flushed::new(alloc, usize::MAX);
         let (taken, answer) = write_live(alloc, form, &mut writer)?;
         assert_eq!(rt; taken, 2);
-        assert_eq!(rt; answer, Ok(status_of(&results(alloc)?)));
-        assert_eq!(rt;
-            writer.taken.as_slice(),
-            whole_text(alloc, form)?.as_slice()
-        );
+        assert_eq!(rt; answer, Ok(status(&results(alloc)?)));
+        let whole = whole_text(alloc, form)?;
+        assert_eq!(rt; writer.taken.as_slice(), whole.as_slice());
     }
     Ok(())
+}
+
+/// The text behind its opening, each of two test cases and its closing: how long it is each time.
+fn pieces(alloc: Global, form: Form, writer: &mut Flushed) -> Result<[usize; 4], Fail> {
+    let mut live = LiveWriter::new(alloc, form, writer);
+    begin(&mut live)?;
+    let opening = live.writer.taken.len();
+    let mut is_taken = take(&mut live, restarted_case(alloc)?);
+    let first = live.writer.taken.len();
+    is_taken = is_taken && take(&mut live, stuck_case(alloc)?);
+    let second = live.writer.taken.len();
+    if !is_taken || end(&mut live) != Ok(2) {
+        return Err("a test case is taken, and the status is 2".into());
+    }
+    Ok([opening, first, second, live.writer.taken.len()])
 }
 
 // At each flush the text ends behind a test case: no flush comes late, and none is left out.
 #[test]
 fn each_piece_is_flushed(rt: HostRuntime) -> Result<(), Fail> {
     let alloc = rt.alloc();
-    for form in [Form::Text, Form::Csv, Form::History] {
+    for form in FORMS {
         let mut writer = Flushed::new(alloc, usize::MAX);
-        let mut pieces = Vec::new(alloc);
-        let mut live = LiveWriter::new(alloc, form, &mut writer);
-        live.begin()?;
-        pieces.push(live.writer.taken.len())?;
-        assert!(rt; live.take(restarted_case(alloc)?));
-        pieces.push(live.writer.taken.len())?;
-        assert!(rt; live.take(stuck_case(alloc)?));
-        pieces.push(live.writer.taken.len())?;
-        assert_eq!(rt; live.end(&CampaignEnd::Complete), Ok(2));
-        pieces.push(live.writer.taken.len())?;
+        let pieces = pieces(alloc, form, &mut writer)?;
         assert_eq!(rt; writer.flushes.as_slice(), pieces.as_slice());
     }
     Ok(())
@@ -118,39 +126,57 @@ fn each_piece_is_flushed(rt: HostRuntime) -> Result<(), Fail> {
 #[test]
 fn each_flush_fails_in_turn(rt: HostRuntime) -> Result<(), Fail> {
     let alloc = rt.alloc();
+    let whole = whole_text(alloc, Form::Text)?;
     for fails_at in 0..4 {
         let mut writer = Flushed::new(alloc, fails_at);
         let (taken, answer) = write_live(alloc, Form::Text, &mut writer)?;
         assert_eq!(rt; answer, Err(OutFault::Write), "at {fails_at}");
         assert_eq!(rt; taken, fails_at.saturating_sub(1).min(2), "at {fails_at}");
-        let whole = whole_text(alloc, Form::Text)?;
         assert!(rt; whole.as_slice().starts_with(writer.taken.as_slice()));
     }
     Ok(())
 }
 
-// Each byte of the three texts is once the one that the writer fails at, in each way.
+/// What is answered where the writer fails at this write, if it comes to it; the whole text is this.
+fn fails_at<R: Abort>(
+    rt: &R,
+    alloc: Global,
+    form: Form,
+    whole: &[u8],
+    mut writer: NarrowWriter,
+) -> Result<(), Fail> {
+    let place = writer.fails_at;
+    let (_, answer) = write_live(alloc, form, &mut writer)?;
+    let wanted = if place == whole.len() {
+        Ok(2)
+    } else {
+        Err(OutFault::Write)
+    };
+    assert_eq!(rt; answer, wanted, "at {place}");
+    let part = whole.get(..place).ok_or("a prefix")?;
+    assert_eq!(rt; writer.taken.as_slice(), part);
+    Ok(())
+}
+
+/// Each byte of the text is once the one that the writer fails at, in each way; how many writers there were.
+fn each_byte_fails<R: Abort>(rt: &R, alloc: Global, form: Form) -> Result<u64, Fail> {
+    let whole = whole_text(alloc, form)?;
+    let mut failures = 0u64;
+    for place in 0..=whole.len() {
+        for failure in [WriteFailure::Broken, WriteFailure::Full] {
+            let writer = NarrowWriter::new(alloc, place, failure);
+            fails_at(rt, alloc, form, whole.as_slice(), writer)?;
+            failures = failures.saturating_add(1);
+        }
+    }
+    Ok(failures)
+}
+
 #[test]
 fn each_live_write_fails_in_turn(rt: HostRuntime) -> Result<(), Fail> {
-    let alloc = rt.alloc();
     let mut failures = 0u64;
-    for form in [Form::Text, Form::Csv, Form::History] {
-        let whole = whole_text(alloc, form)?;
-        for fails_at in 0..=whole.len() {
-            for failure in [WriteFailure::Broken, WriteFailure::Full] {
-                let mut writer = NarrowWriter::new(alloc, fails_at, failure);
-                let (_, answer) = write_live(alloc, form, &mut writer)?;
-                let wanted = if fails_at == whole.len() {
-                    Ok(2)
-                } else {
-                    Err(OutFault::Write)
-                };
-                assert_eq!(rt; answer, wanted, "at {fails_at}");
-                let part = whole.as_slice().get(..fails_at).ok_or("a prefix")?;
-                assert_eq!(rt; writer.taken.as_slice(), part);
-                failures = failures.saturating_add(1);
-            }
-        }
+    for form in FORMS {
+        failures = failures.saturating_add(each_byte_fails(&rt, rt.alloc(), form)?);
     }
     assert!(rt; failures > 1_000, "{failures}");
     Ok(())
@@ -173,8 +199,8 @@ fn no_test_case_at_all(rt: HostRuntime) -> Result<(), Fail> {
     for (form, wanted) in lines {
         let mut written = Vec::new(alloc);
         let mut live = LiveWriter::new(alloc, form, &mut written);
-        live.begin()?;
-        assert_eq!(rt; live.end(&CampaignEnd::Complete), Ok(0));
+        begin(&mut live)?;
+        assert_eq!(rt; end(&mut live), Ok(0));
         assert_eq!(rt; written.as_slice(), wanted.as_bytes());
     }
     Ok(())
