@@ -15,6 +15,3 @@ mod telling;
 
 pub use sort::{Refusal, Sort};
 pub use telling::explain;
-
-#[cfg(test)]
-mod tests;

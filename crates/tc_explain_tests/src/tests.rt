@@ -1,11 +1,26 @@
-//! Explanations, by text.
-use crate::reply::{fault_table, reply_table};
-use crate::{Refusal, explain};
+//! Explanations, by text. The calls of the library stand in small functions without clauses, so that the proof of a test
+//! carries none of the library's.
 use std::alloc::Global;
 use std::process::Abort;
+use std::str;
 use std::test::Fail;
+use tc_entry::NoMemory;
+use tc_explain::{Refusal, explain};
 use tc_line::ScriptKind;
 use tc_text::{TextKind, read_move, read_reply};
+
+/// What is told of a text that is refused in this line.
+fn told_of(alloc: Global, text: &[u8], line: usize, refusal: Refusal) -> Result<Vec<u8>, NoMemory> {
+    explain(alloc, text, line, refusal)
+}
+
+fn is_move(text: &[u8]) -> bool {
+    read_move(text).is_some()
+}
+
+fn is_reply(text: &[u8]) -> bool {
+    read_reply(text).is_some()
+}
 
 fn expect(
     rt: &impl Abort,
@@ -15,7 +30,7 @@ fn expect(
     refusal: Refusal,
     told: &str,
 ) -> Result<(), Fail> {
-    let found = explain(alloc, text, line, refusal)?;
+    let found = told_of(alloc, text, line, refusal)?;
     assert_eq!(rt; found.as_slice(), told.as_bytes());
     Ok(())
 }
@@ -160,7 +175,7 @@ fn texts_of_another_kind(rt: HostRuntime) -> Result<(), Fail> {
         (script, Refusal::Moves(TextKind::FirstLine), script_told),
     ];
     for (text, refusal, told) in given {
-        let found = explain(rt.alloc(), text, 1, refusal)?;
+        let found = told_of(rt.alloc(), text, 1, refusal)?;
         assert!(&rt; found.as_slice().starts_with(told.as_bytes()), "{told}");
     }
     Ok(())
@@ -340,7 +355,7 @@ fn long_lines_are_cut(rt: HostRuntime) -> Result<(), Fail> {
     for _ in 0..70 {
         line.push(b'1')?;
     }
-    let found = explain(rt.alloc(), line.as_slice(), 1, BAD_LINE)?;
+    let found = told_of(rt.alloc(), line.as_slice(), 1, BAD_LINE)?;
     let told =
         "  line: `create 11111111111111111111111111111111111111111111111111111`..\n  column 8: `111111111111111111111111111111111111111111111111111111111111`..\n  understood there: the name of a component\n";
     assert_eq!(&rt; found.as_slice(), told.as_bytes());
@@ -349,22 +364,48 @@ fn long_lines_are_cut(rt: HostRuntime) -> Result<(), Fail> {
 
 #[test]
 fn moves_of_the_words_that_are_no_keywords(rt: HostRuntime) {
-    assert!(&rt; read_move(b"0 finish").is_some());
-    assert!(&rt; read_move(b"0 wake done all").is_some());
+    assert!(&rt; is_move(b"0 finish"));
+    assert!(&rt; is_move(b"0 wake done all"));
+}
+
+/// The line of the words that are understood in place of the last of this entry of a history.
+fn understood_in(alloc: Global, entry: &str) -> Result<String, Fail> {
+    let text = format!(in alloc; "history 1 a 1\n{entry}\n")?;
+    let refusal = Refusal::Histories(TextKind::Entry);
+    let told = told_of(alloc, text.as_str().as_bytes(), 2, refusal)?;
+    let told = str::from_utf8(told.as_slice()).map_err(|_| "a text")?;
+    let mut found = None;
+    for line in told.lines() {
+        found = found.or(line.strip_prefix("  understood there: "));
+    }
+    Ok(found.ok_or("words")?.to_string(alloc)?)
 }
 
 #[test]
 fn replies_of_the_words_that_begin_one(rt: HostRuntime) -> Result<(), Fail> {
-    for word in reply_table() {
-        let text = match *word {
+    let words = understood_in(rt.alloc(), "0 finish ->")?;
+    for word in words.as_str().split(' ') {
+        let text = match word {
             "made" => "made 1",
             word => word,
         };
-        assert!(&rt; read_reply(text.as_bytes()).is_some(), "{text}");
+        assert!(&rt; is_reply(text.as_bytes()), "{text}");
     }
-    for word in fault_table() {
+    assert_eq!(&rt; words.as_str().split(' ').count(), 12);
+    Ok(())
+}
+
+#[test]
+fn replies_of_the_words_that_name_a_fault(rt: HostRuntime) -> Result<(), Fail> {
+    let words = understood_in(rt.alloc(), "0 finish -> error x")?;
+    let faults = words
+        .as_str()
+        .strip_suffix(", or the end of the line")
+        .ok_or("an end")?;
+    for word in faults.split(' ') {
         let text = format!(in rt.alloc(); "error {word}")?;
-        assert!(&rt; read_reply(text.as_str().as_bytes()).is_some(), "{word}");
+        assert!(&rt; is_reply(text.as_str().as_bytes()), "{word}");
     }
+    assert_eq!(&rt; faults.split(' ').count(), 8);
     Ok(())
 }
