@@ -11,6 +11,3 @@ pub use csv::csv_report;
 pub use junit::{junit_report, write_junit};
 pub use status::{counted_as, worst_status};
 pub use summary::{Summary, summaries_of_results, summary_of_case, summary_of_state};
-
-#[cfg(test)]
-mod tests;

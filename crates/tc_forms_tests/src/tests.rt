@@ -1,12 +1,52 @@
-//! Summaries made by hand, and their forms.
-use super::*;
+//! Summaries made by hand, and their forms. The calls of the library stand in small functions without clauses, so that the
+//! proof of a test carries none of the library's.
 use std::alloc::Global;
+use std::process::Abort;
 use std::test::Fail;
 use tc_book::Sequence;
-use tc_entry::{Name, Op, Run, UserVerdict, Verdict};
+use tc_entry::{Name, NoMemory, Op, Run, UserVerdict, Verdict};
 use tc_exec::{CaseError, CaseReport};
-use tc_report::{CampaignEnd, CaseEnd, Finished, Results, write_csv};
+use tc_forms::{
+    Summary, csv_report, junit_report, summaries_of_results, summary_of_state, worst_status,
+    write_junit,
+};
+use tc_report::{CampaignEnd, CaseEnd, Finished, OutFault, Results, write_csv};
 use tc_table::CaseState;
+
+/// The table of these test cases.
+fn table_of(alloc: Global, cases: &[Summary]) -> Result<Vec<u8>, NoMemory> {
+    csv_report(alloc, cases)
+}
+
+/// The JUnit report of these test cases.
+fn suite_of(alloc: Global, version: &str, cases: &[Summary]) -> Result<Vec<u8>, NoMemory> {
+    junit_report(alloc, version, cases)
+}
+
+fn status_of(cases: &[Summary]) -> u8 {
+    worst_status(cases)
+}
+
+fn summaries_of(alloc: Global, results: &Results) -> Result<Vec<Summary>, NoMemory> {
+    summaries_of_results(alloc, results)
+}
+
+fn table_of_results(alloc: Global, results: &Results) -> Result<Vec<u8>, OutFault> {
+    let mut written = Vec::new(alloc);
+    write_csv(alloc, results, &mut written)?;
+    Ok(written)
+}
+
+fn suite_of_results(alloc: Global, version: &str, results: &Results) -> Result<Vec<u8>, OutFault> {
+    let mut written = Vec::new(alloc);
+    write_junit(alloc, version, results, &mut written)?;
+    Ok(written)
+}
+
+fn play(state: &mut CaseState, op: Op) -> Result<(), NoMemory> {
+    state.play(Run(0), op)?;
+    Ok(())
+}
 
 fn name(text: &str) -> Result<Name, Fail> {
     Ok(Name::read(text).ok_or("a name")?)
@@ -29,32 +69,35 @@ fn summary(
 
 /// A summary with each end that a test case can have.
 fn every_end(alloc: Global) -> Result<Vec<Summary>, Fail> {
-    let mut cases = Vec::new(alloc);
     let over = CaseEnd::Over;
-    cases.push(summary(alloc, "t_none", &[Verdict::None], over(Verdict::None))?)?;
-    cases.push(summary(
-        alloc,
-        "t_pass",
-        &[Verdict::Pass, Verdict::None],
-        over(Verdict::Pass),
-    )?)?;
-    cases.push(summary(alloc, "t_inconc", &[Verdict::Inconc], over(Verdict::Inconc))?)?;
-    cases.push(summary(
-        alloc,
-        "t_fail",
-        &[Verdict::Pass, Verdict::Fail],
-        over(Verdict::Fail),
-    )?)?;
-    cases.push(summary(alloc, "t_error", &[Verdict::Error], over(Verdict::Error))?)?;
-    cases.push(summary(alloc, "t_open", &[Verdict::Pass], CaseEnd::Unfinished)?)?;
-    cases.push(summary(alloc, "t_torn", &[], CaseEnd::Aborted(CaseError::Torn))?)?;
+    let ends: [(&str, &[Verdict], CaseEnd); 7] = [
+        ("t_none", &[Verdict::None], over(Verdict::None)),
+        (
+            "t_pass",
+            &[Verdict::Pass, Verdict::None],
+            over(Verdict::Pass),
+        ),
+        ("t_inconc", &[Verdict::Inconc], over(Verdict::Inconc)),
+        (
+            "t_fail",
+            &[Verdict::Pass, Verdict::Fail],
+            over(Verdict::Fail),
+        ),
+        ("t_error", &[Verdict::Error], over(Verdict::Error)),
+        ("t_open", &[Verdict::Pass], CaseEnd::Unfinished),
+        ("t_torn", &[], CaseEnd::Aborted(CaseError::Torn)),
+    ];
+    let mut cases = Vec::new(alloc);
+    for (text, locals, ending) in ends {
+        cases.push(summary(alloc, text, locals, ending)?)?;
+    }
     Ok(cases)
 }
 
 #[test]
 fn csv_of_every_end(rt: HostRuntime) -> Result<(), Fail> {
     let cases = every_end(rt.alloc())?;
-    let text = csv_report(rt.alloc(), cases.as_slice())?;
+    let text = table_of(rt.alloc(), cases.as_slice())?;
     let wanted: &[u8] =
         b"testcase,components,none,pass,inconc,fail,error,verdict\nt_none,1,1,0,0,0,0,none\nt_pass,2,1,1,0,0,0,pass\nt_inconc,1,0,0,1,0,0,inconc\nt_fail,2,0,1,0,1,0,fail\nt_error,1,0,0,0,0,1,error\nt_open,1,0,1,0,0,0,unfinished\nt_torn,0,0,0,0,0,0,aborted\n";
     assert_eq!(rt; text.as_slice(), wanted);
@@ -64,7 +107,7 @@ fn csv_of_every_end(rt: HostRuntime) -> Result<(), Fail> {
 #[test]
 fn junit_of_every_end(rt: HostRuntime) -> Result<(), Fail> {
     let cases = every_end(rt.alloc())?;
-    let text = junit_report(rt.alloc(), "1.2.3", cases.as_slice())?;
+    let text = suite_of(rt.alloc(), "1.2.3", cases.as_slice())?;
     let wanted: &[u8] =
         b"<?xml version=\"1.0\" encoding=\"UTF-8\"?>\n<testsuites tests=\"7\" failures=\"2\" errors=\"3\" skipped=\"1\">\n<testsuite name=\"ttrun\" tests=\"7\" failures=\"2\" errors=\"3\" skipped=\"1\">\n<properties>\n<property name=\"version\" value=\"1.2.3\"/>\n</properties>\n<testcase name=\"t_none\" classname=\"ttrun\">\n<skipped/>\n<system-out>\nlocal 0 none\n</system-out>\n</testcase>\n<testcase name=\"t_pass\" classname=\"ttrun\">\n<system-out>\nlocal 0 pass\nlocal 1 none\n</system-out>\n</testcase>\n<testcase name=\"t_inconc\" classname=\"ttrun\">\n<failure type=\"inconc\" message=\"verdict inconc\"/>\n<system-out>\nlocal 0 inconc\n</system-out>\n</testcase>\n<testcase name=\"t_fail\" classname=\"ttrun\">\n<failure type=\"fail\" message=\"verdict fail\"/>\n<system-out>\nlocal 0 pass\nlocal 1 fail\n</system-out>\n</testcase>\n<testcase name=\"t_error\" classname=\"ttrun\">\n<error type=\"error\" message=\"verdict error\"/>\n<system-out>\nlocal 0 error\n</system-out>\n</testcase>\n<testcase name=\"t_open\" classname=\"ttrun\">\n<error type=\"unfinished\" message=\"the test case is not over\"/>\n<system-out>\nlocal 0 pass\n</system-out>\n</testcase>\n<testcase name=\"t_torn\" classname=\"ttrun\">\n<error type=\"aborted\" message=\"torn\"/>\n<system-out>\n</system-out>\n</testcase>\n</testsuite>\n</testsuites>\n";
     assert_eq!(rt; text.as_slice(), wanted);
@@ -78,28 +121,26 @@ fn statuses(rt: HostRuntime) -> Result<(), Fail> {
     let all = cases.as_slice();
     let wanted = [0, 0, 1, 1, 2, 2, 2];
     for (one, status) in all.chunks(1).zip(wanted.iter()) {
-        assert_eq!(rt; worst_status(one), *status);
+        assert_eq!(rt; status_of(one), *status);
     }
     assert_eq!(rt; all.len(), wanted.len());
-    assert_eq!(rt; worst_status(all), 2);
+    assert_eq!(rt; status_of(all), 2);
     let four = all.get(..4).ok_or("four test cases")?;
-    assert_eq!(rt; worst_status(four), 1);
-    assert_eq!(rt; worst_status(&[]), 0);
+    assert_eq!(rt; status_of(four), 1);
+    assert_eq!(rt; status_of(&[]), 0);
     Ok(())
 }
 
 fn played(alloc: Global, finished: bool) -> Result<CaseState, Fail> {
     let mut state = CaseState::new(alloc, 1)?;
-    state.play(
-        Run(0),
-        Op::Create {
-            alive: true,
-            name: None,
-        },
-    )?;
-    state.play(Run(0), Op::SetVerdict(UserVerdict::Fail))?;
+    let create = Op::Create {
+        alive: true,
+        name: None,
+    };
+    play(&mut state, create)?;
+    play(&mut state, Op::SetVerdict(UserVerdict::Fail))?;
     if finished {
-        state.play(Run(0), Op::Finish)?;
+        play(&mut state, Op::Finish)?;
     }
     Ok(state)
 }
@@ -145,59 +186,64 @@ fn finished(alloc: Global, text: &str, verdict: Verdict) -> Result<Finished, Fai
     })
 }
 
+/// The results of a campaign that ended so, with these test cases before.
+fn results_of(
+    alloc: Global,
+    cases: &[(&str, Verdict)],
+    ending: CampaignEnd,
+) -> Result<Results, Fail> {
+    let mut all = Vec::new(alloc);
+    for (text, verdict) in cases {
+        all.push(finished(alloc, text, *verdict)?)?;
+    }
+    Ok(Results {
+        finished: Sequence::new(all),
+        ending,
+    })
+}
+
+/// A campaign that aborted at `b`.
+fn aborted(why: CaseError) -> Result<CampaignEnd, Fail> {
+    let name = name("b")?;
+    Ok(CampaignEnd::Aborted { name, why })
+}
+
+/// Compares what was written with what was made, which is so long at least.
+fn compare<R: Abort>(rt: &R, written: &[u8], made: &[u8], least: usize) {
+    assert_eq!(rt; written, made);
+    assert!(rt; made.len() > least);
+}
+
 // The JUnit report of results is that of their summaries.
 #[test]
 fn junit_of_some_results(rt: HostRuntime) -> Result<(), Fail> {
-    let mut cases = Vec::new(rt.alloc());
-    cases.push(finished(rt.alloc(), "a", Verdict::Fail)?)?;
-    let results = Results {
-        finished: Sequence::new(cases),
-        ending: CampaignEnd::Aborted {
-            name: name("b")?,
-            why: CaseError::NoMemory,
-        },
-    };
-    let mut written = Vec::new(rt.alloc());
-    write_junit(rt.alloc(), "7", &results, &mut written).map_err(|_| "a report")?;
-    let summaries = summaries_of_results(rt.alloc(), &results)?;
-    let made = junit_report(rt.alloc(), "7", summaries.as_slice())?;
-    assert_eq!(rt; written.as_slice(), made.as_slice());
-    assert!(rt; made.len() > 500);
+    let ending = aborted(CaseError::NoMemory)?;
+    let results = results_of(rt.alloc(), &[("a", Verdict::Fail)], ending)?;
+    let written = suite_of_results(rt.alloc(), "7", &results)?;
+    let summaries = summaries_of(rt.alloc(), &results)?;
+    let made = suite_of(rt.alloc(), "7", summaries.as_slice())?;
+    compare(&rt, written.as_slice(), made.as_slice(), 500);
     Ok(())
 }
 
 // The CSV report of the summaries of results is that of the results, where no test case was refused.
 #[test]
 fn summaries_of_some_results(rt: HostRuntime) -> Result<(), Fail> {
-    let mut cases = Vec::new(rt.alloc());
-    cases.push(finished(rt.alloc(), "a", Verdict::Pass)?)?;
-    cases.push(finished(rt.alloc(), "b", Verdict::Error)?)?;
-    let results = Results {
-        finished: Sequence::new(cases),
-        ending: CampaignEnd::Complete,
-    };
-    let summaries = summaries_of_results(rt.alloc(), &results)?;
+    let cases = [("a", Verdict::Pass), ("b", Verdict::Error)];
+    let results = results_of(rt.alloc(), &cases, CampaignEnd::Complete)?;
+    let summaries = summaries_of(rt.alloc(), &results)?;
     assert_eq!(rt; summaries.len(), 2);
-    let mut wanted = Vec::new(rt.alloc());
-    write_csv(rt.alloc(), &results, &mut wanted).map_err(|_| "a table")?;
-    let made = csv_report(rt.alloc(), summaries.as_slice())?;
-    assert_eq!(rt; made.as_slice(), wanted.as_slice());
-    assert!(rt; made.len() > 60);
+    let wanted = table_of_results(rt.alloc(), &results)?;
+    let made = table_of(rt.alloc(), summaries.as_slice())?;
+    compare(&rt, wanted.as_slice(), made.as_slice(), 60);
     Ok(())
 }
 
 #[test]
 fn summary_of_an_aborted_campaign(rt: HostRuntime) -> Result<(), Fail> {
-    let mut cases = Vec::new(rt.alloc());
-    cases.push(finished(rt.alloc(), "a", Verdict::Pass)?)?;
-    let results = Results {
-        finished: Sequence::new(cases),
-        ending: CampaignEnd::Aborted {
-            name: name("b")?,
-            why: CaseError::NoThread,
-        },
-    };
-    let summaries = summaries_of_results(rt.alloc(), &results)?;
+    let ending = aborted(CaseError::NoThread)?;
+    let results = results_of(rt.alloc(), &[("a", Verdict::Pass)], ending)?;
+    let summaries = summaries_of(rt.alloc(), &results)?;
     assert_eq!(rt; summaries.len(), 2);
     let last = summaries.last().ok_or("a summary")?;
     assert_eq!(rt; last.ending, CaseEnd::Aborted(CaseError::NoThread));
