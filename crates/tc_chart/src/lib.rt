@@ -8,6 +8,3 @@ mod heads;
 mod runs;
 
 pub use chart::chart_report;
-
-#[cfg(test)]
-mod tests;

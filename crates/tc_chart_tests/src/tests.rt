@@ -1,7 +1,7 @@
 //! Charts of histories, byte by byte.
-use super::*;
 use std::alloc::Global;
 use std::test::Fail;
+use tc_chart::chart_report;
 use tc_forms::{Summary, summary_of_state};
 use tc_history::{Block, read_history};
 use tc_table::CaseState;
