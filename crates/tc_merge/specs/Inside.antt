@@ -2,11 +2,15 @@
 use Rattle.std.specs.Prelude.{ℕ, ◌≡◌, ◌<◌, ◌≤◌, List, [], length, reverse, slice_index_or}
 use Rattle.std.specs.Borrow.{Bor}
 use Rattle.tc_entry.specs.declared.entry.Entry.{Entry}
-use Rattle.tc_merge.specs.Merge.{in_place}
+use Rattle.tc_merge.specs.Merge.{after_other, in_place}
 
 -- what the table has of run b, and this where it has no such run
 abbrev pub entries_of : List (Bor (List Entry)) → ℕ → Bor (List Entry) → List Entry
 entries_of table b d = (slice_index_or table b d).now
+
+-- where one table has entries of run b, the other has what follows the first other entry of them
+abbrev pub IsMovedOn : List (Bor (List Entry)) → List (Bor (List Entry)) → ℕ → Type 0
+IsMovedOn before after b = (d : Bor (List Entry)) → b < length before → entries_of after b d ≡ after_other (entries_of before b d)
 
 -- the history with the verdict entries that are put in place; the history is in the order in which it was made
 abbrev pub placed : (ℕ → List Entry) → List Entry → List Entry

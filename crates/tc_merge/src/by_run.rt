@@ -1,7 +1,7 @@
 //! The logs by the number of their run.
 ghost use Rattle.std.specs.Prelude.{◌≡◌, ◌≢◌, ◌≤◌, ◌<◌, ℕ, [], IfOk, IfSome, length, slice_index_or};
 ghost use Rattle.tc_merge.specs.Merge as rules;
-ghost use Rattle.tc_merge.specs.Inside.{Has, entries_of};
+ghost use Rattle.tc_merge.specs.Inside.{Has, IsMovedOn, entries_of};
 
 use crate::heads::after_other;
 use crate::run_log::RunLog;
@@ -64,7 +64,7 @@ pub(crate) fn at_run<'a>(table: &[&'a [Entry]], run: Run) -> &'a [Entry]
 pub(crate) fn move_on<'a>(rests: &mut Vec<&'a [Entry]>, run: Run) -> &'a [Entry]
     ensures len { length rests.new.items ≡ length rests.old.items }
     ensures same { (b : ℕ) (d : _) → b ≢ run.0 → slice_index_or rests.new.items b d ≡ slice_index_or rests.old.items b d }
-    ensures moved { (d : _) → run.0 < length rests.old.items → entries_of rests.new.items run.0 d ≡ rules.after_other (entries_of rests.old.items run.0 d) }
+    ensures moved { IsMovedOn rests.old.items rests.new.items run.0 }
     ensures within { (d : _) → run.0 < length rests.old.items → result.now ≡ rules.after_other (entries_of rests.old.items run.0 d) }
     ensures beyond { length rests.old.items ≤ run.0 → result.now ≡ [] }
 {
