@@ -27,7 +27,6 @@ REFUSED: List[Tuple[str, Tuple[Word, ...]]] = [
     ("an_empty_word", ("",)),
     ("a_command_in_capitals", ("RUN",)),
     ("a_command_cut", ("repla",)),
-    ("a_file", ("examples/workers.script",)),
     ("an_unknown_option", ("--frobnicate",)),
     ("an_unknown_letter", ("-x",)),
     ("the_version_behind_run", ("run", "--version")),
@@ -93,6 +92,9 @@ REFUSED: List[Tuple[str, Tuple[Word, ...]]] = [
     ("help_behind_run", ("run", "help")),
 ]
 
+# A file's name in place of a subcommand.
+FILES = ("examples/workers.script", "campaign.txt", "./run", "../script", "run/")
+
 NOT_UTF8: List[Tuple[str, Tuple[Word, ...]]] = [
     ("a_word_that_is_not_utf8", (b"\xff",)),
     ("a_verdict_that_is_not_utf8", ("run", "--stop-on", b"f\xe4il")),
@@ -144,6 +146,9 @@ def cases() -> List[Case]:
     found = [Case("help_" + "_".join(words), words, output=SomeText(("Usage", *named)), stays_open=True)
              for words, named in HELP]
     found += [Case(f"refused_{name}", words, errors=SomeText(), status=3, stays_open=True) for name, words in REFUSED]
+    found += [Case("_".join(["refused_file", word, *more]), (word, *more), status=3, stays_open=True,
+                   errors=SomeText((f"unrecognized subcommand '{word}'", f"\n  tip: ttrun run < {word}\n")))
+              for word in FILES for more in ((), ("more",))]
     found += [Case(f"refused_{name}", words, errors=b"ttrun: an argument is not UTF-8\n", status=3, stays_open=True)
               for name, words in NOT_UTF8]
     found += [Case("_".join(["unread_with", word, *form]), ("run", *form, "--stop-on", word), status=3, stays_open=True,

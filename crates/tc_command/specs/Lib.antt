@@ -3,3 +3,4 @@ pub mod Command
 pub mod Asked
 pub mod Lines
 pub mod Refusal
+pub mod Stray

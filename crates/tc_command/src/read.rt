@@ -8,6 +8,7 @@ ghost use Rattle.tc_command.specs.Refusal.{IsRefusedBy};
 
 use crate::command::command;
 use crate::refusal::{Refusal, error_of};
+use crate::stray::with_tip;
 use crate::task::{Choice, Form, ReportForm, RunOptions, Task};
 use clap::parser::ValueSource;
 use clap::{ArgMatches, Error};
@@ -213,7 +214,10 @@ pub fn read_task<'a>(alloc: Global, words: &'a [String]) -> Result<Task<'a>, Err
     ensures refused { FailsBy (faults (map string_bytes words.entry.now)) result }
 {
     let mut command = command(alloc)?;
-    let matches = command.try_get_matches_from_mut(words)?;
+    let matches = match command.try_get_matches_from_mut(words) {
+        Ok(matches) => matches,
+        Err(error) => return Err(with_tip(alloc, &mut command, words, error)?),
+    };
     match task(alloc, &matches) {
         Ok(task) => Ok(task),
         Err(refusal) => Err(error_of(alloc, &mut command, refusal)?),

@@ -544,6 +544,42 @@ fn refused_options_are_named(rt: HostRuntime) -> Result<(), Fail> {
     Ok(())
 }
 
+// A word in place of a subcommand, and the file of the tip, if there is one.
+#[test]
+fn a_file_in_place_of_a_subcommand(rt: HostRuntime) -> Result<(), Fail> {
+    let alloc = rt.alloc();
+    let lines = [
+        ("campaign.txt", Some("campaign.txt")),
+        ("examples/workers.script", Some("examples/workers.script")),
+        ("./run", Some("./run")),
+        ("run.script more", Some("run.script")),
+        ("nonsense", None),
+        ("repla", None),
+        ("help a.script", None),
+        ("", None),
+    ];
+    for (line, file) in lines {
+        let line = format!(in alloc; "ttrun {line}")?;
+        let words = words(alloc, line.as_str())?;
+        assert_eq!(rt; stray_file(words.as_slice()).is_some(), file.is_some());
+        let refusal = read_task(alloc, words.as_slice()).err().ok_or("refused")?;
+        assert_eq!(rt; refusal.kind(), ErrorKind::InvalidSubcommand, "{line}");
+        let text = refusal.to_string(alloc)?;
+        assert_eq!(rt;
+            text.as_str().contains("tip: ttrun run < "),
+            file.is_some(),
+            "{text}"
+        );
+        if let Some(file) = file {
+            let told = format!(in alloc;
+                "error: unrecognized subcommand '{file}'\n\n  tip: ttrun run < {file}\n"
+            )?;
+            assert!(rt; text.as_str().starts_with(told.as_str()), "{text}");
+        }
+    }
+    Ok(())
+}
+
 #[test]
 fn the_help_says_what_each_word_does(rt: HostRuntime) -> Result<(), Fail> {
     let alloc = rt.alloc();
