@@ -1,33 +1,21 @@
 -- Which test cases of a campaign are chosen.
-use Rattle.std.specs.Prelude.{ℕ, ◌≡◌, ◌+◌, ◌%◌, ◌<◌, ◌⊎◌, ◌==◌, ◌&&◌, ◌||◌, Bool, true, List, [], ◌∷◌, Option, Some, None, filter, if◌then◌else◌, length, nat_lt}
+use Rattle.std.specs.Prelude.{ℕ, ◌≡◌, ◌+◌, ◌<◌, ◌==◌, ◌||◌, Bool, true, List, [], ◌∷◌, Option, Some, None, filter, if◌then◌else◌, length}
 use Rattle.std.specs.List.{list_all, list_any}
 use Rattle.std.specs.Str.{bytes_eq}
-use Rattle.tc_campaign.specs.declared.choosing.Shard.{Shard}
 use Rattle.tc_campaign.specs.declared.case.Case.{Case}
+use Rattle.tc_campaign.specs.Shard.{IsShard, ShardView, has_place}
 
 -- the name is asked for; where none is, each is
 abbrev pub is_asked : List (List ℕ) → List ℕ → Bool
 is_asked only name = (length only == 0) || list_any (λ word. bytes_eq word name) only
 
--- there is such a shard
-abbrev pub IsShard : Shard → Type 0
-IsShard s = s.place < s.shards
-
--- of so many shards none has this number, which counts from 1
-abbrev pub HasNoShard : ℕ → ℕ → Type 0
-HasNoShard number of = (number ≡ 0) ⊎ (of < number)
-
--- the shard has the test case at this place, which counts from 0
-abbrev pub has_place : Shard → ℕ → Bool
-has_place s place = nat_lt 0 s.shards && (place % s.shards == s.place)
-
 -- those of the shard, where the first stands at this place
-abbrev pub placed : {C : Type 0} → Shard → ℕ → List C → List C
+abbrev pub placed : {C : Type 0} → ShardView → ℕ → List C → List C
 placed s place [] = []
 placed s place (c ∷ cs) = if has_place s place then c ∷ placed s (place + 1) cs else placed s (place + 1) cs
 
 -- those of the shard; without a shard all of them
-abbrev pub in_shard : {C : Type 0} → Option Shard → List C → List C
+abbrev pub in_shard : {C : Type 0} → Option ShardView → List C → List C
 in_shard None cs = cs
 in_shard (Some s) cs = placed s 0 cs
 
@@ -37,7 +25,7 @@ module _ {C : Type 0} (name_of : C → List ℕ) where
   named only cs = filter (λ c. is_asked only (name_of c)) cs
 
   -- the shard of those whose names are asked for
-  abbrev pub chosen : List (List ℕ) → Option Shard → List C → List C
+  abbrev pub chosen : List (List ℕ) → Option ShardView → List C → List C
   chosen only shard cs = in_shard shard (named only cs)
 
   -- each name that is asked for is that of a test case
@@ -50,11 +38,11 @@ case_name c = c.name
 
 -- of so many shards one has the test case at this place, and no other has it
 pub record IsInOne (shards place : ℕ) : Type 0 where
-  pub holder : Shard
+  pub holder : ShardView
   pub is_shard : IsShard holder
   pub is_of : holder.shards ≡ shards
   pub has : has_place holder place ≡ true
-  pub alone : (s : Shard) → IsShard s → s.shards ≡ shards → has_place s place ≡ true → s.place ≡ holder.place
+  pub alone : (s : ShardView) → IsShard s → s.shards ≡ shards → has_place s place ≡ true → s.place ≡ holder.place
 
 -- all shards of so many, one at least, have each test case exactly once
 abbrev pub ShardsAreAll : Type 0

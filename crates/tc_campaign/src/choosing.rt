@@ -1,44 +1,13 @@
 //! Which test cases of a campaign are chosen.
-ghost use Rattle.std.specs.Prelude.{◌≡◌, ◌+◌, IfOk, IfSome, IfNone};
+ghost use Rattle.std.specs.Prelude.{◌≡◌, IfOk};
 ghost use Rattle.std.specs.List.{list_any};
 ghost use Rattle.std.specs.Str.{bytes_eq};
-ghost use Rattle.tc_campaign.specs.Choosing.{HasNoShard, IsShard, case_name, chosen, has_place, have_names, is_asked as spec_asked, named as spec_named, placed};
+ghost use Rattle.tc_campaign.specs.Choosing.{case_name, chosen, have_names, is_asked as spec_asked, named as spec_named, placed};
 
 use crate::case::Case;
+use crate::shard::Shard;
 use std::alloc::Global;
 use tc_entry::{Name, NoMemory};
-
-/// One of the shards of a campaign; `new` makes those alone that there are.
-#[derive(Clone, Copy, Debug, PartialEq, Eq)]
-pub struct Shard {
-    /// Its place among them, from 0.
-    pub place: u32,
-    /// How many there are.
-    pub shards: u32,
-}
-
-impl Shard {
-    /// The shard of this number, which counts from 1, of so many; none where no shard has it.
-    pub fn new(number: u32, of: u32) -> Option<Shard>
-        ensures some { IfSome result (λ s. IsShard s × (number ≡ s.place + 1) × (of ≡ s.shards)) }
-        ensures none { IfNone result (HasNoShard number of) }
-    {
-        if number < 1 || of < number {
-            return None;
-        }
-        Some(Shard {
-            place: number - 1,
-            shards: of,
-        })
-    }
-
-    /// Whether the shard has the test case at this place, which counts from 0.
-    pub fn has(self, place: usize) -> bool
-        ensures { result ≡ has_place self place }
-    {
-        self.shards > 0 && place as u64 % self.shards as u64 == self.place as u64
-    }
-}
 
 fn is_same(name: &Name, other: &Name) -> bool
     ensures { result ≡ bytes_eq name.now other.now }

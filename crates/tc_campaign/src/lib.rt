@@ -7,13 +7,15 @@ mod choosing;
 mod kept;
 pub mod laws;
 mod live;
+mod shard;
 mod step;
 mod stopping;
 
 pub use campaign::{run_campaign, run_campaign_with};
 pub use case::Case;
-pub use choosing::{Shard, choose, have_all};
+pub use choosing::{choose, have_all};
 pub use live::run_campaign_live;
+pub use shard::Shard;
 pub use tc_report::{
     CampaignEnd, Finished, Form, LiveWriter, Observer, OutFault, Results, Tally, status_of, tally,
     write_abort, write_csv, write_history, write_text,

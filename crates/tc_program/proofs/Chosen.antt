@@ -4,9 +4,9 @@ use Rattle.std.proofs.lemmas.List.Elements.{All-cons, All-head, All-tail}
 use Rattle.std.specs.List.{AllZip, flat_map, list_any}
 use Rattle.std.specs.Prelude.{filter, if◌then◌else◌}
 use Rattle.std.specs.Str.{bytes_eq}
-use Rattle.tc_campaign.specs.declared.choosing.Shard.{Shard}
+use Rattle.tc_campaign.specs.Shard.{ShardView, has_place}
 use Rattle.tc_campaign.specs.declared.case.Case.{Case}
-use Rattle.tc_campaign.specs.Choosing.{case_name, chosen, has_place, have_names, is_asked, named, placed}
+use Rattle.tc_campaign.specs.Choosing.{case_name, chosen, have_names, is_asked, named, placed}
 use Rattle.tc_step.specs.Steps.{ScriptView}
 use Rattle.tc_program.specs.Choosing.{list_text, script_name}
 use Rattle.tc_program.specs.Inside.{IsCaseOf, case_line}
@@ -21,12 +21,12 @@ module _ {C : Type 0} (P : C → Type 0) where
   all_filtered test [] each = each
   all_filtered test (c ∷ cs) each = all_with (test c) c (filter test cs) (All-head P c cs each) (all_filtered test cs (All-tail P c cs each))
 
-  all_placed : (s : Shard) (place : ℕ) (cs : List C) → All P cs → All P (placed s place cs)
+  all_placed : (s : ShardView) (place : ℕ) (cs : List C) → All P cs → All P (placed s place cs)
   all_placed s place [] each = each
   all_placed s place (c ∷ cs) each =
       all_with (has_place s place) c (placed s (place + 1) cs) (All-head P c cs each) (all_placed s (place + 1) cs (All-tail P c cs each))
 
-  pub all_chosen : (name_of : C → List ℕ) (only : List (List ℕ)) (shard : Option Shard) (cs : List C) → All P cs → All P (chosen name_of only shard cs)
+  pub all_chosen : (name_of : C → List ℕ) (only : List (List ℕ)) (shard : Option ShardView) (cs : List C) → All P cs → All P (chosen name_of only shard cs)
   all_chosen name_of only None cs each = all_filtered (λ c. is_asked only (name_of c)) cs each
   all_chosen name_of only (Some s) cs each = all_placed s 0 (named name_of only cs) (all_filtered (λ c. is_asked only (name_of c)) cs each)
 
@@ -49,14 +49,14 @@ zip_named only (c ∷ cs) (k ∷ ks) each =
     zip_with (is_asked only (script_name c)) (is_asked only (case_name k)) c k (named script_name only cs) (named case_name only ks)
     (ap (is_asked only) (sym each.0.name)) each.0 (zip_named only cs ks each.1)
 
-zip_placed : (s : Shard) (place : ℕ) (cs : List CaseView) (ks : List (Case ScriptView)) → AreCases cs ks → AreCases (placed s place cs) (placed s place ks)
+zip_placed : (s : ShardView) (place : ℕ) (cs : List CaseView) (ks : List (Case ScriptView)) → AreCases cs ks → AreCases (placed s place cs) (placed s place ks)
 zip_placed s place [] [] each = tt
 zip_placed s place [] (k ∷ ks) each = absurd each
 zip_placed s place (c ∷ cs) [] each = absurd each
 zip_placed s place (c ∷ cs) (k ∷ ks) each =
     zip_with (has_place s place) (has_place s place) c k (placed s (place + 1) cs) (placed s (place + 1) ks) refl each.0 (zip_placed s (place + 1) cs ks each.1)
 
-pub zip_chosen : (only : List (List ℕ)) (shard : Option Shard) (cs : List CaseView) (ks : List (Case ScriptView)) → AreCases cs ks
+pub zip_chosen : (only : List (List ℕ)) (shard : Option ShardView) (cs : List CaseView) (ks : List (Case ScriptView)) → AreCases cs ks
     → AreCases (chosen script_name only shard cs) (chosen case_name only shard ks)
 zip_chosen only None cs ks each = zip_named only cs ks each
 zip_chosen only (Some s) cs ks each = zip_placed s 0 (named script_name only cs) (named case_name only ks) (zip_named only cs ks each)

@@ -2,7 +2,7 @@
 use Rattle.std.specs.Prelude.{ℕ, ◌≡◌, ◌<◌, ◌+◌, ◌^◌, List, [], ◌∷◌, ◌++◌, Option, Some, None, IfSome, Ok, length, true}
 use Rattle.std.specs.List.{flat_map}
 use Rattle.std.specs.Fmt.{decimal}
-use Rattle.tc_campaign.specs.declared.choosing.Shard.{Shard}
+use Rattle.tc_campaign.specs.Shard.{ShardView}
 use Rattle.tc_campaign.specs.Choosing.{chosen, have_names}
 use Rattle.tc_command.specs.Asked.{Chosen}
 use Rattle.tc_script.specs.Campaign.{CampaignView, campaign}
@@ -12,11 +12,11 @@ use Rattle.tc_program.specs.declared.fault.RunFault.{RunFault}
 use Rattle.tc_program.specs.declared.fault.RunFault.TheVariants as F
 
 -- the word is K/N, in decimal: this is the K-th of N shards, and K is from 1 to N
-abbrev pub IsShardWord : List ℕ → Shard → Type 0
+abbrev pub IsShardWord : List ℕ → ShardView → Type 0
 IsShardWord word s = (word ≡ decimal (s.place + 1) ++ (47 ∷ decimal s.shards)) × (s.place < s.shards) × (s.shards < 2 ^ 32)
 
 -- the shard is that of the word; without a word there is none
-abbrev pub IsShardOf : Option (List ℕ) → Option Shard → Type 0
+abbrev pub IsShardOf : Option (List ℕ) → Option ShardView → Type 0
 IsShardOf None None = Unit {0}
 IsShardOf None (Some s) = ⊥
 IsShardOf (Some word) None = ⊥
@@ -25,7 +25,7 @@ IsShardOf (Some word) (Some s) = IsShardWord word s
 -- there is a word, and it is that of no shard
 abbrev pub IsNoShard : Option (List ℕ) → Type 0
 IsNoShard None = ⊥
-IsNoShard (Some word) = (s : Shard) → IsShardWord word s → ⊥
+IsNoShard (Some word) = (s : ShardView) → IsShardWord word s → ⊥
 
 -- the word is refused
 abbrev pub RefusesShard : Option (List ℕ) → RunFault → Type 0
@@ -44,7 +44,7 @@ script_name c = c.0
 
 -- these test cases are those that are chosen of the ones that the input spells, which have each name that is asked for
 pub record AreChosen (choice : Chosen) (input : Option (List ℕ)) (cases : CampaignView) : Type 0 where
-  pub shard : Option Shard
+  pub shard : Option ShardView
   pub shard_is : IsShardOf choice.shard shard
   pub all : CampaignView
   pub spelled : IfSome input (λ text. campaign text ≡ Ok all)

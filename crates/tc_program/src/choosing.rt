@@ -1,7 +1,7 @@
 //! The test cases of a script that are chosen.
 ghost use Rattle.std.specs.Prelude.{◌≡◌, ◌⊎◌, ◌<◌, IfOk, IfErr, IfSome, IfNone, length, map, option_copied, true};
 ghost use Rattle.tc_campaign.specs.Choosing.{case_name, chosen, have_names};
-ghost use Rattle.tc_campaign.specs.declared.choosing.Shard.{Shard as AnyShard};
+ghost use Rattle.tc_campaign.specs.Shard.{ShardView};
 ghost use Rattle.tc_program.specs.Choosing.{IsShardOf, IsShardWord, RefusesNames, RefusesShard};
 
 use crate::fault::RunFault;
@@ -13,7 +13,7 @@ use tc_text::{read_number, take_number};
 // The shard of a word.
 fn read_shard(word: &str) -> Option<Shard>
     ensures some { IfSome result (IsShardWord word.now) }
-    ensures none { IfNone result ((s : AnyShard) → IsShardWord word.now s → ⊥) }
+    ensures none { IfNone result ((s : ShardView) → IsShardWord word.now s → ⊥) }
 {
     let (number, rest) = take_number(word.as_bytes())?;
     let (slash, rest) = rest.split_first()?;

@@ -37,21 +37,19 @@ fn told(alloc: Global, cases: &[Case<u8>]) -> Result<Vec<u8>, AllocError> {
 #[test]
 fn chosen_test_cases(rt: HostRuntime) -> Result<(), Fail> {
     let alloc = rt.alloc();
-    let shard = |place: u32, shards: u32| Some(Shard { place, shards });
+    let shard = |number: u32, of: u32| Shard::new(number, of);
     let rows = [
         ("", None, "abcde"),
         ("d b", None, "bd"),
         ("b b", None, "b"),
         ("z", None, ""),
-        ("", shard(0, 1), "abcde"),
-        ("", shard(0, 2), "ace"),
-        ("", shard(1, 2), "bd"),
-        ("", shard(2, 3), "c"),
-        ("", shard(6, 7), ""),
-        ("e c b", shard(0, 2), "be"),
-        ("e c b", shard(1, 2), "c"),
-        ("", shard(2, 2), ""),
-        ("", shard(0, 0), ""),
+        ("", shard(1, 1), "abcde"),
+        ("", shard(1, 2), "ace"),
+        ("", shard(2, 2), "bd"),
+        ("", shard(3, 3), "c"),
+        ("", shard(7, 7), ""),
+        ("e c b", shard(1, 2), "be"),
+        ("e c b", shard(2, 2), "c"),
     ];
     for (only, shard, wanted) in rows {
         let cases = plain(alloc, "a b c d e")?;
@@ -63,24 +61,25 @@ fn chosen_test_cases(rt: HostRuntime) -> Result<(), Fail> {
     Ok(())
 }
 
-// Each number of a shard from 0 on, and one behind the last.
+// Each number of a shard from 0 on, and one behind the last, with the place of the shard.
 #[test]
 fn shards_by_their_numbers(rt: HostRuntime) -> Result<(), Fail> {
-    let shard = |place: u32, shards: u32| Some(Shard { place, shards });
     let rows = [
         (0, 0, None),
         (1, 0, None),
         (0, 1, None),
-        (1, 1, shard(0, 1)),
+        (1, 1, Some(0)),
         (2, 1, None),
         (0, 3, None),
-        (1, 3, shard(0, 3)),
-        (3, 3, shard(2, 3)),
+        (1, 3, Some(0)),
+        (3, 3, Some(2)),
         (4, 3, None),
-        (u32::MAX, u32::MAX, shard(u32::MAX - 1, u32::MAX)),
+        (u32::MAX, u32::MAX, Some(u32::MAX - 1)),
     ];
     for (number, of, wanted) in rows {
-        assert_eq!(rt; Shard::new(number, of), wanted);
+        let shard = Shard::new(number, of);
+        assert_eq!(rt; shard.map(|shard| shard.place()), wanted);
+        assert_eq!(rt; shard.map(|shard| shard.shards()), wanted.map(|_| of));
     }
     Ok(())
 }

@@ -92,16 +92,9 @@ fn choices_that_are_refused(rt: HostRuntime) -> Result<(), Fail> {
 #[test]
 fn words_of_shards(rt: HostRuntime) -> Result<(), Fail> {
     let last = 4294967295u32;
-    let first = Some(Shard {
-        place: 0,
-        shards: 1,
-    });
     assert_eq!(rt; shard_of(None), Ok(None));
-    assert_eq!(rt; shard_of(Some("1/1")), Ok(first));
-    let last_of_all = Some(Shard {
-        place: last - 1,
-        shards: last,
-    });
+    assert_eq!(rt; shard_of(Some("1/1")), Ok(Shard::new(1, 1)));
+    let last_of_all = Shard::new(last, last);
     assert_eq!(rt; shard_of(Some("4294967295/4294967295")), Ok(last_of_all));
     Ok(())
 }
