@@ -1,4 +1,4 @@
--- What only the reader of one block says: no public clause names a word of this file.
+-- What only the writer and the reader of one block say: no public clause names a word of this file.
 use Rattle.std.specs.Prelude.{ℕ, ◌≡◌, ◌≢◌, ◌+◌, ◌≤◌, ◌⊎◌, List, [], ◌∷◌, ◌++◌, length}
 use Rattle.tc_verdict.specs.declared.verdict.Verdict.{Verdict}
 use Rattle.tc_entry.specs.declared.entry.Entry.{Entry}
@@ -10,6 +10,10 @@ use Rattle.tc_history.specs.declared.header.Header.{Header}
 use Rattle.tc_history.specs.declared.read.Block.{Block}
 use Rattle.tc_history.specs.Block.{header_text, entry_text, end_text}
 use Rattle.tc_history.specs.Text.{IsBlock, IsEntry, AreEntries, IsHeader, open_lines, block_lines}
+
+-- the first line of a history in format 2
+abbrev pub first_line : List ℕ → ℕ → List ℕ
+first_line name n = header_text (record { format = 2; name = name; behaviours = n }) ++ (10 ∷ [])
 
 -- a format of histories
 abbrev pub IsSomeFormat : ℕ → Type 0

@@ -2,7 +2,8 @@
 ghost use Rattle.std.specs.Prelude.{◌≡◌, ◌++◌, ◌∷◌, [], OnOk, OnErr};
 ghost use Rattle.std.specs.List.{flat_map};
 ghost use Rattle.std.specs.Io.{StartsWith};
-ghost use Rattle.tc_history.specs.Block.{block_text, end_text, entry_line, header_text};
+ghost use Rattle.tc_history.specs.Block.{block_text, end_text, entry_line};
+ghost use Rattle.tc_history.specs.Inside.{first_line};
 
 use tc_entry::{Entry, Name, NoMemory, Verdict};
 use tc_text::{append_number, append_text, write_move, write_reply};
@@ -10,7 +11,7 @@ use tc_verdict::name as name_of;
 
 // Appends the first line, in format 2; where memory is refused, a part of it.
 fn append_header(out: &mut Vec<u8>, name: &Name, behaviours: u16) -> Result<(), NoMemory>
-    ensures ok { OnOk result (out.new.items ≡ out.old.items ++ (header_text (record { format = 2; name = name.now; behaviours = behaviours }) ++ (10 ∷ []))) }
+    ensures ok { OnOk result (out.new.items ≡ out.old.items ++ first_line name.now behaviours) }
     ensures err { OnErr result (StartsWith out.new.items out.old.items) }
 {
     append_text(out, "history 2 ")?;
