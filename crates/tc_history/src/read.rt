@@ -30,6 +30,13 @@ pub struct Block {
     pub verdict: Verdict,
 }
 
+/// A block that is not read to its end.
+#[derive(Drop)]
+pub struct BegunBlock {
+    header: Header,
+    entries: Vec<Entry>,
+}
+
 /// What is made of histories, line by line.
 pub trait TakesHistories: Sized {
     /// What is made of a history that is not read to its end.
@@ -65,13 +72,6 @@ pub trait TakesHistories: Sized {
         requires { first_line < line }
         ensures { OnOk result ((blocks : List AnyBlock) (b : AnyBlock) → first_line ≡ b.first_line → line ≡ b.first_line + length b.entries + 1
             → verdict ≡ b.verdict → opens b.first_line (header_of b) b.entries begun → stands blocks self.old → stands (blocks ++ b ∷ []) self.new) };
-}
-
-/// A block that is not read to its end.
-#[derive(Drop)]
-pub struct BegunBlock {
-    header: Header,
-    entries: Vec<Entry>,
 }
 
 impl TakesHistories for Vec<Block> {
