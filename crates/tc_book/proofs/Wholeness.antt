@@ -8,10 +8,10 @@ use Rattle.tc_entry.specs.declared.comp.Comp.{Comp}
 use Rattle.tc_entry.specs.declared.entry.Entry.{Entry}
 use Rattle.tc_table.specs.History.{is_over}
 use Rattle.tc_merge.specs.declared.run_log.RunLog.{RunLog}
+use Rattle.tc_book.specs.OpenCase.{OpenCase}
 use Rattle.tc_book.specs.Passes.{LeftState}
 use Rattle.tc_merge.specs.Merge.{log_of}
 use Rattle.tc_merge.proofs.Kept.{others-merge}
-use Rattle.tc_board.specs.declared.record.Record.{Record}
 use Rattle.tc_book.specs.Closing.{all_started, is_of_run, IsFitting, IsWhole, IsMerged, run_log, merged}
 use Rattle.tc_book.proofs.Skipping.{starts_same}
 use Rattle.tc_book.specs.Parts.{part, logged}
@@ -125,7 +125,7 @@ pub record AtClose (n n' : ℕ) (starts starts' : List (Option (Comp × List Com
   pub same_lefts : lefts' ≡ lefts
   pub known : KnowsStarts starts (reverse k)
 
-pub torn_placed : (n n' : ℕ) (starts starts' : List (Option (Comp × List Comp))) (k k' : List Entry) (words : List Record) (lefts lefts' : List LeftState) →
-    AtClose n n' starts starts' k k' lefts lefts' → IsMerged n k' words lefts → ArePlaced n' starts' lefts'
-torn_placed n n' starts starts' k k' words lefts lefts' a m =
-    rw (a.same_n, a.same_starts, a.same_lefts) (whole_placed n starts (merged k' lefts) lefts (subst (λ h. KnowsStarts starts (reverse (merged h lefts))) (sym a.same_history) (merged_starts starts k lefts a.known)) m.whole)
+pub torn_placed : (b : OpenCase) (n' : ℕ) (starts starts' : List (Option (Comp × List Comp))) (k : List Entry) (lefts lefts' : List LeftState) →
+    AtClose b.behaviours n' starts starts' k b.history lefts lefts' → IsMerged b lefts → ArePlaced n' starts' lefts'
+torn_placed b n' starts starts' k lefts lefts' a m =
+    rw (a.same_n, a.same_starts, a.same_lefts) (whole_placed b.behaviours starts (merged b.history lefts) lefts (subst (λ h. KnowsStarts starts (reverse (merged h lefts))) (sym a.same_history) (merged_starts starts k lefts a.known)) m.whole)

@@ -9,6 +9,7 @@ use Rattle.tc_merge.specs.declared.run_log.RunLog.{RunLog}
 use Rattle.tc_merge.specs.Merge.{merge}
 use Rattle.tc_words.specs.Words.{record_at}
 use Rattle.tc_words.specs.Counting.{Counts}
+use Rattle.tc_book.specs.OpenCase.{OpenCase}
 use Rattle.tc_book.specs.Passes.{LeftState}
 use Rattle.tc_book.specs.Starts.{start_of}
 use Rattle.tc_book.specs.Parts.{part}
@@ -65,9 +66,11 @@ Agrees word log = Counts word log
 pub record IsAgreed (words : List Record) (l : LeftState) : Type 0 where
   pub agrees : Agrees (record_at words l.run.0) l.log
 
--- the merged history is one that the component table would make, what came back is whole by it, and each run's word agrees
--- with its log
-pub record IsMerged (n : ℕ) (history : List Entry) (words : List Record) (lefts : List LeftState) : Type 0 where
-  pub agreed : All (IsAgreed words) lefts
-  pub legal : IsLegal n (reverse (merged history lefts))
-  pub whole : IsWhole n (merged history lefts) lefts
+-- what came back of an open case closes it
+pub record IsMerged (b : OpenCase) (lefts : List LeftState) : Type 0 where
+  -- the word of each run agrees with its log
+  pub agreed : All (IsAgreed b.words) lefts
+  -- each reply of the merged history is the component table's
+  pub legal : IsLegal b.behaviours (reverse (merged b.history lefts))
+  -- what came back is whole by the merged history
+  pub whole : IsWhole b.behaviours (merged b.history lefts) lefts

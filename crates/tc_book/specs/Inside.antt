@@ -1,5 +1,6 @@
 -- What only the way a book is kept needs: no public clause names a word of this file.
-use Rattle.std.specs.Prelude.{ℕ, zero, suc, ◌++◌, ◌≡◌, ◌+◌, ◌≤◌, ◌<◌, ◌==◌, Bool, if◌then◌else◌, option_map, Option, Some, None, List, [], length, sum_by, slice_index_or, All}
+use Rattle.std.specs.Prelude.{ℕ, zero, suc, ◌++◌, ◌∷◌, ◌≡◌, ◌+◌, ◌≤◌, ◌<◌, ◌==◌, Bool, if◌then◌else◌, option_map, Option, Some, None, List, [], length, sum_by, slice_index_or, All}
+use Rattle.std.specs.Borrow.{Bor}
 use Rattle.tc_entry.specs.declared.limits.TheConstants.{BEHAVIOURS}
 use Rattle.tc_entry.specs.declared.comp.Comp.{Comp}
 use Rattle.tc_entry.specs.declared.entry.Entry.{Entry}
@@ -10,10 +11,11 @@ use Rattle.tc_entry.specs.declared.reply.Reply.TheVariants as R
 use Rattle.tc_merge.specs.declared.run_log.RunLog.{RunLog}
 use Rattle.tc_book.specs.declared.places.Places.{Places}
 use Rattle.tc_table.specs.Legal.{IsLegal}
-use Rattle.tc_book.specs.Parts.{part, log_of}
+use Rattle.tc_book.specs.Parts.{part, log_of, is_by}
 use Rattle.tc_book.specs.Closing.{IsOneEach}
 use Rattle.tc_book.specs.OpenCase.{AreOthers}
 use Rattle.tc_words.specs.Words.{AreTold}
+use Rattle.tc_board.specs.Hand.{HandView}
 use Rattle.tc_board.specs.declared.record.Record.{Record}
 use Rattle.tc_book.specs.Passes.{LeftState}
 use Rattle.tc_book.specs.Starts.{start_of}
@@ -45,6 +47,20 @@ comp_by b start = if b == 0 then Some (record { 0 = 0 }) else option_map (λ s. 
 -- the lists are the parts of the history by the first runs
 abbrev pub KnowsParts : List (List Entry) → List Entry → Type 0
 KnowsParts parts history = (b : ℕ) → b < length parts → slice_index_or parts b [] ≡ part history b
+
+-- of what is left of each part one entry was taken off: it was the first of its caller's
+abbrev pub IsTaken : List (Bor (List Entry)) → List (Bor (List Entry)) → Entry → Type 0
+IsTaken before after e =
+    (b : ℕ) (d : Bor (List Entry)) → b < length before → (slice_index_or before b d).now ≡ (if is_by b e then e ∷ [] else []) ++ (slice_index_or after b d).now
+
+-- the entry's caller has a part, and what is left of it does not begin with the entry
+abbrev pub IsNotNext : List (Bor (List Entry)) → Entry → Type 0
+IsNotNext rests e =
+    (e.caller.0 < length rests) × ((d : Bor (List Entry)) (es : List Entry) → (slice_index_or rests e.caller.0 d).now ≡ e ∷ es → ⊥)
+
+-- the hand of a run that has not met its word yet
+abbrev pub IsNewHand : HandView → ℕ → Type 0
+IsNewHand hand b = (hand.run ≡ b) × (hand.answers ≡ [])
 
 -- the logs of the first n runs, by what each was started with and by these parts
 abbrev pub logs_from : List (Option (Comp × List Comp)) → List (List Entry) → ℕ → List RunLog

@@ -1,5 +1,5 @@
 -- What contracts see of a book, and the places that it keeps.
-use Rattle.std.specs.Prelude.{ℕ, ◌≡◌, ◌++◌, ◌∷◌, [], true, false, List, reverse, slice_index_or}
+use Rattle.std.specs.Prelude.{ℕ, ◌≡◌, ◌++◌, ◌∷◌, [], if◌then◌else◌, Bool, true, false, List, reverse, set, slice_index_or}
 use Rattle.tc_verdict.specs.declared.run.Run.{Run}
 use Rattle.tc_entry.specs.declared.entry.Entry.{Entry}
 use Rattle.tc_entry.specs.declared.op.Op.{Op}
@@ -7,6 +7,7 @@ use Rattle.tc_entry.specs.declared.reply.Reply.{Reply}
 use Rattle.tc_merge.specs.Merge.{is_verdict_call}
 use Rattle.tc_board.specs.declared.record.Record.{Record}
 use Rattle.tc_book.specs.declared.places.Places.{Places}
+use Rattle.tc_book.specs.Replies.{is_parked}
 use Rattle.tc_table.specs.Answers.{answer}
 
 -- a case that is open: how many behaviours it has, its entries without those of verdict calls, the oldest first, the places
@@ -46,14 +47,22 @@ opening_place = record { leave = true; wake = false }
 abbrev pub places_at : List Places → Run → Places
 places_at ps run = slice_index_or ps run.0 no_place
 
--- once a place is kept for a Wake
-abbrev pub with_wake : Places → Places
-with_wake p = record p { wake = true }
+-- a place is kept for the leaving of a run
+abbrev pub has_leave : OpenCase → Run → Bool
+has_leave b run = (places_at b.places run).leave
 
--- once that place is used
-abbrev pub without_wake : Places → Places
-without_wake p = record p { wake = false }
+-- a place is kept for the Wake of a run's parked wait
+abbrev pub has_wake : OpenCase → Run → Bool
+has_wake b run = (places_at b.places run).wake
 
--- once the place for the leaving is given up
-abbrev pub without_leave : Places → Places
-without_leave p = record p { leave = false }
+-- the places once a call of the run got this reply: where it is parked, one is kept for its Wake
+abbrev pub places_after : OpenCase → Run → Reply → List Places
+places_after b run r = if is_parked r then set b.places run.0 (record (places_at b.places run) { wake = true }) else b.places
+
+-- the places once the run's Wake is made
+abbrev pub without_wake : OpenCase → Run → List Places
+without_wake b run = set b.places run.0 (record (places_at b.places run) { wake = false })
+
+-- the places once the run has left
+abbrev pub without_leave : OpenCase → Run → List Places
+without_leave b run = set b.places run.0 (record (places_at b.places run) { leave = false })

@@ -11,9 +11,13 @@ use Rattle.tc_book.specs.Replies.{is_parked}
 use Rattle.tc_book.specs.declared.until.Until.{Until}
 use Rattle.tc_book.specs.declared.until.Until.TheVariants as U
 
+-- the run's Wake would be parked again, if it were made now
+abbrev pub WouldPark : OpenCase → Run → Bool → Target → Type 0
+WouldPark b run killed target = reply_to b run (O.Wake killed target) ≡ R.Parked
+
 -- who waited still waits: the Wake that would be parked again still would be, no run is started, and the case is over if it was
 pub record NobodyWakes (before after : OpenCase) : Type 0 where
-  pub parked : (run : Run) (killed : Bool) (target : Target) → reply_to before run (O.Wake killed target) ≡ R.Parked → reply_to after run (O.Wake killed target) ≡ R.Parked
+  pub parked : (run : Run) (killed : Bool) (target : Target) → WouldPark before run killed target → WouldPark after run killed target
   pub starts : (b : ℕ) → start_of (past_of after) b ≡ start_of (past_of before) b
   pub over : is_over (past_of after) ≡ is_over (past_of before)
 

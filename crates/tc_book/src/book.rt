@@ -1,13 +1,14 @@
 //! What the lock of a case holds.
-ghost use Rattle.std.specs.Prelude.{◌≡◌, ◌≤◌, ◌≢◌, [], Some, None, if◌then◌else◌, IfOk, OnErr, OnOk, IfSome, IfNone, OnSome, IsTrue, IsFalse, MatchOption, true, false, replicate, set};
+ghost use Rattle.std.specs.Prelude.{◌≡◌, ◌≤◌, ◌≢◌, [], Some, None, IfOk, OnErr, OnOk, IfSome, IfNone, OnSome, IsTrue, IsFalse, MatchOption, true, false, replicate};
 ghost use Rattle.tc_entry.specs.declared.limits.TheConstants.{BEHAVIOURS};
 ghost use Rattle.tc_entry.specs.declared.op.Op.TheVariants as ops;
 ghost use Rattle.tc_entry.specs.declared.reply.Reply.TheVariants as replies;
 ghost use Rattle.tc_table.specs.History as history;
 ghost use Rattle.tc_table.specs.Legal.{IsLegal};
-ghost use Rattle.tc_book.specs.OpenCase.{AreOthers, past_of, reply_to, with_entry, places_at, with_wake, without_wake, without_leave, opening_place};
-ghost use Rattle.tc_book.specs.Replies.{suits, is_parked};
+ghost use Rattle.tc_book.specs.OpenCase.{AreOthers, has_leave, has_wake, opening_place, past_of, places_after, reply_to, with_entry, without_leave, without_wake};
+ghost use Rattle.tc_book.specs.Replies.{suits};
 ghost use Rattle.tc_book.specs.Starts as starts;
+ghost use Rattle.tc_book.specs.Waking.{WouldPark};
 ghost use Rattle.tc_words.specs.Words.{record_at, AreTold};
 ghost use Rattle.tc_merge.specs.Merge.{is_verdict_call};
 ghost use Rattle.tc_board.specs.Board.{new_keeper};
@@ -96,7 +97,7 @@ impl Book {
         ensures reply { IfOk result (λ r. r ≡ reply_to self.old run op) }
         ensures suits { IfOk result (λ r. suits op r ≡ true) }
         ensures history { IfOk result (λ r. self.new.history ≡ with_entry self.old run op r) }
-        ensures places { IfOk result (λ r. self.new.places ≡ (if is_parked r then set self.old.places run.0 (with_wake (places_at self.old.places run)) else self.old.places)) }
+        ensures places { IfOk result (λ r. self.new.places ≡ places_after self.old run r) }
         ensures refused { OnErr result (self.new ≡ self.old) }
     {
         self.table.make_room(self.count + 2)?;
@@ -118,12 +119,13 @@ impl Book {
     pub fn wake(&mut self, run: Run, killed: bool, target: Target) -> Option<Reply>
         ensures behaviours { self.new.behaviours ≡ self.old.behaviours }
         ensures none { IfNone result (self.new ≡ self.old) }
-        ensures asleep { IfNone result (IsTrue (places_at self.old.places run).wake → reply_to self.old run (ops.Wake killed target) ≡ replies.Parked) }
-        ensures awake { IfSome result (λ r. IsTrue (places_at self.old.places run).wake × (r ≢ replies.Parked)) }
+        ensures asleep { IfNone result (IsTrue (has_wake self.old run) → WouldPark self.old run killed target) }
+        ensures kept { OnSome result (IsTrue (has_wake self.old run)) }
+        ensures awake { IfSome result (λ r. r ≢ replies.Parked) }
         ensures reply { IfSome result (λ r. r ≡ reply_to self.old run (ops.Wake killed target)) }
         ensures suits { IfSome result (λ r. suits (ops.Wake killed target) r ≡ true) }
         ensures history { IfSome result (λ r. self.new.history ≡ with_entry self.old run (ops.Wake killed target) r) }
-        ensures places { OnSome result (self.new.places ≡ set self.old.places run.0 (without_wake (places_at self.old.places run))) }
+        ensures places { OnSome result (self.new.places ≡ without_wake self.old run) }
     {
         let was = places_of(&self.places, run);
         let op = Op::Wake { killed, target };
@@ -145,10 +147,14 @@ impl Book {
     /// Gives up a run's place for its leaving, and where its pass has not ended adds its Finish.
     pub fn leave(&mut self, run: Run, ended: bool) -> Option<Option<Reply>>
         ensures behaviours { self.new.behaviours ≡ self.old.behaviours }
-        ensures none { IfNone result ((self.new ≡ self.old) × IsFalse (places_at self.old.places run).leave) }
-        ensures places { OnSome result (IsTrue (places_at self.old.places run).leave × (self.new.places ≡ set self.old.places run.0 (without_leave (places_at self.old.places run)))) }
-        ensures quiet { IfSome result (λ r. IfNone r (IsTrue ended × (self.new.history ≡ self.old.history))) }
-        ensures finish { IfSome result (λ f. IfSome f (λ r. IsFalse ended × (r ≡ reply_to self.old run ops.Finish) × (self.new.history ≡ with_entry self.old run ops.Finish r))) }
+        ensures none { IfNone result (self.new ≡ self.old) }
+        ensures gone { IfNone result (IsFalse (has_leave self.old run)) }
+        ensures kept { OnSome result (IsTrue (has_leave self.old run)) }
+        ensures places { OnSome result (self.new.places ≡ without_leave self.old run) }
+        ensures quiet { IfSome result (λ f. IfNone f (IsTrue ended × (self.new.history ≡ self.old.history))) }
+        ensures finish { IfSome result (λ f. IfSome f (λ _. IsFalse ended)) }
+        ensures reply { IfSome result (λ f. IfSome f (λ r. r ≡ reply_to self.old run ops.Finish)) }
+        ensures history { IfSome result (λ f. IfSome f (λ r. self.new.history ≡ with_entry self.old run ops.Finish r)) }
         ensures suits { IfSome result (λ f. IfSome f (λ r. suits ops.Finish r ≡ true)) }
     {
         let was = places_of(&self.places, run);
@@ -174,7 +180,7 @@ impl Book {
 
     /// Whether a place is still kept for the leaving of a run.
     pub(crate) fn has_place(&self, run: Run) -> bool
-        ensures { result ≡ (places_at self.now.places run).leave }
+        ensures { result ≡ has_leave self.now run }
     {
         places_of(&self.places, run).leave
     }

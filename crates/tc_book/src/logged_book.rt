@@ -1,16 +1,16 @@
 //! The book behind the lock. Whatever is added to its history is added to the log of its caller in the same call.
-ghost use Rattle.std.specs.Prelude.{◌≡◌, ◌≢◌, ◌≤◌, ◌+◌, [], true, false, if◌then◌else◌, IfOk, OnOk, OnErr, IfErr, IfSome, IfNone, OnSome, IsTrue, IsFalse, Some, None, is_none, replicate, set, slice_index_or};
+ghost use Rattle.std.specs.Prelude.{◌≡◌, ◌≢◌, ◌≤◌, ◌+◌, [], true, false, IfOk, OnOk, OnErr, IfErr, IfSome, IfNone, OnSome, IsTrue, IsFalse, Some, None, is_none, replicate, set, slice_index_or};
 ghost use Rattle.tc_entry.specs.declared.op.Op.TheVariants as ops;
 ghost use Rattle.tc_entry.specs.declared.reply.Reply.TheVariants as replies;
 ghost use Rattle.tc_table.specs.History as history;
 ghost use Rattle.tc_book.specs.declared.closed.CloseFault.TheVariants as faults;
 ghost use Rattle.tc_book.specs.Closing.{IsWhole, IsMerged, merged};
 ghost use Rattle.tc_book.specs.Logs.{is_closed, with_own};
-ghost use Rattle.tc_book.specs.OpenCase.{past_of, places_at, reply_to, with_entry, with_wake, without_leave, without_wake};
-ghost use Rattle.tc_book.specs.Replies.{suits, is_parked};
+ghost use Rattle.tc_book.specs.OpenCase.{has_leave, has_wake, past_of, places_after, reply_to, with_entry, without_leave, without_wake};
+ghost use Rattle.tc_book.specs.Replies.{suits};
 ghost use Rattle.tc_book.specs.Report.{IsOneHistory};
 ghost use Rattle.tc_book.specs.Starts as starts;
-ghost use Rattle.tc_book.specs.Waking.{NobodyWakes, wakes};
+ghost use Rattle.tc_book.specs.Waking.{NobodyWakes, WouldPark, wakes};
 ghost use Rattle.tc_book.specs.declared.until.Until.TheVariants as untils;
 ghost use Rattle.tc_merge.specs.Merge.{is_verdict_call};
 ghost use Rattle.tc_board.specs.Hand.{answered};
@@ -75,7 +75,7 @@ impl LoggedBook {
         ensures behaviours { self.new.book.behaviours ≡ self.old.book.behaviours }
         ensures reply { IfOk result (λ r. r.0 ≡ reply_to self.old.book log.old.run op) }
         ensures suits { IfOk result (λ r. suits op r.0 ≡ true) }
-        ensures places { IfOk result (λ r. self.new.book.places ≡ (if is_parked r.0 then set self.old.book.places log.old.run.0 (with_wake (places_at self.old.book.places log.old.run)) else self.old.book.places)) }
+        ensures places { IfOk result (λ r. self.new.book.places ≡ places_after self.old.book log.old.run r.0) }
         ensures silent { IfOk result (λ r. r.1.anyone ≡ false → NobodyWakes self.old.book self.new.book) }
         ensures history { IfOk result (λ r. self.new.book.history ≡ with_entry self.old.book log.old.run op r.0) }
         ensures entries { IfOk result (λ r. log.new.entries ≡ with_own log.old op r.0) }
@@ -102,10 +102,11 @@ impl LoggedBook {
         ensures none { IfNone result (self.new.book ≡ self.old.book) }
         ensures none_logged { IfNone result (log.new ≡ log.old) }
         ensures waits_on { IfNone result (self.new.waiting.items ≡ set self.old.waiting.items log.old.run.0 (Some (untils.Wake killed target))) }
-        ensures asleep { IfNone result (IsTrue (places_at self.old.book.places log.old.run).wake → reply_to self.old.book log.old.run (ops.Wake killed target) ≡ replies.Parked) }
+        ensures asleep { IfNone result (IsTrue (has_wake self.old.book log.old.run) → WouldPark self.old.book log.old.run killed target) }
         ensures waits_no_more { OnSome result (self.new.waiting.items ≡ set self.old.waiting.items log.old.run.0 None) }
         ensures behaviours { self.new.book.behaviours ≡ self.old.book.behaviours }
-        ensures places { OnSome result (IsTrue (places_at self.old.book.places log.old.run).wake × (self.new.book.places ≡ set self.old.book.places log.old.run.0 (without_wake (places_at self.old.book.places log.old.run)))) }
+        ensures kept { OnSome result (IsTrue (has_wake self.old.book log.old.run)) }
+        ensures places { OnSome result (self.new.book.places ≡ without_wake self.old.book log.old.run) }
         ensures run { log.new.run ≡ log.old.run }
         ensures own { log.new.own ≡ log.old.own }
         ensures awake { IfSome result (λ r. r.0 ≢ replies.Parked) }
@@ -128,14 +129,17 @@ impl LoggedBook {
     /// Gives up the place of the log's run, and where the run has not ended adds its Finish to the history and to the log.
     pub(crate) fn leave(&mut self, log: &mut Log) -> Option<(Option<Reply>, WakeUp)>
         requires room { 1 ≤ log.old.room }
-        ensures none { IfNone result ((self.new.book ≡ self.old.book) × (log.new ≡ log.old) × IsFalse (places_at self.old.book.places log.old.run).leave) }
+        ensures none { IfNone result (self.new.book ≡ self.old.book) }
+        ensures none_logged { IfNone result (log.new ≡ log.old) }
+        ensures gone { IfNone result (IsFalse (has_leave self.old.book log.old.run)) }
         ensures run { log.new.run ≡ log.old.run }
         ensures own { log.new.own ≡ log.old.own }
         ensures silent { IfSome result (λ f. f.1.anyone ≡ false → NobodyWakes self.old.book self.new.book) }
         ensures ended { IfSome result (λ f. is_none f.0 ≡ is_closed log.old) }
         ensures waiting { self.new.waiting.items ≡ self.old.waiting.items }
         ensures behaviours { self.new.book.behaviours ≡ self.old.book.behaviours }
-        ensures places { OnSome result (IsTrue (places_at self.old.book.places log.old.run).leave × (self.new.book.places ≡ set self.old.book.places log.old.run.0 (without_leave (places_at self.old.book.places log.old.run)))) }
+        ensures kept { OnSome result (IsTrue (has_leave self.old.book log.old.run)) }
+        ensures places { OnSome result (self.new.book.places ≡ without_leave self.old.book log.old.run) }
         ensures quiet { IfSome result (λ f. IfNone f.0 ((self.new.book.history ≡ self.old.book.history) × (log.new ≡ log.old))) }
         ensures reply { IfSome result (λ f. IfSome f.0 (λ r. r ≡ reply_to self.old.book log.old.run ops.Finish)) }
         ensures suits { IfSome result (λ f. IfSome f.0 (λ r. suits ops.Finish r ≡ true)) }
@@ -153,8 +157,8 @@ impl LoggedBook {
     pub(crate) fn give_up(&mut self, run: Run) -> bool
         ensures behaviours { self.new.book.behaviours ≡ self.old.book.behaviours }
         ensures history { self.new.book.history ≡ self.old.book.history }
-        ensures kept { result ≡ (places_at self.old.book.places run).leave }
-        ensures places { IsTrue result → self.new.book.places ≡ set self.old.book.places run.0 (without_leave (places_at self.old.book.places run)) }
+        ensures kept { result ≡ has_leave self.old.book run }
+        ensures places { IsTrue result → self.new.book.places ≡ without_leave self.old.book run }
         ensures gone { IsFalse result → self.new.book ≡ self.old.book }
         ensures waiting { self.new.waiting.items ≡ self.old.waiting.items }
     {
@@ -163,7 +167,7 @@ impl LoggedBook {
 
     /// Whether a place is still kept for the leaving of a run.
     pub(crate) fn has_place(&self, run: Run) -> bool
-        ensures { result ≡ (places_at self.now.book.places run).leave }
+        ensures { result ≡ has_leave self.now.book run }
     {
         self.book.has_place(run)
     }
@@ -201,8 +205,8 @@ impl LoggedBook {
     /// Closes the case.
     pub(crate) fn close(&self, alloc: Global, lefts: Vec<Left>) -> Result<Closed, CloseFault>
         ensures whole { IfOk result (λ c. IsWhole c.behaviours c.history lefts.items) }
-        ensures merged { IfOk result (λ _. IsMerged self.now.book.behaviours self.now.book.history self.now.book.words lefts.items) }
-        ensures torn { IfErr result (λ f. f ≡ faults.Torn → IsMerged self.now.book.behaviours self.now.book.history self.now.book.words lefts.items → ⊥) }
+        ensures merged { IfOk result (λ _. IsMerged self.now.book lefts.items) }
+        ensures torn { IfErr result (λ f. f ≡ faults.Torn → IsMerged self.now.book lefts.items → ⊥) }
         ensures behaviours { IfOk result (λ c. c.behaviours ≡ self.now.book.behaviours) }
         ensures history { IfOk result (λ c. c.history ≡ merged self.now.book.history lefts.items) }
         ensures report { IfOk result (λ c. IsOneHistory c) }

@@ -1,9 +1,7 @@
 //! The logs of a case by the numbers of their runs, and whether each is its run's part of a history.
-ghost use Rattle.std.specs.Prelude.{◌≡◌, ◌<◌, ◌++◌, ◌∷◌, ◌↔◌, ℕ, [], All, if◌then◌else◌, IfOk, IsTrue, IsFalse, List, length, slice_index_or};
-ghost use Rattle.tc_entry.specs.declared.entry.Entry.{Entry as AnyEntry};
+ghost use Rattle.std.specs.Prelude.{◌≡◌, ◌<◌, ◌↔◌, ℕ, [], All, IfOk, IsTrue, IsFalse, length, slice_index_or};
 ghost use Rattle.tc_merge.specs.Merge.{log_of};
-ghost use Rattle.tc_book.specs.Inside.{KnowsParts};
-ghost use Rattle.tc_book.specs.Parts.{is_by};
+ghost use Rattle.tc_book.specs.Inside.{IsNotNext, IsTaken, KnowsParts};
 
 use std::alloc::Global;
 use tc_entry::{Entry, Sequence};
@@ -57,8 +55,8 @@ fn rests_of(alloc: Global, parts: &[Sequence<Entry>]) -> Result<Vec<&[Entry]>, N
 /// over.
 fn take_next(rests: &mut Vec<&[Entry]>, entry: &Entry) -> bool
     ensures len { length rests.new.items ≡ length rests.old.items }
-    ensures taken { IsTrue result → (b : ℕ) (d : _) → b < length rests.old.items → (slice_index_or rests.old.items b d).now ≡ (if is_by b entry.now then entry.now ∷ [] else []) ++ (slice_index_or rests.new.items b d).now }
-    ensures other { IsFalse result → (entry.now.caller.0 < length rests.old.items) × ((d : _) (es : List AnyEntry) → (slice_index_or rests.old.items entry.now.caller.0 d).now ≡ entry.now ∷ es → ⊥) }
+    ensures taken { IsTrue result → IsTaken rests.old.items rests.new.items entry.now }
+    ensures other { IsFalse result → IsNotNext rests.old.items entry.now }
 {
     let caller = usize::from(entry.caller.0);
     if caller >= rests.len() {

@@ -26,12 +26,13 @@ impl Model for Ticket {
     ghost use Rattle.std.specs.Prelude.{◌≡◌, ◌<◌, []};
     ghost use Rattle.std.specs.Vec.{vec_len, vec_capacity};
     ghost use Rattle.tc_verdict.specs.declared.run.Run.{Run};
+    ghost use Rattle.tc_book.specs.Inside.{IsNewHand};
 
     ghost Value = { Run };
 
     ghost view = { λ t. t.run };
 
-    ghost invariant = { λ t. (0 < t.run.0) × (t.log.items ≡ []) × (vec_len t.log < vec_capacity t.log) × (t.hand.run ≡ t.run.0) × (t.hand.answers ≡ []) };
+    ghost invariant = { λ t. (0 < t.run.0) × (t.log.items ≡ []) × (vec_len t.log < vec_capacity t.log) × IsNewHand t.hand t.run.0 };
 }
 
 impl Ticket {

@@ -33,8 +33,8 @@ impl Book {
     /// The report of the case, where the merge of its history with the logs of what came back is legal, what came back is
     /// whole by it, and the word of each run agrees with its log.
     pub fn close(&self, alloc: Global, lefts: Vec<Left>) -> Result<Closed, CloseFault>
-        ensures whole { IfOk result (λ _. IsMerged self.now.behaviours self.now.history self.now.words lefts.items) }
-        ensures torn { IfErr result (λ f. f ≡ faults.Torn → IsMerged self.now.behaviours self.now.history self.now.words lefts.items → ⊥) }
+        ensures whole { IfOk result (λ _. IsMerged self.now lefts.items) }
+        ensures torn { IfErr result (λ f. f ≡ faults.Torn → IsMerged self.now lefts.items → ⊥) }
         ensures behaviours { IfOk result (λ c. c.behaviours ≡ self.now.behaviours) }
         ensures history { IfOk result (λ c. c.history ≡ merged self.now.history lefts.items) }
         ensures report { IfOk result (λ c. IsOneHistory c) }

@@ -1,11 +1,11 @@
 //! Calls, with whether one that waits may go on by them.
-ghost use Rattle.std.specs.Prelude.{◌≡◌, ◌≢◌, ◌&&◌, not, true, false, if◌then◌else◌, IfOk, IfSome, OnErr, OnSome, IfNone, IsTrue, set};
+ghost use Rattle.std.specs.Prelude.{◌≡◌, ◌≢◌, ◌&&◌, not, true, false, IfOk, IfSome, OnErr, OnSome, IfNone, IsTrue};
 ghost use Rattle.tc_entry.specs.declared.op.Op.TheVariants as ops;
 ghost use Rattle.tc_entry.specs.declared.reply.Reply.TheVariants as replies;
 ghost use Rattle.tc_table.specs.Laws as laws;
-ghost use Rattle.tc_book.specs.OpenCase.{reply_to, with_entry, places_at, with_wake, without_wake};
-ghost use Rattle.tc_book.specs.Replies.{suits, is_parked};
-ghost use Rattle.tc_book.specs.Waking.{NobodyWakes, goes_on};
+ghost use Rattle.tc_book.specs.OpenCase.{has_wake, places_after, reply_to, with_entry, without_wake};
+ghost use Rattle.tc_book.specs.Replies.{suits};
+ghost use Rattle.tc_book.specs.Waking.{NobodyWakes, WouldPark, goes_on};
 ghost use Rattle.tc_merge.specs.Merge.{is_verdict_call};
 
 use crate::book::Book;
@@ -45,7 +45,7 @@ impl Book {
         ensures reply { IfOk result (λ r. r.0 ≡ reply_to self.old run op) }
         ensures suits { IfOk result (λ r. suits op r.0 ≡ true) }
         ensures history { IfOk result (λ r. self.new.history ≡ with_entry self.old run op r.0) }
-        ensures places { IfOk result (λ r. self.new.places ≡ (if is_parked r.0 then set self.old.places run.0 (with_wake (places_at self.old.places run)) else self.old.places)) }
+        ensures places { IfOk result (λ r. self.new.places ≡ places_after self.old run r.0) }
         ensures silent { IfOk result (λ r. r.1 ≡ false → NobodyWakes self.old self.new) }
         ensures refused { OnErr result (self.new ≡ self.old) }
     {
@@ -59,12 +59,13 @@ impl Book {
     pub fn call_wake(&mut self, run: Run, killed: bool, target: Target) -> Option<(Reply, bool)>
         ensures behaviours { self.new.behaviours ≡ self.old.behaviours }
         ensures none { IfNone result (self.new ≡ self.old) }
-        ensures asleep { IfNone result (IsTrue (places_at self.old.places run).wake → reply_to self.old run (ops.Wake killed target) ≡ replies.Parked) }
-        ensures awake { IfSome result (λ r. IsTrue (places_at self.old.places run).wake × (r.0 ≢ replies.Parked)) }
+        ensures asleep { IfNone result (IsTrue (has_wake self.old run) → WouldPark self.old run killed target) }
+        ensures kept { OnSome result (IsTrue (has_wake self.old run)) }
+        ensures awake { IfSome result (λ r. r.0 ≢ replies.Parked) }
         ensures reply { IfSome result (λ r. r.0 ≡ reply_to self.old run (ops.Wake killed target)) }
         ensures suits { IfSome result (λ r. suits (ops.Wake killed target) r.0 ≡ true) }
         ensures history { IfSome result (λ r. self.new.history ≡ with_entry self.old run (ops.Wake killed target) r.0) }
-        ensures places { OnSome result (self.new.places ≡ set self.old.places run.0 (without_wake (places_at self.old.places run))) }
+        ensures places { OnSome result (self.new.places ≡ without_wake self.old run) }
         ensures silent { IfSome result (λ r. r.1 ≡ false → NobodyWakes self.old self.new) }
     {
         let _ = &self.count;

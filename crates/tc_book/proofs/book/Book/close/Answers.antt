@@ -15,7 +15,7 @@ returns-then-not-are_placed-clause-torn c = λ torn m. elim c.then-not-are_place
   | then-not-are_placed-via-then-not-are_placed w ↦
       let at : AtClose c.args.self.now.behaviours c.len-behaviours.result c.self.inside.starts.items c.deref.result.now c.self.inside.table.history c.args.self.now.history c.args.lefts.items c.deref-2.result.now =
       record { same_n = search rules; same_starts = search rules; same_history = search rules; same_lefts = search rules; known = c.self.invariant.each_start } in
-      let q : false ≡ true = w.if-not-are_placed.ensures.1 (torn_placed _ _ _ _ _ _ _ _ _ at m) in cc
+      let q : false ≡ true = w.if-not-are_placed.ensures.1 (torn_placed c.args.self.now _ _ _ _ _ _ at m) in cc
   | then-not-are_placed-via-else-not-are_placed+then-not-all_agreed w ↦
       let q : false ≡ true = w.if-not-all_agreed.ensures.1 (search (rules, m.agreed)) in cc
 ]
