@@ -11,7 +11,9 @@ use Rattle.tc_report.specs.declared.results.CaseEnd.TheVariants as C
 use Rattle.tc_report.specs.Report.{local_lines}
 use Rattle.tc_forms.specs.declared.junit.Piece.{Piece}
 use Rattle.tc_forms.specs.declared.junit.Piece.TheVariants as P
+use Rattle.tc_report.specs.declared.results.Results.{Results}
 use Rattle.tc_forms.specs.declared.summary.Summary.{Summary}
+use Rattle.tc_forms.specs.Summary.{results_summaries}
 
 -- the fixed words of the report
 unfoldable pub piece : Piece → List ℕ
@@ -103,3 +105,7 @@ case_text s = name_text s.name ++ (end_text s.ending ++ locals_text s.locals)
 -- one suite with all test cases
 abbrev pub junit_of : List ℕ → List Summary → List ℕ
 junit_of version ss = opening_text version ss ++ (flat_map case_text ss ++ piece P.End)
+
+-- the report of the results of a campaign
+abbrev pub junit_of_results : List ℕ → Results → List ℕ
+junit_of_results version r = junit_of version (results_summaries r)

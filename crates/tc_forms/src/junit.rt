@@ -5,7 +5,6 @@ ghost use Rattle.std.specs.List.{flat_map};
 ghost use Rattle.tc_report.specs.declared.results.CaseEnd.TheVariants as ends;
 ghost use Rattle.tc_report.specs.Output.{LeavesPrefix};
 ghost use Rattle.tc_forms.specs.Junit as spec;
-ghost use Rattle.tc_forms.specs.Summary.{results_summaries};
 
 use crate::summary::{Summary, summaries_of_results};
 use std::alloc::Global;
@@ -242,8 +241,8 @@ pub fn write_junit<W: Write>(
     results: &Results,
     writer: &mut W,
 ) -> Result<(), OutFault>
-    ensures all { OnOk result (Appends (W.contents writer.old) (W.contents writer.new) (spec.junit_of version.now (results_summaries results.now))) }
-    ensures part { IfErr result (λ fault. LeavesPrefix (W.contents writer.old) (W.contents writer.new) (spec.junit_of version.now (results_summaries results.now)) fault) }
+    ensures all { OnOk result (Appends (W.contents writer.old) (W.contents writer.new) (spec.junit_of_results version.now results.now)) }
+    ensures part { IfErr result (λ fault. LeavesPrefix (W.contents writer.old) (W.contents writer.new) (spec.junit_of_results version.now results.now) fault) }
 {
     let cases = summaries_of_results(alloc, results)?;
     let text = junit_report(alloc, version, cases.as_slice())?;
