@@ -2,3 +2,4 @@
 pub mod Each
 pub mod Naming
 pub mod Taking
+pub mod WholeLines

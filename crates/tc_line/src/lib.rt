@@ -3,6 +3,7 @@
 
 mod kind;
 mod line;
+mod plain;
 mod reading;
 mod spelling;
 mod text;

@@ -8,6 +8,7 @@ use tc_step::Status;
 
 /// Whether the word is spelled so.
 #[tactic(auto, unfolding(crate::specs::Words::is_text))]
+#[inline(always)]
 pub fn is_word(word: &[u8], spelling: &[u8]) -> bool
     ensures { result ≡ is_text word.now spelling.now }
 {
