@@ -1,114 +1,168 @@
 //! Books, passes and closes, on one thread and on two.
+use crate::calls::*;
+use crate::checks::{got, holds, is};
 use std::alloc::Global;
-use std::sync::{Arc, Wait};
-use std::test::Fail;
+use std::process::Abort;
+use std::sync::Wait;
 use std::thread;
-use tc_board::{Board, Record};
-use tc_book::laws::Book;
+use std::thread::{JoinHandle, Threads};
 use tc_book::*;
 use tc_entry::{
     Args, Comp, Entry, Fault, Group, Name, NoMemory, Op, Reply, Run, Target, UserVerdict, Verdict,
 };
 use tc_table::{Table, replay_check};
 
-fn one(comp: u32) -> Target {
-    Target::One(Comp(comp))
-}
-
-#[test]
-fn torn_closes(rt: HostRuntime) -> Result<(), Fail> {
-    let alloc = rt.alloc();
-    let (first, first_pass, _) = open_case(alloc, 1)?;
-    let (_, second_pass, _) = open_case(alloc, 1)?;
+/// How a case is refused that is closed by what the run of another case left.
+fn closed_by_another<R: Abort + Wait>(rt: &R, alloc: Global) -> Option<CloseFault> {
+    let (first, first_pass, _) = got(rt, open(alloc, 1));
+    let (_, second_pass, _) = got(rt, open(alloc, 1));
     let mut second_pass = second_pass;
-    assert_eq!(rt; second_pass.create(&rt, false), Ok(Comp(1)));
-    first_pass.leave(&rt);
-    let lefts = vec![in alloc; second_pass.leave(&rt)]?;
-    assert!(rt; matches!(close_case(&rt, alloc, first, lefts), Err(CloseFault::Torn)));
+    is(
+        rt,
+        "created",
+        create(rt, &mut second_pass, false),
+        Ok(Comp(1)),
+    );
+    leave(rt, first_pass);
+    let left = leave(rt, second_pass);
+    close_of_one(rt, alloc, first, left).err()
+}
 
-    let (shared, pass, _) = open_case(alloc, 2)?;
-    let lefts = vec![in alloc; pass.leave(&rt)]?;
-    assert!(rt; matches!(close_case(&rt, alloc, shared, lefts), Err(CloseFault::Torn)));
+/// How a case of two behaviours is refused that is closed by what one of them left.
+fn closed_by_one_of_two<R: Abort + Wait>(rt: &R, alloc: Global) -> Option<CloseFault> {
+    let (shared, pass, _) = got(rt, open(alloc, 2));
+    let left = leave(rt, pass);
+    close_of_one(rt, alloc, shared, left).err()
+}
 
-    let (shared, pass, tickets) = open_case(alloc, 2)?;
-    let mut lefts = vec![in alloc; pass.leave(&rt)]?;
-    for ticket in tickets {
-        assert_eq!(rt; ticket.run(), Run(1));
-        let Err(left) = ticket.await_start(&rt) else {
-            panic!(rt; "the run was never started")
-        };
-        assert!(rt; left.started().is_none());
-        lefts.push(left)?;
-    }
-    let closed = close_case(&rt, alloc, shared, lefts)?;
-    assert_eq!(rt; closed.history.as_slice().len(), 1);
-    assert_eq!(rt; closed.logs.as_slice().len(), 1);
-    Ok(())
+/// A case of two behaviours, closed by what both left, of which the second was never started.
+fn closed_by_both<R: Abort + Wait>(rt: &R, alloc: Global) -> Closed {
+    let (shared, pass, tickets) = got(rt, open(alloc, 2));
+    let mut tickets = tickets;
+    let first = leave(rt, pass);
+    is(rt, "tickets", tickets.len(), 1);
+    is(rt, "the run of a ticket", tickets[0].run(), Run(1));
+    let second = unstarted(rt, &mut tickets);
+    holds(rt, "never started", second.started().is_none());
+    got(rt, close_of_two(rt, alloc, shared, first, second))
 }
 
 #[test]
-fn quiet_calls(rt: HostRuntime) -> Result<(), Fail> {
+fn torn_closes(rt: HostRuntime) {
     let alloc = rt.alloc();
+    let torn = Some(CloseFault::Torn);
+    is(
+        &rt,
+        "what another left",
+        closed_by_another(&rt, alloc),
+        torn,
+    );
+    is(
+        &rt,
+        "what one of two left",
+        closed_by_one_of_two(&rt, alloc),
+        torn,
+    );
+    let closed = closed_by_both(&rt, alloc);
+    is(
+        &rt,
+        "entries and verdict",
+        told(&closed),
+        (1, Verdict::None),
+    );
+    is(&rt, "logs", closed.logs.as_slice().len(), 1);
+}
+
+/// The room of a table in which room for two entries was made.
+fn room_for_two(alloc: Global) -> Result<usize, NoMemory> {
     let mut table = Table::new(alloc, 1)?;
     table.make_room(2)?;
-    assert!(rt; table.room() >= 2);
+    Ok(table.room())
+}
 
-    let (_, pass, tickets) = open_case(alloc, 1)?;
-    let mut pass = pass;
-    assert_eq!(rt; tickets.len(), 0);
-    assert_eq!(rt; pass.create(&rt, false)?, Comp(1));
-    assert_eq!(rt; pass.done(&rt, one(1))?, false);
-    pass.kill(&rt, Group::One(Comp(1)))?;
-    pass.wait_killed(&rt, one(1))?;
-    assert_eq!(rt; pass.log().len(), 4);
-    assert!(rt;
-        matches!(
-            pass.log()[3],
+/// Whether the last of four entries is a wait that was answered at once.
+fn ends_in_a_wait(log: &[Entry]) -> bool {
+    match log {
+        [_, _, _, last] => matches!(
+            last,
             Entry {
                 op: Op::Wait { .. },
                 reply: Reply::Matched,
                 ..
             }
-        )
-    );
-    Ok(())
+        ),
+        _ => false,
+    }
+}
+
+#[test]
+fn quiet_calls(rt: HostRuntime) {
+    let alloc = rt.alloc();
+    holds(&rt, "room for two", 2 <= got(&rt, room_for_two(alloc)));
+    let (_, pass, tickets) = got(&rt, open(alloc, 1));
+    let mut pass = pass;
+    is(&rt, "tickets", tickets.len(), 0);
+    is(&rt, "created", create(&rt, &mut pass, false), Ok(Comp(1)));
+    is(&rt, "done", done(&rt, &mut pass, 1), Ok(false));
+    is(&rt, "kill", kill(&rt, &mut pass, 1), Ok(()));
+    is(&rt, "wait", wait_killed(&rt, &mut pass, one(1)), Ok(()));
+    holds(&rt, "four entries, a wait last", ends_in_a_wait(pass.log()));
+}
+
+/// Whether the entry is the Create of a component that is not alive-type, or is so, with this name or without one.
+fn is_create(entry: &Entry, alive: bool, name: Option<Name>) -> bool {
+    entry.op.same(&Op::Create { alive, name })
+}
+
+/// Whether a history begins with the Creates of two components of this name, and of one without.
+fn are_created(history: &[Entry], name: &Name) -> bool {
+    let [first, second, third, ..] = history else {
+        return false;
+    };
+    is_create(first, false, Some(name.copy()))
+        && is_create(second, true, Some(name.copy()))
+        && is_create(third, false, None)
 }
 
 /// Names stand in the log and in the report; two components may have the same, and none is an error.
 #[test]
-fn components_with_names(rt: HostRuntime) -> Result<(), Fail> {
+fn components_with_names(rt: HostRuntime) {
     let alloc = rt.alloc();
-    let pump = Name::read("pump").ok_or("a name")?;
-    let (shared, pass, _) = open_case(alloc, 1)?;
+    let pump = got(&rt, Name::read("pump").ok_or("a name"));
+    let (shared, pass, _) = got(&rt, open(alloc, 1));
     let mut pass = pass;
-    assert_eq!(rt; pass.create_named(&rt, false, pump.copy()), Ok(Comp(1)));
-    assert_eq!(rt; pass.create_named(&rt, true, pump.copy()), Ok(Comp(2)));
-    assert_eq!(rt; pass.create(&rt, false), Ok(Comp(3)));
-    let lefts = vec![in alloc; pass.leave(&rt)]?;
-    let closed = close_case(&rt, alloc, shared, lefts)?;
-    let named = [
-        (false, Some(pump.copy())),
-        (true, Some(pump)),
-        (false, None),
-    ];
-    for ((alive, name), entry) in named.into_iter().zip(closed.history.as_slice()) {
-        assert!(rt; entry.op.same(&Op::Create { alive, name }));
-    }
-    assert_eq!(rt; closed.history.as_slice().len(), 4);
-    assert_eq!(rt; closed.verdict, Verdict::None);
-    Ok(())
+    is(
+        &rt,
+        "first",
+        create_named(&rt, &mut pass, false, &pump),
+        Ok(Comp(1)),
+    );
+    is(
+        &rt,
+        "second",
+        create_named(&rt, &mut pass, true, &pump),
+        Ok(Comp(2)),
+    );
+    is(&rt, "third", create(&rt, &mut pass, false), Ok(Comp(3)));
+    let left = leave(&rt, pass);
+    let closed = got(&rt, close_of_one(&rt, alloc, shared, left));
+    holds(&rt, "names", are_created(closed.history.as_slice(), &pump));
+    is(
+        &rt,
+        "entries and verdict",
+        told(&closed),
+        (4, Verdict::None),
+    );
 }
 
 /// A case of two behaviours, in which run 0 has started run 1 on component 1 with component 0 as its argument.
-fn case_of_two<R: Wait>(rt: &R, alloc: Global) -> Result<(Shared, Pass, Pass), Fail> {
-    let (shared, pass, tickets) = open_case(alloc, 2)?;
+fn case_of_two<R: Abort + Wait>(rt: &R, alloc: Global) -> (Shared, Pass, Pass) {
+    let (shared, pass, tickets) = got(rt, open(alloc, 2));
     let (mut main, mut tickets) = (pass, tickets);
-    let comp = main.create(rt, true)?;
-    let mut args = Args::new();
-    let _ = args.push(Comp(0));
-    main.start(rt, comp, Run(1), &args)?;
-    let other = tickets.remove(0).await_start(rt).map_err(|_| NoMemory)?;
-    Ok((shared, main, other))
+    got(rt, create(rt, &mut main, true));
+    got(rt, start_with(rt, &mut main, 1, 1, 0));
+    let other = enter(rt, &mut tickets);
+    (shared, main, other)
 }
 
 /// Whether the pass is of this run, which was started on this component with these arguments.
@@ -117,21 +171,17 @@ fn is_started(pass: &Pass, run: u16, comp: u32, args: &[Comp]) -> bool {
 }
 
 /// What run 0 is told of component 1 while run 1 is going on, and the verdict that run 1 then sets and gets.
-fn going_on<R: Wait>(
-    rt: &R,
-    main: &mut Pass,
-    other: &mut Pass,
-) -> Result<(bool, bool, Verdict), Halt> {
-    let running = main.running(rt, one(1))?;
-    let alive = main.alive(rt, one(1))?;
-    other.set_verdict(UserVerdict::Inconc)?;
-    Ok((running, alive, other.get_verdict()?))
+fn going_on<R: Abort + Wait>(rt: &R, main: &mut Pass, other: &mut Pass) -> (bool, bool, Verdict) {
+    let is_running = got(rt, running(rt, main, 1));
+    let is_alive = got(rt, alive(rt, main, 1));
+    got(rt, set(other, UserVerdict::Inconc));
+    (is_running, is_alive, got(rt, get(other)))
 }
 
 /// Stops component 1, and answers whether it is killed then.
-fn stopped<R: Wait>(rt: &R, main: &mut Pass) -> Result<bool, Halt> {
-    main.stop(rt, Group::One(Comp(1)))?;
-    main.killed(rt, one(1))
+fn stopped<R: Abort + Wait>(rt: &R, main: &mut Pass) -> bool {
+    got(rt, stop(rt, main, 1));
+    got(rt, killed(rt, main, 1))
 }
 
 /// Whether run 1 has left three entries, and was started on component 1 with component 0 as its argument.
@@ -142,324 +192,169 @@ fn is_left(left: &Left) -> bool {
     left.run() == Run(1) && left.log().len() == 3 && comp == Comp(1) && args == [Comp(0)].as_slice()
 }
 
-/// Closes a case by what its two runs left.
-fn closed_of_two<R: Wait>(
-    rt: &R,
-    alloc: Global,
-    shared: Shared,
-    main: Left,
-    other: Left,
-) -> Result<Closed, Fail> {
-    let lefts = vec![in alloc; main, other]?;
-    Ok(close_case(rt, alloc, shared, lefts)?)
-}
-
-#[test]
-fn book_on_one_thread(rt: HostRuntime) -> Result<(), Fail> {
-    let alloc = rt.alloc();
-    let (shared, main, other) = case_of_two(&rt, alloc)?;
+/// The calls of two runs on one thread, of which the second is stopped, and what both left.
+fn calls_of_two<R: Abort + Wait>(rt: &R, main: Pass, other: Pass) -> (Left, Left) {
     let (mut main, mut other) = (main, other);
-    assert!(rt; is_started(&main, 0, 0, &[]));
-    assert!(rt; is_started(&other, 1, 1, &[Comp(0)]));
-    assert_eq!(rt;
-        going_on(&rt, &mut main, &mut other)?,
-        (true, true, Verdict::Inconc)
+    let told = going_on(rt, &mut main, &mut other);
+    is(
+        rt,
+        "running, alive, set",
+        told,
+        (true, true, Verdict::Inconc),
     );
-    assert_eq!(rt; stopped(&rt, &mut main)?, false);
-    assert!(rt; !other.is_ended());
-    assert_eq!(rt; other.get_verdict(), Err(Halt::Ended));
-    assert!(rt; other.is_ended());
-    main.wait_done(&rt, one(1))?;
-    let (main, other) = (main.leave(&rt), other.leave(&rt));
-    assert!(rt; is_left(&other));
-    let closed = closed_of_two(&rt, alloc, shared, main, other)?;
-    assert_eq!(rt; closed.behaviours, 2);
-    assert_eq!(rt; closed.history.as_slice().len(), 11);
-    assert_eq!(rt;
-        closed.locals.as_slice(),
-        [Verdict::None, Verdict::Inconc].as_slice()
-    );
-    assert_eq!(rt; closed.verdict, Verdict::Inconc);
-    Ok(())
+    is(rt, "killed", stopped(rt, &mut main), false);
+    is(rt, "ended", is_ended(&other), false);
+    is(rt, "late", get(&mut other), Err(Halt::Ended));
+    is(rt, "ended then", is_ended(&other), true);
+    is(rt, "wait", wait_done(rt, &mut main, one(1)), Ok(()));
+    (leave(rt, main), leave(rt, other))
 }
 
 #[test]
-fn a_fault_ends_the_pass(rt: HostRuntime) -> Result<(), Fail> {
+fn book_on_one_thread(rt: HostRuntime) {
     let alloc = rt.alloc();
-    let (shared, pass, _) = open_case(alloc, 1)?;
-    let mut pass = pass;
-    let fault = pass.stop(&rt, Group::One(Comp(7)));
-    assert_eq!(rt; fault, Err(Halt::Fault(Fault::NoComponent)));
-    assert_eq!(rt; pass.log().len(), 1);
-    assert!(rt; pass.is_ended());
-    assert_eq!(rt; pass.create(&rt, false), Err(Halt::Ended));
-    assert_eq!(rt; pass.log().len(), 1);
-    let lefts = vec![in alloc; pass.leave(&rt)]?;
-    let closed = close_case(&rt, alloc, shared, lefts)?;
-    assert_eq!(rt; closed.verdict, Verdict::Error);
-    assert_eq!(rt; closed.history.as_slice().len(), 1);
-    Ok(())
+    let (shared, main, other) = case_of_two(&rt, alloc);
+    holds(&rt, "run 0", is_started(&main, 0, 0, &[]));
+    holds(&rt, "run 1", is_started(&other, 1, 1, &[Comp(0)]));
+    let (main, other) = calls_of_two(&rt, main, other);
+    holds(&rt, "what run 1 left", is_left(&other));
+    let closed = got(&rt, close_of_two(&rt, alloc, shared, main, other));
+    is(&rt, "behaviours", closed.behaviours, 2);
+    is(
+        &rt,
+        "entries and verdict",
+        told(&closed),
+        (11, Verdict::Inconc),
+    );
+    let locals = [Verdict::None, Verdict::Inconc];
+    is(&rt, "locals", closed.locals.as_slice(), locals.as_slice());
 }
 
 #[test]
-fn stop_of_a_case(rt: HostRuntime) -> Result<(), Fail> {
+fn a_fault_ends_the_pass(rt: HostRuntime) {
     let alloc = rt.alloc();
-    let (shared, pass, _) = open_case(alloc, 1)?;
+    let (shared, pass, _) = got(&rt, open(alloc, 1));
     let mut pass = pass;
-    pass.set_verdict(UserVerdict::Pass)?;
-    pass.stop_case(&rt)?;
-    assert!(rt; pass.is_ended());
-    assert_eq!(rt; pass.stop_case(&rt), Err(Halt::Ended));
-    assert_eq!(rt; pass.get_verdict(), Err(Halt::Ended));
-    assert_eq!(rt; pass.log().len(), 2);
-    let lefts = vec![in alloc; pass.leave(&rt)]?;
-    let closed = close_case(&rt, alloc, shared, lefts)?;
-    assert_eq!(rt; closed.history.as_slice().len(), 2);
-    assert_eq!(rt; closed.verdict, Verdict::Error);
-    Ok(())
+    let fault = Halt::Fault(Fault::NoComponent);
+    is(&rt, "stop", stop(&rt, &mut pass, 7), Err(fault));
+    is(&rt, "entries", entries(&pass), 1);
+    is(&rt, "ended", is_ended(&pass), true);
+    is(&rt, "late", create(&rt, &mut pass, false), Err(Halt::Ended));
+    is(&rt, "entries then", entries(&pass), 1);
+    let left = leave(&rt, pass);
+    let closed = got(&rt, close_of_one(&rt, alloc, shared, left));
+    is(
+        &rt,
+        "entries and verdict",
+        told(&closed),
+        (1, Verdict::Error),
+    );
+}
+
+#[test]
+fn stop_of_a_case(rt: HostRuntime) {
+    let alloc = rt.alloc();
+    let (shared, pass, _) = got(&rt, open(alloc, 1));
+    let mut pass = pass;
+    is(&rt, "set", set(&mut pass, UserVerdict::Pass), Ok(()));
+    is(&rt, "stop", stop_case(&rt, &mut pass), Ok(()));
+    is(&rt, "ended", is_ended(&pass), true);
+    is(
+        &rt,
+        "late stop",
+        stop_case(&rt, &mut pass),
+        Err(Halt::Ended),
+    );
+    is(&rt, "late get", get(&mut pass), Err(Halt::Ended));
+    is(&rt, "entries", entries(&pass), 2);
+    let left = leave(&rt, pass);
+    let closed = got(&rt, close_of_one(&rt, alloc, shared, left));
+    is(
+        &rt,
+        "entries and verdict",
+        told(&closed),
+        (2, Verdict::Error),
+    );
 }
 
 /// A case in which run 1 stops the test case, after which neither it nor the main run is answered.
-fn stopped_by_the_other<R: Wait>(rt: &R, alloc: Global) -> Result<Closed, Fail> {
-    let (shared, pass, tickets) = open_case(alloc, 2)?;
+fn stopped_by_the_other<R: Abort + Wait>(rt: &R, alloc: Global) -> Closed {
+    let (shared, pass, tickets) = got(rt, open(alloc, 2));
     let (mut main, mut tickets) = (pass, tickets);
-    let comp = main.create(rt, true)?;
-    main.start(rt, comp, Run(1), &Args::new())?;
-    let mut other = tickets.remove(0).await_start(rt).map_err(|_| NoMemory)?;
-    main.set_verdict(UserVerdict::Pass)?;
-    other.stop_case(rt)?;
-    let _ = main.set_verdict(UserVerdict::Fail);
-    let lefts = vec![in alloc; main.leave(rt), other.leave(rt)]?;
-    Ok(close_case(rt, alloc, shared, lefts)?)
+    got(rt, create(rt, &mut main, true));
+    got(rt, start(rt, &mut main, 1, 1));
+    let mut other = enter(rt, &mut tickets);
+    got(rt, set(&mut main, UserVerdict::Pass));
+    got(rt, stop_case(rt, &mut other));
+    is(
+        rt,
+        "late",
+        set(&mut main, UserVerdict::Fail),
+        Err(Halt::Ended),
+    );
+    let (main, other) = (leave(rt, main), leave(rt, other));
+    got(rt, close_of_two(rt, alloc, shared, main, other))
 }
 
 #[test]
-fn stop_of_a_case_by_another(rt: HostRuntime) -> Result<(), Fail> {
-    let closed = stopped_by_the_other(&rt, rt.alloc())?;
-    assert_eq!(rt; closed.history.as_slice().len(), 5);
-    assert_eq!(rt;
-        closed.locals.as_slice(),
-        [Verdict::Pass, Verdict::Error].as_slice()
+fn stop_of_a_case_by_another(rt: HostRuntime) {
+    let closed = stopped_by_the_other(&rt, rt.alloc());
+    is(
+        &rt,
+        "entries and verdict",
+        told(&closed),
+        (5, Verdict::Error),
     );
-    assert_eq!(rt; closed.verdict, Verdict::Error);
-    Ok(())
+    let locals = [Verdict::Pass, Verdict::Error];
+    is(&rt, "locals", closed.locals.as_slice(), locals.as_slice());
 }
 
 /// The behaviour of run 1: it sets pass.
 fn sets_pass<R: Wait>(rt: &R, ticket: Ticket) -> Left {
-    match ticket.await_start(rt) {
+    match await_start(rt, ticket) {
         Ok(mut pass) => {
-            let _ = pass.set_verdict(UserVerdict::Pass);
-            pass.leave(rt)
+            let _ = set(&mut pass, UserVerdict::Pass);
+            leave(rt, pass)
         }
         Err(left) => left,
     }
 }
 
+/// A thread for the run of a ticket, which sets pass.
+fn worker<R: Abort + Threads + Wait + Copy + Send + 'static>(
+    rt: &R,
+    ticket: Ticket,
+) -> JoinHandle<Left> {
+    let rt = *rt;
+    got(&rt, thread::spawn(&rt, move || sets_pass(&rt, ticket)))
+}
+
 #[test]
-fn book_on_two_threads(rt: HostRuntime) -> Result<(), Fail> {
+fn book_on_two_threads(rt: HostRuntime) {
     let alloc = rt.alloc();
-    let (shared, pass, tickets) = open_case(alloc, 2)?;
-    let mut pass = pass;
-    let mut tickets = tickets;
-    let ticket = tickets.remove(0);
-    let Ok(worker) = thread::spawn(&rt, move || sets_pass(&rt, ticket)) else {
-        panic!(rt; "no thread")
-    };
-    let comp = pass.create(&rt, false)?;
-    pass.start(&rt, comp, Run(1), &Args::new())?;
-    pass.wait_done(&rt, Target::One(comp))?;
-    let mut lefts = vec![in alloc; pass.leave(&rt)]?;
-    lefts.push(worker.join(&rt))?;
-    let closed = close_case(&rt, alloc, shared, lefts)?;
-    assert_eq!(rt;
-        closed.locals.as_slice(),
-        [Verdict::None, Verdict::Pass].as_slice()
-    );
-    assert_eq!(rt;
-        replay_check(alloc, 2, closed.history.as_slice())?,
-        Verdict::Pass
-    );
-    Ok(())
-}
-
-/// A book of two behaviours, on a board of its own.
-fn book_of_two(alloc: Global) -> Result<Book, NoMemory> {
-    let (board, keeper, _) = Board::new(alloc, 2)?;
-    match Arc::new(alloc, board) {
-        Ok(board) => Book::new(alloc, 2, keeper, board),
-        Err(_) => Err(NoMemory),
-    }
-}
-
-/// A Start of run 1 on component 1, without arguments.
-fn start() -> Op {
-    Op::Start {
-        comp: Comp(1),
-        run: Run(1),
-        args: Args::new(),
-    }
-}
-
-/// A wait until component 1 is done.
-fn wait() -> Op {
-    Op::Wait {
-        killed: false,
-        target: one(1),
-    }
-}
-
-/// Whether a book knows no start of run 1, and hasn't begun its word.
-fn is_unbegun(book: &Book) -> bool {
-    book.start_of(Run(1)).is_none() && book.word_of(Run(1)) == Record::Unbegun
-}
-
-/// Whether a book knows that run 1 was started on component 1 without arguments, and has begun its word.
-fn is_begun(book: &Book) -> bool {
-    let Some((comp, args)) = book.start_of(Run(1)) else {
-        return false;
-    };
-    comp == Comp(1)
-        && args.as_slice().is_empty()
-        && book.word_of(Run(1)) == Record::Open(UserVerdict::None)
-}
-
-/// The reply to a call on a book, which takes no verdict call.
-fn replied(book: &mut Book, run: u16, op: Op) -> Option<Reply> {
-    if matches!(op, Op::SetVerdict(_) | Op::GetVerdict) {
-        return None;
-    }
-    book.record(Run(run), op).ok()
-}
-
-/// The reply to the Wake of run 0, if it goes on.
-fn woken(book: &mut Book) -> Option<Reply> {
-    book.wake(Run(0), false, one(1))
-}
-
-/// The reply to the Finish of a run, if it had not left.
-fn finished(book: &mut Book, run: u16) -> Option<Option<Reply>> {
-    book.leave(Run(run), false)
-}
-
-/// The calls on the value behind the lock.
-#[test]
-fn calls_on_a_book(rt: HostRuntime) -> Result<(), Fail> {
-    let alloc = rt.alloc();
-    let mut book = book_of_two(alloc)?;
-    let made = replied(
-        &mut book,
-        0,
-        Op::Create {
-            alive: false,
-            name: None,
-        },
-    );
-    assert_eq!(rt; made, Some(Reply::Made(Comp(1))));
-    assert!(rt; is_unbegun(&book));
-    assert_eq!(rt; replied(&mut book, 0, start()), Some(Reply::Ok));
-    assert!(rt; is_begun(&book));
-    assert_eq!(rt; woken(&mut book), None);
-    assert_eq!(rt; replied(&mut book, 0, wait()), Some(Reply::Parked));
-    assert_eq!(rt; woken(&mut book), None);
-    assert_eq!(rt; finished(&mut book, 1), Some(Some(Reply::Ok)));
-    let closed = Record::Closed(UserVerdict::None, UserVerdict::None);
-    assert_eq!(rt; book.word_of(Run(1)), closed);
-    assert_eq!(rt; finished(&mut book, 1), None);
-    assert_eq!(rt; woken(&mut book), Some(Reply::Matched));
-    let alive = replied(&mut book, 0, Op::Alive(one(1)));
-    assert_eq!(rt; alive, Some(Reply::Answer(false)));
-    assert_eq!(rt; finished(&mut book, 0), Some(Some(Reply::Ok)));
-    let over = replied(&mut book, 0, Op::Alive(one(1)));
-    assert_eq!(rt; over, Some(Reply::Ended));
-    assert!(rt; matches!(book.close(alloc, Vec::new(alloc)), Err(CloseFault::Torn)));
-    Ok(())
+    let (shared, pass, tickets) = got(&rt, open(alloc, 2));
+    let (mut pass, mut tickets) = (pass, tickets);
+    let worker = worker(&rt, take(&rt, &mut tickets, 0));
+    is(&rt, "created", create(&rt, &mut pass, false), Ok(Comp(1)));
+    got(&rt, start(&rt, &mut pass, 1, 1));
+    got(&rt, wait_done(&rt, &mut pass, one(1)));
+    let first = leave(&rt, pass);
+    let second = worker.join(&rt);
+    let closed = got(&rt, close_of_two(&rt, alloc, shared, first, second));
+    let locals = [Verdict::None, Verdict::Pass];
+    is(&rt, "locals", closed.locals.as_slice(), locals.as_slice());
+    let replayed = replay_check(alloc, 2, closed.history.as_slice());
+    is(&rt, "replayed", replayed.ok(), Some(Verdict::Pass));
 }
 
 /// A case has as many runs as it was opened for.
 #[test]
-fn runs_of_a_case(rt: HostRuntime) -> Result<(), Fail> {
-    let alloc = rt.alloc();
-    let (_, pass, _) = open_case(alloc, 2)?;
+fn runs_of_a_case(rt: HostRuntime) {
+    let (_, pass, _) = got(&rt, open(rt.alloc(), 2));
     let mut pass = pass;
-    let comp = pass.create(&rt, true)?;
-    pass.start(&rt, comp, Run(1), &Args::new())?;
-    pass.stop(&rt, Group::One(comp))?;
-    let refused = pass.start(&rt, comp, Run(2), &Args::new());
-    assert_eq!(rt; refused, Err(Halt::Fault(Fault::NoBehaviour)));
-    Ok(())
-}
-
-/// A call on a book: its run and operation, the reply to it, and whether somebody who waits may go on by it.
-type Called = (Run, Op, Reply, bool);
-
-/// Whether each call on a book is answered with this reply, and says so whether somebody who waits may go on; none is a
-/// verdict call, which the book doesn't take.
-fn are_answered(book: &mut Book, calls: Vec<Called>) -> bool {
-    for (run, op, reply, wakes) in calls {
-        if matches!(op, Op::SetVerdict(_) | Op::GetVerdict)
-            || book.call(run, op).ok() != Some((reply, wakes))
-        {
-            return false;
-        }
-    }
-    true
-}
-
-/// Calls up to the wait of run 0, which is parked.
-fn up_to_the_wait(alloc: Global) -> Result<Vec<Called>, NoMemory> {
-    let made = Reply::Made(Comp(1));
-    Ok(vec![in alloc;
-        (
-            Run(0),
-            Op::Create {
-                alive: true,
-                name: None
-            },
-            made,
-            false
-        ),
-        (Run(0), start(), Reply::Ok, true),
-        (Run(0), Op::Running(one(1)), Reply::Answer(true), false),
-        (Run(0), wait(), Reply::Parked, true),
-    ]?)
-}
-
-/// Calls up to the end of run 1.
-fn up_to_the_end(alloc: Global) -> Result<Vec<Called>, NoMemory> {
-    Ok(vec![in alloc;
-        (Run(1), Op::Alive(one(1)), Reply::Answer(true), false),
-        (Run(1), Op::Finish, Reply::Ok, true),
-    ]?)
-}
-
-/// Calls after that, the last of them a dynamic error.
-fn up_to_the_fault(alloc: Global) -> Result<Vec<Called>, NoMemory> {
-    let fault = Reply::Fault(Fault::NoComponent);
-    Ok(vec![in alloc;
-        (Run(1), Op::Running(one(1)), Reply::Ended, true),
-        (Run(0), Op::Stop(Group::All), Reply::Ok, true),
-        (Run(0), Op::Kill(Group::All), Reply::Ok, true),
-        (Run(0), Op::Alive(one(7)), fault, true),
-    ]?)
-}
-
-/// The answer to the Wake of a run.
-fn called_wake(book: &mut Book, run: u16) -> Option<(Reply, bool)> {
-    book.call_wake(Run(run), false, one(1))
-}
-
-/// 10 calls and 4 Wakes on a book: their replies, and by which of them somebody who waits may go on.
-#[test]
-fn calls_that_wake(rt: HostRuntime) -> Result<(), Fail> {
-    let alloc = rt.alloc();
-    let mut book = book_of_two(alloc)?;
-    assert!(rt; are_answered(&mut book, up_to_the_wait(alloc)?));
-    assert_eq!(rt; called_wake(&mut book, 0), None);
-    assert!(rt; are_answered(&mut book, up_to_the_end(alloc)?));
-    assert_eq!(rt; called_wake(&mut book, 1), None);
-    assert_eq!(rt; called_wake(&mut book, 0), Some((Reply::Matched, false)));
-    assert_eq!(rt; called_wake(&mut book, 0), None);
-    assert!(rt; are_answered(&mut book, up_to_the_fault(alloc)?));
-    Ok(())
+    got(&rt, create(&rt, &mut pass, true));
+    got(&rt, start(&rt, &mut pass, 1, 1));
+    got(&rt, stop(&rt, &mut pass, 1));
+    let fault = Halt::Fault(Fault::NoBehaviour);
+    is(&rt, "start", start(&rt, &mut pass, 1, 2), Err(fault));
 }

@@ -2,7 +2,13 @@
 #![tactic(auto)]
 
 #[cfg(test)]
+mod behind_the_lock;
+#[cfg(test)]
 mod books;
+#[cfg(test)]
+mod calls;
+#[cfg(test)]
+mod checks;
 #[cfg(test)]
 mod places;
 #[cfg(test)]

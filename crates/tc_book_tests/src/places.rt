@@ -1,30 +1,40 @@
 //! The places that are kept behind the lock until each run has left: no clause sees them.
-use std::test::Fail;
-use tc_book::open_case;
-use tc_entry::{Args, Comp, Group, Run};
+use crate::calls::{create, enter, is_ended, leave, open, start, stop, unstarted};
+use crate::checks::{got, is};
+use std::sync::Wait;
+use tc_book::Shared;
+use tc_entry::Run;
 
-/// Run 0 leaves with a Finish, run 1 after it was stopped, run 2 was never started.
+fn has_place<R: Wait>(rt: &R, shared: &Shared, run: u16) -> bool {
+    shared.has_place(rt, Run(run))
+}
+
+/// Which of the runs 0 to 4 have a place.
+fn places<R: Wait>(rt: &R, shared: &Shared) -> [bool; 5] {
+    [
+        has_place(rt, shared, 0),
+        has_place(rt, shared, 1),
+        has_place(rt, shared, 2),
+        has_place(rt, shared, 3),
+        has_place(rt, shared, 4),
+    ]
+}
+
+/// Run 0 leaves with a Finish, run 1 after it was stopped, run 2 was never started; there is no run 4.
 #[test]
-fn places_are_given_up(rt: HostRuntime) -> Result<(), Fail> {
-    let (shared, pass, tickets) = open_case(rt.alloc(), 4)?;
+fn places_are_given_up(rt: HostRuntime) {
+    let (shared, pass, tickets) = got(&rt, open(rt.alloc(), 4));
     let (mut pass, mut tickets) = (pass, tickets);
-    let comp = pass.create(&rt, true)?;
-    pass.start(&rt, comp, Run(1), &Args::new())?;
-    let Ok(started) = tickets.remove(0).await_start(&rt) else {
-        panic!(rt; "run 1 was started")
-    };
-    let mut started = started;
-    started.stop(&rt, Group::One(comp))?;
-    assert!(rt; started.is_ended());
-    started.leave(&rt);
-    pass.leave(&rt);
-    assert!(rt; tickets.remove(0).await_start(&rt).is_err());
-    for run in 0..3u16 {
-        assert!(rt; !shared.has_place(&rt, Run(run)), "run {run} has left");
-    }
-    assert!(rt; shared.has_place(&rt, Run(3)));
-    assert!(rt; tickets.remove(0).await_start(&rt).is_err());
-    assert!(rt; !shared.has_place(&rt, Run(3)));
-    assert!(rt; !shared.has_place(&rt, Run(4)), "there is no such run");
-    Ok(())
+    got(&rt, create(&rt, &mut pass, true));
+    got(&rt, start(&rt, &mut pass, 1, 1));
+    let mut started = enter(&rt, &mut tickets);
+    got(&rt, stop(&rt, &mut started, 1));
+    is(&rt, "run 1 has ended", is_ended(&started), true);
+    leave(&rt, started);
+    leave(&rt, pass);
+    unstarted(&rt, &mut tickets);
+    let last = [false, false, false, true, false];
+    is(&rt, "places but of the last", places(&rt, &shared), last);
+    unstarted(&rt, &mut tickets);
+    is(&rt, "places of none", places(&rt, &shared), [false; 5]);
 }

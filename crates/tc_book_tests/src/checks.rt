@@ -1,0 +1,27 @@
+//! What a test found, held beside what is wanted. Each check is a call: the branches of an assertion are proved once here, and
+//! not anew at each place.
+use std::fmt::Debug;
+use std::process::Abort;
+
+/// Ends the test unless what was found is what is wanted.
+pub(crate) fn is<R: Abort, T: PartialEq + Debug + Copy>(rt: &R, what: &str, found: T, wanted: T) {
+    assert!(rt; found == wanted, "{what}: {found:?} in place of {wanted:?}");
+}
+
+/// Ends the test unless this holds.
+pub(crate) fn holds<R: Abort>(rt: &R, what: &str, fact: bool) {
+    assert!(rt; fact, "{what}");
+}
+
+/// Ends the test unless as many were met as are wanted.
+pub(crate) fn at_least<R: Abort>(rt: &R, what: &str, met: usize, floor: usize) {
+    assert!(rt; floor <= met, "{what}: {met}, fewer than {floor}");
+}
+
+/// What a call answered; an error ends the test.
+pub(crate) fn got<R: Abort, T, E: Debug + Drop>(rt: &R, answer: Result<T, E>) -> T {
+    match answer {
+        Ok(value) => value,
+        Err(why) => panic!(rt; "{why:?}"),
+    }
+}
