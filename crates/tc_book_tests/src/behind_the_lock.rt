@@ -128,13 +128,18 @@ fn calls_on_a_book(rt: HostRuntime) {
 /// A call on a book: its run and operation, the reply to it, and whether somebody who waits may go on by it.
 type Called = (Run, Op, Reply, bool);
 
-/// Whether each call on a book is answered with this reply, and says so whether somebody who waits may go on; none is a
-/// verdict call, which the book doesn't take.
+/// The reply to a call on a book, which takes no verdict call, and whether somebody who waits may go on by it.
+fn called(book: &mut Book, run: Run, op: Op) -> Option<(Reply, bool)> {
+    if matches!(op, Op::SetVerdict(_) | Op::GetVerdict) {
+        return None;
+    }
+    book.call(run, op).ok()
+}
+
+/// Whether each call on a book is answered with this reply, and says so whether somebody who waits may go on.
 fn are_answered(book: &mut Book, calls: Vec<Called>) -> bool {
     for (run, op, reply, wakes) in calls {
-        if matches!(op, Op::SetVerdict(_) | Op::GetVerdict)
-            || book.call(run, op).ok() != Some((reply, wakes))
-        {
+        if called(book, run, op) != Some((reply, wakes)) {
             return false;
         }
     }
