@@ -8,7 +8,7 @@ use clap::{Arg, ArgAction, Command};
 use std::alloc::{AllocError, Global};
 
 /// The version of the program, and the toolchain that it is proved and built with.
-pub const VERSION: &str = "0.10.0 (rattle-kit-13b logic dac8208d650f15bf)";
+pub const VERSION: &str = "0.10.0 (rattle-kit-13f logic dac8208d650f15bf)";
 
 // What the help of the program says at its end.
 const PROGRAM_HELP: &str = "\

@@ -10,7 +10,7 @@ use tc_entry::UserVerdict;
 /// The verdict call that the line is, where one space stands between its words and none around them.
 #[inline(always)]
 #[tactic(auto, using(crate::proofs::WholeLines::plain_rules))]
-pub fn read_plain(line: &[u8]) -> Option<Call>
+pub(crate) fn read_plain(line: &[u8]) -> Option<Call>
     ensures { IfSome result (λ call. line_of line.now ≡ Ok (L.Step call)) }
 {
     if is_word(line, b"getverdict") {
