@@ -25,7 +25,7 @@ use Rattle.tc_table.specs.Status.{done, killed, is_running, is_killed, is_done}
 use Rattle.tc_table.specs.Local.{local, overall, gives, verdicts_of}
 use Rattle.tc_table.specs.Waiting.{holds}
 use Rattle.tc_table.specs.Faults.{fault, names, special_fault, start_fault, components}
-use Rattle.tc_table.specs.Answers.{answer, plain_answer, is_active, is_active_on, is_run_of}
+use Rattle.tc_table.specs.Answers.{answer, is_active, is_active_on, is_run_of}
 use Rattle.tc_table.specs.Legal.{IsLegal}
 use Rattle.tc_table.specs.Inside.Kept.{state_of, blank}
 use Rattle.tc_table.specs.Inside.Step.{next_phase, next_state, next_local}
@@ -48,9 +48,6 @@ all_same : {A : Type 0} (f g : A → Bool) (xs : List A) → ((x : A) → f x �
 all_same f g [] h = refl
 all_same f g (x ∷ xs) h = rw (h x, all_same f g xs h)
 
-pub alike_self : (p : List Entry) → IsAlike p p
-alike_self p = record { comps_same = refl; phase_same = λ c. refl; kind_same = λ c. refl; comp_same = λ b. refl; overall_same = refl }
-
 pub alike_sym : (p q : List Entry) → IsAlike p q → IsAlike q p
 alike_sym p q a = record {
   comps_same = sym a.comps_same;
@@ -58,15 +55,6 @@ alike_sym p q a = record {
   kind_same = λ c. sym (a.kind_same c);
   comp_same = λ b. sym (a.comp_same b);
   overall_same = sym a.overall_same;
-}
-
-pub alike_then : (p q r : List Entry) → IsAlike p q → IsAlike q r → IsAlike p r
-alike_then p q r a b = record {
-  comps_same = a.comps_same ∙ b.comps_same;
-  phase_same = λ c. a.phase_same c ∙ b.phase_same c;
-  kind_same = λ c. a.kind_same c ∙ b.kind_same c;
-  comp_same = λ c. a.comp_same c ∙ b.comp_same c;
-  overall_same = a.overall_same ∙ b.overall_same;
 }
 
 module _ {p q : List Entry} where
@@ -129,22 +117,6 @@ is_plain_call (O.Killed t) = false
 is_plain_call O.GetVerdict = false
 is_plain_call (O.Wake k t) = false
 is_plain_call _ = true
-
-module _ {p q : List Entry} where
-  plain_same : IsAlike p q → (b : ℕ) (op : Op) → is_plain_call op ≡ true → plain_answer p b op ≡ plain_answer q b op
-  plain_same s b (O.Create alive name) h = ap (λ k. R.Made (record { 0 = k })) (components_same s)
-  plain_same s b (O.Start c run args) h = refl
-  plain_same s b (O.Stop g) h = refl
-  plain_same s b (O.Kill g) h = refl
-  plain_same s b (O.Wait k t) h = ap (λ z. if z then R.Matched else R.Parked) (holds_alike s (record { killed = k; target = t }))
-  plain_same s b O.StopCase h = refl
-  plain_same s b (O.SetVerdict v) h = refl
-  plain_same s b O.Finish h = refl
-  plain_same s b _ h = absurd cc
-
-  pub answer_alike : IsAlike p q → (n b : ℕ) (op : Op) → is_plain_call op ≡ true → answer n p b op ≡ answer n q b op
-  unfolding answer
-  answer_alike s n b op h = rw (active_alike s b, fault_alike s n b op, plain_same s b op h)
 
 -- ---- one more entry
 
@@ -214,7 +186,7 @@ fresh n (e ∷ past) c legal out =
     ∙ rw (not_made (created e.op e.reply) c (comps past) out) refl
 
 -- what a component is doing after one more entry
-phase_next : (n : ℕ) (past : List Entry) (e : Entry) (c : ℕ) → IsLegal n (e ∷ past) →
+pub phase_next : (n : ℕ) (past : List Entry) (e : Entry) (c : ℕ) → IsLegal n (e ∷ past) →
     phase (e ∷ past) c ≡ (if exists past c then next_phase (kills e c) (start_in e c) (halts (comp_of past e.caller.0) e c) (is_alive_type past c) (phase past c) else P.Inactive)
 unfolding next_state
 phase_next n past e c legal = by_test (exists past c) refl
@@ -323,22 +295,6 @@ overall_next n past e legal = by_made (created e.op e.reply) refl
             let after : local (e ∷ past) m.0 ≡ V.None = local_next past e m.0 ∙ rw (no_caller n past e.caller.0 m.0 legal.1 j) none in
             worst_none (local (e ∷ past)) m.0 (comps past) after ∙ overall_by n past e legal
 
--- ---- after the same entry
-
-exists_alike : (p q : List Entry) → IsAlike p q → (c : ℕ) → exists p c ≡ exists q c
-unfolding exists
-exists_alike p q s c = ap (is_in c) s.comps_same
-
-pub alike_step : (n : ℕ) (p q : List Entry) (e : Entry) → IsLegal n (e ∷ p) → IsLegal n (e ∷ q) → IsAlike p q → IsAlike (e ∷ p) (e ∷ q)
-unfolding exists
-alike_step n p q e lp lq s = record {
-  comps_same = ap (add_new (created e.op e.reply)) s.comps_same;
-  phase_same = λ c. phase_next n p e c lp ∙ (rw (exists_alike p q s c, s.comp_same e.caller.0, s.kind_same c, s.phase_same c) refl ∙ sym (phase_next n q e c lq));
-  kind_same = λ c. rw (s.comps_same, s.kind_same c) refl;
-  comp_same = λ b. rw (s.comp_same b) refl;
-  overall_same = overall_next n p e lp ∙ (ap (next_local (gives e.op e.reply)) s.overall_same ∙ sym (overall_next n q e lq));
-}
-
 -- ---- after an entry that changes nothing
 
 -- the entry makes, starts, halts and kills nothing, and changes no overall verdict
@@ -360,11 +316,11 @@ kept_by : (t : Bool) (ph : Phase) → (t ≡ false → ph ≡ P.Inactive) → (i
 kept_by true ph h = refl
 kept_by false ph h = sym (h refl)
 
-first_kept : (o : Option Comp) → first_some o None ≡ o
+pub first_kept : (o : Option Comp) → first_some o None ≡ o
 first_kept (Some x) = refl
 first_kept None = refl
 
-kind_kept : (t x : Bool) → (t ≡ false → x ≡ false) → (if t then x else false) ≡ x
+pub kind_kept : (t x : Bool) → (t ≡ false → x ≡ false) → (if t then x else false) ≡ x
 kind_kept true x h = refl
 kind_kept false x h = sym (h refl)
 

@@ -1,5 +1,5 @@
 -- Where whatever comes after each seen history is seen, or its verdict is found, the verdict of every complete course is found.
-use Rattle.std.proofs.Common.{ℕ, suc, ◌≡◌, ◌<◌, ◌≤◌, ◌==◌, ◌&&◌, ◌||◌, ⊎_elim, not, nat_lt, if◌then◌else◌, Bool, true, false, Option, Some, None, is_some, MatchOption, List, [], ◌∷◌, length, slice_get, refl, ap, sym, subst, ◌∙◌, arith}
+use Rattle.std.proofs.Common.{ℕ, suc, ◌≡◌, ◌<◌, ◌≤◌, ◌==◌, ◌&&◌, ◌||◌, ◌⊎◌, inl, inr, ⊎_elim, not, nat_lt, if◌then◌else◌, Bool, true, false, Option, Some, None, is_some, MatchOption, List, [], ◌∷◌, length, slice_get, refl, ap, sym, subst, ◌∙◌, arith}
 use Rattle.std.proofs.lemmas.Bool.Decides.{nat_tests}
 use Rattle.tc_verdict.specs.declared.verdict.Verdict.{Verdict}
 use Rattle.tc_verdict.specs.declared.verdict.Verdict.TheVariants as V
@@ -22,7 +22,7 @@ use Rattle.tc_table.specs.History.{comp_of, comps, exists, started_on, ends_case
 use Rattle.tc_table.specs.Phases.{phase}
 use Rattle.tc_table.specs.Local.{overall}
 use Rattle.tc_table.specs.Waiting.{holds, waiting, waits_in_vain, is_still, is_stuck, awaited}
-use Rattle.tc_table.specs.Faults.{fault}
+use Rattle.tc_table.specs.Faults.{fault, all_exist}
 use Rattle.tc_table.specs.Answers.{answer, plain_answer, wake_reply, is_active, is_active_on, is_run_of}
 use Rattle.tc_table.specs.Legal.{IsLegal}
 use Rattle.tc_table.proofs.Deciding.{equal_if, and_right}
@@ -33,12 +33,14 @@ use Rattle.tc_explore.specs.declared.witness.Witness.{Witness}
 use Rattle.tc_explore.specs.Course.{stand, after_own, after_other_by, is_wake, is_idle_by, wake_or, wake_if, call_of, turn, steps_in, script_of, IsTurn, IsCourse, IsComplete}
 use Rattle.tc_explore.specs.Told.{is_found}
 use Rattle.tc_explore.specs.Inside.Alike.{IsAlike}
-use Rattle.tc_explore.specs.Inside.Simulation.{is_quiet, goes_on, IsQuietAt, call_at, IsWakeOf, IsBefore, IsParkedAt, IsFollowed, IsFor, IsCovered, GoesOn, IsClosed}
+use Rattle.tc_explore.specs.Inside.Simulation.{is_quiet, goes_on, IsQuietAt, call_at, IsWakeOf, IsBefore, IsParkedAt, IsFollowed, IsLastAt, IsLeaving, IsEnding, IsAhead, IsFor, IsCovered, GoesOn, IsClosed}
 use Rattle.tc_explore.proofs.Legality.{course_legal}
-use Rattle.tc_explore.proofs.Alike.{ChangesNothing, alike_self, alike_sym, alike_then, alike_unchanged, alike_step, active_alike, fault_alike, holds_alike, answer_alike, is_plain_call, overall_next}
+use Rattle.tc_explore.proofs.Alike.{ChangesNothing, alike_sym, alike_unchanged, active_alike, holds_alike, is_plain_call, overall_next}
+use Rattle.tc_explore.proofs.Ahead.{holds_ahead, ending_active, ended_inactive, not_ending_run, active_back, active_forth, none_too, some_too, fault_ahead, answer_ahead, ahead_self, ahead_after, ahead_turn, ahead_step}
+use Rattle.tc_explore.proofs.Leaving.{Ends, running_on, ends_no_case, after_end}
 use Rattle.tc_explore.proofs.Standings.{HasTurn, has_turn, turn_of, never_wake, stand_own, stand_comp, stand_unstarted, unstarted, waiting_wake, wake_after_other, run_in_range}
 use Rattle.tc_explore.proofs.Simulation.{unchanged_ended, unchanged_quiet, unchanged_wait, unchanged_wake, some_if, stutter, both}
-use Rattle.tc_explore.proofs.Places.{not_ending, quiet_sets_no_wake, quiet_no_wake, behind, parked, together, woken, followed_self, keeps_quiet}
+use Rattle.tc_explore.proofs.Places.{not_ending, quiet_sets_no_wake, quiet_no_wake, behind, parked, leaving_on, together, woken, followed_self, keeps_quiet}
 
 -- what is found of a course, or stands for it
 pub record IsTold (scripts : List ScriptView) (Seen : List Entry → Type 0) (found : List Witness) (p : List Entry) : Type 0 where
@@ -114,6 +116,24 @@ loud_is_plain w O.GetVerdict wk q = absurd cc
 loud_is_plain w (O.Wake k t) wk q = absurd cc
 loud_is_plain w _ wk q = refl
 
+opposed : (t : Bool) → t ≡ true → t ≡ false → ⊥
+opposed true h k = absurd cc
+opposed false h k = absurd cc
+
+never_fault : (past : List Entry) (b : ℕ) (op : Op) → is_plain_call op ≡ true → is_fault (plain_answer past b op) ≡ false
+never_fault past b (O.Wait k t) h = by_test (holds past (record { killed = k; target = t }))
+  where
+    by_test : (z : Bool) → is_fault (if z then R.Matched else R.Parked) ≡ false
+    by_test true = refl
+    by_test false = refl
+never_fault past b (O.Running t) h = absurd cc
+never_fault past b (O.Alive t) h = absurd cc
+never_fault past b (O.Done t) h = absurd cc
+never_fault past b (O.Killed t) h = absurd cc
+never_fault past b O.GetVerdict h = absurd cc
+never_fault past b (O.Wake k t) h = absurd cc
+never_fault past b _ h = refl
+
 loud_sets_no_wake : (op : Op) (r : Reply) → goes_on r ≡ true → wake_if op r ≡ None
 loud_sets_no_wake op R.Parked h = absurd cc
 loud_sets_no_wake op _ h = refl
@@ -167,6 +187,20 @@ turn_in scripts p q e me g =
 fresh_stand : (past : List Entry) (e : Entry) (b : ℕ) → (e.caller.0 == b) ≡ false → stand past b ≡ unstarted → stand (e ∷ past) b ≡ after_other_by None e b unstarted
 fresh_stand past e b other un = rw (other, un) refl
 
+module _ {scripts : List ScriptView} {p q : List Entry} where
+  -- who goes on after q is not leaving
+  no_leaving : (e : Entry) → IsFor scripts q p → is_active q e.caller.0 ≡ true →
+      (c : ℕ) (n : IsEnding scripts p q c) → (e.caller.0 == n.run.0) ≡ true → IsLeaving scripts q n.run.0 (stand (e ∷ p) n.run.0)
+  no_leaving e f act c n k = let other : (e.caller.0 == n.run.0) ≡ false = not_ending_run f.ahead e.caller.0 act c n in absurd cc
+
+  -- nor who does not go on after p
+  none_leaving : (e : Entry) → is_active p e.caller.0 ≡ false →
+      (c : ℕ) (n : IsEnding scripts p q c) → (e.caller.0 == n.run.0) ≡ true → IsLeaving scripts q n.run.0 (stand (e ∷ p) n.run.0)
+  none_leaving e off c n k =
+      let same : is_active p e.caller.0 ≡ is_active p n.run.0 = ap (is_active p) (equal_if e.caller.0 n.run.0 k) in
+      let on : is_active p n.run.0 ≡ true = ending_active c n in
+      absurd cc
+
 module _ {scripts : List ScriptView} {Seen : List Entry → Type 0} {found : List Witness} {p q : List Entry} {e : Entry} where
   told_stutter : AtTurn scripts Seen found p q e → ChangesNothing p e → IsFor scripts q (e ∷ p) → IsTold scripts Seen found (e ∷ p)
   told_stutter h u f =
@@ -194,28 +228,29 @@ module _ {scripts : List ScriptView} {Seen : List Entry → Type 0} {found : Lis
       or_no false = refl
 
   -- an error of both
-  told_fault : AtTurn scripts Seen found p q e → (d : Entry) → IsTurn scripts q d → d.caller.0 ≡ e.caller.0 → e.caller.0 < length scripts → (x : Fault) → e.reply ≡ R.Fault x → d.reply ≡ R.Fault x →
+  told_fault : AtTurn scripts Seen found p q e → (d : Entry) → IsTurn scripts q d → d.caller.0 ≡ e.caller.0 → e.caller.0 < length scripts → (x y : Fault) → e.reply ≡ R.Fault x → d.reply ≡ R.Fault y →
       IsTold scripts Seen found (e ∷ p)
-  told_fault h d turn callers within x re rd =
+  told_fault h d turn callers within x y re rd =
       let lq : IsLegal (length scripts) (d ∷ q) = course_legal scripts (d ∷ q) (turn, h.closed.course) in
       let vp : overall (e ∷ p) ≡ worse (overall p) V.Error = overall_next (length scripts) p e (course_legal scripts (e ∷ p) h.course) ∙ rw re refl in
       let vq : overall (d ∷ q) ≡ worse (overall q) V.Error = overall_next (length scripts) q d lq ∙ rw rd refl in
       let ends_e : ends_case e ≡ true = rw re refl in
       let ends_d : ends_case d ≡ true = rw rd refl in
       let over_e : is_over (e ∷ p) ≡ true = rw ends_e refl in
-      told_both h d turn (rw callers within) (rw rd refl) (vp ∙ (ap (λ w. worse w V.Error) h.for.alike.overall_same ∙ sym vq)) (ends_e ∙ sym ends_d) (λ o. absurd cc)
+      told_both h d turn (rw callers within) (rw rd refl) (vp ∙ (ap (λ w. worse w V.Error) h.for.ahead.overall_same ∙ sym vq)) (ends_e ∙ sym ends_d) (λ o. absurd cc)
 
   -- a quiet call of p that q has made
   told_behind : (me : Comp) → AtTurn scripts Seen found p q e → IsGoing scripts p q e me → (stand p e.caller.0).wake ≡ None → (stand p e.caller.0).called < (stand q e.caller.0).called →
       IsQuietAt (length scripts) q e.caller.0 e.op → IsTold scripts Seen found (e ∷ p)
   told_behind me h g none less quiet =
-      let quiet_p : is_quiet (overall p) e.op ≡ true = rw h.for.alike.overall_same quiet.quiet in
-      let no_fault : fault (length scripts) p e.caller.0 e.op ≡ None = fault_alike h.for.alike (length scripts) e.caller.0 e.op ∙ quiet.no_fault in
+      let quiet_p : is_quiet (overall p) e.op ≡ true = rw h.for.ahead.overall_same quiet.quiet in
+      let no_fault : fault (length scripts) p e.caller.0 e.op ≡ None =
+      none_too (fault (length scripts) q e.caller.0 e.op) (fault (length scripts) p e.caller.0 e.op) (sym (fault_ahead h.for.ahead (length scripts) e.caller.0 e.op)) quiet.no_fault in
       let is : e.reply ≡ plain_answer p e.caller.0 e.op = h.course.0.reply ∙ answer_plain (length scripts) p e.caller.0 e.op g.in_p no_fault in
       let plain : is_fault e.reply ≡ false = ap is_fault is ∙ (quiet_reply (overall p) p e.caller.0 e.op me g.on_p quiet_p).1 in
       let goes : is_ended e.reply ≡ false = ap is_ended is ∙ plain_not_ended p e.caller.0 e.op me g.on_p in
       let u = unchanged_quiet p e quiet_p plain in
-      told_stutter h u (stutter scripts p q e h.course h.closed.course h.for u (λ act.
+      told_stutter h u (stutter scripts p q e h.course h.closed.course h.for u (no_leaving e h.for g.in_q) (λ act.
       subst (λ s. IsFollowed scripts q e.caller.0 s (stand q e.caller.0)) (sym (stand_own p e e.caller.0 refl))
       (behind scripts q e.caller.0 (stand p e.caller.0) (stand q e.caller.0) e g.followed none less u.made
       (not_ending p e (stand p e.caller.0).comp me u g.stand_p g.on_p goes) (quiet_no_wake (overall p) e.op quiet_p) (quiet_sets_no_wake (overall p) e.op e.reply quiet_p))))
@@ -226,7 +261,7 @@ module _ {scripts : List ScriptView} {Seen : List Entry → Type 0} {found : Lis
   told_parked me h g k t is r same calls =
       let of : IsWakeOf e.op (O.Wake k t) = record { killed = k; target = t; waits = is; wakes = refl } in
       let u = unchanged_wait p e (O.Wake k t) of (rw r refl) in
-      told_stutter h u (stutter scripts p q e h.course h.closed.course h.for u (λ act.
+      told_stutter h u (stutter scripts p q e h.course h.closed.course h.for u (no_leaving e h.for g.in_q) (λ act.
       subst (λ s. IsFollowed scripts q e.caller.0 s (stand q e.caller.0)) (sym (stand_own p e e.caller.0 refl))
       (parked scripts q e.caller.0 (stand p e.caller.0) (stand q e.caller.0) e (O.Wake k t) g.followed same u.made
       (not_ending p e (stand p e.caller.0).comp me u g.stand_p g.on_p (rw r refl)) (rw is refl) (rw (is, r) refl) (record { killed = k; target = t; waits = calls ∙ is; wakes = refl }))))
@@ -237,15 +272,16 @@ module _ {scripts : List ScriptView} {Seen : List Entry → Type 0} {found : Lis
       let lp = course_legal scripts (e ∷ p) h.course in
       let cq : IsCourse scripts (e ∷ q) = (turn, h.closed.course) in
       let lq = course_legal scripts (e ∷ q) cq in
-      let alike = alike_step (length scripts) p q e lp lq h.for.alike in
-      told_both h e turn g.in_range on alike.overall_same refl (λ o.
-      both scripts p q e e h.course cq h.for refl alike (keeps_quiet (length scripts) q e lq)
+      let keeps = keeps_quiet (length scripts) q e lq in
+      let ahead = ahead_step scripts p q e h.course.1 lp lq h.for.ahead g.in_q keeps in
+      told_both h e turn g.in_range on ahead.overall_same refl (λ o.
+      both scripts p q e e h.course cq h.for refl ahead keeps
       (λ act.
       subst (λ s. IsFollowed scripts (e ∷ q) e.caller.0 s (stand (e ∷ q) e.caller.0)) (sym (stand_own p e e.caller.0 refl))
       (subst (λ t. IsFollowed scripts (e ∷ q) e.caller.0 (after_own e (stand p e.caller.0)) t) (sym (stand_own q e e.caller.0 refl))
       (together scripts q (e ∷ q) e.caller.0 (stand p e.caller.0) (stand q e.caller.0) e g.followed same wk (loud_sets_no_wake e.op e.reply on))))
       (λ b other none act.
-      let up = fresh_stand p e b other (stand_unstarted scripts p b h.course.1 (h.for.alike.comp_same b ∙ none)) in
+      let up = fresh_stand p e b other (stand_unstarted scripts p b h.course.1 (h.for.ahead.comp_same b ∙ none)) in
       let uq = fresh_stand q e b other (stand_unstarted scripts q b h.closed.course none) in
       subst (λ s. IsFollowed scripts (e ∷ q) b s (stand (e ∷ q) b)) (sym up)
       (subst (λ t. IsFollowed scripts (e ∷ q) b (after_other_by None e b unstarted) t) (sym uq)
@@ -258,29 +294,51 @@ module _ {scripts : List ScriptView} {Seen : List Entry → Type 0} {found : Lis
       IsTold scripts Seen found (e ∷ p)
   told_loud me h g same calls wk loud = by_reply e.reply refl
     where
-      reply_q : e.reply ≡ answer (length scripts) q e.caller.0 e.op
-      reply_q = h.course.0.reply ∙ answer_alike h.for.alike (length scripts) e.caller.0 e.op (loud_is_plain (overall q) e.op wk loud)
+      loud_p : is_quiet (overall p) e.op ≡ false
+      loud_p = rw h.for.ahead.overall_same loud
 
-      turn_q : IsTurn scripts q e
-      turn_q = record { turn = turn_in scripts p q e me g ∙ ap Some calls; reply = reply_q; not_idle = h.course.0.not_idle }
+      calls_plainly : is_plain_call e.op ≡ true
+      calls_plainly = loud_is_plain (overall q) e.op wk loud
 
-      by_fault : e.reply ≡ R.Parked → (o : Option Fault) → fault (length scripts) q e.caller.0 e.op ≡ o → IsTold scripts Seen found (e ∷ p)
-      by_fault r (Some x) k =
-          let f : e.reply ≡ R.Fault x = reply_q ∙ answer_fault (length scripts) q e.caller.0 e.op x g.in_q k in
+      has_turn_q : turn scripts q e.caller.0 ≡ Some e.op
+      has_turn_q = turn_in scripts p q e me g ∙ ap Some calls
+
+      by_parked : e.reply ≡ R.Parked → (o : Option Fault) → fault (length scripts) p e.caller.0 e.op ≡ o → IsTold scripts Seen found (e ∷ p)
+      by_parked r (Some x) k =
+          let f : e.reply ≡ R.Fault x = h.course.0.reply ∙ answer_fault (length scripts) p e.caller.0 e.op x g.in_p k in
           let no : is_fault R.Parked ≡ true = ap is_fault (sym r ∙ f) in
           absurd cc
-      by_fault r None k =
-          let plain : plain_answer q e.caller.0 e.op ≡ R.Parked = sym (answer_plain (length scripts) q e.caller.0 e.op g.in_q k) ∙ (sym reply_q ∙ r) in
-          let w = parks_wait (overall q) q e.caller.0 e.op wk loud plain in
+      by_parked r None k =
+          let plain : plain_answer p e.caller.0 e.op ≡ R.Parked = sym (answer_plain (length scripts) p e.caller.0 e.op g.in_p k) ∙ (sym h.course.0.reply ∙ r) in
+          let w = parks_wait (overall p) p e.caller.0 e.op wk loud_p plain in
           told_parked me h g w.0 w.1 w.2 r same calls
+
+      by_fault : (x : Fault) → e.reply ≡ R.Fault x → (o : Option Fault) → fault (length scripts) p e.caller.0 e.op ≡ o → IsTold scripts Seen found (e ∷ p)
+      by_fault x r (Some y) k =
+          let z = some_too (fault (length scripts) p e.caller.0 e.op) (fault (length scripts) q e.caller.0 e.op) y (fault_ahead h.for.ahead (length scripts) e.caller.0 e.op) k in
+          let d : Entry = record { caller = e.caller; op = e.op; reply = R.Fault z.0 } in
+          let turn : IsTurn scripts q d = record { turn = has_turn_q; reply = sym (answer_fault (length scripts) q e.caller.0 e.op z.0 g.in_q z.1); not_idle = refl } in
+          told_fault h d turn refl g.in_range x z.0 r refl
+      by_fault x r None k =
+          let plain : plain_answer p e.caller.0 e.op ≡ R.Fault x = sym (answer_plain (length scripts) p e.caller.0 e.op g.in_p k) ∙ (sym h.course.0.reply ∙ r) in
+          let no : is_fault (plain_answer p e.caller.0 e.op) ≡ false = never_fault p e.caller.0 e.op calls_plainly in
+          let yes : is_fault (plain_answer p e.caller.0 e.op) ≡ true = ap is_fault plain in
+          absurd cc
+
+      on_both : goes_on e.reply ≡ true → is_fault e.reply ≡ false → IsTold scripts Seen found (e ∷ p)
+      on_both on plain =
+          let is : answer (length scripts) p e.caller.0 e.op ≡ answer (length scripts) q e.caller.0 e.op =
+          answer_ahead h.for.ahead (length scripts) e.caller.0 e.op calls_plainly g.in_q (ap goes_on (sym h.course.0.reply) ∙ on) (ap is_fault (sym h.course.0.reply) ∙ plain) in
+          told_on me h g same wk (record { turn = has_turn_q; reply = h.course.0.reply ∙ is; not_idle = h.course.0.not_idle }) on
 
       by_reply : (r : Reply) → e.reply ≡ r → IsTold scripts Seen found (e ∷ p)
       by_reply R.Ended r =
-          let no : is_ended (answer (length scripts) q e.caller.0 e.op) ≡ false = not_ended (length scripts) q e.caller.0 e.op me g.in_q g.on_q in
-          let yes : is_ended (answer (length scripts) q e.caller.0 e.op) ≡ true = ap is_ended (sym reply_q ∙ r) in
+          let no : is_ended (answer (length scripts) p e.caller.0 e.op) ≡ false = not_ended (length scripts) p e.caller.0 e.op me g.in_p g.on_p in
+          let yes : is_ended (answer (length scripts) p e.caller.0 e.op) ≡ true = ap is_ended (sym h.course.0.reply ∙ r) in
           absurd cc
-      by_reply R.Parked r = by_fault r (fault (length scripts) q e.caller.0 e.op) refl
-      by_reply _ r = told_on me h g same wk turn_q (ap goes_on r)
+      by_reply R.Parked r = by_parked r (fault (length scripts) p e.caller.0 e.op) refl
+      by_reply (R.Fault x) r = by_fault x r (fault (length scripts) p e.caller.0 e.op) refl
+      by_reply _ r = on_both (ap goes_on r) (ap is_fault r)
 
   -- a quiet call of both: an error, since q has made all others
   told_quiet : (me : Comp) → AtTurn scripts Seen found p q e → IsGoing scripts p q e me →
@@ -292,8 +350,9 @@ module _ {scripts : List ScriptView} {Seen : List Entry → Type 0} {found : Lis
       by_fault (Some x) k =
           let d : Entry = record { caller = e.caller; op = e.op; reply = R.Fault x } in
           let turn : IsTurn scripts q d = record { turn = turn_in scripts p q e me g ∙ ap Some calls; reply = sym (answer_fault (length scripts) q e.caller.0 e.op x g.in_q k); not_idle = refl } in
-          let re : e.reply ≡ R.Fault x = h.course.0.reply ∙ answer_fault (length scripts) p e.caller.0 e.op x g.in_p (fault_alike h.for.alike (length scripts) e.caller.0 e.op ∙ k) in
-          told_fault h d turn refl g.in_range x re refl
+          let y = some_too (fault (length scripts) q e.caller.0 e.op) (fault (length scripts) p e.caller.0 e.op) x (sym (fault_ahead h.for.ahead (length scripts) e.caller.0 e.op)) k in
+          let re : e.reply ≡ R.Fault y.0 = h.course.0.reply ∙ answer_fault (length scripts) p e.caller.0 e.op y.0 g.in_p y.1 in
+          told_fault h d turn refl g.in_range y.0 x re refl
       by_fault None k =
           let d : Entry = record { caller = e.caller; op = e.op; reply = plain_answer q e.caller.0 e.op } in
           let r = quiet_reply (overall q) q e.caller.0 e.op me g.on_q quiet in
@@ -388,12 +447,30 @@ same_awaited : (k : Bool) (t : Target) (wake : Op) (a : Awaited) → wake ≡ O.
 same_awaited k t wake a w h = let e : awaited (O.Wake k t) ≡ Some a = ap awaited (sym w) ∙ h in let e2 : Some (record { killed = k; target = t }) ≡ Some a = e in cc
 
 module _ {scripts : List ScriptView} {p q : List Entry} where
-  -- where p is stuck no run can go on in q
-  none_goes_on : IsCourse scripts p → IsFor scripts q p → is_stuck p ≡ true → GoesOn scripts q → ⊥
-  none_goes_on cp f stuck go =
+  -- where p is stuck no run is leaving
+  stuck_alike : IsCourse scripts p → IsAhead scripts p q → is_stuck p ≡ true → IsAlike p q
+  stuck_alike cp s stuck = record {
+    comps_same = s.comps_same;
+    phase_same = λ c. by_phase c (s.phases c);
+    kind_same = s.kind_same;
+    comp_same = s.comp_same;
+    overall_same = s.overall_same;
+  }
+    where
+      by_phase : (c : ℕ) → (phase p c ≡ phase q c) ⊎ IsEnding scripts p q c → phase p c ≡ phase q c
+      by_phase c (inl h) = h
+      by_phase c (inr n) =
+          let w = stuck_waits (length scripts) p n.run.0 (course_legal scripts p cp) stuck (ending_active c n) in
+          let by = waiting_wake p n.run.0 w.0 w.1 in
+          let none : None ≡ Some by.wake = sym n.leaving.no_wake ∙ by.to_come in
+          absurd cc
+
+  -- and none can go on in q
+  none_goes_on : IsCourse scripts p → IsFor scripts q p → IsAlike p q → is_stuck p ≡ true → GoesOn scripts q → ⊥
+  none_goes_on cp f alike stuck go =
       let d = go.entry in
       let act_q = active_if_on (length scripts) q d.caller.0 d.op d.reply go.turn.reply go.on in
-      let act_p : is_active p d.caller.0 ≡ true = active_alike f.alike d.caller.0 ∙ act_q in
+      let act_p : is_active p d.caller.0 ≡ true = active_alike alike d.caller.0 ∙ act_q in
       let w = stuck_waits (length scripts) p d.caller.0 (course_legal scripts p cp) stuck act_p in
       let by = waiting_wake p d.caller.0 w.0 w.1 in
       let fol = f.runs d.caller.0 act_q in
@@ -406,10 +483,14 @@ module _ {scripts : List ScriptView} {p q : List Entry} where
       ∙ (ap (λ o. wake_or o (call_of t.me (stand q d.caller.0).bound (slice_get (steps_in (script_of scripts d.caller.0)) (stand q d.caller.0).called))) (sym fol.no_wake) ∙ t.calls) in
       let op_is : d.op ≡ O.Wait of.killed of.target = sym call ∙ of.waits in
       let a_is : record { killed = of.killed; target = of.target } ≡ w.0 = same_awaited of.killed of.target by.wake w.0 of.wakes by.for_it in
-      let no : holds q (record { killed = of.killed; target = of.target }) ≡ false = sym (holds_alike f.alike (record { killed = of.killed; target = of.target })) ∙ (ap (holds p) a_is ∙ w.2) in
+      let no : holds q (record { killed = of.killed; target = of.target }) ≡ false = sym (holds_alike alike (record { killed = of.killed; target = of.target })) ∙ (ap (holds p) a_is ∙ w.2) in
       let bad : is_fault d.reply ≡ true = wait_answer (length scripts) q d.caller.0 of.killed of.target d.reply act_q no (go.turn.reply ∙ ap (answer (length scripts) q d.caller.0) op_is) go.on in
       let good = go.no_fault in
       absurd cc
+
+finish_reply : (n : ℕ) (past : List Entry) (b : ℕ) → is_active past b ≡ true → answer n past b O.Finish ≡ R.Ok
+unfolding answer fault all_exist
+finish_reply n past b act = rw act refl
 
 fault_of_wait : (n : ℕ) (past : List Entry) (b : ℕ) (k : Bool) (t : Target) → fault n past b (O.Wait k t) ≡ fault n past b (O.Wake k t)
 unfolding fault
@@ -418,7 +499,7 @@ fault_of_wait n past b k t = refl
 module _ {scripts : List ScriptView} {Seen : List Entry → Type 0} {found : List Witness} {p q : List Entry} {e : Entry} where
   told_stuck : AtTurn scripts Seen found p q e → is_stuck p ≡ true → e.reply ≡ R.Fault F.Stuck → IsTold scripts Seen found (e ∷ p)
   told_stuck h stuck r =
-      let found_error : is_found found V.Error ≡ true = ⊎_elim (λ x. x) (λ go. absurd (none_goes_on h.course.1 h.for stuck go)) h.closed.stuck in
+      let found_error : is_found found V.Error ≡ true = ⊎_elim (λ x. x) (λ go. absurd (none_goes_on h.course.1 h.for (stuck_alike h.course.1 h.for.ahead stuck) stuck go)) h.closed.stuck in
       let v : overall (e ∷ p) ≡ V.Error = overall_next (length scripts) p e (course_legal scripts (e ∷ p) h.course) ∙ (rw r refl ∙ error_is_worst (overall p)) in
       let ends : ends_case e ≡ true = rw r refl in
       let over_e : is_over (e ∷ p) ≡ true = rw ends refl in
@@ -437,11 +518,15 @@ module _ {scripts : List ScriptView} {Seen : List Entry → Type 0} {found : Lis
       let lq = course_legal scripts (d ∷ q) cq in
       let ae = alike_unchanged (length scripts) p e (course_legal scripts (e ∷ p) h.course) ue in
       let ad = alike_unchanged (length scripts) q d lq ud in
-      let alike : IsAlike (e ∷ p) (d ∷ q) = alike_then (e ∷ p) p (d ∷ q) ae (alike_then p q (d ∷ q) h.for.alike (alike_sym (d ∷ q) q ad)) in
+      let keeps = keeps_quiet (length scripts) q d lq in
+      let later : IsAhead scripts p (d ∷ q) = ahead_after scripts p q (d ∷ q) h.for.ahead (alike_sym (d ∷ q) q ad) keeps in
+      let goes : is_active (d ∷ q) e.caller.0 ≡ true = active_alike ad e.caller.0 ∙ g.in_q in
+      let ahead : IsAhead scripts (e ∷ p) (d ∷ q) =
+      ahead_turn scripts p (d ∷ q) e h.course.1 ae later (λ c n k. let other = not_ending_run later e.caller.0 goes c n in absurd cc) in
       let ends_e : ends_case e ≡ false = or_left (ends_case e) _ (ue.no_halt 0) in
       let ends_d : ends_case d ≡ false = or_left (ends_case d) _ (ud.no_halt 0) in
-      told_both h d turn g.in_range refl alike.overall_same (ends_e ∙ sym ends_d) (λ o.
-      both scripts p q e d h.course cq h.for refl alike (keeps_quiet (length scripts) q d lq)
+      told_both h d turn g.in_range refl ahead.overall_same (ends_e ∙ sym ends_d) (λ o.
+      both scripts p q e d h.course cq h.for refl ahead keeps
       (λ act.
       subst (λ s. IsFollowed scripts (d ∷ q) e.caller.0 s (stand (d ∷ q) e.caller.0)) (sym (stand_own p e e.caller.0 refl))
       (subst (λ x. IsFollowed scripts (d ∷ q) e.caller.0 (after_own e (stand p e.caller.0)) x) (sym (stand_own q d e.caller.0 refl))
@@ -470,8 +555,10 @@ module _ {scripts : List ScriptView} {Seen : List Entry → Type 0} {found : Lis
       reply_p : e.reply ≡ answer (length scripts) p e.caller.0 (O.Wake at.wake_of.killed at.wake_of.target)
       reply_p = h.course.0.reply ∙ ap (answer (length scripts) p e.caller.0) op_is
 
-      fault_q : fault (length scripts) q e.caller.0 (O.Wait at.wake_of.killed at.wake_of.target) ≡ fault (length scripts) p e.caller.0 (O.Wake at.wake_of.killed at.wake_of.target)
-      fault_q = fault_of_wait (length scripts) q e.caller.0 at.wake_of.killed at.wake_of.target ∙ sym (fault_alike h.for.alike (length scripts) e.caller.0 (O.Wake at.wake_of.killed at.wake_of.target))
+      fault_q : is_some (fault (length scripts) p e.caller.0 (O.Wake at.wake_of.killed at.wake_of.target)) ≡ is_some (fault (length scripts) q e.caller.0 (O.Wait at.wake_of.killed at.wake_of.target))
+      fault_q =
+          fault_ahead h.for.ahead (length scripts) e.caller.0 (O.Wake at.wake_of.killed at.wake_of.target)
+          ∙ ap is_some (sym (fault_of_wait (length scripts) q e.caller.0 at.wake_of.killed at.wake_of.target))
 
       by_stuck : e.reply ≡ wake_reply p e.caller.0 (record { killed = at.wake_of.killed; target = at.wake_of.target }) → holds p (record { killed = at.wake_of.killed; target = at.wake_of.target }) ≡ false →
           (t : Bool) → ((e.caller.0 == 0) && is_stuck p) ≡ t → IsTold scripts Seen found (e ∷ p)
@@ -487,9 +574,10 @@ module _ {scripts : List ScriptView} {Seen : List Entry → Type 0} {found : Lis
       by_holds : fault (length scripts) p e.caller.0 (O.Wake at.wake_of.killed at.wake_of.target) ≡ None → (t : Bool) → holds p (record { killed = at.wake_of.killed; target = at.wake_of.target }) ≡ t → IsTold scripts Seen found (e ∷ p)
       by_holds none true k =
           let r : e.reply ≡ R.Matched = reply_p ∙ (answer_plain (length scripts) p e.caller.0 (O.Wake at.wake_of.killed at.wake_of.target) g.in_p none ∙ rw k refl) in
-          let there : holds q (record { killed = at.wake_of.killed; target = at.wake_of.target }) ≡ true = sym (holds_alike h.for.alike (record { killed = at.wake_of.killed; target = at.wake_of.target })) ∙ k in
+          let there : holds q (record { killed = at.wake_of.killed; target = at.wake_of.target }) ≡ true = holds_ahead h.for.ahead (record { killed = at.wake_of.killed; target = at.wake_of.target }) k in
           let rq : answer (length scripts) q e.caller.0 (O.Wait at.wake_of.killed at.wake_of.target) ≡ R.Matched =
-          answer_plain (length scripts) q e.caller.0 (O.Wait at.wake_of.killed at.wake_of.target) g.in_q (fault_q ∙ none) ∙ rw there refl in
+          answer_plain (length scripts) q e.caller.0 (O.Wait at.wake_of.killed at.wake_of.target) g.in_q
+          (none_too (fault (length scripts) p e.caller.0 (O.Wake at.wake_of.killed at.wake_of.target)) (fault (length scripts) q e.caller.0 (O.Wait at.wake_of.killed at.wake_of.target)) fault_q none) ∙ rw there refl in
           told_woken me h g at.wake_of.killed at.wake_of.target op_is r at.one_more (record { turn = turn_q; reply = sym rq; not_idle = refl })
       by_holds none false k =
           let r : e.reply ≡ wake_reply p e.caller.0 (record { killed = at.wake_of.killed; target = at.wake_of.target }) =
@@ -499,23 +587,81 @@ module _ {scripts : List ScriptView} {Seen : List Entry → Type 0} {found : Lis
       by_fault : (o : Option Fault) → fault (length scripts) p e.caller.0 (O.Wake at.wake_of.killed at.wake_of.target) ≡ o → IsTold scripts Seen found (e ∷ p)
       by_fault None k = by_holds k (holds p (record { killed = at.wake_of.killed; target = at.wake_of.target })) refl
       by_fault (Some x) k =
-          let d : Entry = record { caller = e.caller; op = O.Wait at.wake_of.killed at.wake_of.target; reply = R.Fault x } in
+          let y = some_too (fault (length scripts) p e.caller.0 (O.Wake at.wake_of.killed at.wake_of.target)) (fault (length scripts) q e.caller.0 (O.Wait at.wake_of.killed at.wake_of.target)) x fault_q k in
+          let d : Entry = record { caller = e.caller; op = O.Wait at.wake_of.killed at.wake_of.target; reply = R.Fault y.0 } in
           let turn : IsTurn scripts q d = record {
             turn = turn_q;
-            reply = sym (answer_fault (length scripts) q e.caller.0 (O.Wait at.wake_of.killed at.wake_of.target) x g.in_q (fault_q ∙ k));
+            reply = sym (answer_fault (length scripts) q e.caller.0 (O.Wait at.wake_of.killed at.wake_of.target) y.0 g.in_q y.1);
             not_idle = refl;
           } in
-          told_fault h d turn refl g.in_range x (reply_p ∙ answer_fault (length scripts) p e.caller.0 (O.Wake at.wake_of.killed at.wake_of.target) x g.in_p k) refl
+          told_fault h d turn refl g.in_range x y.0 (reply_p ∙ answer_fault (length scripts) p e.caller.0 (O.Wake at.wake_of.killed at.wake_of.target) x g.in_p k) refl
+
+  -- a turn of a run that is leaving, and has ended after q
+  told_leaving : AtTurn scripts Seen found p q e → (c : ℕ) (n : IsEnding scripts p q c) → n.run.0 ≡ e.caller.0 → IsTold scripts Seen found (e ∷ p)
+  told_leaving h c n own = by_call (subst (λ op. IsLastAt (length scripts) q e.caller.0 op) call (leaving.calls (stand p e.caller.0).called (omega arith)))
+    where
+      leaving : IsLeaving scripts q e.caller.0 (stand p e.caller.0)
+      leaving = subst (λ b. IsLeaving scripts q b (stand p b)) own n.leaving
+
+      active : is_active p e.caller.0 ≡ true
+      active = subst (λ b. is_active p b ≡ true) own (ending_active c n)
+
+      off : is_active q e.caller.0 ≡ false
+      off = subst (λ b. is_active q b ≡ false) own (ended_inactive h.for.ahead c n)
+
+      on : comp_of p e.caller.0 ≡ Some (record { 0 = c })
+      on = subst (λ b. comp_of p b ≡ Some (record { 0 = c })) own n.on
+
+      t : HasTurn (steps_in (script_of scripts e.caller.0)) (stand p e.caller.0) e.op
+      t = has_turn scripts p e.caller.0 e.op h.course.0.turn
+
+      call : call_at scripts e.caller.0 (stand p e.caller.0) (stand p e.caller.0).comp (stand p e.caller.0).called ≡ e.op
+      call =
+          ap (λ o. call_at scripts e.caller.0 (stand p e.caller.0) o (stand p e.caller.0).called) t.on
+          ∙ (ap (λ o. wake_or o (call_of t.me (stand p e.caller.0).bound (slice_get (steps_in (script_of scripts e.caller.0)) (stand p e.caller.0).called))) (sym leaving.no_wake) ∙ t.calls)
+
+      quiet_turn : IsQuietAt (length scripts) q e.caller.0 e.op → IsTold scripts Seen found (e ∷ p)
+      quiet_turn quiet =
+          let quiet_p : is_quiet (overall p) e.op ≡ true = rw h.for.ahead.overall_same quiet.quiet in
+          let no_fault : fault (length scripts) p e.caller.0 e.op ≡ None =
+          none_too (fault (length scripts) q e.caller.0 e.op) (fault (length scripts) p e.caller.0 e.op) (sym (fault_ahead h.for.ahead (length scripts) e.caller.0 e.op)) quiet.no_fault in
+          let is : e.reply ≡ plain_answer p e.caller.0 e.op = h.course.0.reply ∙ answer_plain (length scripts) p e.caller.0 e.op active no_fault in
+          let plain : is_fault e.reply ≡ false = ap is_fault is ∙ (quiet_reply (overall p) p e.caller.0 e.op (record { 0 = c }) on quiet_p).1 in
+          let u = unchanged_quiet p e quiet_p plain in
+          let later : IsLeaving scripts q e.caller.0 (stand (e ∷ p) e.caller.0) =
+          subst (λ s. IsLeaving scripts q e.caller.0 s) (sym (stand_own p e e.caller.0 refl))
+          (leaving_on scripts q e.caller.0 (stand p e.caller.0) e leaving u.made (quiet_no_wake (overall p) e.op quiet_p) (quiet_sets_no_wake (overall p) e.op e.reply quiet_p)) in
+          told_stutter h u (stutter scripts p q e h.course h.closed.course h.for u
+          (λ d m k. subst (λ b. IsLeaving scripts q b (stand (e ∷ p) b)) (equal_if e.caller.0 m.run.0 k) later)
+          (λ act. absurd (opposed (is_active q e.caller.0) act off)))
+
+      end_turn : e.op ≡ O.Finish → IsTold scripts Seen found (e ∷ p)
+      end_turn op =
+          let reply : e.reply ≡ R.Ok = h.course.0.reply ∙ (ap (answer (length scripts) p e.caller.0) op ∙ finish_reply (length scripts) p e.caller.0 active) in
+          let ends : Ends p e (record { 0 = c }) = record {
+            op = op;
+            reply = reply;
+            not_main = subst (λ b. (b == 0) ≡ false) own n.not_main;
+            on = on;
+            runs = running_on p e (record { 0 = c }) active on;
+            ordinary = n.ordinary;
+          } in
+          let none : ends_case e ≡ false = ends_no_case ends in
+          let going : is_over (e ∷ p) ≡ false = rw (none, h.going) refl in
+          record { over = λ o. absurd cc; going = λ o. (q, h.closed, after_end scripts p q e c h.course h.closed.course h.for n own ends) }
+
+      by_call : IsLastAt (length scripts) q e.caller.0 e.op → IsTold scripts Seen found (e ∷ p)
+      by_call (inl quiet) = quiet_turn quiet
+      by_call (inr op) = end_turn op
 
   -- one more turn
   told_step : AtTurn scripts Seen found p q e → IsTold scripts Seen found (e ∷ p)
   told_step h = by_active (is_active p e.caller.0) refl
     where
-      going : is_active p e.caller.0 ≡ true → (t : HasTurn (steps_in (script_of scripts e.caller.0)) (stand p e.caller.0) e.op) → IsGoing scripts p q e t.me
-      going act t =
-          let act_q : is_active q e.caller.0 ≡ true = sym (active_alike h.for.alike e.caller.0) ∙ act in
+      going : is_active p e.caller.0 ≡ true → is_active q e.caller.0 ≡ true → (t : HasTurn (steps_in (script_of scripts e.caller.0)) (stand p e.caller.0) e.op) → IsGoing scripts p q e t.me
+      going act act_q t =
           let on_p : comp_of p e.caller.0 ≡ Some t.me = sym (stand_comp scripts p e.caller.0 h.course.1) ∙ t.on in
-          let on_q : comp_of q e.caller.0 ≡ Some t.me = sym (h.for.alike.comp_same e.caller.0) ∙ on_p in
+          let on_q : comp_of q e.caller.0 ≡ Some t.me = sym (h.for.ahead.comp_same e.caller.0) ∙ on_p in
           let fol = h.for.runs e.caller.0 act_q in
           record {
             in_p = act;
@@ -536,17 +682,21 @@ module _ {scripts : List ScriptView} {Seen : List Entry → Type 0} {found : Lis
           told_wake t.me h g wake k (ap (λ o. wake_or o (call_of t.me (stand p e.caller.0).bound (slice_get (steps_in (script_of scripts e.caller.0)) (stand p e.caller.0).called))) (sym k) ∙ t.calls)
 
       by_active : (t : Bool) → is_active p e.caller.0 ≡ t → IsTold scripts Seen found (e ∷ p)
-      by_active true k = let t = has_turn scripts p e.caller.0 e.op h.course.0.turn in by_wake t (going k t) (stand p e.caller.0).wake refl
+      by_active true k = by_q (active_forth h.for.ahead e.caller.0 k)
+        where
+          by_q : (is_active q e.caller.0 ≡ true) ⊎ ((c : ℕ) × (n : IsEnding scripts p q c) × (n.run.0 ≡ e.caller.0)) → IsTold scripts Seen found (e ∷ p)
+          by_q (inl act) = let t = has_turn scripts p e.caller.0 e.op h.course.0.turn in by_wake t (going k act t) (stand p e.caller.0).wake refl
+          by_q (inr n) = told_leaving h n.0 n.1 n.2
       by_active false k =
           let r : e.reply ≡ R.Ended = h.course.0.reply ∙ answer_inactive (length scripts) p e.caller.0 e.op k in
           let u = unchanged_ended p e r in
-          told_stutter h u (stutter scripts p q e h.course h.closed.course h.for u (λ act. let off : is_active q e.caller.0 ≡ false = sym (active_alike h.for.alike e.caller.0) ∙ k in absurd cc))
+          told_stutter h u (stutter scripts p q e h.course h.closed.course h.for u (none_leaving e k) (λ act. let on : is_active p e.caller.0 ≡ true = active_back h.for.ahead e.caller.0 act in absurd cc))
 
 -- ---- all courses
 
 module _ (scripts : List ScriptView) (Seen : List Entry → Type 0) (found : List Witness) (some : 1 ≤ length scripts) (seen : SeenIsClosed scripts Seen found) (start : IsCovered scripts Seen []) where
   for_opening : IsFor scripts [] []
-  for_opening = record { alike = alike_self []; runs = λ b act. followed_self scripts [] b (stand [] b) refl }
+  for_opening = record { ahead = ahead_self scripts []; runs = λ b act. followed_self scripts [] b (stand [] b) refl }
 
   told_opening : IsTold scripts Seen found []
   told_opening = record {
@@ -580,7 +730,7 @@ module _ (scripts : List ScriptView) (Seen : List Entry → Type 0) (found : Lis
   complete_over p q c done closed f =
       let on = some_if q 0 closed.main in
       let fol = f.runs 0 closed.main in
-      let here : (stand p 0).comp ≡ Some on.0 = stand_comp scripts p 0 c ∙ (f.alike.comp_same 0 ∙ on.1) in
+      let here : (stand p 0).comp ≡ Some on.0 = stand_comp scripts p 0 c ∙ (f.ahead.comp_same 0 ∙ on.1) in
       let stays : (stand p 0).left ≡ false = fol.left ∙ closed.main_stays in
       let t : turn scripts p 0 ≡ Some (wake_or (stand p 0).wake (call_of on.0 (stand p 0).bound (slice_get (steps_in (script_of scripts 0)) (stand p 0).called))) =
       turn_of scripts p 0 _ (record { me = on.0; on = here; stays = stays; calls = refl }) in

@@ -3,6 +3,8 @@ pub mod Turning
 pub mod Legality
 pub mod Alike
 pub mod Standings
+pub mod Ahead
+pub mod Leaving
 pub mod Simulation
 pub mod Places
 pub mod Closing

@@ -23,9 +23,9 @@ use Rattle.tc_table.specs.Legal.{IsLegal}
 use Rattle.tc_table.specs.Inside.Step.{next_local}
 use Rattle.tc_table.proofs.Over.{stays}
 use Rattle.tc_explore.specs.Course.{Stand, after_own, ends, as_list, is_wake, wake_for, wake_if}
-use Rattle.tc_explore.specs.Inside.Simulation.{is_quiet, IsQuietAt, call_at, IsWakeOf, IsBefore, IsParkedAt, IsFollowed}
+use Rattle.tc_explore.specs.Inside.Simulation.{is_quiet, IsQuietAt, call_at, IsWakeOf, IsBefore, IsParkedAt, IsFollowed, IsLastAt, IsLeaving}
 use Rattle.tc_explore.proofs.Alike.{ChangesNothing, overall_next}
-use Rattle.tc_explore.proofs.Simulation.{KeepsQuiet}
+use Rattle.tc_explore.proofs.Ahead.{KeepsQuiet}
 
 or_no : (a : Bool) → (a || false) ≡ a
 or_no true = refl
@@ -133,6 +133,24 @@ ahead scripts q b s t e f quiet made stays_on plain no_wake = record {
       between = λ k l m. subst (λ op. IsQuietAt (length scripts) (e ∷ q) b op) (sym (same_call t.comp k)) (at_last h k l m (nat_lt k t.called) refl);
     }
     by_wake (Some wake) h = absurd (no_parked_quiet _ _ wake h.wake_of quiet.quiet)
+
+-- a quiet call of a run that is leaving
+pub leaving_on : (scripts : List ScriptView) (q : List Entry) (b : ℕ) (s : Stand) (e : Entry) → IsLeaving scripts q b s →
+    created e.op e.reply ≡ None → is_wake e.op ≡ false → wake_if e.op e.reply ≡ None → IsLeaving scripts q b (after_own e s)
+leaving_on scripts q b s e l made plain no_wake = record {
+  no_wake = no_wake;
+  calls = λ k m. subst (λ op. IsLastAt (length scripts) q b op) (sym (same_call s.comp k)) (l.calls k (omega (arith, called, m)));
+}
+  where
+    same_bound : (after_own e s).bound ≡ s.bound
+    same_bound = kept_bound e s made
+
+    called : (after_own e s).called ≡ s.called + 1
+    called = one_more_called e s plain
+
+    same_call : (o : Option Comp) (k : ℕ) → call_at scripts b (after_own e s) o k ≡ call_at scripts b s o k
+    same_call None k = refl
+    same_call (Some me) k = rw same_bound refl
 
 -- the same call of both, which is not parked
 pub together : (scripts : List ScriptView) (q r : List Entry) (b : ℕ) (s t : Stand) (e : Entry) → IsFollowed scripts q b s t → s.called ≡ t.called →

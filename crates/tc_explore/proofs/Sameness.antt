@@ -24,7 +24,8 @@ use Rattle.tc_explore.specs.Course.{stand, IsCourse}
 use Rattle.tc_explore.specs.Inside.Simulation.{IsFor, IsFollowed}
 use Rattle.tc_explore.specs.Inside.Seen.{IsSame, HasSame, phase_code, comp_code}
 use Rattle.tc_explore.proofs.Legality.{course_legal}
-use Rattle.tc_explore.proofs.Alike.{alike_sym, alike_then, active_alike, fresh}
+use Rattle.tc_explore.proofs.Alike.{alike_sym, active_alike, fresh}
+use Rattle.tc_explore.proofs.Ahead.{ahead_after}
 use Rattle.tc_explore.proofs.Standings.{stand_comp, run_in_range}
 use Rattle.tc_explore.proofs.Simulation.{some_if, quiet_alike, followed_later}
 
@@ -155,7 +156,7 @@ same_if scripts p q cp cq some levels counts phases kinds comps stands =
 -- what stands for a history, and is the same as another, so does that
 pub same_for : (scripts : List ScriptView) (q r p : List Entry) → IsSame q r → IsFor scripts q p → IsFor scripts r p
 same_for scripts q r p s f = record {
-  alike = alike_then p q r f.alike s.alike;
+  ahead = ahead_after scripts p q r f.ahead s.alike (quiet_alike (length scripts) q r (alike_sym q r s.alike));
   runs = λ b act.
       let was : is_active q b ≡ true = active_alike s.alike b ∙ act in
       subst (λ t. IsFollowed scripts r b (stand p b) t) (s.stands b was).0

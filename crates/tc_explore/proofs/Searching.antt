@@ -1,24 +1,36 @@
 -- What one more quiet call of a search stands for.
-use Rattle.std.proofs.Common.{ℕ, ◌≡◌, true, false, Some, List, ◌∷◌, length, slice_get, refl, ap, sym, subst, ◌∙◌}
+use Rattle.std.proofs.Common.{ℕ, ◌≡◌, ◌==◌, inl, inr, true, false, None, Some, List, ◌∷◌, length, slice_get, refl, ap, sym, subst, ◌∙◌}
 use Rattle.tc_verdict.specs.declared.run.Run.{Run}
+use Rattle.tc_entry.specs.declared.comp.Comp.{Comp}
 use Rattle.tc_entry.specs.declared.entry.Entry.{Entry}
 use Rattle.tc_entry.specs.declared.op.Op.{Op}
+use Rattle.tc_entry.specs.declared.op.Op.TheVariants as O
 use Rattle.tc_entry.specs.Reply.{is_ended, is_fault}
 use Rattle.tc_step.specs.Steps.{ScriptView}
 use Rattle.tc_table.specs.Case.{Case, past_of}
+use Rattle.tc_table.specs.History.{comp_of, is_alive_type}
 use Rattle.tc_table.specs.Local.{overall}
 use Rattle.tc_table.specs.Answers.{answer}
 use Rattle.tc_table.proofs.Sound.{plain_if}
 use Rattle.tc_explore.specs.Course.{stand, wake_or, call_of, steps_in, script_of, taken, IsTurn, IsCourse}
 use Rattle.tc_explore.specs.Found.{IsOn}
 use Rattle.tc_explore.specs.Inside.Alike.{IsAlike}
-use Rattle.tc_explore.specs.Inside.Simulation.{is_quiet, IsQuietAt, call_at, IsFollowed, IsFor}
+use Rattle.tc_explore.specs.Inside.Simulation.{is_quiet, IsQuietAt, call_at, IsFollowed, IsFor, IsEnd, IsSilent}
 use Rattle.tc_explore.specs.Inside.Seen.{StandsOn}
 use Rattle.tc_explore.proofs.Legality.{course_legal}
 use Rattle.tc_explore.proofs.Alike.{alike_unchanged}
 use Rattle.tc_explore.proofs.Standings.{has_turn, stand_own, stand_comp}
 use Rattle.tc_explore.proofs.Simulation.{unchanged_quiet, some_if, quiet_alike, followed_later, lead}
+use Rattle.tc_explore.proofs.Leaving.{Ends, running_on, lead_end}
 use Rattle.tc_explore.proofs.Places.{not_ending, quiet_sets_no_wake, quiet_no_wake, ahead}
+
+-- a run with no Wake to come calls its next step
+next_call : (scripts : List ScriptView) (q : List Entry) (e : Entry) → (stand q e.caller.0).wake ≡ None → IsTurn scripts q e →
+    call_at scripts e.caller.0 (stand q e.caller.0) (stand q e.caller.0).comp (stand q e.caller.0).called ≡ e.op
+next_call scripts q e none turn =
+    let t = has_turn scripts q e.caller.0 e.op turn.turn in
+    ap (λ o. call_at scripts e.caller.0 (stand q e.caller.0) o (stand q e.caller.0).called) t.on
+    ∙ (ap (λ o. wake_or o (call_of t.me (stand q e.caller.0).bound (slice_get (steps_in (script_of scripts e.caller.0)) (stand q e.caller.0).called))) (sym none) ∙ t.calls)
 
 -- a quiet call that is no error
 lead_quiet : (scripts : List ScriptView) (p q : List Entry) (e : Entry) → IsCourse scripts p → IsCourse scripts (e ∷ q) → is_fault e.reply ≡ false → is_ended e.reply ≡ false → is_quiet (overall q) e.op ≡ true →
@@ -32,10 +44,7 @@ lead_quiet scripts p q e cp cq plain on quiet f =
     let me = some_if q e.caller.0 is.active in
     let fol = f.runs e.caller.0 is.active in
     let here : (stand q e.caller.0).comp ≡ Some me.0 = stand_comp scripts q e.caller.0 cq.1 ∙ me.1 in
-    let t = has_turn scripts q e.caller.0 e.op cq.0.turn in
-    let call : call_at scripts e.caller.0 (stand q e.caller.0) (stand q e.caller.0).comp (stand q e.caller.0).called ≡ e.op =
-    ap (λ o. call_at scripts e.caller.0 (stand q e.caller.0) o (stand q e.caller.0).called) t.on
-    ∙ (ap (λ o. wake_or o (call_of t.me (stand q e.caller.0).bound (slice_get (steps_in (script_of scripts e.caller.0)) (stand q e.caller.0).called))) (sym fol.no_wake) ∙ t.calls) in
+    let call = next_call scripts q e fol.no_wake cq.0 in
     let now : IsQuietAt (length scripts) q e.caller.0 e.op = record { quiet = quiet; no_fault = is.no_fault } in
     let keeps = quiet_alike (length scripts) q (e ∷ q) after in
     lead scripts p q e cp cq f u (λ act.
@@ -45,11 +54,40 @@ lead_quiet scripts p q e cp cq plain on quiet f =
     (subst (λ op. IsQuietAt (length scripts) (e ∷ q) e.caller.0 op) (sym call) (keeps e.caller.0 e.op now))
     u.made (not_ending q e (stand q e.caller.0).comp me.0 u here me.1 on) (quiet_no_wake (overall q) e.op quiet) (quiet_sets_no_wake (overall q) e.op e.reply quiet)))
 
+-- the end of a run that goes on, on a component that nothing can start again
+lead_finish : (scripts : List ScriptView) (p q : List Entry) (e : Entry) → IsCourse scripts (e ∷ q) → is_fault e.reply ≡ false → is_ended e.reply ≡ false → IsEnd q e.caller.0 e.op →
+    IsFor scripts q p → IsFor scripts (e ∷ q) p
+lead_finish scripts p q e cq plain goes h f =
+    let is = plain_if (length scripts) q e.caller.0 e.op e.reply goes plain cq.0.reply in
+    let on : comp_of q e.caller.0 ≡ Some h.comp = sym (stand_comp scripts q e.caller.0 cq.1) ∙ h.on in
+    let ends : Ends q e h.comp = record {
+      op = h.finish;
+      reply = is.is ∙ rw h.finish refl;
+      not_main = h.not_main;
+      on = on;
+      runs = running_on q e h.comp is.active on;
+      ordinary = h.ordinary;
+    } in
+    lead_end scripts p q e h.comp cq f ends is.active (next_call scripts q e (f.runs e.caller.0 is.active).no_wake cq.0 ∙ h.finish)
+
 pub lead_call : (scripts : List ScriptView) (t u : Case) (run : Run) (op : Op) → IsOn scripts t → IsTurn scripts (past_of t) (taken t.behaviours (past_of t) run op) →
-    is_fault (answer t.behaviours (past_of t) run.0 op) ≡ false → is_ended (answer t.behaviours (past_of t) run.0 op) ≡ false → is_quiet (overall (past_of t)) op ≡ true →
+    is_fault (answer t.behaviours (past_of t) run.0 op) ≡ false → is_ended (answer t.behaviours (past_of t) run.0 op) ≡ false → IsSilent (past_of t) run.0 op →
     past_of u ≡ taken t.behaviours (past_of t) run op ∷ past_of t → StandsOn scripts t u
-lead_call scripts t u run op on turn plain goes quiet is =
-    λ p cp f. subst (λ x. IsFor scripts x p) (sym is) (lead_quiet scripts p (past_of t) (taken t.behaviours (past_of t) run op) cp (turn, on.course) plain goes quiet f)
+lead_call scripts t u run op on turn plain goes h is =
+    λ p cp f. subst (λ x. IsFor scripts x p) (sym is) (by_call p cp f h)
+  where
+    by_call : (p : List Entry) → IsCourse scripts p → IsFor scripts (past_of t) p → IsSilent (past_of t) run.0 op → IsFor scripts (taken t.behaviours (past_of t) run op ∷ past_of t) p
+    by_call p cp f (inl quiet) = lead_quiet scripts p (past_of t) (taken t.behaviours (past_of t) run op) cp (turn, on.course) plain goes quiet f
+    by_call p cp f (inr end) = lead_finish scripts p (past_of t) (taken t.behaviours (past_of t) run op) (turn, on.course) plain goes end f
+
+pub silent_quiet : (q : List Entry) (b : ℕ) (op : Op) → is_quiet (overall q) op ≡ true → IsSilent q b op
+silent_quiet q b op h = inl h
+
+pub silent_end : (q : List Entry) (b : ℕ) (op : Op) → IsEnd q b op → IsSilent q b op
+silent_end q b op h = inr h
+
+pub end_of : (q : List Entry) (b : ℕ) (op : Op) (c : Comp) → op ≡ O.Finish → (b == 0) ≡ false → (stand q b).comp ≡ Some c → is_alive_type q c.0 ≡ false → IsEnd q b op
+end_of q b op c finish not_main on ordinary = record { finish = finish; not_main = not_main; comp = c; on = on; ordinary = ordinary }
 
 -- a quiet call and then more
 pub stands_then : (scripts : List ScriptView) (t u v : Case) → StandsOn scripts t u → StandsOn scripts u v → StandsOn scripts t v
@@ -59,3 +97,5 @@ pub stands_self : (scripts : List ScriptView) (t : Case) → StandsOn scripts t 
 stands_self scripts t = λ p cp f. f
 
 pub ruleset searching_rules = (stands_then, stands_self)
+
+pub ruleset silent_rules = (silent_quiet, silent_end, end_of)

@@ -23,9 +23,10 @@ use Rattle.tc_table.proofs.Going.{others_halt_nothing, halted_by_entry}
 use Rattle.tc_table.proofs.KeptLemmas.{inactive}
 use Rattle.tc_explore.specs.Course.{Stand, stand, IsCourse}
 use Rattle.tc_explore.specs.Inside.Alike.{IsAlike}
-use Rattle.tc_explore.specs.Inside.Simulation.{is_quiet, IsQuietAt, call_at, IsWakeOf, IsBefore, IsParkedAt, IsFollowed, IsFor}
+use Rattle.tc_explore.specs.Inside.Simulation.{is_quiet, call_at, IsWakeOf, IsBefore, IsParkedAt, IsFollowed, IsLeaving, IsEnding, IsAhead, IsFor}
 use Rattle.tc_explore.proofs.Legality.{course_legal}
-use Rattle.tc_explore.proofs.Alike.{ChangesNothing, alike_sym, alike_then, alike_unchanged, active_alike, fault_alike}
+use Rattle.tc_explore.proofs.Alike.{ChangesNothing, alike_sym, alike_unchanged, active_alike, fault_alike}
+use Rattle.tc_explore.proofs.Ahead.{KeepsQuiet, ahead_after, ahead_turn}
 use Rattle.tc_explore.proofs.Standings.{stand_other, stand_comp}
 
 -- ---- entries that change nothing
@@ -130,10 +131,6 @@ some_if past b act = by_comp (comp_of past b) refl
     by_comp (Some c) k = (c, k)
     by_comp None k = let off = inactive past b k in absurd cc
 
--- quiet calls stay quiet
-abbrev pub KeepsQuiet : ℕ → List Entry → List Entry → Type 0
-KeepsQuiet n q r = (b : ℕ) (op : Op) → IsQuietAt n q b op → IsQuietAt n r b op
-
 pub followed_later : (scripts : List ScriptView) (q r : List Entry) (b : ℕ) (s t : Stand) → KeepsQuiet (length scripts) q r → IsFollowed scripts q b s t → IsFollowed scripts r b s t
 followed_later scripts q r b s t keeps f = record { comp = f.comp; bound = f.bound; left = f.left; no_wake = f.no_wake; place = by_wake s.wake f.place }
   where
@@ -146,9 +143,10 @@ quiet_alike n q r a b op h = record { quiet = rw a.overall_same h.quiet; no_faul
 
 -- a turn of p that changes nothing, where its caller still is where q has it or before
 pub stutter : (scripts : List ScriptView) (p q : List Entry) (e : Entry) → IsCourse scripts (e ∷ p) → IsCourse scripts q → IsFor scripts q p → ChangesNothing p e →
+    ((c : ℕ) (n : IsEnding scripts p q c) → (e.caller.0 == n.run.0) ≡ true → IsLeaving scripts q n.run.0 (stand (e ∷ p) n.run.0)) →
     (is_active q e.caller.0 ≡ true → IsFollowed scripts q e.caller.0 (stand (e ∷ p) e.caller.0) (stand q e.caller.0)) → IsFor scripts q (e ∷ p)
-stutter scripts p q e cp cq f u own = record {
-  alike = alike_then (e ∷ p) p q (alike_unchanged (length scripts) p e (course_legal scripts (e ∷ p) cp) u) f.alike;
+stutter scripts p q e cp cq f u leaves own = record {
+  ahead = ahead_turn scripts p q e cp.1 (alike_unchanged (length scripts) p e (course_legal scripts (e ∷ p) cp) u) f.ahead leaves;
   runs = λ b act. by_test b act (e.caller.0 == b) refl;
 }
   where
@@ -166,7 +164,7 @@ stutter scripts p q e cp cq f u own = record {
 pub lead : (scripts : List ScriptView) (p q : List Entry) (e : Entry) → IsCourse scripts p → IsCourse scripts (e ∷ q) → IsFor scripts q p → ChangesNothing q e →
     (is_active q e.caller.0 ≡ true → IsFollowed scripts (e ∷ q) e.caller.0 (stand p e.caller.0) (stand (e ∷ q) e.caller.0)) → IsFor scripts (e ∷ q) p
 lead scripts p q e cp cq f u own = record {
-  alike = alike_then p q (e ∷ q) f.alike (alike_sym (e ∷ q) q after);
+  ahead = ahead_after scripts p q (e ∷ q) f.ahead (alike_sym (e ∷ q) q after) (quiet_alike (length scripts) q (e ∷ q) after);
   runs = λ b act. by_test b (sym (active_alike after b) ∙ act) (e.caller.0 == b) refl;
 }
   where
@@ -185,11 +183,11 @@ lead scripts p q e cp cq f u own = record {
 
 -- a turn of both
 pub both : (scripts : List ScriptView) (p q : List Entry) (d e : Entry) → IsCourse scripts (d ∷ p) → IsCourse scripts (e ∷ q) → IsFor scripts q p → d.caller.0 ≡ e.caller.0 →
-    IsAlike (d ∷ p) (e ∷ q) → KeepsQuiet (length scripts) q (e ∷ q) →
+    IsAhead scripts (d ∷ p) (e ∷ q) → KeepsQuiet (length scripts) q (e ∷ q) →
     (is_active q e.caller.0 ≡ true → IsFollowed scripts (e ∷ q) e.caller.0 (stand (d ∷ p) e.caller.0) (stand (e ∷ q) e.caller.0)) →
     ((b : ℕ) → (e.caller.0 == b) ≡ false → comp_of q b ≡ None → is_active (e ∷ q) b ≡ true → IsFollowed scripts (e ∷ q) b (stand (d ∷ p) b) (stand (e ∷ q) b)) →
     is_active q e.caller.0 ≡ true → IsFor scripts (e ∷ q) (d ∷ p)
-both scripts p q d e cp cq f callers alike keeps own fresh acts = record { alike = alike; runs = λ b act. by_test b act (e.caller.0 == b) refl }
+both scripts p q d e cp cq f callers ahead keeps own fresh acts = record { ahead = ahead; runs = λ b act. by_test b act (e.caller.0 == b) refl }
   where
     by_comp : (b : ℕ) → is_active (e ∷ q) b ≡ true → (e.caller.0 == b) ≡ false → (o : Option Comp) → comp_of q b ≡ o → IsFollowed scripts (e ∷ q) b (stand (d ∷ p) b) (stand (e ∷ q) b)
     by_comp b act k None on = fresh b k on act

@@ -1,5 +1,5 @@
 //! A course: what is known of a case after some turns.
-ghost use Rattle.std.specs.Prelude.{◌≡◌, ◌≤◌, ◌<◌, ◌∷◌, ℕ, [], IfOk, IsTrue, None, length, slice_index_or};
+ghost use Rattle.std.specs.Prelude.{◌≡◌, ◌≤◌, ◌<◌, ◌∷◌, ℕ, [], IfOk, IfSome, IsTrue, None, Some, length, slice_index_or};
 ghost use Rattle.tc_entry.specs.declared.limits.TheConstants.{BEHAVIOURS};
 ghost use Rattle.tc_table.specs.Case.{past_of};
 ghost use Rattle.tc_table.specs.Answers as answers;
@@ -221,7 +221,9 @@ impl Course {
     }
 
     /// The component that a run is running on, if it goes on.
-    pub(crate) fn comp_of(&self, run: Run) -> Option<Comp> {
+    pub(crate) fn comp_of(&self, run: Run) -> Option<Comp>
+        ensures { IfSome result (λ c. (courses.stand (past_of self.now) run.0).comp ≡ Some c) }
+    {
         let at = usize::from(run.0);
         if at >= self.standings.len() {
             return None;

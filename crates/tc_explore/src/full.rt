@@ -1,7 +1,8 @@
-//! The search that follows the calls of all runs, but for those that change nothing but their caller's place, which it
+//! The search that follows the calls of all runs, but for those of which nobody can tell that they were made, which it
 //! makes at once. Where it comes to its end nothing is missed.
 ghost use Rattle.std.specs.Prelude.{◌≡◌, ◌≤◌, ◌<◌, ◌∷◌, ℕ, true, false, [], Some, IfOk, IsTrue, OnOk, All, length, slice_get};
 ghost use Rattle.tc_entry.specs.declared.limits.TheConstants.{BEHAVIOURS};
+ghost use Rattle.tc_entry.specs.declared.op.Op.TheVariants.{Finish};
 ghost use Rattle.tc_entry.specs.Reply as reply;
 ghost use Rattle.tc_table.specs.Case.{past_of};
 ghost use Rattle.tc_table.specs.Answers as answers;
@@ -36,17 +37,42 @@ fn is_quiet_now(op: &Op, worst: Verdict) -> bool
     }
 }
 
-// Whether a call is quiet, and no error.
-fn is_quiet_call(course: &Course, run: Run, op: &Op) -> bool
+// Whether a call ends a run.
+fn is_finish(op: &Op) -> bool
+    ensures { IsTrue result → op.now ≡ Finish }
+{
+    match op {
+        Op::Finish => true,
+        _ => false,
+    }
+}
+
+// Whether a call ends a run, but the main one, on a component that nothing can start again.
+#[tactic(auto, using(crate::proofs::Searching::silent_rules))]
+fn is_end(course: &Course, run: Run, op: &Op) -> bool
+    ensures { IsTrue result → moves.IsEnd (past_of course.now) run.0 op.now }
+{
+    if run.0 == 0 || !is_finish(op) {
+        return false;
+    }
+    match course.comp_of(run) {
+        Some(comp) => !course.is_alive_type(comp.0),
+        None => false,
+    }
+}
+
+// Whether nobody can tell that a call was made: it is quiet or an end, and no error.
+#[tactic(auto, using(crate::proofs::Searching::silent_rules))]
+fn is_silent(course: &Course, run: Run, op: &Op) -> bool
     ensures plain { IsTrue result → reply.is_fault (answers.answer course.now.behaviours (past_of course.now) run.0 op.now) ≡ false }
     ensures going { IsTrue result → reply.is_ended (answers.answer course.now.behaviours (past_of course.now) run.0 op.now) ≡ false }
-    ensures quiet { IsTrue result → moves.is_quiet (verdicts.overall (past_of course.now)) op.now ≡ true }
+    ensures silent { IsTrue result → moves.IsSilent (past_of course.now) run.0 op.now }
 {
     let reply = course.would(run, op);
     if reply.is_fault() || reply.is_ended() {
         return false;
     }
-    is_quiet_now(op, course.verdict())
+    is_quiet_now(op, course.verdict()) || is_end(course, run, op)
 }
 
 // A course, and whether it is longer than it was.
@@ -56,9 +82,9 @@ struct Advance {
     went_on: bool,
 }
 
-// The course with the next call of a run, if that is quiet and no error.
+// The course with the next call of a run, if nobody can tell that it was made.
 #[tactic(auto, using(crate::proofs::Searching::searching_rules, crate::proofs::Turning::turn_rules))]
-fn with_quiet_call(course: Course, scripts: &[Script], run: Run) -> Result<Advance, NoMemory>
+fn with_silent_call(course: Course, scripts: &[Script], run: Run) -> Result<Advance, NoMemory>
     requires on { IsOn scripts.now course }
     ensures on { IfOk result (λ a. IsOn scripts.now a.course) }
     ensures stands { IfOk result (λ a. StandsOn scripts.now course a.course) }
@@ -69,7 +95,7 @@ fn with_quiet_call(course: Course, scripts: &[Script], run: Run) -> Result<Advan
             went_on: false,
         });
     };
-    if !is_quiet_call(&course, run, &op) {
+    if !is_silent(&course, run, &op) {
         return Ok(Advance {
             course,
             went_on: false,
@@ -82,16 +108,16 @@ fn with_quiet_call(course: Course, scripts: &[Script], run: Run) -> Result<Advan
     })
 }
 
-// The course with the next quiet calls of a run.
+// The course with the next calls of a run of which nobody can tell that they were made.
 #[tactic(auto, using(crate::proofs::Searching::searching_rules))]
-fn with_quiet_calls(course: Course, scripts: &[Script], run: Run) -> Result<Course, NoMemory>
+fn with_silent_calls(course: Course, scripts: &[Script], run: Run) -> Result<Course, NoMemory>
     requires on { IsOn scripts.now course }
     ensures on { IfOk result (λ c. IsOn scripts.now c) }
     ensures stands { IfOk result (λ c. StandsOn scripts.now course c) }
 {
     let mut course = course;
-    for _ in 0..STEPS {
-        let advance = with_quiet_call(course, scripts, run)?;
+    for _ in 0..STEPS + 1 {
+        let advance = with_silent_call(course, scripts, run)?;
         course = advance.course;
         if !advance.went_on {
             return Ok(course);
@@ -100,7 +126,7 @@ fn with_quiet_calls(course: Course, scripts: &[Script], run: Run) -> Result<Cour
     Ok(course)
 }
 
-// The course with the next quiet calls of all runs.
+// The course with such calls of all runs.
 #[tactic(auto, using(crate::proofs::Searching::searching_rules))]
 fn calmed(course: Course, scripts: &[Script]) -> Result<Course, NoMemory>
     requires few { length scripts.now ≤ BEHAVIOURS }
@@ -110,7 +136,7 @@ fn calmed(course: Course, scripts: &[Script]) -> Result<Course, NoMemory>
 {
     let mut course = course;
     for run in 0..scripts.len() as u16 {
-        course = with_quiet_calls(course, scripts, Run(run))?;
+        course = with_silent_calls(course, scripts, Run(run))?;
     }
     Ok(course)
 }

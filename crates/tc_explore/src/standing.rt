@@ -1,5 +1,5 @@
 //! What is known of one run.
-ghost use Rattle.std.specs.Prelude.{◌≡◌, ◌++◌, IfOk, IsTrue, None, OnOk};
+ghost use Rattle.std.specs.Prelude.{◌≡◌, ◌++◌, IfOk, IfSome, IsTrue, None, Some, OnOk};
 ghost use Rattle.tc_explore.specs.Course as courses;
 ghost use Rattle.tc_explore.specs.Waits.{awaited_by};
 
@@ -162,7 +162,9 @@ impl Standing {
     }
 
     /// The component of the run, if it was started and its pass has not ended.
-    pub(crate) fn comp(&self) -> Option<Comp> {
+    pub(crate) fn comp(&self) -> Option<Comp>
+        ensures { IfSome result (λ c. self.now.comp ≡ Some c) }
+    {
         if self.left { None } else { self.comp }
     }
 

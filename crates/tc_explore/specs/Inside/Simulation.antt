@@ -1,5 +1,7 @@
--- A history stands for others that differ from it only in calls that change nothing but their caller's place.
-use Rattle.std.specs.Prelude.{ℕ, suc, ◌≡◌, ◌<◌, ◌≤◌, ◌⊎◌, nat_le, Bool, true, false, Option, Some, None, List, ◌∷◌, MatchOption, length, slice_get}
+-- A history stands for others that differ from it only in calls that nobody can tell were made: those that change nothing but
+-- their caller's place, and the ends of runs.
+use Rattle.std.specs.Prelude.{ℕ, suc, ◌≡◌, ◌==◌, ◌<◌, ◌≤◌, ◌⊎◌, nat_le, Bool, true, false, Option, Some, None, List, ◌∷◌, MatchOption, length, slice_get}
+use Rattle.tc_verdict.specs.declared.run.Run.{Run}
 use Rattle.tc_verdict.specs.declared.verdict.Verdict.{Verdict}
 use Rattle.tc_verdict.specs.declared.verdict.Verdict.TheVariants as V
 use Rattle.tc_verdict.specs.Verdict.{level_of}
@@ -9,18 +11,19 @@ use Rattle.tc_entry.specs.declared.entry.Entry.{Entry}
 use Rattle.tc_entry.specs.declared.op.Op.{Op}
 use Rattle.tc_entry.specs.declared.op.Op.TheVariants as O
 use Rattle.tc_entry.specs.declared.op.Target.{Target}
+use Rattle.tc_entry.specs.declared.phase.Phase.TheVariants as P
 use Rattle.tc_entry.specs.declared.reply.Reply.{Reply}
 use Rattle.tc_entry.specs.declared.reply.Reply.TheVariants as R
 use Rattle.tc_entry.specs.Reply.{is_fault}
 use Rattle.tc_step.specs.Steps.{ScriptView}
-use Rattle.tc_table.specs.History.{is_over}
+use Rattle.tc_table.specs.History.{comps, comp_of, is_alive_type, is_over}
+use Rattle.tc_table.specs.Phases.{phase}
 use Rattle.tc_table.specs.Local.{overall}
 use Rattle.tc_table.specs.Faults.{fault}
 use Rattle.tc_table.specs.Answers.{is_active}
 use Rattle.tc_explore.specs.declared.witness.Witness.{Witness}
 use Rattle.tc_explore.specs.Course.{Stand, stand, steps_in, script_of, call_of, IsTurn, IsCourse}
 use Rattle.tc_explore.specs.Told.{is_found}
-use Rattle.tc_explore.specs.Inside.Alike.{IsAlike}
 
 -- the call asks a question, or sets a verdict that is no worse than this one
 abbrev pub is_quiet : Verdict → Op → Bool
@@ -73,9 +76,48 @@ pub record IsFollowed (scripts : List ScriptView) (q : List Entry) (b : ℕ) (s 
   pub no_wake : t.wake ≡ None
   pub place : MatchOption s.wake (IsBefore scripts q b s t) (λ wake. IsParkedAt scripts b s t wake)
 
+-- the call of run b would be quiet, or ends the run
+abbrev pub IsLastAt : ℕ → List Entry → ℕ → Op → Type 0
+IsLastAt n q b op = IsQuietAt n q b op ⊎ (op ≡ O.Finish)
+
+-- a run that is known so has only quiet calls left, and its end
+pub record IsLeaving (scripts : List ScriptView) (q : List Entry) (b : ℕ) (s : Stand) : Type 0 where
+  pub no_wake : s.wake ≡ None
+  pub calls : (k : ℕ) → s.called ≤ k → IsLastAt (length scripts) q b (call_at scripts b s s.comp k)
+
+-- after p a run is leaving component c, which nothing can start again; after q it has ended
+pub record IsEnding (scripts : List ScriptView) (p q : List Entry) (c : ℕ) : Type 0 where
+  pub run : Run
+  pub running : phase p c ≡ P.Running run
+  pub ended : phase q c ≡ P.Killed
+  pub not_main : (run.0 == 0) ≡ false
+  pub on : comp_of p run.0 ≡ Some (record { 0 = c })
+  pub ordinary : is_alive_type p c ≡ false
+  pub leaving : IsLeaving scripts q run.0 (stand p run.0)
+
+-- the same is known after both, but that runs which are leaving after p have ended after q
+pub record IsAhead (scripts : List ScriptView) (p q : List Entry) : Type 0 where
+  pub comps_same : comps p ≡ comps q
+  pub phases : (c : ℕ) → (phase p c ≡ phase q c) ⊎ IsEnding scripts p q c
+  pub kind_same : (c : ℕ) → is_alive_type p c ≡ is_alive_type q c
+  pub comp_same : (b : ℕ) → comp_of p b ≡ comp_of q b
+  pub overall_same : overall p ≡ overall q
+
+-- the call ends run b, which is not the main one, on a component that nothing can start again
+pub record IsEnd (q : List Entry) (b : ℕ) (op : Op) : Type 0 where
+  pub finish : op ≡ O.Finish
+  pub not_main : (b == 0) ≡ false
+  pub comp : Comp
+  pub on : (stand q b).comp ≡ Some comp
+  pub ordinary : is_alive_type q comp.0 ≡ false
+
+-- nobody can tell that run b made this call
+abbrev pub IsSilent : List Entry → ℕ → Op → Type 0
+IsSilent q b op = (is_quiet (overall q) op ≡ true) ⊎ IsEnd q b op
+
 -- q stands for p
 pub record IsFor (scripts : List ScriptView) (q p : List Entry) : Type 0 where
-  pub alike : IsAlike p q
+  pub ahead : IsAhead scripts p q
   pub runs : (b : ℕ) → is_active q b ≡ true → IsFollowed scripts q b (stand p b) (stand q b)
 
 -- each history that q stands for has one of these that stands for it

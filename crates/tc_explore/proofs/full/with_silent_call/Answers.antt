@@ -1,12 +1,11 @@
-use Rattle.std.proofs.Common.{rules, ◌≡◌, ◌∷◌, true, false}
+use Rattle.std.proofs.Common.{rules, ◌≡◌, ◌∷◌, false}
 use Rattle.tc_entry.specs.Reply.{is_ended, is_fault}
 use Rattle.tc_table.specs.Case.{past_of}
-use Rattle.tc_table.specs.Local.{overall}
 use Rattle.tc_table.specs.Answers.{answer}
 use Rattle.tc_explore.specs.Course.{IsTurn, taken}
-use Rattle.tc_explore.specs.Inside.Simulation.{is_quiet}
+use Rattle.tc_explore.specs.Inside.Simulation.{IsSilent}
 use Rattle.tc_explore.proofs.Searching.{lead_call}
-use Rattle.tc_explore.proofs.full.with_quiet_call.Goals as goal
+use Rattle.tc_explore.proofs.full.with_silent_call.Goals as goal
 
 pub returns-clause-stands : goal.returns-clause-stands
 returns-clause-stands c =
@@ -14,6 +13,6 @@ returns-clause-stands c =
     let turn : IsTurn c.args.scripts.now (past_of t) (taken t.behaviours (past_of t) c.args.run c.in-Some.op) = search rules in
     let plain : is_fault (answer t.behaviours (past_of t) c.args.run.0 c.in-Some.op) ≡ false = search rules in
     let goes : is_ended (answer t.behaviours (past_of t) c.args.run.0 c.in-Some.op) ≡ false = search rules in
-    let quiet : is_quiet (overall (past_of t)) c.in-Some.op ≡ true = search rules in
+    let silent : IsSilent (past_of t) c.args.run.0 c.in-Some.op = search rules in
     let added : past_of c.in_ok-course.course ≡ taken t.behaviours (past_of t) c.args.run c.in-Some.op ∷ past_of t = search rules in
-    lead_call c.args.scripts.now t c.in_ok-course.course c.args.run c.in-Some.op c.requires.on turn plain goes quiet added
+    lead_call c.args.scripts.now t c.in_ok-course.course c.args.run c.in-Some.op c.requires.on turn plain goes silent added

@@ -1,0 +1,358 @@
+-- What holds of a history that is ahead of another by the ends of runs.
+use Rattle.std.proofs.Common.{ℕ, ◌≡◌, ◌==◌, ◌||◌, ◌&&◌, ◌⊎◌, inl, inr, not, if◌then◌else◌, nat_le, Bool, true, false, Option, Some, None, is_some, List, [], ◌∷◌, length, drop, refl, ap, sym, subst, ◌∙◌}
+use Rattle.std.specs.List.{list_any, list_all}
+use Rattle.tc_verdict.specs.declared.run.Run.{Run}
+use Rattle.tc_entry.specs.declared.limits.TheConstants.{COMPONENTS}
+use Rattle.tc_entry.specs.declared.comp.Comp.{Comp}
+use Rattle.tc_entry.specs.declared.entry.Entry.{Entry}
+use Rattle.tc_entry.specs.declared.op.Op.{Op}
+use Rattle.tc_entry.specs.declared.op.Op.TheVariants as O
+use Rattle.tc_entry.specs.declared.op.Target.{Target}
+use Rattle.tc_entry.specs.declared.op.Target.TheVariants as T
+use Rattle.tc_entry.specs.declared.phase.Phase.{Phase}
+use Rattle.tc_entry.specs.declared.phase.Phase.TheVariants as P
+use Rattle.tc_entry.specs.declared.reply.Fault.TheVariants as F
+use Rattle.tc_entry.specs.declared.reply.Reply.{Reply}
+use Rattle.tc_entry.specs.declared.reply.Reply.TheVariants as R
+use Rattle.tc_entry.specs.Reply.{is_ended, is_fault}
+use Rattle.tc_step.specs.Steps.{ScriptView}
+use Rattle.tc_table.specs.declared.awaited.Awaited.{Awaited}
+use Rattle.tc_table.specs.History.{comp_of, ptcs, exists, is_in, created, add_new, halts, kills}
+use Rattle.tc_table.specs.Phases.{phase, start_in}
+use Rattle.tc_table.specs.Status.{done, killed, is_running, is_killed, is_done}
+use Rattle.tc_table.specs.Local.{gives}
+use Rattle.tc_table.specs.Waiting.{holds}
+use Rattle.tc_table.specs.Faults.{fault, names, all_exist, asks_many, special_fault, start_fault, components}
+use Rattle.tc_table.specs.Answers.{answer, plain_answer, is_active, is_active_on, is_run_of}
+use Rattle.tc_table.specs.Legal.{IsLegal}
+use Rattle.tc_table.specs.Inside.Step.{next_phase, next_local}
+use Rattle.tc_table.proofs.Deciding.{self_equal, equal_if}
+use Rattle.tc_table.proofs.Keeping.{all_exist_same}
+use Rattle.tc_table.proofs.Over.{on_existing}
+use Rattle.tc_table.proofs.Going.{starts_still}
+use Rattle.tc_table.proofs.Sound.{plain_if}
+use Rattle.tc_explore.specs.Course.{Stand, stand, IsCourse}
+use Rattle.tc_explore.specs.Inside.Alike.{IsAlike}
+use Rattle.tc_explore.specs.Inside.Simulation.{goes_on, IsQuietAt, call_at, IsLastAt, IsLeaving, IsEnding, IsAhead}
+use Rattle.tc_explore.proofs.Alike.{is_plain_call, phase_next, overall_next}
+use Rattle.tc_explore.proofs.Standings.{stand_comp, stand_other}
+
+-- ---- waits
+
+any_more : (f g : ℕ → Bool) (xs : List ℕ) → ((x : ℕ) → f x ≡ true → g x ≡ true) → list_any f xs ≡ true → list_any g xs ≡ true
+any_more f g [] h k = k
+any_more f g (x ∷ xs) h k = by_test (any_more f g xs h) (f x) refl k
+  where
+    or_yes : (t : Bool) → (t || true) ≡ true
+    or_yes true = refl
+    or_yes false = refl
+
+    by_test : (list_any f xs ≡ true → list_any g xs ≡ true) → (t : Bool) → f x ≡ t → (t || list_any f xs) ≡ true → (g x || list_any g xs) ≡ true
+    by_test rest true j l = rw (h x j) refl
+    by_test rest false j l = rw (rest l) (or_yes (g x))
+
+all_more : (f g : ℕ → Bool) (xs : List ℕ) → ((x : ℕ) → f x ≡ true → g x ≡ true) → list_all f xs ≡ true → list_all g xs ≡ true
+all_more f g [] h k = k
+all_more f g (x ∷ xs) h k = by_test (all_more f g xs h) (f x) refl k
+  where
+    by_test : (list_all f xs ≡ true → list_all g xs ≡ true) → (t : Bool) → f x ≡ t → (t && list_all f xs) ≡ true → (g x && list_all g xs) ≡ true
+    by_test rest true j l = rw (h x j, rest l) refl
+    by_test rest false j l = absurd cc
+
+module _ {scripts : List ScriptView} {p q : List Entry} where
+  phase_more : IsAhead scripts p q → (g : Phase → Bool) → g P.Killed ≡ true → (c : ℕ) → g (phase p c) ≡ true → g (phase q c) ≡ true
+  phase_more s g k c h = by_phase (s.phases c)
+    where
+      by_phase : (phase p c ≡ phase q c) ⊎ IsEnding scripts p q c → g (phase q c) ≡ true
+      by_phase (inl e) = ap g (sym e) ∙ h
+      by_phase (inr n) = ap g n.ended ∙ k
+
+  any_ahead : IsAhead scripts p q → (g : Phase → Bool) → g P.Killed ≡ true → list_any (λ c. g (phase p c)) (ptcs p) ≡ true → list_any (λ c. g (phase q c)) (ptcs q) ≡ true
+  any_ahead s g k h =
+      any_more (λ c. g (phase p c)) (λ c. g (phase q c)) (ptcs q) (phase_more s g k) (ap (λ cs. list_any (λ c. g (phase p c)) (drop 1 cs)) (sym s.comps_same) ∙ h)
+
+  all_ahead : IsAhead scripts p q → (g : Phase → Bool) → g P.Killed ≡ true → list_all (λ c. g (phase p c)) (ptcs p) ≡ true → list_all (λ c. g (phase q c)) (ptcs q) ≡ true
+  all_ahead s g k h =
+      all_more (λ c. g (phase p c)) (λ c. g (phase q c)) (ptcs q) (phase_more s g k) (ap (λ cs. list_all (λ c. g (phase p c)) (drop 1 cs)) (sym s.comps_same) ∙ h)
+
+  done_ahead : IsAhead scripts p q → (t : Target) → done p t ≡ true → done q t ≡ true
+  unfolding done
+  done_ahead s (T.One c) h = phase_more s is_done refl c.0 h
+  done_ahead s T.Any h = any_ahead s is_done refl h
+  done_ahead s T.All h = all_ahead s (λ ph. not (is_running ph)) refl h
+
+  killed_ahead : IsAhead scripts p q → (t : Target) → killed p t ≡ true → killed q t ≡ true
+  unfolding killed
+  killed_ahead s (T.One c) h = phase_more s is_killed refl c.0 h
+  killed_ahead s T.Any h = any_ahead s is_killed refl h
+  killed_ahead s T.All h = all_ahead s is_killed refl h
+
+  -- what has come stays so
+  pub holds_ahead : IsAhead scripts p q → (a : Awaited) → holds p a ≡ true → holds q a ≡ true
+  unfolding holds
+  holds_ahead s a h = by_kind a.killed h
+    where
+      by_kind : (t : Bool) → (if t then killed p a.target else done p a.target) ≡ true → (if t then killed q a.target else done q a.target) ≡ true
+      by_kind true k = killed_ahead s a.target k
+      by_kind false k = done_ahead s a.target k
+
+-- ---- who goes on
+
+not_run : (b : ℕ) (ph : Phase) → ph ≡ P.Killed → is_run_of b ph ≡ false
+not_run b ph h = ap (is_run_of b) h
+
+module _ {scripts : List ScriptView} {p q : List Entry} where
+  pub ending_active : (c : ℕ) (n : IsEnding scripts p q c) → is_active p n.run.0 ≡ true
+  unfolding is_active
+  ending_active c n = rw n.on (ap (is_run_of n.run.0) n.running ∙ self_equal n.run.0)
+
+  pub ended_inactive : IsAhead scripts p q → (c : ℕ) (n : IsEnding scripts p q c) → is_active q n.run.0 ≡ false
+  unfolding is_active
+  ended_inactive s c n = ap (is_active_on q n.run.0) (sym (s.comp_same n.run.0) ∙ n.on) ∙ not_run n.run.0 (phase q c) n.ended
+
+  -- a run that goes on after q is not among those that are leaving
+  pub not_ending_run : IsAhead scripts p q → (b : ℕ) → is_active q b ≡ true → (c : ℕ) (n : IsEnding scripts p q c) → (b == n.run.0) ≡ false
+  not_ending_run s b act c n = by_test (b == n.run.0) refl
+    where
+      by_test : (t : Bool) → (b == n.run.0) ≡ t → t ≡ false
+      by_test false k = refl
+      by_test true k =
+          let on : is_active q b ≡ is_active q n.run.0 = ap (is_active q) (equal_if b n.run.0 k) in
+          let off : is_active q n.run.0 ≡ false = ended_inactive s c n in
+          absurd cc
+
+  pub active_back : IsAhead scripts p q → (b : ℕ) → is_active q b ≡ true → is_active p b ≡ true
+  unfolding is_active
+  active_back s b h = ap (is_active_on p b) (s.comp_same b) ∙ by_comp (comp_of q b) h
+    where
+      by_comp : (o : Option Comp) → is_active_on q b o ≡ true → is_active_on p b o ≡ true
+      by_comp None k = absurd cc
+      by_comp (Some c) k = by_phase (s.phases c.0)
+        where
+          by_phase : (phase p c.0 ≡ phase q c.0) ⊎ IsEnding scripts p q c.0 → is_run_of b (phase p c.0) ≡ true
+          by_phase (inl e) = ap (is_run_of b) e ∙ k
+          by_phase (inr n) = let off : is_run_of b (phase q c.0) ≡ false = not_run b (phase q c.0) n.ended in absurd cc
+
+  pub active_forth : IsAhead scripts p q → (b : ℕ) → is_active p b ≡ true → (is_active q b ≡ true) ⊎ ((c : ℕ) × (n : IsEnding scripts p q c) × (n.run.0 ≡ b))
+  unfolding is_active
+  active_forth s b h = by_comp (comp_of p b) refl h
+    where
+      by_comp : (o : Option Comp) → comp_of p b ≡ o → is_active_on p b o ≡ true → (is_active q b ≡ true) ⊎ ((c : ℕ) × (n : IsEnding scripts p q c) × (n.run.0 ≡ b))
+      by_comp None on k = absurd cc
+      by_comp (Some c) on k = by_phase (s.phases c.0)
+        where
+          by_phase : (phase p c.0 ≡ phase q c.0) ⊎ IsEnding scripts p q c.0 → (is_active q b ≡ true) ⊎ ((c : ℕ) × (n : IsEnding scripts p q c) × (n.run.0 ≡ b))
+          by_phase (inl e) = inl (ap (is_active_on q b) (sym (s.comp_same b) ∙ on) ∙ (ap (is_run_of b) (sym e) ∙ k))
+          by_phase (inr n) = inr (c.0, n, equal_if n.run.0 b (ap (is_run_of b) (sym n.running) ∙ k))
+
+-- ---- errors
+
+pub none_too : {A : Type 0} (f g : Option A) → is_some f ≡ is_some g → f ≡ None → g ≡ None
+none_too f None h k = refl
+none_too None (Some y) h k = absurd cc
+none_too (Some x) (Some y) h k = absurd cc
+
+pub some_too : {A : Type 0} (f g : Option A) (x : A) → is_some f ≡ is_some g → f ≡ Some x → (y : A) × (g ≡ Some y)
+some_too f (Some y) x h k = (y, refl)
+some_too None None x h k = absurd cc
+some_too (Some z) None x h k = absurd cc
+
+some_if_both : {A : Type 0} (t : Bool) (x y z : A) → is_some (if t then Some x else Some y) ≡ is_some (if t then Some x else Some z)
+some_if_both true x y z = refl
+some_if_both false x y z = refl
+
+some_if_all : {A : Type 0} (s t : Bool) (x y : A) (f g : Option A) → is_some f ≡ is_some g → is_some (if s then Some x else if t then Some y else f) ≡ is_some (if s then Some x else if t then Some y else g)
+some_if_all true t x y f g h = refl
+some_if_all false true x y f g h = refl
+some_if_all false false x y f g h = h
+
+module _ {scripts : List ScriptView} {p q : List Entry} where
+  start_ahead : IsAhead scripts p q → (n c b : ℕ) → is_some (start_fault n p c b) ≡ is_some (start_fault n q c b)
+  unfolding start_fault
+  start_ahead s n c b = by_phase (s.phases c)
+    where
+      by_phase : (phase p c ≡ phase q c) ⊎ IsEnding scripts p q c → is_some (start_fault n p c b) ≡ is_some (start_fault n q c b)
+      by_phase (inl e) = rw (e, s.comp_same b) refl
+      by_phase (inr m) = rw (m.running, m.ended) (some_if_both (c == 0) F.StartMain F.AlreadyRunning F.NotStartable)
+
+  special_ahead : IsAhead scripts p q → (n : ℕ) (op : Op) → is_some (special_fault n p op) ≡ is_some (special_fault n q op)
+  unfolding components
+  special_ahead s n (O.Create alive name) = ap (λ cs. is_some (if nat_le COMPONENTS (length cs) then Some F.TooMany else None)) s.comps_same
+  special_ahead s n (O.Start c run args) = start_ahead s n c.0 run.0
+  special_ahead s n _ = refl
+
+  -- a call is an error in both or in none
+  pub fault_ahead : IsAhead scripts p q → (n b : ℕ) (op : Op) → is_some (fault n p b op) ≡ is_some (fault n q b op)
+  unfolding fault
+  fault_ahead s n b op =
+      rw (all_exist_same p q (names op) s.comps_same)
+      (some_if_all (not (all_exist q (names op))) (asks_many op && not (b == 0)) F.NoComponent F.NotMain (special_fault n p op) (special_fault n q op) (special_ahead s n op))
+
+-- ---- replies
+
+ended_goes_not : (r : Reply) → goes_on r ≡ true → is_ended r ≡ false
+ended_goes_not R.Ended h = absurd cc
+ended_goes_not _ h = refl
+
+answer_as : (n : ℕ) (past : List Entry) (b : ℕ) (op : Op) → is_active past b ≡ true → fault n past b op ≡ None → answer n past b op ≡ plain_answer past b op
+unfolding answer
+answer_as n past b op act h = rw (act, h) refl
+
+module _ {scripts : List ScriptView} {p q : List Entry} where
+  plain_ahead : IsAhead scripts p q → (b : ℕ) (op : Op) → is_plain_call op ≡ true → goes_on (plain_answer p b op) ≡ true → plain_answer p b op ≡ plain_answer q b op
+  unfolding components
+  plain_ahead s b (O.Create alive name) h g = ap (λ (cs : List ℕ). R.Made (record { 0 = length cs })) s.comps_same
+  plain_ahead s b (O.Start c run args) h g = refl
+  plain_ahead s b (O.Stop t) h g = refl
+  plain_ahead s b (O.Kill t) h g = refl
+  plain_ahead s b (O.Wait k t) h g = by_test (holds p (record { killed = k; target = t })) refl g
+    where
+      by_test : (z : Bool) → holds p (record { killed = k; target = t }) ≡ z → goes_on (if z then R.Matched else R.Parked) ≡ true →
+          (if z then R.Matched else R.Parked) ≡ (if holds q (record { killed = k; target = t }) then R.Matched else R.Parked)
+      by_test true j l = rw (holds_ahead s (record { killed = k; target = t }) j) refl
+      by_test false j l = absurd cc
+  plain_ahead s b O.StopCase h g = refl
+  plain_ahead s b (O.SetVerdict v) h g = refl
+  plain_ahead s b O.Finish h g = refl
+  plain_ahead s b _ h g = absurd cc
+
+  -- a call that is no error and is not parked is answered alike
+  pub answer_ahead : IsAhead scripts p q → (n b : ℕ) (op : Op) → is_plain_call op ≡ true → is_active q b ≡ true → goes_on (answer n p b op) ≡ true → is_fault (answer n p b op) ≡ false → answer n p b op ≡ answer n q b op
+  answer_ahead s n b op h act on plain =
+      let is = plain_if n p b op (answer n p b op) (ended_goes_not (answer n p b op) on) plain refl in
+      let none : fault n q b op ≡ None = none_too (fault n p b op) (fault n q b op) (fault_ahead s n b op) is.no_fault in
+      is.is ∙ (plain_ahead s b op h (ap goes_on (sym is.is) ∙ on) ∙ sym (answer_as n q b op act none))
+
+-- ---- after more entries
+
+-- quiet calls stay quiet
+abbrev pub KeepsQuiet : ℕ → List Entry → List Entry → Type 0
+KeepsQuiet n q r = (b : ℕ) (op : Op) → IsQuietAt n q b op → IsQuietAt n r b op
+
+pub leaving_later : (scripts : List ScriptView) (q r : List Entry) (b : ℕ) (s : Stand) → KeepsQuiet (length scripts) q r → IsLeaving scripts q b s → IsLeaving scripts r b s
+leaving_later scripts q r b s keeps l = record { no_wake = l.no_wake; calls = λ k m. by_call (call_at scripts b s s.comp k) (l.calls k m) }
+  where
+    by_call : (op : Op) → IsLastAt (length scripts) q b op → IsLastAt (length scripts) r b op
+    by_call op (inl h) = inl (keeps b op h)
+    by_call op (inr h) = inr h
+
+pub ahead_self : (scripts : List ScriptView) (p : List Entry) → IsAhead scripts p p
+ahead_self scripts p = record { comps_same = refl; phases = λ c. inl refl; kind_same = λ c. refl; comp_same = λ b. refl; overall_same = refl }
+
+-- q changes to what is alike
+pub ahead_after : (scripts : List ScriptView) (p q r : List Entry) → IsAhead scripts p q → IsAlike q r → KeepsQuiet (length scripts) q r → IsAhead scripts p r
+ahead_after scripts p q r s a keeps = record {
+  comps_same = s.comps_same ∙ a.comps_same;
+  phases = λ c. by_phase c (s.phases c);
+  kind_same = λ c. s.kind_same c ∙ a.kind_same c;
+  comp_same = λ b. s.comp_same b ∙ a.comp_same b;
+  overall_same = s.overall_same ∙ a.overall_same;
+}
+  where
+    by_phase : (c : ℕ) → (phase p c ≡ phase q c) ⊎ IsEnding scripts p q c → (phase p c ≡ phase r c) ⊎ IsEnding scripts p r c
+    by_phase c (inl e) = inl (e ∙ a.phase_same c)
+    by_phase c (inr n) = inr (record {
+      run = n.run;
+      running = n.running;
+      ended = sym (a.phase_same c) ∙ n.ended;
+      not_main = n.not_main;
+      on = n.on;
+      ordinary = n.ordinary;
+      leaving = leaving_later scripts q r n.run.0 (stand p n.run.0) keeps n.leaving;
+    })
+
+-- what is known of a run that is leaving, after an entry of another
+pub leaving_other : (scripts : List ScriptView) (p q : List Entry) (e : Entry) (c : ℕ) (n : IsEnding scripts p q c) → IsCourse scripts p → (e.caller.0 == n.run.0) ≡ false → IsLeaving scripts q n.run.0 (stand (e ∷ p) n.run.0)
+leaving_other scripts p q e c n cp other =
+    let here : (stand p n.run.0).comp ≡ Some (record { 0 = c }) = stand_comp scripts p n.run.0 cp ∙ n.on in
+    subst (λ s. IsLeaving scripts q n.run.0 s) (sym (stand_other p e n.run.0 (record { 0 = c }) other here)) n.leaving
+
+-- one more entry of p, after which all is alike
+pub ahead_turn : (scripts : List ScriptView) (p q : List Entry) (e : Entry) → IsCourse scripts p → IsAlike (e ∷ p) p → IsAhead scripts p q →
+    ((c : ℕ) (n : IsEnding scripts p q c) → (e.caller.0 == n.run.0) ≡ true → IsLeaving scripts q n.run.0 (stand (e ∷ p) n.run.0)) → IsAhead scripts (e ∷ p) q
+ahead_turn scripts p q e cp a s own = record {
+  comps_same = a.comps_same ∙ s.comps_same;
+  phases = λ c. by_phase c (s.phases c);
+  kind_same = λ c. a.kind_same c ∙ s.kind_same c;
+  comp_same = λ b. a.comp_same b ∙ s.comp_same b;
+  overall_same = a.overall_same ∙ s.overall_same;
+}
+  where
+    by_test : (c : ℕ) (n : IsEnding scripts p q c) → (t : Bool) → (e.caller.0 == n.run.0) ≡ t → IsLeaving scripts q n.run.0 (stand (e ∷ p) n.run.0)
+    by_test c n true k = own c n k
+    by_test c n false k = leaving_other scripts p q e c n cp k
+
+    by_phase : (c : ℕ) → (phase p c ≡ phase q c) ⊎ IsEnding scripts p q c → (phase (e ∷ p) c ≡ phase q c) ⊎ IsEnding scripts (e ∷ p) q c
+    by_phase c (inl h) = inl (a.phase_same c ∙ h)
+    by_phase c (inr n) = inr (record {
+      run = n.run;
+      running = a.phase_same c ∙ n.running;
+      ended = n.ended;
+      not_main = n.not_main;
+      on = a.comp_same n.run.0 ∙ n.on;
+      ordinary = a.kind_same c ∙ n.ordinary;
+      leaving = by_test c n (e.caller.0 == n.run.0) refl;
+    })
+
+-- ---- the same entry of both
+
+not_started : (n : ℕ) (past : List Entry) (e : Entry) (c : ℕ) (r : Run) → IsLegal n (e ∷ past) → phase past c ≡ P.Running r → start_in e c ≡ None
+not_started n past e c r legal running = by_some (start_in e c) refl
+  where
+    by_some : (o : Option Run) → start_in e c ≡ o → o ≡ None
+    by_some None k = refl
+    by_some (Some x) k =
+        let off : is_running (phase past c) ≡ false = starts_still n past e c x legal.0 k in
+        let on : is_running (phase past c) ≡ true = ap is_running running in
+        absurd cc
+
+module _ (scripts : List ScriptView) (p q : List Entry) (e : Entry) (cp : IsCourse scripts p) (lp : IsLegal (length scripts) (e ∷ p)) (lq : IsLegal (length scripts) (e ∷ q)) (s : IsAhead scripts p q)
+    (act : is_active q e.caller.0 ≡ true) (keeps : KeepsQuiet (length scripts) q (e ∷ q)) where
+  exists_same : (c : ℕ) → exists p c ≡ exists q c
+  unfolding exists
+  exists_same c = ap (is_in c) s.comps_same
+
+  after_same : (c : ℕ) → phase p c ≡ phase q c → phase (e ∷ p) c ≡ phase (e ∷ q) c
+  after_same c h = phase_next (length scripts) p e c lp ∙ (rw (exists_same c, s.comp_same e.caller.0, s.kind_same c, h) refl ∙ sym (phase_next (length scripts) q e c lq))
+
+  after_ending : (c : ℕ) → IsEnding scripts p q c → (phase (e ∷ p) c ≡ phase (e ∷ q) c) ⊎ IsEnding scripts (e ∷ p) (e ∷ q) c
+  after_ending c n = by_tests (kills e c) (halts (comp_of p e.caller.0) e c) refl refl
+    where
+      there : exists p c ≡ true
+      there = on_existing (length scripts) p n.run.0 (record { 0 = c }) lp.1 n.on
+
+      none : start_in e c ≡ None
+      none = not_started (length scripts) p e c n.run lp n.running
+
+      after_p : phase (e ∷ p) c ≡ next_phase (kills e c) None (halts (comp_of p e.caller.0) e c) false (P.Running n.run)
+      after_p = phase_next (length scripts) p e c lp ∙ rw (there, none, n.ordinary, n.running) refl
+
+      after_q : phase (e ∷ q) c ≡ next_phase (kills e c) None (halts (comp_of p e.caller.0) e c) false P.Killed
+      after_q = phase_next (length scripts) q e c lq ∙ rw (← exists_same c, ← s.comp_same e.caller.0, ← s.kind_same c, there, none, n.ordinary, n.ended) refl
+
+      by_tests : (k h : Bool) → kills e c ≡ k → halts (comp_of p e.caller.0) e c ≡ h → (phase (e ∷ p) c ≡ phase (e ∷ q) c) ⊎ IsEnding scripts (e ∷ p) (e ∷ q) c
+      by_tests true h i j = inl (after_p ∙ (rw i refl ∙ sym after_q))
+      by_tests false true i j = inl (after_p ∙ (rw (i, j) refl ∙ sym after_q))
+      by_tests false false i j = inr (record {
+        run = n.run;
+        running = after_p ∙ rw (i, j) refl;
+        ended = after_q ∙ rw (i, j) refl;
+        not_main = n.not_main;
+        on = rw n.on refl;
+        ordinary = rw (there, n.ordinary) refl;
+        leaving = leaving_later scripts q (e ∷ q) n.run.0 (stand (e ∷ p) n.run.0) keeps (leaving_other scripts p q e c n cp (not_ending_run s e.caller.0 act c n));
+      })
+
+  pub ahead_step : IsAhead scripts (e ∷ p) (e ∷ q)
+  unfolding exists
+  ahead_step = record {
+    comps_same = ap (add_new (created e.op e.reply)) s.comps_same;
+    phases = λ c. by_phase c (s.phases c);
+    kind_same = λ c. rw (s.comps_same, s.kind_same c) refl;
+    comp_same = λ b. rw (s.comp_same b) refl;
+    overall_same = overall_next (length scripts) p e lp ∙ (ap (next_local (gives e.op e.reply)) s.overall_same ∙ sym (overall_next (length scripts) q e lq));
+  }
+    where
+      by_phase : (c : ℕ) → (phase p c ≡ phase q c) ⊎ IsEnding scripts p q c → (phase (e ∷ p) c ≡ phase (e ∷ q) c) ⊎ IsEnding scripts (e ∷ p) (e ∷ q) c
+      by_phase c (inl h) = inl (after_same c h)
+      by_phase c (inr n) = after_ending c n

@@ -1,0 +1,301 @@
+-- What the end of a run does that nobody can tell.
+use Rattle.std.proofs.Common.{ℕ, ◌≡◌, ◌≤◌, ◌<◌, ◌==◌, ◌||◌, ◌⊎◌, inl, inr, nat_lt, not, if◌then◌else◌, Bool, true, false, Option, Some, None, is_some, MatchOption, List, ◌∷◌, length, slice_get, get_or, refl, ap, sym, subst, ◌∙◌, arith}
+use Rattle.std.proofs.lemmas.Bool.Decides.{nat_tests}
+use Rattle.std.proofs.lemmas.Option.{slice_get_within, slice_get-get_or}
+use Rattle.tc_entry.specs.declared.comp.Comp.{Comp}
+use Rattle.tc_entry.specs.declared.entry.Entry.{Entry}
+use Rattle.tc_entry.specs.declared.op.Op.{Op}
+use Rattle.tc_entry.specs.declared.op.Op.TheVariants as O
+use Rattle.tc_entry.specs.declared.phase.Phase.{Phase}
+use Rattle.tc_entry.specs.declared.phase.Phase.TheVariants as P
+use Rattle.tc_entry.specs.declared.reply.Reply.TheVariants as R
+use Rattle.tc_step.specs.declared.step.Step.{Step}
+use Rattle.tc_step.specs.declared.step.Step.TheVariants as S
+use Rattle.tc_step.specs.declared.step.Status.TheVariants as Q
+use Rattle.tc_step.specs.Steps.{ScriptView}
+use Rattle.tc_table.specs.declared.component_state.ComponentState.{ComponentState}
+use Rattle.tc_table.specs.History.{comps, comp_of, exists, is_alive_type, started_on, halts, kills, ends_case}
+use Rattle.tc_table.specs.Phases.{phase, start_in}
+use Rattle.tc_table.specs.Local.{overall}
+use Rattle.tc_table.specs.Answers.{is_active, is_active_on, is_run_of}
+use Rattle.tc_table.specs.Legal.{IsLegal}
+use Rattle.tc_table.proofs.Deciding.{self_equal, equal_if, and_left}
+use Rattle.tc_table.proofs.Over.{on_existing}
+use Rattle.tc_table.proofs.LawsOfHistories.{runs_if_active}
+use Rattle.tc_table.proofs.Going.{halted_by_entry, started_by_entry}
+use Rattle.tc_explore.specs.Course.{Stand, stand, call_of, steps_in, script_of, IsCourse}
+use Rattle.tc_explore.specs.Inside.Simulation.{call_at, IsBefore, IsParkedAt, IsFollowed, IsLastAt, IsLeaving, IsEnding, IsFor}
+use Rattle.tc_explore.proofs.Legality.{course_legal}
+use Rattle.tc_explore.proofs.Alike.{phase_next, kind_kept, first_kept, fresh, overall_next}
+use Rattle.tc_explore.proofs.Ahead.{KeepsQuiet, leaving_later, leaving_other, ended_inactive}
+use Rattle.tc_explore.proofs.Standings.{stand_comp, stand_other}
+use Rattle.tc_explore.proofs.Simulation.{some_if, followed_later}
+use Rattle.tc_explore.proofs.Places.{keeps_quiet}
+
+-- the entry ends its caller, which is not the main run, on this component, which is not alive-type
+pub record Ends (past : List Entry) (e : Entry) (c : Comp) : Type 0 where
+  pub op : e.op ≡ O.Finish
+  pub reply : e.reply ≡ R.Ok
+  pub not_main : (e.caller.0 == 0) ≡ false
+  pub on : comp_of past e.caller.0 ≡ Some c
+  pub runs : phase past c.0 ≡ P.Running e.caller
+  pub ordinary : is_alive_type past c.0 ≡ false
+
+-- a run that goes on is what its component is running
+pub running_on : (past : List Entry) (e : Entry) (c : Comp) → is_active past e.caller.0 ≡ true → comp_of past e.caller.0 ≡ Some c → phase past c.0 ≡ P.Running e.caller
+running_on past e c act on =
+    let r = runs_if_active past e act in
+    let some : Some r.0 ≡ Some c = sym r.1.0 ∙ on in
+    let same : r.0 ≡ c = cc in
+    ap (λ (d : Comp). phase past d.0) (sym same) ∙ r.1.1
+
+module _ {past : List Entry} {e : Entry} {c : Comp} where
+  no_kill : Ends past e c → (d : ℕ) → kills e d ≡ false
+  no_kill h d = rw (h.op, h.reply, h.not_main) refl
+
+  pub ends_no_case : Ends past e c → ends_case e ≡ false
+  ends_no_case h = rw (h.op, h.reply, h.not_main) refl
+
+  none_started : Ends past e c → (d : ℕ) → start_in e d ≡ None
+  none_started h d = rw (h.op, h.reply) refl
+
+  none_run : Ends past e c → (b : ℕ) → started_on e b ≡ None
+  none_run h b = rw (h.op, h.reply) refl
+
+  halts_one : Ends past e c → (d : ℕ) → halts (comp_of past e.caller.0) e d ≡ (c.0 == d)
+  halts_one h d = rw (h.on, h.op, h.reply, h.not_main) (or_nos (c.0 == d))
+    where
+      or_nos : (t : Bool) → (t || false || false) ≡ t
+      or_nos true = refl
+      or_nos false = refl
+
+  pub end_here : (n : ℕ) → IsLegal n (e ∷ past) → Ends past e c → phase (e ∷ past) c.0 ≡ P.Killed
+  end_here n legal h =
+      phase_next n past e c.0 legal
+      ∙ rw (on_existing n past e.caller.0 c legal.1 h.on, no_kill h c.0, none_started h c.0, halts_one h c.0, self_equal c.0, h.ordinary, h.runs) refl
+
+  pub end_elsewhere : (n : ℕ) → IsLegal n (e ∷ past) → Ends past e c → (d : ℕ) → (c.0 == d) ≡ false → phase (e ∷ past) d ≡ phase past d
+  end_elsewhere n legal h d other =
+      phase_next n past e d legal
+      ∙ (rw (no_kill h d, none_started h d, halts_one h d, other) refl
+      ∙ kept_by (exists past d) (phase past d) (λ k. ap (λ (s : ComponentState). s.phase) (fresh n past d legal.1 k)))
+    where
+      kept_by : (t : Bool) (ph : Phase) → (t ≡ false → ph ≡ P.Inactive) → (if t then ph else P.Inactive) ≡ ph
+      kept_by true ph k = refl
+      kept_by false ph k = sym (k refl)
+
+  pub end_comps : Ends past e c → comps (e ∷ past) ≡ comps past
+  end_comps h = rw h.op refl
+
+  pub end_kinds : (n : ℕ) → IsLegal n (e ∷ past) → Ends past e c → (d : ℕ) → is_alive_type (e ∷ past) d ≡ is_alive_type past d
+  end_kinds n legal h d = rw h.op (kind_kept (exists past d) (is_alive_type past d) (λ k. ap (λ (s : ComponentState). s.alive_type) (fresh n past d legal.1 k)))
+
+  pub end_runs : Ends past e c → (b : ℕ) → comp_of (e ∷ past) b ≡ comp_of past b
+  end_runs h b = rw (h.op, h.reply) (first_kept (comp_of past b))
+
+  pub end_overall : (n : ℕ) → IsLegal n (e ∷ past) → Ends past e c → overall (e ∷ past) ≡ overall past
+  end_overall n legal h = overall_next n past e legal ∙ rw (h.op, h.reply) refl
+
+  -- the run goes on no more
+  pub end_off : (n : ℕ) → IsLegal n (e ∷ past) → Ends past e c → is_active (e ∷ past) e.caller.0 ≡ false
+  unfolding is_active
+  end_off n legal h =
+      ap (is_active_on (e ∷ past) e.caller.0) (end_runs h e.caller.0 ∙ h.on) ∙ ap (is_run_of e.caller.0) (end_here n legal h)
+
+  -- whoever goes on after it went on before, and has another component
+  pub end_others : (n : ℕ) → IsLegal n (e ∷ past) → Ends past e c → (b : ℕ) → is_active (e ∷ past) b ≡ true → is_active past b ≡ true
+  end_others n legal h b act = by_comp (comp_of past b) refl
+    where
+      by_comp : (o : Option Comp) → comp_of past b ≡ o → is_active past b ≡ true
+      by_comp None k =
+          let off : is_active (e ∷ past) b ≡ false = started_by_entry n past e b legal k ∙ ap is_some (none_run h b) in
+          absurd cc
+      by_comp (Some d) k = and_left (is_active past b) (not (halts (comp_of past e.caller.0) e d.0)) (sym (halted_by_entry n past e b d legal k) ∙ act)
+
+  pub end_other : (n : ℕ) → IsLegal n (e ∷ past) → Ends past e c → (b : ℕ) → is_active (e ∷ past) b ≡ true → (e.caller.0 == b) ≡ false
+  end_other n legal h b act = by_test (e.caller.0 == b) refl
+    where
+      by_test : (t : Bool) → (e.caller.0 == b) ≡ t → t ≡ false
+      by_test false k = refl
+      by_test true k =
+          let same : is_active (e ∷ past) e.caller.0 ≡ is_active (e ∷ past) b = ap (is_active (e ∷ past)) (equal_if e.caller.0 b k) in
+          let off : is_active (e ∷ past) e.caller.0 ≡ false = end_off n legal h in
+          absurd cc
+
+-- ---- what is left behind the end
+
+finish_last : (me : Comp) (bound : List Comp) (o : Option Step) → call_of me bound o ≡ O.Finish → o ≡ None
+finish_last me bound None h = refl
+finish_last me bound (Some (S.Ask Q.Running t)) h = absurd cc
+finish_last me bound (Some (S.Ask Q.Alive t)) h = absurd cc
+finish_last me bound (Some (S.Ask Q.Done t)) h = absurd cc
+finish_last me bound (Some (S.Ask Q.Killed t)) h = absurd cc
+finish_last me bound (Some (S.Create alive name)) h = absurd cc
+finish_last me bound (Some (S.Start on run args)) h = absurd cc
+finish_last me bound (Some (S.Stop g)) h = absurd cc
+finish_last me bound (Some (S.Kill g)) h = absurd cc
+finish_last me bound (Some (S.Wait killed t)) h = absurd cc
+finish_last me bound (Some (S.SetVerdict v)) h = absurd cc
+finish_last me bound (Some S.StopCase) h = absurd cc
+finish_last me bound (Some S.GetVerdict) h = absurd cc
+
+none_behind : (steps : List Step) (j k : ℕ) → j ≤ k → slice_get steps j ≡ None → slice_get steps k ≡ None
+none_behind steps j k l h = by_get (slice_get steps k) refl
+  where
+    by_get : (o : Option Step) → slice_get steps k ≡ o → o ≡ None
+    by_get None m = refl
+    by_get (Some x) m =
+        let near : k < length steps = slice_get_within steps k x m in
+        let within : j < length steps = omega arith in
+        let there : slice_get steps j ≡ Some (get_or steps j x) = slice_get-get_or steps j x within in
+        absurd cc
+
+finish_behind : (scripts : List ScriptView) (b : ℕ) (t : Stand) (o : Option Comp) (j k : ℕ) → j ≤ k → call_at scripts b t o j ≡ O.Finish → call_at scripts b t o k ≡ O.Finish
+finish_behind scripts b t None j k l h = refl
+finish_behind scripts b t (Some me) j k l h =
+    let last : slice_get (steps_in (script_of scripts b)) j ≡ None = finish_last me t.bound (slice_get (steps_in (script_of scripts b)) j) h in
+    ap (call_of me t.bound) (none_behind (steps_in (script_of scripts b)) j k l last)
+
+-- a run that follows one whose end comes next is leaving
+followed_leaves : (scripts : List ScriptView) (q : List Entry) (b : ℕ) (s t : Stand) → IsFollowed scripts q b s t → call_at scripts b t t.comp t.called ≡ O.Finish → IsLeaving scripts q b s
+followed_leaves scripts q b s t f ends = by_wake s.wake refl f.place
+  where
+    same_call : (o : Option Comp) (k : ℕ) → call_at scripts b s o k ≡ call_at scripts b t o k
+    same_call None k = refl
+    same_call (Some me) k = ap (λ bound. call_of me bound (slice_get (steps_in (script_of scripts b)) k)) f.bound
+
+    calls_as : (k : ℕ) → call_at scripts b s s.comp k ≡ call_at scripts b t t.comp k
+    calls_as k = ap (λ o. call_at scripts b s o k) f.comp ∙ same_call t.comp k
+
+    at : IsBefore scripts q b s t → (k : ℕ) → s.called ≤ k → (less : Bool) → nat_lt k t.called ≡ less → IsLastAt (length scripts) q b (call_at scripts b t t.comp k)
+    at h k l true less = inl (h.between k l (grind (arith, nat_tests)))
+    at h k l false less = inr (finish_behind scripts b t t.comp t.called k (grind (arith, nat_tests)) ends)
+
+    by_wake : (o : Option Op) → s.wake ≡ o → MatchOption o (IsBefore scripts q b s t) (λ wake. IsParkedAt scripts b s t wake) → IsLeaving scripts q b s
+    by_wake None k h = record {
+      no_wake = k;
+      calls = λ j l. subst (λ op. IsLastAt (length scripts) q b op) (sym (calls_as j)) (at h j l (nat_lt j t.called) refl);
+    }
+    by_wake (Some wake) k h = let waits : O.Finish ≡ O.Wait h.wake_of.killed h.wake_of.target = sym ends ∙ h.wake_of.waits in absurd cc
+
+-- ---- q makes the end of a run
+
+module _ (scripts : List ScriptView) (p q : List Entry) (e : Entry) (c : Comp) (cq : IsCourse scripts (e ∷ q)) (f : IsFor scripts q p) (h : Ends q e c) (act : is_active q e.caller.0 ≡ true)
+    (ends : call_at scripts e.caller.0 (stand q e.caller.0) (stand q e.caller.0).comp (stand q e.caller.0).called ≡ O.Finish) where
+  lq : IsLegal (length scripts) (e ∷ q)
+  lq = course_legal scripts (e ∷ q) cq
+
+  keeps : KeepsQuiet (length scripts) q (e ∷ q)
+  keeps = keeps_quiet (length scripts) q e lq
+
+  still_running : (phase p c.0 ≡ phase q c.0) ⊎ IsEnding scripts p q c.0 → phase p c.0 ≡ P.Running e.caller
+  still_running (inl same) = same ∙ h.runs
+  still_running (inr n) = let no : P.Killed ≡ P.Running e.caller = sym n.ended ∙ h.runs in absurd cc
+
+  ending_here : IsEnding scripts p (e ∷ q) c.0
+  ending_here = record {
+    run = e.caller;
+    running = still_running (f.ahead.phases c.0);
+    ended = end_here (length scripts) lq h;
+    not_main = h.not_main;
+    on = f.ahead.comp_same e.caller.0 ∙ h.on;
+    ordinary = f.ahead.kind_same c.0 ∙ h.ordinary;
+    leaving =
+        leaving_later scripts q (e ∷ q) e.caller.0 (stand p e.caller.0) keeps
+        (followed_leaves scripts q e.caller.0 (stand p e.caller.0) (stand q e.caller.0) (f.runs e.caller.0 act) ends);
+  }
+
+  ending_elsewhere : (d : ℕ) → (c.0 == d) ≡ false → (phase p d ≡ phase q d) ⊎ IsEnding scripts p q d → (phase p d ≡ phase (e ∷ q) d) ⊎ IsEnding scripts p (e ∷ q) d
+  ending_elsewhere d other (inl same) = inl (same ∙ sym (end_elsewhere (length scripts) lq h d other))
+  ending_elsewhere d other (inr n) = inr (record {
+    run = n.run;
+    running = n.running;
+    ended = end_elsewhere (length scripts) lq h d other ∙ n.ended;
+    not_main = n.not_main;
+    on = n.on;
+    ordinary = n.ordinary;
+    leaving = leaving_later scripts q (e ∷ q) n.run.0 (stand p n.run.0) keeps n.leaving;
+  })
+
+  by_place : (d : ℕ) (t : Bool) → (c.0 == d) ≡ t → (phase p d ≡ phase (e ∷ q) d) ⊎ IsEnding scripts p (e ∷ q) d
+  by_place d true k = subst (λ x. (phase p x ≡ phase (e ∷ q) x) ⊎ IsEnding scripts p (e ∷ q) x) (equal_if c.0 d k) (inr ending_here)
+  by_place d false k = ending_elsewhere d k (f.ahead.phases d)
+
+  pub lead_end : IsFor scripts (e ∷ q) p
+  lead_end = record {
+    ahead = record {
+      comps_same = f.ahead.comps_same ∙ sym (end_comps h);
+      phases = λ d. by_place d (c.0 == d) refl;
+      kind_same = λ d. f.ahead.kind_same d ∙ sym (end_kinds (length scripts) lq h d);
+      comp_same = λ b. f.ahead.comp_same b ∙ sym (end_runs h b);
+      overall_same = f.ahead.overall_same ∙ sym (end_overall (length scripts) lq h);
+    };
+    runs = λ b on.
+        let was : is_active q b ≡ true = end_others (length scripts) lq h b on in
+        let me = some_if q b was in
+        let here : (stand q b).comp ≡ Some me.0 = stand_comp scripts q b cq.1 ∙ me.1 in
+        subst (λ t. IsFollowed scripts (e ∷ q) b (stand p b) t) (sym (stand_other q e b me.0 (end_other (length scripts) lq h b on) here))
+        (followed_later scripts q (e ∷ q) b (stand p b) (stand q b) keeps (f.runs b was));
+  }
+
+-- ---- p makes an end that q has made
+
+number_of : (x y : Comp) → Some x ≡ Some y → x.0 ≡ y.0
+number_of x y h = let same : x ≡ y = cc in ap (λ (z : Comp). z.0) same
+
+module _ (scripts : List ScriptView) (p q : List Entry) (e : Entry) (c : ℕ) (cp : IsCourse scripts (e ∷ p)) (cq : IsCourse scripts q) (f : IsFor scripts q p) (m : IsEnding scripts p q c) (own : m.run.0 ≡ e.caller.0)
+    (h : Ends p e (record { 0 = c })) where
+  lp : IsLegal (length scripts) (e ∷ p)
+  lp = course_legal scripts (e ∷ p) cp
+
+  other_run : (d : ℕ) (n : IsEnding scripts p q d) → (c == d) ≡ false → (e.caller.0 == n.run.0) ≡ false
+  other_run d n other = by_test (e.caller.0 == n.run.0) refl
+    where
+      by_test : (t : Bool) → (e.caller.0 == n.run.0) ≡ t → t ≡ false
+      by_test false k = refl
+      by_test true k =
+          let same : comp_of p e.caller.0 ≡ comp_of p n.run.0 = ap (comp_of p) (equal_if e.caller.0 n.run.0 k) in
+          let one : c ≡ d = number_of (record { 0 = c }) (record { 0 = d }) (sym h.on ∙ (same ∙ n.on)) in
+          let yes : (c == d) ≡ true = subst (λ x. (c == x) ≡ true) one (self_equal c) in
+          absurd cc
+
+  ended_place : (d : ℕ) → (c == d) ≡ false → (phase p d ≡ phase q d) ⊎ IsEnding scripts p q d → (phase (e ∷ p) d ≡ phase q d) ⊎ IsEnding scripts (e ∷ p) q d
+  ended_place d other (inl same) = inl (end_elsewhere (length scripts) lp h d other ∙ same)
+  ended_place d other (inr n) = inr (record {
+    run = n.run;
+    running = end_elsewhere (length scripts) lp h d other ∙ n.running;
+    ended = n.ended;
+    not_main = n.not_main;
+    on = end_runs h n.run.0 ∙ n.on;
+    ordinary = end_kinds (length scripts) lp h d ∙ n.ordinary;
+    leaving = leaving_other scripts p q e d n cp.1 (other_run d n other);
+  })
+
+  by_ended : (d : ℕ) (t : Bool) → (c == d) ≡ t → (phase (e ∷ p) d ≡ phase q d) ⊎ IsEnding scripts (e ∷ p) q d
+  by_ended d true k = subst (λ x. (phase (e ∷ p) x ≡ phase q x) ⊎ IsEnding scripts (e ∷ p) q x) (equal_if c d k) (inl (end_here (length scripts) lp h ∙ sym m.ended))
+  by_ended d false k = ended_place d k (f.ahead.phases d)
+
+  pub after_end : IsFor scripts q (e ∷ p)
+  after_end = record {
+    ahead = record {
+      comps_same = end_comps h ∙ f.ahead.comps_same;
+      phases = λ d. by_ended d (c == d) refl;
+      kind_same = λ d. end_kinds (length scripts) lp h d ∙ f.ahead.kind_same d;
+      comp_same = λ b. end_runs h b ∙ f.ahead.comp_same b;
+      overall_same = end_overall (length scripts) lp h ∙ f.ahead.overall_same;
+    };
+    runs = λ b on.
+        let me = some_if q b on in
+        let here : (stand p b).comp ≡ Some me.0 = stand_comp scripts p b cp.1 ∙ (f.ahead.comp_same b ∙ me.1) in
+        subst (λ s. IsFollowed scripts q b s (stand q b)) (sym (stand_other p e b me.0 (not_active b on) here)) (f.runs b on);
+  }
+    where
+      not_active : (b : ℕ) → is_active q b ≡ true → (e.caller.0 == b) ≡ false
+      not_active b on = by_test (e.caller.0 == b) refl
+        where
+          by_test : (t : Bool) → (e.caller.0 == b) ≡ t → t ≡ false
+          by_test false k = refl
+          by_test true k =
+              let same : is_active q b ≡ is_active q m.run.0 = ap (is_active q) (sym (own ∙ equal_if e.caller.0 b k)) in
+              let off : is_active q m.run.0 ≡ false = ended_inactive f.ahead c m in
+              absurd cc
