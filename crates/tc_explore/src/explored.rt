@@ -31,7 +31,7 @@ pub enum Ending {
 pub struct Explored {
     /// A witness of each overall verdict that was found.
     pub found: Sequence<Witness>,
-    /// How many states the search with reductions looked at.
+    /// How many states the last search looked at.
     pub states: usize,
     pub ending: Ending,
 }
@@ -72,7 +72,7 @@ fn full_limit(scripts: &[Script], limit: usize) -> usize
     if limit < most { limit } else { most }
 }
 
-// Makes both searches, that by the calls of all runs only where the other came to its end.
+// Makes the search by the calls of all runs, and that with reductions only where the first did not come to its end.
 fn search_both(
     alloc: Global,
     scripts: &[Script],
@@ -87,25 +87,26 @@ fn search_both(
     ensures within { IfOk result (λ r. r.states ≤ limit) }
     ensures undecided { IfOk result (λ r. r.ending ≡ Undecided → r.states ≡ limit) }
 {
-    let reduced = search_reduced(alloc, scripts, limit, found)?;
-    let states = reduced.states;
-    if !reduced.is_whole {
-        let ending = Ending::Undecided;
+    let full = search_all(alloc, scripts, full_limit(scripts, limit), found)?;
+    if full.is_whole {
+        let states = full.states;
+        let ending = Ending::Complete;
         return Ok(Reach { states, ending });
     }
-    let full = search_all(alloc, scripts, full_limit(scripts, limit), found)?;
-    let ending = if full.is_whole {
-        Ending::Complete
-    } else {
+    let reduced = search_reduced(alloc, scripts, limit, found)?;
+    let states = reduced.states;
+    let ending = if reduced.is_whole {
         Ending::Reduced
+    } else {
+        Ending::Undecided
     };
     Ok(Reach { states, ending })
 }
 
-/// Looks for the overall verdicts that the courses of a test case give, each with a complete course that gives it. A search
-/// with reductions looks at so many states at most; where it comes to its end, one by the calls of all runs follows, which
-/// keeps no more states, and fewer of a test case with many steps. Where that comes to its end too, the verdict of each
-/// complete course is found. A test case without behaviours is left undecided.
+/// Looks for the overall verdicts that the courses of a test case give, each with a complete course that gives it. A search by
+/// the calls of all runs keeps so many states at most, and fewer of a test case with many steps. Where it comes to its end,
+/// the verdict of each complete course is found. Else a search with reductions follows, which looks at so many states at
+/// most. A test case without behaviours is left undecided.
 #[tactic(auto, using(crate::proofs::Legality::legal_rules, crate::proofs::Noting::noting_rules))]
 pub fn explore(alloc: Global, scripts: &[Script], limit: usize) -> Result<Explored, NoMemory>
     requires few { length scripts.now ≤ BEHAVIOURS }
