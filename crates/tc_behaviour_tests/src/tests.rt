@@ -1,6 +1,9 @@
 //! Scripts as they are run on a pass and in a case.
 ghost use Rattle.std.specs.Prelude.{◌≡◌, []};
 
+mod checks;
+
+use crate::tests::checks::{holds, is};
 use std::alloc::Global;
 use std::process::Abort;
 use std::sync::Wait;
@@ -35,7 +38,11 @@ fn args(comps: &[Comp]) -> Args {
 }
 
 fn script<R: Abort>(rt: &R, parameters: usize, steps: Vec<Step>) -> Script {
-    assert!(rt; Script::is_script(parameters, steps.as_slice()));
+    holds(
+        rt,
+        "Script::is_script(parameters, steps.as_slice())",
+        Script::is_script(parameters, steps.as_slice()),
+    );
     Script::new(parameters, steps)
 }
 
@@ -77,11 +84,11 @@ fn wrong_argument_count_runs_nothing(rt: HostRuntime) -> Result<(), Fail> {
     let (_, mut scripts) = campaign.take_first().ok_or("a test case")?;
     let _main = scripts.take_first();
     let (name, script) = scripts.take_first().ok_or("the behaviour w")?;
-    assert_eq!(rt; name.bytes(), b"w".as_slice());
+    is(&rt, "name.bytes()", name.bytes(), b"w".as_slice());
     let (_, pass, _) = open_case(alloc, 1)?;
     let back = script.run(&rt, alloc, pass);
-    assert_eq!(rt; back.ending, Ending::Returned);
-    assert_eq!(rt; back.pass.log().len(), 0);
+    is(&rt, "back.ending", back.ending, Ending::Returned);
+    is(&rt, "back.pass.log().len()", back.pass.log().len(), 0);
     Ok(())
 }
 
@@ -89,11 +96,15 @@ fn wrong_argument_count_runs_nothing(rt: HostRuntime) -> Result<(), Fail> {
 fn a_script_of_two_parameters_without_arguments(rt: HostRuntime) -> Result<(), Fail> {
     let alloc = rt.alloc();
     let steps = vec![in alloc; Step::GetVerdict]?;
-    assert!(rt; Script::is_script(2, steps.as_slice()));
+    holds(
+        &rt,
+        "Script::is_script(2, steps.as_slice())",
+        Script::is_script(2, steps.as_slice()),
+    );
     let (_, pass, _) = open_case(alloc, 1)?;
     let pass = refused(&rt, alloc, Script::new(2, steps), pass);
-    assert_eq!(rt; pass.log().len(), 0);
-    assert!(rt; !pass.is_ended());
+    is(&rt, "pass.log().len()", pass.log().len(), 0);
+    holds(&rt, "not pass.is_ended()", !pass.is_ended());
     Ok(())
 }
 
@@ -169,9 +180,13 @@ fn each_step_of_the_main_behaviour(rt: HostRuntime) -> Result<(), Fail> {
             Reply::Matched
         ),
     ]?;
-    assert!(rt; has_logged(&back, Run(0), calls.as_slice()));
-    assert_eq!(rt; back.ending, Ending::Returned);
-    assert!(rt; !back.pass.is_ended());
+    holds(
+        &rt,
+        "has_logged(back, Run(0), calls.as_slice())",
+        has_logged(&back, Run(0), calls.as_slice()),
+    );
+    is(&rt, "back.ending", back.ending, Ending::Returned);
+    holds(&rt, "not back.pass.is_ended()", !back.pass.is_ended());
     Ok(())
 }
 
@@ -196,7 +211,7 @@ fn places_stand_for_components(rt: HostRuntime) -> Result<(), Fail> {
         },
     ]?;
     let back = script(&rt, 0, steps).run(&rt, alloc, pass);
-    assert_eq!(rt; back.pass.log().len(), 3);
+    is(&rt, "back.pass.log().len()", back.pass.log().len(), 3);
     let Ok(pass) = tickets.remove(0).await_start(&rt) else {
         panic!(rt; "the run was started")
     };
@@ -237,8 +252,12 @@ fn places_stand_for_components(rt: HostRuntime) -> Result<(), Fail> {
             Reply::Matched
         ),
     ]?;
-    assert!(rt; has_logged(&back, Run(1), calls.as_slice()));
-    assert_eq!(rt; back.ending, Ending::Returned);
+    holds(
+        &rt,
+        "has_logged(back, Run(1), calls.as_slice())",
+        has_logged(&back, Run(1), calls.as_slice()),
+    );
+    is(&rt, "back.ending", back.ending, Ending::Returned);
     Ok(())
 }
 
@@ -266,16 +285,18 @@ fn a_script_ends_with_its_pass(rt: HostRuntime) -> Result<(), Fail> {
         Step::GetVerdict,
     ]?;
     let back = script(&rt, 0, steps).run(&rt, alloc, pass);
-    assert_eq!(rt; back.ending, Ending::Returned);
-    assert_eq!(rt; back.pass.log().len(), 4);
-    assert!(rt;
+    is(&rt, "back.ending", back.ending, Ending::Returned);
+    is(&rt, "back.pass.log().len()", back.pass.log().len(), 4);
+    holds(
+        &rt,
+        "back.pass.log()[3]",
         matches!(
             back.pass.log()[3],
             Entry {
                 reply: Reply::Fault(Fault::StartMain),
                 ..
             }
-        )
+        ),
     );
     let Ok(pass) = tickets.remove(0).await_start(&rt) else {
         panic!(rt; "the run was started")
@@ -288,8 +309,12 @@ fn a_script_ends_with_its_pass(rt: HostRuntime) -> Result<(), Fail> {
         },
     ]?;
     let back = script(&rt, 0, steps).run(&rt, alloc, pass);
-    assert_eq!(rt; back.ending, Ending::Returned);
-    assert!(rt; has_logged(&back, Run(1), &[(Op::GetVerdict, Reply::Ended)]));
+    is(&rt, "back.ending", back.ending, Ending::Returned);
+    holds(
+        &rt,
+        "has_logged(back, Run(1), [(Op::GetVerdict,",
+        has_logged(&back, Run(1), &[(Op::GetVerdict, Reply::Ended)]),
+    );
     Ok(())
 }
 
@@ -299,8 +324,12 @@ fn a_run_that_stops_itself(rt: HostRuntime) -> Result<(), Fail> {
     let (_, pass, _) = open_case(alloc, 1)?;
     let steps = vec![in alloc; Step::Stop(GroupPlace::One(Place::Own)), Step::GetVerdict]?;
     let back = script(&rt, 0, steps).run(&rt, alloc, pass);
-    assert_eq!(rt; back.ending, Ending::Returned);
-    assert!(rt; has_logged(&back, Run(0), &[(Op::Stop(Group::One(Comp(0))), Reply::Ok)]));
+    is(&rt, "back.ending", back.ending, Ending::Returned);
+    holds(
+        &rt,
+        "has_logged(back, Run(0),",
+        has_logged(&back, Run(0), &[(Op::Stop(Group::One(Comp(0))), Reply::Ok)]),
+    );
     Ok(())
 }
 
@@ -310,8 +339,12 @@ fn stop_of_a_case(rt: HostRuntime) -> Result<(), Fail> {
     let (_, pass, _) = open_case(alloc, 1)?;
     let steps = vec![in alloc; Step::StopCase, Step::SetVerdict(UserVerdict::Pass)]?;
     let back = script(&rt, 0, steps).run(&rt, alloc, pass);
-    assert_eq!(rt; back.ending, Ending::Returned);
-    assert!(rt; has_logged(&back, Run(0), &[(Op::StopCase, Reply::Ok)]));
+    is(&rt, "back.ending", back.ending, Ending::Returned);
+    holds(
+        &rt,
+        "has_logged(back, Run(0), [(Op::StopCase,",
+        has_logged(&back, Run(0), &[(Op::StopCase, Reply::Ok)]),
+    );
     Ok(())
 }
 
@@ -408,14 +441,14 @@ fn scripts_are_run_in_a_case(rt: HostRuntime) -> Result<(), Fail> {
     let second = ScriptJob::new(rt, alloc, fails(&rt, alloc)?);
     let jobs = vec![in alloc; first, second]?;
     let report = run_case_with(&rt, alloc, jobs, 1, &mut Everyone)?;
-    assert!(rt; is_led(&report));
+    holds(&rt, "is_led(report)", is_led(&report));
     let (first, second) = (leads(&rt, alloc, &[Place::Main])?, fails(&rt, alloc)?);
     let jobs = vec![in alloc;
         Job::new(Box::new(alloc, move |pass| first.run(&rt, alloc, pass))?),
         Job::new(Box::new(alloc, move |pass| second.run(&rt, alloc, pass))?),
     ]?;
     let report = run_case(&rt, alloc, jobs, 1)?;
-    assert!(rt; is_led(&report));
+    holds(&rt, "is_led(report)", is_led(&report));
     Ok(())
 }
 
@@ -429,8 +462,12 @@ fn a_started_script_of_another_count_makes_no_call(rt: HostRuntime) -> Result<()
     let [_, second] = report.logs.as_slice() else {
         panic!(rt; "run 1 was started")
     };
-    assert!(rt; are_calls(second, Run(1), &[Op::Finish]));
-    assert_eq!(rt; report.verdict, Verdict::None);
+    holds(
+        &rt,
+        "are_calls(second, Run(1), [Op::Finish])",
+        are_calls(second, Run(1), &[Op::Finish]),
+    );
+    is(&rt, "report.verdict", report.verdict, Verdict::None);
     Ok(())
 }
 
@@ -448,9 +485,13 @@ fn each_step_of_a_long_script(rt: HostRuntime) -> Result<(), Fail> {
         name: None,
     })?;
     let back = script(&rt, 0, steps).run(&rt, alloc, pass);
-    assert_eq!(rt; back.ending, Ending::Returned);
+    is(&rt, "back.ending", back.ending, Ending::Returned);
     let log = back.pass.log();
-    assert_eq!(rt; log.len(), 1000);
-    assert!(rt; matches!(log[999].reply, Reply::Made(Comp(1))));
+    is(&rt, "log.len()", log.len(), 1000);
+    holds(
+        &rt,
+        "log[999].reply",
+        matches!(log[999].reply, Reply::Made(Comp(1))),
+    );
     Ok(())
 }

@@ -10,6 +10,8 @@ mod calls;
 #[cfg(test)]
 mod checks;
 #[cfg(test)]
+mod orders;
+#[cfg(test)]
 mod places;
 #[cfg(test)]
 mod verdicts;

@@ -1,4 +1,5 @@
 //! Who waits on a thread is woken, after each kind of entry by which it may go on, and does not spin.
+use crate::checks::{holds, is};
 use std::alloc::Global;
 use std::sync::atomic::{AtomicBool, Ordering};
 use std::sync::{Arc, Wait};
@@ -220,9 +221,23 @@ fn a_stuck_main_is_woken(rt: HostRuntime) -> Result<(), Fail> {
     pause(&rt);
     let woken = Arc::new(alloc, AtomicBool::new(false))?;
     let other = spawn_waiter(&rt, tickets.remove(0), &woken)?;
-    assert!(rt; is_set_soon(&rt, &woken), "the parked wait wakes nobody");
-    assert_eq!(rt; waiter.join(&rt), Err(Halt::Fault(Fault::Stuck)));
-    assert_eq!(rt; woken_by(&other.join(&rt)), Some(Reply::Ended));
+    holds(
+        &rt,
+        "the parked wait wakes nobody",
+        is_set_soon(&rt, &woken),
+    );
+    is(
+        &rt,
+        "waiter.join(rt)",
+        waiter.join(&rt),
+        Err(Halt::Fault(Fault::Stuck)),
+    );
+    is(
+        &rt,
+        "woken_by(other.join(rt))",
+        woken_by(&other.join(&rt)),
+        Some(Reply::Ended),
+    );
     Ok(())
 }
 
@@ -246,12 +261,17 @@ fn the_last_run_waits_for_its_start(rt: HostRuntime) -> Result<(), Fail> {
     main.create(&rt, false)?;
     main.create(&rt, false)?;
     pause(&rt);
-    assert!(rt; !woken.load(Ordering::SeqCst), "it is not yet started");
+    holds(&rt, "it is not yet started", !woken.load(Ordering::SeqCst));
     let mut args = Args::new();
-    assert!(rt; args.push(Comp(1)));
+    holds(&rt, "args.push(Comp(1))", args.push(Comp(1)));
     main.start(&rt, Comp(2), Run(255), &args)?;
-    assert!(rt; is_set_soon(&rt, &woken), "the start wakes nobody");
-    assert_eq!(rt; waiter.join(&rt), Some((Run(255), Comp(2), Comp(1))));
+    holds(&rt, "the start wakes nobody", is_set_soon(&rt, &woken));
+    is(
+        &rt,
+        "waiter.join(rt)",
+        waiter.join(&rt),
+        Some((Run(255), Comp(2), Comp(1))),
+    );
     Ok(())
 }
 
@@ -265,10 +285,10 @@ fn the_end_wakes_the_unstarted(rt: HostRuntime) -> Result<(), Fail> {
     let (flag, ticket) = (Arc::try_clone(&woken)?, tickets.remove(0));
     let waiter = thread::spawn(&rt, move || ends_unstarted(&rt, ticket, &flag))?;
     pause(&rt);
-    assert!(rt; !woken.load(Ordering::SeqCst), "the case goes on");
+    holds(&rt, "the case goes on", !woken.load(Ordering::SeqCst));
     main.leave(&rt);
-    assert!(rt; is_set_soon(&rt, &woken), "the end wakes nobody");
-    assert!(rt; waiter.join(&rt));
+    holds(&rt, "the end wakes nobody", is_set_soon(&rt, &woken));
+    holds(&rt, "waiter.join(rt)", waiter.join(&rt));
     Ok(())
 }
 

@@ -2,12 +2,14 @@
 ghost use Rattle.std.specs.Prelude.{IfOk};
 ghost use Rattle.tc_campaign.specs.Outline.{HasNames};
 
+mod checks;
 mod choosing;
 mod observers;
 mod refusals;
 mod scripts;
 mod turns;
 
+use crate::tests::checks::{holds, is};
 use std::alloc::Global;
 use std::sync::atomic::{AtomicU64, Ordering};
 use std::sync::{Arc, Wait};
@@ -80,15 +82,20 @@ fn campaign_stops_on_fail(rt: HostRuntime) -> Result<(), Fail> {
         case(alloc, "c", c)?,
     ]?;
     let results = run_campaign(&rt, alloc, cases, Some(Verdict::Fail), 64);
-    assert_eq!(rt; called.load(Ordering::SeqCst), 0);
+    is(
+        &rt,
+        "called.load(Ordering::SeqCst)",
+        called.load(Ordering::SeqCst),
+        0,
+    );
     let mut out = Vec::new(alloc);
     write_csv(alloc, &results, &mut out)?;
     let wanted = "testcase,components,none,pass,inconc,fail,error,verdict
 a,1,0,1,0,0,0,pass
 b,1,0,0,0,1,0,fail
 ";
-    assert_eq!(rt; out.as_slice(), wanted.as_bytes());
-    assert_eq!(rt; status_of(&results), 1);
+    is(&rt, "out.as_slice()", out.as_slice(), wanted.as_bytes());
+    is(&rt, "status_of(results)", status_of(&results), 1);
     Ok(())
 }
 
@@ -104,25 +111,32 @@ fn no_thread_report(rt: HostRuntime) -> Result<(), Fail> {
     };
     let cases = vec![in alloc; case]?;
     let results = run_campaign(&rt, alloc, cases, None, 0);
-    assert!(rt;
+    holds(
+        &rt,
+        "results.ending",
         matches!(
             results.ending,
             CampaignEnd::Aborted {
                 why: CaseError::NoThread,
                 ..
             }
-        )
+        ),
     );
     let text = report(alloc, &results)?;
     let wanted = "cases 0 none 0 pass 0 inconc 0 fail 0 error 0
 aborted at t: no thread
 ";
-    assert_eq!(rt; text.as_slice(), wanted.as_bytes());
-    assert_eq!(rt; status_of(&results), 3);
+    is(&rt, "text.as_slice()", text.as_slice(), wanted.as_bytes());
+    is(&rt, "status_of(results)", status_of(&results), 3);
     let mut line = Vec::new(alloc);
-    assert_eq!(rt; write_abort(&results, &mut line), Ok(true));
+    is(
+        &rt,
+        "write_abort(results, mut line)",
+        write_abort(&results, &mut line),
+        Ok(true),
+    );
     let wanted = b"ttrun: aborted at t: no thread\n";
-    assert_eq!(rt; line.as_slice(), wanted.as_slice());
+    is(&rt, "line.as_slice()", line.as_slice(), wanted.as_slice());
     Ok(())
 }
 
@@ -148,8 +162,8 @@ verdict pass
 cases 1 none 0 pass 1 inconc 0 fail 0 error 0
 aborted at b: no memory
 ";
-    assert_eq!(rt; text.as_slice(), wanted.as_bytes());
-    assert_eq!(rt; status_of(&results), 3);
+    is(&rt, "text.as_slice()", text.as_slice(), wanted.as_bytes());
+    is(&rt, "status_of(results)", status_of(&results), 3);
     Ok(())
 }
 
@@ -157,12 +171,16 @@ aborted at b: no memory
 fn no_cases(rt: HostRuntime) -> Result<(), Fail> {
     let alloc = rt.alloc();
     let results = run_campaign(&rt, alloc, Vec::<Case>::new(alloc), Some(Verdict::None), 64);
-    assert_eq!(rt; tally(&results).cases, 0);
-    assert!(rt; matches!(results.ending, CampaignEnd::Complete));
-    assert_eq!(rt; status_of(&results), 0);
+    is(&rt, "tally(results).cases", tally(&results).cases, 0);
+    holds(
+        &rt,
+        "results.ending",
+        matches!(results.ending, CampaignEnd::Complete),
+    );
+    is(&rt, "status_of(results)", status_of(&results), 0);
     let mut out = Vec::new(alloc);
     write_history(alloc, &results, &mut out)?;
-    assert!(rt; out.is_empty());
+    holds(&rt, "out.is_empty()", out.is_empty());
     Ok(())
 }
 
@@ -189,7 +207,7 @@ verdict inconc
 cases 2 none 0 pass 1 inconc 1 fail 0 error 0
 stopped after b
 ";
-    assert_eq!(rt; text.as_slice(), wanted.as_bytes());
+    is(&rt, "text.as_slice()", text.as_slice(), wanted.as_bytes());
     Ok(())
 }
 
@@ -220,8 +238,8 @@ verdict error
 cases 2 none 0 pass 0 inconc 1 fail 0 error 1
 stopped after b
 ";
-    assert_eq!(rt; text.as_slice(), wanted.as_bytes());
-    assert_eq!(rt; status_of(&results), 2);
+    is(&rt, "text.as_slice()", text.as_slice(), wanted.as_bytes());
+    is(&rt, "status_of(results)", status_of(&results), 2);
     Ok(())
 }
 
@@ -232,7 +250,11 @@ fn all_cases_without_a_rule(rt: HostRuntime) -> Result<(), Fail> {
     let b: Behaviour = Box::new(alloc, move |pass: Pass| sets(pass, UserVerdict::Pass))?;
     let cases = vec![in alloc; case(alloc, "a", a)?, case(alloc, "b", b)?]?;
     let results = run_campaign(&rt, alloc, cases, None, 0);
-    assert!(rt; matches!(results.ending, CampaignEnd::Complete));
+    holds(
+        &rt,
+        "results.ending",
+        matches!(results.ending, CampaignEnd::Complete),
+    );
     let wanted = Tally {
         cases: 2,
         none: 0,
@@ -241,7 +263,7 @@ fn all_cases_without_a_rule(rt: HostRuntime) -> Result<(), Fail> {
         fail: 0,
         error: 1,
     };
-    assert_eq!(rt; tally(&results), wanted);
+    is(&rt, "tally(results)", tally(&results), wanted);
     Ok(())
 }
 
@@ -256,10 +278,15 @@ fn refused_case_aborts(rt: HostRuntime) -> Result<(), Fail> {
     };
     let cases = vec![in alloc; case(alloc, "a", a)?, none]?;
     let results = run_campaign(&rt, alloc, cases, Some(Verdict::Error), 64);
-    assert_eq!(rt; tally(&results).fail, 1);
+    is(&rt, "tally(results).fail", tally(&results).fail, 1);
     let mut line = Vec::new(alloc);
-    assert_eq!(rt; write_abort(&results, &mut line), Ok(true));
+    is(
+        &rt,
+        "write_abort(results, mut line)",
+        write_abort(&results, &mut line),
+        Ok(true),
+    );
     let wanted = b"ttrun: aborted at b: no behaviours\n";
-    assert_eq!(rt; line.as_slice(), wanted.as_slice());
+    is(&rt, "line.as_slice()", line.as_slice(), wanted.as_slice());
     Ok(())
 }

@@ -1,6 +1,8 @@
 //! Cases whose behaviours run on threads.
+mod checks;
 mod hostile;
 
+use crate::tests::checks::{holds, is};
 use std::sync::atomic::{AtomicU64, Ordering};
 use std::sync::{Arc, Wait};
 use std::test::Fail;
@@ -59,10 +61,12 @@ fn behaviours_run_together(rt: HostRuntime) -> Result<(), Fail> {
     let third: Behaviour = Box::new(alloc, move |pass: Pass| meets(pass, &two, &one_seen))?;
     let jobs = vec![in alloc; Job::new(first), Job::new(second), Job::new(third)]?;
     let report = run_case(&rt, alloc, jobs, 64)?;
-    assert_eq!(rt; report.verdict, Verdict::Pass);
-    assert_eq!(rt;
+    is(&rt, "report.verdict", report.verdict, Verdict::Pass);
+    is(
+        &rt,
+        "report.locals.as_slice()",
         report.locals.as_slice(),
-        [Verdict::None, Verdict::Pass, Verdict::Pass].as_slice()
+        [Verdict::None, Verdict::Pass, Verdict::Pass].as_slice(),
     );
     Ok(())
 }
@@ -136,8 +140,13 @@ fn late_setting_does_not_count(rt: HostRuntime) -> Result<(), Fail> {
     let third: Behaviour = Box::new(alloc, move |pass: Pass| sets_pass(pass))?;
     let jobs = vec![in alloc; Job::new(first), Job::new(second), Job::new(third)]?;
     let report = run_case(&rt, alloc, jobs, 64)?;
-    assert_eq!(rt; count.load(Ordering::SeqCst), 1);
-    assert!(rt; is_late_case(&report));
+    is(
+        &rt,
+        "count.load(Ordering::SeqCst)",
+        count.load(Ordering::SeqCst),
+        1,
+    );
+    holds(&rt, "is_late_case(report)", is_late_case(&report));
     Ok(())
 }
 
@@ -154,8 +163,13 @@ fn calls_after_the_end(rt: HostRuntime) -> Result<(), Fail> {
     let third: Behaviour = Box::new(alloc, move |pass: Pass| sets_pass(pass))?;
     let jobs = vec![in alloc; Job::new(first), Job::new(second), Job::new(third)]?;
     let report = run_case(&rt, alloc, jobs, 64)?;
-    assert_eq!(rt; count.load(Ordering::SeqCst), 1001);
-    assert!(rt; is_late_case(&report));
+    is(
+        &rt,
+        "count.load(Ordering::SeqCst)",
+        count.load(Ordering::SeqCst),
+        1001,
+    );
+    holds(&rt, "is_late_case(report)", is_late_case(&report));
     Ok(())
 }
 
@@ -171,14 +185,26 @@ fn unstarted_job_is_dropped(rt: HostRuntime) -> Result<(), Fail> {
     })?;
     let jobs = vec![in alloc; Job::new(first), Job::new(second)]?;
     let report = run_case(&rt, alloc, jobs, 64)?;
-    assert_eq!(rt; called.load(Ordering::SeqCst), 0);
-    assert_eq!(rt; report.locals.as_slice(), [Verdict::None].as_slice());
+    is(
+        &rt,
+        "called.load(Ordering::SeqCst)",
+        called.load(Ordering::SeqCst),
+        0,
+    );
+    is(
+        &rt,
+        "report.locals.as_slice()",
+        report.locals.as_slice(),
+        [Verdict::None].as_slice(),
+    );
     let logs = report.logs.as_slice();
-    assert_eq!(rt; logs.len(), 1);
-    assert_eq!(rt; logs[0].run, Run(0));
+    is(&rt, "logs.len()", logs.len(), 1);
+    is(&rt, "logs[0].run", logs[0].run, Run(0));
     let log = logs[0].entries.as_slice();
-    assert_eq!(rt; log.len(), 1);
-    assert!(rt;
+    is(&rt, "log.len()", log.len(), 1);
+    holds(
+        &rt,
+        "log[0]",
         matches!(
             log[0],
             Entry {
@@ -186,7 +212,7 @@ fn unstarted_job_is_dropped(rt: HostRuntime) -> Result<(), Fail> {
                 reply: Reply::Ok,
                 ..
             }
-        )
+        ),
     );
     Ok(())
 }
@@ -202,9 +228,9 @@ fn back_after_its_calls(rt: HostRuntime) -> Result<(), Fail> {
         let (_, mut pass, _) = open_case(rt.alloc(), 1)?;
         pass.set_verdict(UserVerdict::Inconc)?;
         let back = Back::after(pass, made);
-        assert_eq!(rt; back.ending, ending);
-        assert_eq!(rt; back.pass.run(), Run(0));
-        assert_eq!(rt; back.pass.log().len(), 1);
+        is(&rt, "back.ending", back.ending, ending);
+        is(&rt, "back.pass.run()", back.pass.run(), Run(0));
+        is(&rt, "back.pass.log().len()", back.pass.log().len(), 1);
     }
     Ok(())
 }
@@ -213,7 +239,7 @@ fn back_after_its_calls(rt: HostRuntime) -> Result<(), Fail> {
 fn refused_cases(rt: HostRuntime) -> Result<(), Fail> {
     let alloc = rt.alloc();
     let none = run_case(&rt, alloc, Vec::new(alloc), 64);
-    assert!(rt; matches!(none, Err(CaseError::NoBehaviours)));
+    holds(&rt, "none", matches!(none, Err(CaseError::NoBehaviours)));
     let called = Arc::new(alloc, AtomicU64::new(0))?;
     for (count, threads, refusal) in [
         (257u16, 0u16, CaseError::TooManyBehaviours),
@@ -232,15 +258,24 @@ fn refused_cases(rt: HostRuntime) -> Result<(), Fail> {
         let Err(error) = run_case(&rt, alloc, jobs, threads) else {
             panic!(rt; "the case is refused")
         };
-        assert_eq!(rt; error, refusal);
+        is(&rt, "error", error, refusal);
     }
-    assert_eq!(rt; called.load(Ordering::SeqCst), 0);
+    is(
+        &rt,
+        "called.load(Ordering::SeqCst)",
+        called.load(Ordering::SeqCst),
+        0,
+    );
     let starved: Behaviour = Box::new(
         alloc,
         move |pass: Pass| Back::after(pass, Err(Halt::NoMemory)),
     )?;
     let jobs = vec![in alloc; Job::new(starved)]?;
-    assert!(rt; matches!(run_case(&rt, alloc, jobs, 64), Err(CaseError::NoMemory)));
+    holds(
+        &rt,
+        "run_case(rt, alloc, jobs, 64)",
+        matches!(run_case(&rt, alloc, jobs, 64), Err(CaseError::NoMemory)),
+    );
     Ok(())
 }
 
@@ -297,9 +332,9 @@ fn names_stand_in_the_log(rt: HostRuntime) -> Result<(), Fail> {
     })?;
     let report = run_case(&rt, alloc, vec![in alloc; Job::new(main)]?, 0)?;
     let first = report.history.as_slice().first().ok_or("an entry")?;
-    assert!(rt; first.op.same(&wanted));
-    assert_eq!(rt; first.reply, Reply::Made(Comp(1)));
-    assert_eq!(rt; report.verdict, Verdict::None);
+    holds(&rt, "first.op.same(wanted)", first.op.same(&wanted));
+    is(&rt, "first.reply", first.reply, Reply::Made(Comp(1)));
+    is(&rt, "report.verdict", report.verdict, Verdict::None);
     Ok(())
 }
 
@@ -310,15 +345,30 @@ fn texts_of_the_faults(rt: HostRuntime) -> Result<(), Fail> {
         (CloseFault::Torn, "torn"),
         (CloseFault::NoMemory, "no memory"),
     ] {
-        assert_eq!(rt; fault.to_string(alloc)?.as_str(), text);
-        assert_eq!(rt; CaseError::from(fault).to_string(alloc)?.as_str(), text);
+        is(
+            &rt,
+            "fault.to_string(alloc).as_str()",
+            fault.to_string(alloc)?.as_str(),
+            text,
+        );
+        is(
+            &rt,
+            "CaseError::from(fault).to_string(alloc).as_str()",
+            CaseError::from(fault).to_string(alloc)?.as_str(),
+            text,
+        );
     }
     for (halt, text) in [
         (Halt::Ended, "ended"),
         (Halt::Fault(Fault::NoComponent), "error no-component"),
         (Halt::NoMemory, "no memory"),
     ] {
-        assert_eq!(rt; halt.to_string(alloc)?.as_str(), text);
+        is(
+            &rt,
+            "halt.to_string(alloc).as_str()",
+            halt.to_string(alloc)?.as_str(),
+            text,
+        );
     }
     Ok(())
 }

@@ -1,10 +1,12 @@
 //! Test cases with one verdict and with several.
+mod checks;
 mod details;
 mod play;
 mod random;
 mod runs;
 mod schedules;
 
+use crate::tests::checks::{holds, is};
 use play::verdicts_of_all;
 use std::alloc::Global;
 use std::process::Abort;
@@ -44,7 +46,11 @@ fn wait(target: TargetPlace) -> Step {
 }
 
 fn script<R: Abort>(rt: &R, steps: Vec<Step>) -> Script {
-    assert!(rt; Script::is_script(0, steps.as_slice()));
+    holds(
+        rt,
+        "Script::is_script(0, steps.as_slice())",
+        Script::is_script(0, steps.as_slice()),
+    );
     Script::new(0, steps)
 }
 
@@ -55,12 +61,16 @@ fn witnessed<R: Abort>(
     scripts: &[Script],
     explored: &Explored,
 ) -> Result<Vec<Verdict>, Fail> {
-    assert!(rt; 1 <= scripts.len() && scripts.len() <= 64);
+    holds(
+        rt,
+        "1 <= scripts.len()  scripts.len() <= 64",
+        1 <= scripts.len() && scripts.len() <= 64,
+    );
     let behaviours = scripts.len() as u16;
     let mut verdicts = Vec::new(alloc);
     for witness in explored.found.as_slice() {
         let replayed = replay_check(alloc, behaviours, witness.history.as_slice())?;
-        assert_eq!(rt; replayed, witness.verdict);
+        is(rt, "replayed", replayed, witness.verdict);
         verdicts.push(witness.verdict)?;
     }
     Ok(verdicts)
@@ -74,12 +84,24 @@ fn are_same(one: &[Verdict], other: &[Verdict]) -> bool {
 // The verdicts that a search found which misses none: those of all schedules, of each one witness, which has its verdict by
 // the component table.
 fn verdicts<R: Abort>(rt: &R, alloc: Global, scripts: &[Script]) -> Result<Vec<Verdict>, Fail> {
-    assert!(rt; 1 <= scripts.len() && scripts.len() <= 64);
+    holds(
+        rt,
+        "1 <= scripts.len()  scripts.len() <= 64",
+        1 <= scripts.len() && scripts.len() <= 64,
+    );
     let explored = explore(alloc, scripts, MANY)?;
-    assert!(rt; explored.ending == Ending::Complete);
+    holds(
+        rt,
+        "explored.ending == Ending::Complete",
+        explored.ending == Ending::Complete,
+    );
     let found = witnessed(rt, alloc, scripts, &explored)?;
     let all = verdicts_of_all(alloc, scripts, CALLS)?.ok_or("fewer calls")?;
-    assert!(rt; are_same(found.as_slice(), all.as_slice()));
+    holds(
+        rt,
+        "are_same(found.as_slice(), all.as_slice())",
+        are_same(found.as_slice(), all.as_slice()),
+    );
     Ok(found)
 }
 
@@ -102,18 +124,35 @@ fn who_waits_has_one_verdict(rt: HostRuntime) -> Result<(), Fail> {
         setting(&rt, alloc, UserVerdict::Pass)?,
     ]?;
     let explored = explore(alloc, scripts.as_slice(), MANY)?;
-    assert!(rt; explored.ending == Ending::Complete && explored.states >= 1);
-    assert_eq!(rt; explored.found.as_slice().len(), 1);
+    holds(
+        &rt,
+        "explored.ending == Ending::Complete ",
+        explored.ending == Ending::Complete && explored.states >= 1,
+    );
+    is(
+        &rt,
+        "explored.found.as_slice().len()",
+        explored.found.as_slice().len(),
+        1,
+    );
     let witness = &explored.found.as_slice()[0];
-    assert_eq!(rt; witness.verdict, Verdict::Pass);
+    is(&rt, "witness.verdict", witness.verdict, Verdict::Pass);
     let history = witness.history.as_slice();
     let callers = [0, 0, 1, 1, 1, 0, 0];
-    assert_eq!(rt; history.len(), callers.len());
+    is(&rt, "history.len()", history.len(), callers.len());
     for (entry, caller) in history.iter().zip(&callers) {
-        assert_eq!(rt; entry.caller, Run(*caller));
+        is(&rt, "entry.caller", entry.caller, Run(*caller));
     }
-    assert!(rt; history[5].reply.same(&Reply::Matched));
-    assert!(rt; history[6].op.same(&Op::Finish));
+    holds(
+        &rt,
+        "history[5].reply.same(Reply::Matched)",
+        history[5].reply.same(&Reply::Matched),
+    );
+    holds(
+        &rt,
+        "history[6].op.same(Op::Finish)",
+        history[6].op.same(&Op::Finish),
+    );
     Ok(())
 }
 
@@ -125,8 +164,12 @@ fn who_does_not_wait_has_two(rt: HostRuntime) -> Result<(), Fail> {
         setting(&rt, alloc, UserVerdict::Fail)?,
     ]?;
     let found = verdicts(&rt, alloc, scripts.as_slice())?;
-    assert_eq!(rt; found.len(), 2);
-    assert!(rt; found.contains(&Verdict::None) && found.contains(&Verdict::Fail));
+    is(&rt, "found.len()", found.len(), 2);
+    holds(
+        &rt,
+        "found.contains(Verdict::None) ",
+        found.contains(&Verdict::None) && found.contains(&Verdict::Fail),
+    );
     Ok(())
 }
 
@@ -144,8 +187,12 @@ fn a_kill_comes_before_or_after_each_setting(rt: HostRuntime) -> Result<(), Fail
         script(&rt, steps),
     ]?;
     let found = verdicts(&rt, alloc, scripts.as_slice())?;
-    assert_eq!(rt; found.len(), 4);
-    assert!(rt; !found.contains(&Verdict::Error));
+    is(&rt, "found.len()", found.len(), 4);
+    holds(
+        &rt,
+        "not found.contains(Verdict::Error)",
+        !found.contains(&Verdict::Error),
+    );
     Ok(())
 }
 
@@ -155,7 +202,11 @@ fn who_waits_in_vain_is_stuck(rt: HostRuntime) -> Result<(), Fail> {
     let steps = vec![in alloc; create(true), wait(TargetPlace::One(P))]?;
     let scripts = vec![in alloc; script(&rt, steps)]?;
     let found = verdicts(&rt, alloc, scripts.as_slice())?;
-    assert!(rt; found.len() == 1 && found[0] == Verdict::Error);
+    holds(
+        &rt,
+        "found.len() == 1  found[0] == Verdict::Error",
+        found.len() == 1 && found[0] == Verdict::Error,
+    );
     Ok(())
 }
 
@@ -168,7 +219,11 @@ fn a_stop_of_the_case_is_an_error(rt: HostRuntime) -> Result<(), Fail> {
         script(&rt, steps),
     ]?;
     let found = verdicts(&rt, alloc, scripts.as_slice())?;
-    assert!(rt; found.len() == 1 && found[0] == Verdict::Error);
+    holds(
+        &rt,
+        "found.len() == 1  found[0] == Verdict::Error",
+        found.len() == 1 && found[0] == Verdict::Error,
+    );
     Ok(())
 }
 
@@ -192,8 +247,12 @@ fn a_restart_comes_too_early_or_not(rt: HostRuntime) -> Result<(), Fail> {
         setting(&rt, alloc, UserVerdict::Inconc)?,
     ]?;
     let found = verdicts(&rt, alloc, scripts.as_slice())?;
-    assert_eq!(rt; found.len(), 2);
-    assert!(rt; found.contains(&Verdict::Inconc) && found.contains(&Verdict::Error));
+    is(&rt, "found.len()", found.len(), 2);
+    holds(
+        &rt,
+        "found.contains(Verdict::Inconc) ",
+        found.contains(&Verdict::Inconc) && found.contains(&Verdict::Error),
+    );
     Ok(())
 }
 
@@ -217,7 +276,11 @@ fn ended_behaviours_on_either_of_two_components(rt: HostRuntime) -> Result<(), F
         script(&rt, Vec::new(alloc)),
     ]?;
     let found = verdicts(&rt, alloc, scripts.as_slice())?;
-    assert!(rt; found.len() == 1 && found[0] == Verdict::None);
+    holds(
+        &rt,
+        "found.len() == 1  found[0] == Verdict::None",
+        found.len() == 1 && found[0] == Verdict::None,
+    );
     Ok(())
 }
 
@@ -230,20 +293,36 @@ fn a_search_ends_at_its_limit(rt: HostRuntime) -> Result<(), Fail> {
     ]?;
     for limit in 0..3 {
         let explored = explore(alloc, scripts.as_slice(), limit)?;
-        assert!(rt; explored.ending == Ending::Undecided);
-        assert_eq!(rt; explored.states, limit);
+        holds(
+            &rt,
+            "explored.ending == Ending::Undecided",
+            explored.ending == Ending::Undecided,
+        );
+        is(&rt, "explored.states", explored.states, limit);
     }
     let explored = explore(alloc, scripts.as_slice(), 3)?;
-    assert!(rt; explored.ending == Ending::Reduced);
+    holds(
+        &rt,
+        "explored.ending == Ending::Reduced",
+        explored.ending == Ending::Reduced,
+    );
     Ok(())
 }
 
 #[test]
 fn without_behaviours_nothing_is_decided(rt: HostRuntime) -> Result<(), Fail> {
     let explored = explore(rt.alloc(), &[], MANY)?;
-    assert!(rt; explored.ending == Ending::Undecided);
-    assert_eq!(rt; explored.states, 0);
-    assert!(rt; explored.found.as_slice().is_empty());
+    holds(
+        &rt,
+        "explored.ending == Ending::Undecided",
+        explored.ending == Ending::Undecided,
+    );
+    is(&rt, "explored.states", explored.states, 0);
+    holds(
+        &rt,
+        "explored.found.as_slice().is_empty()",
+        explored.found.as_slice().is_empty(),
+    );
     Ok(())
 }
 
@@ -264,24 +343,39 @@ fn lines_and_statuses(rt: HostRuntime) -> Result<(), Fail> {
         setting(&rt, alloc, UserVerdict::Fail)?,
     ]?;
     let (line, status) = told(alloc, &explore(alloc, race.as_slice(), MANY)?)?;
-    assert_eq!(rt; line.as_str(), "t none fail complete\n");
-    assert_eq!(rt; status, 1);
+    is(
+        &rt,
+        "line.as_str()",
+        line.as_str(),
+        "t none fail complete\n",
+    );
+    is(&rt, "status", status, 1);
     let (line, status) = told(alloc, &explore(alloc, race.as_slice(), 3)?)?;
-    assert_eq!(rt; line.as_str(), "t none fail looked at 3 states\n");
-    assert_eq!(rt; status, 1);
+    is(
+        &rt,
+        "line.as_str()",
+        line.as_str(),
+        "t none fail looked at 3 states\n",
+    );
+    is(&rt, "status", status, 1);
     let (line, status) = told(alloc, &explore(alloc, race.as_slice(), 0)?)?;
-    assert_eq!(rt; line.as_str(), "t undecided after 0 states\n");
-    assert_eq!(rt; status, 3);
+    is(
+        &rt,
+        "line.as_str()",
+        line.as_str(),
+        "t undecided after 0 states\n",
+    );
+    is(&rt, "status", status, 3);
     let alone = vec![in alloc; setting(&rt, alloc, UserVerdict::Pass)?]?;
     let explored = explore(alloc, alone.as_slice(), MANY)?;
     let (line, status) = told(alloc, &explored)?;
-    assert_eq!(rt; line.as_str(), "t pass complete\n");
-    assert_eq!(rt; status, 0);
+    is(&rt, "line.as_str()", line.as_str(), "t pass complete\n");
+    is(&rt, "status", status, 0);
     let mut out = Vec::new(alloc);
     let name = Name::read("t").ok_or("a name")?;
     explored.append_witnesses(&mut out, &name, 1)?;
     let wanted =
         "history 2 t 1\n0 getverdict -> none\n0 setverdict pass -> ok\n0 finish -> ok\nend pass\n";
-    assert_eq!(rt; out.as_slice(), wanted.as_bytes());
+    is(&rt, "out.as_slice()", out.as_slice(), wanted.as_bytes());
     Ok(())
 }

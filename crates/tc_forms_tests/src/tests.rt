@@ -1,5 +1,8 @@
 //! Summaries made by hand, and their forms. The calls of the library stand in small functions without clauses, so that the
 //! proof of a test carries none of the library's.
+mod checks;
+
+use crate::tests::checks::{holds, is};
 use std::alloc::Global;
 use std::process::Abort;
 use std::test::Fail;
@@ -100,7 +103,7 @@ fn csv_of_every_end(rt: HostRuntime) -> Result<(), Fail> {
     let text = table_of(rt.alloc(), cases.as_slice())?;
     let wanted: &[u8] =
         b"testcase,components,none,pass,inconc,fail,error,verdict\nt_none,1,1,0,0,0,0,none\nt_pass,2,1,1,0,0,0,pass\nt_inconc,1,0,0,1,0,0,inconc\nt_fail,2,0,1,0,1,0,fail\nt_error,1,0,0,0,0,1,error\nt_open,1,0,1,0,0,0,unfinished\nt_torn,0,0,0,0,0,0,aborted\n";
-    assert_eq!(rt; text.as_slice(), wanted);
+    is(&rt, "text.as_slice()", text.as_slice(), wanted);
     Ok(())
 }
 
@@ -110,7 +113,7 @@ fn junit_of_every_end(rt: HostRuntime) -> Result<(), Fail> {
     let text = suite_of(rt.alloc(), "1.2.3", cases.as_slice())?;
     let wanted: &[u8] =
         b"<?xml version=\"1.0\" encoding=\"UTF-8\"?>\n<testsuites tests=\"7\" failures=\"2\" errors=\"3\" skipped=\"1\">\n<testsuite name=\"ttrun\" tests=\"7\" failures=\"2\" errors=\"3\" skipped=\"1\">\n<properties>\n<property name=\"version\" value=\"1.2.3\"/>\n</properties>\n<testcase name=\"t_none\" classname=\"ttrun\">\n<skipped/>\n<system-out>\nlocal 0 none\n</system-out>\n</testcase>\n<testcase name=\"t_pass\" classname=\"ttrun\">\n<system-out>\nlocal 0 pass\nlocal 1 none\n</system-out>\n</testcase>\n<testcase name=\"t_inconc\" classname=\"ttrun\">\n<failure type=\"inconc\" message=\"verdict inconc\"/>\n<system-out>\nlocal 0 inconc\n</system-out>\n</testcase>\n<testcase name=\"t_fail\" classname=\"ttrun\">\n<failure type=\"fail\" message=\"verdict fail\"/>\n<system-out>\nlocal 0 pass\nlocal 1 fail\n</system-out>\n</testcase>\n<testcase name=\"t_error\" classname=\"ttrun\">\n<error type=\"error\" message=\"verdict error\"/>\n<system-out>\nlocal 0 error\n</system-out>\n</testcase>\n<testcase name=\"t_open\" classname=\"ttrun\">\n<error type=\"unfinished\" message=\"the test case is not over\"/>\n<system-out>\nlocal 0 pass\n</system-out>\n</testcase>\n<testcase name=\"t_torn\" classname=\"ttrun\">\n<error type=\"aborted\" message=\"torn\"/>\n<system-out>\n</system-out>\n</testcase>\n</testsuite>\n</testsuites>\n";
-    assert_eq!(rt; text.as_slice(), wanted);
+    is(&rt, "text.as_slice()", text.as_slice(), wanted);
     Ok(())
 }
 
@@ -121,13 +124,13 @@ fn statuses(rt: HostRuntime) -> Result<(), Fail> {
     let all = cases.as_slice();
     let wanted = [0, 0, 1, 1, 2, 2, 2];
     for (one, status) in all.chunks(1).zip(wanted.iter()) {
-        assert_eq!(rt; status_of(one), *status);
+        is(&rt, "status_of(one)", status_of(one), *status);
     }
-    assert_eq!(rt; all.len(), wanted.len());
-    assert_eq!(rt; status_of(all), 2);
+    is(&rt, "all.len()", all.len(), wanted.len());
+    is(&rt, "status_of(all)", status_of(all), 2);
     let four = all.get(..4).ok_or("four test cases")?;
-    assert_eq!(rt; status_of(four), 1);
-    assert_eq!(rt; status_of(&[]), 0);
+    is(&rt, "status_of(four)", status_of(four), 1);
+    is(&rt, "status_of([])", status_of(&[]), 0);
     Ok(())
 }
 
@@ -154,9 +157,9 @@ fn end_of(alloc: Global, finished: bool) -> Result<CaseEnd, Fail> {
 #[test]
 fn ends_of_states(rt: HostRuntime) -> Result<(), Fail> {
     let open = end_of(rt.alloc(), false)?;
-    assert_eq!(rt; open, CaseEnd::Unfinished);
+    is(&rt, "open", open, CaseEnd::Unfinished);
     let over = end_of(rt.alloc(), true)?;
-    assert_eq!(rt; over, CaseEnd::Over(Verdict::Fail));
+    is(&rt, "over", over, CaseEnd::Over(Verdict::Fail));
     Ok(())
 }
 
@@ -165,7 +168,12 @@ fn local_verdicts_of_a_state(rt: HostRuntime) -> Result<(), Fail> {
     let state = played(rt.alloc(), true)?;
     let summary = summary_of_state(rt.alloc(), &name("t")?, &state)?;
     let wanted: &[Verdict] = &[Verdict::Fail, Verdict::None];
-    assert_eq!(rt; summary.locals.as_slice(), wanted);
+    is(
+        &rt,
+        "summary.locals.as_slice()",
+        summary.locals.as_slice(),
+        wanted,
+    );
     Ok(())
 }
 
@@ -210,8 +218,8 @@ fn aborted(why: CaseError) -> Result<CampaignEnd, Fail> {
 
 /// Compares what was written with what was made, which is so long at least.
 fn compare<R: Abort>(rt: &R, written: &[u8], made: &[u8], least: usize) {
-    assert_eq!(rt; written, made);
-    assert!(rt; made.len() > least);
+    is(rt, "written", written, made);
+    holds(rt, "made.len() > least", made.len() > least);
 }
 
 // The JUnit report of results is that of their summaries.
@@ -232,7 +240,7 @@ fn summaries_of_some_results(rt: HostRuntime) -> Result<(), Fail> {
     let cases = [("a", Verdict::Pass), ("b", Verdict::Error)];
     let results = results_of(rt.alloc(), &cases, CampaignEnd::Complete)?;
     let summaries = summaries_of(rt.alloc(), &results)?;
-    assert_eq!(rt; summaries.len(), 2);
+    is(&rt, "summaries.len()", summaries.len(), 2);
     let wanted = table_of_results(rt.alloc(), &results)?;
     let made = table_of(rt.alloc(), summaries.as_slice())?;
     compare(&rt, wanted.as_slice(), made.as_slice(), 60);
@@ -244,9 +252,18 @@ fn summary_of_an_aborted_campaign(rt: HostRuntime) -> Result<(), Fail> {
     let ending = aborted(CaseError::NoThread)?;
     let results = results_of(rt.alloc(), &[("a", Verdict::Pass)], ending)?;
     let summaries = summaries_of(rt.alloc(), &results)?;
-    assert_eq!(rt; summaries.len(), 2);
+    is(&rt, "summaries.len()", summaries.len(), 2);
     let last = summaries.last().ok_or("a summary")?;
-    assert_eq!(rt; last.ending, CaseEnd::Aborted(CaseError::NoThread));
-    assert!(rt; last.name.same(&name("b")?));
+    is(
+        &rt,
+        "last.ending",
+        last.ending,
+        CaseEnd::Aborted(CaseError::NoThread),
+    );
+    holds(
+        &rt,
+        "last.name.same(name('b'))",
+        last.name.same(&name("b")?),
+    );
     Ok(())
 }

@@ -1,5 +1,8 @@
 //! Worked cases, each a whole input with its whole output. The calls of the library stand in small functions without
 //! clauses, so that the proof of a test carries none of the library's.
+mod checks;
+
+use crate::tests::checks::is;
 use calls::{answer, carry_out, fault_line};
 use std::alloc::{AllocError, Global};
 use std::process::Abort;
@@ -79,7 +82,7 @@ impl Command {
             Err(fault) => fault_line(&fault, &mut told)?,
         }
         let wanted = lines(rt.alloc(), line)?;
-        assert_eq!(rt; told.as_slice(), wanted.as_slice());
+        is(rt, "told.as_slice()", told.as_slice(), wanted.as_slice());
         assert!(rt; written.is_empty(), "{line}");
         Ok(())
     }

@@ -1,5 +1,6 @@
 //! Results made by hand, and their texts. The calls of the library stand in small functions without clauses, so that the
 //! proof of a test carries none of the library's.
+mod checks;
 mod devices;
 mod live;
 mod runs;

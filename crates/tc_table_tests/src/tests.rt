@@ -1,5 +1,8 @@
 //! Calls on a table and on a state, and lists of entries. The calls of the library stand in small functions without
 //! clauses, so that the proof of a test carries none of the library's.
+mod checks;
+
+use crate::tests::checks::{holds, is};
 use std::alloc::Global;
 use std::process::Abort;
 use std::test::Fail;
@@ -150,7 +153,12 @@ fn replayed(alloc: Global, list: &[Entry]) -> Result<CaseState, CheckFault> {
 /// Plays the moves on a table, and compares the replies.
 fn plays<R: Abort>(rt: &R, table: &mut Table, moves: &[(u16, Op, Reply)]) -> Result<(), Fail> {
     for (caller, op, reply) in moves {
-        assert_eq!(rt; play(table, *caller, op)?, *reply);
+        is(
+            rt,
+            "play(table, *caller, op)",
+            play(table, *caller, op)?,
+            *reply,
+        );
     }
     Ok(())
 }
@@ -162,8 +170,18 @@ fn state_plays<R: Abort>(
     moves: &[(u16, Op, Reply)],
 ) -> Result<(), Fail> {
     for (caller, op, reply) in moves {
-        assert_eq!(rt; state_would(state, *caller, op), *reply);
-        assert_eq!(rt; state_play(state, *caller, op)?, *reply);
+        is(
+            rt,
+            "state_would(state, *caller, op)",
+            state_would(state, *caller, op),
+            *reply,
+        );
+        is(
+            rt,
+            "state_play(state, *caller, op)",
+            state_play(state, *caller, op)?,
+            *reply,
+        );
     }
     Ok(())
 }
@@ -171,7 +189,12 @@ fn state_plays<R: Abort>(
 #[test]
 fn calls_on_a_table(rt: HostRuntime) -> Result<(), Fail> {
     let mut table = new_table(rt.alloc())?;
-    assert_eq!(rt; would(&table, 0, &create(true)), Reply::Made(Comp(1)));
+    is(
+        &rt,
+        "would(table, 0, create(true))",
+        would(&table, 0, &create(true)),
+        Reply::Made(Comp(1)),
+    );
     let moves = [
         (0, create(true), Reply::Made(Comp(1))),
         (0, start(1, 1), Reply::Ok),
@@ -180,32 +203,42 @@ fn calls_on_a_table(rt: HostRuntime) -> Result<(), Fail> {
         (0, Op::Stop(Group::All), Reply::Ok),
     ];
     plays(&rt, &mut table, &moves)?;
-    assert!(rt; !is_active(&table, 1));
-    assert_eq!(rt; entries(&table), 5);
+    holds(&rt, "not is_active(table, 1)", !is_active(&table, 1));
+    is(&rt, "entries(table)", entries(&table), 5);
     let mut case = Whole {
         behaviours: 2,
         components: 2,
         overall: Verdict::Fail,
         is_over: false,
     };
-    assert_eq!(rt; whole_of(&table), case);
+    is(&rt, "whole_of(table)", whole_of(&table), case);
     let mut component = Seen {
         phase: Some(Phase::Stopped),
         local: Some(Verdict::Fail),
         last_run: Some(Run(1)),
         is_alive_type: true,
     };
-    assert_eq!(rt; seen_in(&table, 1), component);
-    assert_eq!(rt; seen_in(&table, 2), NOTHING);
+    is(&rt, "seen_in(table, 1)", seen_in(&table, 1), component);
+    is(&rt, "seen_in(table, 2)", seen_in(&table, 2), NOTHING);
     let main = seen_in(&table, 0);
-    assert_eq!(rt; main.phase, Some(Phase::Running(Run(0))));
-    assert!(rt; !main.is_alive_type);
-    assert_eq!(rt; play(&mut table, 0, &Op::Finish)?, Reply::Ok);
+    is(&rt, "main.phase", main.phase, Some(Phase::Running(Run(0))));
+    holds(&rt, "not main.is_alive_type", !main.is_alive_type);
+    is(
+        &rt,
+        "play(mut table, 0, Op::Finish)",
+        play(&mut table, 0, &Op::Finish)?,
+        Reply::Ok,
+    );
     case.is_over = true;
-    assert_eq!(rt; whole_of(&table), case);
+    is(&rt, "whole_of(table)", whole_of(&table), case);
     component.phase = Some(Phase::Killed);
-    assert_eq!(rt; seen_in(&table, 1), component);
-    assert_eq!(rt; play(&mut table, 0, &Op::Finish)?, Reply::Ended);
+    is(&rt, "seen_in(table, 1)", seen_in(&table, 1), component);
+    is(
+        &rt,
+        "play(mut table, 0, Op::Finish)",
+        play(&mut table, 0, &Op::Finish)?,
+        Reply::Ended,
+    );
     Ok(())
 }
 
@@ -223,23 +256,35 @@ fn stop_of_a_case(rt: HostRuntime) -> Result<(), Fail> {
     ];
     state_plays(&rt, &mut state, &moves)?;
     let (main, component) = (seen_in_state(&state, 0), seen_in_state(&state, 1));
-    assert_eq!(rt; main.phase, Some(Phase::Killed));
-    assert_eq!(rt; main.local, Some(Verdict::None));
-    assert_eq!(rt; component.phase, Some(Phase::Killed));
-    assert_eq!(rt; component.local, Some(Verdict::Error));
+    is(&rt, "main.phase", main.phase, Some(Phase::Killed));
+    is(&rt, "main.local", main.local, Some(Verdict::None));
+    is(&rt, "component.phase", component.phase, Some(Phase::Killed));
+    is(
+        &rt,
+        "component.local",
+        component.local,
+        Some(Verdict::Error),
+    );
     let case = whole_of_state(&state);
-    assert!(rt; case.is_over);
-    assert_eq!(rt; case.overall, Verdict::Error);
+    holds(&rt, "case.is_over", case.is_over);
+    is(&rt, "case.overall", case.overall, Verdict::Error);
     Ok(())
 }
 
 #[test]
 fn calls_on_a_state(rt: HostRuntime) -> Result<(), Fail> {
     let mut state = new_state(rt.alloc())?;
-    assert_eq!(rt; whole_of_state(&state).components, 1);
-    assert_eq!(rt;
+    is(
+        &rt,
+        "whole_of_state(state).components",
+        whole_of_state(&state).components,
+        1,
+    );
+    is(
+        &rt,
+        "state_would(state, 0, create(false))",
         state_would(&state, 0, &create(false)),
-        Reply::Made(Comp(1))
+        Reply::Made(Comp(1)),
     );
     let wait = Op::Wait {
         killed: false,
@@ -261,20 +306,30 @@ fn calls_on_a_state(rt: HostRuntime) -> Result<(), Fail> {
         overall: Verdict::Inconc,
         is_over: false,
     };
-    assert_eq!(rt; whole_of_state(&state), case);
+    is(&rt, "whole_of_state(state)", whole_of_state(&state), case);
     let (main, component) = (seen_in_state(&state, 0), seen_in_state(&state, 1));
-    assert_eq!(rt; main.phase, Some(Phase::Running(Run(0))));
-    assert_eq!(rt; main.local, Some(Verdict::None));
-    assert_eq!(rt; component.phase, Some(Phase::Killed));
-    assert_eq!(rt; component.local, Some(Verdict::Inconc));
-    assert!(rt; !component.is_alive_type);
-    assert_eq!(rt; seen_in_state(&state, 2), NOTHING);
+    is(&rt, "main.phase", main.phase, Some(Phase::Running(Run(0))));
+    is(&rt, "main.local", main.local, Some(Verdict::None));
+    is(&rt, "component.phase", component.phase, Some(Phase::Killed));
+    is(
+        &rt,
+        "component.local",
+        component.local,
+        Some(Verdict::Inconc),
+    );
+    holds(&rt, "not component.is_alive_type", !component.is_alive_type);
+    is(
+        &rt,
+        "seen_in_state(state, 2)",
+        seen_in_state(&state, 2),
+        NOTHING,
+    );
     let stop = Op::Stop(Group::One(Comp(7)));
     let reply = state_play(&mut state, 0, &stop)?;
-    assert_eq!(rt; reply, Reply::Fault(Fault::NoComponent));
+    is(&rt, "reply", reply, Reply::Fault(Fault::NoComponent));
     case.is_over = true;
     case.overall = Verdict::Error;
-    assert_eq!(rt; whole_of_state(&state), case);
+    is(&rt, "whole_of_state(state)", whole_of_state(&state), case);
     Ok(())
 }
 
@@ -283,10 +338,14 @@ fn quiet_calls(rt: HostRuntime) -> Result<(), Fail> {
     let mut table = Table::new(rt.alloc(), 1)?;
     table.make_room(2)?;
     let before = room(&table);
-    assert!(rt; 2 <= before);
+    holds(&rt, "2 <= before", 2 <= before);
     let reply = play(&mut table, 0, &Op::GetVerdict)?;
-    assert_eq!(rt; reply, Reply::Local(Verdict::None));
-    assert!(rt; before.saturating_sub(1) <= room(&table));
+    is(&rt, "reply", reply, Reply::Local(Verdict::None));
+    holds(
+        &rt,
+        "before.saturating_sub(1) <= room(table)",
+        before.saturating_sub(1) <= room(&table),
+    );
     Ok(())
 }
 
@@ -306,9 +365,19 @@ fn replay_check_of_a_list(rt: HostRuntime) -> Result<(), Fail> {
         at: 3,
         reply: Reply::Parked,
     };
-    assert_eq!(rt; checked(rt.alloc(), &list), Err(differs));
+    is(
+        &rt,
+        "checked(rt.alloc(), list)",
+        checked(rt.alloc(), &list),
+        Err(differs),
+    );
     list[3].reply = Reply::Parked;
-    assert_eq!(rt; checked(rt.alloc(), &list), Ok(Verdict::None));
+    is(
+        &rt,
+        "checked(rt.alloc(), list)",
+        checked(rt.alloc(), &list),
+        Ok(Verdict::None),
+    );
     Ok(())
 }
 
@@ -321,12 +390,22 @@ fn replay_of_a_restart(rt: HostRuntime) -> Result<(), Fail> {
         entry(start(1, 2), Reply::Ok),
     ];
     let state = replayed(rt.alloc(), &list)?;
-    assert_eq!(rt; whole_of_state(&state).behaviours, 3);
+    is(
+        &rt,
+        "whole_of_state(state).behaviours",
+        whole_of_state(&state).behaviours,
+        3,
+    );
     let (main, component) = (seen_in_state(&state, 0), seen_in_state(&state, 1));
-    assert_eq!(rt; main.last_run, Some(Run(0)));
-    assert_eq!(rt; component.last_run, Some(Run(2)));
-    assert_eq!(rt; component.local, Some(Verdict::None));
-    assert_eq!(rt; seen_in_state(&state, 2).last_run, None);
+    is(&rt, "main.last_run", main.last_run, Some(Run(0)));
+    is(&rt, "component.last_run", component.last_run, Some(Run(2)));
+    is(&rt, "component.local", component.local, Some(Verdict::None));
+    is(
+        &rt,
+        "seen_in_state(state, 2).last_run",
+        seen_in_state(&state, 2).last_run,
+        None,
+    );
     for (run, wanted) in [(0, true), (1, false), (2, true)] {
         assert_eq!(rt; state.is_active(Run(run)), wanted, "run {run}");
     }
@@ -344,7 +423,7 @@ fn texts_of_a_check(rt: HostRuntime) -> Result<(), Fail> {
         (CheckFault::NoMemory, "no memory"),
     ] {
         let shown = format!(in rt.alloc(); "{fault}")?;
-        assert_eq!(rt; shown.as_str(), text);
+        is(&rt, "shown.as_str()", shown.as_str(), text);
     }
     Ok(())
 }
@@ -375,16 +454,54 @@ fn a_copy_goes_on_by_itself(rt: HostRuntime) -> Result<(), Fail> {
     ];
     plays(&rt, &mut table, &moves)?;
     let mut copy = copied(&table, alloc)?;
-    assert_eq!(rt; whole_of(&copy).behaviours, 2);
-    assert_eq!(rt; copies(&copy, alloc)?, 2);
-    assert!(rt; have_same(&table, &copy, 2));
-    assert_eq!(rt; play(&mut copy, 0, &Op::Finish)?, Reply::Ok);
-    assert!(rt; whole_of(&copy).is_over && !whole_of(&table).is_over);
+    is(
+        &rt,
+        "whole_of(copy).behaviours",
+        whole_of(&copy).behaviours,
+        2,
+    );
+    is(&rt, "copies(copy, alloc)", copies(&copy, alloc)?, 2);
+    holds(
+        &rt,
+        "have_same(table, copy, 2)",
+        have_same(&table, &copy, 2),
+    );
+    is(
+        &rt,
+        "play(mut copy, 0, Op::Finish)",
+        play(&mut copy, 0, &Op::Finish)?,
+        Reply::Ok,
+    );
+    holds(
+        &rt,
+        "whole_of(copy).is_over  !whole_of(table).is_over",
+        whole_of(&copy).is_over && !whole_of(&table).is_over,
+    );
     let pass = Op::SetVerdict(UserVerdict::Pass);
-    assert_eq!(rt; would(&copy, 1, &pass), Reply::Ended);
-    assert_eq!(rt; play(&mut table, 1, &pass)?, Reply::Ok);
-    assert_eq!(rt; whole_of(&table).overall, Verdict::Pass);
-    assert_eq!(rt; whole_of(&copy).overall, Verdict::None);
+    is(
+        &rt,
+        "would(copy, 1, pass)",
+        would(&copy, 1, &pass),
+        Reply::Ended,
+    );
+    is(
+        &rt,
+        "play(mut table, 1, pass)",
+        play(&mut table, 1, &pass)?,
+        Reply::Ok,
+    );
+    is(
+        &rt,
+        "whole_of(table).overall",
+        whole_of(&table).overall,
+        Verdict::Pass,
+    );
+    is(
+        &rt,
+        "whole_of(copy).overall",
+        whole_of(&copy).overall,
+        Verdict::None,
+    );
     Ok(())
 }
 
@@ -392,10 +509,27 @@ fn a_copy_goes_on_by_itself(rt: HostRuntime) -> Result<(), Fail> {
 fn a_copy_of_a_state(rt: HostRuntime) -> Result<(), Fail> {
     let mut state = new_state(rt.alloc())?;
     let early = state_copied(&state, rt.alloc())?;
-    assert!(rt; !whole_of_state(&early).is_over);
-    assert_eq!(rt; state_play(&mut state, 0, &Op::Finish)?, Reply::Ok);
+    holds(
+        &rt,
+        "not whole_of_state(early).is_over",
+        !whole_of_state(&early).is_over,
+    );
+    is(
+        &rt,
+        "state_play(mut state, 0, Op::Finish)",
+        state_play(&mut state, 0, &Op::Finish)?,
+        Reply::Ok,
+    );
     let late = state_copied(&state, rt.alloc())?;
-    assert!(rt; whole_of_state(&late).is_over);
-    assert!(rt; !whole_of_state(&early).is_over);
+    holds(
+        &rt,
+        "whole_of_state(late).is_over",
+        whole_of_state(&late).is_over,
+    );
+    holds(
+        &rt,
+        "not whole_of_state(early).is_over",
+        !whole_of_state(&early).is_over,
+    );
     Ok(())
 }

@@ -1,5 +1,6 @@
 //! Which test cases are chosen by their names and by a shard.
 use super::*;
+use crate::tests::checks::is;
 use std::alloc::AllocError;
 
 fn plain(alloc: Global, names: &str) -> Result<Vec<Case<u8>>, Fail> {
@@ -56,7 +57,7 @@ fn chosen_test_cases(rt: HostRuntime) -> Result<(), Fail> {
         let only = names(alloc, only)?;
         let chosen = choose(alloc, cases, only.as_slice(), shard)?;
         let found = told(alloc, chosen.as_slice())?;
-        assert_eq!(rt; found.as_slice(), wanted.as_bytes());
+        is(&rt, "found.as_slice()", found.as_slice(), wanted.as_bytes());
     }
     Ok(())
 }
@@ -78,8 +79,18 @@ fn shards_by_their_numbers(rt: HostRuntime) -> Result<(), Fail> {
     ];
     for (number, of, wanted) in rows {
         let shard = Shard::new(number, of);
-        assert_eq!(rt; shard.map(|shard| shard.place()), wanted);
-        assert_eq!(rt; shard.map(|shard| shard.shards()), wanted.map(|_| of));
+        is(
+            &rt,
+            "shard.map(|shard| shard.place())",
+            shard.map(|shard| shard.place()),
+            wanted,
+        );
+        is(
+            &rt,
+            "shard.map(|shard| shard.shards())",
+            shard.map(|shard| shard.shards()),
+            wanted.map(|_| of),
+        );
     }
     Ok(())
 }
@@ -90,7 +101,12 @@ fn names_of_test_cases(rt: HostRuntime) -> Result<(), Fail> {
     let cases = plain(alloc, "a b c")?;
     for (only, wanted) in [("", true), ("c a", true), ("a z", false), ("z", false)] {
         let only = names(alloc, only)?;
-        assert_eq!(rt; have_all(cases.as_slice(), only.as_slice()), wanted);
+        is(
+            &rt,
+            "have_all(cases.as_slice(), only.as_slice())",
+            have_all(cases.as_slice(), only.as_slice()),
+            wanted,
+        );
     }
     Ok(())
 }

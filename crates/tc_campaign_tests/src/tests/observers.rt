@@ -3,6 +3,7 @@ ghost use Rattle.std.specs.Prelude.{⊤, IfOk};
 ghost use Rattle.tc_campaign.specs.Outline.{HasNames};
 
 use super::*;
+use crate::tests::checks::{holds, is};
 use std::io;
 use std::io::Write;
 use tc_stream::devices::{NarrowWriter, WriteFailure};
@@ -51,8 +52,13 @@ fn each_report_comes_before_the_next_case(rt: HostRuntime) -> Result<(), Fail> {
         last: usize::MAX,
     };
     let ending = run_campaign_with(&rt, alloc, cases, None, 0, &mut noting);
-    assert!(rt; matches!(ending, Some(CampaignEnd::Complete)));
-    assert_eq!(rt; noting.noted.as_slice(), [1u64, 2, 3].as_slice());
+    holds(&rt, "ending", matches!(ending, Some(CampaignEnd::Complete)));
+    is(
+        &rt,
+        "noting.noted.as_slice()",
+        noting.noted.as_slice(),
+        [1u64, 2, 3].as_slice(),
+    );
     Ok(())
 }
 
@@ -72,9 +78,14 @@ fn no_case_begins_behind_a_refusal(rt: HostRuntime) -> Result<(), Fail> {
             last,
         };
         let ending = run_campaign_with(&rt, alloc, cases, None, 0, &mut noting);
-        assert!(rt; ending.is_none());
-        assert_eq!(rt; noting.noted.len(), last);
-        assert_eq!(rt; begun.load(Ordering::SeqCst), last as u64);
+        holds(&rt, "ending.is_none()", ending.is_none());
+        is(&rt, "noting.noted.len()", noting.noted.len(), last);
+        is(
+            &rt,
+            "begun.load(Ordering::SeqCst)",
+            begun.load(Ordering::SeqCst),
+            last as u64,
+        );
     }
     Ok(())
 }
@@ -90,8 +101,17 @@ fn the_rule_stops_an_observed_campaign(rt: HostRuntime) -> Result<(), Fail> {
         last: usize::MAX,
     };
     let ending = run_campaign_with(&rt, alloc, cases, Some(Verdict::Pass), 0, &mut noting);
-    assert!(rt; matches!(ending, Some(CampaignEnd::StoppedAfter(_))));
-    assert_eq!(rt; noting.noted.as_slice(), [1u64].as_slice());
+    holds(
+        &rt,
+        "ending",
+        matches!(ending, Some(CampaignEnd::StoppedAfter(_))),
+    );
+    is(
+        &rt,
+        "noting.noted.as_slice()",
+        noting.noted.as_slice(),
+        [1u64].as_slice(),
+    );
     Ok(())
 }
 
@@ -126,14 +146,24 @@ fn a_live_campaign_is_written_case_by_case(rt: HostRuntime) -> Result<(), Fail> 
         flushes: Vec::new(alloc),
     };
     let (ending, status) = run_campaign_live(&rt, alloc, cases, None, 0, Form::Csv, &mut writer)?;
-    assert!(rt; matches!(ending, CampaignEnd::Complete));
-    assert_eq!(rt; status, 0);
+    holds(&rt, "ending", matches!(ending, CampaignEnd::Complete));
+    is(&rt, "status", status, 0);
     let wanted = "testcase,components,none,pass,inconc,fail,error,verdict
 a,1,0,1,0,0,0,pass
 b,1,0,1,0,0,0,pass
 ";
-    assert_eq!(rt; writer.taken.as_slice(), wanted.as_bytes());
-    assert_eq!(rt; writer.flushes.as_slice(), [0u64, 1, 2, 2].as_slice());
+    is(
+        &rt,
+        "writer.taken.as_slice()",
+        writer.taken.as_slice(),
+        wanted.as_bytes(),
+    );
+    is(
+        &rt,
+        "writer.flushes.as_slice()",
+        writer.flushes.as_slice(),
+        [0u64, 1, 2, 2].as_slice(),
+    );
     Ok(())
 }
 
@@ -163,10 +193,15 @@ complete
         let answer = run_campaign_live(&rt, alloc, cases, None, 0, Form::Text, &mut writer);
         assert_eq!(rt; answer.is_ok(), fails_at == text.len(), "at {fails_at}");
         if let Err(fault) = answer {
-            assert_eq!(rt; fault, OutFault::Write);
+            is(&rt, "fault", fault, OutFault::Write);
         }
         let part = text.as_bytes().get(..fails_at).ok_or("a prefix")?;
-        assert_eq!(rt; writer.taken.as_slice(), part);
+        is(
+            &rt,
+            "writer.taken.as_slice()",
+            writer.taken.as_slice(),
+            part,
+        );
         let run = if fails_at < first { 1 } else { 2 };
         assert_eq!(rt; begun.load(Ordering::SeqCst), run, "at {fails_at}");
     }

@@ -2,6 +2,7 @@
 ghost use Rattle.std.specs.Prelude.{IfOk, ⊤};
 ghost use Rattle.tc_campaign.specs.Outline.{HasNames};
 
+use crate::tests::checks::{holds, is};
 use crate::tests::{back, name};
 use std::alloc::Global;
 use std::process::Abort;
@@ -51,7 +52,7 @@ fn case_of<R: Abort>(
         names.push(name("other")?)?;
         jobs.push(Kind::Returns)?;
     }
-    assert!(rt; names.len() == jobs.len());
+    holds(rt, "names.len() == jobs.len()", names.len() == jobs.len());
     Ok(Case {
         name: name(text)?,
         names,
@@ -76,7 +77,7 @@ fn each_refusal_aborts(rt: HostRuntime) -> Result<(), Fail> {
         (Some(Kind::Returns), 2, CaseError::NoThread, "no thread"),
         (Some(Kind::Exchanges(other)), 0, CaseError::Torn, "torn"),
     ]?;
-    assert_eq!(rt; refused.len(), 5);
+    is(&rt, "refused.len()", refused.len(), 5);
     for (first, others, refusal, told) in refused {
         let cases = vec![in alloc;
             case_of(&rt, alloc, "a", Some(Kind::Returns), 1)?,
@@ -88,12 +89,17 @@ fn each_refusal_aborts(rt: HostRuntime) -> Result<(), Fail> {
         let CampaignEnd::Aborted { name, why } = &results.ending else {
             panic!(rt; "aborted: {told}")
         };
-        assert_eq!(rt; name.bytes(), b"b".as_slice());
-        assert_eq!(rt; *why, refusal);
+        is(&rt, "name.bytes()", name.bytes(), b"b".as_slice());
+        is(&rt, "*why", *why, refusal);
         let mut line = Vec::new(alloc);
-        assert_eq!(rt; write_abort(&results, &mut line), Ok(true));
+        is(
+            &rt,
+            "write_abort(results, mut line)",
+            write_abort(&results, &mut line),
+            Ok(true),
+        );
         let wanted = format!(in alloc; "ttrun: aborted at b: {told}\n")?;
-        assert_eq!(rt; line.as_slice(), wanted.as_bytes());
+        is(&rt, "line.as_slice()", line.as_slice(), wanted.as_bytes());
     }
     Ok(())
 }

@@ -2,6 +2,7 @@
 ghost use Rattle.std.specs.Prelude.{IfOk};
 ghost use Rattle.tc_campaign.specs.Outline.{HasNames};
 
+use crate::tests::checks::{holds, is};
 use crate::tests::name;
 use std::alloc::Global;
 use std::process::Abort;
@@ -34,7 +35,11 @@ fn starts_all<R: Abort>(rt: &R, alloc: Global) -> Result<Script, Fail> {
         killed: false,
         target: TargetPlace::All,
     })?;
-    assert!(rt; Script::is_script(0, steps.as_slice()));
+    holds(
+        rt,
+        "Script::is_script(0, steps.as_slice())",
+        Script::is_script(0, steps.as_slice()),
+    );
     Ok(Script::new(0, steps))
 }
 
@@ -44,7 +49,11 @@ fn asks_and_passes<R: Abort>(rt: &R, alloc: Global) -> Result<Script, Fail> {
         Step::Ask(Status::Alive, TargetPlace::One(Place::Bound(0))),
         Step::SetVerdict(UserVerdict::Pass),
     ]?;
-    assert!(rt; Script::is_script(1, steps.as_slice()));
+    holds(
+        rt,
+        "Script::is_script(1, steps.as_slice())",
+        Script::is_script(1, steps.as_slice()),
+    );
     Ok(Script::new(1, steps))
 }
 
@@ -64,7 +73,7 @@ fn scripts<R: Abort + Wait + Copy + Send + 'static>(
         names.push(name("w")?)?;
         jobs.push(ScriptJob::new(*rt, alloc, asks_and_passes(rt, alloc)?))?;
     }
-    assert!(rt; names.len() == jobs.len());
+    holds(rt, "names.len() == jobs.len()", names.len() == jobs.len());
     Ok(Case {
         name: name(text)?,
         names,
@@ -87,19 +96,33 @@ fn sixty_four_scripts(rt: HostRuntime) -> Result<(), Fail> {
     let alloc = rt.alloc();
     let cases = vec![in alloc; scripts(&rt, alloc, "a")?, scripts(&rt, alloc, "b")?]?;
     let results = run_campaign(&rt, alloc, cases, Some(Verdict::Fail), 63);
-    assert!(rt; matches!(results.ending, CampaignEnd::Complete));
+    holds(
+        &rt,
+        "results.ending",
+        matches!(results.ending, CampaignEnd::Complete),
+    );
     let mut out = Vec::new(alloc);
     write_csv(alloc, &results, &mut out)?;
     let wanted = "testcase,components,none,pass,inconc,fail,error,verdict
 a,64,1,63,0,0,0,pass
 b,64,1,63,0,0,0,pass
 ";
-    assert_eq!(rt; out.as_slice(), wanted.as_bytes());
-    assert_eq!(rt; tally(&results).cases, 2);
+    is(&rt, "out.as_slice()", out.as_slice(), wanted.as_bytes());
+    is(&rt, "tally(results).cases", tally(&results).cases, 2);
     for case in results.finished.as_slice() {
-        assert_eq!(rt; case.report.logs.as_slice().len(), 64);
+        is(
+            &rt,
+            "case.report.logs.as_slice().len()",
+            case.report.logs.as_slice().len(),
+            64,
+        );
         for log in case.report.logs.as_slice() {
-            assert_eq!(rt; answered(log), if log.run == Run(0) { 128 } else { 3 });
+            is(
+                &rt,
+                "answered(log)",
+                answered(log),
+                if log.run == Run(0) { 128 } else { 3 },
+            );
         }
     }
     Ok(())

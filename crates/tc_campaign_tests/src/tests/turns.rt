@@ -2,6 +2,7 @@
 ghost use Rattle.std.specs.Prelude.{IfOk, ⊤};
 ghost use Rattle.tc_campaign.specs.Outline.{HasNames};
 
+use crate::tests::checks::{holds, is};
 use crate::tests::{back, name};
 use std::alloc::Global;
 use std::sync::Arc;
@@ -72,8 +73,17 @@ fn one_case_after_the_other(rt: HostRuntime) -> Result<(), Fail> {
         case_of(alloc, "d", turn(3)?)?,
     ]?;
     let results = run_campaign(&rt, alloc, cases, None, 0);
-    assert_eq!(rt; ended.load(Ordering::SeqCst), 4);
-    assert!(rt; matches!(results.ending, CampaignEnd::Complete));
+    is(
+        &rt,
+        "ended.load(Ordering::SeqCst)",
+        ended.load(Ordering::SeqCst),
+        4,
+    );
+    holds(
+        &rt,
+        "results.ending",
+        matches!(results.ending, CampaignEnd::Complete),
+    );
     let mut out = Vec::new(alloc);
     write_csv(alloc, &results, &mut out)?;
     let wanted = "testcase,components,none,pass,inconc,fail,error,verdict
@@ -82,6 +92,6 @@ b,1,0,1,0,0,0,pass
 c,1,0,1,0,0,0,pass
 d,1,0,1,0,0,0,pass
 ";
-    assert_eq!(rt; out.as_slice(), wanted.as_bytes());
+    is(&rt, "out.as_slice()", out.as_slice(), wanted.as_bytes());
     Ok(())
 }

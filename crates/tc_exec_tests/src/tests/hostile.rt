@@ -1,6 +1,7 @@
 //! Behaviours that do what they should not, and threads that are refused.
 ghost use Rattle.std.specs.Prelude.{⊤};
 
+use crate::tests::checks::{holds, is};
 use crate::tests::{Behaviour, starts_all};
 use std::alloc::Global;
 use std::rt::Files;
@@ -47,9 +48,19 @@ fn gate_refuses_a_thread(rt: HostRuntime) -> Result<(), Fail> {
         asked: Vec::new(alloc),
     };
     let refused = run_case_with(&rt, alloc, jobs, 3, &mut gate);
-    assert!(rt; matches!(refused, Err(CaseError::NoThread)));
-    assert_eq!(rt; called.load(Ordering::SeqCst), 0);
-    assert_eq!(rt; gate.asked.as_slice(), [Run(1), Run(2)].as_slice());
+    holds(&rt, "refused", matches!(refused, Err(CaseError::NoThread)));
+    is(
+        &rt,
+        "called.load(Ordering::SeqCst)",
+        called.load(Ordering::SeqCst),
+        0,
+    );
+    is(
+        &rt,
+        "gate.asked.as_slice()",
+        gate.asked.as_slice(),
+        [Run(1), Run(2)].as_slice(),
+    );
     Ok(())
 }
 
@@ -83,8 +94,13 @@ fn workers_end_before_a_refusal(rt: HostRuntime) -> Result<(), Fail> {
         asked: Vec::new(alloc),
     };
     let refused = run_case_with(&rt, alloc, jobs, 2, &mut gate);
-    assert_eq!(rt; gone.load(Ordering::SeqCst), 1);
-    assert!(rt; matches!(refused, Err(CaseError::NoThread)));
+    is(
+        &rt,
+        "gone.load(Ordering::SeqCst)",
+        gone.load(Ordering::SeqCst),
+        1,
+    );
+    holds(&rt, "refused", matches!(refused, Err(CaseError::NoThread)));
     Ok(())
 }
 
@@ -103,8 +119,13 @@ fn workers_end_before_want_of_memory(rt: HostRuntime) -> Result<(), Fail> {
     })?;
     let jobs = vec![in alloc; Job::new(first), Job::new(second)]?;
     let refused = run_case(&rt, alloc, jobs, 1);
-    assert_eq!(rt; gone.load(Ordering::SeqCst), 1);
-    assert!(rt; matches!(refused, Err(CaseError::NoMemory)));
+    is(
+        &rt,
+        "gone.load(Ordering::SeqCst)",
+        gone.load(Ordering::SeqCst),
+        1,
+    );
+    holds(&rt, "refused", matches!(refused, Err(CaseError::NoMemory)));
     Ok(())
 }
 
@@ -160,16 +181,21 @@ fn a_thread_lives_before_the_next_question(rt: HostRuntime) -> Result<(), Fail> 
         let run: Behaviour = Box::new(alloc, move |pass: Pass| Back::after(pass, Ok(())))?;
         jobs.push(Job::new(run))?;
     }
-    assert!(rt; are_threads(&rt, 1));
+    holds(&rt, "are_threads(rt, 1)", are_threads(&rt, 1));
     let mut gate = Counts {
         rt,
         asked: 0,
         found: 0,
     };
     let report = run_case_with(&rt, alloc, jobs, 7, &mut gate)?;
-    assert_eq!(rt; report.logs.as_slice().len(), 1);
-    assert_eq!(rt; gate.asked, 7);
-    assert_eq!(rt; gate.found, 7);
+    is(
+        &rt,
+        "report.logs.as_slice().len()",
+        report.logs.as_slice().len(),
+        1,
+    );
+    is(&rt, "gate.asked", gate.asked, 7);
+    is(&rt, "gate.found", gate.found, 7);
     Ok(())
 }
 
@@ -218,7 +244,7 @@ impl<R: Files + Alloc> Gate for SeesStacks<R> {
 #[test]
 fn stacks_of_workers(rt: HostRuntime) -> Result<(), Fail> {
     let alloc = rt.alloc();
-    assert_eq!(rt; WORKER_STACK, 2_097_152);
+    is(&rt, "WORKER_STACK", WORKER_STACK, 2_097_152);
     let mut jobs = Vec::new(alloc);
     for _ in 0..256 {
         let run: Behaviour = Box::new(alloc, move |pass: Pass| Back::after(pass, Ok(())))?;
@@ -266,7 +292,7 @@ fn a_behaviour_with_a_deep_frame(rt: HostRuntime) -> Result<(), Fail> {
         vec![in alloc; Job::new(first), Job::new(second)]?,
         1,
     )?;
-    assert_eq!(rt; report.verdict, Verdict::Pass);
+    is(&rt, "report.verdict", report.verdict, Verdict::Pass);
     Ok(())
 }
 
@@ -290,7 +316,7 @@ fn pass_of_another_case(rt: HostRuntime) -> Result<(), Fail> {
         let Err(error) = run_case(&rt, alloc, jobs, 64) else {
             panic!(rt; "what came back is not whole")
         };
-        assert_eq!(rt; error, refusal);
+        is(&rt, "error", error, refusal);
     }
     Ok(())
 }
@@ -307,8 +333,8 @@ fn a_whole_case_is_never_torn(rt: HostRuntime) -> Result<(), Fail> {
     let second: Behaviour = Box::new(alloc, move |pass: Pass| Back::after(pass, Ok(())))?;
     let jobs = vec![in alloc; Job::new(first), Job::new(second)]?;
     match run_case(&rt, alloc, jobs, 1) {
-        Ok(report) => assert_eq!(rt; report.verdict, Verdict::Pass),
-        Err(why) => assert_eq!(rt; why, CaseError::NoMemory),
+        Ok(report) => is(&rt, "report.verdict", report.verdict, Verdict::Pass),
+        Err(why) => is(&rt, "why", why, CaseError::NoMemory),
     }
     Ok(())
 }

@@ -1,5 +1,6 @@
 //! Campaigns: scripts that are refused, and scripts that are run.
 use super::*;
+use crate::tests::checks::{holds, is};
 use tc_program::script::stop_word;
 use tc_stream::devices::SlowReader;
 use tc_verdict::Verdict;
@@ -159,18 +160,38 @@ fn refused_scripts(rt: HostRuntime) -> Result<(), Fail> {
 
 #[test]
 fn words_of_stop_on(rt: HostRuntime) -> Result<(), Fail> {
-    assert_eq!(rt; stop_word("error"), Ok(Verdict::Error));
-    assert_eq!(rt; stop_word("inconc"), Ok(Verdict::Inconc));
+    is(
+        &rt,
+        "stop_word('error')",
+        stop_word("error"),
+        Ok(Verdict::Error),
+    );
+    is(
+        &rt,
+        "stop_word('inconc')",
+        stop_word("inconc"),
+        Ok(Verdict::Inconc),
+    );
     for word in ["maybe", "Fail", ""] {
-        assert_eq!(rt; stop_word(word), Err(RunFault::StopOn));
+        is(
+            &rt,
+            "stop_word(word)",
+            stop_word(word),
+            Err(RunFault::StopOn),
+        );
         let mut reader = SlowReader::new(CASES.as_bytes(), usize::MAX);
         let mut written = Vec::new(rt.alloc());
         let mut told = Vec::new(rt.alloc());
         let task = run_task(rt.alloc(), Form::Text, false, Some(word));
         let outcome = carry_out(&rt, rt.alloc(), task, &mut reader, &mut written, &mut told);
         compare_outcome(&rt, &outcome, 3, word);
-        assert_eq!(rt; told.as_slice(), lines(rt.alloc(), NO_VERDICT)?.as_slice());
-        assert!(rt; written.is_empty());
+        is(
+            &rt,
+            "told.as_slice()",
+            told.as_slice(),
+            lines(rt.alloc(), NO_VERDICT)?.as_slice(),
+        );
+        holds(&rt, "written.is_empty()", written.is_empty());
         assert_eq!(rt; reader.reads, 0, "{word}");
     }
     Ok(())

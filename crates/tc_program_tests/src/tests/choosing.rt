@@ -1,5 +1,6 @@
 //! Test cases that are chosen, and lists of them.
 use super::*;
+use crate::tests::checks::is;
 use tc_campaign::Shard;
 use tc_program::choosing::shard_of;
 
@@ -92,9 +93,19 @@ fn choices_that_are_refused(rt: HostRuntime) -> Result<(), Fail> {
 #[test]
 fn words_of_shards(rt: HostRuntime) -> Result<(), Fail> {
     let last = 4294967295u32;
-    assert_eq!(rt; shard_of(None), Ok(None));
-    assert_eq!(rt; shard_of(Some("1/1")), Ok(Shard::new(1, 1)));
+    is(&rt, "shard_of(None)", shard_of(None), Ok(None));
+    is(
+        &rt,
+        "shard_of(Some('1/1'))",
+        shard_of(Some("1/1")),
+        Ok(Shard::new(1, 1)),
+    );
     let last_of_all = Shard::new(last, last);
-    assert_eq!(rt; shard_of(Some("4294967295/4294967295")), Ok(last_of_all));
+    is(
+        &rt,
+        "shard_of(Some('4294967295/4294967295'))",
+        shard_of(Some("4294967295/4294967295")),
+        Ok(last_of_all),
+    );
     Ok(())
 }

@@ -1,5 +1,6 @@
 //! Readers and writers that fail.
 use super::*;
+use crate::tests::checks::{holds, is};
 use tc_command::{ReportForm, VERSION};
 use tc_stream::devices::{NarrowWriter, SlowReader, WriteFailure};
 
@@ -123,20 +124,32 @@ fn reads<R: Abort + Threads + Wait + Copy + Send + 'static>(
     let mut written = Vec::new(alloc);
     let mut told = Vec::new(alloc);
     let outcome = carry_out(rt, alloc, row.task, &mut reader, &mut written, &mut told);
-    assert_eq!(rt; outcome.told, Ok(()));
+    is(rt, "outcome.told", outcome.told, Ok(()));
     if fails_at > input.len() {
-        assert_eq!(rt; outcome.status, row.status);
-        assert_eq!(rt;
+        is(rt, "outcome.status", outcome.status, row.status);
+        is(
+            rt,
+            "written.as_slice()",
             written.as_slice(),
-            lines(alloc, row.output.as_str())?.as_slice()
+            lines(alloc, row.output.as_str())?.as_slice(),
         );
-        assert!(rt; told.is_empty());
+        holds(rt, "told.is_empty()", told.is_empty());
         return Ok(());
     }
     assert_eq!(rt; outcome.status, 3, "at {fails_at}");
-    assert_eq!(rt; told.as_slice(), b"ttrun: read fault\n".as_slice());
-    assert!(rt; written.is_empty());
-    assert_eq!(rt; Some(reader.reads), fails_at.checked_add(1));
+    is(
+        rt,
+        "told.as_slice()",
+        told.as_slice(),
+        b"ttrun: read fault\n".as_slice(),
+    );
+    holds(rt, "written.is_empty()", written.is_empty());
+    is(
+        rt,
+        "Some(reader.reads)",
+        Some(reader.reads),
+        fails_at.checked_add(1),
+    );
     Ok(())
 }
 
@@ -165,19 +178,24 @@ fn writes<R: Abort + Threads + Wait + Copy + Send + 'static>(
         &mut writer,
         &mut told,
     );
-    assert_eq!(rt; outcome.told, Ok(()));
+    is(rt, "outcome.told", outcome.told, Ok(()));
     assert_eq!(rt;
         Some(writer.taken.as_slice()),
         output.as_slice().get(..fails_at),
         "at {fails_at}"
     );
     if fails_at == output.len() {
-        assert_eq!(rt; outcome.status, row.status);
-        assert!(rt; told.is_empty());
+        is(rt, "outcome.status", outcome.status, row.status);
+        holds(rt, "told.is_empty()", told.is_empty());
         return Ok(());
     }
     assert_eq!(rt; outcome.status, 3, "at {fails_at}");
-    assert_eq!(rt; told.as_slice(), b"ttrun: write fault\n".as_slice());
+    is(
+        rt,
+        "told.as_slice()",
+        told.as_slice(),
+        b"ttrun: write fault\n".as_slice(),
+    );
     Ok(())
 }
 
@@ -232,8 +250,8 @@ fn bad_states_are_refused_before_a_read(rt: HostRuntime) -> Result<(), Fail> {
         let task = explore_task(Some(word));
         let outcome = carry_out(&rt, rt.alloc(), task, &mut reader, &mut written, &mut told);
         assert_eq!(rt; told.as_slice(), line, "{word}");
-        assert_eq!(rt; outcome.status, 3);
-        assert!(rt; written.is_empty());
+        is(&rt, "outcome.status", outcome.status, 3);
+        holds(&rt, "written.is_empty()", written.is_empty());
         assert_eq!(rt; reader.reads, 0, "{word}");
     }
     Ok(())
@@ -264,10 +282,15 @@ fn standard_error_that_fails(rt: HostRuntime) -> Result<(), Fail> {
         } else {
             Err(RunFault::Write)
         };
-        assert_eq!(rt; outcome.status, 3);
-        assert_eq!(rt; outcome.told, told);
-        assert_eq!(rt; Some(errors.taken.as_slice()), line.get(..fails_at));
-        assert!(rt; written.is_empty());
+        is(&rt, "outcome.status", outcome.status, 3);
+        is(&rt, "outcome.told", outcome.told, told);
+        is(
+            &rt,
+            "Some(errors.taken.as_slice())",
+            Some(errors.taken.as_slice()),
+            line.get(..fails_at),
+        );
+        holds(&rt, "written.is_empty()", written.is_empty());
     }
     Ok(())
 }
@@ -285,12 +308,12 @@ impl Tried {
         let mut written = Vec::new(alloc);
         match Command::Replay.answer(alloc, input, &mut written) {
             Ok(status) => {
-                assert!(rt; status < 3);
+                holds(rt, "status < 3", status < 3);
                 self.answered = self.answered.saturating_add(1);
             }
             Err(fault) => {
-                assert!(rt; matches!(fault, RunFault::Text(_)));
-                assert!(rt; written.is_empty());
+                holds(rt, "fault", matches!(fault, RunFault::Text(_)));
+                holds(rt, "written.is_empty()", written.is_empty());
                 self.refused = self.refused.saturating_add(1);
             }
         }

@@ -1,5 +1,6 @@
 //! Faults that are explained.
 use super::*;
+use crate::tests::checks::{holds, is};
 
 // Carries out the task on a refused input, and compares what is told.
 fn tells<R: Abort + Threads + Wait + Copy + Send + 'static>(
@@ -10,9 +11,14 @@ fn tells<R: Abort + Threads + Wait + Copy + Send + 'static>(
     lines: &str,
 ) -> Result<(), Fail> {
     let came = came_of(rt, alloc, task, input);
-    assert_eq!(rt; came.outcome.status, 3);
-    assert!(rt; came.written.is_empty());
-    assert_eq!(rt; came.told.as_slice(), lines.as_bytes());
+    is(rt, "came.outcome.status", came.outcome.status, 3);
+    holds(rt, "came.written.is_empty()", came.written.is_empty());
+    is(
+        rt,
+        "came.told.as_slice()",
+        came.told.as_slice(),
+        lines.as_bytes(),
+    );
     Ok(())
 }
 

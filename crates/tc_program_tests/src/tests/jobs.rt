@@ -3,6 +3,7 @@ ghost use Rattle.tc_campaign.specs.Outline.{HasNames};
 
 use super::calls::run_script;
 use super::*;
+use crate::tests::checks::{holds, is};
 use std::io::Write;
 use tc_behaviour::{Behaviour, ScriptJob};
 use tc_book::open_case;
@@ -92,9 +93,13 @@ fn wrong_argument_count_runs_nothing(rt: HostRuntime) -> Result<(), Fail> {
     for as_job in [false, true] {
         let script = script_of_one_parameter(rt.alloc())?;
         let back = back_of(&rt, rt.alloc(), script, as_job)?;
-        assert_eq!(rt; back.ending, Ending::Returned);
-        assert!(rt; back.pass.log().is_empty());
-        assert!(rt; !back.pass.is_ended());
+        is(&rt, "back.ending", back.ending, Ending::Returned);
+        holds(
+            &rt,
+            "back.pass.log().is_empty()",
+            back.pass.log().is_empty(),
+        );
+        holds(&rt, "not back.pass.is_ended()", !back.pass.is_ended());
     }
     Ok(())
 }
@@ -159,10 +164,25 @@ fn empty_case_is_told_of(rt: HostRuntime) -> Result<(), Fail> {
             failure: WriteFailure::Broken,
         };
         let outcome = run_empty(&rt, alloc, &mut written, &mut errors)?;
-        assert_eq!(rt; outcome.status, 3);
-        assert_eq!(rt; outcome.told.is_ok(), fails_at == ABORTED.len());
-        assert_eq!(rt; Some(errors.taken.as_slice()), ABORTED.get(..fails_at));
-        assert_eq!(rt; written.as_slice(), lines(alloc, ABORTED_RUN)?.as_slice());
+        is(&rt, "outcome.status", outcome.status, 3);
+        is(
+            &rt,
+            "outcome.told.is_ok()",
+            outcome.told.is_ok(),
+            fails_at == ABORTED.len(),
+        );
+        is(
+            &rt,
+            "Some(errors.taken.as_slice())",
+            Some(errors.taken.as_slice()),
+            ABORTED.get(..fails_at),
+        );
+        is(
+            &rt,
+            "written.as_slice()",
+            written.as_slice(),
+            lines(alloc, ABORTED_RUN)?.as_slice(),
+        );
     }
     Ok(())
 }
@@ -174,7 +194,12 @@ fn empty_case_of_a_live_run(rt: HostRuntime) -> Result<(), Fail> {
     let mut errors = Vec::new(alloc);
     let outcome = run_empty_live(&rt, alloc, &mut written, &mut errors)?;
     compare_outcome(&rt, &outcome, 3, "a live run");
-    assert_eq!(rt; errors.as_slice(), ABORTED);
-    assert_eq!(rt; written.as_slice(), lines(alloc, ABORTED_RUN)?.as_slice());
+    is(&rt, "errors.as_slice()", errors.as_slice(), ABORTED);
+    is(
+        &rt,
+        "written.as_slice()",
+        written.as_slice(),
+        lines(alloc, ABORTED_RUN)?.as_slice(),
+    );
     Ok(())
 }

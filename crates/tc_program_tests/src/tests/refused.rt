@@ -1,5 +1,6 @@
 //! Inputs that are refused, with nothing written.
 use super::*;
+use crate::tests::checks::is;
 use tc_script::{ScriptFault, ScriptKind};
 use tc_table::{TextFault, TextKind};
 
@@ -57,14 +58,19 @@ fn lines_of_faults(rt: HostRuntime) -> Result<(), Fail> {
         ),
     ];
     for (fault, text) in cases {
-        assert_eq!(rt; fault.to_string(rt.alloc())?.as_str(), text);
+        is(
+            &rt,
+            "fault.to_string(rt.alloc()).as_str()",
+            fault.to_string(rt.alloc())?.as_str(),
+            text,
+        );
         let mut line = Vec::new(rt.alloc());
         fault_line(&fault, &mut line)?;
         let mut wanted = Vec::new(rt.alloc());
         wanted.extend_from_slice(b"ttrun: ")?;
         wanted.extend_from_slice(text.as_bytes())?;
         wanted.push(b'\n')?;
-        assert_eq!(rt; line.as_slice(), wanted.as_slice());
+        is(&rt, "line.as_slice()", line.as_slice(), wanted.as_slice());
     }
     Ok(())
 }

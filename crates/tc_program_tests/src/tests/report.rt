@@ -1,6 +1,7 @@
 //! Forms of histories, and histories that are refused.
 use super::calls::report;
 use super::{Came, Wanted, lines};
+use crate::tests::checks::{holds, is};
 use std::alloc::{AllocGlobal, Global};
 use std::process::Abort;
 use std::test::Fail;
@@ -53,24 +54,33 @@ fn chart_of_a_history(rt: HostRuntime) -> Result<(), Fail> {
     let input =
         "history 2 a 1;0 create named p -> made 1;0 setverdict pass -> ok;0 finish -> ok;end pass";
     let came = report_of(rt.alloc(), ReportForm::Chart, input)?;
-    assert_eq!(rt; came.outcome.status, 0);
-    assert!(rt; came.told.is_empty());
+    is(&rt, "came.outcome.status", came.outcome.status, 0);
+    holds(&rt, "came.told.is_empty()", came.told.is_empty());
     let wanted: &[u8] =
         b"msc {\nwidth=\"400\", wordwraparcs=\"1\";\nc0 [label=\"mtc\"], c1 [label=\"1 p\"];\n--- [label=\"testcase a\"];\nc0>>c1 [label=\"create named p\"];\nc0 rbox c0 [label=\"setverdict pass\", textbgcolour=\"#99ff99\"];\nc0 abox c0 [label=\"finish run 0\"];\nc0 rbox c0 [label=\"local pass\", textbgcolour=\"#99ff99\"],\nc1 rbox c1 [label=\"local none\", textbgcolour=\"#eeeeee\"];\nc0 abox c1 [label=\"verdict pass\", textbgcolour=\"#99ff99\"];\n|||;\n}\n";
-    assert_eq!(rt; came.written.as_slice(), wanted);
+    is(
+        &rt,
+        "came.written.as_slice()",
+        came.written.as_slice(),
+        wanted,
+    );
     Ok(())
 }
 
 #[test]
 fn junit_of_two_histories(rt: HostRuntime) -> Result<(), Fail> {
     let came = report_of(rt.alloc(), ReportForm::Junit, TWO)?;
-    assert_eq!(rt; came.outcome.status, 1);
-    assert!(rt; came.told.is_empty());
+    is(&rt, "came.outcome.status", came.outcome.status, 1);
+    holds(&rt, "came.told.is_empty()", came.told.is_empty());
     let start = lines(
         rt.alloc(),
         "<?xml version=\"1.0\" encoding=\"UTF-8\"?>;<testsuites tests=\"2\" failures=\"1\" errors=\"0\" skipped=\"1\">",
     )?;
-    assert!(rt; came.written.as_slice().starts_with(start.as_slice()));
+    holds(
+        &rt,
+        "came.written.as_slice().starts_with(start.as_slice",
+        came.written.as_slice().starts_with(start.as_slice()),
+    );
     Ok(())
 }
 
@@ -105,7 +115,11 @@ fn text_that_is_none_of_histories(rt: HostRuntime) -> Result<(), Fail> {
         &mut out,
         &mut errors,
     );
-    assert!(rt; matches!(answer, Err(RunFault::Text(_))));
-    assert!(rt; out.is_empty() && errors.is_empty());
+    holds(&rt, "answer", matches!(answer, Err(RunFault::Text(_))));
+    holds(
+        &rt,
+        "out.is_empty()  errors.is_empty()",
+        out.is_empty() && errors.is_empty(),
+    );
     Ok(())
 }

@@ -1,6 +1,7 @@
 //! Command lines.
 use super::calls::{answer_no_task, read_task};
 use super::*;
+use crate::tests::checks::{holds, is};
 use clap::Error;
 use clap::error::ErrorKind;
 use std::{io, str};
@@ -10,7 +11,8 @@ use tc_stream::devices::{NarrowWriter, SlowReader, WriteFailure};
 // Compares the task of the command line.
 fn asks_for<R: Abort>(rt: &R, alloc: Global, line: &str, task: Task) -> Result<(), Fail> {
     let words = words_of(alloc, line)?;
-    assert_eq!(rt; read_task(alloc, words.as_slice())?, task);
+    let asked = read_task(alloc, words.as_slice())?;
+    holds(rt, line, asked == task);
     Ok(())
 }
 
@@ -33,7 +35,12 @@ fn words_and_tasks(rt: HostRuntime) -> Result<(), Fail> {
     let task = run_task(alloc, Form::Csv, true, Some("fail"));
     asks_for(&rt, alloc, "ttrun run --csv --live --stop-on fail", task)?;
     let error = refusal_of(alloc, "ttrun run --csv --live --stop-on fail --history")?;
-    assert_eq!(rt; error.kind(), ErrorKind::ArgumentConflict);
+    is(
+        &rt,
+        "error.kind()",
+        error.kind(),
+        ErrorKind::ArgumentConflict,
+    );
     Ok(())
 }
 
@@ -94,7 +101,7 @@ fn words_that_ask_for_no_task(rt: HostRuntime) -> Result<(), Fail> {
 fn help_that_is_not_written(rt: HostRuntime) -> Result<(), Fail> {
     let alloc = rt.alloc();
     let error = refusal_of(alloc, "ttrun --help")?;
-    assert_eq!(rt; error.kind(), ErrorKind::DisplayHelp);
+    is(&rt, "error.kind()", error.kind(), ErrorKind::DisplayHelp);
     for fails_at in 0..9 {
         let mut writer = NarrowWriter {
             taken: Vec::new(alloc),
@@ -105,8 +112,13 @@ fn help_that_is_not_written(rt: HostRuntime) -> Result<(), Fail> {
         let mut told = Vec::new(alloc);
         let outcome = answer_no_task(alloc, &error, &mut writer, &mut told);
         compare_outcome(&rt, &outcome, 3, "help");
-        assert_eq!(rt; told.as_slice(), b"ttrun: write fault\n".as_slice());
-        assert_eq!(rt; writer.taken.len(), fails_at);
+        is(
+            &rt,
+            "told.as_slice()",
+            told.as_slice(),
+            b"ttrun: write fault\n".as_slice(),
+        );
+        is(&rt, "writer.taken.len()", writer.taken.len(), fails_at);
     }
     Ok(())
 }
@@ -124,9 +136,14 @@ fn compare_unread<R: Abort + Threads + Wait + Copy + Send + 'static>(
     let error = Err(io::Error::from(kind));
     let outcome = answer(rt, alloc, error, &mut reader, &mut written, &mut told);
     compare_outcome(rt, &outcome, 3, line);
-    assert_eq!(rt; told.as_slice(), lines(alloc, line)?.as_slice());
-    assert!(rt; written.is_empty());
-    assert_eq!(rt; reader.reads, 0);
+    is(
+        rt,
+        "told.as_slice()",
+        told.as_slice(),
+        lines(alloc, line)?.as_slice(),
+    );
+    holds(rt, "written.is_empty()", written.is_empty());
+    is(rt, "reader.reads", reader.reads, 0);
     Ok(())
 }
 
@@ -145,7 +162,12 @@ fn words_that_were_not_had(rt: HostRuntime) -> Result<(), Fail> {
         let mut told = Vec::new(alloc);
         let outcome = answer_unread(alloc, &io::Error::from(kind), &mut told);
         compare_outcome(&rt, &outcome, 3, line);
-        assert_eq!(rt; told.as_slice(), lines(alloc, line)?.as_slice());
+        is(
+            &rt,
+            "told.as_slice()",
+            told.as_slice(),
+            lines(alloc, line)?.as_slice(),
+        );
     }
     Ok(())
 }

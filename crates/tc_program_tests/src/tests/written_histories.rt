@@ -1,5 +1,6 @@
 //! Histories that campaigns write, given to `check`.
 use super::*;
+use crate::tests::checks::{holds, is};
 use std::str;
 
 const WORKERS: &str =
@@ -61,16 +62,26 @@ fn writes_legal<R: Abort + Threads + Wait + Copy + Send + 'static>(
     let text = lines(alloc, text)?;
     let task = run_task(alloc, Form::History, false, stop_on);
     let run = came_of(rt, alloc, task, text.as_slice());
-    assert!(rt; run.outcome.status < 3);
-    assert!(rt; run.told.is_empty());
+    holds(rt, "run.outcome.status < 3", run.outcome.status < 3);
+    holds(rt, "run.told.is_empty()", run.told.is_empty());
     let histories = str::from_utf8(run.written.as_slice()).map_err(|_| "a text")?;
     let legal = legal_lines(alloc, histories)?;
-    assert_eq!(rt; legal.as_str().lines().count(), finished);
+    is(
+        rt,
+        "legal.as_str().lines().count()",
+        legal.as_str().lines().count(),
+        finished,
+    );
     let check = Task::Check { explains: false };
     let checked = came_of(rt, alloc, check, histories.as_bytes());
     compare_outcome(rt, &checked.outcome, 0, "a check");
-    assert_eq!(rt; checked.written.as_slice(), legal.as_bytes());
-    assert!(rt; checked.told.is_empty());
+    is(
+        rt,
+        "checked.written.as_slice()",
+        checked.written.as_slice(),
+        legal.as_bytes(),
+    );
+    holds(rt, "checked.told.is_empty()", checked.told.is_empty());
     Ok(())
 }
 
@@ -90,6 +101,6 @@ fn written_histories_are_legal(rt: HostRuntime) -> Result<(), Fail> {
         writes_legal(&rt, rt.alloc(), campaign)?;
         checked = checked.saturating_add(campaign.2);
     }
-    assert_eq!(rt; checked, 140);
+    is(&rt, "checked", checked, 140);
     Ok(())
 }

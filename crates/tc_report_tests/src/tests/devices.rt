@@ -1,5 +1,6 @@
 //! Writers that fail.
 use super::*;
+use crate::tests::checks::is;
 use std::process::Abort;
 use tc_stream::devices::{NarrowWriter, WriteFailure};
 
@@ -23,9 +24,14 @@ fn fails_at<R: Abort>(
         } else {
             Err(OutFault::Write)
         };
-        assert_eq!(rt; answer, wanted);
-        assert_eq!(rt; writer.taken.as_slice(), part);
-        assert_eq!(rt; writer.writes, place.saturating_add(1).min(whole.len()));
+        is(rt, "answer", answer, wanted);
+        is(rt, "writer.taken.as_slice()", writer.taken.as_slice(), part);
+        is(
+            rt,
+            "writer.writes",
+            writer.writes,
+            place.saturating_add(1).min(whole.len()),
+        );
     }
     Ok(())
 }
@@ -53,8 +59,13 @@ fn texts_of_the_faults(rt: HostRuntime) -> Result<(), Fail> {
         (OutFault::NoMemory, "no memory"),
         (OutFault::Write, "write fault"),
     ] {
-        assert_eq!(rt; fault.text(), text);
-        assert_eq!(rt; fault.to_string(rt.alloc())?.as_str(), text);
+        is(&rt, "fault.text()", fault.text(), text);
+        is(
+            &rt,
+            "fault.to_string(rt.alloc()).as_str()",
+            fault.to_string(rt.alloc())?.as_str(),
+            text,
+        );
     }
     Ok(())
 }

@@ -1,5 +1,6 @@
 //! Texts that are written as test cases finish.
 use super::*;
+use crate::tests::checks::{holds, is};
 use std::io;
 use std::process::Abort;
 use tc_report::{LiveWriter, Observer};
@@ -88,10 +89,15 @@ fn the_text_and_the_status_are_those_of_the_end(rt: HostRuntime) -> Result<(), F
     for form in FORMS {
         let mut writer = Flushed::new(alloc, usize::MAX);
         let (taken, answer) = write_live(alloc, form, &mut writer)?;
-        assert_eq!(rt; taken, 2);
-        assert_eq!(rt; answer, Ok(status(&results(alloc)?)));
+        is(&rt, "taken", taken, 2);
+        is(&rt, "answer", answer, Ok(status(&results(alloc)?)));
         let whole = whole_text(alloc, form)?;
-        assert_eq!(rt; writer.taken.as_slice(), whole.as_slice());
+        is(
+            &rt,
+            "writer.taken.as_slice()",
+            writer.taken.as_slice(),
+            whole.as_slice(),
+        );
     }
     Ok(())
 }
@@ -118,7 +124,12 @@ fn each_piece_is_flushed(rt: HostRuntime) -> Result<(), Fail> {
     for form in FORMS {
         let mut writer = Flushed::new(alloc, usize::MAX);
         let pieces = pieces(alloc, form, &mut writer)?;
-        assert_eq!(rt; writer.flushes.as_slice(), pieces.as_slice());
+        is(
+            &rt,
+            "writer.flushes.as_slice()",
+            writer.flushes.as_slice(),
+            pieces.as_slice(),
+        );
     }
     Ok(())
 }
@@ -132,7 +143,11 @@ fn each_flush_fails_in_turn(rt: HostRuntime) -> Result<(), Fail> {
         let (taken, answer) = write_live(alloc, Form::Text, &mut writer)?;
         assert_eq!(rt; answer, Err(OutFault::Write), "at {fails_at}");
         assert_eq!(rt; taken, fails_at.saturating_sub(1).min(2), "at {fails_at}");
-        assert!(rt; whole.as_slice().starts_with(writer.taken.as_slice()));
+        holds(
+            &rt,
+            "whole.as_slice().starts_with(writer.taken.as_slice",
+            whole.as_slice().starts_with(writer.taken.as_slice()),
+        );
     }
     Ok(())
 }
@@ -154,7 +169,7 @@ fn fails_at<R: Abort>(
     };
     assert_eq!(rt; answer, wanted, "at {place}");
     let part = whole.get(..place).ok_or("a prefix")?;
-    assert_eq!(rt; writer.taken.as_slice(), part);
+    is(rt, "writer.taken.as_slice()", writer.taken.as_slice(), part);
     Ok(())
 }
 
@@ -200,8 +215,13 @@ fn no_test_case_at_all(rt: HostRuntime) -> Result<(), Fail> {
         let mut written = Vec::new(alloc);
         let mut live = LiveWriter::new(alloc, form, &mut written);
         begin(&mut live)?;
-        assert_eq!(rt; end(&mut live), Ok(0));
-        assert_eq!(rt; written.as_slice(), wanted.as_bytes());
+        is(&rt, "end(mut live)", end(&mut live), Ok(0));
+        is(
+            &rt,
+            "written.as_slice()",
+            written.as_slice(),
+            wanted.as_bytes(),
+        );
     }
     Ok(())
 }

@@ -1,5 +1,6 @@
 //! Cases that were really run, and their texts.
 use super::*;
+use crate::tests::checks::is;
 use std::str;
 use std::sync::Wait;
 use std::thread::Threads;
@@ -80,9 +81,9 @@ end none
     let text = str::from_utf8(out.as_slice()).map_err(|_| "a text")?;
     let mut lines = text.lines();
     for line in wanted.lines() {
-        assert_eq!(rt; lines.next(), Some(line));
+        is(&rt, "lines.next()", lines.next(), Some(line));
     }
-    assert_eq!(rt; lines.next(), None);
-    assert_eq!(rt; status(&results), 2);
+    is(&rt, "lines.next()", lines.next(), None);
+    is(&rt, "status(results)", status(&results), 2);
     Ok(())
 }

@@ -1,5 +1,6 @@
 //! Reports of results, byte by byte.
 use super::*;
+use crate::tests::checks::{holds, is};
 use std::process::Abort;
 use std::str;
 use tc_report::{Tally, tally, write_abort};
@@ -14,8 +15,8 @@ fn compare<R: Abort>(
     ends_in: u8,
 ) -> Result<(), Fail> {
     let text = text_of(alloc, form, results)?;
-    assert_eq!(rt; text.as_slice(), wanted.as_bytes());
-    assert_eq!(rt; status(results), ends_in);
+    is(rt, "text.as_slice()", text.as_slice(), wanted.as_bytes());
+    is(rt, "status(results)", status(results), ends_in);
     Ok(())
 }
 
@@ -62,10 +63,12 @@ fn no_thread_report(rt: HostRuntime) -> Result<(), Fail> {
     let wanted = "cases 0 none 0 pass 0 inconc 0 fail 0 error 0\naborted at t: no thread\n";
     compare(&rt, rt.alloc(), Form::Text, &results, wanted, 3)?;
     let (is_told, line) = abort_line(rt.alloc(), &results)?;
-    assert!(rt; is_told);
-    assert_eq!(rt;
+    holds(&rt, "is_told", is_told);
+    is(
+        &rt,
+        "line.as_slice()",
         line.as_slice(),
-        "xttrun: aborted at t: no thread\n".as_bytes()
+        "xttrun: aborted at t: no thread\n".as_bytes(),
     );
     Ok(())
 }
@@ -104,8 +107,8 @@ stopped after odd
 ";
     compare(&rt, rt.alloc(), Form::Text, &results, wanted, 2)?;
     let (is_told, line) = abort_line(rt.alloc(), &results)?;
-    assert!(rt; !is_told);
-    assert_eq!(rt; line.as_slice(), b"x".as_slice());
+    holds(&rt, "not is_told", !is_told);
+    is(&rt, "line.as_slice()", line.as_slice(), b"x".as_slice());
     Ok(())
 }
 
@@ -161,10 +164,10 @@ fn tallies_and_statuses(rt: HostRuntime) -> Result<(), Fail> {
         fail: 0,
         error: 0,
     };
-    assert_eq!(rt; tally(&results), wanted);
-    assert_eq!(rt; status(&results), 1);
+    is(&rt, "tally(results)", tally(&results), wanted);
+    is(&rt, "status(results)", status(&results), 1);
     let empty = ended(Vec::new(rt.alloc()), CampaignEnd::Complete);
-    assert_eq!(rt; status(&empty), 0);
+    is(&rt, "status(empty)", status(&empty), 0);
     Ok(())
 }
 
@@ -178,13 +181,23 @@ fn words_of_refusals(rt: HostRuntime) -> Result<(), Fail> {
         (CaseError::Torn, "torn"),
     ];
     for (why, text) in words {
-        assert_eq!(rt; why.text(), text);
-        assert_eq!(rt; why.to_string(rt.alloc())?.as_str(), text);
+        is(&rt, "why.text()", why.text(), text);
+        is(
+            &rt,
+            "why.to_string(rt.alloc()).as_str()",
+            why.to_string(rt.alloc())?.as_str(),
+            text,
+        );
         let results = aborted(rt.alloc(), "case_1", why)?;
         let (is_told, line) = abort_line(rt.alloc(), &results)?;
-        assert!(rt; is_told);
+        holds(&rt, "is_told", is_told);
         let wanted = format!(in rt.alloc(); "xttrun: aborted at case_1: {text}\n")?;
-        assert_eq!(rt; str::from_utf8(line.as_slice()), Ok(wanted.as_str()));
+        is(
+            &rt,
+            "str::from_utf8(line.as_slice())",
+            str::from_utf8(line.as_slice()),
+            Ok(wanted.as_str()),
+        );
     }
     Ok(())
 }
