@@ -38,11 +38,7 @@ fn args(comps: &[Comp]) -> Args {
 }
 
 fn script<R: Abort>(rt: &R, parameters: usize, steps: Vec<Step>) -> Script {
-    holds(
-        rt,
-        "Script::is_script(parameters, steps.as_slice())",
-        Script::is_script(parameters, steps.as_slice()),
-    );
+    assert!(rt; Script::is_script(parameters, steps.as_slice()));
     Script::new(parameters, steps)
 }
 
@@ -88,7 +84,7 @@ fn wrong_argument_count_runs_nothing(rt: HostRuntime) -> Result<(), Fail> {
     let (_, pass, _) = open_case(alloc, 1)?;
     let back = script.run(&rt, alloc, pass);
     is(&rt, "back.ending", back.ending, Ending::Returned);
-    is(&rt, "back.pass.log().len()", back.pass.log().len(), 0);
+    assert_eq!(rt; back.pass.log().len(), 0);
     Ok(())
 }
 
@@ -96,14 +92,10 @@ fn wrong_argument_count_runs_nothing(rt: HostRuntime) -> Result<(), Fail> {
 fn a_script_of_two_parameters_without_arguments(rt: HostRuntime) -> Result<(), Fail> {
     let alloc = rt.alloc();
     let steps = vec![in alloc; Step::GetVerdict]?;
-    holds(
-        &rt,
-        "Script::is_script(2, steps.as_slice())",
-        Script::is_script(2, steps.as_slice()),
-    );
+    assert!(rt; Script::is_script(2, steps.as_slice()));
     let (_, pass, _) = open_case(alloc, 1)?;
     let pass = refused(&rt, alloc, Script::new(2, steps), pass);
-    is(&rt, "pass.log().len()", pass.log().len(), 0);
+    assert_eq!(rt; pass.log().len(), 0);
     holds(&rt, "not pass.is_ended()", !pass.is_ended());
     Ok(())
 }
@@ -211,7 +203,7 @@ fn places_stand_for_components(rt: HostRuntime) -> Result<(), Fail> {
         },
     ]?;
     let back = script(&rt, 0, steps).run(&rt, alloc, pass);
-    is(&rt, "back.pass.log().len()", back.pass.log().len(), 3);
+    assert_eq!(rt; back.pass.log().len(), 3);
     let Ok(pass) = tickets.remove(0).await_start(&rt) else {
         panic!(rt; "the run was started")
     };
@@ -286,7 +278,7 @@ fn a_script_ends_with_its_pass(rt: HostRuntime) -> Result<(), Fail> {
     ]?;
     let back = script(&rt, 0, steps).run(&rt, alloc, pass);
     is(&rt, "back.ending", back.ending, Ending::Returned);
-    is(&rt, "back.pass.log().len()", back.pass.log().len(), 4);
+    assert_eq!(rt; back.pass.log().len(), 4);
     holds(
         &rt,
         "back.pass.log()[3]",
@@ -487,7 +479,7 @@ fn each_step_of_a_long_script(rt: HostRuntime) -> Result<(), Fail> {
     let back = script(&rt, 0, steps).run(&rt, alloc, pass);
     is(&rt, "back.ending", back.ending, Ending::Returned);
     let log = back.pass.log();
-    is(&rt, "log.len()", log.len(), 1000);
+    assert_eq!(rt; log.len(), 1000);
     holds(
         &rt,
         "log[999].reply",

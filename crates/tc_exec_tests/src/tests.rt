@@ -198,10 +198,10 @@ fn unstarted_job_is_dropped(rt: HostRuntime) -> Result<(), Fail> {
         [Verdict::None].as_slice(),
     );
     let logs = report.logs.as_slice();
-    is(&rt, "logs.len()", logs.len(), 1);
+    assert_eq!(rt; logs.len(), 1);
     is(&rt, "logs[0].run", logs[0].run, Run(0));
     let log = logs[0].entries.as_slice();
-    is(&rt, "log.len()", log.len(), 1);
+    assert_eq!(rt; log.len(), 1);
     holds(
         &rt,
         "log[0]",
@@ -230,7 +230,7 @@ fn back_after_its_calls(rt: HostRuntime) -> Result<(), Fail> {
         let back = Back::after(pass, made);
         is(&rt, "back.ending", back.ending, ending);
         is(&rt, "back.pass.run()", back.pass.run(), Run(0));
-        is(&rt, "back.pass.log().len()", back.pass.log().len(), 1);
+        assert_eq!(rt; back.pass.log().len(), 1);
     }
     Ok(())
 }

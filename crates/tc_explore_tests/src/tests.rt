@@ -46,11 +46,7 @@ fn wait(target: TargetPlace) -> Step {
 }
 
 fn script<R: Abort>(rt: &R, steps: Vec<Step>) -> Script {
-    holds(
-        rt,
-        "Script::is_script(0, steps.as_slice())",
-        Script::is_script(0, steps.as_slice()),
-    );
+    assert!(rt; Script::is_script(0, steps.as_slice()));
     Script::new(0, steps)
 }
 
@@ -61,11 +57,7 @@ fn witnessed<R: Abort>(
     scripts: &[Script],
     explored: &Explored,
 ) -> Result<Vec<Verdict>, Fail> {
-    holds(
-        rt,
-        "1 <= scripts.len()  scripts.len() <= 64",
-        1 <= scripts.len() && scripts.len() <= 64,
-    );
+    assert!(rt; 1 <= scripts.len() && scripts.len() <= 64);
     let behaviours = scripts.len() as u16;
     let mut verdicts = Vec::new(alloc);
     for witness in explored.found.as_slice() {
@@ -84,11 +76,7 @@ fn are_same(one: &[Verdict], other: &[Verdict]) -> bool {
 // The verdicts that a search found which misses none: those of all schedules, of each one witness, which has its verdict by
 // the component table.
 fn verdicts<R: Abort>(rt: &R, alloc: Global, scripts: &[Script]) -> Result<Vec<Verdict>, Fail> {
-    holds(
-        rt,
-        "1 <= scripts.len()  scripts.len() <= 64",
-        1 <= scripts.len() && scripts.len() <= 64,
-    );
+    assert!(rt; 1 <= scripts.len() && scripts.len() <= 64);
     let explored = explore(alloc, scripts, MANY)?;
     holds(
         rt,
@@ -129,17 +117,12 @@ fn who_waits_has_one_verdict(rt: HostRuntime) -> Result<(), Fail> {
         "explored.ending == Ending::Complete ",
         explored.ending == Ending::Complete && explored.states >= 1,
     );
-    is(
-        &rt,
-        "explored.found.as_slice().len()",
-        explored.found.as_slice().len(),
-        1,
-    );
+    assert_eq!(rt; explored.found.as_slice().len(), 1);
     let witness = &explored.found.as_slice()[0];
     is(&rt, "witness.verdict", witness.verdict, Verdict::Pass);
     let history = witness.history.as_slice();
     let callers = [0, 0, 1, 1, 1, 0, 0];
-    is(&rt, "history.len()", history.len(), callers.len());
+    assert_eq!(rt; history.len(), callers.len());
     for (entry, caller) in history.iter().zip(&callers) {
         is(&rt, "entry.caller", entry.caller, Run(*caller));
     }
@@ -164,7 +147,7 @@ fn who_does_not_wait_has_two(rt: HostRuntime) -> Result<(), Fail> {
         setting(&rt, alloc, UserVerdict::Fail)?,
     ]?;
     let found = verdicts(&rt, alloc, scripts.as_slice())?;
-    is(&rt, "found.len()", found.len(), 2);
+    assert_eq!(rt; found.len(), 2);
     holds(
         &rt,
         "found.contains(Verdict::None) ",
@@ -187,7 +170,7 @@ fn a_kill_comes_before_or_after_each_setting(rt: HostRuntime) -> Result<(), Fail
         script(&rt, steps),
     ]?;
     let found = verdicts(&rt, alloc, scripts.as_slice())?;
-    is(&rt, "found.len()", found.len(), 4);
+    assert_eq!(rt; found.len(), 4);
     holds(
         &rt,
         "not found.contains(Verdict::Error)",
@@ -202,11 +185,7 @@ fn who_waits_in_vain_is_stuck(rt: HostRuntime) -> Result<(), Fail> {
     let steps = vec![in alloc; create(true), wait(TargetPlace::One(P))]?;
     let scripts = vec![in alloc; script(&rt, steps)]?;
     let found = verdicts(&rt, alloc, scripts.as_slice())?;
-    holds(
-        &rt,
-        "found.len() == 1  found[0] == Verdict::Error",
-        found.len() == 1 && found[0] == Verdict::Error,
-    );
+    assert!(rt; found.len() == 1 && found[0] == Verdict::Error);
     Ok(())
 }
 
@@ -219,11 +198,7 @@ fn a_stop_of_the_case_is_an_error(rt: HostRuntime) -> Result<(), Fail> {
         script(&rt, steps),
     ]?;
     let found = verdicts(&rt, alloc, scripts.as_slice())?;
-    holds(
-        &rt,
-        "found.len() == 1  found[0] == Verdict::Error",
-        found.len() == 1 && found[0] == Verdict::Error,
-    );
+    assert!(rt; found.len() == 1 && found[0] == Verdict::Error);
     Ok(())
 }
 
@@ -247,7 +222,7 @@ fn a_restart_comes_too_early_or_not(rt: HostRuntime) -> Result<(), Fail> {
         setting(&rt, alloc, UserVerdict::Inconc)?,
     ]?;
     let found = verdicts(&rt, alloc, scripts.as_slice())?;
-    is(&rt, "found.len()", found.len(), 2);
+    assert_eq!(rt; found.len(), 2);
     holds(
         &rt,
         "found.contains(Verdict::Inconc) ",
@@ -276,11 +251,7 @@ fn ended_behaviours_on_either_of_two_components(rt: HostRuntime) -> Result<(), F
         script(&rt, Vec::new(alloc)),
     ]?;
     let found = verdicts(&rt, alloc, scripts.as_slice())?;
-    holds(
-        &rt,
-        "found.len() == 1  found[0] == Verdict::None",
-        found.len() == 1 && found[0] == Verdict::None,
-    );
+    assert!(rt; found.len() == 1 && found[0] == Verdict::None);
     Ok(())
 }
 

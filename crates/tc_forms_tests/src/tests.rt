@@ -126,7 +126,7 @@ fn statuses(rt: HostRuntime) -> Result<(), Fail> {
     for (one, status) in all.chunks(1).zip(wanted.iter()) {
         is(&rt, "status_of(one)", status_of(one), *status);
     }
-    is(&rt, "all.len()", all.len(), wanted.len());
+    assert_eq!(rt; all.len(), wanted.len());
     is(&rt, "status_of(all)", status_of(all), 2);
     let four = all.get(..4).ok_or("four test cases")?;
     is(&rt, "status_of(four)", status_of(four), 1);
@@ -219,7 +219,7 @@ fn aborted(why: CaseError) -> Result<CampaignEnd, Fail> {
 /// Compares what was written with what was made, which is so long at least.
 fn compare<R: Abort>(rt: &R, written: &[u8], made: &[u8], least: usize) {
     is(rt, "written", written, made);
-    holds(rt, "made.len() > least", made.len() > least);
+    assert!(rt; made.len() > least);
 }
 
 // The JUnit report of results is that of their summaries.
@@ -240,7 +240,7 @@ fn summaries_of_some_results(rt: HostRuntime) -> Result<(), Fail> {
     let cases = [("a", Verdict::Pass), ("b", Verdict::Error)];
     let results = results_of(rt.alloc(), &cases, CampaignEnd::Complete)?;
     let summaries = summaries_of(rt.alloc(), &results)?;
-    is(&rt, "summaries.len()", summaries.len(), 2);
+    assert_eq!(rt; summaries.len(), 2);
     let wanted = table_of_results(rt.alloc(), &results)?;
     let made = table_of(rt.alloc(), summaries.as_slice())?;
     compare(&rt, wanted.as_slice(), made.as_slice(), 60);
@@ -252,7 +252,7 @@ fn summary_of_an_aborted_campaign(rt: HostRuntime) -> Result<(), Fail> {
     let ending = aborted(CaseError::NoThread)?;
     let results = results_of(rt.alloc(), &[("a", Verdict::Pass)], ending)?;
     let summaries = summaries_of(rt.alloc(), &results)?;
-    is(&rt, "summaries.len()", summaries.len(), 2);
+    assert_eq!(rt; summaries.len(), 2);
     let last = summaries.last().ok_or("a summary")?;
     is(
         &rt,

@@ -79,7 +79,7 @@ fn no_case_begins_behind_a_refusal(rt: HostRuntime) -> Result<(), Fail> {
         };
         let ending = run_campaign_with(&rt, alloc, cases, None, 0, &mut noting);
         holds(&rt, "ending.is_none()", ending.is_none());
-        is(&rt, "noting.noted.len()", noting.noted.len(), last);
+        assert_eq!(rt; noting.noted.len(), last);
         is(
             &rt,
             "begun.load(Ordering::SeqCst)",

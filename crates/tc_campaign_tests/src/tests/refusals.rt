@@ -2,7 +2,7 @@
 ghost use Rattle.std.specs.Prelude.{IfOk, ⊤};
 ghost use Rattle.tc_campaign.specs.Outline.{HasNames};
 
-use crate::tests::checks::{holds, is};
+use crate::tests::checks::is;
 use crate::tests::{back, name};
 use std::alloc::Global;
 use std::process::Abort;
@@ -52,7 +52,7 @@ fn case_of<R: Abort>(
         names.push(name("other")?)?;
         jobs.push(Kind::Returns)?;
     }
-    holds(rt, "names.len() == jobs.len()", names.len() == jobs.len());
+    assert!(rt; names.len() == jobs.len());
     Ok(Case {
         name: name(text)?,
         names,
@@ -77,7 +77,7 @@ fn each_refusal_aborts(rt: HostRuntime) -> Result<(), Fail> {
         (Some(Kind::Returns), 2, CaseError::NoThread, "no thread"),
         (Some(Kind::Exchanges(other)), 0, CaseError::Torn, "torn"),
     ]?;
-    is(&rt, "refused.len()", refused.len(), 5);
+    assert_eq!(rt; refused.len(), 5);
     for (first, others, refusal, told) in refused {
         let cases = vec![in alloc;
             case_of(&rt, alloc, "a", Some(Kind::Returns), 1)?,

@@ -35,11 +35,7 @@ fn starts_all<R: Abort>(rt: &R, alloc: Global) -> Result<Script, Fail> {
         killed: false,
         target: TargetPlace::All,
     })?;
-    holds(
-        rt,
-        "Script::is_script(0, steps.as_slice())",
-        Script::is_script(0, steps.as_slice()),
-    );
+    assert!(rt; Script::is_script(0, steps.as_slice()));
     Ok(Script::new(0, steps))
 }
 
@@ -49,11 +45,7 @@ fn asks_and_passes<R: Abort>(rt: &R, alloc: Global) -> Result<Script, Fail> {
         Step::Ask(Status::Alive, TargetPlace::One(Place::Bound(0))),
         Step::SetVerdict(UserVerdict::Pass),
     ]?;
-    holds(
-        rt,
-        "Script::is_script(1, steps.as_slice())",
-        Script::is_script(1, steps.as_slice()),
-    );
+    assert!(rt; Script::is_script(1, steps.as_slice()));
     Ok(Script::new(1, steps))
 }
 
@@ -73,7 +65,7 @@ fn scripts<R: Abort + Wait + Copy + Send + 'static>(
         names.push(name("w")?)?;
         jobs.push(ScriptJob::new(*rt, alloc, asks_and_passes(rt, alloc)?))?;
     }
-    holds(rt, "names.len() == jobs.len()", names.len() == jobs.len());
+    assert!(rt; names.len() == jobs.len());
     Ok(Case {
         name: name(text)?,
         names,
@@ -110,12 +102,7 @@ b,64,1,63,0,0,0,pass
     is(&rt, "out.as_slice()", out.as_slice(), wanted.as_bytes());
     is(&rt, "tally(results).cases", tally(&results).cases, 2);
     for case in results.finished.as_slice() {
-        is(
-            &rt,
-            "case.report.logs.as_slice().len()",
-            case.report.logs.as_slice().len(),
-            64,
-        );
+        assert_eq!(rt; case.report.logs.as_slice().len(), 64);
         for log in case.report.logs.as_slice() {
             is(
                 &rt,

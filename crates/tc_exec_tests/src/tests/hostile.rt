@@ -188,12 +188,7 @@ fn a_thread_lives_before_the_next_question(rt: HostRuntime) -> Result<(), Fail> 
         found: 0,
     };
     let report = run_case_with(&rt, alloc, jobs, 7, &mut gate)?;
-    is(
-        &rt,
-        "report.logs.as_slice().len()",
-        report.logs.as_slice().len(),
-        1,
-    );
+    assert_eq!(rt; report.logs.as_slice().len(), 1);
     is(&rt, "gate.asked", gate.asked, 7);
     is(&rt, "gate.found", gate.found, 7);
     Ok(())

@@ -4,11 +4,7 @@ use crate::tests::checks::{holds, is};
 
 // The details of a test case whose search came to its end.
 fn details<R: Abort>(rt: &R, alloc: Global, scripts: &[Script]) -> Result<String, Fail> {
-    holds(
-        rt,
-        "1 <= scripts.len()  scripts.len() <= 64",
-        1 <= scripts.len() && scripts.len() <= 64,
-    );
+    assert!(rt; 1 <= scripts.len() && scripts.len() <= 64);
     let explored = explore(alloc, scripts, MANY)?;
     holds(
         rt,
@@ -79,11 +75,7 @@ fn who_waits_for_whom(rt: HostRuntime) -> Result<(), Fail> {
             target: TargetPlace::One(P)
         },
     ]?;
-    holds(
-        &rt,
-        "Script::is_script(1, waiting.as_slice())",
-        Script::is_script(1, waiting.as_slice()),
-    );
+    assert!(rt; Script::is_script(1, waiting.as_slice()));
     let scripts = vec![in alloc; script(&rt, steps), Script::new(1, waiting)]?;
     let text = details(&rt, alloc, scripts.as_slice())?;
     let wanted =

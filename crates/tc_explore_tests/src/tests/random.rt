@@ -1,7 +1,6 @@
 //! Random scripts.
 ghost use Rattle.std.specs.Prelude.{◌<◌};
 
-use crate::tests::checks::holds;
 use std::alloc::Global;
 use std::process::Abort;
 use std::test::Fail;
@@ -116,11 +115,7 @@ fn script<R: Abort>(
     for _ in 0..random.below(longest) {
         steps.push(random.step())?;
     }
-    holds(
-        rt,
-        "Script::is_script(parameters, steps.as_slice())",
-        Script::is_script(parameters, steps.as_slice()),
-    );
+    assert!(rt; Script::is_script(parameters, steps.as_slice()));
     Ok(Script::new(parameters, steps))
 }
 

@@ -4,7 +4,6 @@ ghost use Rattle.tc_entry.specs.declared.limits.TheConstants.{BEHAVIOURS};
 
 use super::play::Play;
 use super::random::random_scripts;
-use crate::tests::checks::holds;
 use std::alloc::Global;
 use std::test::Fail;
 use tc_behaviour::ScriptJob;
@@ -80,11 +79,7 @@ fn histories_of_runs_are_complete_courses(rt: HostRuntime) -> Result<(), Fail> {
         }
         let report = run_case_with(&rt, alloc, jobs, 2, &mut Everyone)?;
         let scripts = random_scripts(&rt, alloc, seed, LONGEST)?;
-        holds(
-            &rt,
-            "1 <= scripts.len()  scripts.len() <= 64",
-            1 <= scripts.len() && scripts.len() <= 64,
-        );
+        assert!(rt; 1 <= scripts.len() && scripts.len() <= 64);
         let history = report.history.as_slice();
         let is_course = is_played(alloc, scripts.as_slice(), history, report.verdict)?;
         assert!(rt; is_course, "{seed}");

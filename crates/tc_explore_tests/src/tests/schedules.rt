@@ -2,7 +2,6 @@
 use super::play::verdicts_of_all;
 use super::random::random_scripts;
 use super::*;
-use crate::tests::checks::holds;
 
 /// How many cases are drawn.
 const CASES: u64 = 1_500;
@@ -40,11 +39,7 @@ fn a_complete_search_finds_the_verdicts_of_all_schedules(rt: HostRuntime) -> Res
     for seed in 0..CASES {
         let scripts = random_scripts(&rt, alloc, seed, LONGEST)?;
         let scripts = scripts.as_slice();
-        holds(
-            &rt,
-            "1 <= scripts.len()  scripts.len() <= 64",
-            1 <= scripts.len() && scripts.len() <= 64,
-        );
+        assert!(rt; 1 <= scripts.len() && scripts.len() <= 64);
         let explored = explore(alloc, scripts, MANY)?;
         let found = witnessed(&rt, alloc, scripts, &explored)?;
         let Some(all) = verdicts_of_all(alloc, scripts, CALLS)? else {

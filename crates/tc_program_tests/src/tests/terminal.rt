@@ -82,12 +82,7 @@ fn the_line_stands_before_the_first_read_alone(rt: HostRuntime) -> Result<(), Fa
         );
         is(&rt, "input.read(mut byte)", input.read(&mut byte)?, 1);
         is(&rt, "input.read(mut byte)", input.read(&mut byte)?, 0);
-        is(
-            &rt,
-            "input.errors.taken.len()",
-            input.errors.taken.len(),
-            told,
-        );
+        assert_eq!(rt; input.errors.taken.len(), told);
     }
     Ok(())
 }

@@ -118,7 +118,7 @@ fn help_that_is_not_written(rt: HostRuntime) -> Result<(), Fail> {
             told.as_slice(),
             b"ttrun: write fault\n".as_slice(),
         );
-        is(&rt, "writer.taken.len()", writer.taken.len(), fails_at);
+        assert_eq!(rt; writer.taken.len(), fails_at);
     }
     Ok(())
 }
