@@ -19,7 +19,6 @@ FLOORS = {
     "checks of a history": (2, 15),
     "readers": (5, 60),
     "writers": (40, 40),
-    "forms and summaries": (6, 6),
     "boards": (3, 9),
     "opened cases": (3, 250),
     "calls on a pass": (32, 9),

@@ -4,7 +4,6 @@
 #![tactic(auto)]
 
 mod books;
-mod forms;
 mod outcome;
 mod quiet;
 mod refusal;
@@ -29,7 +28,6 @@ enum Kind {
     Replay,
     Read,
     Write,
-    Form,
     NewBoard,
     Open,
     Call,
@@ -37,14 +35,13 @@ enum Kind {
     Quiet,
 }
 
-const KINDS: [(Kind, &str); 12] = [
+const KINDS: [(Kind, &str); 11] = [
     (Kind::NewTable, "tables"),
     (Kind::Play, "moves on a table"),
     (Kind::MakeRoom, "room on a table"),
     (Kind::Replay, "checks of a history"),
     (Kind::Read, "readers"),
     (Kind::Write, "writers"),
-    (Kind::Form, "forms and summaries"),
     (Kind::NewBoard, "boards"),
     (Kind::Open, "opened cases"),
     (Kind::Call, "calls on a pass"),
@@ -70,7 +67,6 @@ fn make<R: Threads + Wait + Copy + Send + 'static>(
         Kind::Replay => tables::replay(alloc, place, refusal),
         Kind::Read => texts::read(alloc, place, refusal),
         Kind::Write => texts::write(alloc, place, refusal),
-        Kind::Form => forms::make(alloc, place, refusal),
         Kind::NewBoard => books::new_board(alloc, place, refusal),
         Kind::Open => books::open(alloc, place, refusal),
         Kind::Call => books::call(rt, alloc, place, refusal),

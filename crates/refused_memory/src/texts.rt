@@ -11,7 +11,7 @@ use tc_stream::{InputFault, read_input};
 use tc_text::{MoveList, TextFault, read_moves, write_move, write_reply};
 
 /// Histories of both formats.
-pub const HISTORIES: &str = "history 1 first 2
+const HISTORIES: &str = "history 1 first 2
 0 create -> made 1
 0 start 1 1 0 -> ok
 1 setverdict fail -> ok
