@@ -38,22 +38,18 @@ class Task:
         """Whether the words have this one."""
         return word in self.words
 
-    def campaign(self) -> Campaign:
-        """The campaign of the input."""
-        return read_script(self.given)
-
     def behind(self, option: str) -> List[str]:
         """The words that stand behind an option."""
         return [word for before, word in zip(self.words, self.words[1:]) if before == option]
 
-    def chosen(self) -> List[str]:
-        """The names of the test cases that are run: those behind `--only`, or all, and of these the shard's."""
+    def campaign(self) -> Campaign:
+        """The test cases that are run: those behind `--only`, or all, and of these the shard's."""
         only = self.behind("--only")
-        names = [it.name for it in self.campaign() if not only or it.name in only]
+        cases = [it for it in read_script(self.given) if not only or it.name in only]
         for shard in self.behind("--shard"):
             number, shards = map(int, shard.split("/"))
-            names = names[number - 1::shards]
-        return names
+            cases = cases[number - 1::shards]
+        return cases
 
 
 @dataclass
@@ -137,7 +133,7 @@ def differs(task: Task, wanted: bytes, ran: Ran, count: int) -> List[str]:
 
 def judged_right(task: Task, ample: Ran, ran: Ran) -> Outcome:
     """A run that ended with the status of ample memory."""
-    count = len(task.chosen()) if task.is_run and task.has(HISTORY) else 0
+    count = len(task.campaign()) if task.is_run and task.has(HISTORY) else 0
     faults = differs(task, ample.output, ran, count)
     if ran.errors != ample.errors:
         faults.append(f"standard error: {ran.errors[:200]!r}")
@@ -146,7 +142,7 @@ def judged_right(task: Task, ample: Ran, ran: Ran) -> Outcome:
 
 def judged_aborted(task: Task, ample: Ran, ran: Ran, name: str, why: str) -> Outcome:
     """A campaign that was aborted at a test case."""
-    names = task.chosen()
+    names = [it.name for it in task.campaign()]
     if name not in names or why not in ("no memory", "no thread"):
         return Outcome("wrong", f"aborted at {name}: {why}")
     finished = names.index(name)
