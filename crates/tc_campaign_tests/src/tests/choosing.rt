@@ -62,6 +62,14 @@ fn chosen_test_cases(rt: HostRuntime) -> Result<(), Fail> {
     Ok(())
 }
 
+// The place of the shard of this number, and how many there are, if there is such a shard.
+fn seen(number: u32, of: u32) -> Option<(u32, u32)> {
+    match Shard::new(number, of) {
+        Some(shard) => Some((shard.place(), shard.shards())),
+        None => None,
+    }
+}
+
 // Each number of a shard from 0 on, and one behind the last, with the place of the shard.
 #[test]
 fn shards_by_their_numbers(rt: HostRuntime) -> Result<(), Fail> {
@@ -69,28 +77,16 @@ fn shards_by_their_numbers(rt: HostRuntime) -> Result<(), Fail> {
         (0, 0, None),
         (1, 0, None),
         (0, 1, None),
-        (1, 1, Some(0)),
+        (1, 1, Some((0, 1))),
         (2, 1, None),
         (0, 3, None),
-        (1, 3, Some(0)),
-        (3, 3, Some(2)),
+        (1, 3, Some((0, 3))),
+        (3, 3, Some((2, 3))),
         (4, 3, None),
-        (u32::MAX, u32::MAX, Some(u32::MAX - 1)),
+        (u32::MAX, u32::MAX, Some((u32::MAX - 1, u32::MAX))),
     ];
     for (number, of, wanted) in rows {
-        let shard = Shard::new(number, of);
-        is(
-            &rt,
-            "shard.map(|shard| shard.place())",
-            shard.map(|shard| shard.place()),
-            wanted,
-        );
-        is(
-            &rt,
-            "shard.map(|shard| shard.shards())",
-            shard.map(|shard| shard.shards()),
-            wanted.map(|_| of),
-        );
+        is(&rt, "a shard", seen(number, of), wanted);
     }
     Ok(())
 }
