@@ -8,6 +8,7 @@ use Rattle.tc_verdict.specs.Verdict.{level_of, worse}
 use Rattle.tc_report.specs.declared.fault.OutFault.{OutFault}
 use Rattle.tc_report.specs.declared.form.Form.{Form}
 use Rattle.tc_report.specs.declared.form.Form.TheVariants as F
+use Rattle.tc_report.specs.declared.live.LiveWriter.{LiveWriter}
 use Rattle.tc_report.specs.declared.results.CampaignEnd.{CampaignEnd}
 use Rattle.tc_report.specs.declared.results.Finished.{Finished}
 use Rattle.tc_report.specs.declared.results.Results.{Results}
@@ -62,6 +63,15 @@ tally_with t v = record {
   fail = t.fail + one_if (level_of v == level_of V.Fail);
   error = t.error + one_if (level_of v == level_of V.Error);
 }
+
+module _ {W : Type 0} (contents : W → Option (List ℕ)) (before after : LiveWriter W) where
+  -- a live writer has written this text whole
+  abbrev pub HasWritten : List ℕ → Type 0
+  HasWritten text = Appends (contents before.writer.now) (contents after.writer.now) text
+
+  -- by this fault a live writer has written a prefix of this text
+  abbrev pub HasWrittenPart : List ℕ → OutFault → Type 0
+  HasWrittenPart text fault = LeavesPrefix (contents before.writer.now) (contents after.writer.now) text fault
 
 -- where a live writer stands: its form, what its writer holds, the test cases that it has counted, their worst verdict, and
 -- why it has ended the campaign
