@@ -242,7 +242,7 @@ pub fn write_junit<W: Write>(
     writer: &mut W,
 ) -> Result<(), OutFault>
     ensures all { OnOk result (Appends (W.contents writer.old) (W.contents writer.new) (spec.junit_of_results version.now results.now)) }
-    ensures part { IfErr result (λ fault. LeavesPrefix (W.contents writer.old) (W.contents writer.new) (spec.junit_of_results version.now results.now) fault) }
+    ensures part { IfErr result (LeavesPrefix (W.contents writer.old) (W.contents writer.new) (spec.junit_of_results version.now results.now)) }
 {
     let cases = summaries_of_results(alloc, results)?;
     let text = junit_report(alloc, version, cases.as_slice())?;
