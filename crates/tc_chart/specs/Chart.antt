@@ -119,7 +119,7 @@ heads_text components bs = piece P.Main ++ (parallel_heads components bs ++ piec
 unfoldable pub head_lines : ℕ → List Block → List ℕ
 head_lines components bs = opening_text components ++ heads_text components bs
 
--- the chart of test cases by their summaries and their histories
+-- the chart of test cases by their summaries and their histories, of which there are as many
 abbrev pub chart_of : List Summary → List Block → List ℕ
 chart_of ss bs = head_lines (most_components ss) bs ++ (flat_map pair_text (zip ss bs) ++ piece P.End)
 

@@ -1,5 +1,5 @@
 //! The chart of histories.
-ghost use Rattle.std.specs.Prelude.{◌≡◌, ◌++◌, reverse, IfOk, OnOk};
+ghost use Rattle.std.specs.Prelude.{◌≡◌, ◌++◌, length, reverse, IfOk, OnOk};
 ghost use Rattle.std.specs.List.{flat_map, zip};
 ghost use Rattle.tc_chart.specs.Chart as spec;
 
@@ -176,8 +176,9 @@ fn append_head_lines(out: &mut Vec<u8>, components: usize, blocks: &[Block]) -> 
 
 /// The message sequence chart of test cases, by the summary and the history of each, in the same order: one chart, in the
 /// language of mscgen, in which the test cases stand below one another. Each component has a life line; that of a single
-/// test case has its name.
+/// test case has its name. There must be as many histories as summaries.
 pub fn chart_report(alloc: Global, cases: &[Summary], blocks: &[Block]) -> Result<Vec<u8>, NoMemory>
+    requires { length cases.now ≡ length blocks.now }
     ensures { IfOk result (λ v. v.items ≡ spec.chart_of cases.now blocks.now) }
 {
     let mut out = Vec::new(alloc);

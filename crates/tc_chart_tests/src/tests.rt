@@ -24,6 +24,9 @@ fn chart_of(alloc: Global, text: &str) -> Result<Vec<u8>, Fail> {
     for block in &blocks {
         cases.push(summary_of(alloc, block)?)?;
     }
+    if cases.len() != blocks.len() {
+        return Err("summaries".into());
+    }
     Ok(chart_report(alloc, cases.as_slice(), blocks.as_slice())?)
 }
 

@@ -1,7 +1,7 @@
 -- The test cases of histories, one history after the other.
 use Rattle.std.proofs.Common.{ℕ, ◌≡◌, ◌∙◌, ◌+◌, All, true, false, inl, inr, Option, Some, None, IfSome, List, [], ◌∷◌, ◌++◌, length, map, reverse, refl, ap, sym, subst}
 use Rattle.std.specs.Prelude.{is_some}
-use Rattle.std.proofs.lemmas.List.{map-append}
+use Rattle.std.proofs.lemmas.List.{length-map, map-append}
 use Rattle.std.proofs.lemmas.List.Elements.{All-head, All-tail}
 use Rattle.std.specs.Io.KnownBytes.{Appends, Keeps}
 use Rattle.tc_entry.specs.declared.entry.Entry.{Entry}
@@ -29,7 +29,7 @@ use Rattle.tc_program.specs.Report.{AreAllLegal, IsFoundIllegal, IsReport, Repor
 use Rattle.tc_program.specs.Streams.{Streams}
 use Rattle.tc_program.specs.Tell.{IsSilent, IsTold}
 use Rattle.tc_program.specs.WrittenHistories.{IsOutside, WasRun, WereRun, block_of, blocks_of}
-use Rattle.tc_program.specs.Reporting.{Summarizes}
+use Rattle.tc_program.specs.Reporting.{HasOneEach, Summarizes}
 use Rattle.tc_program.proofs.Checking.{passed_more, printed_more, whole}
 use Rattle.tc_program.proofs.WrittenHistories.{IsRight, are_right, no_difference, only_legal}
 
@@ -113,6 +113,12 @@ report_is form text out blocks ss status histories made is status_is =
 
 pub made_none : (ss lent : List Summary) (o : Option Judgement) (blocks : List Block) → o ≡ None → lent ≡ ss → Summarizes blocks ss o → Summarizes blocks lent None
 made_none ss lent o blocks none same made = subst (λ l. Summarizes blocks l None) (sym same) (subst (Summarizes blocks ss) none made)
+
+-- the text has as many histories as test cases are made of them
+pub one_each : (text : List ℕ) (ss lent : List Summary) (o : Option Judgement) → o ≡ None → lent ≡ ss
+    → ((blocks : List Block) → AreHistories text blocks → Summarizes blocks ss o) → HasOneEach text lent
+one_each text ss lent o none same made blocks histories =
+    ap length (all_legal blocks lent (made_none ss lent o blocks none same (made blocks histories))).1 ∙ length-map blocks block_summary
 
 -- where the output was made and not written whole
 pub unwritten : (form : ReportForm) (input before after : Option (List ℕ)) (text read : List ℕ) (blocks : List Block) (ss : List Summary) (fault : RunFault) → IfSome input (λ xs. text ≡ xs) → read ≡ text

@@ -1,16 +1,14 @@
 //! The subcommand `report`.
 ghost use Rattle.std.specs.Prelude.{◌≡◌, ◌++◌, ℕ, List, IfOk, IfErr, OnOk, OnErr, codes, MatchResult};
-ghost use Rattle.std.specs.Io.KnownBytes.{Appends};
 ghost use Rattle.tc_history.specs.Text.{AreHistories, IsMadeOf};
 ghost use Rattle.tc_history.specs.declared.read.Block.{Block as AnyBlock};
 ghost use Rattle.tc_chart.specs.Chart.{chart_of};
 ghost use Rattle.tc_forms.specs.Status.{status_of_summaries};
-ghost use Rattle.tc_program.specs.Give.{LeavesUnwritten};
 ghost use Rattle.tc_program.specs.Explained.{KeepsText};
 ghost use Rattle.tc_program.specs.Inside.{IsPlayed, RefusesHistory};
 ghost use Rattle.tc_program.specs.Limits.{HasAtMost, history_limit};
 ghost use Rattle.tc_program.specs.Report.{RefusesReport, Reports, ReportsRun, form_of, illegal_line};
-ghost use Rattle.tc_program.specs.Reporting.{ReportsText, Summarizes};
+ghost use Rattle.tc_program.specs.Reporting.{HasOneEach, LeavesForm, ReportsText, Summarizes, WritesForm};
 ghost use Rattle.tc_program.specs.Streams.{held};
 ghost use Rattle.tc_program.specs.Tell.{IsTold};
 
@@ -97,6 +95,7 @@ fn read_reported(alloc: Global, text: &[u8]) -> Result<Reporting, RunFault>
 
 // The chart of the histories that the text spells, whose test cases these are; else NoMemory.
 fn chart_text(alloc: Global, text: &[u8], cases: &[Summary]) -> Result<Vec<u8>, NoMemory>
+    requires { HasOneEach text.now cases.now }
     ensures { (blocks : List AnyBlock) → AreHistories text.now blocks → IfOk result (λ v. v.items ≡ chart_of cases.now blocks) }
 {
     match read_history(alloc, text) {
@@ -112,6 +111,7 @@ fn form_text(
     text: &[u8],
     cases: &[Summary],
 ) -> Result<Vec<u8>, NoMemory>
+    requires { HasOneEach text.now cases.now }
     ensures { (blocks : List AnyBlock) → AreHistories text.now blocks → IfOk result (λ v. v.items ≡ form_of form cases.now blocks) }
 {
     match form {
@@ -130,9 +130,10 @@ fn give_report<W: Write>(
     cases: &[Summary],
     writer: &mut W,
 ) -> Result<u8, RunFault>
+    requires { HasOneEach text.now cases.now }
     ensures status { IfOk result (λ status. status ≡ status_of_summaries cases.now) }
-    ensures done { (blocks : List AnyBlock) → AreHistories text.now blocks → OnOk result (Appends (W.contents writer.old) (W.contents writer.new) (form_of form cases.now blocks)) }
-    ensures refused { (blocks : List AnyBlock) → AreHistories text.now blocks → IfErr result (LeavesUnwritten (W.contents writer.old) (W.contents writer.new) (form_of form cases.now blocks)) }
+    ensures done { OnOk result (WritesForm form text.now cases.now (W.contents writer.old) (W.contents writer.new)) }
+    ensures refused { IfErr result (LeavesForm form text.now cases.now (W.contents writer.old) (W.contents writer.new)) }
 {
     let made = form_text(alloc, form, text, cases)?;
     write_whole(writer, made.as_slice())?;

@@ -1,7 +1,7 @@
 use Rattle.std.proofs.Common.{◌≡◌, None, Some, refl, rules, subst}
 use Rattle.tc_program.specs.Report.{RefusesReport}
 use Rattle.tc_program.specs.Streams.{held}
-use Rattle.tc_program.proofs.Reporting.{keeps_same, made_none, none_illegal, refused_report, reported, unwritten, written_reported}
+use Rattle.tc_program.proofs.Reporting.{keeps_same, made_none, none_illegal, one_each, refused_report, reported, unwritten, written_reported}
 use Rattle.tc_program.specs.WrittenHistories.{blocks_of}
 use Rattle.tc_program.proofs.WrittenHistories.{written_read}
 use Rattle.tc_program.specs.Reporting.{Summarizes}
@@ -12,6 +12,16 @@ returns-in_err-summaries-clause-written g c r ran is =
     let read = written_read (g.R.Read.remaining c.args.reader.now) c.in_ok-input.input.items c.as_slice-text.result.now r ran is c.in_ok-input.ensures.all c.as_slice-text.ensures.value in
     let only = c.in_err-summaries.ensures.only (blocks_of 1 r.finished) read in
     search (rules, only)
+
+pub give_report-requires : goal.give_report-requires
+give_report-requires g c =
+    let found = c.in_ok-summaries.illegal-is in
+    let is = c.in_default.is in
+    let none : c.in_ok-summaries.field-0.illegal ≡ None = cc in
+    let lent = c.as_slice.ensures.value in
+    let own = c.in_ok-summaries.summaries-is in
+    let same : c.as_slice.result.now ≡ c.in_ok-summaries.field-0.summaries.items = cc in
+    one_each c.as_slice-text.result.now c.in_ok-summaries.field-0.summaries.items c.as_slice.result.now c.in_ok-summaries.field-0.illegal none same c.in_ok-summaries.ensures.only
 
 pub returns-in_err-status-clause-refused : goal.returns-in_err-status-clause-refused
 returns-in_err-status-clause-refused g c =
