@@ -2,6 +2,7 @@
 use Rattle.std.specs.Prelude.{ℕ, ◌≡◌, ◌+◌, Bool, true, false, Option, Some, None, Result, MatchResult, List, [], ◌∷◌, ◌++◌, length, map, reverse}
 use Rattle.std.specs.Global.{Vec}
 use Rattle.std.specs.List.{flat_map}
+use Rattle.clap.specs.declared.error.kind.ErrorKind.{ErrorKind}
 use Rattle.tc_verdict.specs.declared.verdict.Verdict.{Verdict}
 use Rattle.tc_stream.specs.declared.input.InputFault.{InputFault}
 use Rattle.tc_stream.specs.declared.input.InputFault.TheVariants as I
@@ -25,10 +26,13 @@ use Rattle.tc_program.specs.declared.fault.RunFault.TheVariants as F
 use Rattle.tc_program.specs.declared.judge.Difference.{Difference}
 use Rattle.tc_program.specs.declared.judge.Judgement.{Judgement}
 use Rattle.tc_program.specs.declared.judge.Playing.{Playing}
+use Rattle.tc_program.specs.declared.outcome.Outcome.{Outcome}
 use Rattle.tc_program.specs.declared.replay.Replaying.{Replaying}
+use Rattle.tc_program.specs.Answer.{IsNoTask}
 use Rattle.tc_program.specs.Check.{Checks, IsJudgement, IsOtherReply}
 use Rattle.tc_program.specs.Replay.{move_of, reply_line}
 use Rattle.tc_program.specs.Scripted.{CaseView, names_of, scripts_of}
+use Rattle.tc_program.specs.Streams.{held}
 
 -- the fault for an input that could not be read whole
 abbrev pub of_input : InputFault → RunFault
@@ -106,6 +110,10 @@ RefusesHistory text fault = ⊥
 abbrev pub ChecksText : List ℕ → Result (Vec ℕ × Bool) RunFault → Type 0
 ChecksText text result =
     (blocks : List Block) → AreHistories text blocks → MatchResult result (λ r. Checks blocks r.0.items r.1) (λ fault. fault ≡ F.NoMemory)
+
+-- what comes of words that ask for no task, by what two writers held before and after: first the output, and then standard error
+abbrev pub ShowsNoTask : {W E : Type 0} → (W → Option (List ℕ)) → W → W → (E → Option (List ℕ)) → E → E → ErrorKind → Outcome → Type 0
+ShowsNoTask contents w w' lines e e' kind outcome = IsNoTask kind (held contents w w' lines e e') (w' ≡ w) outcome
 
 -- the line of a test case in a list
 abbrev pub case_line : {B : Type 0} → Case B → List ℕ

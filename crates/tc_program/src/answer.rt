@@ -3,7 +3,8 @@ ghost use Rattle.std.specs.Prelude.{◌≡◌, ℕ, List, IfOk, IfErr, OnErr, ma
 ghost use Rattle.std.specs.IoError.{error_kind};
 ghost use Rattle.clap.specs.Values.{kind_of};
 ghost use Rattle.clap.specs.declared.error.kind.ErrorKind.TheVariants.{DisplayHelp, DisplayVersion, OutOfMemory};
-ghost use Rattle.tc_program.specs.Answer.{IsAnswered, IsHelped, IsMistake, IsNoTask, IsRefusedLine, IsUnread, ShowsText};
+ghost use Rattle.tc_program.specs.Answer.{IsAnswered, IsHelped, IsMistake, IsRefusedLine, IsUnread, ShowsText};
+ghost use Rattle.tc_program.specs.Inside.{ShowsNoTask};
 ghost use Rattle.tc_program.specs.Tell.{IsRefusal, IsTold};
 ghost use Rattle.tc_program.specs.declared.fault.RunFault.TheVariants.{NoMemory as WithoutMemory};
 ghost use Rattle.tc_program.specs.Streams.{held};
@@ -82,7 +83,7 @@ fn answer_error<W: Write, E: Write>(
     writer: &mut W,
     errors: &mut E,
 ) -> Outcome
-    ensures shown { IsNoTask (kind_of error.now) (held W.contents writer.old writer.new E.contents errors.old errors.new) (writer.new ≡ writer.old) result }
+    ensures shown { ShowsNoTask W.contents writer.old writer.new E.contents errors.old errors.new (kind_of error.now) result }
 {
     answer_no_task(alloc, error, writer, errors)
 }
