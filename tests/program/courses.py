@@ -1,8 +1,9 @@
-"""All courses of a scripted test case in Python, by a plain search with no reduction: the overall verdicts that they give."""
+"""All courses of a scripted test case in Python, by a plain search with no reduction: the overall verdicts that they give, and
+how many calls each behaviour carries out."""
 from __future__ import annotations
 
 from dataclasses import dataclass, replace
-from typing import Dict, List, Optional, Set, Tuple
+from typing import Dict, List, NamedTuple, Optional, Set, Tuple
 
 from script_reader import TestCase
 from script_run import Scope, ends_pass, wake_of
@@ -75,8 +76,8 @@ class State:
         op = self.call_of(run)
         return op.verb != "wake" or self.table.would(run, op) != "parked"
 
-    def step(self, run: int) -> None:
-        """A run makes its next call."""
+    def step(self, run: int) -> int:
+        """A run makes its next call. The answer is how many it has carried out: all but one that is ended, or a wait to come."""
         op, one = self.call_of(run), self.going[run]
         words = self.words_of(run)
         reply = self.table.play(run, op)
@@ -89,26 +90,34 @@ class State:
             self.start(op.run, op.target, op.args)
         if ends_pass(op, reply, one.me):
             del self.going[run]
+        return one.called - (reply in ("ended", "parked"))
 
 
-def verdicts_of(case: TestCase, most: int) -> Optional[Set[str]]:
-    """The overall verdicts of all courses; none where there are more states than so many."""
-    opening = State(case)
-    seen, left, verdicts = {opening.key()}, [opening], set()
+class Courses(NamedTuple):
+    """What all courses of a test case give: overall verdicts, and for each behaviour how many calls it carries out at most."""
+
+    verdicts: Set[str]
+    reached: List[int]
+
+
+def courses_of(case: TestCase, most: int) -> Optional[Courses]:
+    """What all courses give; none where there are more states than so many."""
+    opening, found = State(case), Courses(set(), [0] * len(case.behaviours))
+    seen, left = {opening.key()}, [opening]
     while left:
         state = left.pop()
         runs = [run for run in state.going if state.can_go(run)]
         if not runs:
             if state.going:
                 raise AssertionError(f"nobody goes on in {case.name}")
-            verdicts.add(state.table.overall())
+            found.verdicts.add(state.table.overall())
         for run in runs:
             after = state.copy()
-            after.step(run)
+            found.reached[run] = max(found.reached[run], after.step(run))
             key = after.key()
             if key not in seen:
                 if len(seen) >= most:
                     return None
                 seen.add(key)
                 left.append(after)
-    return verdicts
+    return found

@@ -1,4 +1,5 @@
-"""Random test cases that race: `explore` is held to a plain search of all schedules, and its witnesses to `check`."""
+"""Random test cases that race: `explore` is held to a plain search of all schedules, its witnesses to `check`, and the steps that
+no schedule carries out to that search too."""
 from __future__ import annotations
 
 import random
@@ -7,10 +8,10 @@ from collections import Counter
 from typing import Dict, List, NamedTuple, Optional, Tuple
 
 from case import Case, Ran, difference, run
-from courses import verdicts_of
+from courses import courses_of
 from judged import Judgement
 from random_moves import below
-from script_reader import Campaign, read_script
+from script_reader import Behaviour, Campaign, TestCase, read_script
 from script_run import faults_of_block
 from table import STATUSES, VERDICTS
 from texts import Judged, check, read_history
@@ -135,15 +136,67 @@ def faults_of_witnesses(program: str, text: bytes, campaign: Campaign, found: Di
     return faults + difference("check", wanted.output, checked.output) + ["check refuses a witness"] * (checked.status != 0)
 
 
+def step_text(case: TestCase, behaviour: Behaviour, at: int) -> str:
+    """The step at this place, with components by their place and behaviours by their run."""
+    before = [it[1] for it in behaviour.steps[:at] if it[0] == "create"]
+    places = {name: f"#{number}" for number, name in enumerate([*behaviour.parameters, *before], 1)}
+    verb, *rest = behaviour.steps[at]
+    if verb == "create":
+        return " ".join([verb, *rest[1:]])
+    if verb == "start":
+        run = next(number for number, it in enumerate(case.behaviours) if it.name == rest[1])
+        return " ".join([verb, places.get(rest[0], rest[0]), "run", str(run), *(places.get(it, it) for it in rest[2:])])
+    if verb == "setverdict":
+        return " ".join([verb, *rest])
+    return " ".join([verb, *rest[:-1], *(places.get(it, it) for it in rest[-1:])])
+
+
+def unseen_lines(case: TestCase, reached: List[int]) -> List[str]:
+    """The line of each behaviour with steps that no schedule carries out."""
+    return [f"  not seen: run {run} from step {at + 1} of {len(it.steps)} on: {step_text(case, it, at)}"
+            for run, (it, at) in enumerate(zip(case.behaviours, reached)) if at < len(it.steps)]
+
+
+def unseen_told(output: bytes) -> Dict[str, List[str]]:
+    """The lines of `explore --details` that tell steps which no schedule carries out, by the names of the test cases."""
+    told: Dict[str, List[str]] = {}
+    name = ""
+    for line in output.decode().splitlines():
+        if not line.startswith("  "):
+            name = line.split(" ")[0]
+            told[name] = []
+        elif line.startswith("  not seen: "):
+            told[name].append(line)
+    return told
+
+
 def verdicts_of_runs(program: str, text: bytes) -> List[Tuple[str, str]]:
     """The names of the test cases and the verdicts that a real run gave."""
     records = words_on(program, text, "run", "--csv").output.decode().splitlines()[1:]
     return [(it.split(",")[0], it.split(",")[-1]) for it in records]
 
 
+def fault_of_case(case: TestCase, told: Told, unseen: List[str], met: Counter) -> Optional[str]:
+    """What is wrong with what is told of a test case, where the plain search comes to its end; and what that case was like."""
+    courses = courses_of(case, MOST)
+    if courses is None:
+        met["left out"] += 1
+        return None
+    wanted, lines = Told(sorted(courses.verdicts, key=VERDICTS.index), True), unseen_lines(case, courses.reached)
+    if told != wanted:
+        return f"{case.name}: wanted {wanted}, came {told}"
+    if unseen != lines:
+        return f"{case.name}: wanted {lines}, came {unseen}"
+    met["cases"] += 1
+    met["races"] += len(courses.verdicts) > 1
+    met["unseen"] += len(lines)
+    met.update(courses.verdicts)
+    return None
+
+
 def every_verdict_is_told(seed: int) -> Judgement:
     """Test cases that race: what `explore` tells is what a plain search finds, with a witness each, and it says that this is complete
-    wherever that search ends; real runs give nothing else."""
+    wherever that search ends; real runs give nothing else. The steps told as not seen are those that no schedule carries out."""
 
     def judge(program: str) -> List[str]:
         chance, met = random.Random(f"racing {seed}"), Counter()
@@ -156,16 +209,11 @@ def every_verdict_is_told(seed: int) -> Judgement:
             found = found_in(ran.output)
             if found is None or [*found] != [it.name for it in campaign]:
                 return [f"lines that are not understood: {ran.output[:500]!r}, {ran.errors!r}"]
-            wanted = {it.name: verdicts_of(it, MOST) for it in campaign}
-            for name, verdicts in wanted.items():
-                if verdicts is None:
-                    met["left out"] += 1
-                    continue
-                if found[name] != Told(sorted(verdicts, key=VERDICTS.index), True):
-                    return [f"{name}: wanted {verdicts} complete, came {found[name]}", f"the script: {text.decode()}"]
-                met["cases"] += 1
-                met["races"] += len(verdicts) > 1
-                met.update(verdicts)
+            unseen = unseen_told(words_on(program, text, "explore", "--details").output)
+            for case in campaign:
+                fault = fault_of_case(case, found[case.name], unseen[case.name], met)
+                if fault is not None:
+                    return [fault, f"the script: {text.decode()}"]
             is_race = any(len(it.verdicts) > 1 for it in found.values())
             faults = [f"status: wanted {int(is_race)}, came {ran.status}"] * (ran.status != is_race)
             faults += faults_of_witnesses(program, text, campaign, found)
@@ -173,7 +221,7 @@ def every_verdict_is_told(seed: int) -> Judgement:
                        if verdict not in found[name].verdicts]
             if faults:
                 return faults[:5]
-        return below(met, [("cases", 2400), ("races", 600), *((it, 150) for it in VERDICTS)])
+        return below(met, [("cases", 2400), ("races", 600), ("unseen", 600), *((it, 150) for it in VERDICTS)])
 
     return Judgement(f"every_verdict_is_told_{seed}", "ttrun explore [--history] < (random scripts)", judge)
 

@@ -108,6 +108,17 @@ TOP = os.path.dirname(os.path.dirname(os.path.dirname(os.path.abspath(__file__))
 RACE = (b"testcase t\nbehaviour main\ncreate p\nstart p w\nkill p\nend\n"
         b"behaviour w\nsetverdict fail\nend\nend\n")
 
+# Its worker waits for its own end, and nobody comes behind that.
+DEAD = (b"testcase t\nbehaviour main\ncreate p alive\nstart p w\nwait done p\nsetverdict pass\nend\n"
+        b"behaviour w\nwait killed self\nend\nend\n")
+DEAD_TOLD = (b"t error complete\n  error: mtc error, 1 none\n"
+             b"  stuck: run 0 on mtc waits for done of 1, where run 1 is\n"
+             b"  stuck: run 1 on 1 waits for killed of 1, where run 1 is\n"
+             b"  not seen: run 0 from step 4 of 4 on: setverdict pass\n"
+             b"  not seen: run 1 from step 1 of 1 on: wait killed self\n")
+# Of this no step is dead.
+PLAIN = b"testcase t\nbehaviour main\ncreate p\nstart p w\nwait done p\nend\nbehaviour w\nsetverdict pass\nend\nend\n"
+
 STATES = b"ttrun: --states takes a number from 1 to 1000000\n"
 SHARD = b"ttrun: --shard takes K/N, with K from 1 to N\n"
 
@@ -133,6 +144,8 @@ def of_explore() -> List[Case]:
     found.append(Case("one_state_decides_nothing", ("explore", "--states", "1"), RACE, SomeText(("t undecided",)), status=3))
     found.append(Case("five_states_are_not_complete", ("explore", "--states", "5"), RACE, b"t none fail looked at 5 states\n", status=1))
     found.append(Case("a_race_is_told_complete", ("explore",), RACE, b"t none fail complete\n", status=1))
+    found.append(Case("steps_behind_a_wait_are_dead", ("explore", "--details"), DEAD, DEAD_TOLD))
+    found.append(Case("no_step_is_dead", ("explore", "--details"), PLAIN, b"t pass complete\n  pass: mtc none, 1 pass\n"))
     for form in ((), ("--history",), ("--details",)):
         name = "_".join(it.strip("-") for it in ("explore", *form))
         for device, redirect in (("full", ">/dev/full"), ("closed", ">&-")):

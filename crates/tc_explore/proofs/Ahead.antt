@@ -31,9 +31,9 @@ use Rattle.tc_table.proofs.Keeping.{all_exist_same}
 use Rattle.tc_table.proofs.Over.{on_existing}
 use Rattle.tc_table.proofs.Going.{starts_still}
 use Rattle.tc_table.proofs.Sound.{plain_if}
-use Rattle.tc_explore.specs.Course.{Stand, stand, IsCourse}
+use Rattle.tc_explore.specs.Course.{Stand, stand, goes_on, IsCourse}
 use Rattle.tc_explore.specs.Inside.Alike.{IsAlike}
-use Rattle.tc_explore.specs.Inside.Simulation.{goes_on, IsQuietAt, call_at, IsLastAt, IsLeaving, IsEnding, IsAhead}
+use Rattle.tc_explore.specs.Inside.Simulation.{IsQuietAt, call_at, IsLastAt, IsLeaving, IsEnding, IsAhead}
 use Rattle.tc_explore.proofs.Alike.{is_plain_call, phase_next, overall_next}
 use Rattle.tc_explore.proofs.Standings.{stand_comp, stand_other}
 

@@ -30,10 +30,10 @@ use Rattle.tc_table.proofs.Over.{on_existing, all_over}
 use Rattle.tc_table.proofs.Stuck.{one_false}
 use Rattle.tc_table.proofs.Going.{started_by_entry}
 use Rattle.tc_explore.specs.declared.witness.Witness.{Witness}
-use Rattle.tc_explore.specs.Course.{stand, after_own, after_other_by, is_wake, is_idle_by, wake_or, wake_if, call_of, turn, steps_in, script_of, IsTurn, IsCourse, IsComplete}
+use Rattle.tc_explore.specs.Course.{stand, goes_on, after_own, after_other_by, is_wake, is_idle_by, wake_or, wake_if, call_of, turn, steps_in, script_of, IsTurn, IsCourse, IsComplete}
 use Rattle.tc_explore.specs.Told.{is_found}
 use Rattle.tc_explore.specs.Inside.Alike.{IsAlike}
-use Rattle.tc_explore.specs.Inside.Simulation.{is_quiet, goes_on, IsQuietAt, call_at, IsWakeOf, IsBefore, IsParkedAt, IsFollowed, IsLastAt, IsLeaving, IsEnding, IsAhead, IsFor, IsCovered, GoesOn, IsClosed}
+use Rattle.tc_explore.specs.Inside.Simulation.{is_quiet, IsQuietAt, call_at, IsWakeOf, IsBefore, IsParkedAt, IsFollowed, IsLastAt, IsLeaving, IsEnding, IsAhead, IsFor, IsCovered, GoesOn, IsClosed}
 use Rattle.tc_explore.proofs.Legality.{course_legal}
 use Rattle.tc_explore.proofs.Alike.{ChangesNothing, alike_sym, alike_unchanged, active_alike, holds_alike, is_plain_call, overall_next}
 use Rattle.tc_explore.proofs.Ahead.{holds_ahead, ending_active, ended_inactive, not_ending_run, active_back, active_forth, none_too, some_too, fault_ahead, answer_ahead, ahead_self, ahead_after, ahead_turn, ahead_step}

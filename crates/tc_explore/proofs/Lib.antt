@@ -13,6 +13,7 @@ pub mod Completeness
 pub mod Searching
 pub mod Seeing
 pub mod Noting
+pub mod Reaching
 pub mod Room
 pub mod Closed
 pub mod States

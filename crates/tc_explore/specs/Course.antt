@@ -1,6 +1,6 @@
 -- Courses of a test case whose behaviours are scripts: what each run has called, and what it calls next.
 -- As in the component table's definitions `past` lists entries, the newest first, and runs go by their numbers.
-use Rattle.std.specs.Prelude.{ℕ, ◌≡◌, ◌==◌, ◌<◌, ◌+◌, ◌++◌, ◌||◌, if◌then◌else◌, Bool, true, false, Option, Some, None, List, [], ◌∷◌, length, slice_get}
+use Rattle.std.specs.Prelude.{ℕ, ◌≡◌, ◌==◌, ◌<◌, ◌+◌, ◌++◌, ◌&&◌, ◌||◌, if◌then◌else◌, Bool, true, false, Option, Some, None, List, [], ◌∷◌, length, slice_get}
 use Rattle.tc_verdict.specs.declared.run.Run.{Run}
 use Rattle.tc_entry.specs.declared.comp.Comp.{Comp}
 use Rattle.tc_entry.specs.declared.entry.Entry.{Entry}
@@ -89,6 +89,21 @@ next e b s = if e.caller.0 == b then after_own e s else after_other_by s.comp e 
 abbrev pub stand : List Entry → ℕ → Stand
 stand [] b = opening b
 stand (e ∷ past) b = next e b (stand past b)
+
+-- after this reply the caller has gone on, or the case is over
+abbrev pub goes_on : Reply → Bool
+goes_on R.Ended = false
+goes_on R.Parked = false
+goes_on _ = true
+
+-- how many calls a run has carried out after one more entry, by whether it is its own
+abbrev pub one_more_if : Bool → Entry → ℕ → ℕ
+one_more_if own e k = if own && goes_on e.reply then k + 1 else k
+
+-- how many calls run b has carried out: its steps, and its end, but for calls that are answered ended, and waits that are not over
+abbrev pub carried : List Entry → ℕ → ℕ
+carried [] b = 0
+carried (e ∷ past) b = one_more_if (e.caller.0 == b) e (carried past b)
 
 -- ---- what a run calls next
 

@@ -1,18 +1,24 @@
 -- What is found of a test case: the overall verdicts of its complete courses.
-use Rattle.std.specs.Prelude.{ℕ, ◌≡◌, ◌<◌, List, length, reverse, slice_index_or, Result, Ok, Err, All}
+use Rattle.std.specs.Prelude.{ℕ, ◌≡◌, ◌==◌, ◌<◌, List, length, reverse, slice_index_or, All}
+use Rattle.tc_verdict.specs.declared.run.Run.{Run}
 use Rattle.tc_verdict.specs.declared.verdict.Verdict.{Verdict}
 use Rattle.tc_entry.specs.declared.entry.Entry.{Entry}
+use Rattle.tc_entry.specs.declared.op.Op.{Op}
 use Rattle.tc_step.specs.Steps.{ScriptView}
 use Rattle.tc_table.specs.Local.{overall}
 use Rattle.tc_table.specs.Legal.{IsLegal}
 use Rattle.tc_table.specs.Case.{Case, past_of}
 use Rattle.tc_explore.specs.declared.witness.Witness.{Witness}
-use Rattle.tc_explore.specs.Course.{Stand, stand, IsTurn, IsCourse, IsComplete}
+use Rattle.tc_explore.specs.Course.{Stand, stand, next, one_more_if, carried, taken, IsTurn, IsCourse, IsComplete}
 
 -- a case that is at a course of these scripts
 pub record IsOn (scripts : List ScriptView) (t : Case) : Type 0 where
   pub behaviours : t.behaviours ≡ length scripts
   pub course : IsCourse scripts (past_of t)
+
+-- in a case at a course of these scripts the run makes this call next
+abbrev pub IsNext : List ScriptView → Case → Run → Op → Type 0
+IsNext scripts t run op = IsTurn scripts (past_of t) (taken t.behaviours (past_of t) run op)
 
 -- run b has no call left, or only a Wake that would be parked again
 abbrev pub CannotGo : List ScriptView → List Entry → ℕ → Type 0
@@ -33,10 +39,20 @@ pub record IsKept (t : Case) (standings : List Stand) : Type 0 where
   pub as_many : length standings ≡ t.behaviours
   pub each : (b : ℕ) (d : Stand) → b < t.behaviours → slice_index_or standings b d ≡ stand (past_of t) b
 
--- after Ok it holds of each number
-abbrev pub OnOkEach : {A E : Type 0} → Result A E → (ℕ → Type 0) → Type 0
-OnOkEach (Ok a) P = (b : ℕ) → P b
-OnOkEach (Err e) P = Unit {0}
+-- each of these is what was known of its run, and one more entry
+abbrev pub TakesIn : Entry → List Stand → List Stand → Type 0
+TakesIn e before after =
+    (b : ℕ) (d : Stand) → b < length before → slice_index_or after b d ≡ next e b (slice_index_or before b d)
+
+-- what is kept is how many calls each run has carried out
+pub record IsCounted (t : Case) (counts : List ℕ) : Type 0 where
+  pub as_many : length counts ≡ t.behaviours
+  pub each : (b : ℕ) → b < t.behaviours → slice_index_or counts b 0 ≡ carried (past_of t) b
+
+-- each of these numbers is what it was, one more for the caller of an entry that has gone on
+abbrev pub CountsOn : Entry → List ℕ → List ℕ → Type 0
+CountsOn e before after =
+    (b : ℕ) → b < length before → slice_index_or after b 0 ≡ one_more_if (e.caller.0 == b) e (slice_index_or before b 0)
 
 -- each of these is a witness
 abbrev pub AreWitnesses : List ScriptView → List Witness → Type 0
@@ -51,6 +67,15 @@ IsOnce found =
 pub record AreNoted (scripts : List ScriptView) (found : List Witness) : Type 0 where
   pub sound : AreWitnesses scripts found
   pub once : IsOnce found
+
+-- in some course run b carries out so many calls
+abbrev pub Reaches : List ScriptView → ℕ → ℕ → Type 0
+Reaches scripts b k = (past : List Entry) × IsCourse scripts past × (carried past b ≡ k)
+
+-- there is one such number for each run
+pub record AreReached (scripts : List ScriptView) (reached : List ℕ) : Type 0 where
+  pub as_many : length reached ≡ length scripts
+  pub each : (b : ℕ) → b < length reached → Reaches scripts b (slice_index_or reached b 0)
 
 -- each is a history in which each reply is the component table's
 abbrev pub AreLegal : List ScriptView → List Witness → Type 0

@@ -8,4 +8,6 @@ pub mod Reports
 pub mod Components
 pub mod Race
 pub mod Waits
+pub mod Steps
+pub mod Unseen
 pub mod Details

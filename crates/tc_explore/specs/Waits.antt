@@ -1,5 +1,5 @@
 -- Who waits for whom in a witness that ends since no run can go on.
-use Rattle.std.specs.Prelude.{ℕ, suc, if◌then◌else◌, nat_lt, Bool, true, false, Option, Some, None, List, [], ◌∷◌, ◌++◌, codes, length, take, reverse}
+use Rattle.std.specs.Prelude.{ℕ, suc, ◌≡◌, if◌then◌else◌, nat_lt, Bool, true, false, Option, Some, None, List, [], ◌∷◌, ◌++◌, codes, length, take, reverse, Result, OnOk}
 use Rattle.std.specs.List.{flat_map, range_with_len}
 use Rattle.std.specs.Fmt.{decimal}
 use Rattle.tc_entry.specs.declared.comp.Comp.{Comp}
@@ -16,6 +16,7 @@ use Rattle.tc_entry.specs.declared.reply.Reply.TheVariants as R
 use Rattle.tc_table.specs.declared.awaited.Awaited.{Awaited}
 use Rattle.tc_table.specs.Answers.{is_active}
 use Rattle.tc_table.specs.Phases.{phase_if_any}
+use Rattle.tc_table.specs.Standing.{Kept, StandsFor}
 use Rattle.tc_explore.specs.declared.witness.Witness.{Witness}
 use Rattle.tc_explore.specs.Components.{comp_words}
 use Rattle.tc_explore.specs.Course.{Stand, stand}
@@ -52,6 +53,10 @@ unfoldable pub target_words : List Entry → List Entry → Target → List ℕ
 target_words history past (T.One c) = comp_words history c.0 ++ phase_words (phase_if_any past c.0)
 target_words history past T.Any = codes "any"
 target_words history past T.All = codes "all"
+
+-- where the state stands for past entries, their text is appended
+abbrev pub AppendsBy : {A E : Type 0} → Result A E → Kept → (List ℕ) → (List ℕ) → (List Entry → List ℕ) → Type 0
+AppendsBy result state before after text = (past : List Entry) → StandsFor state past → OnOk result (after ≡ before ++ text past)
 
 -- the component of a run and what it waits for, if a Wake is to come
 abbrev pub awaited_by : Option Comp → Option Op → Option (Comp × Awaited)

@@ -1,5 +1,5 @@
 //! A course: what is known of a case after some turns.
-ghost use Rattle.std.specs.Prelude.{◌≡◌, ◌≤◌, ◌<◌, ◌∷◌, ℕ, [], IfOk, IfSome, IsTrue, None, Some, length, slice_index_or};
+ghost use Rattle.std.specs.Prelude.{◌≡◌, ◌≤◌, ◌<◌, ◌∷◌, ℕ, [], IfOk, IfSome, IsTrue, None, OnOk, Some, length, slice_index_or};
 ghost use Rattle.tc_entry.specs.declared.limits.TheConstants.{BEHAVIOURS};
 ghost use Rattle.tc_table.specs.Case.{past_of};
 ghost use Rattle.tc_table.specs.Answers as answers;
@@ -10,6 +10,7 @@ ghost use Rattle.tc_table.specs.Faults as faults;
 ghost use Rattle.tc_explore.specs.Course as courses;
 ghost use Rattle.tc_explore.specs.Found as found;
 
+use crate::entries::has_gone_on;
 use crate::standing::Standing;
 use crate::told::level;
 use std::alloc::Global;
@@ -24,17 +25,18 @@ use tc_verdict::{NoMemory, Run, Verdict};
 pub(crate) struct Course {
     table: Table,
     standings: Vec<Standing>,
+    carried: Vec<usize>,
 }
 
 impl Model for Course {
     ghost use Rattle.tc_table.specs.Case.{Case};
-    ghost use Rattle.tc_explore.specs.Found.{IsKept};
+    ghost use Rattle.tc_explore.specs.Found.{IsKept, IsCounted};
 
     ghost Value = { Case };
 
     ghost view = { λ c. c.table };
 
-    ghost invariant = { λ c. IsKept c.table c.standings.items };
+    ghost invariant = { λ c. IsKept c.table c.standings.items × IsCounted c.table c.carried.items };
 }
 
 // The standings of n runs at the opening.
@@ -63,7 +65,7 @@ fn copied_standings(alloc: Global, standings: &[Standing]) -> Result<Vec<Standin
 // Takes one more entry in.
 fn take_in_all(standings: &mut Vec<Standing>, entry: &Entry) -> Result<(), NoMemory>
     ensures as_many { length standings.new.items ≡ length standings.old.items }
-    ensures each { found.OnOkEach result (λ b. (d : courses.Stand) → b < length standings.old.items → slice_index_or standings.new.items b d ≡ courses.next entry.now b (slice_index_or standings.old.items b d)) }
+    ensures each { OnOk result (found.TakesIn entry.now standings.old.items standings.new.items) }
 {
     let count = standings.len();
     for i in 0..count {
@@ -75,8 +77,20 @@ fn take_in_all(standings: &mut Vec<Standing>, entry: &Entry) -> Result<(), NoMem
     Ok(())
 }
 
-// The steps of a run.
-fn steps_of(scripts: &[Script], run: Run) -> &[Step]
+// Counts a call that was carried out.
+fn count_in(carried: &mut Vec<usize>, entry: &Entry) -> Result<(), NoMemory>
+    ensures as_many { length carried.new.items ≡ length carried.old.items }
+    ensures each { OnOk result (found.CountsOn entry.now carried.old.items carried.new.items) }
+{
+    let at = usize::from(entry.caller.0);
+    if at < carried.len() && has_gone_on(entry.reply) {
+        carried[at] = carried[at].checked_add(1).ok_or(NoMemory)?;
+    }
+    Ok(())
+}
+
+/// The steps of a run.
+pub(crate) fn steps_of(scripts: &[Script], run: Run) -> &[Step]
     ensures { result.now ≡ courses.steps_in (courses.script_of scripts.now run.0) }
 {
     let at = usize::from(run.0);
@@ -108,7 +122,12 @@ impl Course {
     {
         let table = Table::new(alloc, behaviours)?;
         let standings = opening_standings(alloc, behaviours)?;
-        Ok(Course { table, standings })
+        let carried = vec![in alloc; 0; usize::from(behaviours)]?;
+        Ok(Course {
+            table,
+            standings,
+            carried,
+        })
     }
 
     /// The same course.
@@ -118,7 +137,13 @@ impl Course {
     {
         let table = self.table.copied(alloc)?;
         let standings = copied_standings(alloc, self.standings.as_slice())?;
-        Ok(Course { table, standings })
+        let mut carried = Vec::with_capacity(alloc, self.carried.len())?;
+        carried.extend_from_slice(self.carried.as_slice())?;
+        Ok(Course {
+            table,
+            standings,
+            carried,
+        })
     }
 
     /// What a run calls next.
@@ -142,9 +167,14 @@ impl Course {
         ensures behaviours { IfOk result (λ c. c.behaviours ≡ self.behaviours) }
         ensures added { IfOk result (λ c. past_of c ≡ courses.taken self.behaviours (past_of self) run op ∷ past_of self) }
     {
-        let Course { table, standings } = self;
+        let Course {
+            table,
+            standings,
+            carried,
+        } = self;
         let mut table = table;
         let mut standings = standings;
+        let mut carried = carried;
         let entry_op = op.copy();
         let reply = table.play(run, op)?;
         let entry = Entry {
@@ -153,7 +183,20 @@ impl Course {
             reply,
         };
         take_in_all(&mut standings, &entry)?;
-        Ok(Course { table, standings })
+        count_in(&mut carried, &entry)?;
+        Ok(Course {
+            table,
+            standings,
+            carried,
+        })
+    }
+
+    /// How many calls a run has carried out.
+    pub(crate) fn carried(&self, run: Run) -> usize
+        requires { run.0 < self.now.behaviours }
+        ensures { result ≡ courses.carried (past_of self.now) run.0 }
+    {
+        self.carried[usize::from(run.0)]
     }
 
     /// Whether the case is over.

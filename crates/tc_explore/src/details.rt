@@ -1,17 +1,19 @@
 //! What the details say of a test case that was explored.
-ghost use Rattle.std.specs.Prelude.{◌≡◌, ◌≤◌, ◌++◌, OnOk};
+ghost use Rattle.std.specs.Prelude.{◌≡◌, ◌≤◌, ◌++◌, OnOk, length};
 ghost use Rattle.std.specs.List.{flat_map};
 ghost use Rattle.tc_entry.specs.declared.limits.TheConstants.{BEHAVIOURS};
 ghost use Rattle.tc_explore.specs.Components.{locals_line};
-ghost use Rattle.tc_explore.specs.Details.{AreLegalOf, details_text};
+ghost use Rattle.tc_explore.specs.Details.{AreLegalOf, details_text, witnesses_text};
 ghost use Rattle.tc_explore.specs.Waits.{waits_text};
 
 use crate::components::append_locals_line;
 use crate::explored::Explored;
 use crate::race::append_races;
+use crate::unseen::append_unseen;
 use crate::waits::append_waits;
 use crate::witness::Witness;
 use std::alloc::Global;
+use tc_step::Script;
 use tc_verdict::NoMemory;
 
 // Appends the line of each witness; where memory is refused, a part of them.
@@ -50,27 +52,43 @@ fn append_all_waits(
     Ok(())
 }
 
+// Appends what the witnesses show; where memory is refused, a part of it.
+#[tactic(auto, unfolding(crate::specs::Details::witnesses_text))]
+fn append_witnesses(
+    alloc: Global,
+    out: &mut Vec<u8>,
+    behaviours: u16,
+    found: &[Witness],
+) -> Result<(), NoMemory>
+    requires some { 1 ≤ behaviours }
+    requires few { behaviours ≤ BEHAVIOURS }
+    requires legal { AreLegalOf behaviours found.now }
+    ensures { OnOk result (out.new.items ≡ out.old.items ++ witnesses_text behaviours found.now) }
+{
+    append_locals_lines(alloc, out, behaviours, found)?;
+    append_races(alloc, out, found)?;
+    append_all_waits(alloc, out, behaviours, found)
+}
+
 impl Explored {
-    /// Appends what the witnesses of a test case of so many behaviours show: the local verdict of each component, the first
-    /// witness beside each other one from where they part, and who waits for whom where no run can go on. Of a test case
-    /// without behaviours nothing is told. Where memory is refused, a part of it.
+    /// Appends what the search for the verdicts of these scripts shows: the local verdict of each component, the first witness
+    /// beside each other one from where they part, who waits for whom where no run can go on, and which steps no course that
+    /// was looked at carries out. Of a test case without behaviours nothing is told. Where memory is refused, a part of it.
     #[tactic(auto, unfolding(crate::specs::Details::details_text))]
     pub fn append_details(
         &self,
         alloc: Global,
         out: &mut Vec<u8>,
-        behaviours: u16,
+        scripts: &[Script],
     ) -> Result<(), NoMemory>
-        requires few { behaviours ≤ BEHAVIOURS }
-        requires legal { AreLegalOf behaviours self.now.found }
-        ensures { OnOk result (out.new.items ≡ out.old.items ++ details_text behaviours self.now.found) }
+        requires few { length scripts.now ≤ BEHAVIOURS }
+        requires legal { AreLegalOf (length scripts.now) self.now.found }
+        ensures { OnOk result (out.new.items ≡ out.old.items ++ details_text scripts.now self.now) }
     {
-        if behaviours == 0 {
+        if scripts.is_empty() {
             return Ok(());
         }
-        let found = self.found.as_slice();
-        append_locals_lines(alloc, out, behaviours, found)?;
-        append_races(alloc, out, found)?;
-        append_all_waits(alloc, out, behaviours, found)
+        append_witnesses(alloc, out, scripts.len() as u16, self.found.as_slice())?;
+        append_unseen(out, scripts, self.reached.as_slice())
     }
 }

@@ -45,6 +45,16 @@ pub(crate) fn wake_after(entry: &Entry) -> Option<Op>
     }
 }
 
+/// Whether after this reply the caller has gone on, or the case is over.
+pub(crate) fn has_gone_on(reply: Reply) -> bool
+    ensures { result ≡ courses.goes_on reply }
+{
+    match reply {
+        Reply::Ended | Reply::Parked => false,
+        _ => true,
+    }
+}
+
 /// The arguments with which this operation starts the run.
 pub(crate) fn arguments(op: &Op, run: u16) -> &[Comp]
     ensures { result.now ≡ courses.arguments op.now run }

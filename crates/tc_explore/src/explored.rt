@@ -1,12 +1,14 @@
 //! The search for the overall verdicts of a test case.
 ghost use Rattle.std.specs.Prelude.{◌≡◌, ◌≤◌, ◌*◌, [], IfOk, IfSome, OnOk, length};
 ghost use Rattle.tc_entry.specs.declared.limits.TheConstants.{BEHAVIOURS};
-ghost use Rattle.tc_explore.specs.Found.{AreWitnesses, AreNoted, AreLegal, IsOnce};
+ghost use Rattle.tc_explore.specs.Found.{AreWitnesses, AreLegal, AreReached, IsOnce};
 ghost use Rattle.tc_explore.specs.Course.{room_of};
+ghost use Rattle.tc_explore.specs.Inside.Seen.{IsNoted};
 ghost use Rattle.tc_explore.specs.Laws.{AllFound};
 ghost use Rattle.tc_explore.specs.declared.explored.TheConstants.{KEPT};
 ghost use Rattle.tc_explore.specs.declared.explored.Ending.TheVariants.{Complete, Undecided};
 
+use crate::findings::{Findings, no_findings};
 use crate::full::search_all;
 use crate::search::{Extent, search_reduced};
 use crate::witness::Witness;
@@ -31,6 +33,9 @@ pub enum Ending {
 pub struct Explored {
     /// A witness of each overall verdict that was found.
     pub found: Sequence<Witness>,
+    /// For each run how many calls it carries out at most in the courses that were looked at: its steps, and behind them the
+    /// end of its behaviour.
+    pub reached: Sequence<usize>,
     /// How many states the last search looked at.
     pub states: usize,
     pub ending: Ending,
@@ -77,13 +82,13 @@ fn search_both(
     alloc: Global,
     scripts: &[Script],
     limit: usize,
-    found: &mut Vec<Witness>,
+    found: &mut Findings,
 ) -> Result<Reach, NoMemory>
     requires some { 1 ≤ length scripts.now }
     requires few { length scripts.now ≤ BEHAVIOURS }
-    requires found { AreNoted scripts.now found.old.items }
-    ensures found { OnOk result (AreNoted scripts.now found.new.items) }
-    ensures complete { IfOk result (λ r. r.ending ≡ Complete → AllFound scripts.now found.new.items) }
+    requires found { IsNoted scripts.now found.old }
+    ensures found { OnOk result (IsNoted scripts.now found.new) }
+    ensures complete { IfOk result (λ r. r.ending ≡ Complete → AllFound scripts.now found.new.witnesses.items) }
     ensures within { IfOk result (λ r. r.states ≤ limit) }
     ensures undecided { IfOk result (λ r. r.ending ≡ Undecided → r.states ≡ limit) }
 {
@@ -106,29 +111,32 @@ fn search_both(
 /// Looks for the overall verdicts that the courses of a test case give, each with a complete course that gives it. A search by
 /// the calls of all runs keeps so many states at most, and fewer of a test case with many steps. Where it comes to its end,
 /// the verdict of each complete course is found. Else a search with reductions follows, which looks at so many states at
-/// most. A test case without behaviours is left undecided.
+/// most. Each number of calls that is reached has a course too. A test case without behaviours is left undecided.
 #[tactic(auto, using(crate::proofs::Legality::legal_rules, crate::proofs::Noting::noting_rules))]
 pub fn explore(alloc: Global, scripts: &[Script], limit: usize) -> Result<Explored, NoMemory>
     requires few { length scripts.now ≤ BEHAVIOURS }
     ensures sound { IfOk result (λ e. AreWitnesses scripts.now e.found) }
     ensures legal { IfOk result (λ e. AreLegal scripts.now e.found) }
+    ensures reached { IfOk result (λ e. AreReached scripts.now e.reached) }
     ensures complete { IfOk result (λ e. e.ending ≡ Complete → AllFound scripts.now e.found) }
     ensures within { IfOk result (λ e. e.states ≤ limit) }
     ensures once { IfOk result (λ e. IsOnce e.found) }
     ensures undecided { IfOk result (λ e. e.ending ≡ Undecided → 1 ≤ length scripts.now → e.states ≡ limit) }
     ensures nothing { IfOk result (λ e. scripts.now ≡ [] → (e.ending ≡ Undecided) × (e.found ≡ []) × (e.states ≡ 0)) }
 {
-    let mut found = Vec::new(alloc);
+    let mut found = no_findings(alloc, scripts)?;
     if scripts.is_empty() {
         return Ok(Explored {
-            found: Sequence::new(found),
+            found: Sequence::new(found.witnesses),
+            reached: Sequence::new(found.reached),
             states: 0,
             ending: Ending::Undecided,
         });
     }
     let reach = search_both(alloc, scripts, limit, &mut found)?;
     Ok(Explored {
-        found: Sequence::new(found),
+        found: Sequence::new(found.witnesses),
+        reached: Sequence::new(found.reached),
         states: reach.states,
         ending: reach.ending,
     })

@@ -1,25 +1,24 @@
 //! The search that follows the calls of all runs, but for those of which nobody can tell that they were made, which it
 //! makes at once. Where it comes to its end nothing is missed.
-ghost use Rattle.std.specs.Prelude.{◌≡◌, ◌≤◌, ◌<◌, ◌∷◌, ℕ, true, false, [], Some, IfOk, IsTrue, OnOk, All, length, slice_get};
+ghost use Rattle.std.specs.Prelude.{◌≡◌, ◌≤◌, ◌<◌, ◌∷◌, true, false, IfOk, IsTrue, OnOk, All, length};
 ghost use Rattle.tc_entry.specs.declared.limits.TheConstants.{BEHAVIOURS};
 ghost use Rattle.tc_entry.specs.declared.op.Op.TheVariants.{Finish};
 ghost use Rattle.tc_entry.specs.Reply as reply;
 ghost use Rattle.tc_table.specs.Case.{past_of};
 ghost use Rattle.tc_table.specs.Answers as answers;
-ghost use Rattle.tc_table.specs.History as history;
-ghost use Rattle.tc_table.specs.Local as verdicts;
 ghost use Rattle.tc_explore.specs.Course as courses;
-ghost use Rattle.tc_explore.specs.Found.{IsOn, AreNoted};
+ghost use Rattle.tc_explore.specs.Found.{IsOn, IsNext};
 ghost use Rattle.tc_explore.specs.Inside.Simulation as moves;
 ghost use Rattle.tc_explore.specs.Laws.{IsClosedAt, AreClosed, AllFound};
-ghost use Rattle.tc_explore.specs.Inside.Seen.{IsSeen, IsLonger, StandsOn, IsAfter, IsRunClosed};
+ghost use Rattle.tc_explore.specs.Inside.Seen.{IsSeen, IsLonger, IsNoted, StandsOn, IsCallClosed, IsRunOfClosed, AreRunsClosed, IsCaseClosed};
 
 use crate::course::Course;
+use crate::entries::has_gone_on;
+use crate::findings::{Findings, reach};
 use crate::same::is_same;
 use crate::search::{Extent, note, with_stuck};
 use crate::told::{is_found, level};
 use crate::turns::next_call;
-use crate::witness::Witness;
 use indexmap::IndexSet;
 use std::alloc::Global;
 use tc_entry::{Op, Reply};
@@ -204,7 +203,7 @@ fn with_call(
     op: Op,
 ) -> Result<Course, NoMemory>
     requires on { IsOn scripts.now course.now }
-    requires turn { courses.IsTurn scripts.now (past_of course.now) (courses.taken course.now.behaviours (past_of course.now) run op) }
+    requires turn { IsNext scripts.now course.now run op }
     ensures on { IfOk result (λ c. IsOn scripts.now c) }
     ensures added { IfOk result (λ c. past_of c ≡ courses.taken course.now.behaviours (past_of course.now) run op ∷ past_of course.now) }
 {
@@ -220,44 +219,35 @@ fn after_call(
     run: Run,
     op: Op,
     full: &mut Full,
-    found: &mut Vec<Witness>,
+    found: &mut Findings,
 ) -> Result<bool, NoMemory>
     requires some { 1 ≤ length scripts.now }
     requires few { length scripts.now ≤ BEHAVIOURS }
     requires on { IsOn scripts.now course.now }
-    requires turn { courses.IsTurn scripts.now (past_of course.now) (courses.taken course.now.behaviours (past_of course.now) run op) }
+    requires turn { IsNext scripts.now course.now run op }
     requires states { All (λ t. IsOn scripts.now t) full.old.states.items }
-    requires found { AreNoted scripts.now found.old.items }
+    requires found { IsNoted scripts.now found.old }
     ensures states { OnOk result (All (λ t. IsOn scripts.now t) full.new.states.items) }
     ensures more_states { OnOk result (IsLonger full.old.states.items full.new.states.items) }
-    ensures found { OnOk result (AreNoted scripts.now found.new.items) }
-    ensures more_found { OnOk result (IsLonger found.old.items found.new.items) }
-    ensures closed { IfOk result (λ is_closed. is_closed ≡ true → IsAfter scripts.now full.new.states.items found.new.items (past_of course.now) (courses.taken course.now.behaviours (past_of course.now) run op)) }
+    ensures found { OnOk result (IsNoted scripts.now found.new) }
+    ensures more_found { OnOk result (IsLonger found.old.witnesses.items found.new.witnesses.items) }
+    ensures closed { IfOk result (λ is_closed. is_closed ≡ true → IsCallClosed scripts.now full.new found.new course.now run op) }
 {
     let next = with_call(alloc, scripts, course, run, op)?;
     if next.is_over() {
         let verdict = next.verdict();
         note(alloc, scripts, next, found)?;
-        return Ok(is_found(found, verdict));
+        return Ok(is_found(&found.witnesses, verdict));
     }
     let calm = calmed(next, scripts)?;
+    reach(&mut found.reached, scripts, &calm);
     let is_seen = place(alloc, scripts, calm, full)?;
     Ok(is_seen)
 }
 
-// Whether after this reply the caller has gone on, or the case is over.
-fn has_gone_on(reply: Reply) -> bool
-    ensures { result ≡ moves.goes_on reply }
-{
-    match reply {
-        Reply::Ended | Reply::Parked => false,
-        _ => true,
-    }
-}
-
 // Whether a call is an error, or not quiet.
 fn is_loud(course: &Course, run: Run, op: &Op) -> bool
-    ensures { IsTrue result → reply.is_fault (answers.answer course.now.behaviours (past_of course.now) run.0 op.now) ≡ false → moves.is_quiet (verdicts.overall (past_of course.now)) op.now ≡ false }
+    ensures { IsTrue result → moves.IsLoud course.now.behaviours (past_of course.now) run.0 op.now }
 {
     if course.would(run, op).is_fault() {
         return true;
@@ -280,18 +270,18 @@ fn try_run(
     course: &Course,
     run: Run,
     full: &mut Full,
-    found: &mut Vec<Witness>,
+    found: &mut Findings,
 ) -> Result<Tried, NoMemory>
     requires few { length scripts.now ≤ BEHAVIOURS }
     requires within { run.0 < length scripts.now }
     requires on { IsOn scripts.now course.now }
     requires states { All (λ t. IsOn scripts.now t) full.old.states.items }
-    requires found { AreNoted scripts.now found.old.items }
+    requires found { IsNoted scripts.now found.old }
     ensures states { OnOk result (All (λ t. IsOn scripts.now t) full.new.states.items) }
     ensures more_states { OnOk result (IsLonger full.old.states.items full.new.states.items) }
-    ensures found { OnOk result (AreNoted scripts.now found.new.items) }
-    ensures more_found { OnOk result (IsLonger found.old.items found.new.items) }
-    ensures closed { IfOk result (λ t. t.is_closed ≡ true → IsRunClosed scripts.now full.new.states.items found.new.items (past_of course.now) run.0) }
+    ensures found { OnOk result (IsNoted scripts.now found.new) }
+    ensures more_found { OnOk result (IsLonger found.old.witnesses.items found.new.witnesses.items) }
+    ensures closed { IfOk result (λ t. t.is_closed ≡ true → IsRunOfClosed scripts.now full.new found.new course.now run.0) }
     ensures goes_on { IfOk result (λ t. t.goes_on ≡ true → moves.GoesOn scripts.now (past_of course.now)) }
 {
     let Some(op) = next_call(course, scripts, run) else {
@@ -327,17 +317,17 @@ fn try_runs(
     scripts: &[Script],
     course: &Course,
     full: &mut Full,
-    found: &mut Vec<Witness>,
+    found: &mut Findings,
 ) -> Result<Tried, NoMemory>
     requires few { length scripts.now ≤ BEHAVIOURS }
     requires on { IsOn scripts.now course.now }
     requires states { All (λ t. IsOn scripts.now t) full.old.states.items }
-    requires found { AreNoted scripts.now found.old.items }
+    requires found { IsNoted scripts.now found.old }
     ensures states { OnOk result (All (λ t. IsOn scripts.now t) full.new.states.items) }
     ensures more_states { OnOk result (IsLonger full.old.states.items full.new.states.items) }
-    ensures found { OnOk result (AreNoted scripts.now found.new.items) }
-    ensures more_found { OnOk result (IsLonger found.old.items found.new.items) }
-    ensures closed { IfOk result (λ t. t.is_closed ≡ true → (b : ℕ) → b < length scripts.now → IsRunClosed scripts.now full.new.states.items found.new.items (past_of course.now) b) }
+    ensures found { OnOk result (IsNoted scripts.now found.new) }
+    ensures more_found { OnOk result (IsLonger found.old.witnesses.items found.new.witnesses.items) }
+    ensures closed { IfOk result (λ t. t.is_closed ≡ true → AreRunsClosed scripts.now full.new found.new course.now (length scripts.now)) }
     ensures goes_on { IfOk result (λ t. t.goes_on ≡ true → moves.GoesOn scripts.now (past_of course.now)) }
 {
     let mut goes_on = false;
@@ -362,18 +352,18 @@ fn expand_course(
     scripts: &[Script],
     course: Course,
     full: &mut Full,
-    found: &mut Vec<Witness>,
+    found: &mut Findings,
 ) -> Result<bool, NoMemory>
     requires some { 1 ≤ length scripts.now }
     requires few { length scripts.now ≤ BEHAVIOURS }
     requires on { IsOn scripts.now course }
     requires states { All (λ t. IsOn scripts.now t) full.old.states.items }
-    requires found { AreNoted scripts.now found.old.items }
+    requires found { IsNoted scripts.now found.old }
     ensures states { OnOk result (All (λ t. IsOn scripts.now t) full.new.states.items) }
     ensures more_states { OnOk result (IsLonger full.old.states.items full.new.states.items) }
-    ensures found { OnOk result (AreNoted scripts.now found.new.items) }
-    ensures more_found { OnOk result (IsLonger found.old.items found.new.items) }
-    ensures closed { IfOk result (λ is_closed. is_closed ≡ true → moves.IsClosed scripts.now (IsSeen full.new.states.items) found.new.items (past_of course)) }
+    ensures found { OnOk result (IsNoted scripts.now found.new) }
+    ensures more_found { OnOk result (IsLonger found.old.witnesses.items found.new.witnesses.items) }
+    ensures closed { IfOk result (λ is_closed. is_closed ≡ true → IsCaseClosed scripts.now full.new found.new course) }
 {
     if course.is_over() || !course.is_active(Run(0)) || course.has_left(Run(0)) {
         return Ok(false);
@@ -387,7 +377,7 @@ fn expand_course(
     }
     let stuck = with_stuck(course.copied(alloc)?, scripts)?;
     note(alloc, scripts, stuck, found)?;
-    Ok(is_found(found, Verdict::Error))
+    Ok(is_found(&found.witnesses, Verdict::Error))
 }
 
 // Looks at the state at this place.
@@ -397,18 +387,18 @@ fn expand(
     scripts: &[Script],
     at: usize,
     full: &mut Full,
-    found: &mut Vec<Witness>,
+    found: &mut Findings,
 ) -> Result<bool, NoMemory>
     requires some { 1 ≤ length scripts.now }
     requires few { length scripts.now ≤ BEHAVIOURS }
     requires within { at < length full.old.states.items }
     requires states { All (λ t. IsOn scripts.now t) full.old.states.items }
-    requires found { AreNoted scripts.now found.old.items }
+    requires found { IsNoted scripts.now found.old }
     ensures states { OnOk result (All (λ t. IsOn scripts.now t) full.new.states.items) }
     ensures more_states { OnOk result (IsLonger full.old.states.items full.new.states.items) }
-    ensures found { OnOk result (AreNoted scripts.now found.new.items) }
-    ensures more_found { OnOk result (IsLonger found.old.items found.new.items) }
-    ensures closed { IfOk result (λ is_closed. is_closed ≡ true → IsClosedAt scripts.now full.new.states.items found.new.items at) }
+    ensures found { OnOk result (IsNoted scripts.now found.new) }
+    ensures more_found { OnOk result (IsLonger found.old.witnesses.items found.new.witnesses.items) }
+    ensures closed { IfOk result (λ is_closed. is_closed ≡ true → IsClosedAt scripts.now full.new.states.items found.new.witnesses.items at) }
 {
     let course = full.states[at].copied(alloc)?;
     expand_course(alloc, scripts, course, full, found)
@@ -421,15 +411,15 @@ fn expand_all(
     scripts: &[Script],
     limit: usize,
     full: &mut Full,
-    found: &mut Vec<Witness>,
+    found: &mut Findings,
 ) -> Result<bool, NoMemory>
     requires some { 1 ≤ length scripts.now }
     requires few { length scripts.now ≤ BEHAVIOURS }
     requires states { All (λ t. IsOn scripts.now t) full.old.states.items }
-    requires found { AreNoted scripts.now found.old.items }
+    requires found { IsNoted scripts.now found.old }
     ensures more_states { OnOk result (IsLonger full.old.states.items full.new.states.items) }
-    ensures found { OnOk result (AreNoted scripts.now found.new.items) }
-    ensures closed { IfOk result (λ is_closed. is_closed ≡ true → AreClosed scripts.now full.new.states.items found.new.items) }
+    ensures found { OnOk result (IsNoted scripts.now found.new) }
+    ensures closed { IfOk result (λ is_closed. is_closed ≡ true → AreClosed scripts.now full.new.states.items found.new.witnesses.items) }
     ensures within { IfOk result (λ is_closed. is_closed ≡ true → length full.new.states.items ≤ limit) }
 {
     for at in 0..limit {
@@ -450,13 +440,13 @@ pub(crate) fn search_all(
     alloc: Global,
     scripts: &[Script],
     limit: usize,
-    found: &mut Vec<Witness>,
+    found: &mut Findings,
 ) -> Result<Extent, NoMemory>
     requires some { 1 ≤ length scripts.now }
     requires few { length scripts.now ≤ BEHAVIOURS }
-    requires found { AreNoted scripts.now found.old.items }
-    ensures found { OnOk result (AreNoted scripts.now found.new.items) }
-    ensures complete { IfOk result (λ e. e.is_whole ≡ true → AllFound scripts.now found.new.items) }
+    requires found { IsNoted scripts.now found.old }
+    ensures found { OnOk result (IsNoted scripts.now found.new) }
+    ensures complete { IfOk result (λ e. e.is_whole ≡ true → AllFound scripts.now found.new.witnesses.items) }
     ensures within { IfOk result (λ e. e.is_whole ≡ true → e.states ≤ limit) }
 {
     let mut full = Full {
@@ -466,6 +456,7 @@ pub(crate) fn search_all(
     };
     let opening = Course::opening(alloc, scripts.len() as u16)?;
     let calm = calmed(opening, scripts)?;
+    reach(&mut found.reached, scripts, &calm);
     if !place(alloc, scripts, calm, &mut full)? {
         return Ok(Extent {
             states: 0,

@@ -7,6 +7,7 @@ mod course;
 mod details;
 mod entries;
 mod explored;
+mod findings;
 mod full;
 pub mod laws;
 mod moves;
@@ -16,8 +17,10 @@ mod same;
 mod search;
 mod standing;
 mod state;
+mod steps;
 mod told;
 mod turns;
+mod unseen;
 mod waits;
 mod witness;
 

@@ -1,14 +1,10 @@
 //! Whether the same is known after two courses, as far as the verdict depends on it.
-ghost use Rattle.std.specs.Prelude.{◌≡◌, ◌≤◌, ◌<◌, ℕ, true, None, IsTrue, length};
+ghost use Rattle.std.specs.Prelude.{◌≡◌, ◌≤◌, IsTrue, length};
 ghost use Rattle.tc_entry.specs.declared.limits.TheConstants.{BEHAVIOURS};
 ghost use Rattle.tc_table.specs.Case.{past_of};
-ghost use Rattle.tc_table.specs.History as history;
-ghost use Rattle.tc_table.specs.Phases.{phase_if_any};
 ghost use Rattle.tc_table.specs.Faults as faults;
-ghost use Rattle.tc_table.specs.Answers as answers;
-ghost use Rattle.tc_explore.specs.Course as courses;
 ghost use Rattle.tc_explore.specs.Found.{IsOn};
-ghost use Rattle.tc_explore.specs.Inside.Seen.{IsSame, HasSame, phase_code, comp_code};
+ghost use Rattle.tc_explore.specs.Inside.Seen.{IsSame, HasSameComps, HasSameKinds, HasSamePhases, HasSameStands, phase_code, comp_code};
 
 use crate::course::Course;
 use crate::told::level;
@@ -58,8 +54,8 @@ pub(crate) fn are_same(a: &[Comp], b: &[Comp]) -> bool
 #[tactic(auto, using(crate::proofs::Sameness::same_rules))]
 fn has_same_components(a: &Course, b: &Course) -> bool
     requires { faults.components (past_of a.now) ≡ faults.components (past_of b.now) }
-    ensures phases { IsTrue result → (c : ℕ) → c < faults.components (past_of a.now) → phase_if_any (past_of a.now) c ≡ phase_if_any (past_of b.now) c }
-    ensures kinds { IsTrue result → (c : ℕ) → c < faults.components (past_of a.now) → history.is_alive_type (past_of a.now) c ≡ history.is_alive_type (past_of b.now) c }
+    ensures phases { IsTrue result → HasSamePhases (past_of a.now) (past_of b.now) }
+    ensures kinds { IsTrue result → HasSameKinds (past_of a.now) (past_of b.now) }
 {
     for at in 0..a.components() {
         if phase_number(a.phase_of(Comp(at))) != phase_number(b.phase_of(Comp(at))) {
@@ -77,8 +73,8 @@ fn has_same_components(a: &Course, b: &Course) -> bool
 fn has_same_runs(a: &Course, b: &Course, n: u16) -> bool
     requires of_a { a.now.behaviours ≡ n }
     requires of_b { b.now.behaviours ≡ n }
-    ensures comps { IsTrue result → (k : ℕ) → k < n → (courses.stand (past_of a.now) k).comp ≡ (courses.stand (past_of b.now) k).comp }
-    ensures stands { IsTrue result → (k : ℕ) → k < n → answers.is_active (past_of a.now) k ≡ true → (courses.stand (past_of a.now) k ≡ courses.stand (past_of b.now) k) × ((courses.stand (past_of b.now) k).wake ≡ None) }
+    ensures comps { IsTrue result → HasSameComps n (past_of a.now) (past_of b.now) }
+    ensures stands { IsTrue result → HasSameStands n (past_of a.now) (past_of b.now) }
 {
     for run in 0..n {
         if !a.is_on_same(b, Run(run)) {

@@ -2,9 +2,10 @@
 ghost use Rattle.std.specs.Prelude.{◌≡◌, ◌≤◌, false, IfOk, IfSome, OnOk, length};
 ghost use Rattle.tc_entry.specs.declared.limits.TheConstants.{BEHAVIOURS};
 ghost use Rattle.tc_explore.specs.Found.{IsOn, IsWitness, AreNoted};
-ghost use Rattle.tc_explore.specs.Inside.Seen.{IsLonger};
+ghost use Rattle.tc_explore.specs.Inside.Seen.{IsLonger, IsNoted};
 
 use crate::course::Course;
+use crate::findings::{Findings, reach};
 use crate::moves::{
     Before, Move, WORST, moves_of, with_before, with_next, with_quiet, with_victims,
 };
@@ -73,21 +74,22 @@ pub(crate) fn note(
     alloc: Global,
     scripts: &[Script],
     course: Course,
-    found: &mut Vec<Witness>,
+    found: &mut Findings,
 ) -> Result<(), NoMemory>
     requires few { length scripts.now ≤ BEHAVIOURS }
     requires on { IsOn scripts.now course }
-    requires found { AreNoted scripts.now found.old.items }
-    ensures found { AreNoted scripts.now found.new.items }
-    ensures more_found { IsLonger found.old.items found.new.items }
+    requires found { IsNoted scripts.now found.old }
+    ensures found { IsNoted scripts.now found.new }
+    ensures more_found { IsLonger found.old.witnesses.items found.new.witnesses.items }
 {
-    if is_found(found, course.verdict()) {
+    reach(&mut found.reached, scripts, &course);
+    if is_found(&found.witnesses, course.verdict()) {
         return Ok(());
     }
     let course = step_all(course, scripts)?;
     match witness_of(alloc, scripts, &course)? {
         None => Ok(()),
-        Some(witness) => add_new(scripts, witness, found),
+        Some(witness) => add_new(scripts, witness, &mut found.witnesses),
     }
 }
 
@@ -115,18 +117,18 @@ fn offer(
     scripts: &[Script],
     course: Course,
     search: &mut Search,
-    found: &mut Vec<Witness>,
+    found: &mut Findings,
 ) -> Result<(), NoMemory>
     requires few { length scripts.now ≤ BEHAVIOURS }
     requires on { IsOn scripts.now course }
-    requires found { AreNoted scripts.now found.old.items }
-    ensures { AreNoted scripts.now found.new.items }
+    requires found { IsNoted scripts.now found.old }
+    ensures { IsNoted scripts.now found.new }
 {
     if course.is_over() {
-        note(alloc, scripts, course, found)
-    } else {
-        search.keep(alloc, &course)
+        return note(alloc, scripts, course, found);
     }
+    reach(&mut found.reached, scripts, &course);
+    search.keep(alloc, &course)
 }
 
 // Makes a move, and answers whether it could be made: a wait is not made while its target does not hold.
@@ -136,12 +138,12 @@ fn go(
     course: Course,
     way: Move,
     search: &mut Search,
-    found: &mut Vec<Witness>,
+    found: &mut Findings,
 ) -> Result<bool, NoMemory>
     requires few { length scripts.now ≤ BEHAVIOURS }
     requires on { IsOn scripts.now course }
-    requires found { AreNoted scripts.now found.old.items }
-    ensures { AreNoted scripts.now found.new.items }
+    requires found { IsNoted scripts.now found.old }
+    ensures { IsNoted scripts.now found.new }
 {
     let course = with_before(course, scripts, way.before)?;
     let course = with_quiet(course, scripts, way.run, WORST)?;
@@ -164,12 +166,12 @@ fn go_all(
     course: &Course,
     moves: &[Move],
     search: &mut Search,
-    found: &mut Vec<Witness>,
+    found: &mut Findings,
 ) -> Result<bool, NoMemory>
     requires few { length scripts.now ≤ BEHAVIOURS }
     requires on { IsOn scripts.now course.now }
-    requires found { AreNoted scripts.now found.old.items }
-    ensures { AreNoted scripts.now found.new.items }
+    requires found { IsNoted scripts.now found.old }
+    ensures { IsNoted scripts.now found.new }
 {
     let mut any = false;
     for way in moves {
@@ -202,12 +204,12 @@ fn expand(
     scripts: &[Script],
     schedule: &[u16],
     search: &mut Search,
-    found: &mut Vec<Witness>,
+    found: &mut Findings,
 ) -> Result<(), NoMemory>
     requires some { 1 ≤ length scripts.now }
     requires few { length scripts.now ≤ BEHAVIOURS }
-    requires found { AreNoted scripts.now found.old.items }
-    ensures { AreNoted scripts.now found.new.items }
+    requires found { IsNoted scripts.now found.old }
+    ensures { IsNoted scripts.now found.new }
 {
     let course = follow(alloc, scripts, schedule)?;
     let moves = moves_of(alloc, &course, scripts)?;
@@ -224,12 +226,12 @@ fn look(
     scripts: &[Script],
     limit: usize,
     search: &mut Search,
-    found: &mut Vec<Witness>,
+    found: &mut Findings,
 ) -> Result<usize, NoMemory>
     requires some { 1 ≤ length scripts.now }
     requires few { length scripts.now ≤ BEHAVIOURS }
-    requires found { AreNoted scripts.now found.old.items }
-    ensures found { AreNoted scripts.now found.new.items }
+    requires found { IsNoted scripts.now found.old }
+    ensures found { IsNoted scripts.now found.new }
     ensures within { IfOk result (λ states. states ≤ limit) }
 {
     for states in 0..limit {
@@ -247,12 +249,12 @@ pub(crate) fn search_reduced(
     alloc: Global,
     scripts: &[Script],
     limit: usize,
-    found: &mut Vec<Witness>,
+    found: &mut Findings,
 ) -> Result<Extent, NoMemory>
     requires some { 1 ≤ length scripts.now }
     requires few { length scripts.now ≤ BEHAVIOURS }
-    requires found { AreNoted scripts.now found.old.items }
-    ensures found { OnOk result (AreNoted scripts.now found.new.items) }
+    requires found { IsNoted scripts.now found.old }
+    ensures found { OnOk result (IsNoted scripts.now found.new) }
     ensures within { IfOk result (λ e. e.states ≤ limit) }
     ensures cut { IfOk result (λ e. e.is_whole ≡ false → e.states ≡ limit) }
 {

@@ -4,7 +4,7 @@ ghost use Rattle.tc_entry.specs.declared.limits.TheConstants.{BEHAVIOURS};
 ghost use Rattle.tc_table.specs.Answers as answers;
 ghost use Rattle.tc_table.specs.Case.{past_of};
 ghost use Rattle.tc_explore.specs.Course as courses;
-ghost use Rattle.tc_explore.specs.Found.{IsOn, CannotGo};
+ghost use Rattle.tc_explore.specs.Found.{IsOn, IsNext, CannotGo};
 
 use crate::course::Course;
 use crate::entries::is_wake;
@@ -31,7 +31,7 @@ fn is_idle(course: &Course, run: Run, op: &Op) -> bool
 #[tactic(auto, using(crate::proofs::Turning::turn_rules))]
 pub(crate) fn next_call(course: &Course, scripts: &[Script], run: Run) -> Option<Op>
     requires on { IsOn scripts.now course.now }
-    ensures some { IfSome result (λ op. courses.IsTurn scripts.now (past_of course.now) (courses.taken course.now.behaviours (past_of course.now) run op)) }
+    ensures some { IfSome result (λ op. IsNext scripts.now course.now run op) }
     ensures none { IfNone result (run.0 < length scripts.now → CannotGo scripts.now (past_of course.now) run.0) }
 {
     if usize::from(run.0) >= scripts.len() {

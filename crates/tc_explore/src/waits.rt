@@ -1,10 +1,9 @@
 //! Who waits for whom in a witness that ends since no run can go on.
-ghost use Rattle.std.specs.Prelude.{◌≡◌, ◌≤◌, ◌++◌, List, OnOk, reverse};
+ghost use Rattle.std.specs.Prelude.{◌≡◌, ◌≤◌, ◌++◌, OnOk, reverse};
 ghost use Rattle.tc_entry.specs.declared.limits.TheConstants.{BEHAVIOURS};
-ghost use Rattle.tc_entry.specs.declared.entry.Entry.{Entry as AnyEntry};
 ghost use Rattle.tc_table.specs.Legal.{IsLegal};
 ghost use Rattle.tc_table.specs.Standing.{StandsFor};
-ghost use Rattle.tc_explore.specs.Waits.{awaited_words, is_stuck as is_stuck_reply, phase_words, stand_line, stuck_place as place_of_stuck, target_words, wait_line, wait_lines, waiter_words, waits_text, wake_line, where_words};
+ghost use Rattle.tc_explore.specs.Waits.{AppendsBy, awaited_words, is_stuck as is_stuck_reply, phase_words, stand_line, stuck_place as place_of_stuck, target_words, wait_line, wait_lines, waiter_words, waits_text, wake_line, where_words};
 
 use crate::components::append_comp;
 use crate::standing::Standing;
@@ -71,7 +70,7 @@ fn append_target(
     state: &CaseState,
     target: Target,
 ) -> Result<(), NoMemory>
-    ensures { (past : List AnyEntry) → StandsFor state.now past → OnOk result (out.new.items ≡ out.old.items ++ target_words history.now past target) }
+    ensures { AppendsBy result state.now out.old.items out.new.items (λ past. target_words history.now past target) }
 {
     match target {
         Target::One(comp) => {
@@ -115,7 +114,7 @@ fn append_wake(
     comp: Comp,
     awaited: Awaited,
 ) -> Result<(), NoMemory>
-    ensures { (past : List AnyEntry) → StandsFor state.now past → OnOk result (out.new.items ≡ out.old.items ++ wake_line history.now past run comp awaited) }
+    ensures { AppendsBy result state.now out.old.items out.new.items (λ past. wake_line history.now past run comp awaited) }
 {
     append_waiter(out, history, run, comp)?;
     append_awaited(out, awaited.killed)?;
@@ -132,7 +131,7 @@ fn append_stand(
     run: u16,
     standing: &Standing,
 ) -> Result<(), NoMemory>
-    ensures { (past : List AnyEntry) → StandsFor state.now past → OnOk result (out.new.items ≡ out.old.items ++ stand_line history.now past run standing.now) }
+    ensures { AppendsBy result state.now out.old.items out.new.items (λ past. stand_line history.now past run standing.now) }
 {
     match standing.awaited() {
         Some((comp, awaited)) => append_wake(out, history, state, run, comp, awaited),

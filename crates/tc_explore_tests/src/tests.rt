@@ -7,13 +7,13 @@ mod runs;
 mod schedules;
 
 use crate::tests::checks::{holds, is};
-use play::verdicts_of_all;
+use play::all_schedules;
 use std::alloc::Global;
 use std::process::Abort;
 use std::test::Fail;
 use tc_entry::{Name, Op, Reply};
 use tc_explore::{Ending, Explored, explore};
-use tc_step::{GroupPlace, Place, Places, Script, Step, TargetPlace};
+use tc_step::{GroupPlace, Place, Places, Script, Status, Step, TargetPlace};
 use tc_table::replay_check;
 use tc_verdict::{Run, UserVerdict, Verdict};
 
@@ -74,7 +74,7 @@ fn are_same(one: &[Verdict], other: &[Verdict]) -> bool {
 }
 
 // The verdicts that a search found which misses none: those of all schedules, of each one witness, which has its verdict by
-// the component table.
+// the component table. Each run is reached as far as in all schedules.
 fn verdicts<R: Abort>(rt: &R, alloc: Global, scripts: &[Script]) -> Result<Vec<Verdict>, Fail> {
     assert!(rt; 1 <= scripts.len() && scripts.len() <= 64);
     let explored = explore(alloc, scripts, MANY)?;
@@ -84,11 +84,17 @@ fn verdicts<R: Abort>(rt: &R, alloc: Global, scripts: &[Script]) -> Result<Vec<V
         explored.ending == Ending::Complete,
     );
     let found = witnessed(rt, alloc, scripts, &explored)?;
-    let all = verdicts_of_all(alloc, scripts, CALLS)?.ok_or("fewer calls")?;
+    let all = all_schedules(alloc, scripts, CALLS)?.ok_or("fewer calls")?;
     holds(
         rt,
-        "are_same(found.as_slice(), all.as_slice())",
-        are_same(found.as_slice(), all.as_slice()),
+        "are_same(found.as_slice(), all.verdicts.as_slice())",
+        are_same(found.as_slice(), all.verdicts.as_slice()),
+    );
+    is(
+        rt,
+        "explored.reached.as_slice()",
+        explored.reached.as_slice(),
+        all.reached.as_slice(),
     );
     Ok(found)
 }

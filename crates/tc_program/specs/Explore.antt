@@ -4,9 +4,10 @@ use Rattle.std.specs.List.{AllZip, flat_map, list_any}
 use Rattle.std.specs.Fmt.{decimal}
 use Rattle.std.specs.Io.KnownBytes.{Keeps}
 use Rattle.tc_script.specs.Campaign.{CampaignView, campaign}
-use Rattle.tc_explore.specs.declared.witness.Witness.{Witness}
+use Rattle.tc_step.specs.Steps.{ScriptView}
+use Rattle.tc_explore.specs.declared.explored.Explored.{Explored}
 use Rattle.tc_explore.specs.Details.{details_text}
-use Rattle.tc_explore.specs.Found.{AreWitnesses, AreLegal}
+use Rattle.tc_explore.specs.Found.{AreWitnesses, AreLegal, AreReached}
 use Rattle.tc_explore.specs.Laws.{AllFound}
 use Rattle.tc_explore.specs.declared.explored.Ending.TheVariants as E
 use Rattle.tc_explore.specs.Told.{explored_line, explored_status, witnesses_text}
@@ -32,21 +33,23 @@ abbrev pub IsNoStates : Option (List ℕ) → Type 0
 IsNoStates None = ⊥
 IsNoStates (Some word) = (n : ℕ) → IsStates n → word ≡ decimal n → ⊥
 
--- the details of a test case of n behaviours, where they are asked for
-abbrev pub details_if : Bool → ℕ → List Witness → List ℕ
-details_if true n found = details_text n found
-details_if false n found = []
+-- the details of a test case with these scripts, where they are asked for
+abbrev pub details_if : Bool → List ScriptView → Explored → List ℕ
+details_if true scripts e = details_text scripts e
+details_if false scripts e = []
 
 -- a test case was explored, and each verdict that was found has a witness: a complete course of its scripts, which is legal;
--- where the search says that it is complete, the verdict of each complete course of its scripts was found
+-- where the search says that it is complete, the verdict of each complete course of its scripts was found; of each run as many
+-- steps as it reaches are carried out in some course
 pub record IsExplored (details : Bool) (states : ℕ) (c : CaseView) (e : ExploredCase) : Type 0 where
   pub name : e.name ≡ c.0
   pub behaviours : e.behaviours ≡ length c.1
   pub sound : AreWitnesses (scripts_of c.1) e.explored.found
   pub legal : AreLegal (scripts_of c.1) e.explored.found
   pub complete : e.explored.ending ≡ E.Complete → AllFound (scripts_of c.1) e.explored.found
+  pub reached : AreReached (scripts_of c.1) e.explored.reached
   pub within : e.explored.states ≤ states
-  pub details_are : e.details ≡ details_if details e.behaviours e.explored.found
+  pub details_are : e.details ≡ details_if details (scripts_of c.1) e.explored
 
 -- what is written of a test case: its line and its details, or the histories of its witnesses
 abbrev pub told_of : Bool → ExploredCase → List ℕ

@@ -60,20 +60,20 @@ fn scripts_of(alloc: Global, case: CaseScript) -> Result<Vec<Script>, NoMemory>
     Ok(scripts)
 }
 
-// The details of a test case of so many behaviours, where they are asked for.
+// The details of a test case with these scripts, where they are asked for.
 fn details_of(
     alloc: Global,
     details: bool,
-    behaviours: u16,
+    scripts: &[Script],
     explored: &Explored,
 ) -> Result<Vec<u8>, NoMemory>
-    requires few { behaviours ≤ BEHAVIOURS }
-    requires legal { AreLegalOf behaviours explored.now.found }
-    ensures { IfOk result (λ text. text.items ≡ details_if details behaviours explored.now.found) }
+    requires few { length scripts.now ≤ BEHAVIOURS }
+    requires legal { AreLegalOf (length scripts.now) explored.now.found }
+    ensures { IfOk result (λ text. text.items ≡ details_if details scripts.now explored.now) }
 {
     let mut out = Vec::new(alloc);
     if details {
-        explored.append_details(alloc, &mut out, behaviours)?;
+        explored.append_details(alloc, &mut out, scripts)?;
     }
     Ok(out)
 }
@@ -92,7 +92,7 @@ fn explore_case(
     let scripts = scripts_of(alloc, case)?;
     let behaviours = scripts.len() as u16;
     let explored = explore(alloc, scripts.as_slice(), states)?;
-    let details = details_of(alloc, details, behaviours, &explored)?;
+    let details = details_of(alloc, details, scripts.as_slice(), &explored)?;
     Ok(ExploredCase {
         name,
         behaviours,

@@ -1,7 +1,9 @@
 -- The states that a search has seen.
 use Rattle.std.specs.Prelude.{ℕ, ◌≡◌, ◌<◌, true, None, Option, Some, List, ◌∷◌, ◌++◌, ◌+◌, false, slice_get}
+use Rattle.tc_verdict.specs.declared.run.Run.{Run}
 use Rattle.tc_entry.specs.declared.comp.Comp.{Comp}
 use Rattle.tc_entry.specs.declared.entry.Entry.{Entry}
+use Rattle.tc_entry.specs.declared.op.Op.{Op}
 use Rattle.tc_entry.specs.declared.phase.Phase.{Phase}
 use Rattle.tc_entry.specs.declared.phase.Phase.TheVariants as P
 use Rattle.tc_step.specs.Steps.{ScriptView}
@@ -12,28 +14,55 @@ use Rattle.tc_table.specs.Local.{overall}
 use Rattle.tc_table.specs.Faults.{components}
 use Rattle.tc_table.specs.Answers.{is_active}
 use Rattle.tc_explore.specs.declared.witness.Witness.{Witness}
+use Rattle.tc_explore.specs.declared.findings.Findings.{Findings}
+use Rattle.tc_explore.specs.declared.full.Full.{Full}
+use Rattle.tc_explore.specs.Found.{AreNoted, AreReached}
 use Rattle.tc_explore.specs.Told.{is_found}
-use Rattle.tc_explore.specs.Course.{stand, IsTurn, IsCourse}
+use Rattle.tc_explore.specs.Course.{stand, goes_on, taken, IsTurn, IsCourse}
 use Rattle.tc_explore.specs.Inside.Alike.{IsAlike}
-use Rattle.tc_explore.specs.Inside.Simulation.{goes_on, IsFor, IsCovered, IsClosedFor}
+use Rattle.tc_explore.specs.Inside.Simulation.{IsFor, IsCovered, IsClosedFor, IsClosed}
 
 -- the same is known after both, and no run that goes on has a Wake to come
 pub record IsSame (p q : List Entry) : Type 0 where
   pub alike : IsAlike p q
   pub stands : (b : ℕ) → is_active p b ≡ true → (stand p b ≡ stand q b) × ((stand q b).wake ≡ None)
 
+-- after both each component that there is does the same
+abbrev pub HasSamePhases : List Entry → List Entry → Type 0
+HasSamePhases p q = (c : ℕ) → c < components p → phase_if_any p c ≡ phase_if_any q c
+
+-- and is of one kind
+abbrev pub HasSameKinds : List Entry → List Entry → Type 0
+HasSameKinds p q = (c : ℕ) → c < components p → is_alive_type p c ≡ is_alive_type q c
+
+-- after both each of n runs is on the same component, or on none
+abbrev pub HasSameComps : ℕ → List Entry → List Entry → Type 0
+HasSameComps n p q = (b : ℕ) → b < n → (stand p b).comp ≡ (stand q b).comp
+
+-- after both the same is known of a run, and it has no Wake to come
+abbrev pub StandsSame : List Entry → List Entry → ℕ → Type 0
+StandsSame p q b = (stand p b ≡ stand q b) × ((stand q b).wake ≡ None)
+
+-- so it is of each of n runs that goes on
+abbrev pub HasSameStands : ℕ → List Entry → List Entry → Type 0
+HasSameStands n p q = (b : ℕ) → b < n → is_active p b ≡ true → StandsSame p q b
+
 -- the same, by all that is compared: components and runs that there are
 pub record HasSame (n : ℕ) (p q : List Entry) : Type 0 where
   pub verdict : overall p ≡ overall q
   pub count : components p ≡ components q
-  pub phases : (c : ℕ) → c < components p → phase_if_any p c ≡ phase_if_any q c
-  pub kinds : (c : ℕ) → c < components p → is_alive_type p c ≡ is_alive_type q c
-  pub comps : (b : ℕ) → b < n → (stand p b).comp ≡ (stand q b).comp
-  pub stands : (b : ℕ) → b < n → is_active p b ≡ true → (stand p b ≡ stand q b) × ((stand q b).wake ≡ None)
+  pub phases : HasSamePhases p q
+  pub kinds : HasSameKinds p q
+  pub comps : HasSameComps n p q
+  pub stands : HasSameStands n p q
 
 -- one of these states is that after r
 abbrev pub IsSeen : List Case → List Entry → Type 0
 IsSeen states r = (i : ℕ) × (t : Case) × (slice_get states i ≡ Some t) × IsSame r (past_of t)
+
+-- what was found so far: witnesses, and how many calls each run carries out in some course
+abbrev pub IsNoted : List ScriptView → Findings → Type 0
+IsNoted scripts f = AreNoted scripts f.witnesses.items × AreReached scripts f.reached.items
 
 -- there may be more behind
 abbrev pub IsLonger : {A : Type 0} → List A → List A → Type 0
@@ -64,3 +93,20 @@ pub record IsAfter (scripts : List ScriptView) (states : List Case) (found : Lis
 -- what each call of run b leads to is seen, or its verdict is found
 abbrev pub IsRunClosed : List ScriptView → List Case → List Witness → List Entry → ℕ → Type 0
 IsRunClosed scripts states found q b = (e : Entry) → e.caller.0 ≡ b → IsTurn scripts q e → goes_on e.reply ≡ true → IsClosedFor scripts (IsSeen states) found q e
+
+-- after this call the verdict is found, or the state is seen
+abbrev pub IsCallClosed : List ScriptView → Full → Findings → Case → Run → Op → Type 0
+IsCallClosed scripts full found t run op =
+    IsAfter scripts full.states.items found.witnesses.items (past_of t) (taken t.behaviours (past_of t) run op)
+
+-- so it is after each call of run b of a case
+abbrev pub IsRunOfClosed : List ScriptView → Full → Findings → Case → ℕ → Type 0
+IsRunOfClosed scripts full found t b = IsRunClosed scripts full.states.items found.witnesses.items (past_of t) b
+
+-- so it is of each of n runs
+abbrev pub AreRunsClosed : List ScriptView → Full → Findings → Case → ℕ → Type 0
+AreRunsClosed scripts full found t n = (b : ℕ) → b < n → IsRunOfClosed scripts full found t b
+
+-- whatever comes after a case is seen, or its verdict is found
+abbrev pub IsCaseClosed : List ScriptView → Full → Findings → Case → Type 0
+IsCaseClosed scripts full found t = IsClosed scripts (IsSeen full.states.items) found.witnesses.items (past_of t)

@@ -12,17 +12,15 @@ use Rattle.tc_entry.specs.declared.op.Op.{Op}
 use Rattle.tc_entry.specs.declared.op.Op.TheVariants as O
 use Rattle.tc_entry.specs.declared.op.Target.{Target}
 use Rattle.tc_entry.specs.declared.phase.Phase.TheVariants as P
-use Rattle.tc_entry.specs.declared.reply.Reply.{Reply}
-use Rattle.tc_entry.specs.declared.reply.Reply.TheVariants as R
 use Rattle.tc_entry.specs.Reply.{is_fault}
 use Rattle.tc_step.specs.Steps.{ScriptView}
 use Rattle.tc_table.specs.History.{comps, comp_of, is_alive_type, is_over}
 use Rattle.tc_table.specs.Phases.{phase}
 use Rattle.tc_table.specs.Local.{overall}
 use Rattle.tc_table.specs.Faults.{fault}
-use Rattle.tc_table.specs.Answers.{is_active}
+use Rattle.tc_table.specs.Answers.{answer, is_active}
 use Rattle.tc_explore.specs.declared.witness.Witness.{Witness}
-use Rattle.tc_explore.specs.Course.{Stand, stand, steps_in, script_of, call_of, IsTurn, IsCourse}
+use Rattle.tc_explore.specs.Course.{Stand, stand, goes_on, steps_in, script_of, call_of, IsTurn, IsCourse}
 use Rattle.tc_explore.specs.Told.{is_found}
 
 -- the call asks a question, or sets a verdict that is no worse than this one
@@ -35,11 +33,9 @@ is_quiet worst (O.Done t) = true
 is_quiet worst (O.Killed t) = true
 is_quiet worst op = false
 
--- after this reply the caller has gone on, or the case is over
-abbrev pub goes_on : Reply → Bool
-goes_on R.Ended = false
-goes_on R.Parked = false
-goes_on _ = true
+-- the call of run b is an error, or not quiet
+abbrev pub IsLoud : ℕ → List Entry → ℕ → Op → Type 0
+IsLoud n q b op = is_fault (answer n q b op) ≡ false → is_quiet (overall q) op ≡ false
 
 -- the call of run b would be quiet, and is no error
 pub record IsQuietAt (n : ℕ) (q : List Entry) (b : ℕ) (op : Op) : Type 0 where

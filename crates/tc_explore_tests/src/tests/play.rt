@@ -103,6 +103,7 @@ struct Player {
     me: Option<Comp>,
     bound: Vec<Comp>,
     called: usize,
+    carried: usize,
     has_left: bool,
     wake: Option<Op>,
 }
@@ -115,6 +116,7 @@ impl Player {
             me: self.me,
             bound,
             called: self.called,
+            carried: self.carried,
             has_left: self.has_left,
             wake: self.wake.as_ref().map(Op::copy),
         })
@@ -140,6 +142,9 @@ impl Player {
         }
         if !matches!(entry.op, Op::Wake { .. }) {
             self.called = self.called.saturating_add(1);
+        }
+        if !matches!(entry.reply, Reply::Ended | Reply::Parked) {
+            self.carried = self.carried.saturating_add(1);
         }
         self.wake = wake_after(&entry.op, entry.reply);
         if let Some(me) = self.me {
@@ -175,6 +180,7 @@ impl Play {
                 me: if run == 0 { Some(Comp(0)) } else { None },
                 bound: Vec::new(alloc),
                 called: 0,
+                carried: 0,
                 has_left: false,
                 wake: None,
             })?;
@@ -235,6 +241,25 @@ impl Play {
     }
 }
 
+/// What all schedules give: the overall verdicts, and how many calls each run carries out at most.
+#[derive(Drop)]
+pub struct All {
+    pub verdicts: Vec<Verdict>,
+    pub reached: Vec<usize>,
+}
+
+impl All {
+    fn take(&mut self, play: &Play) -> Result<(), NoMemory> {
+        for (reached, player) in self.reached.iter_mut().zip(&play.players) {
+            *reached = (*reached).max(player.carried);
+        }
+        if play.state.is_over() && !self.verdicts.contains(&play.verdict()) {
+            self.verdicts.push(play.verdict())?;
+        }
+        Ok(())
+    }
+}
+
 // Takes in what each run's next call leads to.
 fn push_next(
     alloc: Global,
@@ -252,27 +277,28 @@ fn push_next(
     Ok(())
 }
 
-/// The overall verdicts of all schedules, in which at most so many calls are made together; else none. Once a case is over
-/// each call is answered Ended, so its verdict stands.
-pub fn verdicts_of_all(
+/// What all schedules give, in which at most so many calls are made together; else none. Once a case is over each call is
+/// answered Ended, so its verdict stands.
+pub fn all_schedules(
     alloc: Global,
     scripts: &[Script],
     most: usize,
-) -> Result<Option<Vec<Verdict>>, NoMemory>
+) -> Result<Option<All>, NoMemory>
     requires some { 1 ≤ length scripts.now }
     requires few { length scripts.now ≤ BEHAVIOURS }
 {
-    let mut found = Vec::new(alloc);
+    let verdicts = Vec::new(alloc);
+    let reached = vec![in alloc; 0; scripts.len()]?;
+    let mut all = All { verdicts, reached };
     let mut left = Vec::new(alloc);
     left.push(Play::opening(alloc, scripts.len() as u16)?)?;
     for _ in 0..most {
         let Some(play) = left.pop() else {
-            return Ok(Some(found));
+            return Ok(Some(all));
         };
+        all.take(&play)?;
         if !play.state.is_over() {
             push_next(alloc, scripts, &play, &mut left)?;
-        } else if !found.contains(&play.verdict()) {
-            found.push(play.verdict())?;
         }
     }
     Ok(None)

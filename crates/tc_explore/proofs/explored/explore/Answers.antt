@@ -1,11 +1,18 @@
+use Rattle.std.proofs.Common.{◌∙◌, refl}
 use Rattle.tc_explore.proofs.Legality.{witnesses_legal}
 use Rattle.tc_explore.proofs.explored.explore.Goals as goal
 
 pub returns-clause-legal : goal.returns-clause-legal
-returns-clause-legal c = rw c.new-2.ensures (witnesses_legal c.args.scripts.now c.search_both.new.found.items c.in_ok-reach.ensures.found.sound)
+returns-clause-legal c = rw c.new-2.ensures (witnesses_legal c.args.scripts.now c.search_both.new.found.witnesses.items c.in_ok-reach.ensures.found.0.sound)
 
 pub returns-clause-sound : goal.returns-clause-sound
-returns-clause-sound c = rw c.new-2.ensures c.in_ok-reach.ensures.found.sound
+returns-clause-sound c = rw c.new-2.ensures c.in_ok-reach.ensures.found.0.sound
 
 pub returns-clause-once : goal.returns-clause-once
-returns-clause-once c = rw c.new-2.ensures c.in_ok-reach.ensures.found.once
+returns-clause-once c = rw c.new-2.ensures c.in_ok-reach.ensures.found.0.once
+
+pub returns-then-is_empty-clause-legal : goal.returns-then-is_empty-clause-legal
+returns-then-is_empty-clause-legal c = rw c.new.ensures (witnesses_legal c.args.scripts.now c.in_ok-found.found.witnesses.items c.in_ok-found.ensures.noted.0.sound)
+
+pub returns-then-is_empty-clause-nothing : goal.returns-then-is_empty-clause-nothing
+returns-then-is_empty-clause-nothing c h = (refl, c.new.ensures ∙ c.in_ok-found.ensures.none, refl)

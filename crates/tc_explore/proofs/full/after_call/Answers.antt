@@ -9,4 +9,4 @@ pub returns-clause-closed : goal.returns-clause-closed
 returns-clause-closed c h =
     let t = c.args.course.now in
     let going : is_over (past_of c.in_ok-next.next) ≡ false = search rules in
-    after_seen c.args.scripts.now c.place.new.full.states.items c.args.found.now.items (past_of t) (taken t.behaviours (past_of t) c.args.run c.args.op) c.in_ok-next.next c.in_ok-calm.calm c.in_ok-next.ensures.added going c.in_ok-calm.ensures.stands (c.in_ok-is_seen.ensures.seen h)
+    after_seen c.args.scripts.now c.place.new.full.states.items c.args.found.now.witnesses.items (past_of t) (taken t.behaviours (past_of t) c.args.run c.args.op) c.in_ok-next.next c.in_ok-calm.calm c.in_ok-next.ensures.added going c.in_ok-calm.ensures.stands (c.in_ok-is_seen.ensures.seen h)

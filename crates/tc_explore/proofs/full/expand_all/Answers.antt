@@ -12,11 +12,11 @@ loop-at-preserved c =
       is.states,
       longer_then c.args.full.now.states.items c.loop-at.full.states.items c.expand.new.full.states.items was.1 is.more_states,
       is.found,
-      longer_then c.args.found.now.items c.loop-at.found.items c.expand.new.found.items was.3 is.more_found,
-      closed_ats_more c.args.scripts.now c.loop-at.full.states.items c.expand.new.full.states.items c.loop-at.found.items c.expand.new.found.items c.loop-at.at is.more_states is.more_found within was.4 (is.closed closed),
+      longer_then c.args.found.now.witnesses.items c.loop-at.found.witnesses.items c.expand.new.found.witnesses.items was.3 is.more_found,
+      closed_ats_more c.args.scripts.now c.loop-at.full.states.items c.expand.new.full.states.items c.loop-at.found.witnesses.items c.expand.new.found.witnesses.items c.loop-at.at is.more_states is.more_found within was.4 (is.closed closed),
     )
 
 pub returns-clause-closed : goal.returns-clause-closed
 returns-clause-closed c h =
     let whole : length c.loop-at.full.states.items ≤ c.loop-at.at = search rules in
-    closed_ats_all c.args.scripts.now c.loop-at.full.states.items c.loop-at.found.items c.loop-at.at whole c.loop-at.invariant.4
+    closed_ats_all c.args.scripts.now c.loop-at.full.states.items c.loop-at.found.witnesses.items c.loop-at.at whole c.loop-at.invariant.4

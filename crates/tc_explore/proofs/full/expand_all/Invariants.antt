@@ -1,6 +1,6 @@
 use Rattle.std.proofs.Common.{◌<◌, ℕ, All}
-use Rattle.tc_explore.specs.Found.{IsOn, AreNoted}
-use Rattle.tc_explore.specs.Inside.Seen.{IsLonger}
+use Rattle.tc_explore.specs.Found.{IsOn}
+use Rattle.tc_explore.specs.Inside.Seen.{IsLonger, IsNoted}
 use Rattle.tc_explore.specs.Laws.{IsClosedAt}
 use Rattle.tc_explore.proofs.full.expand_all.Given as goal
 
@@ -8,6 +8,6 @@ abbrev pub invariant-loop-at : goal.invariant-loop-at
 invariant-loop-at l =
     All (λ t. IsOn l.scripts t) l.full.states.items
     × IsLonger l.initial.full.states.items l.full.states.items
-    × AreNoted l.scripts l.found.items
-    × IsLonger l.initial.found.items l.found.items
-    × ((i : ℕ) → i < l.at → IsClosedAt l.scripts l.full.states.items l.found.items i)
+    × IsNoted l.scripts l.found
+    × IsLonger l.initial.found.witnesses.items l.found.witnesses.items
+    × ((i : ℕ) → i < l.at → IsClosedAt l.scripts l.full.states.items l.found.witnesses.items i)

@@ -14,7 +14,7 @@ loop-run-preserved c =
       is.states,
       longer_then c.args.full.now.states.items c.loop-run.full.states.items c.try_run.new.full.states.items was.1 is.more_states,
       is.found,
-      longer_then c.args.found.now.items c.loop-run.found.items c.try_run.new.found.items was.3 is.more_found,
-      runs_more c.args.scripts.now c.loop-run.full.states.items c.try_run.new.full.states.items c.loop-run.found.items c.try_run.new.found.items (past_of c.args.course.now) c.loop-run.run is.more_states is.more_found was.4 (is.closed closed),
+      longer_then c.args.found.now.witnesses.items c.loop-run.found.witnesses.items c.try_run.new.found.witnesses.items was.3 is.more_found,
+      runs_more c.args.scripts.now c.loop-run.full.states.items c.try_run.new.full.states.items c.loop-run.found.witnesses.items c.try_run.new.found.witnesses.items (past_of c.args.course.now) c.loop-run.run is.more_states is.more_found was.4 (is.closed closed),
       goes,
     )

@@ -1,5 +1,5 @@
-use Rattle.tc_explore.specs.Found.{AreNoted}
+use Rattle.tc_explore.specs.Inside.Seen.{IsNoted}
 use Rattle.tc_explore.proofs.search.look.Given as goal
 
 abbrev pub invariant-loop-states : goal.invariant-loop-states
-invariant-loop-states l = AreNoted l.scripts l.found.items
+invariant-loop-states l = IsNoted l.scripts l.found

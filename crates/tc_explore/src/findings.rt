@@ -1,0 +1,46 @@
+//! What a search has found so far.
+ghost use Rattle.std.specs.Prelude.{◌≡◌, ◌≤◌, [], IfOk, length};
+ghost use Rattle.tc_entry.specs.declared.limits.TheConstants.{BEHAVIOURS};
+ghost use Rattle.tc_explore.specs.Found.{IsOn, AreReached};
+ghost use Rattle.tc_explore.specs.Inside.Seen.{IsNoted};
+
+use crate::course::Course;
+use crate::witness::Witness;
+use std::alloc::Global;
+use tc_step::Script;
+use tc_verdict::{NoMemory, Run};
+
+/// A witness of each verdict that was found, and for each run how many calls it carries out in some course, at most.
+#[derive(Drop)]
+pub(crate) struct Findings {
+    pub(crate) witnesses: Vec<Witness>,
+    pub(crate) reached: Vec<usize>,
+}
+
+/// Nothing is found yet.
+#[tactic(auto, using(crate::proofs::Noting::noting_rules, crate::proofs::Reaching::reaching_rules))]
+pub(crate) fn no_findings(alloc: Global, scripts: &[Script]) -> Result<Findings, NoMemory>
+    ensures noted { IfOk result (IsNoted scripts.now) }
+    ensures none { IfOk result (λ f. f.witnesses.items ≡ []) }
+{
+    let witnesses = Vec::new(alloc);
+    let reached = vec![in alloc; 0; scripts.len()]?;
+    Ok(Findings { witnesses, reached })
+}
+
+/// Takes in how many calls the runs of a course have carried out.
+#[tactic(auto, using(crate::proofs::Reaching::reaching_rules))]
+pub(crate) fn reach(reached: &mut Vec<usize>, scripts: &[Script], course: &Course)
+    requires few { length scripts.now ≤ BEHAVIOURS }
+    requires on { IsOn scripts.now course.now }
+    requires reached { AreReached scripts.now reached.old.items }
+    ensures { AreReached scripts.now reached.new.items }
+{
+    for run in 0..scripts.len() as u16 {
+        let carried = course.carried(Run(run));
+        let at = usize::from(run);
+        if reached[at] < carried {
+            reached[at] = carried;
+        }
+    }
+}
