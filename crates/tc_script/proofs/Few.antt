@@ -45,3 +45,8 @@ few_next call ns bound xs found x limit is grown few =
     let long : length bound ≡ length (with_bound call ns) = ap length is in
     let more : length found ≡ length xs + 1 = ap length grown ∙ length-append xs (x ∷ []) in
     omega (arith, one, long, more, few)
+
+pub few_same : (bound : List Word) {X : Type 0} (xs found : List X) (x : X) (limit : ℕ) → found ≡ xs ++ x ∷ [] → length bound ≤ limit + length xs → length bound ≤ limit + length found
+few_same bound xs found x limit grown few =
+    let more : length found ≡ length xs + 1 = ap length grown ∙ length-append xs (x ∷ []) in
+    omega (arith, more, few)

@@ -10,3 +10,4 @@ pub mod Lawful
 pub mod Sound
 pub mod Behind
 pub mod Few
+pub mod Kept

@@ -1,5 +1,5 @@
 -- The second pass, line by line.
-use Rattle.std.proofs.Common.{◌≡◌, ◌∙◌, ◌+◌, ◌-◌, List, [], ◌∷◌, Some, None, Option, length, refl, sym, ap, arith}
+use Rattle.std.proofs.Common.{ℕ, ◌≡◌, ◌∙◌, ◌+◌, ◌-◌, List, [], ◌∷◌, Some, None, Option, length, refl, sym, ap, arith}
 use Rattle.tc_line.specs.declared.kind.ScriptKind.{ScriptKind}
 use Rattle.tc_line.specs.declared.line.Line.{Line}
 use Rattle.tc_line.specs.declared.line.Line.TheVariants as L
@@ -50,6 +50,12 @@ judged_faulty scope l rest others lines kind at is some =
     let long : length is.past + length (l ∷ others) ≡ length lines = ap (λ xs. length is.past + length xs) (sym at) ∙ is.counted in
     let same : length lines - length others ≡ length is.past + 1 = grind (arith, long) in
     ap (λ k. Some (record { line = k; kind = kind })) same ∙ sym one ∙ is.so_far
+
+-- the same, where the numbers of the lines were counted
+pub judged_faulty_at : (scope : ScopeView) (l : Line) (rest others lines : List Line) (kind : ScriptKind) (n m : ℕ) → n ≡ length lines → m ≡ length others → rest ≡ l ∷ others
+    → IsJudged scope rest lines → Some kind ≡ line_fault scope l → Some (record { line = n - m; kind = kind }) ≡ misnamed [] lines
+judged_faulty_at scope l rest others lines kind n m all left at is some =
+    ap (λ k. Some (record { line = k - m; kind = kind })) all ∙ ap (λ k. Some (record { line = length lines - k; kind = kind })) left ∙ judged_faulty scope l rest others lines kind at is some
 
 pub judged_last : (scope : ScopeView) (rest lines : List Line) → rest ≡ [] → IsJudged scope rest lines → None ≡ misnamed [] lines
 judged_last scope rest lines at is =

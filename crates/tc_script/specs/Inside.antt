@@ -2,3 +2,4 @@
 pub mod Counts
 pub mod Passing
 pub mod Building
+pub mod Kept

@@ -5,6 +5,7 @@ ghost use Rattle.tc_script.specs.Inside.Building.{HaveFewArguments, AreScripts, 
 ghost use Rattle.tc_script.specs.Campaign.{behaviours, cases};
 
 use crate::heads::{Heads, heads_of};
+use crate::kept_lines::{First, Rest};
 use crate::steps::steps_of;
 use std::alloc::{AllocError, Global};
 use std::collections::VecDeque;
@@ -95,22 +96,22 @@ impl Campaign {
 fn case_of<'l>(
     alloc: Global,
     heads: &Heads,
-    lines: &'l [Line],
-) -> Result<(CaseScript, &'l [Line]), AllocError>
+    lines: &Rest<'l>,
+) -> Result<(CaseScript, Rest<'l>), AllocError>
     requires few_heads { length heads.now ≤ BEHAVIOURS }
     requires few_arguments { HaveFewArguments lines.now }
     requires scripts { AreScripts heads.now lines.now }
     ensures case { IfOk result (λ c. c.0 ≡ behaviours heads.now lines.now) }
-    ensures behind { IfOk result (λ c. c.1.now ≡ from_next_case lines.now) }
+    ensures behind { IfOk result (λ c. c.1 ≡ from_next_case lines.now) }
 {
     let mut found = CaseScript::new(alloc);
-    let mut rest = lines;
-    while let Some((line, others)) = rest.split_first() {
-        match line {
-            Line::TestCase(_) => return Ok((found, rest)),
-            Line::Behaviour(name, parameters) => {
+    let mut rest = lines.copy();
+    while let Some((first, others)) = rest.split_first() {
+        match first {
+            First::Other(Line::TestCase(_)) => return Ok((found, rest)),
+            First::Other(Line::Behaviour(name, parameters)) => {
                 let parameters = parameters.as_slice();
-                let (steps, behind) = steps_of(alloc, heads, parameters, others)?;
+                let (steps, behind) = steps_of(alloc, heads, parameters, &others)?;
                 found.add(name.copy(), Script::new(parameters.len(), steps))?;
                 rest = behind;
             }
@@ -122,20 +123,21 @@ fn case_of<'l>(
 
 /// The campaign of lines without a fault.
 #[tactic(auto, using(crate::proofs::Behind::behind_rules))]
-pub fn campaign_of(alloc: Global, lines: &[Line]) -> Result<Campaign, AllocError>
+pub fn campaign_of(alloc: Global, lines: &Rest) -> Result<Campaign, AllocError>
     requires few_arguments { HaveFewArguments lines.now }
     requires cases { AreCases lines.now }
     ensures { IfOk result (λ c. c ≡ cases lines.now) }
 {
     let mut found = Campaign::new(alloc);
-    let mut rest = lines;
-    while let Some((line, others)) = rest.split_first() {
-        rest = others;
-        if let Line::TestCase(name) = line {
-            let heads = heads_of(alloc, others)?;
-            let (case, behind) = case_of(alloc, &heads, others)?;
+    let mut rest = lines.copy();
+    while let Some((first, others)) = rest.split_first() {
+        if let First::Other(Line::TestCase(name)) = first {
+            let heads = heads_of(alloc, &others)?;
+            let (case, behind) = case_of(alloc, &heads, &others)?;
             found.add(name.copy(), case)?;
             rest = behind;
+        } else {
+            rest = others;
         }
     }
     Ok(found)

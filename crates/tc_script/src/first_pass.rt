@@ -7,24 +7,25 @@ ghost use Rattle.tc_line.specs.Text.{lines};
 
 use crate::counts::Counts;
 use crate::fault::{ReadFault, ScriptFault};
+use crate::kept_lines::KeptLines;
 use crate::open::Open;
 use std::alloc::Global;
-use tc_line::{Line, LineFault, Lines, ScriptKind, read_line};
+use tc_line::{LineFault, Lines, ScriptKind, read_line};
 
 /// Adds the next line to those that were found. It answers what is remembered behind it.
 #[tactic(auto, using(crate::proofs::FirstPass::unread_at))]
 fn take_line<'t>(
     alloc: Global,
-    found: &mut Vec<Line>,
+    found: &mut KeptLines,
     counts: Counts,
     text: &'t [u8],
     words: &mut Vec<&'t [u8]>,
 ) -> Result<Counts, ReadFault>
-    requires { counts ≡ counts_of (reverse found.old.items) }
-    ensures taken { Takes (reverse found.old.items) found.old.items found.new.items result (judged (reverse found.old.items) text.now) }
-    ensures same { OnErr result (found.new.items ≡ found.old.items) }
+    requires { counts ≡ counts_of (reverse found.old) }
+    ensures taken { Takes (reverse found.old) found.old found.new result (judged (reverse found.old) text.now) }
+    ensures same { OnErr result (found.new ≡ found.old) }
 {
-    let number = found.as_slice().len() + 1;
+    let number = found.len() + 1;
     let line = match read_line(alloc, text, words) {
         Ok(line) => line,
         Err(LineFault::Kind(kind)) => {
@@ -54,10 +55,10 @@ fn opening() -> Counts
 
 /// The lines of a text, or its first fault from BadByte to Cut.
 #[tactic(auto, using(crate::proofs::FirstPass::parsing_rules))]
-pub fn parse(alloc: Global, text: &[u8]) -> Result<Vec<Line>, ReadFault>
-    ensures { Reads (λ v. v.items) result (parsed [] (lines text.now)) }
+pub fn parse(alloc: Global, text: &[u8]) -> Result<KeptLines, ReadFault>
+    ensures { Reads (λ v. v) result (parsed [] (lines text.now)) }
 {
-    let mut found = Vec::new(alloc);
+    let mut found = KeptLines::new(alloc);
     let mut counts = opening();
     let mut words = Vec::new(alloc);
     let mut rest = Lines::new(text);
@@ -68,7 +69,7 @@ pub fn parse(alloc: Global, text: &[u8]) -> Result<Vec<Line>, ReadFault>
         };
     }
     if !counts.has_ended() {
-        let line = found.as_slice().len() + 1;
+        let line = found.len() + 1;
         let kind = ScriptKind::Cut;
         return Err(ReadFault::Script(ScriptFault { line, kind }));
     }

@@ -3,6 +3,7 @@ ghost use Rattle.std.specs.Prelude.{◌≡◌, ◌≤◌, [], length, OnOk, IfOk
 ghost use Rattle.tc_script.specs.Names.{index_of};
 ghost use Rattle.tc_script.specs.Scope.{names_of, add_head, parameters_of, heads};
 
+use crate::kept_lines::{First, Rest};
 use indexmap::IndexMap;
 use std::alloc::{AllocError, Global};
 use std::marker::Model;
@@ -66,16 +67,20 @@ impl Heads {
 
 /// The behaviours of the test case whose lines these begin with.
 #[tactic(auto, unfolding(crate::specs::Scope::heads))]
-pub fn heads_of(alloc: Global, lines: &[Line]) -> Result<Heads, AllocError>
+pub fn heads_of(alloc: Global, lines: &Rest) -> Result<Heads, AllocError>
     ensures { IfOk result (λ h. h ≡ heads lines.now) }
 {
     let mut found = Heads::new(alloc);
-    for line in lines {
-        match line {
-            Line::TestCase(_) => return Ok(found),
-            Line::Behaviour(name, parameters) => found.add(name, parameters.as_slice().len())?,
+    let mut rest = lines.copy();
+    while let Some((first, others)) = rest.split_first() {
+        match first {
+            First::Other(Line::TestCase(_)) => return Ok(found),
+            First::Other(Line::Behaviour(name, parameters)) => {
+                found.add(name, parameters.as_slice().len())?;
+            }
             _ => {}
         }
+        rest = others;
     }
     Ok(found)
 }

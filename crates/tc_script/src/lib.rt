@@ -6,6 +6,7 @@ mod counts;
 mod fault;
 mod first_pass;
 mod heads;
+mod kept_lines;
 mod limits;
 mod names;
 mod open;

@@ -22,8 +22,8 @@ pub fn read_campaign(alloc: Global, bytes: &[u8]) -> Result<Campaign, ReadFault>
         Ok(lines) => lines,
         Err(fault) => return Err(fault),
     };
-    match first_misnamed(alloc, lines.as_slice())? {
+    match first_misnamed(alloc, &lines.rest())? {
         Some(fault) => Err(ReadFault::Script(fault)),
-        None => Ok(campaign_of(alloc, lines.as_slice())?),
+        None => Ok(campaign_of(alloc, &lines.rest())?),
     }
 }

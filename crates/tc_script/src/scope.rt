@@ -7,6 +7,7 @@ ghost use Rattle.tc_script.specs.SecondPass.{is_unbound};
 ghost use Rattle.tc_script.specs.Inside.Passing.{scope_after, line_fault, call_fault, start_fault, behaviour_fault, any_unbound, fault_where as the_fault_where};
 
 use crate::heads::{Heads, heads_of};
+use crate::kept_lines::Rest;
 use crate::names::{Names, is_one_of};
 use std::alloc::{AllocError, Global};
 use std::marker::Model;
@@ -186,7 +187,7 @@ impl Scope {
     }
 
     /// Goes on behind a line, with the lines after it.
-    pub fn take(&mut self, alloc: Global, line: &Line, rest: &[Line]) -> Result<(), AllocError>
+    pub fn take(&mut self, alloc: Global, line: &Line, rest: &Rest) -> Result<(), AllocError>
         ensures { OnOk result (self.new ≡ scope_after self.old line.now rest.now) }
     {
         match line {

@@ -8,6 +8,7 @@ ghost use Rattle.tc_script.specs.FirstPass.{given};
 ghost use Rattle.tc_script.specs.Inside.Building.{HaveFewArguments, behind_steps};
 
 use crate::heads::Heads;
+use crate::kept_lines::{First, Rest};
 use crate::names::Names;
 use crate::scope::{bind, bound_by};
 use std::alloc::{AllocError, Global};
@@ -80,26 +81,28 @@ pub fn steps_of<'l>(
     alloc: Global,
     heads: &Heads,
     parameters: &[Name],
-    lines: &'l [Line],
-) -> Result<(Vec<Step>, &'l [Line]), AllocError>
+    lines: &Rest<'l>,
+) -> Result<(Vec<Step>, Rest<'l>), AllocError>
     requires few_heads { length heads.now ≤ BEHAVIOURS }
     requires few_arguments { HaveFewArguments lines.now }
     requires few_parameters { length parameters.now ≤ ARGUMENTS }
     requires few_steps { length (steps heads.now (all_of [] parameters.now) lines.now) ≤ STEPS }
     ensures steps { IfOk result (λ v. v.0.items ≡ steps heads.now (all_of [] parameters.now) lines.now) }
-    ensures behind { IfOk result (λ v. v.1.now ≡ behind_steps lines.now) }
+    ensures behind { IfOk result (λ v. v.1 ≡ behind_steps lines.now) }
 {
     let mut bound = bound_by(alloc, parameters)?;
     let mut found = Vec::new(alloc);
-    let mut rest = lines;
-    while let Some((line, others)) = rest.split_first() {
-        match line {
-            Line::Skipped => {}
-            Line::Step(call) => {
+    let mut rest = lines.copy();
+    while let Some((first, others)) = rest.split_first() {
+        match first {
+            First::Set(setting) => found.push(Step::SetVerdict(setting))?,
+            First::Get => found.push(Step::GetVerdict)?,
+            First::Other(Line::Skipped) => {}
+            First::Other(Line::Step(call)) => {
                 found.push(step_at(heads, &bound, call))?;
                 bind(&mut bound, call)?;
             }
-            _ => return Ok((found, rest)),
+            First::Other(_) => return Ok((found, rest)),
         }
         rest = others;
     }

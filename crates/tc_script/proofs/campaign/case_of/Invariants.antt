@@ -3,8 +3,8 @@ use Rattle.tc_script.specs.Inside.Building.{HaveFewArguments, AreScripts, from_n
 use Rattle.tc_script.specs.Campaign.{behaviours}
 use Rattle.tc_script.proofs.campaign.case_of.Given as goal
 
-abbrev pub invariant-loop-line : goal.invariant-loop-line
-invariant-loop-line l = (l.found ++ behaviours l.heads l.rest ≡ behaviours l.heads l.lines) × HaveFewArguments l.rest × AreScripts l.heads l.rest × (from_next_case l.rest ≡ from_next_case l.lines)
+abbrev pub invariant-loop-first : goal.invariant-loop-first
+invariant-loop-first l = (l.found ++ behaviours l.heads l.rest ≡ behaviours l.heads l.lines) × HaveFewArguments l.rest × AreScripts l.heads l.rest × (from_next_case l.rest ≡ from_next_case l.lines)
 
-abbrev pub decreases-loop-line : goal.decreases-loop-line
-decreases-loop-line l = length l.rest
+abbrev pub decreases-loop-first : goal.decreases-loop-first
+decreases-loop-first l = length l.rest

@@ -5,7 +5,7 @@ use Rattle.tc_script.proofs.FirstPass.{IsParsed}
 use Rattle.tc_script.proofs.first_pass.parse.Given as goal
 
 abbrev pub invariant-loop-line : goal.invariant-loop-line
-invariant-loop-line l = IsParsed l.found.items l.counts l.rest (parsed [] (lines l.text))
+invariant-loop-line l = IsParsed l.found l.counts l.rest (parsed [] (lines l.text))
 
 abbrev pub decreases-loop-line : goal.decreases-loop-line
 decreases-loop-line l = length l.rest

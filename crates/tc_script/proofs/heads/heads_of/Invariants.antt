@@ -1,6 +1,9 @@
-use Rattle.std.proofs.Common.{◌≡◌, [], drop}
+use Rattle.std.proofs.Common.{◌≡◌, [], length}
 use Rattle.tc_script.specs.Scope.{heads_behind}
 use Rattle.tc_script.proofs.heads.heads_of.Given as goal
 
-abbrev pub invariant-loop-line : goal.invariant-loop-line
-invariant-loop-line l = heads_behind l.found (drop l.line-index l.lines) ≡ heads_behind [] l.lines
+abbrev pub invariant-loop-first : goal.invariant-loop-first
+invariant-loop-first l = heads_behind l.found l.rest ≡ heads_behind [] l.lines
+
+abbrev pub decreases-loop-first : goal.decreases-loop-first
+decreases-loop-first l = length l.rest

@@ -4,7 +4,7 @@ use Rattle.tc_script.proofs.Sound.{sound_law, sound_names}
 use Rattle.tc_script.proofs.reading.read_campaign.Goals as goal
 
 pub returns-clause-cases : goal.returns-clause-cases
-returns-clause-cases c = sound_law (lines c.args.bytes.now) c.in-Ok.lines.items c.in_ok-campaign_of-in-None.field-0 (search rules) (search rules) (search rules)
+returns-clause-cases c = sound_law (lines c.args.bytes.now) c.in-Ok.lines c.in_ok-campaign_of-in-None.field-0 (search rules) (search rules) (search rules)
 
 pub returns-clause-names : goal.returns-clause-names
-returns-clause-names c = sound_names (lines c.args.bytes.now) c.in-Ok.lines.items c.in_ok-campaign_of-in-None.field-0 (search rules) (search rules) (search rules)
+returns-clause-names c = sound_names (lines c.args.bytes.now) c.in-Ok.lines c.in_ok-campaign_of-in-None.field-0 (search rules) (search rules) (search rules)

@@ -2,8 +2,8 @@ use Rattle.std.proofs.Common.{length}
 use Rattle.tc_script.proofs.SecondPass.{IsJudged}
 use Rattle.tc_script.proofs.second_pass.first_misnamed.Given as goal
 
-abbrev pub invariant-loop-line : goal.invariant-loop-line
-invariant-loop-line l = IsJudged l.scope l.rest l.lines
+abbrev pub invariant-loop-first : goal.invariant-loop-first
+invariant-loop-first l = IsJudged l.scope l.rest l.lines
 
-abbrev pub decreases-loop-line : goal.decreases-loop-line
-decreases-loop-line l = length l.rest
+abbrev pub decreases-loop-first : goal.decreases-loop-first
+decreases-loop-first l = length l.rest

@@ -5,8 +5,8 @@ use Rattle.tc_script.specs.Inside.Building.{HaveFewArguments, behind_steps}
 use Rattle.tc_script.specs.Campaign.{steps}
 use Rattle.tc_script.proofs.steps.steps_of.Given as goal
 
-abbrev pub invariant-loop-line : goal.invariant-loop-line
-invariant-loop-line l = (l.found.items ++ steps l.heads l.bound l.rest ≡ steps l.heads (all_of [] l.parameters) l.lines) × HaveFewArguments l.rest × (behind_steps l.rest ≡ behind_steps l.lines) × (length l.bound ≤ ARGUMENTS + length l.found.items)
+abbrev pub invariant-loop-first : goal.invariant-loop-first
+invariant-loop-first l = (l.found.items ++ steps l.heads l.bound l.rest ≡ steps l.heads (all_of [] l.parameters) l.lines) × HaveFewArguments l.rest × (behind_steps l.rest ≡ behind_steps l.lines) × (length l.bound ≤ ARGUMENTS + length l.found.items)
 
-abbrev pub decreases-loop-line : goal.decreases-loop-line
-decreases-loop-line l = length l.rest
+abbrev pub decreases-loop-first : goal.decreases-loop-first
+decreases-loop-first l = length l.rest
