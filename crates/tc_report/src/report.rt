@@ -1,5 +1,5 @@
 //! The text report.
-ghost use Rattle.std.specs.Prelude.{◌≡◌, ◌++◌, OnOk, OnErr, IfErr, slice_get};
+ghost use Rattle.std.specs.Prelude.{◌≡◌, ◌++◌, OnOk, OnErr, IfErr, IfSome, slice_get};
 ghost use Rattle.std.specs.List.{flat_map};
 ghost use Rattle.std.specs.Io.{StartsWith};
 ghost use Rattle.std.specs.Io.KnownBytes.{Appends};
@@ -8,6 +8,8 @@ ghost use Rattle.tc_report.specs.Report.{call_line, case_line, case_text, local_
 ghost use Rattle.tc_report.specs.Tally.{tally_line};
 ghost use Rattle.tc_text.specs.Spelling.{op_text};
 ghost use Rattle.std.specs.Fmt.{decimal};
+ghost use Rattle.tc_entry.specs.declared.op.Op.TheVariants as ops;
+ghost use Rattle.tc_entry.specs.declared.reply.Reply.TheVariants as replies;
 
 use crate::counts::tally;
 use crate::ending::append_ending;
@@ -19,7 +21,7 @@ use std::io::Write;
 use tc_book::RunLog;
 use tc_entry::{Entry, Name, NoMemory, Op, Reply, Run, Verdict};
 use tc_text::{append_number, append_text, write_op, write_reply};
-use tc_verdict::name as name_of;
+use tc_verdict::{UserVerdict, name as name_of};
 
 // A Wake is shown as the Wait with the same target.
 fn append_op(out: &mut Vec<u8>, op: &Op) -> Result<(), NoMemory>
@@ -38,11 +40,50 @@ fn append_op(out: &mut Vec<u8>, op: &Op) -> Result<(), NoMemory>
     }
 }
 
+// What is shown of a setting that was carried out.
+fn set_line(setting: UserVerdict) -> &'static str
+    ensures { result.now ≡ call_line (ops.SetVerdict setting) replies.Ok }
+{
+    match setting {
+        UserVerdict::None => "  setverdict none -> ok\n",
+        UserVerdict::Pass => "  setverdict pass -> ok\n",
+        UserVerdict::Inconc => "  setverdict inconc -> ok\n",
+        UserVerdict::Fail => "  setverdict fail -> ok\n",
+    }
+}
+
+// What is shown of a getverdict and the verdict that it got.
+fn got_line(verdict: Verdict) -> &'static str
+    ensures { result.now ≡ call_line ops.GetVerdict (replies.Local verdict) }
+{
+    match verdict {
+        Verdict::None => "  getverdict -> none\n",
+        Verdict::Pass => "  getverdict -> pass\n",
+        Verdict::Inconc => "  getverdict -> inconc\n",
+        Verdict::Fail => "  getverdict -> fail\n",
+        Verdict::Error => "  getverdict -> error\n",
+    }
+}
+
+// What is shown of a verdict call: the commonest entries are shown by a whole line, and not put together.
+fn verdict_call_line(entry: &Entry) -> Option<&'static str>
+    ensures { IfSome result (λ line. line.now ≡ shown_entry entry.now) }
+{
+    match (&entry.op, entry.reply) {
+        (Op::SetVerdict(setting), Reply::Ok) => Some(set_line(*setting)),
+        (Op::GetVerdict, Reply::Local(verdict)) => Some(got_line(verdict)),
+        _ => None,
+    }
+}
+
 // Appends what is shown of an entry: nothing where it was parked.
 fn append_entry(out: &mut Vec<u8>, entry: &Entry) -> Result<(), NoMemory>
     ensures ok { OnOk result (out.new.items ≡ out.old.items ++ shown_entry entry.now) }
     ensures err { OnErr result (StartsWith out.new.items out.old.items) }
 {
+    if let Some(line) = verdict_call_line(entry) {
+        return append_text(out, line);
+    }
     if matches!(entry.reply, Reply::Parked) {
         return Ok(());
     }
