@@ -8,3 +8,4 @@ pub mod Pieces
 pub mod Plain
 pub mod Writing
 mod WorkedTexts
+pub mod Telling

@@ -2,6 +2,7 @@
 pub mod Tally
 pub mod Status
 pub mod Ending
+pub mod Progress
 pub mod Report
 pub mod Csv
 pub mod Histories

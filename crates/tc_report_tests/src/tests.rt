@@ -3,6 +3,7 @@
 mod checks;
 mod devices;
 mod live;
+mod progress;
 mod runs;
 mod texts;
 

@@ -1,0 +1,99 @@
+-- What is told of test cases as they finish.
+use Rattle.std.specs.Prelude.{ℕ, ◌≡◌, ◌⊎◌, Bool, true, false, List, [], ◌∷◌, ◌++◌, Option, Some, None, Result, Ok, Err, codes}
+use Rattle.std.specs.List.{flat_map}
+use Rattle.std.specs.Io.KnownBytes.{Appends, Keeps}
+use Rattle.tc_verdict.specs.declared.verdict.Verdict.{Verdict}
+use Rattle.tc_verdict.specs.declared.verdict.Verdict.TheVariants as V
+use Rattle.tc_verdict.specs.Verdict.{name_of}
+use Rattle.tc_stream.specs.Output.{AppendsPrefix}
+use Rattle.tc_report.specs.declared.fault.OutFault.{OutFault}
+use Rattle.tc_report.specs.declared.progress.Progress.{Progress}
+use Rattle.tc_report.specs.declared.results.Finished.{Finished}
+
+-- the line that tells of a finished test case: its name, and its overall verdict
+abbrev pub told_line : Finished → List ℕ
+told_line f = f.name ++ (codes " " ++ (name_of f.report.verdict ++ (10 ∷ [])))
+
+-- a test case with this overall verdict has failed
+abbrev pub is_failed : Verdict → Bool
+is_failed V.None = false
+is_failed V.Pass = false
+is_failed V.Inconc = true
+is_failed V.Fail = true
+is_failed V.Error = true
+
+-- the line that names a test case again where it has failed
+abbrev pub named_again : Bool → Finished → List ℕ
+named_again false f = []
+named_again true f = codes "failed: " ++ told_line f
+
+-- the same by its overall verdict
+abbrev pub failed_line : Finished → List ℕ
+failed_line f = named_again (is_failed f.report.verdict) f
+
+-- what is told of these finished test cases, where anything is: a line of each as it finishes
+abbrev pub progress_text : Bool → List Finished → List ℕ
+progress_text false fs = []
+progress_text true fs = flat_map told_line fs
+
+-- and behind them those that have failed once more
+abbrev pub failed_text : Bool → List Finished → List ℕ
+failed_text false fs = []
+failed_text true fs = flat_map failed_line fs
+
+-- all that is told of these finished test cases
+abbrev pub told_text : Bool → List Finished → List ℕ
+told_text tells fs = progress_text tells fs ++ failed_text tells fs
+
+-- by this answer the text was told whole, or a prefix of it; there is a fault only where anything is told
+abbrev pub IsToldBy : Bool → Option (List ℕ) → Option (List ℕ) → List ℕ → Result (Unit {0}) OutFault → Type 0
+IsToldBy tells before after text (Ok done) = Appends before after text
+IsToldBy tells before after text (Err fault) = (tells ≡ true) × AppendsPrefix before after text
+
+-- where one stands that tells: whether it tells at all, what was told to holds, the lines that name the failed test cases again, and why
+-- nothing more is told
+pub record TellState : Type 0 where
+  pub tells : Bool
+  pub out : Option (List ℕ)
+  pub failed : List ℕ
+  pub fault : Option OutFault
+
+module _ {O E : Type 0} (contents : E → Option (List ℕ)) where
+  -- where a value stands that tells
+  abbrev pub state_of : Progress O E → TellState
+  state_of p = record { tells = p.tells; out = contents p.writer.now; failed = p.failed.now.items; fault = p.fault }
+
+-- the line of the test case was told, and it is named again where it has failed
+pub record IsToldOf (before : TellState) (f : Finished) (after : TellState) : Type 0 where
+  pub tells : after.tells ≡ before.tells
+  pub out : Appends before.out after.out (told_line f)
+  pub failed : after.failed ≡ before.failed ++ failed_line f
+  pub fault : after.fault ≡ None
+
+-- the line was not told whole, so that nothing more is told
+pub record IsUntold (before : TellState) (f : Finished) (after : TellState) : Type 0 where
+  pub tells : after.tells ≡ before.tells
+  pub fault : OutFault
+  pub why : after.fault ≡ Some fault
+  pub left : AppendsPrefix before.out after.out (told_line f)
+
+-- what a test case does to one that tells, by whether it tells, and why nothing more: then nothing
+abbrev pub TellsBy : Bool → Option OutFault → TellState → Finished → TellState → Type 0
+TellsBy false fault before f after = after ≡ before
+TellsBy true (Some fault) before f after = after ≡ before
+TellsBy true None before f after = IsToldOf before f after ⊎ IsUntold before f after
+
+-- the same by where it stands
+abbrev pub Tells : TellState → Finished → TellState → Type 0
+Tells before f after = TellsBy before.tells before.fault before f after
+
+-- what the end of a campaign does to one that tells, by whether it tells, and why nothing more: the lines that name the failed test cases
+-- again are told, where anything is told, and still is; else the answer is why it is not
+abbrev pub EndsBy : Bool → Option OutFault → Option (List ℕ) → Option (List ℕ) → List ℕ → Result (Unit {0}) OutFault → Type 0
+EndsBy false fault before after failed answer = (answer ≡ Ok tt) × Keeps before after
+EndsBy true (Some fault) before after failed answer = (answer ≡ Err fault) × Keeps before after
+EndsBy true None before after failed answer = IsToldBy true before after failed answer
+
+-- the same by where it stands
+abbrev pub EndsTelling : TellState → Option (List ℕ) → Result (Unit {0}) OutFault → Type 0
+EndsTelling before after answer = EndsBy before.tells before.fault before.out after before.failed answer

@@ -1,0 +1,164 @@
+//! What is told of test cases as they finish.
+ghost use Rattle.std.specs.Prelude.{◌≡◌, ◌++◌, [], OnOk, OnErr, None};
+ghost use Rattle.std.specs.Io.{StartsWith};
+ghost use Rattle.std.specs.Io.KnownBytes.{Appends};
+ghost use Rattle.tc_stream.specs.Output.{AppendsPrefix};
+ghost use Rattle.tc_report.specs.Progress.{EndsTelling, Tells, failed_line, is_failed as spec_failed, state_of, told_line};
+
+use crate::fault::OutFault;
+use crate::observer::Observer;
+use crate::output::write_made;
+use crate::results::Finished;
+use std::alloc::Global;
+use std::io::Write;
+use tc_entry::{NoMemory, Verdict};
+use tc_text::append_text;
+use tc_verdict::name as name_of;
+
+// Whether a test case with this overall verdict has failed.
+fn is_failed(verdict: Verdict) -> bool
+    ensures { result ≡ spec_failed verdict }
+{
+    match verdict {
+        Verdict::None | Verdict::Pass => false,
+        Verdict::Inconc | Verdict::Fail | Verdict::Error => true,
+    }
+}
+
+// Appends the line that tells of the test case; where memory is refused, a part of it.
+fn append_told(out: &mut Vec<u8>, case: &Finished) -> Result<(), NoMemory>
+    ensures ok { OnOk result (out.new.items ≡ out.old.items ++ told_line case.now) }
+    ensures err { OnErr result (StartsWith out.new.items out.old.items) }
+{
+    out.extend_from_slice(case.name.bytes())?;
+    append_text(out, " ")?;
+    append_text(out, name_of(case.report.verdict))?;
+    out.push(b'\n')?;
+    Ok(())
+}
+
+// Appends the line that names the test case again, where it has failed; where memory is refused, a part of it.
+fn append_failed(out: &mut Vec<u8>, case: &Finished) -> Result<(), NoMemory>
+    ensures ok { OnOk result (out.new.items ≡ out.old.items ++ failed_line case.now) }
+    ensures err { OnErr result (StartsWith out.new.items out.old.items) }
+{
+    if is_failed(case.report.verdict) {
+        append_text(out, "failed: ")?;
+        append_told(out, case)?;
+    }
+    Ok(())
+}
+
+/// Tells of each finished test case by a line, its name and its overall verdict, and hands it on to another observer, which
+/// says whether the campaign goes on. The test cases that have failed, with inconc, fail or error, are named again by `end`.
+/// Where a line can't be told, nothing more is, and the campaign goes on all the same.
+#[derive(Drop)]
+pub struct Progress<'a, O: Observer, E: Write> {
+    alloc: Global,
+    /// Whether anything is told.
+    pub tells: bool,
+    /// Who is given the test cases.
+    pub observer: &'a mut O,
+    /// What is told to.
+    pub writer: &'a mut E,
+    /// The lines that name the failed test cases again.
+    pub failed: &'a mut Vec<u8>,
+    /// Why nothing more is told, where a line could not be.
+    pub fault: Option<OutFault>,
+}
+
+impl<'a, O: Observer, E: Write> Progress<'a, O, E> {
+    /// Tells to this writer, and hands on to this observer; the lines that name the failed test cases again are kept in
+    /// `failed`, in the place of what it holds.
+    pub fn new(
+        alloc: Global,
+        tells: bool,
+        observer: &'a mut O,
+        writer: &'a mut E,
+        failed: &'a mut Vec<u8>,
+    ) -> Progress<'a, O, E>
+        ensures same_observer { result.observer.ghost_name ≡ observer.entry.ghost_name }
+        ensures same_writer { result.writer.ghost_name ≡ writer.entry.ghost_name }
+        ensures same_failed { result.failed.ghost_name ≡ failed.entry.ghost_name }
+        ensures observer { result.observer.now ≡ observer.old }
+        ensures writer { result.writer.now ≡ writer.old }
+        ensures failed { result.failed.now.items ≡ [] }
+        ensures tells { result.tells ≡ tells }
+        ensures fault { result.fault ≡ None }
+    {
+        failed.truncate(0);
+        Progress {
+            alloc,
+            tells,
+            observer,
+            writer,
+            failed,
+            fault: None,
+        }
+    }
+
+    // Tells of the test case, and keeps the line that names it again where it has failed.
+    fn tell_case(&mut self, case: &Finished) -> Result<(), OutFault>
+        ensures all { OnOk result (Appends (E.contents self.old.writer.now) (E.contents self.new.writer.now)
+            (told_line case.now)) }
+        ensures failed { OnOk result (self.new.failed.now.items ≡ self.old.failed.now.items ++ failed_line case.now) }
+        ensures part { OnErr result (AppendsPrefix (E.contents self.old.writer.now) (E.contents self.new.writer.now)
+            (told_line case.now)) }
+        ensures tells { self.new.tells ≡ self.old.tells }
+        ensures fault { self.new.fault ≡ self.old.fault }
+        ensures others { self.new.observer ≡ self.old.observer }
+        ensures same_writer { self.new.writer.ghost_name ≡ self.old.writer.ghost_name }
+        ensures same_failed { self.new.failed.ghost_name ≡ self.old.failed.ghost_name }
+    {
+        let mut line = Vec::new(self.alloc);
+        append_told(&mut line, case)?;
+        append_failed(self.failed, case)?;
+        write_made(self.writer, line.as_slice())
+    }
+
+    // Tells of the test case, where anything is told, and still is.
+    fn tell(&mut self, case: &Finished)
+        ensures told { Tells (state_of E.contents self.old) case.now (state_of E.contents self.new) }
+        ensures others { self.new.observer ≡ self.old.observer }
+        ensures same_writer { self.new.writer.ghost_name ≡ self.old.writer.ghost_name }
+        ensures same_failed { self.new.failed.ghost_name ≡ self.old.failed.ghost_name }
+    {
+        if !self.tells || self.fault.is_some() {
+            return;
+        }
+        if let Err(fault) = self.tell_case(case) {
+            self.fault = Some(fault);
+        }
+    }
+
+    /// Names the test cases again that have failed, where anything is told, and still is; answers why a line could not be
+    /// told, where it is so.
+    pub fn end(&mut self) -> Result<(), OutFault>
+        ensures told { EndsTelling (state_of E.contents self.old) (E.contents self.new.writer.now) result }
+        ensures others { self.new.observer ≡ self.old.observer }
+        ensures same_writer { self.new.writer.ghost_name ≡ self.old.writer.ghost_name }
+        ensures same_failed { self.new.failed.ghost_name ≡ self.old.failed.ghost_name }
+    {
+        if !self.tells {
+            return Ok(());
+        }
+        match self.fault {
+            Some(fault) => Err(fault),
+            None => write_made(self.writer, self.failed.as_slice()),
+        }
+    }
+}
+
+impl<O: Observer, E: Write> Observer for Progress<'_, O, E> {
+    ghost takes = { λ before f after goes_on.
+        O.takes before.observer.now f after.observer.now goes_on
+        × Tells (state_of E.contents before) f (state_of E.contents after)
+        × (after.observer.ghost_name ≡ before.observer.ghost_name)
+        × (after.writer.ghost_name ≡ before.writer.ghost_name)
+        × (after.failed.ghost_name ≡ before.failed.ghost_name) };
+
+    fn take(&mut self, case: Finished) -> bool {
+        self.tell(&case);
+        self.observer.take(case)
+    }
+}
