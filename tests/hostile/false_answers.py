@@ -34,7 +34,11 @@ LIVE = Task("two", ("run", "--live"), SCRIPT)
 TABLE = Task("two", ("run", "--csv"), SCRIPT)
 HISTORIES = Task("two", ("run", "--history"), SCRIPT)
 SUITE = Task("two", ("run", "--junit"), SCRIPT)
-AMPLE = {PLAIN.words: WHOLE, LIVE.words: WHOLE, TABLE.words: HEADER + RECORD + text("b,1,1,0,0,0,0,none"),
+PROGRESS = Task("two", ("run", "--progress"), SCRIPT)
+LIVE_PROGRESS = Task("two", ("run", "--live", "--progress"), SCRIPT)
+TOLD = {PROGRESS.words: text("a pass;b none"), LIVE_PROGRESS.words: text("a pass;b none")}
+OF_FIRST = text("a pass")
+AMPLE = {PROGRESS.words: WHOLE, LIVE_PROGRESS.words: WHOLE, PLAIN.words: WHOLE, LIVE.words: WHOLE, TABLE.words: HEADER + RECORD + text("b,1,1,0,0,0,0,none"),
          HISTORIES.words: HISTORY, SUITE.words: JUNIT}
 
 
@@ -56,18 +60,32 @@ def answers() -> Iterator[Tuple[str, Task, Ran]]:
         (SUITE, ABORTED_JUNIT, NO_MEMORY, 3), (SUITE, ABORTED_JUNIT.replace(b'errors="1"', b'errors="0"', 1), AT_B, 3),
         (SUITE, ABORTED_JUNIT.replace(NOT_B, b""), AT_B, 3), (SUITE, JUNIT.replace(TAIL, b""), b"", 0),
     ]
+    both = TOLD[PROGRESS.words]
+    wrong += [
+        (PROGRESS, WHOLE, both[:-1], 0), (PROGRESS, WHOLE, text("b none;a pass"), 0), (PROGRESS, WHOLE, text("a pass;b fail"), 0),
+        (PROGRESS, WHOLE, both + text("failed: b none"), 0), (PROGRESS, WHOLE, both + both, 0), (PROGRESS, FIRST, both, 0),
+        (PROGRESS, ABORTED, both + AT_B, 3), (PROGRESS, ABORTED, AT_B + OF_FIRST, 3), (PROGRESS, FIRST, both + NO_MEMORY, 3),
+        (PROGRESS, WHOLE, both + NO_MEMORY, 3), (PROGRESS, WHOLE, both, 3), (LIVE_PROGRESS, FIRST[:-1], OF_FIRST + NO_MEMORY, 3),
+        (LIVE_PROGRESS, FIRST, OF_FIRST, 3),
+    ]
     for task, output, errors, status in wrong:
         yield "wrong", task, Ran(output, errors, status, refused=1)
     yield "wrong", PLAIN, Ran(b"", b"", -9, refused=1, is_late=True)
     # Where nothing was refused nothing may be told as refused.
     yield "wrong", PLAIN, Ran(b"", NO_MEMORY, 3, refused=0)
     yield "wrong", PLAIN, Ran(ABORTED, AT_B, 3, refused=0)
+    yield "wrong", PROGRESS, Ran(WHOLE, OF_FIRST, 0, refused=0)
     one = HISTORY[:HISTORY.index(b"history 2 b")]
     true: List[Tuple[str, Task, bytes, bytes, int]] = [
         ("right", PLAIN, WHOLE, b"", 0), ("right", HISTORIES, HISTORY, b"", 0), ("refused", PLAIN, b"", NO_MEMORY, 3),
         ("aborted", PLAIN, ABORTED, AT_B, 3), ("aborted", TABLE, HEADER + RECORD, AT_B, 3), ("aborted", HISTORIES, one, AT_B, 3),
         ("right", SUITE, JUNIT, b"", 0), ("aborted", SUITE, ABORTED_JUNIT, AT_B, 3), ("refused", SUITE, b"", NO_MEMORY, 3),
         ("refused", LIVE, FIRST, NO_MEMORY, 3), ("refused", LIVE, FIRST + SECOND, NO_MEMORY, 3), ("aborted", LIVE, ABORTED, AT_B, 3),
+    ]
+    true += [
+        ("right", PROGRESS, WHOLE, both, 0), ("refused", PROGRESS, WHOLE, OF_FIRST, 0), ("refused", PROGRESS, WHOLE, b"", 0),
+        ("refused", PROGRESS, b"", both + NO_MEMORY, 3), ("refused", PROGRESS, b"", NO_MEMORY, 3), ("aborted", PROGRESS, ABORTED, OF_FIRST + AT_B, 3),
+        ("refused", LIVE_PROGRESS, FIRST, both + NO_MEMORY, 3), ("right", LIVE_PROGRESS, WHOLE, both, 0),
     ]
     for kind, task, output, errors, status in true:
         yield kind, task, Ran(output, errors, status, refused=1)
@@ -77,7 +95,7 @@ def judged_answers() -> Sweep:
     """Judges each."""
     done = Sweep("false answers")
     for kind, task, ran in answers():
-        found = judged(task, Ran(AMPLE[task.words], b"", 0, refused=0), ran)
+        found = judged(task, Ran(AMPLE[task.words], TOLD.get(task.words, b""), 0, refused=0), ran)
         done.runs += 1
         done.met[f"judged {found.kind}"] += 1
         if found.kind != kind:

@@ -4,7 +4,7 @@ from __future__ import annotations
 import os
 import re
 import sys
-from dataclasses import dataclass
+from dataclasses import dataclass, replace
 from typing import List, Optional, Tuple
 
 from refusing import TOP, Ran
@@ -17,7 +17,8 @@ from script_reader import Campaign, read_script
 from table import VERDICTS
 
 NO_MEMORY = b"ttrun: no memory\n"
-CSV, HISTORY, JUNIT = "--csv", "--history", "--junit"
+CSV, HISTORY, JUNIT, PROGRESS = "--csv", "--history", "--junit", "--progress"
+FAILED = b"failed: "
 SUITE_END = "</testsuite>\n</testsuites>\n"
 
 
@@ -164,8 +165,42 @@ def judged_refused(task: Task, ample: Ran, ran: Ran) -> Outcome:
     return Outcome("wrong", f"half a report is out: {ran.output[-200:]!r}")
 
 
+def told_of_first(told: bytes, count: int) -> List[bytes]:
+    """The lines that tell of the first test cases, and of those again that have failed, by what is told of all."""
+    lines = told.splitlines(keepends=True)
+    each = [it for it in lines if not it.startswith(FAILED)][:count]
+    return each + [it for it in lines if it.startswith(FAILED) and it[len(FAILED):] in each]
+
+
+def parted(errors: bytes) -> Tuple[bytes, bytes]:
+    """What is told of test cases, and the line of a fault behind it."""
+    at = errors.find(b"ttrun: ")
+    return (errors, b"") if at < 0 else (errors[:at], errors[at:])
+
+
+def judged_told(task: Task, ample: Ran, ran: Ran) -> Outcome:
+    """A run with `--progress`: what is told of test cases, whole or cut behind a line, and all else as without it."""
+    told, line = parted(ran.errors)
+    each = told_of_first(ample.errors, len(ample.errors))
+    counts = range(sum(not it.startswith(FAILED) for it in each) + 1)
+    ending = re.match(rb"ttrun: aborted at (\w+): ", line)
+    names = [it.name for it in task.campaign()]
+    if ending and ending[1].decode() in names:
+        counts = range(names.index(ending[1].decode()), names.index(ending[1].decode()) + 1)
+    wholes = [told_of_first(ample.errors, it) for it in counts]
+    cuts = {b"".join(it[:at]) for it in wholes for at in range(len(it) + 1)}
+    if told not in cuts:
+        return Outcome("wrong", f"told of test cases: {told[-200:]!r}")
+    rest = judged(replace(task, words=tuple(it for it in task.words if it != PROGRESS)), replace(ample, errors=b""), replace(ran, errors=line))
+    if rest.kind != "right" or told == ample.errors:
+        return rest
+    return Outcome("refused") if ran.refused else Outcome("wrong", f"nothing was refused, and {told[-200:]!r} is told")
+
+
 def judged(task: Task, ample: Ran, ran: Ran) -> Outcome:
     """What came of a run, beside the run with ample memory."""
+    if task.has(PROGRESS) and not ran.is_late:
+        return judged_told(task, ample, ran)
     if ran.is_late:
         return Outcome("wrong", "it hangs")
     if ran.status == ample.status:

@@ -38,6 +38,7 @@ def tasks() -> List[Task]:
         found.append(Task(name, ("run", "--list"), given))
         found += [Task(name, ("explore", *form), given) for form in ((), ("--history",), ("--details",))]
     found.append(Task("verdicts", ("run", "--stop-on", "fail"), bytes_of("verdicts.script")))
+    found += [Task("verdicts", ("run", "--progress", *form), bytes_of("verdicts.script")) for form in ((), ("--live",), ("--junit",))]
     chosen = ("--only", "t_fail", "--only", "t_pass")
     found += [Task("verdicts", ("run", *chosen, *form), bytes_of("verdicts.script")) for form in FORMS]
     found.append(Task("verdicts", ("run", "--only", "t_nowhere"), bytes_of("verdicts.script")))

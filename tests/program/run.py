@@ -24,6 +24,7 @@ import documents_run
 import examples
 import explain
 import live
+import progress
 import random_courses
 import random_moves
 import random_scripts
@@ -48,6 +49,7 @@ GROUPS = (
     ("sizes", sizes.cases, 29),
     ("terminal", terminal.cases, 19),
     ("live", live.cases, 40),
+    ("progress", progress.cases, 30),
     ("examples", examples.cases, 42),
     ("reports", reports.cases, 30),
     ("explain", explain.cases, 100),

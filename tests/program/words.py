@@ -8,7 +8,7 @@ from typing import List, Tuple
 from case import Case, SomeText, Word
 
 COMMANDS = ("run", "check", "replay", "explore", "report", "ttrun run < FILE", "No word at all means run")
-ALL_OPTIONS = ("--csv", "--history", "--junit", "--live", "--stop-on", "--list", "--only", "--shard", "ttrun run < FILE",
+ALL_OPTIONS = ("--csv", "--history", "--junit", "--live", "--progress", "--stop-on", "--list", "--only", "--shard", "ttrun run < FILE",
                "none, pass, inconc, fail or error")
 
 # The words, and what the help names.
@@ -38,6 +38,11 @@ REFUSED: List[Tuple[str, Tuple[Word, ...]]] = [
     ("live_twice", ("run", "--live", "--live")),
     ("live_behind_check", ("check", "--live")),
     ("live_behind_replay", ("replay", "--live")),
+    ("progress_without_run", ("--progress",)),
+    ("progress_twice", ("run", "--progress", "--progress")),
+    ("progress_with_a_value", ("run", "--progress=yes")),
+    ("progress_behind_explore", ("explore", "--progress")),
+    ("progress_of_a_list", ("run", "--progress", "--list")),
     ("both_forms_live", ("run", "--csv", "--live", "--history")),
     ("stop_on_without_a_word_before_live", ("run", "--stop-on", "--live")),
     ("stop_on_without_run", ("--stop-on", "fail")),

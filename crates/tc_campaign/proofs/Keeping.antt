@@ -1,16 +1,18 @@
 -- What an observer keeps that has room for all test cases.
-use Rattle.std.proofs.Common.{ℕ, zero, suc, ◌≡◌, ◌∙◌, ◌<◌, ◌≤◌, ◌+◌, ◌++◌, ◌∷◌, [], Bool, true, false, List, Option, length, take, arith, refl, sym, ap, subst, append_assoc}
+use Rattle.std.proofs.Common.{ℕ, zero, suc, ◌≡◌, ◌∙◌, ◌<◌, ◌≤◌, ◌+◌, ◌++◌, ◌∷◌, [], Bool, true, false, List, Option, Some, None, Result, length, take, arith, refl, sym, ap, subst, append_assoc}
 use Rattle.std.proofs.lemmas.List.{append-nil, length-append}
 use Rattle.std.proofs.lemmas.Slice.Zip.{AllZip-long}
 use Rattle.tc_verdict.specs.declared.verdict.Verdict.{Verdict}
 use Rattle.tc_book.specs.Passes.{PassState}
 use Rattle.tc_exec.specs.declared.job.Back.{Back}
+use Rattle.tc_report.specs.declared.fault.OutFault.{OutFault}
 use Rattle.tc_report.specs.declared.results.CampaignEnd.{CampaignEnd}
 use Rattle.tc_report.specs.declared.results.Finished.{Finished}
 use Rattle.tc_report.specs.Observers.{AreTaken, IsEndedAt}
+use Rattle.tc_report.specs.Progress.{IsToldBy, told_text}
 use Rattle.tc_campaign.specs.declared.case.Case.{Case}
-use Rattle.tc_campaign.specs.Campaign.{AreFinished, IsCalled, IsCutShort, IsObserved, IsRunTo}
-use Rattle.tc_campaign.specs.Inside.{IsKept}
+use Rattle.tc_campaign.specs.Campaign.{AreFinished, IsCalled, IsRunTo}
+use Rattle.tc_campaign.specs.Inside.{AreGivenTo, IsKept}
 
 take_short : {A : Type 0} (n : ℕ) (xs : List A) → length (take n xs) ≤ length xs
 take_short zero xs = omega arith
@@ -49,11 +51,22 @@ module _ {O : Type 0} (items : O → List Finished) (room : O → ℕ) where
         omega (arith, ap length none, same, take_short (length finished) cases, room_is)
 
     -- where there is room for all test cases, the campaign is not ended
-    pub not_cut : IsCutShort outcome cases stop_on threads Takes before after → ⊥
-    not_cut cut = never_ended cut.finished before after cut.ended (fits cut.finished cut.each)
+    pub not_cut : (finished : List Finished) → AreGivenTo outcome Takes stop_on threads cases before after finished None → ⊥
+    not_cut finished given = never_ended finished before after given.1 (fits finished given.0)
 
     -- and the test cases that are kept are those of the campaign
-    pub kept_run : (ending : CampaignEnd) → IsObserved outcome cases stop_on threads Takes before after ending → IsRunTo outcome cases stop_on threads (items after) ending
-    kept_run ending seen =
-        let kept = all_kept seen.finished before after seen.taken (fits seen.finished seen.run.each) in
-        subst (λ fs. IsRunTo outcome cases stop_on threads fs ending) (sym (kept.0 ∙ ap (λ l. l ++ seen.finished) none)) seen.run
+    pub all_are_kept : (finished : List Finished) (ending : CampaignEnd) → AreGivenTo outcome Takes stop_on threads cases before after finished (Some ending)
+        → finished ≡ items after
+    all_are_kept finished ending given =
+        let kept = all_kept finished before after given.1 (fits finished given.0.each) in
+        sym (kept.0 ∙ ap (λ l. l ++ finished) none)
+
+    pub kept_run : (finished : List Finished) (ending : CampaignEnd) → AreGivenTo outcome Takes stop_on threads cases before after finished (Some ending)
+        → IsRunTo outcome cases stop_on threads (items after) ending
+    kept_run finished ending given = subst (λ fs. IsRunTo outcome cases stop_on threads fs ending) (all_are_kept finished ending given) given.0
+
+    -- and what is told is told of them
+    pub kept_told : (finished : List Finished) (ending : CampaignEnd) → AreGivenTo outcome Takes stop_on threads cases before after finished (Some ending)
+        → (tells : Bool) (untold told : Option (List ℕ)) (line : Result (Unit {0}) OutFault) → IsToldBy tells untold told (told_text tells finished) line
+        → IsToldBy tells untold told (told_text tells (items after)) line
+    kept_told finished ending given tells untold told line is = subst (λ fs. IsToldBy tells untold told (told_text tells fs) line) (all_are_kept finished ending given) is

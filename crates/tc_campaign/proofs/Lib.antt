@@ -6,3 +6,4 @@ pub mod Pieces
 pub mod Places
 pub mod Rightness
 pub mod Sharding
+pub mod Telling

@@ -1,5 +1,6 @@
 -- The text of a campaign that is written as its test cases finish.
-use Rattle.std.proofs.Common.{ℕ, ◌≡◌, ◌∙◌, List, [], Bool, Option, Result, Ok, Err, OnErr, All, refl, sym, ap, subst}
+use Rattle.std.proofs.Common.{ℕ, ◌≡◌, ◌∙◌, List, [], Bool, Option, Some, None, Result, Ok, Err, IfErr, IfOk, OnErr, All, refl, sym, ap, subst}
+use Rattle.std.specs.Prelude.{IfNone, IfSome, unwrap_or}
 use Rattle.std.proofs.lemmas.List.{append-nil}
 use Rattle.std.proofs.lemmas.List.Elements.{All-nil}
 use Rattle.std.specs.Borrow.{GName}
@@ -16,14 +17,18 @@ use Rattle.tc_report.specs.declared.results.CampaignEnd.{CampaignEnd}
 use Rattle.tc_report.specs.declared.results.CampaignEnd.TheVariants as E
 use Rattle.tc_report.specs.declared.results.Finished.{Finished}
 use Rattle.tc_report.specs.Live.{LiveState, closing_text, form_text, opening_text, text_so_far}
+use Rattle.tc_report.specs.Observers.{AreTaken, IsEndedAt}
 use Rattle.tc_report.specs.Output.{LeavesPrefix}
+use Rattle.tc_report.specs.Progress.{IsToldBy, told_text}
 use Rattle.tc_report.specs.Status.{ending_status, worst_overall}
 use Rattle.tc_report.specs.Tally.{no_cases, tally_of_cases}
 use Rattle.tc_report.proofs.Pieces.{IsAt, Takes, all_at, ended_at}
+use Rattle.tc_report.proofs.Telling.{nothing_of}
 use Rattle.tc_report.proofs.Writing.{appends_both, left_is_prefix, prefix_behind, prefix_longer, whole_text}
 use Rattle.tc_campaign.specs.declared.case.Case.{Case}
-use Rattle.tc_campaign.specs.Campaign.{AreFinished, HasBehaviours, HasThreads, IsCutShort, IsNamed, IsObserved}
-use Rattle.tc_campaign.specs.Live.{IsWrittenRun, LeavesPart}
+use Rattle.tc_campaign.specs.Campaign.{AreFinished, HasBehaviours, HasThreads, IsNamed, IsRunTo}
+use Rattle.tc_campaign.specs.Inside.{AreGivenTo}
+use Rattle.tc_campaign.specs.Live.{IsWrittenAndTold, IsWrittenOf, IsWrittenRun, LeavesPart, LeavesPartOf}
 
 module _ {W : Type 0} (contents : W → Option (List ℕ)) where
   -- where a live writer stands
@@ -34,9 +39,11 @@ module _ {W : Type 0} (contents : W → Option (List ℕ)) where
 abbrev pub name_of : {W : Type 0} → LiveWriter W → GName
 name_of l = l.writer.ghost_name
 
-pub on_err : {T E P : Type 0} (r : Result T E) → P → OnErr r P
-on_err (Ok x) holds = tt
-on_err (Err e) holds = holds
+-- where a live writer has done nothing, its writer holds what it held
+pub writes_nothing : {W A : Type 0} (contents : W → Option (List ℕ)) (ending : Option A) (before after : LiveWriter W) → IfNone ending (after ≡ before)
+    → IfNone ending (contents after.writer.now ≡ contents before.writer.now)
+writes_nothing contents None before after same = ap (λ (l : LiveWriter _). contents l.writer.now) same
+writes_nothing contents (Some ending) before after same = tt
 
 -- where the writer stands when only what is before the test cases was written
 begun : (form : Form) (start : Option (List ℕ)) (state : LiveState) → state.form ≡ form → Appends start state.out (opening_text form)
@@ -55,7 +62,7 @@ cut_left form start after fs ending left =
     subst (AppendsPrefix start after) (whole_text form fs ending) (prefix_longer start after (text_so_far form fs) (closing_text form (tally_of_cases fs) ending) left)
 
 module _ {B : Type 0} (outcome : B → PassState → Back → Type 0) (cases : List (Case B)) (stop_on : Option Verdict) (threads : ℕ) where
-  none_finished : AreFinished outcome cases stop_on threads []
+  pub none_finished : AreFinished outcome cases stop_on threads []
   none_finished = record {
     names = tt;
     better = All-nil _;
@@ -66,63 +73,113 @@ module _ {B : Type 0} (outcome : B → PassState → Back → Type 0) (cases : L
     behaviours = All-nil HasBehaviours;
   }
 
-  -- what stands before the test cases was not written whole
-  pub at_opening : (form : Form) (start after : Option (List ℕ)) (fault : OutFault) → LeavesPrefix start after (opening_text form) fault
-      → LeavesPart outcome cases stop_on threads form start after
-  at_opening form start after fault left = record {
-    results = record { finished = []; ending = E.Complete };
-    each = none_finished;
-    left = cut_left form start after [] E.Complete
-        (subst (AppendsPrefix start after) (sym (append-nil (opening_text form))) (left_is_prefix start after (opening_text form) fault left));
+  -- what stands before the test cases was not written whole, and nothing was told
+  pub at_opening : (form : Form) (start after : Option (List ℕ)) (fault : OutFault) (tells : Bool) (untold : Option (List ℕ)) → LeavesPrefix start after (opening_text form) fault
+      → IsWrittenAndTold outcome cases stop_on threads form start after tells untold untold (Err fault) (Ok tt)
+  at_opening form start after fault tells untold left = record {
+    finished = [];
+    done = tt;
+    part = record {
+      ending = E.Complete;
+      each = none_finished;
+      left = cut_left form start after [] E.Complete
+          (subst (AppendsPrefix start after) (sym (append-nil (opening_text form))) (left_is_prefix start after (opening_text form) fault left));
+    };
+    told_of = nothing_of tells untold;
   }
 
   module _ {O : Type 0} (state : O → LiveState) (name : O → GName) (form : Form) (start : Option (List ℕ)) (before after : O)
       (same : (state before).form ≡ form) (opening : Appends start (state before).out (opening_text form))
-      (tally : (state before).tally ≡ no_cases) (worst : (state before).worst ≡ V.None) where
+      (tally : (state before).tally ≡ no_cases) (worst : (state before).worst ≡ V.None) (finished : List Finished) where
     first : IsAt form start [] (state before)
     first = begun form start (state before) same opening tally worst
 
-    -- the writer is the same one
-    pub named_so : (ending : CampaignEnd) → IsObserved outcome cases stop_on threads (Takes state name) before after ending → name after ≡ name before
-    named_so ending seen = (all_at state name form start [] seen.finished before after first seen.taken).1
-
-    pub named_still : IsCutShort outcome cases stop_on threads (Takes state name) before after → name after ≡ name before
-    named_still cut = (ended_at state name form start cut.finished before after first cut.ended).1
-
     -- some test case was not written whole
-    pub at_case : IsCutShort outcome cases stop_on threads (Takes state name) before after → LeavesPart outcome cases stop_on threads form start (state after).out
-    at_case cut = record {
-      results = record { finished = cut.finished; ending = E.Complete };
-      each = cut.each;
-      left = cut_left form start (state after).out cut.finished E.Complete (ended_at state name form start cut.finished before after first cut.ended).0;
+    at_case : AreFinished outcome cases stop_on threads finished → IsEndedAt (Takes state name) finished before after
+        → LeavesPartOf outcome cases stop_on threads form start (state after).out finished
+    at_case each ended = record {
+      ending = E.Complete;
+      each = each;
+      left = cut_left form start (state after).out finished E.Complete (ended_at state name form start finished before after first ended).0;
     }
 
-    module _ (ending : CampaignEnd) (seen : IsObserved outcome cases stop_on threads (Takes state name) before after ending) (now : Option (List ℕ)) where
-      last : IsAt form start seen.finished (state after)
-      last = (all_at state name form start [] seen.finished before after first seen.taken).0
+    module _ (taken : AreTaken (Takes state name) finished before after) (ending : CampaignEnd) (run : IsRunTo outcome cases stop_on threads finished ending)
+        (now : Option (List ℕ)) where
+      last : IsAt form start finished (state after)
+      last = (all_at state name form start [] finished before after first taken).0
 
       -- all was written
-      pub at_end : (status : ℕ) → Appends (state after).out now (closing_text (state after).form (state after).tally ending) → status ≡ ending_status ending (state after).worst
-          → IsWrittenRun outcome cases stop_on threads form start now ending status
+      at_end : (status : ℕ) → Appends (state after).out now (closing_text (state after).form (state after).tally ending) → status ≡ ending_status ending (state after).worst
+          → IsWrittenOf outcome cases stop_on threads form start now finished ending status
       at_end status out is = record {
-        finished = seen.finished;
-        run = seen.run;
-        written = subst (Appends start now) (whole_text form seen.finished ending)
-            (appends_both start (state after).out now (text_so_far form seen.finished) (closing_text form (tally_of_cases seen.finished) ending) last.out
+        run = run;
+        written = subst (Appends start now) (whole_text form finished ending)
+            (appends_both start (state after).out now (text_so_far form finished) (closing_text form (tally_of_cases finished) ending) last.out
             (subst (λ t. Appends (state after).out now (closing_text form t ending)) last.tally
             (subst (λ k. Appends (state after).out now (closing_text k (state after).tally ending)) last.form_is out)));
         status_is = is ∙ ap (ending_status ending) last.worst_is;
       }
 
       -- what stands behind the test cases was not written whole
-      pub at_closing : (fault : OutFault) → LeavesPrefix (state after).out now (closing_text (state after).form (state after).tally ending) fault
-          → LeavesPart outcome cases stop_on threads form start now
+      at_closing : (fault : OutFault) → LeavesPrefix (state after).out now (closing_text (state after).form (state after).tally ending) fault
+          → LeavesPartOf outcome cases stop_on threads form start now finished
       at_closing fault left = record {
-        results = record { finished = seen.finished; ending = ending };
-        each = seen.run.each;
-        left = subst (AppendsPrefix start now) (whole_text form seen.finished ending)
-            (prefix_behind start (state after).out now (text_so_far form seen.finished) (closing_text form (tally_of_cases seen.finished) ending) last.out
-            (left_is_prefix (state after).out now (closing_text form (tally_of_cases seen.finished) ending) fault
+        ending = ending;
+        each = run.each;
+        left = subst (AppendsPrefix start now) (whole_text form finished ending)
+            (prefix_behind start (state after).out now (text_so_far form finished) (closing_text form (tally_of_cases finished) ending) last.out
+            (left_is_prefix (state after).out now (closing_text form (tally_of_cases finished) ending) fault
             (subst (λ t. LeavesPrefix (state after).out now (closing_text form t ending) fault) last.tally
             (subst (λ k. LeavesPrefix (state after).out now (closing_text k (state after).tally ending) fault) last.form_is left))));
       }
+
+    -- the writer is the same one
+    pub named_still : (ending : Option CampaignEnd) → AreGivenTo outcome (Takes state name) stop_on threads cases before after finished ending → name after ≡ name before
+    named_still (Some ending) given = (all_at state name form start [] finished before after first given.1).1
+    named_still None given = (ended_at state name form start finished before after first given.1).1
+
+    module _ (tells : Bool) (untold told : Option (List ℕ)) (line : Result (Unit {0}) OutFault) (told_of : IsToldBy tells untold told (told_text tells finished) line)
+        (now : Option (List ℕ)) where
+      -- what the writer did behind the test cases says how the campaign was written
+      pub closed : (ending : Option CampaignEnd) (result : Result (CampaignEnd × ℕ) OutFault)
+          → AreGivenTo outcome (Takes state name) stop_on threads cases before after finished ending
+          → IfOk result (λ r. ending ≡ Some r.0)
+          → IfOk result (λ r. Appends (state after).out now (closing_text (state after).form (state after).tally r.0))
+          → IfOk result (λ r. r.1 ≡ ending_status r.0 (state after).worst)
+          → IfNone ending (now ≡ (state after).out)
+          → IfSome ending (λ e. IfErr result (LeavesPrefix (state after).out now (closing_text (state after).form (state after).tally e)))
+          → IsWrittenAndTold outcome cases stop_on threads form start now tells untold told result line
+      closed (Some ending) (Ok r) given is all status cut part =
+          let same : ending ≡ r.0 = ap (λ o. unwrap_or o ending) is in record {
+            finished = finished;
+            done = at_end given.1 r.0 (subst (IsRunTo outcome cases stop_on threads finished) same given.0) now r.1 all status;
+            part = tt;
+            told_of = told_of;
+          }
+      closed (Some ending) (Err fault) given is all status cut part = record {
+        finished = finished;
+        done = tt;
+        part = at_closing given.1 ending given.0 now fault part;
+        told_of = told_of;
+      }
+      closed None (Ok r) given is all status cut part = absurd (cc is)
+      closed None (Err fault) given is all status cut part = record {
+        finished = finished;
+        done = tt;
+        part = subst (λ n. LeavesPartOf outcome cases stop_on threads form start n finished) (sym cut) (at_case given.0 given.1);
+        told_of = told_of;
+      }
+
+  module _ (form : Form) (before after : Option (List ℕ)) (tells : Bool) (untold told : Option (List ℕ)) where
+    -- what is said of the run of a campaign, where nobody asks what was told
+    pub written_run : (ended : Result (CampaignEnd × ℕ) OutFault) (line : Result (Unit {0}) OutFault)
+        → IsWrittenAndTold outcome cases stop_on threads form before after tells untold told ended line
+        → IfOk ended (λ r. IsWrittenRun outcome cases stop_on threads form before after r.0 r.1)
+    written_run (Ok r) line was = (was.finished, was.done)
+    written_run (Err fault) line was = tt
+
+    pub leaves_part : (ended : Result (CampaignEnd × ℕ) OutFault) (line : Result (Unit {0}) OutFault)
+        → IsWrittenAndTold outcome cases stop_on threads form before after tells untold told ended line
+        → OnErr ended (LeavesPart outcome cases stop_on threads form before after)
+    leaves_part (Ok r) line was = tt
+    leaves_part (Err fault) line was = (was.finished, was.part)

@@ -1,16 +1,16 @@
 //! The run of a campaign.
-ghost use Rattle.std.specs.Prelude.{◌≡◌, ◌≤◌, [], All, IfOk, IfErr, IfSome, IfNone, length, map, take, slice_get};
-ghost use Rattle.std.specs.Vec.{vec_len, vec_capacity};
+ghost use Rattle.std.specs.Prelude.{◌≡◌, [], All, IfOk, IfErr, IfSome, IfNone, length, map, take, slice_get};
 ghost use Rattle.std.specs.List.{AllZip};
 ghost use Rattle.tc_campaign.specs.Outline.{HasNames, outline_of};
-ghost use Rattle.tc_campaign.specs.Campaign.{HasBehaviours, HasThreads, IsCalled, IsCutShort, IsNamed, IsObserved, IsReported, IsRight, IsRunTo, IsWhy};
+ghost use Rattle.tc_campaign.specs.Campaign.{HasBehaviours, HasThreads, IsCalled, IsCutShort, IsNamed, IsObserved, IsReported, IsRight, IsWhy};
 ghost use Rattle.tc_campaign.specs.Inside.{IsOf, IsRefused, IsStep, IsUnrun, WasRun, ended_by};
 
 use crate::case::Case;
-use crate::kept::Kept;
 use crate::step::Step;
 use crate::stopping::stop_after;
+use crate::told::{Plan, run_campaign_told};
 use std::alloc::Global;
+use std::io;
 use std::sync::Wait;
 use std::thread::Threads;
 use tc_book::Sequence;
@@ -122,32 +122,8 @@ pub fn run_campaign_with<R: Threads + Wait + Copy + Send + 'static, B: Callable,
     run_all(rt, alloc, cases, stop_on, threads, observer)
 }
 
-/// Runs the test cases of a campaign, and keeps the report of each, for which there is room.
-fn keep_all<R: Threads + Wait + Copy + Send + 'static, B: Callable>(
-    rt: &R,
-    alloc: Global,
-    cases: Vec<Case<B>>,
-    stop_on: Option<Verdict>,
-    threads: u16,
-    finished: Vec<Finished>,
-) -> Results
-    requires names { All HasNames cases.items }
-    requires none { finished.items ≡ [] }
-    requires room { vec_len cases ≤ vec_capacity finished }
-    ensures { IsRunTo B.outcome cases.items stop_on threads result.finished result.ending }
-{
-    let mut kept = Kept { finished };
-    match run_campaign_with(rt, alloc, cases, stop_on, threads, &mut kept) {
-        Some(ending) => Results {
-            finished: Sequence::new(kept.finished),
-            ending,
-        },
-        None => unreachable!(),
-    }
-}
-
 /// How a campaign ends that has no room for its reports.
-fn without_room<B: Callable>(cases: Vec<Case<B>>) -> CampaignEnd
+fn ending_without_room<B: Callable>(cases: Vec<Case<B>>) -> CampaignEnd
     ensures { IsUnrun (map outline_of cases.items) result }
 {
     match cases.into_iter().next() {
@@ -156,6 +132,17 @@ fn without_room<B: Callable>(cases: Vec<Case<B>>) -> CampaignEnd
             why: CaseError::NoMemory,
         },
         None => CampaignEnd::Complete,
+    }
+}
+
+/// The results of a campaign that has no room for its reports.
+pub(crate) fn without_room<B: Callable>(alloc: Global, cases: Vec<Case<B>>) -> Results
+    ensures none { result.finished ≡ [] }
+    ensures ending { IsUnrun (map outline_of cases.items) result.ending }
+{
+    Results {
+        finished: Sequence::new(Vec::new(alloc)),
+        ending: ending_without_room(cases),
     }
 }
 
@@ -182,11 +169,10 @@ pub fn run_campaign<R: Threads + Wait + Copy + Send + 'static, B: Callable>(
     ensures behaviours { All HasBehaviours result.finished }
     ensures why { IsWhy (slice_get (map outline_of cases.items) (length result.finished)) result.ending }
 {
-    let Ok(finished) = Vec::with_capacity(alloc, cases.len()) else {
-        return Results {
-            finished: Sequence::new(Vec::new(alloc)),
-            ending: without_room(cases),
-        };
+    let plan = Plan {
+        stop_on,
+        threads,
+        tells: false,
     };
-    keep_all(rt, alloc, cases, stop_on, threads, finished)
+    run_campaign_told(rt, alloc, cases, plan, &mut io::sink()).results
 }

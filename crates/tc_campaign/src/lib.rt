@@ -10,13 +10,15 @@ mod live;
 mod shard;
 mod step;
 mod stopping;
+mod told;
 
 pub use campaign::{run_campaign, run_campaign_with};
 pub use case::Case;
 pub use choosing::{choose, have_all};
-pub use live::run_campaign_live;
+pub use live::{LiveEnd, run_campaign_live, run_campaign_live_told};
 pub use shard::Shard;
 pub use tc_report::{
-    CampaignEnd, Finished, Form, LiveWriter, Observer, OutFault, Results, Tally, status_of, tally,
-    write_abort, write_csv, write_history, write_text,
+    CampaignEnd, Finished, Form, LiveWriter, Observer, OutFault, Progress, Results, Tally,
+    status_of, tally, write_abort, write_csv, write_history, write_text,
 };
+pub use told::{Plan, Told, run_campaign_told};

@@ -24,10 +24,10 @@ use Rattle.tc_command.specs.Command.{run as run_app}
 use Rattle.tc_command.specs.Lines.{AreTwoForms, AsksFor, AsksForBoth, AsksHelp, AsksVersion, InAnyOrder, IsHelp, IsName, IsPlain, SpellsRule}
 use Rattle.tc_command.specs.Lines.{details_words, explain_words, form_words, history_words, live_words, only_words, report_word, rule_words, shard_words}
 use Rattle.tc_command.specs.Lines.{abc, acb, bac, bca, cab, cba}
-use Rattle.tc_command.specs.Lines.{no_word, checks, replays, reports, runs, runs_explained, chooses, lists, no_rule, next_word, same_word, explores, explores_states}
+use Rattle.tc_command.specs.Lines.{no_word, checks, replays, reports, runs, runs_explained, runs_told, chooses, lists, no_rule, next_word, same_word, explores, explores_states}
 use Rattle.tc_command.specs.Lines.{long, short, run_name, check_name, replay_name, explore_name, report_name, of_program, of_subcommand}
 use Rattle.tc_command.specs.Lines.{long_version, short_version, csv_history, history_csv, csv_junit, junit_csv, history_junit, junit_history}
-use Rattle.tc_command.specs.Lines.{csv_listed, history_listed, junit_listed, live_listed, explain_listed, rule_listed}
+use Rattle.tc_command.specs.Lines.{csv_listed, history_listed, junit_listed, live_listed, progress_listed, explain_listed, rule_listed}
 use Rattle.tc_command.specs.Lines.{two_forms, live_junit, junit_live, list_first, list_last, two_reports, history_details, details_history}
 
 -- the words behind the program's name are taken, and ask for this
@@ -506,6 +506,26 @@ explained form.Junit false (Some word) may = (refl, refl)
 explained form.Junit true None may = absurd (true≢false (sym may))
 explained form.Junit true (Some word) may = absurd (true≢false (sym may))
 
+told_of : (f : Form) (live : Bool) (rule : Option Text) → may_be_written f live ≡ true
+    → Asks (codes "run" ∷ codes "--progress" ∷ (form_words f ++ (live_words live ++ rule_words rule))) (run (record (plain_run f) { live = live; stop_on = rule; progress = true }))
+unfolding clap_on_literals
+told_of form.Text false None may = (refl, refl)
+told_of form.Text false (Some word) may = (refl, refl)
+told_of form.Text true None may = (refl, refl)
+told_of form.Text true (Some word) may = (refl, refl)
+told_of form.Csv false None may = (refl, refl)
+told_of form.Csv false (Some word) may = (refl, refl)
+told_of form.Csv true None may = (refl, refl)
+told_of form.Csv true (Some word) may = (refl, refl)
+told_of form.History false None may = (refl, refl)
+told_of form.History false (Some word) may = (refl, refl)
+told_of form.History true None may = (refl, refl)
+told_of form.History true (Some word) may = (refl, refl)
+told_of form.Junit false None may = (refl, refl)
+told_of form.Junit false (Some word) may = (refl, refl)
+told_of form.Junit true None may = absurd (true≢false (sym may))
+told_of form.Junit true (Some word) may = absurd (true≢false (sym may))
+
 reported : (f : ReportForm) (explains : Bool) → Asks (codes "report" ∷ report_word f ∷ explain_words explains) (report f explains)
 unfolding clap_on_literals
 reported report_form.Csv false = (refl, refl)
@@ -536,6 +556,7 @@ asks a line (replays false) = (refl, refl)
 asks a line (replays true) = (refl, refl)
 asks a line (reports f explains) = reported f explains
 asks a line (runs_explained f live rule may) = explained f live rule may
+asks a line (runs_told f live rule may) = told_of f live rule may
 asks a line (runs f live rule words options may spells order) = spelled f live rule words options may spells order
 asks a line (chooses names shard f) = chosen names shard f
 asks a line (lists names shard) = listed names shard
@@ -586,12 +607,14 @@ asks_both line (list_first other csv_listed) = refl
 asks_both line (list_first other history_listed) = refl
 asks_both line (list_first other junit_listed) = refl
 asks_both line (list_first other live_listed) = refl
+asks_both line (list_first other progress_listed) = refl
 asks_both line (list_first other explain_listed) = refl
 asks_both line (list_first other (rule_listed word)) = refl
 asks_both line (list_last other csv_listed) = refl
 asks_both line (list_last other history_listed) = refl
 asks_both line (list_last other junit_listed) = refl
 asks_both line (list_last other live_listed) = refl
+asks_both line (list_last other progress_listed) = refl
 asks_both line (list_last other explain_listed) = refl
 asks_both line (list_last other (rule_listed word)) = refl
 asks_both line (two_reports f g other) = two_forms_reported f g other

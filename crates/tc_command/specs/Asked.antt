@@ -23,10 +23,12 @@ pub record Chosen : Type 0 where
   pub only : List Text
   pub shard : Option Text
 
--- which run is asked for: its form, whether it is live, the word of its stopping rule, its test cases, and whether a fault is explained
+-- which run is asked for: its form, whether it is live, whether its test cases are told of as they finish, the word of its stopping rule, its
+-- test cases, and whether a fault is explained
 pub record Running : Type 0 where
   pub form : Form
   pub live : Bool
+  pub progress : Bool
   pub stop_on : Option Text
   pub choice : Chosen
   pub explains : Bool
@@ -47,7 +49,7 @@ all_chosen = record { only = []; shard = None }
 
 -- a run of all test cases in this form, with nothing else asked for
 abbrev pub plain_run : Form → Running
-plain_run f = record { form = f; live = false; stop_on = None; choice = all_chosen; explains = false }
+plain_run f = record { form = f; live = false; progress = false; stop_on = None; choice = all_chosen; explains = false }
 
 -- what a choice says
 abbrev pub chosen_of : Choice → Chosen
@@ -58,6 +60,7 @@ abbrev pub running_of : RunOptions → Running
 running_of o = record {
   form = o.form;
   live = o.live;
+  progress = o.progress;
   stop_on = option_map (λ w. w.now) o.stop_on;
   choice = chosen_of o.choice;
   explains = o.explains;
@@ -113,6 +116,7 @@ abbrev pub running_by : List Row → Form → Running
 running_by rows f = record {
   form = f;
   live = is_given (codes "live") rows;
+  progress = is_given (codes "progress") rows;
   stop_on = first_of (codes "stop-on") rows;
   choice = choice_by rows;
   explains = explains_by rows;
@@ -130,7 +134,7 @@ is_text f = false
 
 -- nothing but the choice of test cases is asked for
 abbrev pub only_chooses : Running → Bool
-only_chooses r = is_text r.form && (not r.live && (is_none r.stop_on && not r.explains))
+only_chooses r = is_text r.form && (not r.live && (not r.progress && (is_none r.stop_on && not r.explains)))
 
 -- a run, or with --list the names of its test cases, where nothing else is asked for
 abbrev pub run_or_list : Bool → Running → Result Asked ErrorKind

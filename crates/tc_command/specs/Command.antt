@@ -27,9 +27,13 @@ with_choice app = with_rule (with_rule (with_rule app (flag_rule (codes "list"))
 abbrev pub with_explain : App → App
 with_explain app = with_rule app (flag_rule (codes "explain"))
 
--- run has the options of forms, --live and --stop-on, the options that choose, and --explain
+-- as they finish: --live and --progress
+abbrev pub with_live : App → App
+with_live app = with_rule (with_rule app (flag_rule (codes "live"))) (flag_rule (codes "progress"))
+
+-- run has the options of forms, --live and --progress, --stop-on, the options that choose, and --explain
 abbrev pub run : App
-run = with_explain (with_choice (with_rule (with_rule (with_forms (new_app (codes "run"))) (flag_rule (codes "live"))) (word_rule (codes "stop-on"))))
+run = with_explain (with_choice (with_rule (with_live (with_forms (new_app (codes "run")))) (word_rule (codes "stop-on"))))
 
 -- explore has the options --history, --details and --states
 abbrev pub explore : App

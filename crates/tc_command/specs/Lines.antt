@@ -75,7 +75,7 @@ rule_words None = []
 rule_words (Some word) = (codes "--stop-on=" ++ word) ∷ []
 
 -- the words ask for this: no word at all for `run` without options; the form of a run, --live and the stopping rule stand in any order;
--- the test cases by their names stand first, then the shard, and --explain first
+-- the test cases by their names stand first, then the shard, and --explain and --progress first
 pub data AsksFor : Asked → List Text → Type 0 where
   no_word : AsksFor (run (plain_run form.Text)) []
   checks : (explains : Bool) → AsksFor (check explains) (codes "check" ∷ explain_words explains)
@@ -87,6 +87,9 @@ pub data AsksFor : Asked → List Text → Type 0 where
   runs_explained : (f : Form) (live : Bool) (rule : Option Text) → may_be_written f live ≡ true
       → AsksFor (run (record (plain_run f) { live = live; stop_on = rule; explains = true }))
       (codes "run" ∷ codes "--explain" ∷ (form_words f ++ (live_words live ++ rule_words rule)))
+  runs_told : (f : Form) (live : Bool) (rule : Option Text) → may_be_written f live ≡ true
+      → AsksFor (run (record (plain_run f) { live = live; stop_on = rule; progress = true }))
+      (codes "run" ∷ codes "--progress" ∷ (form_words f ++ (live_words live ++ rule_words rule)))
   chooses : (names : List Text) (shard : Option Text) (f : Form)
       → AsksFor (run (record (plain_run f) { choice = record { only = names; shard = shard } })) (codes "run" ∷ (only_words names ++ (shard_words shard ++ form_words f)))
   lists : (names : List Text) (shard : Option Text)
@@ -134,6 +137,7 @@ pub data IsNotListed : Text → Type 0 where
   history_listed : IsNotListed (codes "--history")
   junit_listed : IsNotListed (codes "--junit")
   live_listed : IsNotListed (codes "--live")
+  progress_listed : IsNotListed (codes "--progress")
   explain_listed : IsNotListed (codes "--explain")
   rule_listed : (word : Text) → IsNotListed (codes "--stop-on=" ++ word)
 

@@ -8,7 +8,7 @@ use clap::{Arg, ArgAction, Command};
 use std::alloc::{AllocError, Global};
 
 /// The version of the program, and the toolchain that it is proved and built with.
-pub const VERSION: &str = "0.10.0 (rattle-kit-13f logic dac8208d650f15bf)";
+pub const VERSION: &str = "0.11.0 (rattle-kit-13f logic dac8208d650f15bf)";
 
 // What the help of the program says at its end.
 const PROGRAM_HELP: &str = "\
@@ -87,6 +87,11 @@ fn run_command<'a>(alloc: Global) -> Result<Command<'a>, AllocError>
         .arg(flag(alloc, "history", "writes the histories of the test cases"))?
         .arg(flag(alloc, "junit", "writes the report as a JUnit suite"))?
         .arg(flag(alloc, "live", "writes each test case as it finishes"))?
+        .arg(flag(
+            alloc,
+            "progress",
+            "tells of each test case as it finishes, on standard error",
+        ))?
         .arg(option(
             alloc,
             "stop-on",

@@ -71,11 +71,13 @@ fn run_options<'a>(
 {
     let choice = choice(alloc, options)?;
     let live = has_option(options, "live");
+    let progress = has_option(options, "progress");
     let stop_on = options.get_str("stop-on");
     let explains = has_option(options, "explain");
     Ok(RunOptions {
         form,
         live,
+        progress,
         stop_on,
         choice,
         explains,
@@ -94,6 +96,8 @@ fn beside_list(options: &RunOptions<'_>) -> Option<&'static str>
     }
     if options.live {
         Some("live")
+    } else if options.progress {
+        Some("progress")
     } else if options.stop_on.is_some() {
         Some("stop-on")
     } else if options.explains {
@@ -187,6 +191,7 @@ fn task<'a>(alloc: Global, matches: &ArgMatches<'a>) -> Result<Task<'a>, Refusal
         None => Ok(Task::Run(RunOptions {
             form: Form::Text,
             live: false,
+            progress: false,
             stop_on: None,
             choice: Choice {
                 only: Vec::new(alloc),

@@ -40,6 +40,8 @@ pub struct RunOptions<'a> {
     pub form: Form,
     /// Whether each test case is written as it finishes.
     pub live: bool,
+    /// Whether each test case is told of as it finishes.
+    pub progress: bool,
     /// The word of `--stop-on`.
     pub stop_on: Option<&'a str>,
     /// Which test cases are run.

@@ -41,6 +41,7 @@ fn options(
     RunOptions {
         form,
         live,
+        progress: false,
         stop_on,
         choice: all(alloc),
         explains: false,
@@ -437,6 +438,40 @@ fn lines_that_report(rt: HostRuntime) -> Result<(), Fail> {
         ("ttrun report more", UNKNOWN),
         ("ttrun report --help", HELP),
         ("ttrun help report", HELP),
+    ];
+    for (line, wanted) in lines {
+        is_read(&rt, line, wanted)?;
+    }
+    Ok(())
+}
+
+#[test]
+fn lines_with_progress(rt: HostRuntime) -> Result<(), Fail> {
+    let alloc = rt.alloc();
+    let told = |form, live, stop_on| {
+        Ok(Task::Run(RunOptions {
+            progress: true,
+            ..options(alloc, form, live, stop_on)
+        }))
+    };
+    let lines = [
+        ("ttrun run --progress", told(Form::Text, false, None)),
+        (
+            "ttrun run --csv --progress --live --stop-on fail",
+            told(Form::Csv, true, Some("fail")),
+        ),
+        (
+            "ttrun run --junit --progress",
+            told(Form::Junit, false, None),
+        ),
+        ("ttrun run --progress --progress", CONFLICT),
+        ("ttrun run --progress --list", CONFLICT),
+        ("ttrun run --list --progress", CONFLICT),
+        ("ttrun run --progress --junit --live", CONFLICT),
+        ("ttrun run --progress=yes", TOO_MANY),
+        ("ttrun explore --progress", UNKNOWN),
+        ("ttrun check --progress", UNKNOWN),
+        ("ttrun --progress", UNKNOWN),
     ];
     for (line, wanted) in lines {
         is_read(&rt, line, wanted)?;

@@ -13,24 +13,29 @@ use Rattle.tc_report.specs.declared.fault.OutFault.{OutFault}
 use Rattle.tc_report.specs.declared.fault.OutFault.TheVariants as OutFaults
 use Rattle.tc_report.specs.declared.form.Form.{Form as ReportForm}
 use Rattle.tc_report.specs.declared.results.CampaignEnd.{CampaignEnd}
+use Rattle.tc_report.specs.declared.results.Finished.{Finished}
 use Rattle.tc_report.specs.declared.results.Results.{Results}
 use Rattle.tc_report.specs.Ending.{abort_text}
 use Rattle.tc_report.specs.Live.{form_text}
+use Rattle.tc_report.specs.Progress.{IsToldBy, told_text}
+use Rattle.tc_report.specs.Status.{results_status}
+use Rattle.tc_report.proofs.Telling.{told_is_prefix}
 use Rattle.tc_campaign.specs.declared.case.Case.{Case}
+use Rattle.tc_campaign.specs.declared.told.Plan.{Plan}
 use Rattle.tc_campaign.specs.Outline.{outline_of}
-use Rattle.tc_campaign.specs.Campaign.{IsCalled}
-use Rattle.tc_campaign.specs.Live.{IsWrittenRun, LeavesPart}
+use Rattle.tc_campaign.specs.Campaign.{AreFinished as AreRun, IsCalled, IsRunTo}
+use Rattle.tc_campaign.specs.Live.{IsWrittenAndTold}
 use Rattle.tc_program.specs.declared.outcome.Outcome.{Outcome}
 use Rattle.tc_program.specs.declared.run.Options.{Options}
-use Rattle.tc_program.specs.Give.{live_form, text_of}
+use Rattle.tc_program.specs.Give.{LeavesUnwritten, live_form, text_of}
 use Rattle.tc_command.specs.declared.task.Form.{Form}
 use Rattle.tc_command.specs.declared.task.Form.TheVariants as Forms
 use Rattle.tc_report.specs.declared.form.Form.TheVariants as ReportForms
-use Rattle.tc_program.specs.Inside.{of_output}
+use Rattle.tc_program.specs.Fault.{of_output}
 use Rattle.tc_program.specs.Streams.{Streams}
 use Rattle.tc_program.specs.Tell.{IsToldAlways}
 use Rattle.tc_program.specs.Explore.{IsNoStates, IsStatesOf}
-use Rattle.tc_program.specs.Run.{IsCutShort, IsRuleOf, IsRun, IsNoName, RefusesWord}
+use Rattle.tc_program.specs.Run.{AreResults, IsCutShort, IsRuleOf, IsRun, IsNoName, IsUnwritten, RefusesWord, first_fault}
 
 -- what holds where there is no error
 pub opened : {T E P : Type 0} (r : Result T E) → is_err r ≡ false → OnOk r P → P
@@ -66,51 +71,109 @@ live_text Forms.Csv live r is = sym (ap (λ o. form_text (unwrap_or o ReportForm
 live_text Forms.History live r is = sym (ap (λ o. form_text (unwrap_or o ReportForms.Text) r) is)
 live_text Forms.Junit live r is = absurd cc
 
--- a run that was written live was run, and its results were given
-pub live_done : {B : Type 0} (outcome : B → PassState → Back → Type 0) (cases : List (Case B)) (options : Options) (threads : ℕ) (form : ReportForm) (streams : Streams)
-    (ending : CampaignEnd) (ended : Outcome) → live_form options.form ≡ Some form
-    → IsWrittenRun outcome cases options.stop_on threads form streams.before streams.after ending ended.status
-    → IsToldAlways streams.untold streams.told (abort_text ending) ended.told → IsRun outline_of (IsCalled outcome) cases options streams ended
-live_done outcome cases options threads form streams ending ended same run told =
-    let each = run.run.each in record {
-      results = record { finished = run.finished; ending = ending };
-      right = record {
-        right = record { names = each.names; better = each.better; ending = run.run.last };
-        reports = each.reports;
-        calls = each.called;
-        names = each.named;
-        behaviours = each.behaviours;
-        why = run.run.why;
-      };
-      status = run.status_is;
-      written = subst (λ t. Appends streams.before streams.after t) (live_text options.form form (record { finished = run.finished; ending = ending }) same) run.written;
-      told = told;
-    }
-
 output_fault : (fault : OutFault) → (of_output fault ≡ F.NoMemory) ⊎ (of_output fault ≡ F.Write)
 output_fault OutFaults.NoMemory = inl refl
 output_fault OutFaults.Write = inr refl
 
--- a run that was not written whole left a prefix
-live_cut : {B : Type 0} (outcome : B → PassState → Back → Type 0) (cases : List (Case B)) (options : Options) (threads : ℕ) (form : ReportForm) (before after : Option (List ℕ))
-    (why : OutFault) (fault : RunFault) → live_form options.form ≡ Some form → fault ≡ of_output why
-    → LeavesPart outcome cases options.stop_on threads form before after → IsCutShort outline_of (IsCalled outcome) cases options before after fault
-live_cut outcome cases options threads form before after why fault same is part = record {
-  results = part.results;
-  each = record {
-    cases_are = part.each.names;
-    better = part.each.better;
-    reports = part.each.reports;
-    calls = part.each.called;
-    names = part.each.named;
-    behaviours = part.each.behaviours;
-  };
-  left = subst (λ t. AppendsPrefix before after t) (live_text options.form form part.results same) part.left;
-  why = subst (λ f. (f ≡ F.NoMemory) ⊎ (f ≡ F.Write)) (sym is) (output_fault why);
-}
+-- what is told behind the test cases, and what comes of both
+abbrev pub EndsTold : Option (List ℕ) → Option (List ℕ) → CampaignEnd → Result (Unit {0}) OutFault → Result (Unit {0}) RunFault → Type 0
+EndsTold between told ending telling answer =
+    (line : Result (Unit {0}) RunFault) × IsToldAlways between told (abort_text ending) line × (answer ≡ first_fault telling line)
 
-pub cut_up : {B : Type 0} (outcome : B → PassState → Back → Type 0) (cases : List (Case B)) (options : Options) (threads : ℕ) (form : ReportForm) (before after : Option (List ℕ))
-    (why : OutFault) (r : Result Outcome RunFault) → live_form options.form ≡ Some form → IsErrAnd r (λ f. f ≡ of_output why)
-    → LeavesPart outcome cases options.stop_on threads form before after → IfErr r (IsCutShort outline_of (IsCalled outcome) cases options before after)
-cut_up outcome cases options threads form before after why (Ok ended) same is part = absurd is
-cut_up outcome cases options threads form before after why (Err fault) same is part = live_cut outcome cases options threads form before after why fault same is part
+module _ {B : Type 0} (outcome : B → PassState → Back → Type 0) (cases : List (Case B)) (options : Options) (plan : Plan) (threads : ℕ)
+    (is : plan ≡ record { stop_on = options.stop_on; threads = threads; tells = options.progress }) where
+  results_of : (r : Results) → IsRunTo outcome cases plan.stop_on plan.threads r.finished r.ending → AreResults outline_of (IsCalled outcome) cases options.stop_on r
+  results_of r run =
+      let ran = subst (λ (p : Plan). IsRunTo outcome cases p.stop_on p.threads r.finished r.ending) is run in
+      let each = ran.each in record {
+        right = record { names = each.names; better = each.better; ending = ran.last };
+        reports = each.reports;
+        calls = each.called;
+        names = each.named;
+        behaviours = each.behaviours;
+        why = ran.why;
+      }
+
+  told_so : (fs : List Finished) (before after : Option (List ℕ)) (line : Result (Unit {0}) OutFault)
+      → IsToldBy plan.tells before after (told_text plan.tells fs) line → IsToldBy options.progress before after (told_text options.progress fs) line
+  told_so fs before after line told = subst (λ (p : Plan). IsToldBy p.tells before after (told_text p.tells fs) line) is told
+
+  -- the results of a run were given, and what is to be told was
+  pub whole_done : (streams : Streams) (between : Option (List ℕ)) (r : Results) (telling : Result (Unit {0}) OutFault) (ended : Outcome)
+      → IsRunTo outcome cases plan.stop_on plan.threads r.finished r.ending
+      → IsToldBy plan.tells streams.untold between (told_text plan.tells r.finished) telling
+      → ended.status ≡ results_status r → Appends streams.before streams.after (text_of options.form r)
+      → EndsTold between streams.told r.ending telling ended.told → IsRun outline_of (IsCalled outcome) cases options streams ended
+  whole_done streams between r telling ended run told status written line = record {
+    results = r;
+    right = results_of r run;
+    status = status;
+    written = written;
+    told = record {
+      between = between;
+      telling = telling;
+      cases_told = told_so r.finished streams.untold between telling told;
+      line = line.0;
+      line_told = line.1;
+      first = line.2;
+    };
+  }
+
+  -- the results of a run were not written whole
+  pub whole_left : (streams : Streams) (r : Results) (telling : Result (Unit {0}) OutFault) (fault : RunFault) (answer : Result Outcome RunFault)
+      → IsErrAnd answer (λ f. f ≡ fault) → IsRunTo outcome cases plan.stop_on plan.threads r.finished r.ending
+      → IsToldBy plan.tells streams.untold streams.told (told_text plan.tells r.finished) telling
+      → LeavesUnwritten streams.before streams.after (text_of options.form r) fault
+      → IfErr answer (IsUnwritten outline_of (IsCalled outcome) cases options streams)
+  whole_left streams r telling fault (Ok ended) what run told left = absurd what
+  whole_left streams r telling fault (Err f) what run told left = record {
+    results = r;
+    right = results_of r run;
+    left = subst (LeavesUnwritten streams.before streams.after (text_of options.form r)) (sym what) left;
+    told = told_is_prefix options.progress streams.untold streams.told (told_text options.progress r.finished) telling
+        (told_so r.finished streams.untold streams.told telling told);
+  }
+
+  module _ (form : ReportForm) (same : live_form options.form ≡ Some form) where
+    -- a run that was written live was run, and its results were given
+    pub live_done : (streams : Streams) (between : Option (List ℕ)) (telling : Result (Unit {0}) OutFault) (ending : CampaignEnd) (ended : Outcome)
+        (answer : Result (CampaignEnd × ℕ) OutFault) → answer ≡ Ok (ending, ended.status)
+        → IsWrittenAndTold outcome cases plan.stop_on plan.threads form streams.before streams.after plan.tells streams.untold between answer telling
+        → EndsTold between streams.told ending telling ended.told → IsRun outline_of (IsCalled outcome) cases options streams ended
+    live_done streams between telling ending ended answer ok told line =
+        let was = subst (λ a. IsWrittenAndTold outcome cases plan.stop_on plan.threads form streams.before streams.after plan.tells streams.untold between a telling) ok told in
+        let r : Results = record { finished = was.finished; ending = ending } in
+        whole_done streams between r telling ended was.done.run was.told_of was.done.status_is
+        (subst (λ t. Appends streams.before streams.after t) (live_text options.form form r same) was.done.written) line
+
+    -- a run that was not written whole left a prefix
+    live_cut : (streams : Streams) (telling : Result (Unit {0}) OutFault) (why : OutFault) (fault : RunFault) → fault ≡ of_output why
+        → IsWrittenAndTold outcome cases plan.stop_on plan.threads form streams.before streams.after plan.tells streams.untold streams.told (Err why) telling
+        → IsCutShort outline_of (IsCalled outcome) cases options streams fault
+    live_cut streams telling why fault what was =
+        let part = was.part in
+        let r : Results = record { finished = was.finished; ending = part.ending } in
+        let each = (subst (λ (p : Plan). AreRun outcome cases p.stop_on p.threads was.finished) is part.each) in record {
+          results = r;
+          each = record {
+            cases_are = each.names;
+            better = each.better;
+            reports = each.reports;
+            calls = each.called;
+            names = each.named;
+            behaviours = each.behaviours;
+          };
+          left = subst (λ t. AppendsPrefix streams.before streams.after t) (live_text options.form form r same) part.left;
+          told = told_is_prefix options.progress streams.untold streams.told (told_text options.progress was.finished) telling
+              (told_so was.finished streams.untold streams.told telling was.told_of);
+          why = subst (λ f. (f ≡ F.NoMemory) ⊎ (f ≡ F.Write)) (sym what) (output_fault why);
+        }
+
+    pub cut_up : (streams : Streams) (telling : Result (Unit {0}) OutFault) (why : OutFault) (ended : Result (CampaignEnd × ℕ) OutFault) (answer : Result Outcome RunFault)
+        → ended ≡ Err why → IsErrAnd answer (λ f. f ≡ of_output why)
+        → IsWrittenAndTold outcome cases plan.stop_on plan.threads form streams.before streams.after plan.tells streams.untold streams.told ended telling
+        → IfErr answer (IsCutShort outline_of (IsCalled outcome) cases options streams)
+    cut_up streams telling why ended (Ok done) err what told = absurd what
+    cut_up streams telling why ended (Err fault) err what told =
+        live_cut streams telling why fault what
+        (subst (λ e. IsWrittenAndTold outcome cases plan.stop_on plan.threads form streams.before streams.after plan.tells streams.untold streams.told e telling) err told)

@@ -5,7 +5,7 @@ use Rattle.std.proofs.lemmas.List.Elements.{All-nil, All-cons, All-tail}
 use Rattle.std.specs.List.{AllZip}
 use Rattle.std.specs.Vec.{vec_len}
 use Rattle.std.specs.Prelude.{slice_get}
-use Rattle.std.specs.Io.KnownBytes.{Appends, Keeps}
+use Rattle.std.specs.Io.KnownBytes.{Appends}
 use Rattle.tc_stream.specs.Output.{AppendsPrefix}
 use Rattle.tc_verdict.specs.declared.verdict.Verdict.{Verdict}
 use Rattle.tc_step.specs.Steps.{ScriptView}
@@ -20,6 +20,7 @@ use Rattle.tc_exec.specs.Case.{IsCaseReport, IsMadeOf}
 use Rattle.tc_exec.proofs.Logs.{logs_by}
 use Rattle.tc_report.specs.declared.results.Finished.{Finished}
 use Rattle.tc_report.specs.declared.results.Results.{Results}
+use Rattle.tc_report.specs.Progress.{told_text}
 use Rattle.tc_campaign.specs.declared.case.Case.{Case}
 use Rattle.tc_campaign.specs.Outline.{Outline, HasNames, outline_of}
 use Rattle.tc_campaign.specs.Campaign.{IsCalled, IsOfCase, IsReported, IsRight, IsWhy}
@@ -30,9 +31,9 @@ use Rattle.tc_program.specs.declared.run.Options.{Options}
 use Rattle.tc_program.specs.declared.outcome.Outcome.{Outcome}
 use Rattle.tc_program.specs.Limits.{HasAtMost, script_limit}
 use Rattle.tc_program.specs.Give.{text_of, LeavesUnwritten}
-use Rattle.tc_program.specs.Run.{AreFinished, AreResults, IsCutShort, IsRuleOf, IsRun, IsUnwritten}
+use Rattle.tc_program.specs.Run.{AreFinished, AreResults, IsCutShort, IsRuleOf, IsRun, IsUnwritten, TellsRun}
 use Rattle.tc_program.specs.Choosing.{AreChosen}
-use Rattle.tc_program.specs.Program.{FailsRun, LeavesPart, RefusesScripted, RunsScript}
+use Rattle.tc_program.specs.Program.{AreUntouched, FailsRun, LeavesPart, RefusesScripted, RunsScript, options_of}
 use Rattle.tc_program.specs.Streams.{Streams}
 use Rattle.tc_program.specs.Scripted.{CaseView, IsScripted, names_of, scripts_of, script_outline}
 use Rattle.tc_program.specs.Inside.{IsCaseOf}
@@ -105,7 +106,7 @@ results cs ks stop_on r lawful each are =
 
 -- a run of the test cases that were made of the script of an input is a run of that script
 pub run_done : (o : Running) (input : Option (List ℕ)) (cs : List CaseView) (ks : List (Case ScriptView)) (options : Options) (streams : Streams) (r : Result Outcome RunFault)
-    → AreChosen o.choice input cs → All (λ c. IsCase c.1) cs → HasAtMost script_limit input → IsRuleOf o.stop_on options.stop_on → options.form ≡ o.form → AllZip IsCaseOf cs ks
+    → AreChosen o.choice input cs → All (λ c. IsCase c.1) cs → HasAtMost script_limit input → IsRuleOf o.stop_on options.stop_on → options ≡ options_of o options.stop_on → AllZip IsCaseOf cs ks
     → IfOk r (IsRun outline_of (IsCalled Acts) ks options streams) → IfOk r (RunsScript o input streams)
 run_done o input cs ks options streams (Err fault) spelled lawful fits named same each run = tt
 run_done o input cs ks options streams (Ok outcome) spelled lawful fits named same each run = record {
@@ -118,20 +119,20 @@ run_done o input cs ks options streams (Ok outcome) spelled lawful fits named sa
     results = run.results;
     right = results cs ks options.stop_on run.results lawful each run.right;
     status = run.status;
-    written = subst (λ f. Appends streams.before streams.after (text_of f run.results)) same run.written;
-    told = run.told;
+    written = subst (λ (p : Options). Appends streams.before streams.after (text_of p.form run.results)) same run.written;
+    told = subst (λ (p : Options). TellsRun p.progress run.results streams.untold streams.told outcome.told) same run.told;
   };
 }
 
 -- the words or the input were refused, or a part of the text of a run was left
-abbrev LeavesIn : Bool → Running → Option (List ℕ) → Option (List ℕ) → Option (List ℕ) → RunFault → Type 0
-LeavesIn live o input before after fault = (RefusesScripted o input fault × Keeps before after) ⊎ LeavesPart live o input before after fault
+abbrev LeavesIn : Bool → Running → Option (List ℕ) → Streams → RunFault → Type 0
+LeavesIn live o input streams fault = (RefusesScripted o input fault × AreUntouched streams) ⊎ LeavesPart live o input streams fault
 
-run_refused : (o : Running) (input : Option (List ℕ)) (cs : List CaseView) (ks : List (Case ScriptView)) (options : Options) (before after : Option (List ℕ)) (r : Result Outcome RunFault)
-    → AreChosen o.choice input cs → All (λ c. IsCase c.1) cs → IsRuleOf o.stop_on options.stop_on → options.form ≡ o.form → AllZip IsCaseOf cs ks
-    → IfErr r (IsUnwritten outline_of (IsCalled Acts) ks options before after) → IfErr r (LeavesIn false o input before after)
-run_refused o input cs ks options before after (Ok outcome) spelled lawful named same each run = tt
-run_refused o input cs ks options before after (Err fault) spelled lawful named same each run = inr (record {
+run_refused : (o : Running) (input : Option (List ℕ)) (cs : List CaseView) (ks : List (Case ScriptView)) (options : Options) (streams : Streams) (r : Result Outcome RunFault)
+    → AreChosen o.choice input cs → All (λ c. IsCase c.1) cs → IsRuleOf o.stop_on options.stop_on → options ≡ options_of o options.stop_on → AllZip IsCaseOf cs ks
+    → IfErr r (IsUnwritten outline_of (IsCalled Acts) ks options streams) → IfErr r (LeavesIn false o input streams)
+run_refused o input cs ks options streams (Ok outcome) spelled lawful named same each run = tt
+run_refused o input cs ks options streams (Err fault) spelled lawful named same each run = inr (record {
   cases = cs;
   rule = options.stop_on;
   chosen = spelled;
@@ -139,7 +140,8 @@ run_refused o input cs ks options before after (Err fault) spelled lawful named 
   run = record {
     results = run.results;
     right = results cs ks options.stop_on run.results lawful each run.right;
-    left = subst (λ f. LeavesUnwritten before after (text_of f run.results) fault) same run.left;
+    left = subst (λ (p : Options). LeavesUnwritten streams.before streams.after (text_of p.form run.results) fault) same run.left;
+    told = subst (λ (p : Options). AppendsPrefix streams.untold streams.told (told_text p.progress run.results.finished)) same run.told;
   };
 })
 
@@ -158,11 +160,11 @@ finished cs ks stop_on fs lawful each are =
       behaviours = are.behaviours;
     }
 
-run_cut : (o : Running) (input : Option (List ℕ)) (cs : List CaseView) (ks : List (Case ScriptView)) (options : Options) (before after : Option (List ℕ)) (r : Result Outcome RunFault)
-    → AreChosen o.choice input cs → All (λ c. IsCase c.1) cs → IsRuleOf o.stop_on options.stop_on → options.form ≡ o.form → AllZip IsCaseOf cs ks
-    → IfErr r (IsCutShort outline_of (IsCalled Acts) ks options before after) → IfErr r (LeavesIn true o input before after)
-run_cut o input cs ks options before after (Ok outcome) spelled lawful named same each run = tt
-run_cut o input cs ks options before after (Err fault) spelled lawful named same each run = inr (record {
+run_cut : (o : Running) (input : Option (List ℕ)) (cs : List CaseView) (ks : List (Case ScriptView)) (options : Options) (streams : Streams) (r : Result Outcome RunFault)
+    → AreChosen o.choice input cs → All (λ c. IsCase c.1) cs → IsRuleOf o.stop_on options.stop_on → options ≡ options_of o options.stop_on → AllZip IsCaseOf cs ks
+    → IfErr r (IsCutShort outline_of (IsCalled Acts) ks options streams) → IfErr r (LeavesIn true o input streams)
+run_cut o input cs ks options streams (Ok outcome) spelled lawful named same each run = tt
+run_cut o input cs ks options streams (Err fault) spelled lawful named same each run = inr (record {
   cases = cs;
   rule = options.stop_on;
   chosen = spelled;
@@ -170,20 +172,21 @@ run_cut o input cs ks options before after (Err fault) spelled lawful named same
   run = record {
     results = run.results;
     each = finished cs ks options.stop_on run.results.finished lawful each run.each;
-    left = subst (λ f. AppendsPrefix before after (text_of f run.results)) same run.left;
+    left = subst (λ (p : Options). AppendsPrefix streams.before streams.after (text_of p.form run.results)) same run.left;
+    told = subst (λ (p : Options). AppendsPrefix streams.untold streams.told (told_text p.progress run.results.finished)) same run.told;
     why = run.why;
   };
 })
 
-pub run_fails : (o : Running) (input : Option (List ℕ)) (cs : List CaseView) (ks : List (Case ScriptView)) (options : Options) (before after : Option (List ℕ)) (r : Result Outcome RunFault)
-    → AreChosen o.choice input cs → All (λ c. IsCase c.1) cs → IsRuleOf o.stop_on options.stop_on → options.form ≡ o.form → AllZip IsCaseOf cs ks
-    → (is_live options.form o.live ≡ false → IfErr r (IsUnwritten outline_of (IsCalled Acts) ks options before after))
-    → (is_live options.form o.live ≡ true → IfErr r (IsCutShort outline_of (IsCalled Acts) ks options before after)) → IfErr r (FailsRun o input before after)
-run_fails o input cs ks options before after r spelled lawful named same each whole cut =
-    subst (λ f. IfErr r (λ fault. (RefusesScripted o input fault × Keeps before after) ⊎ LeavesPart (is_live f o.live) o input before after fault)) same (go (is_live options.form o.live) r whole cut)
+pub run_fails : (o : Running) (input : Option (List ℕ)) (cs : List CaseView) (ks : List (Case ScriptView)) (options : Options) (streams : Streams) (r : Result Outcome RunFault)
+    → AreChosen o.choice input cs → All (λ c. IsCase c.1) cs → IsRuleOf o.stop_on options.stop_on → options ≡ options_of o options.stop_on → AllZip IsCaseOf cs ks
+    → (is_live options.form o.live ≡ false → IfErr r (IsUnwritten outline_of (IsCalled Acts) ks options streams))
+    → (is_live options.form o.live ≡ true → IfErr r (IsCutShort outline_of (IsCalled Acts) ks options streams)) → IfErr r (FailsRun o input streams)
+run_fails o input cs ks options streams r spelled lawful named same each whole cut =
+    subst (λ (p : Options). IfErr r (LeavesIn (is_live p.form o.live) o input streams)) same (go (is_live options.form o.live) r whole cut)
   where
-    go : (live : Bool) (r : Result Outcome RunFault) → (live ≡ false → IfErr r (IsUnwritten outline_of (IsCalled Acts) ks options before after))
-        → (live ≡ true → IfErr r (IsCutShort outline_of (IsCalled Acts) ks options before after))
-        → IfErr r (λ fault. (RefusesScripted o input fault × Keeps before after) ⊎ LeavesPart live o input before after fault)
-    go false r whole cut = run_refused o input cs ks options before after r spelled lawful named same each (whole refl)
-    go true r whole cut = run_cut o input cs ks options before after r spelled lawful named same each (cut refl)
+    go : (live : Bool) (r : Result Outcome RunFault) → (live ≡ false → IfErr r (IsUnwritten outline_of (IsCalled Acts) ks options streams))
+        → (live ≡ true → IfErr r (IsCutShort outline_of (IsCalled Acts) ks options streams))
+        → IfErr r (LeavesIn live o input streams)
+    go false r whole cut = run_refused o input cs ks options streams r spelled lawful named same each (whole refl)
+    go true r whole cut = run_cut o input cs ks options streams r spelled lawful named same each (cut refl)

@@ -9,9 +9,16 @@ use Rattle.tc_text.specs.declared.fault.TextFault.{TextFault}
 use Rattle.tc_text.specs.declared.fault.TextFault.TheVariants as T
 use Rattle.tc_text.specs.TextKind.{kind_text}
 use Rattle.tc_line.specs.ScriptKind.{kind_text as script_kind_text}
+use Rattle.tc_report.specs.declared.fault.OutFault.{OutFault}
+use Rattle.tc_report.specs.declared.fault.OutFault.TheVariants as O
 use Rattle.tc_program.specs.declared.fault.RunFault.{RunFault}
 use Rattle.tc_program.specs.declared.fault.RunFault.TheVariants as F
 use Rattle.tc_program.specs.Output.{WritesPrefix}
+
+-- the fault for an output that was not written whole
+abbrev pub of_output : OutFault → RunFault
+of_output O.NoMemory = F.NoMemory
+of_output O.Write = F.Write
 
 -- what a fault of a command says: of an input of at most so many bytes, and of the output
 abbrev pub Refuses : (List ℕ → TextFault → Type 0) → (List ℕ → List ℕ → ℕ → Type 0) → ℕ → Option (List ℕ) → Option (List ℕ) → Option (List ℕ) → RunFault → Type 0

@@ -17,8 +17,6 @@ use Rattle.tc_table.specs.Legal.{IsLegal}
 use Rattle.tc_history.specs.declared.header.Header.{Header}
 use Rattle.tc_history.specs.declared.read.Block.{Block}
 use Rattle.tc_history.specs.Text.{AreEntries, AreHistories, IsHistoryFault, header_of}
-use Rattle.tc_report.specs.declared.fault.OutFault.{OutFault}
-use Rattle.tc_report.specs.declared.fault.OutFault.TheVariants as O
 use Rattle.tc_report.specs.declared.results.Finished.{Finished}
 use Rattle.tc_campaign.specs.declared.case.Case.{Case}
 use Rattle.tc_program.specs.declared.fault.RunFault.{RunFault}
@@ -39,11 +37,6 @@ abbrev pub of_input : InputFault → RunFault
 of_input I.TooLong = F.TooLong
 of_input I.Read = F.Read
 of_input I.NoMemory = F.NoMemory
-
--- the fault for an output that was not written whole
-abbrev pub of_output : OutFault → RunFault
-of_output O.NoMemory = F.NoMemory
-of_output O.Write = F.Write
 
 -- the fault for a text that was refused
 abbrev pub of_text : TextFault → RunFault

@@ -1,5 +1,5 @@
 -- The run of a campaign: the words that it is asked for with, and what is written of it.
-use Rattle.std.specs.Prelude.{ℕ, ◌≡◌, ◌-◌, ◌⊎◌, List, All, Option, None, Some, length, map, take, slice_get}
+use Rattle.std.specs.Prelude.{ℕ, ◌≡◌, ◌-◌, ◌⊎◌, Bool, List, All, Option, None, Some, Result, Ok, Err, length, map, take, slice_get}
 use Rattle.std.specs.List.{AllZip}
 use Rattle.std.specs.Io.KnownBytes.{Appends}
 use Rattle.tc_stream.specs.Output.{AppendsPrefix}
@@ -8,14 +8,17 @@ use Rattle.tc_verdict.specs.Verdict.{name_of}
 use Rattle.tc_campaign.specs.Outline.{Outline}
 use Rattle.tc_campaign.specs.Campaign.{HasBehaviours, IsNamed, IsOfCase, IsReported, IsRight, IsWhy}
 use Rattle.tc_campaign.specs.Stopping.{IsBetter}
+use Rattle.tc_report.specs.declared.fault.OutFault.{OutFault}
 use Rattle.tc_report.specs.declared.results.Finished.{Finished}
 use Rattle.tc_report.specs.declared.results.Results.{Results}
 use Rattle.tc_report.specs.Ending.{abort_text}
+use Rattle.tc_report.specs.Progress.{IsToldBy, told_text}
 use Rattle.tc_report.specs.Status.{results_status}
 use Rattle.tc_program.specs.declared.run.Options.{Options}
 use Rattle.tc_program.specs.declared.fault.RunFault.{RunFault}
 use Rattle.tc_program.specs.declared.fault.RunFault.TheVariants as F
 use Rattle.tc_program.specs.declared.outcome.Outcome.{Outcome}
+use Rattle.tc_program.specs.Fault.{of_output}
 use Rattle.tc_program.specs.Give.{text_of, LeavesUnwritten}
 use Rattle.tc_program.specs.Script.{RefusesScript}
 use Rattle.tc_program.specs.Streams.{Streams}
@@ -67,6 +70,20 @@ module _ {C : Type 0} (outline : C → Outline) (called : C → Finished → Typ
     pub names : All IsNamed finished
     pub behaviours : All HasBehaviours finished
 
+-- of the telling of test cases as they finish, and of the line behind it, the first fault
+abbrev pub first_fault : Result (Unit {0}) OutFault → Result (Unit {0}) RunFault → Result (Unit {0}) RunFault
+first_fault (Ok done) line = line
+first_fault (Err fault) line = Err (of_output fault)
+
+-- by this answer a run has told what is to be told of its test cases as they finish, and behind it the line for a campaign that was aborted
+pub record TellsRun (progress : Bool) (r : Results) (untold told : Option (List ℕ)) (answer : Result (Unit {0}) RunFault) : Type 0 where
+  pub between : Option (List ℕ)
+  pub telling : Result (Unit {0}) OutFault
+  pub cases_told : IsToldBy progress untold between (told_text progress r.finished) telling
+  pub line : Result (Unit {0}) RunFault
+  pub line_told : IsToldAlways between told (abort_text r.ending) line
+  pub first : answer ≡ first_fault telling line
+
 module _ {C : Type 0} (outline : C → Outline) (called : C → Finished → Type 0) (cases : List C) (options : Options) where
   -- these cases were run under these options, and the results were given
   pub record IsRun (streams : Streams) (outcome : Outcome) : Type 0 where
@@ -76,19 +93,22 @@ module _ {C : Type 0} (outline : C → Outline) (called : C → Finished → Typ
     pub status : outcome.status ≡ results_status results
     -- their text was written in the form asked for
     pub written : Appends streams.before streams.after (text_of options.form results)
-    -- the line for a campaign that was aborted was told, as the outcome says; for another nothing was
-    pub told : IsToldAlways streams.untold streams.told (abort_text results.ending) outcome.told
+    -- what is to be told was, as the outcome says
+    pub told : TellsRun options.progress results streams.untold streams.told outcome.told
 
-  -- these cases were run under these options, and the text of the results was not written whole
-  pub record IsUnwritten (before after : Option (List ℕ)) (fault : RunFault) : Type 0 where
+  -- these cases were run under these options, and the text of the results was not written whole; what was told so far is a prefix of what is
+  -- to be told of them
+  pub record IsUnwritten (streams : Streams) (fault : RunFault) : Type 0 where
     pub results : Results
     pub right : AreResults outline called cases options.stop_on results
-    pub left : LeavesUnwritten before after (text_of options.form results) fault
+    pub left : LeavesUnwritten streams.before streams.after (text_of options.form results) fault
+    pub told : AppendsPrefix streams.untold streams.told (told_text options.progress results.finished)
 
   -- some of these cases were run under these options and written as they finished, up to a fault of the writer or the memory; what is
-  -- out is a prefix of the text of their results
-  pub record IsCutShort (before after : Option (List ℕ)) (fault : RunFault) : Type 0 where
+  -- out is a prefix of the text of their results, and what was told one of what is to be told of them
+  pub record IsCutShort (streams : Streams) (fault : RunFault) : Type 0 where
     pub results : Results
     pub each : AreFinished outline called cases options.stop_on results.finished
-    pub left : AppendsPrefix before after (text_of options.form results)
+    pub left : AppendsPrefix streams.before streams.after (text_of options.form results)
+    pub told : AppendsPrefix streams.untold streams.told (told_text options.progress results.finished)
     pub why : (fault ≡ F.NoMemory) ⊎ (fault ≡ F.Write)

@@ -1,6 +1,9 @@
 //! What the program does with a task.
 ghost use Rattle.std.specs.Prelude.{◌≡◌};
-ghost use Rattle.tc_program.specs.Program.{HasNoRule, IsCarriedOut};
+ghost use Rattle.tc_command.specs.Asked.{running_of};
+ghost use Rattle.tc_program.specs.Choosing.{IsNoShard};
+ghost use Rattle.tc_program.specs.Program.{EndsRun, HasNoRule, IsCarriedOut};
+ghost use Rattle.tc_program.specs.Run.{IsNoName};
 ghost use Rattle.tc_program.specs.Streams.{held};
 
 use crate::check::check;
@@ -16,7 +19,38 @@ use std::alloc::Global;
 use std::io::{Read, Write};
 use std::sync::Wait;
 use std::thread::Threads;
-use tc_command::Task;
+use tc_command::{RunOptions, Task};
+
+/// Runs the campaign of a script as it is asked for; a fault is told.
+#[tactic(auto, using(crate::proofs::Explaining::told_of))]
+fn carry_out_run<R, I: Read, W: Write, E: Write>(
+    rt: &R,
+    alloc: Global,
+    options: &RunOptions<'_>,
+    reader: &mut I,
+    writer: &mut W,
+    errors: &mut E,
+) -> Outcome
+where
+    R: Threads + Wait + Copy + Send + 'static,
+    ensures done { EndsRun (running_of options.now) (I.remaining reader.old)
+        (held W.contents writer.old writer.new E.contents errors.old errors.new) result }
+    ensures unruled { IsNoName (running_of options.now).stop_on → reader.new ≡ reader.old }
+    ensures unread { IsNoShard (running_of options.now).choice.shard → reader.new ≡ reader.old }
+{
+    let mut kept = Vec::new(alloc);
+    match run_script(rt, alloc, options, &mut kept, reader, writer, errors) {
+        Ok(outcome) => outcome,
+        Err(fault) => refuse_by(
+            alloc,
+            errors,
+            options.explains,
+            false,
+            kept.as_slice(),
+            fault,
+        ),
+    }
+}
 
 /// Does what the words ask for.
 #[tactic(auto, using(crate::proofs::Explaining::refusal_told, crate::proofs::Explaining::told_of))]
@@ -61,18 +95,6 @@ where
             let answer = list_script(rt, alloc, &choice, reader, writer);
             settle(alloc, errors, answer)
         }
-        Task::Run(options) => match run_script(
-            rt, alloc, &options, &mut kept, reader, writer, errors,
-        ) {
-            Ok(outcome) => outcome,
-            Err(fault) => refuse_by(
-                alloc,
-                errors,
-                options.explains,
-                false,
-                kept.as_slice(),
-                fault,
-            ),
-        },
+        Task::Run(options) => carry_out_run(rt, alloc, &options, reader, writer, errors),
     }
 }

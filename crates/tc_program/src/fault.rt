@@ -65,7 +65,7 @@ impl From<WriteFault> for RunFault {
 
 impl From<OutFault> for RunFault {
     ghost use Rattle.std.specs.Prelude.{◌≡◌};
-    ghost use Rattle.tc_program.specs.Inside.{of_output};
+    ghost use Rattle.tc_program.specs.Fault.{of_output};
 
     ghost from_gives = { λ fault r. r ≡ of_output fault };
 

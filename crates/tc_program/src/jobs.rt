@@ -97,14 +97,13 @@ where
     ensures done { IfOk result (RunsScript (running_of options.now) (I.remaining reader.old)
         (held W.contents writer.old writer.new E.contents errors.old errors.new)) }
     ensures refused { IfErr result (FailsRun (running_of options.now) (I.remaining reader.old)
-        (W.contents writer.old) (W.contents writer.new)) }
-    ensures untouched { OnErr result (errors.new ≡ errors.old) }
+        (held W.contents writer.old writer.new E.contents errors.old errors.new)) }
     ensures kept { IfErr result (KeepsText (I.remaining reader.old) kept.new.items) }
     ensures unruled { IsNoName (running_of options.now).stop_on → reader.new ≡ reader.old }
     ensures unread { IsNoShard (running_of options.now).choice.shard → (result ≡ Err NoShard) × (reader.new ≡ reader.old) }
 {
     let shard = shard_of(options.choice.shard)?;
-    let (campaign, how) = read_run(alloc, kept, reader, options.form, options.stop_on)?;
+    let (campaign, how) = read_run(alloc, kept, reader, options)?;
     let cases = chosen_cases(rt, alloc, campaign, &options.choice, shard)?;
     run_as(rt, alloc, cases, how, options.live, writer, errors)
 }

@@ -1,15 +1,17 @@
 //! Lines on standard error, and what comes of a task that is answered.
-ghost use Rattle.std.specs.Prelude.{◌≡◌, IfOk, IfErr, OnOk, List, ℕ};
+ghost use Rattle.std.specs.Prelude.{◌≡◌, IfOk, IfErr, OnOk, List, Result, ℕ};
 ghost use Rattle.tc_report.specs.Ending.{abort_text};
 ghost use Rattle.tc_program.specs.declared.fault.RunFault.TheVariants.{NoMemory as WithoutMemory};
 ghost use Rattle.tc_program.specs.Fault.{line_of};
+ghost use Rattle.tc_program.specs.declared.fault.RunFault.{RunFault as AnyFault};
+ghost use Rattle.tc_program.specs.Run.{first_fault};
 ghost use Rattle.tc_program.specs.Tell.{IsRefusal, IsSilent, IsTold, IsToldAlways, memory_line};
 
 use crate::fault::{RunFault, fault_line};
 use crate::outcome::{Outcome, REFUSED};
 use std::alloc::Global;
 use std::io::Write;
-use tc_campaign::{Results, write_abort};
+use tc_campaign::{OutFault, Results, write_abort};
 use tc_stream::write_whole;
 
 // Writes that memory was refused; that takes none.
@@ -50,6 +52,21 @@ pub fn tell_abort<E: Write>(errors: &mut E, results: &Results) -> Result<(), Run
 {
     write_abort(results, errors)?;
     Ok(())
+}
+
+/// Writes the line for a campaign that was aborted, behind what was told of its test cases; answers the first fault of both.
+pub fn tell_end<E: Write>(
+    errors: &mut E,
+    results: &Results,
+    told: Result<(), OutFault>,
+) -> Result<(), RunFault>
+    ensures { (line : Result (Unit {0}) AnyFault)
+        × IsToldAlways (E.contents errors.old) (E.contents errors.new) (abort_text results.now.ending) line
+        × (result ≡ first_fault told line) }
+{
+    let line = tell_abort(errors, results);
+    told?;
+    line
 }
 
 /// The outcome of a task that is refused: the line of the fault is written. Where it can't be, the status stays.

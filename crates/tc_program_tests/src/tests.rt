@@ -135,6 +135,7 @@ fn run_options<'a>(
             only: Vec::new(alloc),
             shard: None,
         },
+        progress: false,
         explains: false,
     }
 }

@@ -1,11 +1,12 @@
 //! Observers: what each is given, when, and what its refusal does.
-ghost use Rattle.std.specs.Prelude.{⊤, IfOk};
+ghost use Rattle.std.specs.Prelude.{⊤, All, IfOk};
 ghost use Rattle.tc_campaign.specs.Outline.{HasNames};
 
 use super::*;
 use crate::tests::checks::{holds, is};
 use std::io;
 use std::io::Write;
+use std::thread::Threads;
 use tc_stream::devices::{NarrowWriter, WriteFailure};
 
 /// Notes how many test cases have begun when each report comes, and ends the campaign at the report of this number.
@@ -164,6 +165,100 @@ b,1,0,1,0,0,0,pass
         writer.flushes.as_slice(),
         [0u64, 1, 2, 2].as_slice(),
     );
+    Ok(())
+}
+
+fn told_cases(alloc: Global, begun: &Arc<AtomicU64>) -> Result<Vec<Case>, Fail>
+    ensures { IfOk result (λ cases. All HasNames cases.items) }
+{
+    let fails: Behaviour = Box::new(alloc, |pass: Pass| sets(pass, UserVerdict::Fail))?;
+    Ok(vec![in alloc;
+        counted(alloc, "a", begun)?,
+        case(alloc, "b", fails)?,
+        counted(alloc, "c", begun)?,
+    ]?)
+}
+
+fn plan(stop_on: Option<Verdict>, tells: bool) -> Plan {
+    Plan {
+        stop_on,
+        threads: 0,
+        tells,
+    }
+}
+
+#[test]
+fn a_campaign_is_told_of(rt: HostRuntime) -> Result<(), Fail> {
+    let alloc = rt.alloc();
+    let runs = [
+        (None, true, "a pass\nb fail\nc pass\nfailed: b fail\n", 3),
+        (
+            Some(Verdict::Fail),
+            true,
+            "a pass\nb fail\nfailed: b fail\n",
+            2,
+        ),
+        (None, false, "", 3),
+    ];
+    for (stop_on, tells, wanted, finished) in runs {
+        let begun = Arc::new(alloc, AtomicU64::new(0))?;
+        let cases = told_cases(alloc, &begun)?;
+        let mut lines = Vec::new(alloc);
+        let Told { results, told } = run_campaign_told(
+            &rt,
+            alloc,
+            cases,
+            plan(stop_on, tells),
+            &mut lines,
+        );
+        is(&rt, "told", told, Ok(()));
+        is(&rt, "finished", results.finished.as_slice().len(), finished);
+        is(&rt, "lines.as_slice()", lines.as_slice(), wanted.as_bytes());
+    }
+    Ok(())
+}
+
+// The table of three test cases, written live and told of.
+fn told_table<R: Threads + Wait + Copy + Send + 'static, W: Write>(
+    rt: &R,
+    alloc: Global,
+    table: &mut W,
+    lines: &mut Vec<u8>,
+) -> Result<LiveEnd, Fail> {
+    let begun = Arc::new(alloc, AtomicU64::new(0))?;
+    let cases = told_cases(alloc, &begun)?;
+    let plan = plan(None, true);
+    Ok(run_campaign_live_told(rt, alloc, cases, plan, Form::Csv, table, lines))
+}
+
+#[test]
+fn a_live_campaign_is_told_of(rt: HostRuntime) -> Result<(), Fail> {
+    let alloc = rt.alloc();
+    let mut table = Vec::new(alloc);
+    let mut lines = Vec::new(alloc);
+    let LiveEnd { ended, told } = told_table(&rt, alloc, &mut table, &mut lines)?;
+    let (ending, status) = ended?;
+    holds(&rt, "ending", matches!(ending, CampaignEnd::Complete));
+    is(&rt, "status", status, 1);
+    is(&rt, "told", told, Ok(()));
+    let wanted = "a pass\nb fail\nc pass\nfailed: b fail\n";
+    is(&rt, "lines.as_slice()", lines.as_slice(), wanted.as_bytes());
+    Ok(())
+}
+
+// A campaign whose table can't be written is told of up to the test case at which that was found.
+#[test]
+fn a_campaign_that_is_cut_short_is_told_of(rt: HostRuntime) -> Result<(), Fail> {
+    let alloc = rt.alloc();
+    let header = "testcase,components,none,pass,inconc,fail,error,verdict\n";
+    let row = "a,1,0,1,0,0,0,pass\n";
+    let mut table = NarrowWriter::new(alloc, header.len() + row.len(), WriteFailure::Full);
+    let mut lines = Vec::new(alloc);
+    let LiveEnd { ended, told } = told_table(&rt, alloc, &mut table, &mut lines)?;
+    holds(&rt, "ended", matches!(ended, Err(OutFault::Write)));
+    is(&rt, "told", told, Ok(()));
+    let wanted = "a pass\nb fail\nfailed: b fail\n";
+    is(&rt, "lines.as_slice()", lines.as_slice(), wanted.as_bytes());
     Ok(())
 }
 

@@ -92,6 +92,33 @@ fn campaign_stops_on_fail(rt: HostRuntime) -> Result<(), Fail> {
 }
 
 #[test]
+fn test_cases_are_told_of_as_they_finish(rt: HostRuntime) -> Result<(), Fail> {
+    let told = "a pass;b fail;c pass;failed: b fail";
+    let stopped = "a pass;b fail;failed: b fail";
+    let lines = [
+        ("ttrun run --progress", REPORT, told),
+        ("ttrun run --progress --csv", WHOLE_TABLE, told),
+        ("ttrun run --live --progress --csv", WHOLE_TABLE, told),
+        ("ttrun run --history --progress --live", HISTORIES, told),
+        ("ttrun run --progress --csv --stop-on fail", TABLE, stopped),
+        (
+            "ttrun run --live --csv --progress --stop-on fail",
+            TABLE,
+            stopped,
+        ),
+    ];
+    for (line, written, told) in lines {
+        let wanted = Wanted {
+            written,
+            told,
+            status: 1,
+        };
+        answers(&rt, rt.alloc(), line, CASES, wanted)?;
+    }
+    Ok(())
+}
+
+#[test]
 fn stored_run(rt: HostRuntime) -> Result<(), Fail> {
     let wanted = Wanted {
         written: TWO_REPORTS,

@@ -38,6 +38,7 @@ fn run_empty<R: Threads + Wait + Copy + Send + 'static, E: Write>(
     let options = Options {
         stop_on: None,
         form: Form::Text,
+        progress: false,
     };
     let cases = vec![in alloc; empty(alloc, name)]?;
     Ok(run_cases(rt, alloc, cases, options, written, errors)?)
@@ -54,6 +55,7 @@ fn run_empty_live<R: Threads + Wait + Copy + Send + 'static>(
     let options = Options {
         stop_on: None,
         form: Form::Text,
+        progress: false,
     };
     let cases = vec![in alloc; empty(alloc, name)]?;
     let form = ReportForm::Text;

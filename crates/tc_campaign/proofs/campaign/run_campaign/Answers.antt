@@ -1,22 +1,22 @@
 use Rattle.tc_campaign.proofs.campaign.run_campaign.Goals as goal
 
 pub returns-clause-right : goal.returns-clause-right
-returns-clause-right g c = let run = c.keep_all.ensures in record { names = run.each.names; better = run.each.better; ending = run.last }
+returns-clause-right g c = let run = c.run_campaign_told.ensures.run in record { names = run.each.names; better = run.each.better; ending = run.last }
 
 pub returns-clause-reports : goal.returns-clause-reports
-returns-clause-reports g c = c.keep_all.ensures.each.reports
+returns-clause-reports g c = c.run_campaign_told.ensures.run.each.reports
 
 pub returns-clause-called : goal.returns-clause-called
-returns-clause-called g c = c.keep_all.ensures.each.called
+returns-clause-called g c = c.run_campaign_told.ensures.run.each.called
 
 pub returns-clause-names : goal.returns-clause-names
-returns-clause-names g c = c.keep_all.ensures.each.named
+returns-clause-names g c = c.run_campaign_told.ensures.run.each.named
 
 pub returns-clause-threads : goal.returns-clause-threads
-returns-clause-threads g c = c.keep_all.ensures.each.threads_are
+returns-clause-threads g c = c.run_campaign_told.ensures.run.each.threads_are
 
 pub returns-clause-behaviours : goal.returns-clause-behaviours
-returns-clause-behaviours g c = c.keep_all.ensures.each.behaviours
+returns-clause-behaviours g c = c.run_campaign_told.ensures.run.each.behaviours
 
 pub returns-clause-why : goal.returns-clause-why
-returns-clause-why g c = c.keep_all.ensures.why
+returns-clause-why g c = c.run_campaign_told.ensures.run.why

@@ -1,42 +1,22 @@
 use Rattle.std.proofs.Common.{◌∙◌}
-use Rattle.tc_campaign.proofs.Pieces.{at_case, at_closing, at_end, at_opening, name_of, named_so, named_still, on_err, state_of}
+use Rattle.tc_campaign.proofs.Pieces.{at_opening, closed, name_of, named_still, state_of, writes_nothing}
 use Rattle.tc_campaign.proofs.live.write_run.Goals as goal
 
-pub returns-in_err-begin-clause-part : goal.returns-in_err-begin-clause-part
-returns-in_err-begin-clause-part g c = on_err _ (at_opening _ _ _ _ _ _ _ _ c.in_err-begin.ensures.part)
+pub returns-in-Err-clause-run : goal.returns-in-Err-clause-run
+returns-in-Err-clause-run g c = at_opening _ _ _ _ _ _ _ c.in-Err.fault _ _ c.in-Err.ensures.part
 
-pub returns-in_default-clause-part : goal.returns-in_default-clause-part
-returns-in_default-clause-part g c =
-    let at = c.in_ok-begin.ensures in
-    at_case _ _ _ _ (state_of g.W.Write.contents) name_of _ _ c.begin.new.self c.run_campaign_with.new.observer
-    at.form at.all (at.tally ∙ c.requires.tally) (at.worst ∙ c.requires.worst) c.in_default.ensures.cut
-
-pub returns-in_default-clause-same : goal.returns-in_default-clause-same
-returns-in_default-clause-same g c =
-    let at = c.in_ok-begin.ensures in
-    named_still _ _ _ _ (state_of g.W.Write.contents) name_of _ _ c.begin.new.self c.run_campaign_with.new.observer
-    at.form at.all (at.tally ∙ c.requires.tally) (at.worst ∙ c.requires.worst) c.in_default.ensures.cut ∙ at.same
-
-pub returns-in_err-status-clause-part : goal.returns-in_err-status-clause-part
-returns-in_err-status-clause-part g c =
-    let at = c.in_ok-begin.ensures in
-    on_err _ (at_closing _ _ _ _ (state_of g.W.Write.contents) name_of _ _ c.begin.new.self c.run_campaign_with.new.observer
-    at.form at.all (at.tally ∙ c.requires.tally) (at.worst ∙ c.requires.worst) _ c.in-Some.ensures.ended _ _ c.in_err-status.ensures.part)
-
-pub returns-in_err-status-clause-same : goal.returns-in_err-status-clause-same
-returns-in_err-status-clause-same g c =
-    let at = c.in_ok-begin.ensures in
-    c.end.ensures.same ∙ named_so _ _ _ _ (state_of g.W.Write.contents) name_of _ _ c.begin.new.self c.run_campaign_with.new.observer
-    at.form at.all (at.tally ∙ c.requires.tally) (at.worst ∙ c.requires.worst) _ c.in-Some.ensures.ended ∙ at.same
-
-pub returns-clause-done : goal.returns-clause-done
-returns-clause-done g c =
-    let at = c.in_ok-begin.ensures in
-    at_end _ _ _ _ (state_of g.W.Write.contents) name_of _ _ c.begin.new.self c.run_campaign_with.new.observer
-    at.form at.all (at.tally ∙ c.requires.tally) (at.worst ∙ c.requires.worst) _ c.in-Some.ensures.ended _ _ c.in_ok-status.ensures.all c.in_ok-status.ensures.status
+pub returns-clause-run : goal.returns-clause-run
+returns-clause-run g c =
+    let at = c.in_default.ensures in
+    let was = c.run_told-ending.ensures in
+    closed _ _ _ _ (state_of g.W.Write.contents) name_of _ _ c.begin.new.self c.run_told-ending.new.observer
+    at.form at.all (at.tally ∙ c.requires.tally) (at.worst ∙ c.requires.worst) was.finished _ _ _ _ was.told_of _ _ _ was.given
+    c.close-ended.ensures.ended c.close-ended.ensures.all c.close-ended.ensures.status
+    (writes_nothing g.W.Write.contents _ _ _ c.close-ended.ensures.cut) c.close-ended.ensures.part
 
 pub returns-clause-same : goal.returns-clause-same
 returns-clause-same g c =
-    let at = c.in_ok-begin.ensures in
-    c.end.ensures.same ∙ named_so _ _ _ _ (state_of g.W.Write.contents) name_of _ _ c.begin.new.self c.run_campaign_with.new.observer
-    at.form at.all (at.tally ∙ c.requires.tally) (at.worst ∙ c.requires.worst) _ c.in-Some.ensures.ended ∙ at.same
+    let at = c.in_default.ensures in
+    let was = c.run_told-ending.ensures in
+    c.close-ended.ensures.same ∙ named_still _ _ _ _ (state_of g.W.Write.contents) name_of _ _ c.begin.new.self c.run_told-ending.new.observer
+    at.form at.all (at.tally ∙ c.requires.tally) (at.worst ∙ c.requires.worst) was.finished _ was.given ∙ at.same

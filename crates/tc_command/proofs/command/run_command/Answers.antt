@@ -13,11 +13,12 @@ returns-clause-options c =
     let two = c.in_ok-arg-2.ensures.shape c.flag-2.ensures.local ∙ ap₂ with_rule one c.flag-2.ensures.rule in
     let three = c.in_ok-arg-3.ensures.shape c.flag-3.ensures.local ∙ ap₂ with_rule two c.flag-3.ensures.rule in
     let four = c.in_ok-arg-4.ensures.shape c.flag-4.ensures.local ∙ ap₂ with_rule three c.flag-4.ensures.rule in
-    let five = c.in_ok-arg-5.ensures.shape c.option.ensures.local ∙ ap₂ with_rule four c.option.ensures.rule in
-    let six = c.in_ok-arg-6.ensures.shape c.flag-5.ensures.local ∙ ap₂ with_rule five c.flag-5.ensures.rule in
-    let seven = c.in_ok-arg-7.ensures.shape c.only_option.ensures.local ∙ ap₂ with_rule six c.only_option.ensures.rule in
-    let eight = c.in_ok-arg-8.ensures.shape c.option-2.ensures.local ∙ ap₂ with_rule seven c.option-2.ensures.rule in
-    IfOk-weaker c.arg-9.result _ _ (λ r adds. adds.shape c.explain_option.ensures.local ∙ ap₂ with_rule eight c.explain_option.ensures.rule) c.arg-9.ensures
+    let five = c.in_ok-arg-5.ensures.shape c.flag-5.ensures.local ∙ ap₂ with_rule four c.flag-5.ensures.rule in
+    let six = c.in_ok-arg-6.ensures.shape c.option.ensures.local ∙ ap₂ with_rule five c.option.ensures.rule in
+    let seven = c.in_ok-arg-7.ensures.shape c.flag-6.ensures.local ∙ ap₂ with_rule six c.flag-6.ensures.rule in
+    let eight = c.in_ok-arg-8.ensures.shape c.only_option.ensures.local ∙ ap₂ with_rule seven c.only_option.ensures.rule in
+    let nine = c.in_ok-arg-9.ensures.shape c.option-2.ensures.local ∙ ap₂ with_rule eight c.option-2.ensures.rule in
+    IfOk-weaker c.arg-10.result _ _ (λ r adds. adds.shape c.explain_option.ensures.local ∙ ap₂ with_rule nine c.explain_option.ensures.rule) c.arg-10.ensures
 
 pub returns-clause-local : goal.returns-clause-local
 returns-clause-local c =
@@ -27,8 +28,9 @@ returns-clause-local c =
     let two = c.in_ok-arg-2.ensures.globals ∙ ap₂ ◌||◌ one c.flag-2.ensures.local in
     let three = c.in_ok-arg-3.ensures.globals ∙ ap₂ ◌||◌ two c.flag-3.ensures.local in
     let four = c.in_ok-arg-4.ensures.globals ∙ ap₂ ◌||◌ three c.flag-4.ensures.local in
-    let five = c.in_ok-arg-5.ensures.globals ∙ ap₂ ◌||◌ four c.option.ensures.local in
-    let six = c.in_ok-arg-6.ensures.globals ∙ ap₂ ◌||◌ five c.flag-5.ensures.local in
-    let seven = c.in_ok-arg-7.ensures.globals ∙ ap₂ ◌||◌ six c.only_option.ensures.local in
-    let eight = c.in_ok-arg-8.ensures.globals ∙ ap₂ ◌||◌ seven c.option-2.ensures.local in
-    IfOk-weaker c.arg-9.result _ _ (λ r adds. adds.globals ∙ ap₂ ◌||◌ eight c.explain_option.ensures.local) c.arg-9.ensures
+    let five = c.in_ok-arg-5.ensures.globals ∙ ap₂ ◌||◌ four c.flag-5.ensures.local in
+    let six = c.in_ok-arg-6.ensures.globals ∙ ap₂ ◌||◌ five c.option.ensures.local in
+    let seven = c.in_ok-arg-7.ensures.globals ∙ ap₂ ◌||◌ six c.flag-6.ensures.local in
+    let eight = c.in_ok-arg-8.ensures.globals ∙ ap₂ ◌||◌ seven c.only_option.ensures.local in
+    let nine = c.in_ok-arg-9.ensures.globals ∙ ap₂ ◌||◌ eight c.option-2.ensures.local in
+    IfOk-weaker c.arg-10.result _ _ (λ r adds. adds.globals ∙ ap₂ ◌||◌ nine c.explain_option.ensures.local) c.arg-10.ensures

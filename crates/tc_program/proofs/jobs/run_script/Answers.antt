@@ -24,7 +24,7 @@ returns-clause-done g c =
     } in
     run_done o _ cs c.in_ok-cases.cases.items c.in_ok-campaign.how _ c.run_as.result are
     (all_chosen (λ t. IsCase t.1) script_name o.choice.only c.in_ok-shard.shard c.in_ok-campaign.campaign c.in_ok-campaign.ensures.lawful)
-    c.in_ok-campaign.ensures.fits c.in_ok-campaign.ensures.rule c.in_ok-campaign.ensures.form c.in_ok-cases.ensures.cases c.run_as.ensures.done
+    c.in_ok-campaign.ensures.fits c.in_ok-campaign.ensures.rule c.in_ok-campaign.ensures.options c.in_ok-cases.ensures.cases c.run_as.ensures.done
 
 pub returns-clause-refused : goal.returns-clause-refused
 returns-clause-refused g c =
@@ -38,6 +38,6 @@ returns-clause-refused g c =
       named = c.in_ok-cases.ensures.named;
       are = refl;
     } in
-    run_fails o _ cs c.in_ok-cases.cases.items c.in_ok-campaign.how _ _ c.run_as.result are
+    run_fails o _ cs c.in_ok-cases.cases.items c.in_ok-campaign.how _ c.run_as.result are
     (all_chosen (λ t. IsCase t.1) script_name o.choice.only c.in_ok-shard.shard c.in_ok-campaign.campaign c.in_ok-campaign.ensures.lawful)
-    c.in_ok-campaign.ensures.rule c.in_ok-campaign.ensures.form c.in_ok-cases.ensures.cases c.run_as.ensures.whole c.run_as.ensures.cut
+    c.in_ok-campaign.ensures.rule c.in_ok-campaign.ensures.options c.in_ok-cases.ensures.cases c.run_as.ensures.whole c.run_as.ensures.cut

@@ -1,11 +1,13 @@
+use Rattle.tc_program.proofs.Running.{whole_done, whole_left}
 use Rattle.tc_program.proofs.run.run_cases.Goals as goal
 
 pub returns-clause-done : goal.returns-clause-done
 returns-clause-done g c =
-    let e = c.run_campaign-results.ensures in record {
-      results = c.run_campaign-results.result;
-      right = record { right = e.right; reports = e.reports; calls = e.called; names = e.names; behaviours = e.behaviours; why = e.why };
-      status = c.in_ok-status.ensures.status;
-      written = c.in_ok-status.ensures.done;
-      told = c.tell_abort-told.ensures;
-    }
+    let ran = c.run_campaign_told-results in
+    whole_done _ _ _ c.plan_of.result _ c.plan_of.ensures _ _ ran.result.results ran.result.told _ ran.ensures.run ran.ensures.told
+    c.in_ok-status.ensures.status c.in_ok-status.ensures.done c.tell_end-told.ensures
+
+pub returns-in_err-status-clause-refused : goal.returns-in_err-status-clause-refused
+returns-in_err-status-clause-refused g c =
+    let ran = c.run_campaign_told-results in
+    whole_left _ _ _ c.plan_of.result _ c.plan_of.ensures _ ran.result.results ran.result.told _ c.from_residual.result c.from_residual.ensures.1 ran.ensures.run ran.ensures.told c.in_err-status.ensures.refused

@@ -1,8 +1,13 @@
+use Rattle.std.proofs.Common.{Err}
 use Rattle.tc_program.proofs.Running.{cut_up, live_done}
 use Rattle.tc_program.proofs.run.run_cases_live.Goals as goal
 
-pub returns-clause-done : goal.returns-clause-done
-returns-clause-done g c = live_done _ _ _ _ _ _ _ _ c.requires.form c.in_ok-ending.ensures.done c.tell_abort-told.ensures
+pub returns-in-Ok-clause-done : goal.returns-in-Ok-clause-done
+returns-in-Ok-clause-done g c =
+    let ran = c.run_campaign_live_told-ended in
+    live_done _ _ _ c.plan_of.result _ c.plan_of.ensures _ c.requires.form _ _ ran.result.told _ _ _ c.in-Ok.is ran.ensures c.tell_end-told.ensures
 
-pub returns-in_err-ending-clause-refused : goal.returns-in_err-ending-clause-refused
-returns-in_err-ending-clause-refused g c = cut_up _ _ _ _ _ _ _ _ c.from_residual.result c.requires.form c.from_residual.ensures.1 c.in_err-ending.ensures.part
+pub returns-in-Err-clause-refused : goal.returns-in-Err-clause-refused
+returns-in-Err-clause-refused g c =
+    let ran = c.run_campaign_live_told-ended in
+    cut_up _ _ _ c.plan_of.result _ c.plan_of.ensures _ c.requires.form _ ran.result.told c.in-Err.fault _ (Err c.from.result) c.in-Err.is c.from.ensures ran.ensures
