@@ -275,20 +275,29 @@ fn the_last_run_waits_for_its_start(rt: HostRuntime) -> Result<(), Fail> {
     Ok(())
 }
 
-/// Who waits for a start wakes by the end of the case too.
+/// All who wait for a start wake by the end of the case too.
 #[test]
 fn the_end_wakes_the_unstarted(rt: HostRuntime) -> Result<(), Fail> {
     let alloc = rt.alloc();
-    let (_, main, tickets) = open_case(alloc, 2)?;
+    let (_, main, tickets) = open_case(alloc, 3)?;
     let mut tickets = tickets;
     let woken = Arc::new(alloc, AtomicBool::new(false))?;
     let (flag, ticket) = (Arc::try_clone(&woken)?, tickets.remove(0));
     let waiter = thread::spawn(&rt, move || ends_unstarted(&rt, ticket, &flag))?;
+    let too = Arc::new(alloc, AtomicBool::new(false))?;
+    let (flag, ticket) = (Arc::try_clone(&too)?, tickets.remove(0));
+    let last = thread::spawn(&rt, move || ends_unstarted(&rt, ticket, &flag))?;
     pause(&rt);
-    holds(&rt, "the case goes on", !woken.load(Ordering::SeqCst));
+    holds(
+        &rt,
+        "the case goes on",
+        !woken.load(Ordering::SeqCst) && !too.load(Ordering::SeqCst),
+    );
     main.leave(&rt);
     holds(&rt, "the end wakes nobody", is_set_soon(&rt, &woken));
+    holds(&rt, "the end wakes one alone", is_set_soon(&rt, &too));
     holds(&rt, "waiter.join(rt)", waiter.join(&rt));
+    holds(&rt, "last.join(rt)", last.join(&rt));
     Ok(())
 }
 
