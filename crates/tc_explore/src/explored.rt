@@ -5,7 +5,6 @@ ghost use Rattle.tc_explore.specs.Found.{AreWitnesses, AreLegal, AreReached, IsO
 ghost use Rattle.tc_explore.specs.Course.{room_of};
 ghost use Rattle.tc_explore.specs.Inside.Seen.{IsNoted};
 ghost use Rattle.tc_explore.specs.Laws.{AllFound};
-ghost use Rattle.tc_explore.specs.declared.explored.TheConstants.{KEPT};
 ghost use Rattle.tc_explore.specs.declared.explored.Ending.TheVariants.{Complete, Undecided};
 
 use crate::findings::{Findings, no_findings};
@@ -68,7 +67,7 @@ fn room_for_one(scripts: &[Script]) -> Option<usize>
 #[tactic(auto, using(crate::proofs::Room::room_rules))]
 fn full_limit(scripts: &[Script], limit: usize) -> usize
     ensures within { result ≤ limit }
-    ensures kept { result * room_of scripts.now ≤ KEPT }
+    ensures kept { result * room_of scripts.now ≤ 2000000 }
 {
     let Some(entries) = room_for_one(scripts) else {
         return 0;

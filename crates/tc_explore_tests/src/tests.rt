@@ -303,6 +303,32 @@ fn without_behaviours_nothing_is_decided(rt: HostRuntime) -> Result<(), Fail> {
     Ok(())
 }
 
+// A search that comes to its end does so with as many states as it tells, and not with one less.
+#[test]
+fn a_complete_search_tells_its_states(rt: HostRuntime) -> Result<(), Fail> {
+    let alloc = rt.alloc();
+    let scripts = vec![in alloc;
+        leading(&rt, alloc, Step::GetVerdict)?,
+        setting(&rt, alloc, UserVerdict::Fail)?,
+    ]?;
+    let explored = explore(alloc, scripts.as_slice(), MANY)?;
+    let states = explored.states;
+    assert!(rt; explored.ending == Ending::Complete && 1 <= states);
+    let within = explore(alloc, scripts.as_slice(), states)?;
+    holds(
+        &rt,
+        "within.ending == Ending::Complete",
+        within.ending == Ending::Complete,
+    );
+    let below = explore(alloc, scripts.as_slice(), states - 1)?;
+    holds(
+        &rt,
+        "below.ending != Ending::Complete",
+        below.ending != Ending::Complete,
+    );
+    Ok(())
+}
+
 // The line that is told of a test case t, and its status.
 fn told(alloc: Global, explored: &Explored) -> Result<(String, u8), Fail> {
     let name = Name::read("t").ok_or("a name")?;
