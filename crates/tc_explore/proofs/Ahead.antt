@@ -296,7 +296,7 @@ ahead_turn scripts p q e cp a s own = record {
 
 -- ---- the same entry of both
 
-not_started : (n : ℕ) (past : List Entry) (e : Entry) (c : ℕ) (r : Run) → IsLegal n (e ∷ past) → phase past c ≡ P.Running r → start_in e c ≡ None
+pub not_started : (n : ℕ) (past : List Entry) (e : Entry) (c : ℕ) (r : Run) → IsLegal n (e ∷ past) → phase past c ≡ P.Running r → start_in e c ≡ None
 not_started n past e c r legal running = by_some (start_in e c) refl
   where
     by_some : (o : Option Run) → start_in e c ≡ o → o ≡ None

@@ -1,5 +1,5 @@
 -- Histories that are alike are answered alike, but for questions, and are alike after the same entry.
-use Rattle.std.proofs.Common.{ℕ, ◌≡◌, ◌==◌, ◌||◌, not, if◌then◌else◌, nat_lt, Bool, true, false, Option, Some, None, is_some, List, [], ◌∷◌, ◌++◌, length, drop, map, refl, ap, sym, ◌∙◌, arith}
+use Rattle.std.proofs.Common.{ℕ, ◌≡◌, ◌==◌, ◌&&◌, ◌||◌, not, if◌then◌else◌, nat_lt, Bool, true, false, Option, Some, None, is_some, List, [], ◌∷◌, ◌++◌, length, drop, map, refl, ap, sym, ◌∙◌, arith}
 use Rattle.std.proofs.lemmas.Bool.Decides.{nat_tests}
 use Rattle.std.specs.List.{list_any, list_all}
 use Rattle.tc_verdict.specs.declared.run.Run.{Run}
@@ -11,6 +11,7 @@ use Rattle.tc_entry.specs.declared.comp.Comp.{Comp}
 use Rattle.tc_entry.specs.declared.entry.Entry.{Entry}
 use Rattle.tc_entry.specs.declared.op.Op.{Op}
 use Rattle.tc_entry.specs.declared.op.Op.TheVariants as O
+use Rattle.tc_entry.specs.declared.op.Group.TheVariants as G
 use Rattle.tc_entry.specs.declared.op.Target.{Target}
 use Rattle.tc_entry.specs.declared.op.Target.TheVariants as T
 use Rattle.tc_entry.specs.declared.phase.Phase.{Phase}
@@ -20,7 +21,7 @@ use Rattle.tc_entry.specs.declared.reply.Reply.TheVariants as R
 use Rattle.tc_table.specs.declared.awaited.Awaited.{Awaited}
 use Rattle.tc_table.specs.declared.component_state.ComponentState.{ComponentState}
 use Rattle.tc_table.specs.History.{comps, comp_of, ptcs, exists, is_in, is_comp, is_alive_type, created, started_on, first_some, add_new, halts, kills}
-use Rattle.tc_table.specs.Phases.{phase, start_in}
+use Rattle.tc_table.specs.Phases.{phase, phase_if_any, start_in}
 use Rattle.tc_table.specs.Status.{done, killed, is_running, is_killed, is_done}
 use Rattle.tc_table.specs.Local.{local, overall, gives, verdicts_of}
 use Rattle.tc_table.specs.Waiting.{holds}
@@ -37,6 +38,7 @@ use Rattle.tc_table.proofs.Over.{on_existing, stays}
 use Rattle.tc_table.proofs.LawsOfHistories.{killed_was_halted}
 use Rattle.tc_table.proofs.Deciding.{self_equal, equal_if, if_same}
 use Rattle.tc_explore.specs.Inside.Alike.{IsAlike}
+use Rattle.tc_explore.specs.Inside.Simulation.{is_gone, is_late}
 
 -- ---- what is the same
 
@@ -107,6 +109,21 @@ module _ {p q : List Entry} where
   pub fault_alike : IsAlike p q → (n b : ℕ) (op : Op) → fault n p b op ≡ fault n q b op
   unfolding fault
   fault_alike s n b op = rw (all_exist_same p q (names op) s.comps_same, special_same s n op)
+
+  exists_same : IsAlike p q → (c : ℕ) → exists p c ≡ exists q c
+  unfolding exists
+  exists_same s c = ap (is_in c) s.comps_same
+
+  any_phase_same : IsAlike p q → (c : ℕ) → phase_if_any p c ≡ phase_if_any q c
+  unfolding phase_if_any
+  any_phase_same s c = rw (exists_same s c, s.phase_same c)
+
+  pub late_alike : IsAlike p q → (op : Op) → is_late p op ≡ is_late q op
+  late_alike s (O.Stop (G.One c)) = ap (λ o. not (c.0 == 0) && is_gone o) (any_phase_same s c.0)
+  late_alike s (O.Kill (G.One c)) = ap (λ o. not (c.0 == 0) && is_gone o) (any_phase_same s c.0)
+  late_alike s (O.Stop G.All) = refl
+  late_alike s (O.Kill G.All) = refl
+  late_alike s _ = refl
 
 -- the reply to the call goes by what is alike alone
 abbrev pub is_plain_call : Op → Bool
@@ -312,7 +329,7 @@ none_killed past e u c = by_test (kills e c) refl
     by_test false k = refl
     by_test true k = let h = kill_halts (comp_of past e.caller.0) e c k in let j = u.no_halt c in absurd cc
 
-kept_by : (t : Bool) (ph : Phase) → (t ≡ false → ph ≡ P.Inactive) → (if t then ph else P.Inactive) ≡ ph
+pub kept_by : (t : Bool) (ph : Phase) → (t ≡ false → ph ≡ P.Inactive) → (if t then ph else P.Inactive) ≡ ph
 kept_by true ph h = refl
 kept_by false ph h = sym (h refl)
 

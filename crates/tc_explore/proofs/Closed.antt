@@ -16,7 +16,7 @@ use Rattle.tc_explore.specs.declared.witness.Witness.{Witness}
 use Rattle.tc_explore.specs.Told.{is_found}
 use Rattle.tc_explore.specs.Course.{goes_on, turn, taken, IsTurn, IsCourse}
 use Rattle.tc_explore.specs.Found.{IsOn, CannotGo}
-use Rattle.tc_explore.specs.Inside.Simulation.{is_quiet, IsCovered, GoesOn, IsClosedFor}
+use Rattle.tc_explore.specs.Inside.Simulation.{is_spent, IsCovered, GoesOn, IsClosedFor}
 use Rattle.tc_explore.specs.Inside.Seen.{IsSeen, IsLonger, StandsOn, IsAfter, IsRunClosed}
 use Rattle.tc_explore.proofs.Seeing.{closed_for_longer, covered_by}
 
@@ -86,7 +86,7 @@ run_parked scripts states found n q run op t off = λ e own h on.
     absurd cc
 
 pub run_closed : (scripts : List ScriptView) (states : List Case) (found : List Witness) (n : ℕ) (q : List Entry) (run : Run) (op : Op) → IsTurn scripts q (taken n q run op) →
-    (is_fault (answer n q run.0 op) ≡ false → is_quiet (overall q) op ≡ false) → IsAfter scripts states found q (taken n q run op) → IsRunClosed scripts states found q run.0
+    (is_fault (answer n q run.0 op) ≡ false → is_spent q op ≡ false) → IsAfter scripts states found q (taken n q run op) → IsRunClosed scripts states found q run.0
 run_closed scripts states found n q run op t loud after = λ e own h on.
     let same : taken n q run op ≡ e = sym (same_entry scripts q e (taken n q run op) h t own) in
     subst (λ x. IsClosedFor scripts (IsSeen states) found q x) same (record { loud = loud; over = after.over; more = after.more })

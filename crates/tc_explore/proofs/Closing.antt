@@ -18,7 +18,7 @@ use Rattle.tc_entry.specs.declared.reply.Fault.TheVariants as F
 use Rattle.tc_entry.specs.Reply.{is_ended, is_fault}
 use Rattle.tc_step.specs.Steps.{ScriptView}
 use Rattle.tc_table.specs.declared.awaited.Awaited.{Awaited}
-use Rattle.tc_table.specs.History.{comp_of, comps, exists, started_on, ends_case, is_over}
+use Rattle.tc_table.specs.History.{comp_of, comps, exists, is_in, created, started_on, ends_case, is_over}
 use Rattle.tc_table.specs.Phases.{phase}
 use Rattle.tc_table.specs.Local.{overall}
 use Rattle.tc_table.specs.Waiting.{holds, waiting, waits_in_vain, is_still, is_stuck, awaited}
@@ -33,14 +33,15 @@ use Rattle.tc_explore.specs.declared.witness.Witness.{Witness}
 use Rattle.tc_explore.specs.Course.{stand, goes_on, after_own, after_other_by, is_wake, is_idle_by, wake_or, wake_if, call_of, turn, steps_in, script_of, IsTurn, IsCourse, IsComplete}
 use Rattle.tc_explore.specs.Told.{is_found}
 use Rattle.tc_explore.specs.Inside.Alike.{IsAlike}
-use Rattle.tc_explore.specs.Inside.Simulation.{is_quiet, IsQuietAt, call_at, IsWakeOf, IsBefore, IsParkedAt, IsFollowed, IsLastAt, IsLeaving, IsEnding, IsAhead, IsFor, IsCovered, GoesOn, IsClosed}
+use Rattle.tc_explore.specs.Inside.Simulation.{is_quiet, is_late, is_spent, IsQuietAt, call_at, IsWakeOf, IsBefore, IsParkedAt, IsFollowed, IsLastAt, IsLeaving, IsEnding, IsAhead, IsFor, IsCovered, GoesOn, IsClosed}
 use Rattle.tc_explore.proofs.Legality.{course_legal}
 use Rattle.tc_explore.proofs.Alike.{ChangesNothing, alike_sym, alike_unchanged, active_alike, holds_alike, is_plain_call, overall_next}
 use Rattle.tc_explore.proofs.Ahead.{holds_ahead, ending_active, ended_inactive, not_ending_run, active_back, active_forth, none_too, some_too, fault_ahead, answer_ahead, ahead_self, ahead_after, ahead_turn, ahead_step}
 use Rattle.tc_explore.proofs.Leaving.{Ends, running_on, ends_no_case, after_end}
 use Rattle.tc_explore.proofs.Standings.{HasTurn, has_turn, turn_of, never_wake, stand_own, stand_comp, stand_unstarted, unstarted, waiting_wake, wake_after_other, run_in_range}
-use Rattle.tc_explore.proofs.Simulation.{unchanged_ended, unchanged_quiet, unchanged_wait, unchanged_wake, some_if, stutter, both}
-use Rattle.tc_explore.proofs.Places.{not_ending, quiet_sets_no_wake, quiet_no_wake, behind, parked, leaving_on, together, woken, followed_self, keeps_quiet}
+use Rattle.tc_explore.proofs.Late.{IsGone, late_for, late_reply, late_halts, halt_not_ending, other_than_gone, ahead_late}
+use Rattle.tc_explore.proofs.Simulation.{unchanged_ended, unchanged_quiet, unchanged_wait, unchanged_wake, some_if, stay, stutter, both}
+use Rattle.tc_explore.proofs.Places.{not_ending, quiet_sets_no_wake, quiet_no_wake, quiet_or_late, loud_not_quiet, behind, parked, leaving_on, together, woken, followed_self, keeps_quiet}
 
 -- what is found of a course, or stands for it
 pub record IsTold (scripts : List ScriptView) (Seen : List Entry → Type 0) (found : List Witness) (p : List Entry) : Type 0 where
@@ -98,6 +99,15 @@ quiet_reply w past b (O.Alive t) c on h = (refl, refl)
 quiet_reply w past b (O.Done t) c on h = (refl, refl)
 quiet_reply w past b (O.Killed t) c on h = (refl, refl)
 quiet_reply w past b _ c on h = absurd cc
+
+-- so is one that changes nothing
+spent_reply : (q past : List Entry) (b : ℕ) (op : Op) (c : Comp) → comp_of past b ≡ Some c → is_spent q op ≡ true →
+    (goes_on (plain_answer past b op) ≡ true) × (is_fault (plain_answer past b op) ≡ false)
+spent_reply q past b op c on h = by_kind (quiet_or_late q op h)
+  where
+    by_kind : (is_quiet (overall q) op ≡ true) ⊎ (is_late q op ≡ true) → (goes_on (plain_answer past b op) ≡ true) × (is_fault (plain_answer past b op) ≡ false)
+    by_kind (inl quiet) = quiet_reply (overall q) past b op c on quiet
+    by_kind (inr late) = rw (late_reply q past b op late) (refl, refl)
 
 -- only a Wait is parked, or a Wake
 parks_wait : (w : Verdict) (past : List Entry) (b : ℕ) (op : Op) → is_wake op ≡ false → is_quiet w op ≡ false → plain_answer past b op ≡ R.Parked → (k : Bool) × (t : Target) × (op ≡ O.Wait k t)
@@ -202,11 +212,13 @@ module _ {scripts : List ScriptView} {p q : List Entry} where
       absurd cc
 
 module _ {scripts : List ScriptView} {Seen : List Entry → Type 0} {found : List Witness} {p q : List Entry} {e : Entry} where
-  told_stutter : AtTurn scripts Seen found p q e → ChangesNothing p e → IsFor scripts q (e ∷ p) → IsTold scripts Seen found (e ∷ p)
-  told_stutter h u f =
-      let none : ends_case e ≡ false = or_left (ends_case e) _ (u.no_halt 0) in
+  told_stay : AtTurn scripts Seen found p q e → ends_case e ≡ false → IsFor scripts q (e ∷ p) → IsTold scripts Seen found (e ∷ p)
+  told_stay h none f =
       let on : is_over (e ∷ p) ≡ false = rw (none, h.going) refl in
       record { over = λ o. absurd cc; going = λ o. (q, h.closed, f) }
+
+  told_stutter : AtTurn scripts Seen found p q e → ChangesNothing p e → IsFor scripts q (e ∷ p) → IsTold scripts Seen found (e ∷ p)
+  told_stutter h u f = told_stay h (or_left (ends_case e) _ (u.no_halt 0)) f
 
   -- a turn of q that p has too
   told_both : AtTurn scripts Seen found p q e → (d : Entry) → IsTurn scripts q d → d.caller.0 < length scripts → goes_on d.reply ≡ true →
@@ -239,13 +251,17 @@ module _ {scripts : List ScriptView} {Seen : List Entry → Type 0} {found : Lis
       let over_e : is_over (e ∷ p) ≡ true = rw ends_e refl in
       told_both h d turn (rw callers within) (rw rd refl) (vp ∙ (ap (λ w. worse w V.Error) h.for.ahead.overall_same ∙ sym vq)) (ends_e ∙ sym ends_d) (λ o. absurd cc)
 
+  -- p makes a call that is no error after q
+  no_fault_back : AtTurn scripts Seen found p q e → fault (length scripts) q e.caller.0 e.op ≡ None → fault (length scripts) p e.caller.0 e.op ≡ None
+  no_fault_back h none =
+      none_too (fault (length scripts) q e.caller.0 e.op) (fault (length scripts) p e.caller.0 e.op) (sym (fault_ahead h.for.ahead (length scripts) e.caller.0 e.op)) none
+
   -- a quiet call of p that q has made
-  told_behind : (me : Comp) → AtTurn scripts Seen found p q e → IsGoing scripts p q e me → (stand p e.caller.0).wake ≡ None → (stand p e.caller.0).called < (stand q e.caller.0).called →
-      IsQuietAt (length scripts) q e.caller.0 e.op → IsTold scripts Seen found (e ∷ p)
-  told_behind me h g none less quiet =
-      let quiet_p : is_quiet (overall p) e.op ≡ true = rw h.for.ahead.overall_same quiet.quiet in
-      let no_fault : fault (length scripts) p e.caller.0 e.op ≡ None =
-      none_too (fault (length scripts) q e.caller.0 e.op) (fault (length scripts) p e.caller.0 e.op) (sym (fault_ahead h.for.ahead (length scripts) e.caller.0 e.op)) quiet.no_fault in
+  told_behind_quiet : (me : Comp) → AtTurn scripts Seen found p q e → IsGoing scripts p q e me → (stand p e.caller.0).wake ≡ None → (stand p e.caller.0).called < (stand q e.caller.0).called →
+      fault (length scripts) q e.caller.0 e.op ≡ None → is_quiet (overall q) e.op ≡ true → IsTold scripts Seen found (e ∷ p)
+  told_behind_quiet me h g none less no_fault_q quiet =
+      let quiet_p : is_quiet (overall p) e.op ≡ true = rw h.for.ahead.overall_same quiet in
+      let no_fault = no_fault_back h no_fault_q in
       let is : e.reply ≡ plain_answer p e.caller.0 e.op = h.course.0.reply ∙ answer_plain (length scripts) p e.caller.0 e.op g.in_p no_fault in
       let plain : is_fault e.reply ≡ false = ap is_fault is ∙ (quiet_reply (overall p) p e.caller.0 e.op me g.on_p quiet_p).1 in
       let goes : is_ended e.reply ≡ false = ap is_ended is ∙ plain_not_ended p e.caller.0 e.op me g.on_p in
@@ -254,6 +270,35 @@ module _ {scripts : List ScriptView} {Seen : List Entry → Type 0} {found : Lis
       subst (λ s. IsFollowed scripts q e.caller.0 s (stand q e.caller.0)) (sym (stand_own p e e.caller.0 refl))
       (behind scripts q e.caller.0 (stand p e.caller.0) (stand q e.caller.0) e g.followed none less u.made
       (not_ending p e (stand p e.caller.0).comp me u g.stand_p g.on_p goes) (quiet_no_wake (overall p) e.op quiet_p) (quiet_sets_no_wake (overall p) e.op e.reply quiet_p))))
+
+  -- a component that is killed after q is there after p
+  there_too : AtTurn scripts Seen found p q e → (c : ℕ) → IsGone q c → exists p c ≡ true
+  unfolding exists
+  there_too h c gone = ap (is_in c) h.for.ahead.comps_same ∙ gone.there
+
+  -- a stop or kill of p that q has made, of what was killed then
+  told_behind_late : (me : Comp) → AtTurn scripts Seen found p q e → IsGoing scripts p q e me → (stand p e.caller.0).wake ≡ None → (stand p e.caller.0).called < (stand q e.caller.0).called →
+      fault (length scripts) q e.caller.0 e.op ≡ None → is_late q e.op ≡ true → IsTold scripts Seen found (e ∷ p)
+  told_behind_late me h g none less no_fault_q late =
+      let is : e.reply ≡ plain_answer p e.caller.0 e.op = h.course.0.reply ∙ answer_plain (length scripts) p e.caller.0 e.op g.in_p (no_fault_back h no_fault_q) in
+      let l = late_for q e.op late in
+      let one = late_halts q p e late (is ∙ late_reply q p e.caller.0 e.op late) in
+      let other = other_than_gone q e.caller.0 l.0.0 me g.in_q g.on_q l.1.gone.dead in
+      let lp = course_legal scripts (e ∷ p) h.course in
+      let ahead = ahead_late scripts p q e l.0.0 h.course.1 lp h.for.ahead one l.1.gone.dead (no_leaving e h.for g.in_q) (there_too h l.0.0 l.1.gone) in
+      told_stay h one.no_case (stay scripts p q e h.course h.closed.course h.for ahead (λ act.
+      subst (λ s. IsFollowed scripts q e.caller.0 s (stand q e.caller.0)) (sym (stand_own p e e.caller.0 refl))
+      (behind scripts q e.caller.0 (stand p e.caller.0) (stand q e.caller.0) e g.followed none less one.made
+      (halt_not_ending one (stand p e.caller.0).comp me g.stand_p other) one.plain one.no_wake)))
+
+  -- a call of p that q has made, and that changes nothing after q
+  told_behind : (me : Comp) → AtTurn scripts Seen found p q e → IsGoing scripts p q e me → (stand p e.caller.0).wake ≡ None → (stand p e.caller.0).called < (stand q e.caller.0).called →
+      IsQuietAt (length scripts) q e.caller.0 e.op → IsTold scripts Seen found (e ∷ p)
+  told_behind me h g none less spent = by_kind (quiet_or_late q e.op spent.quiet)
+    where
+      by_kind : (is_quiet (overall q) e.op ≡ true) ⊎ (is_late q e.op ≡ true) → IsTold scripts Seen found (e ∷ p)
+      by_kind (inl quiet) = told_behind_quiet me h g none less spent.no_fault quiet
+      by_kind (inr late) = told_behind_late me h g none less spent.no_fault late
 
   -- a Wait of p that is parked
   told_parked : (me : Comp) → AtTurn scripts Seen found p q e → IsGoing scripts p q e me → (k : Bool) (t : Target) → e.op ≡ O.Wait k t → e.reply ≡ R.Parked → (stand p e.caller.0).called ≡ (stand q e.caller.0).called →
@@ -290,10 +335,13 @@ module _ {scripts : List ScriptView} {Seen : List Entry → Type 0} {found : Lis
 
   -- a call of both that is not quiet
   told_loud : (me : Comp) → AtTurn scripts Seen found p q e → IsGoing scripts p q e me → (stand p e.caller.0).called ≡ (stand q e.caller.0).called →
-      call_at scripts e.caller.0 (stand q e.caller.0) (stand q e.caller.0).comp (stand q e.caller.0).called ≡ e.op → is_wake e.op ≡ false → is_quiet (overall q) e.op ≡ false →
+      call_at scripts e.caller.0 (stand q e.caller.0) (stand q e.caller.0).comp (stand q e.caller.0).called ≡ e.op → is_wake e.op ≡ false → is_spent q e.op ≡ false →
       IsTold scripts Seen found (e ∷ p)
-  told_loud me h g same calls wk loud = by_reply e.reply refl
+  told_loud me h g same calls wk changes = by_reply e.reply refl
     where
+      loud : is_quiet (overall q) e.op ≡ false
+      loud = loud_not_quiet q e.op changes
+
       loud_p : is_quiet (overall p) e.op ≡ false
       loud_p = rw h.for.ahead.overall_same loud
 
@@ -342,7 +390,7 @@ module _ {scripts : List ScriptView} {Seen : List Entry → Type 0} {found : Lis
 
   -- a quiet call of both: an error, since q has made all others
   told_quiet : (me : Comp) → AtTurn scripts Seen found p q e → IsGoing scripts p q e me →
-      call_at scripts e.caller.0 (stand q e.caller.0) (stand q e.caller.0).comp (stand q e.caller.0).called ≡ e.op → is_wake e.op ≡ false → is_quiet (overall q) e.op ≡ true →
+      call_at scripts e.caller.0 (stand q e.caller.0) (stand q e.caller.0).comp (stand q e.caller.0).called ≡ e.op → is_wake e.op ≡ false → is_spent q e.op ≡ true →
       IsTold scripts Seen found (e ∷ p)
   told_quiet me h g calls wk quiet = by_fault (fault (length scripts) q e.caller.0 e.op) refl
     where
@@ -355,13 +403,13 @@ module _ {scripts : List ScriptView} {Seen : List Entry → Type 0} {found : Lis
           told_fault h d turn refl g.in_range y.0 x re refl
       by_fault None k =
           let d : Entry = record { caller = e.caller; op = e.op; reply = plain_answer q e.caller.0 e.op } in
-          let r = quiet_reply (overall q) q e.caller.0 e.op me g.on_q quiet in
+          let r = spent_reply q q e.caller.0 e.op me g.on_q quiet in
           let turn : IsTurn scripts q d = record {
             turn = turn_in scripts p q e me g ∙ ap Some calls;
             reply = sym (answer_plain (length scripts) q e.caller.0 e.op g.in_q k);
             not_idle = idle_never e.op (plain_answer q e.caller.0 e.op) wk;
           } in
-          let no : is_quiet (overall q) e.op ≡ false = (h.closed.each d g.in_range turn r.0).loud r.1 in
+          let no : is_spent q e.op ≡ false = (h.closed.each d g.in_range turn r.0).loud r.1 in
           absurd cc
 
   -- a step, where no Wake is to come
@@ -380,7 +428,7 @@ module _ {scripts : List ScriptView} {Seen : List Entry → Type 0} {found : Lis
       wk : is_wake e.op ≡ false
       wk = ap is_wake (sym calls) ∙ never_wake me (stand p e.caller.0).bound (slice_get (steps_in (script_of scripts e.caller.0)) (stand p e.caller.0).called)
 
-      by_quiet : (stand p e.caller.0).called ≡ (stand q e.caller.0).called → (t : Bool) → is_quiet (overall q) e.op ≡ t → IsTold scripts Seen found (e ∷ p)
+      by_quiet : (stand p e.caller.0).called ≡ (stand q e.caller.0).called → (t : Bool) → is_spent q e.op ≡ t → IsTold scripts Seen found (e ∷ p)
       by_quiet same true k = told_quiet me h g (ap (λ m. call_at scripts e.caller.0 (stand q e.caller.0) (stand q e.caller.0).comp m) (sym same) ∙ call_q) wk k
       by_quiet same false k = told_loud me h g same (ap (λ m. call_at scripts e.caller.0 (stand q e.caller.0) (stand q e.caller.0).comp m) (sym same) ∙ call_q) wk k
 
@@ -391,7 +439,7 @@ module _ {scripts : List ScriptView} {Seen : List Entry → Type 0} {found : Lis
       by_less false k =
           let fewer = before.fewer in
           let same : (stand p e.caller.0).called ≡ (stand q e.caller.0).called = grind (arith, nat_tests) in
-          by_quiet same (is_quiet (overall q) e.op) refl
+          by_quiet same (is_spent q e.op) refl
 
 -- ---- a stuck case
 
@@ -620,20 +668,41 @@ module _ {scripts : List ScriptView} {Seen : List Entry → Type 0} {found : Lis
           ap (λ o. call_at scripts e.caller.0 (stand p e.caller.0) o (stand p e.caller.0).called) t.on
           ∙ (ap (λ o. wake_or o (call_of t.me (stand p e.caller.0).bound (slice_get (steps_in (script_of scripts e.caller.0)) (stand p e.caller.0).called))) (sym leaving.no_wake) ∙ t.calls)
 
-      quiet_turn : IsQuietAt (length scripts) q e.caller.0 e.op → IsTold scripts Seen found (e ∷ p)
-      quiet_turn quiet =
-          let quiet_p : is_quiet (overall p) e.op ≡ true = rw h.for.ahead.overall_same quiet.quiet in
-          let no_fault : fault (length scripts) p e.caller.0 e.op ≡ None =
-          none_too (fault (length scripts) q e.caller.0 e.op) (fault (length scripts) p e.caller.0 e.op) (sym (fault_ahead h.for.ahead (length scripts) e.caller.0 e.op)) quiet.no_fault in
-          let is : e.reply ≡ plain_answer p e.caller.0 e.op = h.course.0.reply ∙ answer_plain (length scripts) p e.caller.0 e.op active no_fault in
-          let plain : is_fault e.reply ≡ false = ap is_fault is ∙ (quiet_reply (overall p) p e.caller.0 e.op (record { 0 = c }) on quiet_p).1 in
-          let u = unchanged_quiet p e quiet_p plain in
+      answered : fault (length scripts) q e.caller.0 e.op ≡ None → e.reply ≡ plain_answer p e.caller.0 e.op
+      answered none = h.course.0.reply ∙ answer_plain (length scripts) p e.caller.0 e.op active (no_fault_back h none)
+
+      goes_not : (act : is_active q e.caller.0 ≡ true) → IsFollowed scripts q e.caller.0 (stand (e ∷ p) e.caller.0) (stand q e.caller.0)
+      goes_not act = absurd (opposed (is_active q e.caller.0) act off)
+
+      own_leaving : created e.op e.reply ≡ None → is_wake e.op ≡ false → wake_if e.op e.reply ≡ None →
+          (d : ℕ) (m : IsEnding scripts p q d) → (e.caller.0 == m.run.0) ≡ true → IsLeaving scripts q m.run.0 (stand (e ∷ p) m.run.0)
+      own_leaving made plain no_wake d m k =
           let later : IsLeaving scripts q e.caller.0 (stand (e ∷ p) e.caller.0) =
-          subst (λ s. IsLeaving scripts q e.caller.0 s) (sym (stand_own p e e.caller.0 refl))
-          (leaving_on scripts q e.caller.0 (stand p e.caller.0) e leaving u.made (quiet_no_wake (overall p) e.op quiet_p) (quiet_sets_no_wake (overall p) e.op e.reply quiet_p)) in
+          subst (λ s. IsLeaving scripts q e.caller.0 s) (sym (stand_own p e e.caller.0 refl)) (leaving_on scripts q e.caller.0 (stand p e.caller.0) e leaving made plain no_wake) in
+          subst (λ b. IsLeaving scripts q b (stand (e ∷ p) b)) (equal_if e.caller.0 m.run.0 k) later
+
+      quiet_turn : fault (length scripts) q e.caller.0 e.op ≡ None → is_quiet (overall q) e.op ≡ true → IsTold scripts Seen found (e ∷ p)
+      quiet_turn none quiet =
+          let quiet_p : is_quiet (overall p) e.op ≡ true = rw h.for.ahead.overall_same quiet in
+          let plain : is_fault e.reply ≡ false = ap is_fault (answered none) ∙ (quiet_reply (overall p) p e.caller.0 e.op (record { 0 = c }) on quiet_p).1 in
+          let u = unchanged_quiet p e quiet_p plain in
           told_stutter h u (stutter scripts p q e h.course h.closed.course h.for u
-          (λ d m k. subst (λ b. IsLeaving scripts q b (stand (e ∷ p) b)) (equal_if e.caller.0 m.run.0 k) later)
-          (λ act. absurd (opposed (is_active q e.caller.0) act off)))
+          (own_leaving u.made (quiet_no_wake (overall p) e.op quiet_p) (quiet_sets_no_wake (overall p) e.op e.reply quiet_p)) goes_not)
+
+      late_turn : fault (length scripts) q e.caller.0 e.op ≡ None → is_late q e.op ≡ true → IsTold scripts Seen found (e ∷ p)
+      late_turn none late =
+          let l = late_for q e.op late in
+          let one = late_halts q p e late (answered none ∙ late_reply q p e.caller.0 e.op late) in
+          let lp = course_legal scripts (e ∷ p) h.course in
+          let ahead = ahead_late scripts p q e l.0.0 h.course.1 lp h.for.ahead one l.1.gone.dead (own_leaving one.made one.plain one.no_wake) (there_too h l.0.0 l.1.gone) in
+          told_stay h one.no_case (stay scripts p q e h.course h.closed.course h.for ahead goes_not)
+
+      spent_turn : IsQuietAt (length scripts) q e.caller.0 e.op → IsTold scripts Seen found (e ∷ p)
+      spent_turn spent = by_kind (quiet_or_late q e.op spent.quiet)
+        where
+          by_kind : (is_quiet (overall q) e.op ≡ true) ⊎ (is_late q e.op ≡ true) → IsTold scripts Seen found (e ∷ p)
+          by_kind (inl quiet) = quiet_turn spent.no_fault quiet
+          by_kind (inr late) = late_turn spent.no_fault late
 
       end_turn : e.op ≡ O.Finish → IsTold scripts Seen found (e ∷ p)
       end_turn op =
@@ -651,7 +720,7 @@ module _ {scripts : List ScriptView} {Seen : List Entry → Type 0} {found : Lis
           record { over = λ o. absurd cc; going = λ o. (q, h.closed, after_end scripts p q e c h.course h.closed.course h.for n own ends) }
 
       by_call : IsLastAt (length scripts) q e.caller.0 e.op → IsTold scripts Seen found (e ∷ p)
-      by_call (inl quiet) = quiet_turn quiet
+      by_call (inl spent) = spent_turn spent
       by_call (inr op) = end_turn op
 
   -- one more turn

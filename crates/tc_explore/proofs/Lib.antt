@@ -21,3 +21,5 @@ pub mod Logging
 pub mod Reports
 pub mod Telling
 pub mod Prefixes
+pub mod Taking
+pub mod Late

@@ -1,5 +1,5 @@
 -- Where a run is after its own turn.
-use Rattle.std.proofs.Common.{ℕ, suc, ◌≡◌, ◌+◌, ◌<◌, ◌≤◌, ◌==◌, ◌&&◌, ◌||◌, not, nat_lt, if◌then◌else◌, Bool, true, false, Option, Some, None, MatchOption, List, [], ◌∷◌, ◌++◌, length, refl, ap, sym, subst, ◌∙◌, arith, append-nil}
+use Rattle.std.proofs.Common.{ℕ, suc, ◌≡◌, ◌+◌, ◌<◌, ◌≤◌, ◌==◌, ◌&&◌, ◌||◌, ◌⊎◌, inl, inr, not, nat_lt, if◌then◌else◌, Bool, true, false, Option, Some, None, MatchOption, List, [], ◌∷◌, ◌++◌, length, refl, ap, sym, subst, ◌∙◌, arith, append-nil}
 use Rattle.std.proofs.lemmas.Bool.Decides.{nat_tests}
 use Rattle.tc_verdict.specs.declared.verdict.Verdict.{Verdict}
 use Rattle.tc_verdict.specs.Verdict.{level_of}
@@ -23,9 +23,10 @@ use Rattle.tc_table.specs.Legal.{IsLegal}
 use Rattle.tc_table.specs.Inside.Step.{next_local}
 use Rattle.tc_table.proofs.Over.{stays}
 use Rattle.tc_explore.specs.Course.{Stand, after_own, ends, as_list, is_wake, wake_for, wake_if}
-use Rattle.tc_explore.specs.Inside.Simulation.{is_quiet, IsQuietAt, call_at, IsWakeOf, IsBefore, IsParkedAt, IsFollowed, IsLastAt, IsLeaving}
+use Rattle.tc_explore.specs.Inside.Simulation.{is_quiet, is_late, is_spent, IsQuietAt, call_at, IsWakeOf, IsBefore, IsParkedAt, IsFollowed, IsLastAt, IsLeaving}
 use Rattle.tc_explore.proofs.Alike.{ChangesNothing, overall_next}
 use Rattle.tc_explore.proofs.Ahead.{KeepsQuiet}
+use Rattle.tc_explore.proofs.Late.{late_next, late_special}
 
 or_no : (a : Bool) → (a || false) ≡ a
 or_no true = refl
@@ -96,8 +97,8 @@ parked scripts q b s t e wake f same made stays_on plain to_come of =
       place = subst (λ o. MatchOption o (IsBefore scripts q b (after_own e s) t) (λ w. IsParkedAt scripts b (after_own e s) t w)) (sym to_come) now;
     }
 
-no_parked_quiet : (w : Verdict) (op wake : Op) → IsWakeOf op wake → is_quiet w op ≡ true → ⊥
-no_parked_quiet w op wake h quiet = let off : is_quiet w op ≡ false = rw h.waits refl in absurd cc
+no_parked_quiet : (past : List Entry) (op wake : Op) → IsWakeOf op wake → is_spent past op ≡ true → ⊥
+no_parked_quiet past op wake h quiet = let off : is_spent past op ≡ false = rw h.waits refl in absurd cc
 
 -- a quiet call of the other
 pub ahead : (scripts : List ScriptView) (q : List Entry) (b : ℕ) (s t : Stand) (e : Entry) → IsFollowed scripts (e ∷ q) b s t → IsQuietAt (length scripts) (e ∷ q) b (call_at scripts b t t.comp t.called) →
@@ -132,7 +133,7 @@ ahead scripts q b s t e f quiet made stays_on plain no_wake = record {
       fewer = let l = h.fewer in omega (arith, called);
       between = λ k l m. subst (λ op. IsQuietAt (length scripts) (e ∷ q) b op) (sym (same_call t.comp k)) (at_last h k l m (nat_lt k t.called) refl);
     }
-    by_wake (Some wake) h = absurd (no_parked_quiet _ _ wake h.wake_of quiet.quiet)
+    by_wake (Some wake) h = absurd (no_parked_quiet (e ∷ q) _ wake h.wake_of quiet.quiet)
 
 -- a quiet call of a run that is leaving
 pub leaving_on : (scripts : List ScriptView) (q : List Entry) (b : ℕ) (s : Stand) (e : Entry) → IsLeaving scripts q b s →
@@ -230,7 +231,46 @@ still_no_fault n past e b w op quiet h =
     let p = no_fault_by (list_all (λ c. exists past c.0) (names op)) (asks_many op && not (b == 0)) (special_fault n past op) h in
     rw (still_exist past e (names op) p.0, p.1, never_special n (e ∷ past) w op quiet) refl
 
+still_no_fault_late : (n : ℕ) (past : List Entry) (e : Entry) (b : ℕ) (op : Op) → is_late past op ≡ true → fault n past b op ≡ None → fault n (e ∷ past) b op ≡ None
+unfolding fault all_exist
+still_no_fault_late n past e b op late h =
+    let p = no_fault_by (list_all (λ c. exists past c.0) (names op)) (asks_many op && not (b == 0)) (special_fault n past op) h in
+    rw (still_exist past e (names op) p.0, p.1, late_special n (e ∷ past) past op late) refl
+
+pub spent_quiet : (past : List Entry) (op : Op) → is_quiet (overall past) op ≡ true → is_spent past op ≡ true
+spent_quiet past op h = rw h refl
+
+pub spent_late : (past : List Entry) (op : Op) → is_late past op ≡ true → is_spent past op ≡ true
+spent_late past op h = rw h (or_yes (is_quiet (overall past) op))
+  where
+    or_yes : (t : Bool) → (t || true) ≡ true
+    or_yes true = refl
+    or_yes false = refl
+
+-- a call that changes nothing is quiet, or late
+pub quiet_or_late : (past : List Entry) (op : Op) → is_spent past op ≡ true → (is_quiet (overall past) op ≡ true) ⊎ (is_late past op ≡ true)
+quiet_or_late past op h = by_test (is_quiet (overall past) op) refl h
+  where
+    by_test : (t : Bool) → is_quiet (overall past) op ≡ t → (t || is_late past op) ≡ true → (is_quiet (overall past) op ≡ true) ⊎ (is_late past op ≡ true)
+    by_test true k j = inl k
+    by_test false k j = inr j
+
+pub loud_not_quiet : (past : List Entry) (op : Op) → is_spent past op ≡ false → is_quiet (overall past) op ≡ false
+loud_not_quiet past op h = by_test (is_quiet (overall past) op) h
+  where
+    by_test : (t : Bool) → (t || is_late past op) ≡ false → t ≡ false
+    by_test true k = absurd cc
+    by_test false k = refl
+
 pub keeps_quiet : (n : ℕ) (past : List Entry) (e : Entry) → IsLegal n (e ∷ past) → KeepsQuiet n past (e ∷ past)
-keeps_quiet n past e legal b op h =
-    let grows : level_of (overall past) ≤ level_of (overall (e ∷ past)) = rw (overall_next n past e legal) (no_better (gives e.op e.reply) (overall past)) in
-    record { quiet = quiet_then (overall past) (overall (e ∷ past)) op grows h.quiet; no_fault = still_no_fault n past e b (overall past) op h.quiet h.no_fault }
+keeps_quiet n past e legal b op h = by_kind (quiet_or_late past op h.quiet)
+  where
+    grows : level_of (overall past) ≤ level_of (overall (e ∷ past))
+    grows = rw (overall_next n past e legal) (no_better (gives e.op e.reply) (overall past))
+
+    by_kind : (is_quiet (overall past) op ≡ true) ⊎ (is_late past op ≡ true) → IsQuietAt n (e ∷ past) b op
+    by_kind (inl quiet) = record {
+      quiet = spent_quiet (e ∷ past) op (quiet_then (overall past) (overall (e ∷ past)) op grows quiet);
+      no_fault = still_no_fault n past e b (overall past) op quiet h.no_fault;
+    }
+    by_kind (inr late) = record { quiet = spent_late (e ∷ past) op (late_next n past e op legal late); no_fault = still_no_fault_late n past e b op late h.no_fault }

@@ -1,5 +1,5 @@
 -- What one more quiet call of a search stands for.
-use Rattle.std.proofs.Common.{ℕ, ◌≡◌, ◌==◌, inl, inr, true, false, None, Some, List, ◌∷◌, length, slice_get, refl, ap, sym, subst, ◌∙◌}
+use Rattle.std.proofs.Common.{ℕ, ◌≡◌, ◌==◌, ◌⊎◌, inl, inr, true, false, None, Some, List, ◌∷◌, length, slice_get, refl, ap, sym, subst, ◌∙◌}
 use Rattle.tc_verdict.specs.declared.run.Run.{Run}
 use Rattle.tc_entry.specs.declared.comp.Comp.{Comp}
 use Rattle.tc_entry.specs.declared.entry.Entry.{Entry}
@@ -15,14 +15,15 @@ use Rattle.tc_table.proofs.Sound.{plain_if}
 use Rattle.tc_explore.specs.Course.{stand, wake_or, call_of, steps_in, script_of, taken, IsTurn, IsCourse}
 use Rattle.tc_explore.specs.Found.{IsOn}
 use Rattle.tc_explore.specs.Inside.Alike.{IsAlike}
-use Rattle.tc_explore.specs.Inside.Simulation.{is_quiet, IsQuietAt, call_at, IsFollowed, IsFor, IsEnd, IsSilent}
+use Rattle.tc_explore.specs.Inside.Simulation.{is_quiet, is_late, is_spent, IsQuietAt, call_at, IsFollowed, IsFor, IsEnd, IsSilent}
 use Rattle.tc_explore.specs.Inside.Seen.{StandsOn}
 use Rattle.tc_explore.proofs.Legality.{course_legal}
 use Rattle.tc_explore.proofs.Alike.{alike_unchanged}
 use Rattle.tc_explore.proofs.Standings.{has_turn, stand_own, stand_comp}
 use Rattle.tc_explore.proofs.Simulation.{unchanged_quiet, some_if, quiet_alike, followed_later, lead}
 use Rattle.tc_explore.proofs.Leaving.{Ends, running_on, lead_end}
-use Rattle.tc_explore.proofs.Places.{not_ending, quiet_sets_no_wake, quiet_no_wake, ahead}
+use Rattle.tc_explore.proofs.Late.{late_for, late_reply, late_halts, alike_late, halt_not_ending, other_than_gone}
+use Rattle.tc_explore.proofs.Places.{not_ending, quiet_sets_no_wake, quiet_no_wake, spent_quiet, spent_late, quiet_or_late, ahead}
 
 -- a run with no Wake to come calls its next step
 next_call : (scripts : List ScriptView) (q : List Entry) (e : Entry) → (stand q e.caller.0).wake ≡ None → IsTurn scripts q e →
@@ -36,8 +37,6 @@ next_call scripts q e none turn =
 lead_quiet : (scripts : List ScriptView) (p q : List Entry) (e : Entry) → IsCourse scripts p → IsCourse scripts (e ∷ q) → is_fault e.reply ≡ false → is_ended e.reply ≡ false → is_quiet (overall q) e.op ≡ true →
     IsFor scripts q p → IsFor scripts (e ∷ q) p
 lead_quiet scripts p q e cp cq plain on quiet f =
-    let n : ℕ = length scripts in
-    let b : ℕ = e.caller.0 in
     let is = plain_if (length scripts) q e.caller.0 e.op e.reply on plain cq.0.reply in
     let u = unchanged_quiet q e quiet plain in
     let after : IsAlike (e ∷ q) q = alike_unchanged (length scripts) q e (course_legal scripts (e ∷ q) cq) u in
@@ -45,14 +44,44 @@ lead_quiet scripts p q e cp cq plain on quiet f =
     let fol = f.runs e.caller.0 is.active in
     let here : (stand q e.caller.0).comp ≡ Some me.0 = stand_comp scripts q e.caller.0 cq.1 ∙ me.1 in
     let call = next_call scripts q e fol.no_wake cq.0 in
-    let now : IsQuietAt (length scripts) q e.caller.0 e.op = record { quiet = quiet; no_fault = is.no_fault } in
+    let now : IsQuietAt (length scripts) q e.caller.0 e.op = record { quiet = spent_quiet q e.op quiet; no_fault = is.no_fault } in
     let keeps = quiet_alike (length scripts) q (e ∷ q) after in
-    lead scripts p q e cp cq f u (λ act.
+    lead scripts p q e cp cq f after (λ act.
     subst (λ s. IsFollowed scripts (e ∷ q) e.caller.0 (stand p e.caller.0) s) (sym (stand_own q e e.caller.0 refl))
     (ahead scripts q e.caller.0 (stand p e.caller.0) (stand q e.caller.0) e
     (followed_later scripts q (e ∷ q) e.caller.0 (stand p e.caller.0) (stand q e.caller.0) keeps fol)
     (subst (λ op. IsQuietAt (length scripts) (e ∷ q) e.caller.0 op) (sym call) (keeps e.caller.0 e.op now))
     u.made (not_ending q e (stand q e.caller.0).comp me.0 u here me.1 on) (quiet_no_wake (overall q) e.op quiet) (quiet_sets_no_wake (overall q) e.op e.reply quiet)))
+
+-- a stop or kill of what is killed already
+lead_late : (scripts : List ScriptView) (p q : List Entry) (e : Entry) → IsCourse scripts p → IsCourse scripts (e ∷ q) → is_fault e.reply ≡ false → is_ended e.reply ≡ false → is_late q e.op ≡ true →
+    IsFor scripts q p → IsFor scripts (e ∷ q) p
+lead_late scripts p q e cp cq plain on late f =
+    let is = plain_if (length scripts) q e.caller.0 e.op e.reply on plain cq.0.reply in
+    let l = late_for q e.op late in
+    let h = late_halts q q e late (is.is ∙ late_reply q q e.caller.0 e.op late) in
+    let after : IsAlike (e ∷ q) q = alike_late (length scripts) (course_legal scripts (e ∷ q) cq) h l.1.gone in
+    let me = some_if q e.caller.0 is.active in
+    let fol = f.runs e.caller.0 is.active in
+    let here : (stand q e.caller.0).comp ≡ Some me.0 = stand_comp scripts q e.caller.0 cq.1 ∙ me.1 in
+    let call = next_call scripts q e fol.no_wake cq.0 in
+    let now : IsQuietAt (length scripts) q e.caller.0 e.op = record { quiet = spent_late q e.op late; no_fault = is.no_fault } in
+    let keeps = quiet_alike (length scripts) q (e ∷ q) after in
+    lead scripts p q e cp cq f after (λ act.
+    subst (λ s. IsFollowed scripts (e ∷ q) e.caller.0 (stand p e.caller.0) s) (sym (stand_own q e e.caller.0 refl))
+    (ahead scripts q e.caller.0 (stand p e.caller.0) (stand q e.caller.0) e
+    (followed_later scripts q (e ∷ q) e.caller.0 (stand p e.caller.0) (stand q e.caller.0) keeps fol)
+    (subst (λ op. IsQuietAt (length scripts) (e ∷ q) e.caller.0 op) (sym call) (keeps e.caller.0 e.op now))
+    h.made (halt_not_ending h (stand q e.caller.0).comp me.0 here (other_than_gone q e.caller.0 l.0.0 me.0 is.active me.1 l.1.gone.dead)) h.plain h.no_wake))
+
+-- a call that changes nothing, and is no error
+lead_spent : (scripts : List ScriptView) (p q : List Entry) (e : Entry) → IsCourse scripts p → IsCourse scripts (e ∷ q) → is_fault e.reply ≡ false → is_ended e.reply ≡ false → is_spent q e.op ≡ true →
+    IsFor scripts q p → IsFor scripts (e ∷ q) p
+lead_spent scripts p q e cp cq plain on spent f = by_kind (quiet_or_late q e.op spent)
+  where
+    by_kind : (is_quiet (overall q) e.op ≡ true) ⊎ (is_late q e.op ≡ true) → IsFor scripts (e ∷ q) p
+    by_kind (inl quiet) = lead_quiet scripts p q e cp cq plain on quiet f
+    by_kind (inr late) = lead_late scripts p q e cp cq plain on late f
 
 -- the end of a run that goes on, on a component that nothing can start again
 lead_finish : (scripts : List ScriptView) (p q : List Entry) (e : Entry) → IsCourse scripts (e ∷ q) → is_fault e.reply ≡ false → is_ended e.reply ≡ false → IsEnd q e.caller.0 e.op →
@@ -77,11 +106,11 @@ lead_call scripts t u run op on turn plain goes h is =
     λ p cp f. subst (λ x. IsFor scripts x p) (sym is) (by_call p cp f h)
   where
     by_call : (p : List Entry) → IsCourse scripts p → IsFor scripts (past_of t) p → IsSilent (past_of t) run.0 op → IsFor scripts (taken t.behaviours (past_of t) run op ∷ past_of t) p
-    by_call p cp f (inl quiet) = lead_quiet scripts p (past_of t) (taken t.behaviours (past_of t) run op) cp (turn, on.course) plain goes quiet f
+    by_call p cp f (inl spent) = lead_spent scripts p (past_of t) (taken t.behaviours (past_of t) run op) cp (turn, on.course) plain goes spent f
     by_call p cp f (inr end) = lead_finish scripts p (past_of t) (taken t.behaviours (past_of t) run op) (turn, on.course) plain goes end f
 
-pub silent_quiet : (q : List Entry) (b : ℕ) (op : Op) → is_quiet (overall q) op ≡ true → IsSilent q b op
-silent_quiet q b op h = inl h
+pub silent_spent : (q : List Entry) (b : ℕ) (op : Op) → is_spent q op ≡ true → IsSilent q b op
+silent_spent q b op h = inl h
 
 pub silent_end : (q : List Entry) (b : ℕ) (op : Op) → IsEnd q b op → IsSilent q b op
 silent_end q b op h = inr h
@@ -98,4 +127,4 @@ stands_self scripts t = λ p cp f. f
 
 pub ruleset searching_rules = (stands_then, stands_self)
 
-pub ruleset silent_rules = (silent_quiet, silent_end, end_of)
+pub ruleset silent_rules = (silent_spent, silent_end, end_of)

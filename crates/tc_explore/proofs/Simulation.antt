@@ -25,7 +25,7 @@ use Rattle.tc_explore.specs.Course.{Stand, stand, IsCourse}
 use Rattle.tc_explore.specs.Inside.Alike.{IsAlike}
 use Rattle.tc_explore.specs.Inside.Simulation.{is_quiet, call_at, IsWakeOf, IsBefore, IsParkedAt, IsFollowed, IsLeaving, IsEnding, IsAhead, IsFor}
 use Rattle.tc_explore.proofs.Legality.{course_legal}
-use Rattle.tc_explore.proofs.Alike.{ChangesNothing, alike_sym, alike_unchanged, active_alike, fault_alike}
+use Rattle.tc_explore.proofs.Alike.{ChangesNothing, alike_sym, alike_unchanged, active_alike, fault_alike, late_alike}
 use Rattle.tc_explore.proofs.Ahead.{KeepsQuiet, ahead_after, ahead_turn}
 use Rattle.tc_explore.proofs.Standings.{stand_other, stand_comp}
 
@@ -139,16 +139,12 @@ followed_later scripts q r b s t keeps f = record { comp = f.comp; bound = f.bou
     by_wake (Some wake) h = h
 
 pub quiet_alike : (n : ℕ) (q r : List Entry) → IsAlike r q → KeepsQuiet n q r
-quiet_alike n q r a b op h = record { quiet = rw a.overall_same h.quiet; no_fault = fault_alike a n b op ∙ h.no_fault }
+quiet_alike n q r a b op h = record { quiet = rw (a.overall_same, late_alike a op) h.quiet; no_fault = fault_alike a n b op ∙ h.no_fault }
 
--- a turn of p that changes nothing, where its caller still is where q has it or before
-pub stutter : (scripts : List ScriptView) (p q : List Entry) (e : Entry) → IsCourse scripts (e ∷ p) → IsCourse scripts q → IsFor scripts q p → ChangesNothing p e →
-    ((c : ℕ) (n : IsEnding scripts p q c) → (e.caller.0 == n.run.0) ≡ true → IsLeaving scripts q n.run.0 (stand (e ∷ p) n.run.0)) →
+-- a turn of p, behind which q is ahead, where its caller still is where q has it or before
+pub stay : (scripts : List ScriptView) (p q : List Entry) (e : Entry) → IsCourse scripts (e ∷ p) → IsCourse scripts q → IsFor scripts q p → IsAhead scripts (e ∷ p) q →
     (is_active q e.caller.0 ≡ true → IsFollowed scripts q e.caller.0 (stand (e ∷ p) e.caller.0) (stand q e.caller.0)) → IsFor scripts q (e ∷ p)
-stutter scripts p q e cp cq f u leaves own = record {
-  ahead = ahead_turn scripts p q e cp.1 (alike_unchanged (length scripts) p e (course_legal scripts (e ∷ p) cp) u) f.ahead leaves;
-  runs = λ b act. by_test b act (e.caller.0 == b) refl;
-}
+stay scripts p q e cp cq f ahead own = record { ahead = ahead; runs = λ b act. by_test b act (e.caller.0 == b) refl }
   where
     by_test : (b : ℕ) → is_active q b ≡ true → (t : Bool) → (e.caller.0 == b) ≡ t → IsFollowed scripts q b (stand (e ∷ p) b) (stand q b)
     by_test b act true k =
@@ -160,17 +156,21 @@ stutter scripts p q e cp cq f u leaves own = record {
         let here : (stand p b).comp ≡ Some on.0 = fol.comp ∙ (stand_comp scripts q b cq ∙ on.1) in
         subst (λ s. IsFollowed scripts q b s (stand q b)) (sym (stand_other p e b on.0 k here)) fol
 
+-- a turn of p that changes nothing, where its caller still is where q has it or before
+pub stutter : (scripts : List ScriptView) (p q : List Entry) (e : Entry) → IsCourse scripts (e ∷ p) → IsCourse scripts q → IsFor scripts q p → ChangesNothing p e →
+    ((c : ℕ) (n : IsEnding scripts p q c) → (e.caller.0 == n.run.0) ≡ true → IsLeaving scripts q n.run.0 (stand (e ∷ p) n.run.0)) →
+    (is_active q e.caller.0 ≡ true → IsFollowed scripts q e.caller.0 (stand (e ∷ p) e.caller.0) (stand q e.caller.0)) → IsFor scripts q (e ∷ p)
+stutter scripts p q e cp cq f u leaves own =
+    stay scripts p q e cp cq f (ahead_turn scripts p q e cp.1 (alike_unchanged (length scripts) p e (course_legal scripts (e ∷ p) cp) u) f.ahead leaves) own
+
 -- a turn of q that changes nothing
-pub lead : (scripts : List ScriptView) (p q : List Entry) (e : Entry) → IsCourse scripts p → IsCourse scripts (e ∷ q) → IsFor scripts q p → ChangesNothing q e →
+pub lead : (scripts : List ScriptView) (p q : List Entry) (e : Entry) → IsCourse scripts p → IsCourse scripts (e ∷ q) → IsFor scripts q p → IsAlike (e ∷ q) q →
     (is_active q e.caller.0 ≡ true → IsFollowed scripts (e ∷ q) e.caller.0 (stand p e.caller.0) (stand (e ∷ q) e.caller.0)) → IsFor scripts (e ∷ q) p
-lead scripts p q e cp cq f u own = record {
+lead scripts p q e cp cq f after own = record {
   ahead = ahead_after scripts p q (e ∷ q) f.ahead (alike_sym (e ∷ q) q after) (quiet_alike (length scripts) q (e ∷ q) after);
   runs = λ b act. by_test b (sym (active_alike after b) ∙ act) (e.caller.0 == b) refl;
 }
   where
-    after : IsAlike (e ∷ q) q
-    after = alike_unchanged (length scripts) q e (course_legal scripts (e ∷ q) cq) u
-
     by_test : (b : ℕ) → is_active q b ≡ true → (t : Bool) → (e.caller.0 == b) ≡ t → IsFollowed scripts (e ∷ q) b (stand p b) (stand (e ∷ q) b)
     by_test b act true k =
         let same : e.caller.0 ≡ b = equal_if e.caller.0 b k in

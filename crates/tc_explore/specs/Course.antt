@@ -85,6 +85,10 @@ after_other_by None e b s = started (started_on e b) (arguments e.op b) s
 abbrev pub next : Entry → ℕ → Stand → Stand
 next e b s = if e.caller.0 == b then after_own e s else after_other_by s.comp e b s
 
+-- after one more entry, for run r alone
+abbrev pub next_for : ℕ → Entry → ℕ → Stand → Stand
+next_for r e b s = if r == b then next e b s else s
+
 -- what is known of run b
 abbrev pub stand : List Entry → ℕ → Stand
 stand [] b = opening b

@@ -9,7 +9,7 @@ use Rattle.tc_table.specs.Local.{overall}
 use Rattle.tc_table.specs.Legal.{IsLegal}
 use Rattle.tc_table.specs.Case.{Case, past_of}
 use Rattle.tc_explore.specs.declared.witness.Witness.{Witness}
-use Rattle.tc_explore.specs.Course.{Stand, stand, next, one_more_if, carried, taken, IsTurn, IsCourse, IsComplete}
+use Rattle.tc_explore.specs.Course.{Stand, stand, next, next_for, one_more_if, carried, taken, IsTurn, IsCourse, IsComplete}
 
 -- a case that is at a course of these scripts
 pub record IsOn (scripts : List ScriptView) (t : Case) : Type 0 where
@@ -43,6 +43,11 @@ pub record IsKept (t : Case) (standings : List Stand) : Type 0 where
 abbrev pub TakesIn : Entry → List Stand → List Stand → Type 0
 TakesIn e before after =
     (b : ℕ) (d : Stand) → b < length before → slice_index_or after b d ≡ next e b (slice_index_or before b d)
+
+-- what was known of run r is followed by what is known of it after one more entry; of all others the same is known
+abbrev pub TakesInFor : ℕ → Entry → List Stand → List Stand → Type 0
+TakesInFor r e before after =
+    (b : ℕ) (d : Stand) → b < length before → slice_index_or after b d ≡ next_for r e b (slice_index_or before b d)
 
 -- what is kept is how many calls each run has carried out
 pub record IsCounted (t : Case) (counts : List ℕ) : Type 0 where

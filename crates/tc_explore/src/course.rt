@@ -62,17 +62,32 @@ fn copied_standings(alloc: Global, standings: &[Standing]) -> Result<Vec<Standin
     Ok(all)
 }
 
-// Takes one more entry in.
+// Takes one more entry in for this run.
+fn take_in_for(standings: &mut Vec<Standing>, entry: &Entry, run: Run) -> Result<(), NoMemory>
+    ensures as_many { length standings.new.items ≡ length standings.old.items }
+    ensures one { OnOk result (found.TakesInFor run.0 entry.now standings.old.items standings.new.items) }
+{
+    let at = usize::from(run.0);
+    if at < standings.len() {
+        standings[at].take_in(entry, run.0)?;
+    }
+    Ok(())
+}
+
+// Takes one more entry in: nothing new is known but of its caller, and of the run that it starts.
+#[tactic(auto, using(crate::proofs::Taking::taking_rules))]
 fn take_in_all(standings: &mut Vec<Standing>, entry: &Entry) -> Result<(), NoMemory>
     ensures as_many { length standings.new.items ≡ length standings.old.items }
     ensures each { OnOk result (found.TakesIn entry.now standings.old.items standings.new.items) }
 {
-    let count = standings.len();
-    for i in 0..count {
-        let Ok(run) = u16::try_from(i) else {
-            return Err(NoMemory);
-        };
-        standings[i].take_in(entry, run)?;
+    take_in_for(standings, entry, entry.caller)?;
+    match &entry.op {
+        Op::Start { run, .. } => {
+            if run.0 != entry.caller.0 {
+                take_in_for(standings, entry, *run)?;
+            }
+        }
+        _ => {}
     }
     Ok(())
 }

@@ -2,143 +2,26 @@
 //! makes at once. Where it comes to its end nothing is missed.
 ghost use Rattle.std.specs.Prelude.{◌≡◌, ◌≤◌, ◌<◌, ◌∷◌, true, false, IfOk, IsTrue, OnOk, All, length};
 ghost use Rattle.tc_entry.specs.declared.limits.TheConstants.{BEHAVIOURS};
-ghost use Rattle.tc_entry.specs.declared.op.Op.TheVariants.{Finish};
-ghost use Rattle.tc_entry.specs.Reply as reply;
 ghost use Rattle.tc_table.specs.Case.{past_of};
-ghost use Rattle.tc_table.specs.Answers as answers;
 ghost use Rattle.tc_explore.specs.Course as courses;
 ghost use Rattle.tc_explore.specs.Found.{IsOn, IsNext};
 ghost use Rattle.tc_explore.specs.Inside.Simulation as moves;
 ghost use Rattle.tc_explore.specs.Laws.{IsClosedAt, AreClosed, AllFound};
-ghost use Rattle.tc_explore.specs.Inside.Seen.{IsSeen, IsLonger, IsNoted, StandsOn, IsCallClosed, IsRunOfClosed, AreRunsClosed, IsCaseClosed};
+ghost use Rattle.tc_explore.specs.Inside.Seen.{IsSeen, IsLonger, IsNoted, IsCallClosed, IsRunOfClosed, AreRunsClosed, IsCaseClosed};
 
+use crate::calm::{calmed, is_spent};
 use crate::course::Course;
 use crate::entries::has_gone_on;
 use crate::findings::{Findings, reach};
 use crate::same::is_same;
 use crate::search::{Extent, note, with_stuck};
-use crate::told::{is_found, level};
+use crate::told::is_found;
 use crate::turns::next_call;
 use indexmap::IndexSet;
 use std::alloc::Global;
-use tc_entry::{Op, Reply};
-use tc_step::{STEPS, Script};
-use tc_verdict::{NoMemory, Run, Verdict, from_user};
-
-// Whether a call asks a question, or sets a verdict that is no worse than this one.
-fn is_quiet_now(op: &Op, worst: Verdict) -> bool
-    ensures { result ≡ moves.is_quiet worst op.now }
-{
-    match op {
-        Op::SetVerdict(verdict) => level(from_user(*verdict)) <= level(worst),
-        Op::GetVerdict | Op::Running(_) | Op::Alive(_) | Op::Done(_) | Op::Killed(_) => true,
-        _ => false,
-    }
-}
-
-// Whether a call ends a run.
-fn is_finish(op: &Op) -> bool
-    ensures { IsTrue result → op.now ≡ Finish }
-{
-    match op {
-        Op::Finish => true,
-        _ => false,
-    }
-}
-
-// Whether a call ends a run, but the main one, on a component that nothing can start again.
-#[tactic(auto, using(crate::proofs::Searching::silent_rules))]
-fn is_end(course: &Course, run: Run, op: &Op) -> bool
-    ensures { IsTrue result → moves.IsEnd (past_of course.now) run.0 op.now }
-{
-    if run.0 == 0 || !is_finish(op) {
-        return false;
-    }
-    match course.comp_of(run) {
-        Some(comp) => !course.is_alive_type(comp.0),
-        None => false,
-    }
-}
-
-// Whether nobody can tell that a call was made: it is quiet or an end, and no error.
-#[tactic(auto, using(crate::proofs::Searching::silent_rules))]
-fn is_silent(course: &Course, run: Run, op: &Op) -> bool
-    ensures plain { IsTrue result → reply.is_fault (answers.answer course.now.behaviours (past_of course.now) run.0 op.now) ≡ false }
-    ensures going { IsTrue result → reply.is_ended (answers.answer course.now.behaviours (past_of course.now) run.0 op.now) ≡ false }
-    ensures silent { IsTrue result → moves.IsSilent (past_of course.now) run.0 op.now }
-{
-    let reply = course.would(run, op);
-    if reply.is_fault() || reply.is_ended() {
-        return false;
-    }
-    is_quiet_now(op, course.verdict()) || is_end(course, run, op)
-}
-
-// A course, and whether it is longer than it was.
-#[derive(Drop)]
-struct Advance {
-    course: Course,
-    went_on: bool,
-}
-
-// The course with the next call of a run, if nobody can tell that it was made.
-#[tactic(auto, using(crate::proofs::Searching::searching_rules, crate::proofs::Turning::turn_rules))]
-fn with_silent_call(course: Course, scripts: &[Script], run: Run) -> Result<Advance, NoMemory>
-    requires on { IsOn scripts.now course }
-    ensures on { IfOk result (λ a. IsOn scripts.now a.course) }
-    ensures stands { IfOk result (λ a. StandsOn scripts.now course a.course) }
-{
-    let Some(op) = next_call(&course, scripts, run) else {
-        return Ok(Advance {
-            course,
-            went_on: false,
-        });
-    };
-    if !is_silent(&course, run, &op) {
-        return Ok(Advance {
-            course,
-            went_on: false,
-        });
-    }
-    let course = course.with(run, op)?;
-    Ok(Advance {
-        course,
-        went_on: true,
-    })
-}
-
-// The course with the next calls of a run of which nobody can tell that they were made.
-#[tactic(auto, using(crate::proofs::Searching::searching_rules))]
-fn with_silent_calls(course: Course, scripts: &[Script], run: Run) -> Result<Course, NoMemory>
-    requires on { IsOn scripts.now course }
-    ensures on { IfOk result (λ c. IsOn scripts.now c) }
-    ensures stands { IfOk result (λ c. StandsOn scripts.now course c) }
-{
-    let mut course = course;
-    for _ in 0..STEPS + 1 {
-        let advance = with_silent_call(course, scripts, run)?;
-        course = advance.course;
-        if !advance.went_on {
-            return Ok(course);
-        }
-    }
-    Ok(course)
-}
-
-// The course with such calls of all runs.
-#[tactic(auto, using(crate::proofs::Searching::searching_rules))]
-fn calmed(course: Course, scripts: &[Script]) -> Result<Course, NoMemory>
-    requires few { length scripts.now ≤ BEHAVIOURS }
-    requires on { IsOn scripts.now course }
-    ensures on { IfOk result (λ c. IsOn scripts.now c) }
-    ensures stands { IfOk result (λ c. StandsOn scripts.now course c) }
-{
-    let mut course = course;
-    for run in 0..scripts.len() as u16 {
-        course = with_silent_calls(course, scripts, Run(run))?;
-    }
-    Ok(course)
-}
+use tc_entry::Op;
+use tc_step::Script;
+use tc_verdict::{NoMemory, Run, Verdict};
 
 /// The states that were met, by a course each, at most so many.
 #[derive(Drop)]
@@ -245,14 +128,14 @@ fn after_call(
     Ok(is_seen)
 }
 
-// Whether a call is an error, or not quiet.
+// Whether a call is an error, or changes something.
 fn is_loud(course: &Course, run: Run, op: &Op) -> bool
     ensures { IsTrue result → moves.IsLoud course.now.behaviours (past_of course.now) run.0 op.now }
 {
     if course.would(run, op).is_fault() {
         return true;
     }
-    !is_quiet_now(op, course.verdict())
+    !is_spent(course, op)
 }
 
 // What is known of the calls of a run, or of all: what they lead to is seen, and one that is no error goes on.

@@ -2,6 +2,7 @@
 #![tactic(auto)]
 
 mod call;
+mod calm;
 mod components;
 mod course;
 mod details;

@@ -286,6 +286,42 @@ fn a_search_ends_at_its_limit(rt: HostRuntime) -> Result<(), Fail> {
     Ok(())
 }
 
+// Who stops a component that is killed already changes nothing: one state stands for all of its calls.
+#[test]
+fn late_stops_have_no_states(rt: HostRuntime) -> Result<(), Fail> {
+    let alloc = rt.alloc();
+    let mut args = Places::new();
+    assert!(rt; args.push(P));
+    let steps = vec![in alloc;
+        create(false),
+        start(P, 1),
+        wait(TargetPlace::One(P)),
+        create(false),
+        Step::Start {
+            on: Q,
+            run: Run(2),
+            args
+        },
+        wait(TargetPlace::All),
+    ]?;
+    let late = vec![in alloc;
+        Step::Stop(GroupPlace::One(P)),
+        Step::Kill(GroupPlace::One(P)),
+        Step::Stop(GroupPlace::One(P)),
+    ]?;
+    assert!(rt; Script::is_script(1, late.as_slice()));
+    let scripts = vec![in alloc;
+        script(&rt, steps),
+        script(&rt, Vec::new(alloc)),
+        Script::new(1, late),
+    ]?;
+    let found = verdicts(&rt, alloc, scripts.as_slice())?;
+    assert!(rt; found.len() == 1 && found[0] == Verdict::None);
+    let explored = explore(alloc, scripts.as_slice(), MANY)?;
+    is(&rt, "explored.states", explored.states, 7);
+    Ok(())
+}
+
 #[test]
 fn without_behaviours_nothing_is_decided(rt: HostRuntime) -> Result<(), Fail> {
     let explored = explore(rt.alloc(), &[], MANY)?;

@@ -1,6 +1,6 @@
 -- A history stands for others that differ from it only in calls that nobody can tell were made: those that change nothing but
 -- their caller's place, and the ends of runs.
-use Rattle.std.specs.Prelude.{ℕ, suc, ◌≡◌, ◌==◌, ◌<◌, ◌≤◌, ◌⊎◌, nat_le, Bool, true, false, Option, Some, None, List, ◌∷◌, MatchOption, length, slice_get}
+use Rattle.std.specs.Prelude.{ℕ, suc, ◌≡◌, ◌==◌, ◌<◌, ◌≤◌, ◌⊎◌, ◌&&◌, ◌||◌, not, nat_le, Bool, true, false, Option, Some, None, List, ◌∷◌, MatchOption, length, slice_get}
 use Rattle.tc_verdict.specs.declared.run.Run.{Run}
 use Rattle.tc_verdict.specs.declared.verdict.Verdict.{Verdict}
 use Rattle.tc_verdict.specs.declared.verdict.Verdict.TheVariants as V
@@ -10,12 +10,14 @@ use Rattle.tc_entry.specs.declared.comp.Comp.{Comp}
 use Rattle.tc_entry.specs.declared.entry.Entry.{Entry}
 use Rattle.tc_entry.specs.declared.op.Op.{Op}
 use Rattle.tc_entry.specs.declared.op.Op.TheVariants as O
+use Rattle.tc_entry.specs.declared.op.Group.TheVariants as G
 use Rattle.tc_entry.specs.declared.op.Target.{Target}
+use Rattle.tc_entry.specs.declared.phase.Phase.{Phase}
 use Rattle.tc_entry.specs.declared.phase.Phase.TheVariants as P
 use Rattle.tc_entry.specs.Reply.{is_fault}
 use Rattle.tc_step.specs.Steps.{ScriptView}
 use Rattle.tc_table.specs.History.{comps, comp_of, is_alive_type, is_over}
-use Rattle.tc_table.specs.Phases.{phase}
+use Rattle.tc_table.specs.Phases.{phase, phase_if_any}
 use Rattle.tc_table.specs.Local.{overall}
 use Rattle.tc_table.specs.Faults.{fault}
 use Rattle.tc_table.specs.Answers.{answer, is_active}
@@ -33,13 +35,28 @@ is_quiet worst (O.Done t) = true
 is_quiet worst (O.Killed t) = true
 is_quiet worst op = false
 
--- the call of run b is an error, or not quiet
-abbrev pub IsLoud : ℕ → List Entry → ℕ → Op → Type 0
-IsLoud n q b op = is_fault (answer n q b op) ≡ false → is_quiet (overall q) op ≡ false
+-- there is a component, and it is killed
+abbrev pub is_gone : Option Phase → Bool
+is_gone (Some P.Killed) = true
+is_gone _ = false
 
--- the call of run b would be quiet, and is no error
+-- the call stops or kills a component that is killed already; the main component is none of these
+abbrev pub is_late : List Entry → Op → Bool
+is_late q (O.Stop (G.One c)) = not (c.0 == 0) && is_gone (phase_if_any q c.0)
+is_late q (O.Kill (G.One c)) = not (c.0 == 0) && is_gone (phase_if_any q c.0)
+is_late q op = false
+
+-- the call would change nothing but its caller's place
+abbrev pub is_spent : List Entry → Op → Bool
+is_spent q op = is_quiet (overall q) op || is_late q op
+
+-- the call of run b is an error, or changes something
+abbrev pub IsLoud : ℕ → List Entry → ℕ → Op → Type 0
+IsLoud n q b op = is_fault (answer n q b op) ≡ false → is_spent q op ≡ false
+
+-- the call of run b would change nothing, and is no error
 pub record IsQuietAt (n : ℕ) (q : List Entry) (b : ℕ) (op : Op) : Type 0 where
-  pub quiet : is_quiet (overall q) op ≡ true
+  pub quiet : is_spent q op ≡ true
   pub no_fault : fault n q b op ≡ None
 
 -- what a run that is known so calls at its k-th step
@@ -109,7 +126,7 @@ pub record IsEnd (q : List Entry) (b : ℕ) (op : Op) : Type 0 where
 
 -- nobody can tell that run b made this call
 abbrev pub IsSilent : List Entry → ℕ → Op → Type 0
-IsSilent q b op = (is_quiet (overall q) op ≡ true) ⊎ IsEnd q b op
+IsSilent q b op = (is_spent q op ≡ true) ⊎ IsEnd q b op
 
 -- q stands for p
 pub record IsFor (scripts : List ScriptView) (q p : List Entry) : Type 0 where
@@ -129,7 +146,7 @@ pub record GoesOn (scripts : List ScriptView) (q : List Entry) : Type 0 where
 
 -- what each call of run b leads to is seen, or its verdict is found
 pub record IsClosedFor (scripts : List ScriptView) (Seen : List Entry → Type 0) (found : List Witness) (q : List Entry) (e : Entry) : Type 0 where
-  pub loud : is_fault e.reply ≡ false → is_quiet (overall q) e.op ≡ false
+  pub loud : is_fault e.reply ≡ false → is_spent q e.op ≡ false
   pub over : is_over (e ∷ q) ≡ true → is_found found (overall (e ∷ q)) ≡ true
   pub more : is_over (e ∷ q) ≡ false → IsCovered scripts Seen (e ∷ q)
 

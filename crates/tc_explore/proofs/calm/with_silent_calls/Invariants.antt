@@ -1,6 +1,6 @@
 use Rattle.tc_explore.specs.Found.{IsOn}
 use Rattle.tc_explore.specs.Inside.Seen.{StandsOn}
-use Rattle.tc_explore.proofs.full.with_silent_calls.Given as goal
+use Rattle.tc_explore.proofs.calm.with_silent_calls.Given as goal
 
 abbrev pub invariant-loop : goal.invariant-loop
 invariant-loop l = IsOn l.scripts l.course × StandsOn l.scripts l.initial.course l.course

@@ -5,7 +5,7 @@ use Rattle.tc_table.specs.Answers.{answer}
 use Rattle.tc_explore.specs.Course.{IsTurn, taken}
 use Rattle.tc_explore.specs.Inside.Simulation.{IsSilent}
 use Rattle.tc_explore.proofs.Searching.{lead_call}
-use Rattle.tc_explore.proofs.full.with_silent_call.Goals as goal
+use Rattle.tc_explore.proofs.calm.with_silent_call.Goals as goal
 
 pub returns-clause-stands : goal.returns-clause-stands
 returns-clause-stands c =

@@ -1,6 +1,6 @@
 use Rattle.tc_explore.specs.Found.{IsOn}
 use Rattle.tc_explore.specs.Inside.Seen.{StandsOn}
-use Rattle.tc_explore.proofs.full.calmed.Given as goal
+use Rattle.tc_explore.proofs.calm.calmed_once.Given as goal
 
 abbrev pub invariant-loop-run : goal.invariant-loop-run
 invariant-loop-run l = IsOn l.scripts l.course × StandsOn l.scripts l.initial.course l.course

@@ -1,0 +1,294 @@
+-- What a stop or a kill of a component does that is killed already.
+use Rattle.std.proofs.Common.{ℕ, ◌≡◌, ◌==◌, ◌&&◌, ◌||◌, ◌⊎◌, inl, inr, not, if◌then◌else◌, Bool, true, false, Option, Some, None, List, ◌∷◌, length, refl, ap, sym, subst, ◌∙◌}
+use Rattle.tc_verdict.specs.declared.run.Run.{Run}
+use Rattle.tc_entry.specs.declared.comp.Comp.{Comp}
+use Rattle.tc_entry.specs.declared.entry.Entry.{Entry}
+use Rattle.tc_entry.specs.declared.op.Op.{Op}
+use Rattle.tc_entry.specs.declared.op.Op.TheVariants as O
+use Rattle.tc_entry.specs.declared.op.Group.TheVariants as G
+use Rattle.tc_entry.specs.declared.phase.Phase.{Phase}
+use Rattle.tc_entry.specs.declared.phase.Phase.TheVariants as P
+use Rattle.tc_entry.specs.declared.reply.Reply.TheVariants as R
+use Rattle.tc_entry.specs.Reply.{is_ended, is_ok}
+use Rattle.tc_step.specs.Steps.{ScriptView}
+use Rattle.tc_table.specs.declared.component_state.ComponentState.{ComponentState}
+use Rattle.tc_table.specs.History.{comps, comp_of, exists, is_alive_type, created, started_on, starts_on, first_some, add_new, halts, kills, ends_case}
+use Rattle.tc_table.specs.Phases.{phase, phase_if_any, start_in}
+use Rattle.tc_table.specs.Status.{is_killed}
+use Rattle.tc_table.specs.Local.{overall, gives}
+use Rattle.tc_table.specs.Faults.{special_fault}
+use Rattle.tc_table.specs.Answers.{answer, plain_answer, is_active, is_active_on, is_run_of}
+use Rattle.tc_table.specs.Legal.{IsLegal}
+use Rattle.tc_table.specs.Inside.Step.{next_phase, next_local}
+use Rattle.tc_table.proofs.Deciding.{self_equal, equal_if, ok_is}
+use Rattle.tc_table.proofs.Sound.{IsPlain, plain_if, no_special, startable}
+use Rattle.tc_table.proofs.Over.{stays}
+use Rattle.tc_book.specs.Passes.{ends_pass}
+use Rattle.tc_explore.specs.Course.{stand, ends, is_wake, wake_if, IsCourse}
+use Rattle.tc_explore.specs.Inside.Alike.{IsAlike}
+use Rattle.tc_explore.specs.Inside.Simulation.{is_gone, is_late, IsLeaving, IsEnding, IsAhead}
+use Rattle.tc_explore.proofs.Alike.{phase_next, fresh, kind_kept, first_kept, kept_by, overall_next}
+use Rattle.tc_explore.proofs.Ahead.{leaving_other}
+
+-- ---- the component of the call
+
+-- a component is there, and is killed
+pub record IsGone (past : List Entry) (c : ℕ) : Type 0 where
+  pub there : exists past c ≡ true
+  pub dead : phase past c ≡ P.Killed
+
+pub gone_is : (past : List Entry) (c : ℕ) → is_gone (phase_if_any past c) ≡ true → IsGone past c
+unfolding phase_if_any
+gone_is past c h = by_test (exists past c) refl h
+  where
+    by_phase : (ph : Phase) → phase past c ≡ ph → is_gone (Some ph) ≡ true → phase past c ≡ P.Killed
+    by_phase P.Killed k j = k
+    by_phase P.Inactive k j = absurd cc
+    by_phase P.Stopped k j = absurd cc
+    by_phase (P.Running run) k j = absurd cc
+
+    by_test : (t : Bool) → exists past c ≡ t → is_gone (if t then Some (phase past c) else None) ≡ true → IsGone past c
+    by_test true k j = record { there = k; dead = by_phase (phase past c) refl j }
+    by_test false k j = absurd cc
+
+pub gone_if : (past : List Entry) (c : ℕ) → IsGone past c → is_gone (phase_if_any past c) ≡ true
+unfolding phase_if_any
+gone_if past c h = rw (h.there, h.dead) refl
+
+-- ---- killed for ever
+
+test_by : (t : Bool) (x r : Run) → (if t then Some x else None) ≡ Some r → t ≡ true
+test_by true x r h = refl
+test_by false x r h = absurd cc
+
+unkilled_of : (n : ℕ) (past : List Entry) (b : ℕ) (op : Op) (c : ℕ) (r : Run) → IsPlain n past b op R.Ok → starts_on op c ≡ Some r → is_killed (phase past c) ≡ false
+unkilled_of n past b (O.Start d run args) c r plain h =
+    let same : d.0 ≡ c = equal_if d.0 c (test_by (d.0 == c) run r h) in
+    rw (← same) (startable n past d.0 run.0 (no_special n past b (O.Start d run args) plain.no_fault))
+unkilled_of n past b _ c r plain h = absurd cc
+
+both_is : (ok : Bool) (s : Option Run) (r : Run) → (if ok then s else None) ≡ Some r → (ok ≡ true) × (s ≡ Some r)
+both_is true s r h = (refl, h)
+both_is false s r h = absurd cc
+
+-- nothing is started on a killed component
+none_on_killed : (n : ℕ) (past : List Entry) (e : Entry) (c : ℕ) → IsLegal n (e ∷ past) → phase past c ≡ P.Killed → start_in e c ≡ None
+none_on_killed n past e c legal dead = by_some (start_in e c) refl
+  where
+    by_some : (o : Option Run) → start_in e c ≡ o → o ≡ None
+    by_some None k = refl
+    by_some (Some r) k =
+        let p = both_is (is_ok e.reply) (starts_on e.op c) r k in
+        let q : R.Ok ≡ answer n past e.caller.0 e.op = sym (ok_is e.reply p.0) ∙ legal.0 in
+        let off : is_killed (phase past c) ≡ false = unkilled_of n past e.caller.0 e.op c r (plain_if n past e.caller.0 e.op R.Ok refl refl q) p.1 in
+        let on : is_killed (phase past c) ≡ true = ap is_killed dead in
+        absurd cc
+
+stays_killed : (k h a : Bool) → next_phase k None h a P.Killed ≡ P.Killed
+stays_killed true h a = refl
+stays_killed false true a = refl
+stays_killed false false a = refl
+
+pub gone_next : (n : ℕ) (past : List Entry) (e : Entry) (c : ℕ) → IsLegal n (e ∷ past) → IsGone past c → IsGone (e ∷ past) c
+gone_next n past e c legal h = record {
+  there = stays past e c h.there;
+  dead =
+      phase_next n past e c legal
+      ∙ (rw (h.there, none_on_killed n past e c legal h.dead, h.dead) (stays_killed (kills e c) (halts (comp_of past e.caller.0) e c) (is_alive_type past c)));
+}
+
+-- ---- the entry
+
+-- the entry halts component c alone, and nothing else changes by it
+pub record HaltsOne (past : List Entry) (e : Entry) (c : ℕ) : Type 0 where
+  pub no_case : ends_case e ≡ false
+  pub made : created e.op e.reply ≡ None
+  pub no_run : (b : ℕ) → started_on e b ≡ None
+  pub no_start : (d : ℕ) → start_in e d ≡ None
+  pub no_gain : next_local (gives e.op e.reply) (overall past) ≡ overall past
+  pub here : (own : Option Comp) → halts own e c ≡ true
+  pub no_kill : (d : ℕ) → (c == d) ≡ false → kills e d ≡ false
+  pub elsewhere : (own : Option Comp) (d : ℕ) → (c == d) ≡ false → halts own e d ≡ false
+  pub plain : is_wake e.op ≡ false
+  pub no_wake : wake_if e.op e.reply ≡ None
+  pub goes : is_ended e.reply ≡ false
+
+not_yes : (t : Bool) → not t ≡ true → t ≡ false
+not_yes true h = absurd cc
+not_yes false h = refl
+
+and_both : (a b : Bool) → (a && b) ≡ true → (a ≡ true) × (b ≡ true)
+and_both true b h = (refl, h)
+and_both false b h = absurd cc
+
+stop_halts : (past : List Entry) (e : Entry) (c : Comp) → (e.op ≡ O.Stop (G.One c)) ⊎ (e.op ≡ O.Kill (G.One c)) → e.reply ≡ R.Ok → (c.0 == 0) ≡ false → HaltsOne past e c.0
+stop_halts past e c (inl op) reply other = record {
+  no_case = rw (op, reply, other) refl;
+  made = rw op refl;
+  no_run = λ b. rw (op, reply) refl;
+  no_start = λ d. rw (op, reply) refl;
+  no_gain = rw (op, reply) refl;
+  here = λ own. rw (op, reply, other, self_equal c.0) refl;
+  no_kill = λ d k. rw (op, reply, other) refl;
+  elsewhere = λ own d k. rw (op, reply, other, k) refl;
+  plain = rw op refl;
+  no_wake = rw reply refl;
+  goes = rw reply refl;
+}
+stop_halts past e c (inr op) reply other = record {
+  no_case = rw (op, reply, other) refl;
+  made = rw op refl;
+  no_run = λ b. rw (op, reply) refl;
+  no_start = λ d. rw (op, reply) refl;
+  no_gain = rw (op, reply) refl;
+  here = λ own. rw (op, reply, other, self_equal c.0) refl;
+  no_kill = λ d k. rw (op, reply, other, k) refl;
+  elsewhere = λ own d k. rw (op, reply, other, k) refl;
+  plain = rw op refl;
+  no_wake = rw reply refl;
+  goes = rw reply refl;
+}
+
+-- the component that a late call is about
+pub record IsLateFor (past : List Entry) (op : Op) (c : Comp) : Type 0 where
+  pub halts_it : (op ≡ O.Stop (G.One c)) ⊎ (op ≡ O.Kill (G.One c))
+  pub other : (c.0 == 0) ≡ false
+  pub gone : IsGone past c.0
+
+pub late_for : (past : List Entry) (op : Op) → is_late past op ≡ true → (c : Comp) × IsLateFor past op c
+late_for past (O.Stop (G.One c)) h =
+    let p = and_both (not (c.0 == 0)) (is_gone (phase_if_any past c.0)) h in
+    (c, record { halts_it = inl refl; other = not_yes (c.0 == 0) p.0; gone = gone_is past c.0 p.1 })
+late_for past (O.Kill (G.One c)) h =
+    let p = and_both (not (c.0 == 0)) (is_gone (phase_if_any past c.0)) h in
+    (c, record { halts_it = inr refl; other = not_yes (c.0 == 0) p.0; gone = gone_is past c.0 p.1 })
+late_for past (O.Stop G.All) h = absurd cc
+late_for past (O.Kill G.All) h = absurd cc
+late_for past _ h = absurd cc
+
+late_if : (past : List Entry) (op : Op) (c : Comp) → IsLateFor past op c → is_late past op ≡ true
+late_if past op c h = by_op h.halts_it
+  where
+    by_op : (op ≡ O.Stop (G.One c)) ⊎ (op ≡ O.Kill (G.One c)) → is_late past op ≡ true
+    by_op (inl is) = rw (is, h.other) (gone_if past c.0 h.gone)
+    by_op (inr is) = rw (is, h.other) (gone_if past c.0 h.gone)
+
+pub late_next : (n : ℕ) (past : List Entry) (e : Entry) (op : Op) → IsLegal n (e ∷ past) → is_late past op ≡ true → is_late (e ∷ past) op ≡ true
+late_next n past e op legal h =
+    let l = late_for past op h in
+    late_if (e ∷ past) op l.0 (record { halts_it = l.1.halts_it; other = l.1.other; gone = gone_next n past e l.0.0 legal l.1.gone })
+
+pub late_special : (n : ℕ) (past : List Entry) (q : List Entry) (op : Op) → is_late q op ≡ true → special_fault n past op ≡ None
+late_special n past q op h = by_op (late_for q op h).1.halts_it
+  where
+    by_op : (op ≡ O.Stop (G.One (late_for q op h).0)) ⊎ (op ≡ O.Kill (G.One (late_for q op h).0)) → special_fault n past op ≡ None
+    by_op (inl is) = rw is refl
+    by_op (inr is) = rw is refl
+
+-- a late call that is no error is answered at once
+pub late_reply : (q past : List Entry) (b : ℕ) (op : Op) → is_late q op ≡ true → plain_answer past b op ≡ R.Ok
+late_reply q past b op h = by_op (late_for q op h).1.halts_it
+  where
+    by_op : (op ≡ O.Stop (G.One (late_for q op h).0)) ⊎ (op ≡ O.Kill (G.One (late_for q op h).0)) → plain_answer past b op ≡ R.Ok
+    by_op (inl is) = rw is refl
+    by_op (inr is) = rw is refl
+
+pub late_halts : (q past : List Entry) (e : Entry) (h : is_late q e.op ≡ true) → e.reply ≡ R.Ok → HaltsOne past e (late_for q e.op h).0.0
+late_halts q past e h reply = let l = late_for q e.op h in stop_halts past e l.0 l.1.halts_it reply l.1.other
+
+neither : (a b : Bool) → a ≡ false → b ≡ false → (a || b) ≡ false
+neither a b g h = rw (g, h) refl
+
+module _ {past : List Entry} {e : Entry} {c : ℕ} where
+  pub halt_elsewhere : (n : ℕ) → IsLegal n (e ∷ past) → HaltsOne past e c → (d : ℕ) → (c == d) ≡ false → phase (e ∷ past) d ≡ phase past d
+  halt_elsewhere n legal h d other =
+      phase_next n past e d legal
+      ∙ (rw (h.no_kill d other, h.no_start d, h.elsewhere (comp_of past e.caller.0) d other) refl
+      ∙ kept_by (exists past d) (phase past d) (λ k. ap (λ (s : ComponentState). s.phase) (fresh n past d legal.1 k)))
+
+  pub halt_comps : HaltsOne past e c → comps (e ∷ past) ≡ comps past
+  halt_comps h = ap (λ o. add_new o (comps past)) h.made
+
+  pub halt_kinds : (n : ℕ) → IsLegal n (e ∷ past) → HaltsOne past e c → (d : ℕ) → is_alive_type (e ∷ past) d ≡ is_alive_type past d
+  halt_kinds n legal h d = rw h.made (kind_kept (exists past d) (is_alive_type past d) (λ k. ap (λ (s : ComponentState). s.alive_type) (fresh n past d legal.1 k)))
+
+  pub halt_runs : HaltsOne past e c → (b : ℕ) → comp_of (e ∷ past) b ≡ comp_of past b
+  halt_runs h b = ap (first_some (comp_of past b)) (h.no_run b) ∙ first_kept (comp_of past b)
+
+  pub halt_overall : (n : ℕ) → IsLegal n (e ∷ past) → HaltsOne past e c → overall (e ∷ past) ≡ overall past
+  halt_overall n legal h = overall_next n past e legal ∙ h.no_gain
+
+  -- a killed component is as it was
+  pub alike_late : (n : ℕ) → IsLegal n (e ∷ past) → HaltsOne past e c → IsGone past c → IsAlike (e ∷ past) past
+  alike_late n legal h gone = record {
+    comps_same = halt_comps h;
+    phase_same = λ d. by_test d (c == d) refl;
+    kind_same = halt_kinds n legal h;
+    comp_same = halt_runs h;
+    overall_same = halt_overall n legal h;
+  }
+    where
+      by_test : (d : ℕ) (t : Bool) → (c == d) ≡ t → phase (e ∷ past) d ≡ phase past d
+      by_test d true k = subst (λ x. phase (e ∷ past) x ≡ phase past x) (equal_if c d k) ((gone_next n past e c legal gone).dead ∙ sym gone.dead)
+      by_test d false k = halt_elsewhere n legal h d k
+
+  -- a run that goes on is on another component
+  pub halt_not_ending : HaltsOne past e c → (o : Option Comp) (me : Comp) → o ≡ Some me → (c == me.0) ≡ false → ends o e ≡ false
+  unfolding ends_pass
+  halt_not_ending h o me same other =
+      subst (λ x. ends x e ≡ false) (sym same) (neither (is_ended e.reply) (halts (Some me) e me.0) h.goes (h.elsewhere (Some me) me.0 other))
+
+-- who goes on is on no killed component
+pub other_than_gone : (past : List Entry) (b c : ℕ) (me : Comp) → is_active past b ≡ true → comp_of past b ≡ Some me → phase past c ≡ P.Killed → (c == me.0) ≡ false
+unfolding is_active
+other_than_gone past b c me act on dead = by_test (c == me.0) refl
+  where
+    by_test : (t : Bool) → (c == me.0) ≡ t → t ≡ false
+    by_test false k = refl
+    by_test true k =
+        let here : phase past me.0 ≡ P.Killed = subst (λ x. phase past x ≡ P.Killed) (equal_if c me.0 k) dead in
+        let off : is_active_on past b (comp_of past b) ≡ false = ap (is_active_on past b) on ∙ ap (is_run_of b) here in
+        absurd cc
+
+-- ---- p stops what q has seen end
+
+module _ (scripts : List ScriptView) (p q : List Entry) (e : Entry) (c : ℕ) (cp : IsCourse scripts p) (lp : IsLegal (length scripts) (e ∷ p)) (s : IsAhead scripts p q) (h : HaltsOne p e c) (dead : phase q c ≡ P.Killed)
+    (own : (d : ℕ) (n : IsEnding scripts p q d) → (e.caller.0 == n.run.0) ≡ true → IsLeaving scripts q n.run.0 (stand (e ∷ p) n.run.0)) where
+  halted_now : (k : Bool) (run : Run) → next_phase k None true false (P.Running run) ≡ P.Killed
+  halted_now true run = refl
+  halted_now false run = refl
+
+  phase_here : (phase p c ≡ phase q c) ⊎ IsEnding scripts p q c → exists p c ≡ true → phase (e ∷ p) c ≡ phase q c
+  phase_here (inl same) there = (gone_next (length scripts) p e c lp (record { there = there; dead = same ∙ dead })).dead ∙ sym dead
+  phase_here (inr n) there =
+      phase_next (length scripts) p e c lp
+      ∙ (rw (there, h.no_start c, h.here (comp_of p e.caller.0), n.ordinary, n.running) (halted_now (kills e c) n.run) ∙ sym dead)
+
+  leaving_still : (d : ℕ) (n : IsEnding scripts p q d) (t : Bool) → (e.caller.0 == n.run.0) ≡ t → IsLeaving scripts q n.run.0 (stand (e ∷ p) n.run.0)
+  leaving_still d n true k = own d n k
+  leaving_still d n false k = leaving_other scripts p q e d n cp k
+
+  phase_there : (d : ℕ) → (c == d) ≡ false → (phase p d ≡ phase q d) ⊎ IsEnding scripts p q d → (phase (e ∷ p) d ≡ phase q d) ⊎ IsEnding scripts (e ∷ p) q d
+  phase_there d other (inl same) = inl (halt_elsewhere (length scripts) lp h d other ∙ same)
+  phase_there d other (inr n) = inr (record {
+    run = n.run;
+    running = halt_elsewhere (length scripts) lp h d other ∙ n.running;
+    ended = n.ended;
+    not_main = n.not_main;
+    on = halt_runs h n.run.0 ∙ n.on;
+    ordinary = halt_kinds (length scripts) lp h d ∙ n.ordinary;
+    leaving = leaving_still d n (e.caller.0 == n.run.0) refl;
+  })
+
+  pub ahead_late : exists p c ≡ true → IsAhead scripts (e ∷ p) q
+  ahead_late there = record {
+    comps_same = halt_comps h ∙ s.comps_same;
+    phases = λ d. by_test d (c == d) refl;
+    kind_same = λ d. halt_kinds (length scripts) lp h d ∙ s.kind_same d;
+    comp_same = λ b. halt_runs h b ∙ s.comp_same b;
+    overall_same = halt_overall (length scripts) lp h ∙ s.overall_same;
+  }
+    where
+      by_test : (d : ℕ) (t : Bool) → (c == d) ≡ t → (phase (e ∷ p) d ≡ phase q d) ⊎ IsEnding scripts (e ∷ p) q d
+      by_test d true k = subst (λ x. (phase (e ∷ p) x ≡ phase q x) ⊎ IsEnding scripts (e ∷ p) q x) (equal_if c d k) (inl (phase_here (s.phases c) there))
+      by_test d false k = phase_there d k (s.phases d)

@@ -1,0 +1,6 @@
+use Rattle.tc_explore.specs.Found.{IsOn}
+use Rattle.tc_explore.specs.Inside.Seen.{StandsOn}
+use Rattle.tc_explore.proofs.calm.calmed.Given as goal
+
+abbrev pub invariant-loop : goal.invariant-loop
+invariant-loop l = IsOn l.scripts l.course × StandsOn l.scripts l.initial.course l.course

@@ -1,0 +1,183 @@
+//! The calls of which nobody can tell that they were made, and the making of them.
+ghost use Rattle.std.specs.Prelude.{◌≡◌, ◌≤◌, false, IfOk, IsTrue, length};
+ghost use Rattle.tc_entry.specs.declared.limits.TheConstants.{BEHAVIOURS};
+ghost use Rattle.tc_entry.specs.declared.op.Op.TheVariants.{Finish};
+ghost use Rattle.tc_entry.specs.Reply as reply;
+ghost use Rattle.tc_table.specs.Case.{past_of};
+ghost use Rattle.tc_table.specs.Answers as answers;
+ghost use Rattle.tc_explore.specs.Found.{IsOn};
+ghost use Rattle.tc_explore.specs.Inside.Simulation as moves;
+ghost use Rattle.tc_explore.specs.Inside.Seen.{StandsOn};
+
+use crate::course::Course;
+use crate::told::level;
+use crate::turns::next_call;
+use tc_entry::{Group, Op, Phase};
+use tc_step::{STEPS, Script};
+use tc_verdict::{NoMemory, Run, Verdict, from_user};
+
+// Whether a call asks a question, or sets a verdict that is no worse than this one.
+fn is_quiet_now(op: &Op, worst: Verdict) -> bool
+    ensures { result ≡ moves.is_quiet worst op.now }
+{
+    match op {
+        Op::SetVerdict(verdict) => level(from_user(*verdict)) <= level(worst),
+        Op::GetVerdict | Op::Running(_) | Op::Alive(_) | Op::Done(_) | Op::Killed(_) => true,
+        _ => false,
+    }
+}
+
+// Whether a call stops or kills a component, but the main one, that is killed already.
+fn is_late(course: &Course, op: &Op) -> bool
+    ensures { result ≡ moves.is_late (past_of course.now) op.now }
+{
+    match op {
+        Op::Stop(Group::One(comp)) | Op::Kill(Group::One(comp)) => {
+            comp.0 != 0 && is_gone(course.phase_of(*comp))
+        }
+        _ => false,
+    }
+}
+
+/// Whether a call would change nothing but its caller's place.
+pub(crate) fn is_spent(course: &Course, op: &Op) -> bool
+    ensures { result ≡ moves.is_spent (past_of course.now) op.now }
+{
+    is_quiet_now(op, course.verdict()) || is_late(course, op)
+}
+
+// Whether a call ends a run.
+fn is_finish(op: &Op) -> bool
+    ensures { IsTrue result → op.now ≡ Finish }
+{
+    match op {
+        Op::Finish => true,
+        _ => false,
+    }
+}
+
+// Whether there is a component, and it is killed.
+fn is_gone(phase: Option<Phase>) -> bool
+    ensures { result ≡ moves.is_gone phase }
+{
+    matches!(phase, Some(Phase::Killed))
+}
+
+// Whether a call ends a run, but the main one, on a component that nothing can start again.
+#[tactic(auto, using(crate::proofs::Searching::silent_rules))]
+fn is_end(course: &Course, run: Run, op: &Op) -> bool
+    ensures { IsTrue result → moves.IsEnd (past_of course.now) run.0 op.now }
+{
+    if run.0 == 0 || !is_finish(op) {
+        return false;
+    }
+    match course.comp_of(run) {
+        Some(comp) => !course.is_alive_type(comp.0),
+        None => false,
+    }
+}
+
+// Whether nobody can tell that a call was made: it changes nothing or is an end, and is no error.
+#[tactic(auto, using(crate::proofs::Searching::silent_rules))]
+fn is_silent(course: &Course, run: Run, op: &Op) -> bool
+    ensures plain { IsTrue result → reply.is_fault (answers.answer course.now.behaviours (past_of course.now) run.0 op.now) ≡ false }
+    ensures going { IsTrue result → reply.is_ended (answers.answer course.now.behaviours (past_of course.now) run.0 op.now) ≡ false }
+    ensures silent { IsTrue result → moves.IsSilent (past_of course.now) run.0 op.now }
+{
+    let reply = course.would(run, op);
+    if reply.is_fault() || reply.is_ended() {
+        return false;
+    }
+    is_spent(course, op) || is_end(course, run, op)
+}
+
+// A course, and whether it is longer than it was.
+#[derive(Drop)]
+struct Advance {
+    course: Course,
+    went_on: bool,
+}
+
+// The course with the next call of a run, if nobody can tell that it was made.
+#[tactic(auto, using(crate::proofs::Searching::searching_rules, crate::proofs::Turning::turn_rules))]
+fn with_silent_call(course: Course, scripts: &[Script], run: Run) -> Result<Advance, NoMemory>
+    requires on { IsOn scripts.now course }
+    ensures on { IfOk result (λ a. IsOn scripts.now a.course) }
+    ensures stands { IfOk result (λ a. StandsOn scripts.now course a.course) }
+{
+    let Some(op) = next_call(&course, scripts, run) else {
+        return Ok(Advance {
+            course,
+            went_on: false,
+        });
+    };
+    if !is_silent(&course, run, &op) {
+        return Ok(Advance {
+            course,
+            went_on: false,
+        });
+    }
+    let course = course.with(run, op)?;
+    Ok(Advance {
+        course,
+        went_on: true,
+    })
+}
+
+// The course with the next calls of a run of which nobody can tell that they were made.
+#[tactic(auto, using(crate::proofs::Searching::searching_rules))]
+fn with_silent_calls(course: Course, scripts: &[Script], run: Run) -> Result<Advance, NoMemory>
+    requires on { IsOn scripts.now course }
+    ensures on { IfOk result (λ a. IsOn scripts.now a.course) }
+    ensures stands { IfOk result (λ a. StandsOn scripts.now course a.course) }
+{
+    let mut course = course;
+    let mut went_on = false;
+    for _ in 0..STEPS + 1 {
+        let advance = with_silent_call(course, scripts, run)?;
+        course = advance.course;
+        if !advance.went_on {
+            return Ok(Advance { course, went_on });
+        }
+        went_on = true;
+    }
+    Ok(Advance { course, went_on })
+}
+
+// The course with such calls of all runs, one run after the other.
+#[tactic(auto, using(crate::proofs::Searching::searching_rules))]
+fn calmed_once(course: Course, scripts: &[Script]) -> Result<Advance, NoMemory>
+    requires few { length scripts.now ≤ BEHAVIOURS }
+    requires on { IsOn scripts.now course }
+    ensures on { IfOk result (λ a. IsOn scripts.now a.course) }
+    ensures stands { IfOk result (λ a. StandsOn scripts.now course a.course) }
+{
+    let mut course = course;
+    let mut went_on = false;
+    for run in 0..scripts.len() as u16 {
+        let advance = with_silent_calls(course, scripts, Run(run))?;
+        course = advance.course;
+        went_on = went_on || advance.went_on;
+    }
+    Ok(Advance { course, went_on })
+}
+
+/// The course with all calls of which nobody can tell that they were made. The end of a run can make a call of another one
+/// of these, so it goes over the runs until none has such a call.
+#[tactic(auto, using(crate::proofs::Searching::searching_rules))]
+pub(crate) fn calmed(course: Course, scripts: &[Script]) -> Result<Course, NoMemory>
+    requires few { length scripts.now ≤ BEHAVIOURS }
+    requires on { IsOn scripts.now course }
+    ensures on { IfOk result (λ c. IsOn scripts.now c) }
+    ensures stands { IfOk result (λ c. StandsOn scripts.now course c) }
+{
+    let mut course = course;
+    for _ in 0..scripts.len() {
+        let advance = calmed_once(course, scripts)?;
+        course = advance.course;
+        if !advance.went_on {
+            return Ok(course);
+        }
+    }
+    Ok(course)
+}
