@@ -1,6 +1,6 @@
 -- The steps of scripts together, and what there is room for.
 use Rattle.std.proofs.Common.{ℕ, ◌≡◌, ◌+◌, ◌*◌, ◌/◌, ◌<◌, ◌≤◌, List, [], ◌∷◌, ◌++◌, length, take, get_or, refl, ap, ◌∙◌, arith}
-use Rattle.std.proofs.Math.Nat.{le-div_iff_mul-le}
+use Rattle.std.proofs.Math.Nat.{le-div_iff_mul-le, div-le_self}
 use Rattle.std.proofs.lemmas.List.{take_more}
 use Rattle.tc_step.specs.Steps.{ScriptView}
 use Rattle.tc_explore.specs.Course.{room_of}
@@ -18,3 +18,9 @@ pub room_for : (x n most : ℕ) → 1 ≤ n → x ≤ most / n → x * n ≤ mos
 room_for x n most some few = (le-div_iff_mul-le {k = n} {x = x} {y = most} (omega (arith, some))).0 few
 
 pub ruleset room_rules = (room_more, room_for)
+
+-- as many as there are, each counted for its weight
+pub counted_all : (x n most : ℕ) → 1 ≤ n → x ≤ most / n → (x * n ≤ most) × (x ≤ most)
+counted_all x n most some few = (room_for x n most some few, let less = div-le_self most n in omega (arith, less, few))
+
+pub ruleset weight_rules = (counted_all, room_for, div-le_self)

@@ -1,6 +1,6 @@
 -- Courses of a test case whose behaviours are scripts: what each run has called, and what it calls next.
 -- As in the component table's definitions `past` lists entries, the newest first, and runs go by their numbers.
-use Rattle.std.specs.Prelude.{ℕ, ◌≡◌, ◌==◌, ◌<◌, ◌+◌, ◌++◌, ◌&&◌, ◌||◌, if◌then◌else◌, Bool, true, false, Option, Some, None, List, [], ◌∷◌, length, slice_get}
+use Rattle.std.specs.Prelude.{ℕ, ◌≡◌, ◌==◌, ◌<◌, ◌+◌, ◌*◌, ◌/◌, ◌++◌, ◌&&◌, ◌||◌, if◌then◌else◌, Bool, true, false, Option, Some, None, List, [], ◌∷◌, length, slice_get}
 use Rattle.tc_verdict.specs.declared.run.Run.{Run}
 use Rattle.tc_entry.specs.declared.comp.Comp.{Comp}
 use Rattle.tc_entry.specs.declared.entry.Entry.{Entry}
@@ -169,6 +169,10 @@ IsCourse scripts (e ∷ past) = IsTurn scripts past e × IsCourse scripts past
 abbrev pub room_of : List ScriptView → ℕ
 room_of [] = 1
 room_of (script ∷ scripts) = room_of scripts + length script.steps
+
+-- what a state counts for by the limit of a search: one, and one more for each 4,000 that its behaviours times its room have
+abbrev pub weight_of : List ScriptView → ℕ
+weight_of scripts = length scripts * room_of scripts / 4000 + 1
 
 -- it is complete: no run has a call left
 abbrev pub IsComplete : List ScriptView → List Entry → Type 0

@@ -1,8 +1,8 @@
 //! The search for the overall verdicts of a test case.
-ghost use Rattle.std.specs.Prelude.{◌≡◌, ◌≤◌, ◌*◌, [], IfOk, IfSome, OnOk, length};
+ghost use Rattle.std.specs.Prelude.{◌≡◌, ◌≤◌, ◌*◌, ◌/◌, [], IfOk, IfSome, OnOk, length};
 ghost use Rattle.tc_entry.specs.declared.limits.TheConstants.{BEHAVIOURS};
 ghost use Rattle.tc_explore.specs.Found.{AreWitnesses, AreLegal, AreReached, IsOnce};
-ghost use Rattle.tc_explore.specs.Course.{room_of};
+ghost use Rattle.tc_explore.specs.Course.{room_of, weight_of};
 ghost use Rattle.tc_explore.specs.Inside.Seen.{IsNoted};
 ghost use Rattle.tc_explore.specs.Laws.{AllFound};
 ghost use Rattle.tc_explore.specs.declared.explored.Ending.TheVariants.{Complete, Undecided};
@@ -63,6 +63,15 @@ fn room_for_one(scripts: &[Script]) -> Option<usize>
     Some(entries)
 }
 
+// What a state counts for by the limit, if a number can hold it.
+fn weight_for(scripts: &[Script]) -> Option<usize>
+    ensures some { IfSome result (λ n. 1 ≤ n) }
+    ensures is { IfSome result (λ n. n ≡ weight_of scripts.now) }
+{
+    let size = scripts.len().checked_mul(room_for_one(scripts)?)?;
+    (size / 4_000).checked_add(1)
+}
+
 // How many states that search looks at: no more than the other, and fewer where the scripts have many steps.
 #[tactic(auto, using(crate::proofs::Room::room_rules))]
 fn full_limit(scripts: &[Script], limit: usize) -> usize
@@ -108,10 +117,11 @@ fn search_both(
 }
 
 /// Looks for the overall verdicts that the courses of a test case give, each with a complete course that gives it. A search by
-/// the calls of all runs keeps so many states at most, and fewer of a test case with many steps. Where it comes to its end,
-/// the verdict of each complete course is found. Else a search with reductions follows, which looks at so many states at
-/// most. Each number of calls that is reached has a course too. A test case without behaviours is left undecided.
-#[tactic(auto, using(crate::proofs::Legality::legal_rules, crate::proofs::Noting::noting_rules))]
+/// the calls of all runs keeps so many states at most, each counted for its weight, and fewer of a test case with many steps.
+/// Where it comes to its end, the verdict of each complete course is found. Else a search with reductions follows, which
+/// looks at so many states at most, each counted for its weight. Each number of calls that is reached has a course too. A
+/// test case without behaviours is left undecided.
+#[tactic(auto, using(crate::proofs::Legality::legal_rules, crate::proofs::Noting::noting_rules, crate::proofs::Room::weight_rules))]
 pub fn explore(alloc: Global, scripts: &[Script], limit: usize) -> Result<Explored, NoMemory>
     requires few { length scripts.now ≤ BEHAVIOURS }
     ensures sound { IfOk result (λ e. AreWitnesses scripts.now e.found) }
@@ -119,8 +129,9 @@ pub fn explore(alloc: Global, scripts: &[Script], limit: usize) -> Result<Explor
     ensures reached { IfOk result (λ e. AreReached scripts.now e.reached) }
     ensures complete { IfOk result (λ e. e.ending ≡ Complete → AllFound scripts.now e.found) }
     ensures within { IfOk result (λ e. e.states ≤ limit) }
+    ensures counted { IfOk result (λ e. e.states * weight_of scripts.now ≤ limit) }
     ensures once { IfOk result (λ e. IsOnce e.found) }
-    ensures undecided { IfOk result (λ e. e.ending ≡ Undecided → 1 ≤ length scripts.now → e.states ≡ limit) }
+    ensures undecided { IfOk result (λ e. e.ending ≡ Undecided → 1 ≤ length scripts.now → e.states ≡ limit / weight_of scripts.now) }
     ensures nothing { IfOk result (λ e. scripts.now ≡ [] → (e.ending ≡ Undecided) × (e.found ≡ []) × (e.states ≡ 0)) }
 {
     let mut found = no_findings(alloc, scripts)?;
@@ -132,7 +143,8 @@ pub fn explore(alloc: Global, scripts: &[Script], limit: usize) -> Result<Explor
             ending: Ending::Undecided,
         });
     }
-    let reach = search_both(alloc, scripts, limit, &mut found)?;
+    let weight = weight_for(scripts).ok_or(NoMemory)?;
+    let reach = search_both(alloc, scripts, limit / weight, &mut found)?;
     Ok(Explored {
         found: Sequence::new(found.witnesses),
         reached: Sequence::new(found.reached),

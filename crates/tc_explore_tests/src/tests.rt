@@ -286,6 +286,40 @@ fn a_search_ends_at_its_limit(rt: HostRuntime) -> Result<(), Fail> {
     Ok(())
 }
 
+// Of a test case with many behaviours and steps a state counts for more: here each for 13.
+#[test]
+fn a_large_test_case_has_fewer_states(rt: HostRuntime) -> Result<(), Fail> {
+    let alloc = rt.alloc();
+    let mut scripts = vec![in alloc;
+        leading(&rt, alloc, Step::GetVerdict)?,
+        setting(&rt, alloc, UserVerdict::Fail)?,
+    ]?;
+    for _ in 0..6 {
+        let mut steps = Vec::new(alloc);
+        for _ in 0..1_000 {
+            steps.push(Step::GetVerdict)?;
+        }
+        scripts.push(script(&rt, steps))?;
+    }
+    assert!(rt; scripts.len() <= 64);
+    for (limit, states) in [(12, 0), (13, 1), (38, 2)] {
+        let explored = explore(alloc, scripts.as_slice(), limit)?;
+        holds(
+            &rt,
+            "explored.ending == Ending::Undecided",
+            explored.ending == Ending::Undecided,
+        );
+        is(&rt, "explored.states", explored.states, states);
+    }
+    let explored = explore(alloc, scripts.as_slice(), 39)?;
+    holds(
+        &rt,
+        "explored.ending == Ending::Reduced",
+        explored.ending == Ending::Reduced,
+    );
+    Ok(())
+}
+
 // Who stops a component that is killed already changes nothing: one state stands for all of its calls.
 #[test]
 fn late_stops_have_no_states(rt: HostRuntime) -> Result<(), Fail> {
