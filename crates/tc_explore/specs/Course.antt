@@ -170,9 +170,9 @@ abbrev pub room_of : List ScriptView → ℕ
 room_of [] = 1
 room_of (script ∷ scripts) = room_of scripts + length script.steps
 
--- what a state counts for by the limit of a search: one, and one more for each 4,000 that its behaviours times its room have
+-- what a state counts for by the limit of a search: one, and one more for each 2,000 that its behaviours times its room have
 abbrev pub weight_of : List ScriptView → ℕ
-weight_of scripts = length scripts * room_of scripts / 4000 + 1
+weight_of scripts = length scripts * room_of scripts / 2000 + 1
 
 -- it is complete: no run has a call left
 abbrev pub IsComplete : List ScriptView → List Entry → Type 0

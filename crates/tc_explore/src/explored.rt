@@ -69,7 +69,7 @@ fn weight_for(scripts: &[Script]) -> Option<usize>
     ensures is { IfSome result (λ n. n ≡ weight_of scripts.now) }
 {
     let size = scripts.len().checked_mul(room_for_one(scripts)?)?;
-    (size / 4_000).checked_add(1)
+    (size / 2_000).checked_add(1)
 }
 
 // How many states that search looks at: no more than the other, and fewer where the scripts have many steps.

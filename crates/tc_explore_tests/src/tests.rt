@@ -286,7 +286,7 @@ fn a_search_ends_at_its_limit(rt: HostRuntime) -> Result<(), Fail> {
     Ok(())
 }
 
-// Of a test case with many behaviours and steps a state counts for more: here each for 13.
+// Of a test case with many behaviours and steps a state counts for more: here each for 25.
 #[test]
 fn a_large_test_case_has_fewer_states(rt: HostRuntime) -> Result<(), Fail> {
     let alloc = rt.alloc();
@@ -302,7 +302,7 @@ fn a_large_test_case_has_fewer_states(rt: HostRuntime) -> Result<(), Fail> {
         scripts.push(script(&rt, steps))?;
     }
     assert!(rt; scripts.len() <= 64);
-    for (limit, states) in [(12, 0), (13, 1), (38, 2)] {
+    for (limit, states) in [(24, 0), (25, 1), (74, 2)] {
         let explored = explore(alloc, scripts.as_slice(), limit)?;
         holds(
             &rt,
@@ -311,7 +311,7 @@ fn a_large_test_case_has_fewer_states(rt: HostRuntime) -> Result<(), Fail> {
         );
         is(&rt, "explored.states", explored.states, states);
     }
-    let explored = explore(alloc, scripts.as_slice(), 39)?;
+    let explored = explore(alloc, scripts.as_slice(), 75)?;
     holds(
         &rt,
         "explored.ending == Ending::Reduced",
