@@ -1,5 +1,5 @@
 -- What holds of a history that is ahead of another by the ends of runs.
-use Rattle.std.proofs.Common.{ℕ, ◌≡◌, ◌==◌, ◌||◌, ◌&&◌, ◌⊎◌, inl, inr, not, if◌then◌else◌, nat_le, Bool, true, false, Option, Some, None, is_some, List, [], ◌∷◌, length, drop, refl, ap, sym, subst, ◌∙◌}
+use Rattle.std.proofs.Common.{ℕ, ◌≡◌, ◌==◌, ◌||◌, ◌&&◌, ◌⊎◌, inl, inr, not, if◌then◌else◌, nat_le, Bool, true, false, Option, Some, None, is_some, MatchOption, List, [], ◌∷◌, length, drop, refl, ap, sym, subst, ◌∙◌}
 use Rattle.std.specs.List.{list_any, list_all}
 use Rattle.tc_verdict.specs.declared.run.Run.{Run}
 use Rattle.tc_entry.specs.declared.limits.TheConstants.{COMPONENTS}
@@ -33,7 +33,7 @@ use Rattle.tc_table.proofs.Going.{starts_still}
 use Rattle.tc_table.proofs.Sound.{plain_if}
 use Rattle.tc_explore.specs.Course.{Stand, stand, goes_on, IsCourse}
 use Rattle.tc_explore.specs.Inside.Alike.{IsAlike}
-use Rattle.tc_explore.specs.Inside.Simulation.{IsQuietAt, call_at, IsLastAt, IsLeaving, IsEnding, IsAhead}
+use Rattle.tc_explore.specs.Inside.Simulation.{IsQuietAt, call_at, IsLastAt, WasParked, IsLeaving, IsEnding, IsAhead}
 use Rattle.tc_explore.proofs.Alike.{is_plain_call, phase_next, overall_next}
 use Rattle.tc_explore.proofs.Standings.{stand_comp, stand_other}
 
@@ -230,8 +230,12 @@ abbrev pub KeepsQuiet : ℕ → List Entry → List Entry → Type 0
 KeepsQuiet n q r = (b : ℕ) (op : Op) → IsQuietAt n q b op → IsQuietAt n r b op
 
 pub leaving_later : (scripts : List ScriptView) (q r : List Entry) (b : ℕ) (s : Stand) → KeepsQuiet (length scripts) q r → IsLeaving scripts q b s → IsLeaving scripts r b s
-leaving_later scripts q r b s keeps l = record { no_wake = l.no_wake; calls = λ k m. by_call (call_at scripts b s s.comp k) (l.calls k m) }
+leaving_later scripts q r b s keeps l = record { parked = by_wake s.wake l.parked; calls = λ k m. by_call (call_at scripts b s s.comp k) (l.calls k m) }
   where
+    by_wake : (o : Option Op) → MatchOption o (Unit {0}) (λ wake. WasParked scripts q b s wake) → MatchOption o (Unit {0}) (λ wake. WasParked scripts r b s wake)
+    by_wake None h = tt
+    by_wake (Some wake) h = record { place = h.place; one_more = h.one_more; wake_of = h.wake_of; quiet = keeps b (call_at scripts b s s.comp h.place) h.quiet }
+
     by_call : (op : Op) → IsLastAt (length scripts) q b op → IsLastAt (length scripts) r b op
     by_call op (inl h) = inl (keeps b op h)
     by_call op (inr h) = inr h
@@ -342,6 +346,14 @@ module _ (scripts : List ScriptView) (p q : List Entry) (e : Entry) (cp : IsCour
         ordinary = rw (there, n.ordinary) refl;
         leaving = leaving_later scripts q (e ∷ q) n.run.0 (stand (e ∷ p) n.run.0) keeps (leaving_other scripts p q e c n cp (not_ending_run s e.caller.0 act c n));
       })
+
+  -- what is killed after q was so before, or is killed after p too
+  pub died_before : (c : ℕ) → phase (e ∷ q) c ≡ P.Killed → (phase q c ≡ P.Killed) ⊎ (phase (e ∷ p) c ≡ P.Killed)
+  died_before c dead = by_phase (s.phases c)
+    where
+      by_phase : (phase p c ≡ phase q c) ⊎ IsEnding scripts p q c → (phase q c ≡ P.Killed) ⊎ (phase (e ∷ p) c ≡ P.Killed)
+      by_phase (inl h) = inr (after_same c h ∙ dead)
+      by_phase (inr n) = inl n.ended
 
   pub ahead_step : IsAhead scripts (e ∷ p) (e ∷ q)
   unfolding exists

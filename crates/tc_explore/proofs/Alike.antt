@@ -38,7 +38,7 @@ use Rattle.tc_table.proofs.Over.{on_existing, stays}
 use Rattle.tc_table.proofs.LawsOfHistories.{killed_was_halted}
 use Rattle.tc_table.proofs.Deciding.{self_equal, equal_if, if_same}
 use Rattle.tc_explore.specs.Inside.Alike.{IsAlike}
-use Rattle.tc_explore.specs.Inside.Simulation.{is_gone, is_late}
+use Rattle.tc_explore.specs.Inside.Simulation.{is_gone, is_late, is_met}
 
 -- ---- what is the same
 
@@ -114,7 +114,7 @@ module _ {p q : List Entry} where
   unfolding exists
   exists_same s c = ap (is_in c) s.comps_same
 
-  any_phase_same : IsAlike p q → (c : ℕ) → phase_if_any p c ≡ phase_if_any q c
+  pub any_phase_same : IsAlike p q → (c : ℕ) → phase_if_any p c ≡ phase_if_any q c
   unfolding phase_if_any
   any_phase_same s c = rw (exists_same s c, s.phase_same c)
 
@@ -124,6 +124,12 @@ module _ {p q : List Entry} where
   late_alike s (O.Stop G.All) = refl
   late_alike s (O.Kill G.All) = refl
   late_alike s _ = refl
+
+  pub met_alike : IsAlike p q → (op : Op) → is_met p op ≡ is_met q op
+  met_alike s (O.Wait k (T.One c)) = ap is_gone (any_phase_same s c.0)
+  met_alike s (O.Wait k T.Any) = refl
+  met_alike s (O.Wait k T.All) = refl
+  met_alike s _ = refl
 
 -- the reply to the call goes by what is alike alone
 abbrev pub is_plain_call : Op → Bool

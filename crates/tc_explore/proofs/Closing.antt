@@ -1,5 +1,5 @@
 -- Where whatever comes after each seen history is seen, or its verdict is found, the verdict of every complete course is found.
-use Rattle.std.proofs.Common.{ℕ, suc, ◌≡◌, ◌<◌, ◌≤◌, ◌==◌, ◌&&◌, ◌||◌, ◌⊎◌, inl, inr, ⊎_elim, not, nat_lt, if◌then◌else◌, Bool, true, false, Option, Some, None, is_some, MatchOption, List, [], ◌∷◌, length, slice_get, refl, ap, sym, subst, ◌∙◌, arith}
+use Rattle.std.proofs.Common.{ℕ, zero, suc, ◌≡◌, ◌<◌, ◌≤◌, ◌==◌, ◌&&◌, ◌||◌, ◌⊎◌, inl, inr, ⊎_elim, not, nat_lt, if◌then◌else◌, Bool, true, false, Option, Some, None, is_some, MatchOption, List, [], ◌∷◌, length, slice_get, refl, ap, sym, subst, ◌∙◌, arith}
 use Rattle.std.proofs.lemmas.Bool.Decides.{nat_tests}
 use Rattle.tc_verdict.specs.declared.verdict.Verdict.{Verdict}
 use Rattle.tc_verdict.specs.declared.verdict.Verdict.TheVariants as V
@@ -9,6 +9,7 @@ use Rattle.tc_entry.specs.declared.entry.Entry.{Entry}
 use Rattle.tc_entry.specs.declared.op.Op.{Op}
 use Rattle.tc_entry.specs.declared.op.Op.TheVariants as O
 use Rattle.tc_entry.specs.declared.op.Target.{Target}
+use Rattle.tc_entry.specs.declared.op.Target.TheVariants as T
 use Rattle.tc_entry.specs.declared.phase.Phase.{Phase}
 use Rattle.tc_entry.specs.declared.phase.Phase.TheVariants as P
 use Rattle.tc_entry.specs.declared.reply.Reply.{Reply}
@@ -30,18 +31,19 @@ use Rattle.tc_table.proofs.Over.{on_existing, all_over}
 use Rattle.tc_table.proofs.Stuck.{one_false}
 use Rattle.tc_table.proofs.Going.{started_by_entry}
 use Rattle.tc_explore.specs.declared.witness.Witness.{Witness}
-use Rattle.tc_explore.specs.Course.{stand, goes_on, after_own, after_other_by, is_wake, is_idle_by, wake_or, wake_if, call_of, turn, steps_in, script_of, IsTurn, IsCourse, IsComplete}
+use Rattle.tc_explore.specs.Course.{Stand, stand, goes_on, after_own, after_other_by, is_wake, is_idle_by, wake_or, wake_if, call_of, turn, steps_in, script_of, IsTurn, IsCourse, IsComplete}
 use Rattle.tc_explore.specs.Told.{is_found}
 use Rattle.tc_explore.specs.Inside.Alike.{IsAlike}
-use Rattle.tc_explore.specs.Inside.Simulation.{is_quiet, is_late, is_spent, IsQuietAt, call_at, IsWakeOf, IsBefore, IsParkedAt, IsFollowed, IsLastAt, IsLeaving, IsEnding, IsAhead, IsFor, IsCovered, GoesOn, IsClosed}
+use Rattle.tc_explore.specs.Inside.Simulation.{is_quiet, is_late, is_met, is_spent, IsQuietAt, call_at, IsWakeOf, IsBefore, IsParkedAt, IsFollowed, IsLastAt, WasParked, IsLeaving, place_of, IsEnding, IsAhead, IsFor, IsCovered, GoesOn, IsClosed}
 use Rattle.tc_explore.proofs.Legality.{course_legal}
 use Rattle.tc_explore.proofs.Alike.{ChangesNothing, alike_sym, alike_unchanged, active_alike, holds_alike, is_plain_call, overall_next}
-use Rattle.tc_explore.proofs.Ahead.{holds_ahead, ending_active, ended_inactive, not_ending_run, active_back, active_forth, none_too, some_too, fault_ahead, answer_ahead, ahead_self, ahead_after, ahead_turn, ahead_step}
+use Rattle.tc_explore.proofs.Ahead.{holds_ahead, ending_active, ended_inactive, not_ending_run, died_before, active_back, active_forth, none_too, some_too, fault_ahead, answer_ahead, ahead_self, ahead_after, ahead_turn, ahead_step}
 use Rattle.tc_explore.proofs.Leaving.{Ends, running_on, ends_no_case, after_end}
-use Rattle.tc_explore.proofs.Standings.{HasTurn, has_turn, turn_of, never_wake, stand_own, stand_comp, stand_unstarted, unstarted, waiting_wake, wake_after_other, run_in_range}
-use Rattle.tc_explore.proofs.Late.{IsGone, late_for, late_reply, late_halts, halt_not_ending, other_than_gone, ahead_late}
+use Rattle.tc_explore.proofs.Standings.{HasTurn, has_turn, turn_of, never_wake, stand_own, stand_comp, stand_unstarted, unstarted, IsAwaitedBy, waiting_wake, wake_after_other, run_in_range}
+use Rattle.tc_explore.proofs.Late.{IsGone, late_for, late_reply, late_halts, IsMetFor, met_for, met_reply, met_or_parked, met_holds, halt_not_ending, other_than_gone, ahead_late}
+use Rattle.tc_explore.proofs.Ordered.{order_opening}
 use Rattle.tc_explore.proofs.Simulation.{unchanged_ended, unchanged_quiet, unchanged_wait, unchanged_wake, some_if, stay, stutter, both}
-use Rattle.tc_explore.proofs.Places.{not_ending, quiet_sets_no_wake, quiet_no_wake, quiet_or_late, loud_not_quiet, behind, parked, leaving_on, together, woken, followed_self, keeps_quiet}
+use Rattle.tc_explore.proofs.Places.{not_ending, quiet_sets_no_wake, quiet_no_wake, Spent, how_spent, loud_not_quiet, behind, parked, woken_behind, leaving_on, leaving_parked, leaving_woken, together, woken, followed_self, keeps_quiet}
 
 -- what is found of a course, or stands for it
 pub record IsTold (scripts : List ScriptView) (Seen : List Entry → Type 0) (found : List Witness) (p : List Entry) : Type 0 where
@@ -101,13 +103,14 @@ quiet_reply w past b (O.Killed t) c on h = (refl, refl)
 quiet_reply w past b _ c on h = absurd cc
 
 -- so is one that changes nothing
-spent_reply : (q past : List Entry) (b : ℕ) (op : Op) (c : Comp) → comp_of past b ≡ Some c → is_spent q op ≡ true →
-    (goes_on (plain_answer past b op) ≡ true) × (is_fault (plain_answer past b op) ≡ false)
-spent_reply q past b op c on h = by_kind (quiet_or_late q op h)
+spent_reply : (q : List Entry) (b : ℕ) (op : Op) (c : Comp) → comp_of q b ≡ Some c → is_spent q op ≡ true →
+    (goes_on (plain_answer q b op) ≡ true) × (is_fault (plain_answer q b op) ≡ false)
+spent_reply q b op c on h = by_kind (how_spent q op h)
   where
-    by_kind : (is_quiet (overall q) op ≡ true) ⊎ (is_late q op ≡ true) → (goes_on (plain_answer past b op) ≡ true) × (is_fault (plain_answer past b op) ≡ false)
-    by_kind (inl quiet) = quiet_reply (overall q) past b op c on quiet
-    by_kind (inr late) = rw (late_reply q past b op late) (refl, refl)
+    by_kind : Spent q op → (goes_on (plain_answer q b op) ≡ true) × (is_fault (plain_answer q b op) ≡ false)
+    by_kind (inl quiet) = quiet_reply (overall q) q b op c on quiet
+    by_kind (inr (inl late)) = rw (late_reply q q b op late) (refl, refl)
+    by_kind (inr (inr met)) = rw (met_reply q b op met) (refl, refl)
 
 -- only a Wait is parked, or a Wake
 parks_wait : (w : Verdict) (past : List Entry) (b : ℕ) (op : Op) → is_wake op ≡ false → is_quiet w op ≡ false → plain_answer past b op ≡ R.Parked → (k : Bool) × (t : Target) × (op ≡ O.Wait k t)
@@ -162,6 +165,10 @@ error_is_worst V.Error = refl
 or_left : (a b : Bool) → (a || b) ≡ false → a ≡ false
 or_left true b h = absurd cc
 or_left false b h = refl
+
+exists_back : {scripts : List ScriptView} {p q : List Entry} → IsAhead scripts p q → (c : ℕ) → exists q c ≡ true → exists p c ≡ true
+unfolding exists
+exists_back s c there = ap (is_in c) s.comps_same ∙ there
 
 -- ---- one more turn of p
 
@@ -251,6 +258,17 @@ module _ {scripts : List ScriptView} {Seen : List Entry → Type 0} {found : Lis
       let over_e : is_over (e ∷ p) ≡ true = rw ends_e refl in
       told_both h d turn (rw callers within) (rw rd refl) (vp ∙ (ap (λ w. worse w V.Error) h.for.ahead.overall_same ∙ sym vq)) (ends_e ∙ sym ends_d) (λ o. absurd cc)
 
+  -- a Wait of p that is parked
+  told_parked : (me : Comp) → AtTurn scripts Seen found p q e → IsGoing scripts p q e me → (stand p e.caller.0).wake ≡ None → (k : Bool) (t : Target) → e.op ≡ O.Wait k t → e.reply ≡ R.Parked →
+      call_at scripts e.caller.0 (stand q e.caller.0) (stand q e.caller.0).comp (stand p e.caller.0).called ≡ e.op → IsTold scripts Seen found (e ∷ p)
+  told_parked me h g none k t is r calls =
+      let of : IsWakeOf e.op (O.Wake k t) = record { killed = k; target = t; waits = is; wakes = refl } in
+      let u = unchanged_wait p e (O.Wake k t) of (rw r refl) in
+      told_stutter h u (stutter scripts p q e h.course h.closed.course h.for u (no_leaving e h.for g.in_q) (λ act.
+      subst (λ s. IsFollowed scripts q e.caller.0 s (stand q e.caller.0)) (sym (stand_own p e e.caller.0 refl))
+      (parked scripts q e.caller.0 (stand p e.caller.0) (stand q e.caller.0) e (O.Wake k t) g.followed none u.made
+      (not_ending p e (stand p e.caller.0).comp me u g.stand_p g.on_p (rw r refl)) (rw is refl) (rw (is, r) refl) (record { killed = k; target = t; waits = calls ∙ is; wakes = refl }))))
+
   -- p makes a call that is no error after q
   no_fault_back : AtTurn scripts Seen found p q e → fault (length scripts) q e.caller.0 e.op ≡ None → fault (length scripts) p e.caller.0 e.op ≡ None
   no_fault_back h none =
@@ -273,8 +291,7 @@ module _ {scripts : List ScriptView} {Seen : List Entry → Type 0} {found : Lis
 
   -- a component that is killed after q is there after p
   there_too : AtTurn scripts Seen found p q e → (c : ℕ) → IsGone q c → exists p c ≡ true
-  unfolding exists
-  there_too h c gone = ap (is_in c) h.for.ahead.comps_same ∙ gone.there
+  there_too h c gone = exists_back h.for.ahead c gone.there
 
   -- a stop or kill of p that q has made, of what was killed then
   told_behind_late : (me : Comp) → AtTurn scripts Seen found p q e → IsGoing scripts p q e me → (stand p e.caller.0).wake ≡ None → (stand p e.caller.0).called < (stand q e.caller.0).called →
@@ -286,30 +303,42 @@ module _ {scripts : List ScriptView} {Seen : List Entry → Type 0} {found : Lis
       let other = other_than_gone q e.caller.0 l.0.0 me g.in_q g.on_q l.1.gone.dead in
       let lp = course_legal scripts (e ∷ p) h.course in
       let ahead = ahead_late scripts p q e l.0.0 h.course.1 lp h.for.ahead one l.1.gone.dead (no_leaving e h.for g.in_q) (there_too h l.0.0 l.1.gone) in
-      told_stay h one.no_case (stay scripts p q e h.course h.closed.course h.for ahead (λ act.
+      told_stay h one.no_case (stay scripts p q e h.course h.closed.course h.for ahead one.made one.no_run (λ act.
       subst (λ s. IsFollowed scripts q e.caller.0 s (stand q e.caller.0)) (sym (stand_own p e e.caller.0 refl))
       (behind scripts q e.caller.0 (stand p e.caller.0) (stand q e.caller.0) e g.followed none less one.made
       (halt_not_ending one (stand p e.caller.0).comp me g.stand_p other) one.plain one.no_wake)))
 
+  -- a wait of p that q has made, for what was killed then
+  told_behind_met : (me : Comp) → AtTurn scripts Seen found p q e → IsGoing scripts p q e me → (stand p e.caller.0).wake ≡ None → (stand p e.caller.0).called < (stand q e.caller.0).called →
+      call_at scripts e.caller.0 (stand q e.caller.0) (stand q e.caller.0).comp (stand p e.caller.0).called ≡ e.op → fault (length scripts) q e.caller.0 e.op ≡ None → is_met q e.op ≡ true → IsTold scripts Seen found (e ∷ p)
+  told_behind_met me h g none less call_q no_fault_q met = by_reply (met_or_parked q p e.caller.0 e.op met)
+    where
+      m : IsMetFor q e.op
+      m = met_for q e.op met
+
+      is : e.reply ≡ plain_answer p e.caller.0 e.op
+      is = h.course.0.reply ∙ answer_plain (length scripts) p e.caller.0 e.op g.in_p (no_fault_back h no_fault_q)
+
+      by_reply : (plain_answer p e.caller.0 e.op ≡ R.Matched) ⊎ (plain_answer p e.caller.0 e.op ≡ R.Parked) → IsTold scripts Seen found (e ∷ p)
+      by_reply (inr r) = told_parked me h g none m.for_kill (T.One m.comp) m.waits (is ∙ r) call_q
+      by_reply (inl r) =
+          let of : IsWakeOf e.op (O.Wake m.for_kill (T.One m.comp)) = record { killed = m.for_kill; target = T.One m.comp; waits = m.waits; wakes = refl } in
+          let matched : e.reply ≡ R.Matched = is ∙ r in
+          let u = unchanged_wait p e (O.Wake m.for_kill (T.One m.comp)) of (rw matched refl) in
+          told_stutter h u (stutter scripts p q e h.course h.closed.course h.for u (no_leaving e h.for g.in_q) (λ act.
+          subst (λ s. IsFollowed scripts q e.caller.0 s (stand q e.caller.0)) (sym (stand_own p e e.caller.0 refl))
+          (behind scripts q e.caller.0 (stand p e.caller.0) (stand q e.caller.0) e g.followed none less u.made
+          (not_ending p e (stand p e.caller.0).comp me u g.stand_p g.on_p (rw matched refl)) (rw m.waits refl) (rw matched refl))))
+
   -- a call of p that q has made, and that changes nothing after q
   told_behind : (me : Comp) → AtTurn scripts Seen found p q e → IsGoing scripts p q e me → (stand p e.caller.0).wake ≡ None → (stand p e.caller.0).called < (stand q e.caller.0).called →
-      IsQuietAt (length scripts) q e.caller.0 e.op → IsTold scripts Seen found (e ∷ p)
-  told_behind me h g none less spent = by_kind (quiet_or_late q e.op spent.quiet)
+      call_at scripts e.caller.0 (stand q e.caller.0) (stand q e.caller.0).comp (stand p e.caller.0).called ≡ e.op → IsQuietAt (length scripts) q e.caller.0 e.op → IsTold scripts Seen found (e ∷ p)
+  told_behind me h g none less call_q spent = by_kind (how_spent q e.op spent.quiet)
     where
-      by_kind : (is_quiet (overall q) e.op ≡ true) ⊎ (is_late q e.op ≡ true) → IsTold scripts Seen found (e ∷ p)
+      by_kind : Spent q e.op → IsTold scripts Seen found (e ∷ p)
       by_kind (inl quiet) = told_behind_quiet me h g none less spent.no_fault quiet
-      by_kind (inr late) = told_behind_late me h g none less spent.no_fault late
-
-  -- a Wait of p that is parked
-  told_parked : (me : Comp) → AtTurn scripts Seen found p q e → IsGoing scripts p q e me → (k : Bool) (t : Target) → e.op ≡ O.Wait k t → e.reply ≡ R.Parked → (stand p e.caller.0).called ≡ (stand q e.caller.0).called →
-      call_at scripts e.caller.0 (stand q e.caller.0) (stand q e.caller.0).comp (stand q e.caller.0).called ≡ e.op → IsTold scripts Seen found (e ∷ p)
-  told_parked me h g k t is r same calls =
-      let of : IsWakeOf e.op (O.Wake k t) = record { killed = k; target = t; waits = is; wakes = refl } in
-      let u = unchanged_wait p e (O.Wake k t) of (rw r refl) in
-      told_stutter h u (stutter scripts p q e h.course h.closed.course h.for u (no_leaving e h.for g.in_q) (λ act.
-      subst (λ s. IsFollowed scripts q e.caller.0 s (stand q e.caller.0)) (sym (stand_own p e e.caller.0 refl))
-      (parked scripts q e.caller.0 (stand p e.caller.0) (stand q e.caller.0) e (O.Wake k t) g.followed same u.made
-      (not_ending p e (stand p e.caller.0).comp me u g.stand_p g.on_p (rw r refl)) (rw is refl) (rw (is, r) refl) (record { killed = k; target = t; waits = calls ∙ is; wakes = refl }))))
+      by_kind (inr (inl late)) = told_behind_late me h g none less spent.no_fault late
+      by_kind (inr (inr met)) = told_behind_met me h g none less call_q spent.no_fault met
 
   told_on : (me : Comp) → AtTurn scripts Seen found p q e → IsGoing scripts p q e me → (stand p e.caller.0).called ≡ (stand q e.caller.0).called → is_wake e.op ≡ false →
       IsTurn scripts q e → goes_on e.reply ≡ true → IsTold scripts Seen found (e ∷ p)
@@ -331,13 +360,14 @@ module _ {scripts : List ScriptView} {Seen : List Entry → Type 0} {found : Lis
       subst (λ s. IsFollowed scripts (e ∷ q) b s (stand (e ∷ q) b)) (sym up)
       (subst (λ t. IsFollowed scripts (e ∷ q) b (after_other_by None e b unstarted) t) (sym uq)
       (followed_self scripts (e ∷ q) b (after_other_by None e b unstarted) (wake_after_other None (started_on e b) e b unstarted refl))))
-      g.in_q)
+      g.in_q
+      (λ c dead. died_before scripts p q e h.course.1 lp lq h.for.ahead g.in_q keeps c dead))
 
   -- a call of both that is not quiet
-  told_loud : (me : Comp) → AtTurn scripts Seen found p q e → IsGoing scripts p q e me → (stand p e.caller.0).called ≡ (stand q e.caller.0).called →
+  told_loud : (me : Comp) → AtTurn scripts Seen found p q e → IsGoing scripts p q e me → (stand p e.caller.0).wake ≡ None → (stand p e.caller.0).called ≡ (stand q e.caller.0).called →
       call_at scripts e.caller.0 (stand q e.caller.0) (stand q e.caller.0).comp (stand q e.caller.0).called ≡ e.op → is_wake e.op ≡ false → is_spent q e.op ≡ false →
       IsTold scripts Seen found (e ∷ p)
-  told_loud me h g same calls wk changes = by_reply e.reply refl
+  told_loud me h g none same calls wk changes = by_reply e.reply refl
     where
       loud : is_quiet (overall q) e.op ≡ false
       loud = loud_not_quiet q e.op changes
@@ -359,7 +389,7 @@ module _ {scripts : List ScriptView} {Seen : List Entry → Type 0} {found : Lis
       by_parked r None k =
           let plain : plain_answer p e.caller.0 e.op ≡ R.Parked = sym (answer_plain (length scripts) p e.caller.0 e.op g.in_p k) ∙ (sym h.course.0.reply ∙ r) in
           let w = parks_wait (overall p) p e.caller.0 e.op wk loud_p plain in
-          told_parked me h g w.0 w.1 w.2 r same calls
+          told_parked me h g none w.0 w.1 w.2 r (ap (call_at scripts e.caller.0 (stand q e.caller.0) (stand q e.caller.0).comp) same ∙ calls)
 
       by_fault : (x : Fault) → e.reply ≡ R.Fault x → (o : Option Fault) → fault (length scripts) p e.caller.0 e.op ≡ o → IsTold scripts Seen found (e ∷ p)
       by_fault x r (Some y) k =
@@ -403,7 +433,7 @@ module _ {scripts : List ScriptView} {Seen : List Entry → Type 0} {found : Lis
           told_fault h d turn refl g.in_range y.0 x re refl
       by_fault None k =
           let d : Entry = record { caller = e.caller; op = e.op; reply = plain_answer q e.caller.0 e.op } in
-          let r = spent_reply q q e.caller.0 e.op me g.on_q quiet in
+          let r = spent_reply q e.caller.0 e.op me g.on_q quiet in
           let turn : IsTurn scripts q d = record {
             turn = turn_in scripts p q e me g ∙ ap Some calls;
             reply = sym (answer_plain (length scripts) q e.caller.0 e.op g.in_q k);
@@ -418,7 +448,7 @@ module _ {scripts : List ScriptView} {Seen : List Entry → Type 0} {found : Lis
   told_place me h g none calls = by_less (nat_lt (stand p e.caller.0).called (stand q e.caller.0).called) refl
     where
       before : IsBefore scripts q e.caller.0 (stand p e.caller.0) (stand q e.caller.0)
-      before = subst (λ o. MatchOption o (IsBefore scripts q e.caller.0 (stand p e.caller.0) (stand q e.caller.0)) (λ wake. IsParkedAt scripts e.caller.0 (stand p e.caller.0) (stand q e.caller.0) wake)) none g.followed.place
+      before = subst (λ o. MatchOption o (IsBefore scripts q e.caller.0 (stand p e.caller.0) (stand q e.caller.0)) (λ wake. IsParkedAt scripts q e.caller.0 (stand p e.caller.0) (stand q e.caller.0) wake)) none g.followed.place
 
       call_q : call_at scripts e.caller.0 (stand q e.caller.0) (stand q e.caller.0).comp (stand p e.caller.0).called ≡ e.op
       call_q =
@@ -430,12 +460,12 @@ module _ {scripts : List ScriptView} {Seen : List Entry → Type 0} {found : Lis
 
       by_quiet : (stand p e.caller.0).called ≡ (stand q e.caller.0).called → (t : Bool) → is_spent q e.op ≡ t → IsTold scripts Seen found (e ∷ p)
       by_quiet same true k = told_quiet me h g (ap (λ m. call_at scripts e.caller.0 (stand q e.caller.0) (stand q e.caller.0).comp m) (sym same) ∙ call_q) wk k
-      by_quiet same false k = told_loud me h g same (ap (λ m. call_at scripts e.caller.0 (stand q e.caller.0) (stand q e.caller.0).comp m) (sym same) ∙ call_q) wk k
+      by_quiet same false k = told_loud me h g none same (ap (λ m. call_at scripts e.caller.0 (stand q e.caller.0) (stand q e.caller.0).comp m) (sym same) ∙ call_q) wk k
 
       by_less : (t : Bool) → nat_lt (stand p e.caller.0).called (stand q e.caller.0).called ≡ t → IsTold scripts Seen found (e ∷ p)
       by_less true k =
           let less : (stand p e.caller.0).called < (stand q e.caller.0).called = grind (arith, nat_tests) in
-          told_behind me h g none less (subst (λ op. IsQuietAt (length scripts) q e.caller.0 op) call_q (before.between (stand p e.caller.0).called (omega arith) less))
+          told_behind me h g none less call_q (subst (λ op. IsQuietAt (length scripts) q e.caller.0 op) call_q (before.between (stand p e.caller.0).called (omega arith) less))
       by_less false k =
           let fewer = before.fewer in
           let same : (stand p e.caller.0).called ≡ (stand q e.caller.0).called = grind (arith, nat_tests) in
@@ -494,47 +524,121 @@ active_if_on n past b op r is on = by_test (is_active past b) refl
 same_awaited : (k : Bool) (t : Target) (wake : Op) (a : Awaited) → wake ≡ O.Wake k t → awaited wake ≡ Some a → record { killed = k; target = t } ≡ a
 same_awaited k t wake a w h = let e : awaited (O.Wake k t) ≡ Some a = ap awaited (sym w) ∙ h in let e2 : Some (record { killed = k; target = t }) ≡ Some a = e in cc
 
+wait_parks : (op : Op) (r : Reply) (k : Bool) (t : Target) → op ≡ O.Wait k t → r ≡ R.Parked → wake_if op r ≡ Some (O.Wake k t)
+wait_parks op r k t is parks = rw (is, parks) refl
+
+-- the Wait at a place is met
+met_at : (n : ℕ) (q : List Entry) (b : ℕ) (op wake : Op) → IsQuietAt n q b op → IsWakeOf op wake → IsMetFor q op
+met_at n q b op wake quiet of = met_for q op (ap (is_met q) of.waits ∙ (ap (is_spent q) (sym of.waits) ∙ quiet.quiet))
+
+-- and what is awaited then
+met_awaited : (q : List Entry) (op wake : Op) (a : Awaited) → (of : IsWakeOf op wake) → (m : IsMetFor q op) → awaited wake ≡ Some a → record { killed = m.for_kill; target = T.One m.comp } ≡ a
+met_awaited q op wake a of m h =
+    let waits : O.Wait of.killed of.target ≡ O.Wait m.for_kill (T.One m.comp) = sym of.waits ∙ m.waits in
+    let for_it : awaited_op (O.Wait of.killed of.target) ≡ awaited_op (O.Wait m.for_kill (T.One m.comp)) = ap awaited_op waits in
+    let wakes : awaited (O.Wake of.killed of.target) ≡ Some a = ap awaited (sym of.wakes) ∙ h in
+    let one : Some (record { killed = m.for_kill; target = T.One m.comp }) ≡ Some a = sym for_it ∙ wakes in
+    cc
+  where
+    awaited_op : Op → Option Awaited
+    awaited_op op = awaited op
+
+place_if_parked : (s : Stand) (wake : Op) (place : ℕ) → s.wake ≡ Some wake → s.called ≡ suc place → place_of s ≤ place
+place_if_parked s wake place h more = rw h (omega (arith, more))
+
 module _ {scripts : List ScriptView} {p q : List Entry} where
-  -- where p is stuck no run is leaving
-  stuck_alike : IsCourse scripts p → IsAhead scripts p q → is_stuck p ≡ true → IsAlike p q
-  stuck_alike cp s stuck = record {
-    comps_same = s.comps_same;
-    phase_same = λ c. by_phase c (s.phases c);
-    kind_same = s.kind_same;
-    comp_same = s.comp_same;
-    overall_same = s.overall_same;
+  -- where p is stuck no run is leaving: the one whose component comes first by rank would go on
+  none_ending : IsCourse scripts p → (f : IsFor scripts q p) → is_stuck p ≡ true → (m c : ℕ) → IsEnding scripts p q c → f.order.rank c < m → ⊥
+  none_ending cp f stuck zero c n l = absurd (omega (arith, l))
+  none_ending cp f stuck (suc m) c n l = by_phase (none_ending cp f stuck m) (f.ahead.phases met.comp.0)
+    where
+      w : (a : Awaited) × (waiting p n.run.0 ≡ Some a) × (holds p a ≡ false)
+      w = stuck_waits (length scripts) p n.run.0 (course_legal scripts p cp) stuck (ending_active c n)
+
+      by : IsAwaitedBy (stand p n.run.0) w.0
+      by = waiting_wake p n.run.0 w.0 w.1
+
+      was : WasParked scripts q n.run.0 (stand p n.run.0) by.wake
+      was = subst (λ o. MatchOption o (Unit {0}) (λ wake. WasParked scripts q n.run.0 (stand p n.run.0) wake)) by.to_come n.leaving.parked
+
+      met : IsMetFor q (call_at scripts n.run.0 (stand p n.run.0) (stand p n.run.0).comp was.place)
+      met = met_at (length scripts) q n.run.0 (call_at scripts n.run.0 (stand p n.run.0) (stand p n.run.0).comp was.place) by.wake was.quiet was.wake_of
+
+      a_is : record { killed = met.for_kill; target = T.One met.comp } ≡ w.0
+      a_is = met_awaited q (call_at scripts n.run.0 (stand p n.run.0) (stand p n.run.0).comp was.place) by.wake w.0 was.wake_of met by.for_it
+
+      lower : f.order.rank met.comp.0 < f.order.rank c
+      lower = (f.order.each c n.run.0 (ending_active c n) n.on n.ended was.place met.for_kill met.comp (place_if_parked (stand p n.run.0) by.wake was.place by.to_come was.one_more) met.waits).0
+
+      by_phase : ((d : ℕ) → IsEnding scripts p q d → f.order.rank d < m → ⊥) → (phase p met.comp.0 ≡ phase q met.comp.0) ⊎ IsEnding scripts p q met.comp.0 → ⊥
+      by_phase again (inl same) =
+          let there : exists p met.comp.0 ≡ true = exists_back f.ahead met.comp.0 met.gone.there in
+          let yes : holds p (record { killed = met.for_kill; target = T.One met.comp }) ≡ true = met_holds p met.for_kill met.comp (record { there = there; dead = same ∙ met.gone.dead }) in
+          let no : holds p (record { killed = met.for_kill; target = T.One met.comp }) ≡ false = ap (holds p) a_is ∙ w.2 in
+          opposed _ yes no
+      by_phase again (inr k) = let less = lower in again met.comp.0 k (omega (arith, less, l))
+
+  stuck_alike : IsCourse scripts p → IsFor scripts q p → is_stuck p ≡ true → IsAlike p q
+  stuck_alike cp f stuck = record {
+    comps_same = f.ahead.comps_same;
+    phase_same = λ c. by_phase c (f.ahead.phases c);
+    kind_same = f.ahead.kind_same;
+    comp_same = f.ahead.comp_same;
+    overall_same = f.ahead.overall_same;
   }
     where
       by_phase : (c : ℕ) → (phase p c ≡ phase q c) ⊎ IsEnding scripts p q c → phase p c ≡ phase q c
       by_phase c (inl h) = h
-      by_phase c (inr n) =
-          let w = stuck_waits (length scripts) p n.run.0 (course_legal scripts p cp) stuck (ending_active c n) in
-          let by = waiting_wake p n.run.0 w.0 w.1 in
-          let none : None ≡ Some by.wake = sym n.leaving.no_wake ∙ by.to_come in
-          absurd cc
+      by_phase c (inr n) = absurd (none_ending cp f stuck (suc (f.order.rank c)) c n (omega arith))
 
   -- and none can go on in q
   none_goes_on : IsCourse scripts p → IsFor scripts q p → IsAlike p q → is_stuck p ≡ true → GoesOn scripts q → ⊥
-  none_goes_on cp f alike stuck go =
-      let d = go.entry in
-      let act_q = active_if_on (length scripts) q d.caller.0 d.op d.reply go.turn.reply go.on in
-      let act_p : is_active p d.caller.0 ≡ true = active_alike alike d.caller.0 ∙ act_q in
-      let w = stuck_waits (length scripts) p d.caller.0 (course_legal scripts p cp) stuck act_p in
-      let by = waiting_wake p d.caller.0 w.0 w.1 in
-      let fol = f.runs d.caller.0 act_q in
-      let at : IsParkedAt scripts d.caller.0 (stand p d.caller.0) (stand q d.caller.0) by.wake =
-      subst (λ o. MatchOption o (IsBefore scripts q d.caller.0 (stand p d.caller.0) (stand q d.caller.0)) (λ wake. IsParkedAt scripts d.caller.0 (stand p d.caller.0) (stand q d.caller.0) wake)) by.to_come fol.place in
-      let of = at.wake_of in
-      let t = has_turn scripts q d.caller.0 d.op go.turn.turn in
-      let call : call_at scripts d.caller.0 (stand q d.caller.0) (stand q d.caller.0).comp (stand q d.caller.0).called ≡ d.op =
-      ap (λ o. call_at scripts d.caller.0 (stand q d.caller.0) o (stand q d.caller.0).called) t.on
-      ∙ (ap (λ o. wake_or o (call_of t.me (stand q d.caller.0).bound (slice_get (steps_in (script_of scripts d.caller.0)) (stand q d.caller.0).called))) (sym fol.no_wake) ∙ t.calls) in
-      let op_is : d.op ≡ O.Wait of.killed of.target = sym call ∙ of.waits in
-      let a_is : record { killed = of.killed; target = of.target } ≡ w.0 = same_awaited of.killed of.target by.wake w.0 of.wakes by.for_it in
-      let no : holds q (record { killed = of.killed; target = of.target }) ≡ false = sym (holds_alike alike (record { killed = of.killed; target = of.target })) ∙ (ap (holds p) a_is ∙ w.2) in
-      let bad : is_fault d.reply ≡ true = wait_answer (length scripts) q d.caller.0 of.killed of.target d.reply act_q no (go.turn.reply ∙ ap (answer (length scripts) q d.caller.0) op_is) go.on in
-      let good = go.no_fault in
-      absurd cc
+  none_goes_on cp f alike stuck go = by_less (nat_lt at.place (stand q d.caller.0).called) refl
+    where
+      d : Entry
+      d = go.entry
+
+      act_q : is_active q d.caller.0 ≡ true
+      act_q = active_if_on (length scripts) q d.caller.0 d.op d.reply go.turn.reply go.on
+
+      w : (a : Awaited) × (waiting p d.caller.0 ≡ Some a) × (holds p a ≡ false)
+      w = stuck_waits (length scripts) p d.caller.0 (course_legal scripts p cp) stuck (active_alike alike d.caller.0 ∙ act_q)
+
+      by : IsAwaitedBy (stand p d.caller.0) w.0
+      by = waiting_wake p d.caller.0 w.0 w.1
+
+      fol : IsFollowed scripts q d.caller.0 (stand p d.caller.0) (stand q d.caller.0)
+      fol = f.runs d.caller.0 act_q
+
+      at : IsParkedAt scripts q d.caller.0 (stand p d.caller.0) (stand q d.caller.0) by.wake
+      at = subst (λ o. MatchOption o (IsBefore scripts q d.caller.0 (stand p d.caller.0) (stand q d.caller.0)) (λ wake. IsParkedAt scripts q d.caller.0 (stand p d.caller.0) (stand q d.caller.0) wake)) by.to_come fol.place
+
+      waits_here : at.place ≡ (stand q d.caller.0).called → ⊥
+      waits_here same =
+          let of = at.wake_of in
+          let t = has_turn scripts q d.caller.0 d.op go.turn.turn in
+          let call : call_at scripts d.caller.0 (stand q d.caller.0) (stand q d.caller.0).comp (stand q d.caller.0).called ≡ d.op =
+          ap (λ o. call_at scripts d.caller.0 (stand q d.caller.0) o (stand q d.caller.0).called) t.on
+          ∙ (ap (λ o. wake_or o (call_of t.me (stand q d.caller.0).bound (slice_get (steps_in (script_of scripts d.caller.0)) (stand q d.caller.0).called))) (sym fol.no_wake) ∙ t.calls) in
+          let op_is : d.op ≡ O.Wait of.killed of.target = sym call ∙ (ap (call_at scripts d.caller.0 (stand q d.caller.0) (stand q d.caller.0).comp) (sym same) ∙ of.waits) in
+          let a_is : record { killed = of.killed; target = of.target } ≡ w.0 = same_awaited of.killed of.target by.wake w.0 of.wakes by.for_it in
+          let no : holds q (record { killed = of.killed; target = of.target }) ≡ false = sym (holds_alike alike (record { killed = of.killed; target = of.target })) ∙ (ap (holds p) a_is ∙ w.2) in
+          let bad : is_fault d.reply ≡ true = wait_answer (length scripts) q d.caller.0 of.killed of.target d.reply act_q no (go.turn.reply ∙ ap (answer (length scripts) q d.caller.0) op_is) go.on in
+          let good = go.no_fault in
+          absurd cc
+
+      waited_before : at.place < (stand q d.caller.0).called → ⊥
+      waited_before less =
+          let op : Op = call_at scripts d.caller.0 (stand q d.caller.0) (stand q d.caller.0).comp at.place in
+          let met = met_at (length scripts) q d.caller.0 op by.wake (at.between at.place (omega arith) less) at.wake_of in
+          let a_is = met_awaited q op by.wake w.0 at.wake_of met by.for_it in
+          let there : holds q (record { killed = met.for_kill; target = T.One met.comp }) ≡ true = met_holds q met.for_kill met.comp met.gone in
+          let yes : holds p w.0 ≡ true = ap (holds p) (sym a_is) ∙ (holds_alike alike (record { killed = met.for_kill; target = T.One met.comp }) ∙ there) in
+          opposed (holds p w.0) yes w.2
+
+      by_less : (t : Bool) → nat_lt at.place (stand q d.caller.0).called ≡ t → ⊥
+      by_less true k = waited_before (grind (arith, nat_tests))
+      by_less false k = let fewer = at.fewer in waits_here (grind (arith, nat_tests))
 
 finish_reply : (n : ℕ) (past : List Entry) (b : ℕ) → is_active past b ≡ true → answer n past b O.Finish ≡ R.Ok
 unfolding answer fault all_exist
@@ -547,7 +651,7 @@ fault_of_wait n past b k t = refl
 module _ {scripts : List ScriptView} {Seen : List Entry → Type 0} {found : List Witness} {p q : List Entry} {e : Entry} where
   told_stuck : AtTurn scripts Seen found p q e → is_stuck p ≡ true → e.reply ≡ R.Fault F.Stuck → IsTold scripts Seen found (e ∷ p)
   told_stuck h stuck r =
-      let found_error : is_found found V.Error ≡ true = ⊎_elim (λ x. x) (λ go. absurd (none_goes_on h.course.1 h.for (stuck_alike h.course.1 h.for.ahead stuck) stuck go)) h.closed.stuck in
+      let found_error : is_found found V.Error ≡ true = ⊎_elim (λ x. x) (λ go. absurd (none_goes_on h.course.1 h.for (stuck_alike h.course.1 h.for stuck) stuck go)) h.closed.stuck in
       let v : overall (e ∷ p) ≡ V.Error = overall_next (length scripts) p e (course_legal scripts (e ∷ p) h.course) ∙ (rw r refl ∙ error_is_worst (overall p)) in
       let ends : ends_case e ≡ true = rw r refl in
       let over_e : is_over (e ∷ p) ≡ true = rw ends refl in
@@ -585,68 +689,112 @@ module _ {scripts : List ScriptView} {Seen : List Entry → Type 0} {found : Lis
       (λ b other none act.
       let off : is_active (d ∷ q) b ≡ false = started_by_entry (length scripts) q d b lq none ∙ ap is_some (ud.no_run b) in
       absurd cc)
-      g.in_q)
+      g.in_q
+      (λ c dead. inl (sym (ad.phase_same c) ∙ dead)))
 
-  -- a Wake
-  told_wake : (me : Comp) → AtTurn scripts Seen found p q e → IsGoing scripts p q e me → (wake : Op) → (stand p e.caller.0).wake ≡ Some wake → wake ≡ e.op → IsTold scripts Seen found (e ∷ p)
-  told_wake me h g wake some calls = by_fault (fault (length scripts) p e.caller.0 (O.Wake at.wake_of.killed at.wake_of.target)) refl
+  -- a Wake of what has not come
+  told_unmet : AtTurn scripts Seen found p q e → (k : Bool) (t : Target) → e.op ≡ O.Wake k t → e.reply ≡ wake_reply p e.caller.0 (record { killed = k; target = t }) →
+      holds p (record { killed = k; target = t }) ≡ false → IsTold scripts Seen found (e ∷ p)
+  told_unmet h k t op_is r unmet = by_stuck ((e.caller.0 == 0) && is_stuck p) refl
     where
-      at : IsParkedAt scripts e.caller.0 (stand p e.caller.0) (stand q e.caller.0) wake
-      at = subst (λ o. MatchOption o (IsBefore scripts q e.caller.0 (stand p e.caller.0) (stand q e.caller.0)) (λ w. IsParkedAt scripts e.caller.0 (stand p e.caller.0) (stand q e.caller.0) w)) some g.followed.place
-
-      op_is : e.op ≡ O.Wake at.wake_of.killed at.wake_of.target
-      op_is = sym calls ∙ at.wake_of.wakes
-
-      turn_q : turn scripts q e.caller.0 ≡ Some (O.Wait at.wake_of.killed at.wake_of.target)
-      turn_q = turn_in scripts p q e me g ∙ ap Some at.wake_of.waits
-
-      reply_p : e.reply ≡ answer (length scripts) p e.caller.0 (O.Wake at.wake_of.killed at.wake_of.target)
-      reply_p = h.course.0.reply ∙ ap (answer (length scripts) p e.caller.0) op_is
-
-      fault_q : is_some (fault (length scripts) p e.caller.0 (O.Wake at.wake_of.killed at.wake_of.target)) ≡ is_some (fault (length scripts) q e.caller.0 (O.Wait at.wake_of.killed at.wake_of.target))
-      fault_q =
-          fault_ahead h.for.ahead (length scripts) e.caller.0 (O.Wake at.wake_of.killed at.wake_of.target)
-          ∙ ap is_some (sym (fault_of_wait (length scripts) q e.caller.0 at.wake_of.killed at.wake_of.target))
-
-      by_stuck : e.reply ≡ wake_reply p e.caller.0 (record { killed = at.wake_of.killed; target = at.wake_of.target }) → holds p (record { killed = at.wake_of.killed; target = at.wake_of.target }) ≡ false →
-          (t : Bool) → ((e.caller.0 == 0) && is_stuck p) ≡ t → IsTold scripts Seen found (e ∷ p)
-      by_stuck r unmet true k =
-          let is : e.reply ≡ R.Fault F.Stuck = r ∙ rw (unmet, k) refl in
-          told_stuck h (and_right (e.caller.0 == 0) (is_stuck p) k) is
-      by_stuck r unmet false k =
-          let is : e.reply ≡ R.Parked = r ∙ rw (unmet, k) refl in
+      by_stuck : (s : Bool) → ((e.caller.0 == 0) && is_stuck p) ≡ s → IsTold scripts Seen found (e ∷ p)
+      by_stuck true j =
+          let is : e.reply ≡ R.Fault F.Stuck = r ∙ rw (unmet, j) refl in
+          told_stuck h (and_right (e.caller.0 == 0) (is_stuck p) j) is
+      by_stuck false j =
+          let is : e.reply ≡ R.Parked = r ∙ rw (unmet, j) refl in
           let idle : is_idle_by e.op e.reply ≡ true = rw (op_is, is) refl in
           let not_idle : is_idle_by e.op e.reply ≡ false = h.course.0.not_idle in
           absurd cc
 
-      by_holds : fault (length scripts) p e.caller.0 (O.Wake at.wake_of.killed at.wake_of.target) ≡ None → (t : Bool) → holds p (record { killed = at.wake_of.killed; target = at.wake_of.target }) ≡ t → IsTold scripts Seen found (e ∷ p)
-      by_holds none true k =
-          let r : e.reply ≡ R.Matched = reply_p ∙ (answer_plain (length scripts) p e.caller.0 (O.Wake at.wake_of.killed at.wake_of.target) g.in_p none ∙ rw k refl) in
-          let there : holds q (record { killed = at.wake_of.killed; target = at.wake_of.target }) ≡ true = holds_ahead h.for.ahead (record { killed = at.wake_of.killed; target = at.wake_of.target }) k in
-          let rq : answer (length scripts) q e.caller.0 (O.Wait at.wake_of.killed at.wake_of.target) ≡ R.Matched =
-          answer_plain (length scripts) q e.caller.0 (O.Wait at.wake_of.killed at.wake_of.target) g.in_q
-          (none_too (fault (length scripts) p e.caller.0 (O.Wake at.wake_of.killed at.wake_of.target)) (fault (length scripts) q e.caller.0 (O.Wait at.wake_of.killed at.wake_of.target)) fault_q none) ∙ rw there refl in
-          told_woken me h g at.wake_of.killed at.wake_of.target op_is r at.one_more (record { turn = turn_q; reply = sym rq; not_idle = refl })
-      by_holds none false k =
-          let r : e.reply ≡ wake_reply p e.caller.0 (record { killed = at.wake_of.killed; target = at.wake_of.target }) =
-          reply_p ∙ answer_plain (length scripts) p e.caller.0 (O.Wake at.wake_of.killed at.wake_of.target) g.in_p none in
-          by_stuck r k ((e.caller.0 == 0) && is_stuck p) refl
+  -- the errors of a Wake are those of its Wait
+  wake_fault : AtTurn scripts Seen found p q e → (k : Bool) (t : Target) → is_some (fault (length scripts) p e.caller.0 (O.Wake k t)) ≡ is_some (fault (length scripts) q e.caller.0 (O.Wait k t))
+  wake_fault h k t = fault_ahead h.for.ahead (length scripts) e.caller.0 (O.Wake k t) ∙ ap is_some (sym (fault_of_wait (length scripts) q e.caller.0 k t))
 
-      by_fault : (o : Option Fault) → fault (length scripts) p e.caller.0 (O.Wake at.wake_of.killed at.wake_of.target) ≡ o → IsTold scripts Seen found (e ∷ p)
-      by_fault None k = by_holds k (holds p (record { killed = at.wake_of.killed; target = at.wake_of.target })) refl
+  -- a Wake of a Wait that q calls next
+  told_wake_here : (me : Comp) → AtTurn scripts Seen found p q e → IsGoing scripts p q e me → (k : Bool) (t : Target) → e.op ≡ O.Wake k t →
+      call_at scripts e.caller.0 (stand q e.caller.0) (stand q e.caller.0).comp (stand q e.caller.0).called ≡ O.Wait k t → (stand p e.caller.0).called ≡ suc (stand q e.caller.0).called → IsTold scripts Seen found (e ∷ p)
+  told_wake_here me h g wk t op_is calls one_more = by_fault (fault (length scripts) p e.caller.0 (O.Wake wk t)) refl
+    where
+      turn_q : turn scripts q e.caller.0 ≡ Some (O.Wait wk t)
+      turn_q = turn_in scripts p q e me g ∙ ap Some calls
+
+      reply_p : e.reply ≡ answer (length scripts) p e.caller.0 (O.Wake wk t)
+      reply_p = h.course.0.reply ∙ ap (answer (length scripts) p e.caller.0) op_is
+
+      by_holds : fault (length scripts) p e.caller.0 (O.Wake wk t) ≡ None → (s : Bool) → holds p (record { killed = wk; target = t }) ≡ s → IsTold scripts Seen found (e ∷ p)
+      by_holds none true k =
+          let r : e.reply ≡ R.Matched = reply_p ∙ (answer_plain (length scripts) p e.caller.0 (O.Wake wk t) g.in_p none ∙ rw k refl) in
+          let there : holds q (record { killed = wk; target = t }) ≡ true = holds_ahead h.for.ahead (record { killed = wk; target = t }) k in
+          let rq : answer (length scripts) q e.caller.0 (O.Wait wk t) ≡ R.Matched =
+          answer_plain (length scripts) q e.caller.0 (O.Wait wk t) g.in_q
+          (none_too (fault (length scripts) p e.caller.0 (O.Wake wk t)) (fault (length scripts) q e.caller.0 (O.Wait wk t)) (wake_fault h wk t) none) ∙ rw there refl in
+          told_woken me h g wk t op_is r one_more (record { turn = turn_q; reply = sym rq; not_idle = refl })
+      by_holds none false k = told_unmet h wk t op_is (reply_p ∙ answer_plain (length scripts) p e.caller.0 (O.Wake wk t) g.in_p none) k
+
+      by_fault : (o : Option Fault) → fault (length scripts) p e.caller.0 (O.Wake wk t) ≡ o → IsTold scripts Seen found (e ∷ p)
+      by_fault None k = by_holds k (holds p (record { killed = wk; target = t })) refl
       by_fault (Some x) k =
-          let y = some_too (fault (length scripts) p e.caller.0 (O.Wake at.wake_of.killed at.wake_of.target)) (fault (length scripts) q e.caller.0 (O.Wait at.wake_of.killed at.wake_of.target)) x fault_q k in
-          let d : Entry = record { caller = e.caller; op = O.Wait at.wake_of.killed at.wake_of.target; reply = R.Fault y.0 } in
+          let y = some_too (fault (length scripts) p e.caller.0 (O.Wake wk t)) (fault (length scripts) q e.caller.0 (O.Wait wk t)) x (wake_fault h wk t) k in
+          let d : Entry = record { caller = e.caller; op = O.Wait wk t; reply = R.Fault y.0 } in
           let turn : IsTurn scripts q d = record {
             turn = turn_q;
-            reply = sym (answer_fault (length scripts) q e.caller.0 (O.Wait at.wake_of.killed at.wake_of.target) y.0 g.in_q y.1);
+            reply = sym (answer_fault (length scripts) q e.caller.0 (O.Wait wk t) y.0 g.in_q y.1);
             not_idle = refl;
           } in
-          told_fault h d turn refl g.in_range x y.0 (reply_p ∙ answer_fault (length scripts) p e.caller.0 (O.Wake at.wake_of.killed at.wake_of.target) x g.in_p k) refl
+          told_fault h d turn refl g.in_range x y.0 (reply_p ∙ answer_fault (length scripts) p e.caller.0 (O.Wake wk t) x g.in_p k) refl
+
+  -- the answer to a Wake of a Wait that is no error after q
+  wake_answer : AtTurn scripts Seen found p q e → (k : Bool) (t : Target) → is_active p e.caller.0 ≡ true → e.op ≡ O.Wake k t → fault (length scripts) q e.caller.0 (O.Wait k t) ≡ None →
+      e.reply ≡ wake_reply p e.caller.0 (record { killed = k; target = t })
+  wake_answer h k t act op_is none =
+      let none_p : fault (length scripts) p e.caller.0 (O.Wake k t) ≡ None =
+      none_too (fault (length scripts) q e.caller.0 (O.Wait k t)) (fault (length scripts) p e.caller.0 (O.Wake k t)) (sym (wake_fault h k t)) none in
+      h.course.0.reply ∙ (ap (answer (length scripts) p e.caller.0) op_is ∙ answer_plain (length scripts) p e.caller.0 (O.Wake k t) act none_p)
+
+  -- a Wake of a Wait that q has made
+  told_wake_behind : (me : Comp) → AtTurn scripts Seen found p q e → IsGoing scripts p q e me → (wake : Op) → wake ≡ e.op → (at : IsParkedAt scripts q e.caller.0 (stand p e.caller.0) (stand q e.caller.0) wake) →
+      at.place < (stand q e.caller.0).called → IsTold scripts Seen found (e ∷ p)
+  told_wake_behind me h g wake calls at less = by_holds (holds p (record { killed = at.wake_of.killed; target = at.wake_of.target })) refl
+    where
+      op_is : e.op ≡ O.Wake at.wake_of.killed at.wake_of.target
+      op_is = sym calls ∙ at.wake_of.wakes
+
+      quiet : IsQuietAt (length scripts) q e.caller.0 (O.Wait at.wake_of.killed at.wake_of.target)
+      quiet = subst (λ op. IsQuietAt (length scripts) q e.caller.0 op) at.wake_of.waits (at.between at.place (omega arith) less)
+
+      reply : e.reply ≡ wake_reply p e.caller.0 (record { killed = at.wake_of.killed; target = at.wake_of.target })
+      reply = wake_answer h at.wake_of.killed at.wake_of.target g.in_p op_is quiet.no_fault
+
+      by_holds : (s : Bool) → holds p (record { killed = at.wake_of.killed; target = at.wake_of.target }) ≡ s → IsTold scripts Seen found (e ∷ p)
+      by_holds false k = told_unmet h at.wake_of.killed at.wake_of.target op_is reply k
+      by_holds true k =
+          let r : e.reply ≡ R.Matched = reply ∙ rw k refl in
+          let of : IsWakeOf (O.Wait at.wake_of.killed at.wake_of.target) e.op = record { killed = at.wake_of.killed; target = at.wake_of.target; waits = refl; wakes = op_is } in
+          let u = unchanged_wake p e (O.Wait at.wake_of.killed at.wake_of.target) of (rw r refl) in
+          told_stutter h u (stutter scripts p q e h.course h.closed.course h.for u (no_leaving e h.for g.in_q) (λ act.
+          subst (λ s. IsFollowed scripts q e.caller.0 s (stand q e.caller.0)) (sym (stand_own p e e.caller.0 refl))
+          (woken_behind scripts q e.caller.0 (stand p e.caller.0) (stand q e.caller.0) e wake g.followed at less u.made
+          (not_ending p e (stand p e.caller.0).comp me u g.stand_p g.on_p (rw r refl)) (rw op_is refl) (loud_sets_no_wake e.op e.reply (rw r refl)))))
+
+  -- a Wake
+  told_wake : (me : Comp) → AtTurn scripts Seen found p q e → IsGoing scripts p q e me → (wake : Op) → (stand p e.caller.0).wake ≡ Some wake → wake ≡ e.op → IsTold scripts Seen found (e ∷ p)
+  told_wake me h g wake some calls = by_less (nat_lt at.place (stand q e.caller.0).called) refl
+    where
+      at : IsParkedAt scripts q e.caller.0 (stand p e.caller.0) (stand q e.caller.0) wake
+      at = subst (λ o. MatchOption o (IsBefore scripts q e.caller.0 (stand p e.caller.0) (stand q e.caller.0)) (λ w. IsParkedAt scripts q e.caller.0 (stand p e.caller.0) (stand q e.caller.0) w)) some g.followed.place
+
+      by_less : (t : Bool) → nat_lt at.place (stand q e.caller.0).called ≡ t → IsTold scripts Seen found (e ∷ p)
+      by_less true k = told_wake_behind me h g wake calls at (grind (arith, nat_tests))
+      by_less false k =
+          let fewer = at.fewer in
+          let same : at.place ≡ (stand q e.caller.0).called = grind (arith, nat_tests) in
+          told_wake_here me h g at.wake_of.killed at.wake_of.target (sym calls ∙ at.wake_of.wakes)
+          (ap (call_at scripts e.caller.0 (stand q e.caller.0) (stand q e.caller.0).comp) (sym same) ∙ at.wake_of.waits) (at.one_more ∙ ap suc same)
 
   -- a turn of a run that is leaving, and has ended after q
   told_leaving : AtTurn scripts Seen found p q e → (c : ℕ) (n : IsEnding scripts p q c) → n.run.0 ≡ e.caller.0 → IsTold scripts Seen found (e ∷ p)
-  told_leaving h c n own = by_call (subst (λ op. IsLastAt (length scripts) q e.caller.0 op) call (leaving.calls (stand p e.caller.0).called (omega arith)))
+  told_leaving h c n own = by_wake (stand p e.caller.0).wake refl leaving.parked
     where
       leaving : IsLeaving scripts q e.caller.0 (stand p e.caller.0)
       leaving = subst (λ b. IsLeaving scripts q b (stand p b)) own n.leaving
@@ -663,10 +811,10 @@ module _ {scripts : List ScriptView} {Seen : List Entry → Type 0} {found : Lis
       t : HasTurn (steps_in (script_of scripts e.caller.0)) (stand p e.caller.0) e.op
       t = has_turn scripts p e.caller.0 e.op h.course.0.turn
 
-      call : call_at scripts e.caller.0 (stand p e.caller.0) (stand p e.caller.0).comp (stand p e.caller.0).called ≡ e.op
-      call =
+      call : (stand p e.caller.0).wake ≡ None → call_at scripts e.caller.0 (stand p e.caller.0) (stand p e.caller.0).comp (stand p e.caller.0).called ≡ e.op
+      call none =
           ap (λ o. call_at scripts e.caller.0 (stand p e.caller.0) o (stand p e.caller.0).called) t.on
-          ∙ (ap (λ o. wake_or o (call_of t.me (stand p e.caller.0).bound (slice_get (steps_in (script_of scripts e.caller.0)) (stand p e.caller.0).called))) (sym leaving.no_wake) ∙ t.calls)
+          ∙ (ap (λ o. wake_or o (call_of t.me (stand p e.caller.0).bound (slice_get (steps_in (script_of scripts e.caller.0)) (stand p e.caller.0).called))) (sym none) ∙ t.calls)
 
       answered : fault (length scripts) q e.caller.0 e.op ≡ None → e.reply ≡ plain_answer p e.caller.0 e.op
       answered none = h.course.0.reply ∙ answer_plain (length scripts) p e.caller.0 e.op active (no_fault_back h none)
@@ -674,12 +822,15 @@ module _ {scripts : List ScriptView} {Seen : List Entry → Type 0} {found : Lis
       goes_not : (act : is_active q e.caller.0 ≡ true) → IsFollowed scripts q e.caller.0 (stand (e ∷ p) e.caller.0) (stand q e.caller.0)
       goes_not act = absurd (opposed (is_active q e.caller.0) act off)
 
+      leaving_still : IsLeaving scripts q e.caller.0 (after_own e (stand p e.caller.0)) →
+          (d : ℕ) (m : IsEnding scripts p q d) → (e.caller.0 == m.run.0) ≡ true → IsLeaving scripts q m.run.0 (stand (e ∷ p) m.run.0)
+      leaving_still l d m k =
+          let later : IsLeaving scripts q e.caller.0 (stand (e ∷ p) e.caller.0) = subst (λ s. IsLeaving scripts q e.caller.0 s) (sym (stand_own p e e.caller.0 refl)) l in
+          subst (λ b. IsLeaving scripts q b (stand (e ∷ p) b)) (equal_if e.caller.0 m.run.0 k) later
+
       own_leaving : created e.op e.reply ≡ None → is_wake e.op ≡ false → wake_if e.op e.reply ≡ None →
           (d : ℕ) (m : IsEnding scripts p q d) → (e.caller.0 == m.run.0) ≡ true → IsLeaving scripts q m.run.0 (stand (e ∷ p) m.run.0)
-      own_leaving made plain no_wake d m k =
-          let later : IsLeaving scripts q e.caller.0 (stand (e ∷ p) e.caller.0) =
-          subst (λ s. IsLeaving scripts q e.caller.0 s) (sym (stand_own p e e.caller.0 refl)) (leaving_on scripts q e.caller.0 (stand p e.caller.0) e leaving made plain no_wake) in
-          subst (λ b. IsLeaving scripts q b (stand (e ∷ p) b)) (equal_if e.caller.0 m.run.0 k) later
+      own_leaving made plain no_wake = leaving_still (leaving_on scripts q e.caller.0 (stand p e.caller.0) e leaving made plain no_wake)
 
       quiet_turn : fault (length scripts) q e.caller.0 e.op ≡ None → is_quiet (overall q) e.op ≡ true → IsTold scripts Seen found (e ∷ p)
       quiet_turn none quiet =
@@ -695,14 +846,61 @@ module _ {scripts : List ScriptView} {Seen : List Entry → Type 0} {found : Lis
           let one = late_halts q p e late (answered none ∙ late_reply q p e.caller.0 e.op late) in
           let lp = course_legal scripts (e ∷ p) h.course in
           let ahead = ahead_late scripts p q e l.0.0 h.course.1 lp h.for.ahead one l.1.gone.dead (own_leaving one.made one.plain one.no_wake) (there_too h l.0.0 l.1.gone) in
-          told_stay h one.no_case (stay scripts p q e h.course h.closed.course h.for ahead goes_not)
+          told_stay h one.no_case (stay scripts p q e h.course h.closed.course h.for ahead one.made one.no_run goes_not)
 
-      spent_turn : IsQuietAt (length scripts) q e.caller.0 e.op → IsTold scripts Seen found (e ∷ p)
-      spent_turn spent = by_kind (quiet_or_late q e.op spent.quiet)
+      met_turn : (stand p e.caller.0).wake ≡ None → IsQuietAt (length scripts) q e.caller.0 e.op → is_met q e.op ≡ true → IsTold scripts Seen found (e ∷ p)
+      met_turn none quiet met = by_reply (met_or_parked q p e.caller.0 e.op met)
         where
-          by_kind : (is_quiet (overall q) e.op ≡ true) ⊎ (is_late q e.op ≡ true) → IsTold scripts Seen found (e ∷ p)
+          m : IsMetFor q e.op
+          m = met_for q e.op met
+
+          of : IsWakeOf e.op (O.Wake m.for_kill (T.One m.comp))
+          of = record { killed = m.for_kill; target = T.One m.comp; waits = m.waits; wakes = refl }
+
+          by_reply : (plain_answer p e.caller.0 e.op ≡ R.Matched) ⊎ (plain_answer p e.caller.0 e.op ≡ R.Parked) → IsTold scripts Seen found (e ∷ p)
+          by_reply (inl r) =
+              let matched : e.reply ≡ R.Matched = answered quiet.no_fault ∙ r in
+              let u = unchanged_wait p e (O.Wake m.for_kill (T.One m.comp)) of (rw matched refl) in
+              told_stutter h u (stutter scripts p q e h.course h.closed.course h.for u (own_leaving u.made (rw m.waits refl) (rw matched refl)) goes_not)
+          by_reply (inr r) =
+              let waits : e.reply ≡ R.Parked = answered quiet.no_fault ∙ r in
+              let u = unchanged_wait p e (O.Wake m.for_kill (T.One m.comp)) of (rw waits refl) in
+              told_stutter h u (stutter scripts p q e h.course h.closed.course h.for u
+              (leaving_still (leaving_parked scripts q e.caller.0 (stand p e.caller.0) e (O.Wake m.for_kill (T.One m.comp)) leaving u.made (rw m.waits refl) (wait_parks e.op e.reply m.for_kill (T.One m.comp) m.waits waits)
+              (subst (λ op. IsWakeOf op (O.Wake m.for_kill (T.One m.comp))) (sym (call none)) of) (subst (λ op. IsQuietAt (length scripts) q e.caller.0 op) (sym (call none)) quiet)))
+              goes_not)
+
+      spent_turn : (stand p e.caller.0).wake ≡ None → IsQuietAt (length scripts) q e.caller.0 e.op → IsTold scripts Seen found (e ∷ p)
+      spent_turn none spent = by_kind (how_spent q e.op spent.quiet)
+        where
+          by_kind : Spent q e.op → IsTold scripts Seen found (e ∷ p)
           by_kind (inl quiet) = quiet_turn spent.no_fault quiet
-          by_kind (inr late) = late_turn spent.no_fault late
+          by_kind (inr (inl late)) = late_turn spent.no_fault late
+          by_kind (inr (inr met)) = met_turn none spent met
+
+      woken_turn : (wake : Op) → (stand p e.caller.0).wake ≡ Some wake → WasParked scripts q e.caller.0 (stand p e.caller.0) wake → IsTold scripts Seen found (e ∷ p)
+      woken_turn wake some was = by_holds (holds p (record { killed = was.wake_of.killed; target = was.wake_of.target })) refl
+        where
+          calls : wake ≡ e.op
+          calls = ap (λ o. wake_or o (call_of t.me (stand p e.caller.0).bound (slice_get (steps_in (script_of scripts e.caller.0)) (stand p e.caller.0).called))) (sym some) ∙ t.calls
+
+          op_is : e.op ≡ O.Wake was.wake_of.killed was.wake_of.target
+          op_is = sym calls ∙ was.wake_of.wakes
+
+          quiet : IsQuietAt (length scripts) q e.caller.0 (O.Wait was.wake_of.killed was.wake_of.target)
+          quiet = subst (λ op. IsQuietAt (length scripts) q e.caller.0 op) was.wake_of.waits was.quiet
+
+          reply : e.reply ≡ wake_reply p e.caller.0 (record { killed = was.wake_of.killed; target = was.wake_of.target })
+          reply = wake_answer h was.wake_of.killed was.wake_of.target active op_is quiet.no_fault
+
+          by_holds : (s : Bool) → holds p (record { killed = was.wake_of.killed; target = was.wake_of.target }) ≡ s → IsTold scripts Seen found (e ∷ p)
+          by_holds false k = told_unmet h was.wake_of.killed was.wake_of.target op_is reply k
+          by_holds true k =
+              let r : e.reply ≡ R.Matched = reply ∙ rw k refl in
+              let of : IsWakeOf (O.Wait was.wake_of.killed was.wake_of.target) e.op = record { killed = was.wake_of.killed; target = was.wake_of.target; waits = refl; wakes = op_is } in
+              let u = unchanged_wake p e (O.Wait was.wake_of.killed was.wake_of.target) of (rw r refl) in
+              told_stutter h u (stutter scripts p q e h.course h.closed.course h.for u
+              (leaving_still (leaving_woken scripts q e.caller.0 (stand p e.caller.0) e leaving u.made (rw op_is refl) (loud_sets_no_wake e.op e.reply (rw r refl)))) goes_not)
 
       end_turn : e.op ≡ O.Finish → IsTold scripts Seen found (e ∷ p)
       end_turn op =
@@ -719,9 +917,13 @@ module _ {scripts : List ScriptView} {Seen : List Entry → Type 0} {found : Lis
           let going : is_over (e ∷ p) ≡ false = rw (none, h.going) refl in
           record { over = λ o. absurd cc; going = λ o. (q, h.closed, after_end scripts p q e c h.course h.closed.course h.for n own ends) }
 
-      by_call : IsLastAt (length scripts) q e.caller.0 e.op → IsTold scripts Seen found (e ∷ p)
-      by_call (inl spent) = spent_turn spent
-      by_call (inr op) = end_turn op
+      by_call : (stand p e.caller.0).wake ≡ None → IsLastAt (length scripts) q e.caller.0 e.op → IsTold scripts Seen found (e ∷ p)
+      by_call none (inl spent) = spent_turn none spent
+      by_call none (inr op) = end_turn op
+
+      by_wake : (o : Option Op) → (stand p e.caller.0).wake ≡ o → MatchOption o (Unit {0}) (λ wake. WasParked scripts q e.caller.0 (stand p e.caller.0) wake) → IsTold scripts Seen found (e ∷ p)
+      by_wake None k was = by_call k (subst (λ op. IsLastAt (length scripts) q e.caller.0 op) (call k) (leaving.calls (stand p e.caller.0).called (omega arith)))
+      by_wake (Some wake) k was = woken_turn wake k was
 
   -- one more turn
   told_step : AtTurn scripts Seen found p q e → IsTold scripts Seen found (e ∷ p)
@@ -765,7 +967,7 @@ module _ {scripts : List ScriptView} {Seen : List Entry → Type 0} {found : Lis
 
 module _ (scripts : List ScriptView) (Seen : List Entry → Type 0) (found : List Witness) (some : 1 ≤ length scripts) (seen : SeenIsClosed scripts Seen found) (start : IsCovered scripts Seen []) where
   for_opening : IsFor scripts [] []
-  for_opening = record { ahead = ahead_self scripts []; runs = λ b act. followed_self scripts [] b (stand [] b) refl }
+  for_opening = record { ahead = ahead_self scripts []; runs = λ b act. followed_self scripts [] b (stand [] b) refl; order = order_opening scripts [] }
 
   told_opening : IsTold scripts Seen found []
   told_opening = record {

@@ -1,4 +1,4 @@
--- What a stop or a kill of a component does that is killed already.
+-- What a stop or a kill of a component does that is killed already, and a wait for it.
 use Rattle.std.proofs.Common.{ℕ, ◌≡◌, ◌==◌, ◌&&◌, ◌||◌, ◌⊎◌, inl, inr, not, if◌then◌else◌, Bool, true, false, Option, Some, None, List, ◌∷◌, length, refl, ap, sym, subst, ◌∙◌}
 use Rattle.tc_verdict.specs.declared.run.Run.{Run}
 use Rattle.tc_entry.specs.declared.comp.Comp.{Comp}
@@ -6,6 +6,7 @@ use Rattle.tc_entry.specs.declared.entry.Entry.{Entry}
 use Rattle.tc_entry.specs.declared.op.Op.{Op}
 use Rattle.tc_entry.specs.declared.op.Op.TheVariants as O
 use Rattle.tc_entry.specs.declared.op.Group.TheVariants as G
+use Rattle.tc_entry.specs.declared.op.Target.TheVariants as T
 use Rattle.tc_entry.specs.declared.phase.Phase.{Phase}
 use Rattle.tc_entry.specs.declared.phase.Phase.TheVariants as P
 use Rattle.tc_entry.specs.declared.reply.Reply.TheVariants as R
@@ -14,7 +15,8 @@ use Rattle.tc_step.specs.Steps.{ScriptView}
 use Rattle.tc_table.specs.declared.component_state.ComponentState.{ComponentState}
 use Rattle.tc_table.specs.History.{comps, comp_of, exists, is_alive_type, created, started_on, starts_on, first_some, add_new, halts, kills, ends_case}
 use Rattle.tc_table.specs.Phases.{phase, phase_if_any, start_in}
-use Rattle.tc_table.specs.Status.{is_killed}
+use Rattle.tc_table.specs.Status.{is_killed, done, killed}
+use Rattle.tc_table.specs.Waiting.{holds}
 use Rattle.tc_table.specs.Local.{overall, gives}
 use Rattle.tc_table.specs.Faults.{special_fault}
 use Rattle.tc_table.specs.Answers.{answer, plain_answer, is_active, is_active_on, is_run_of}
@@ -26,7 +28,7 @@ use Rattle.tc_table.proofs.Over.{stays}
 use Rattle.tc_book.specs.Passes.{ends_pass}
 use Rattle.tc_explore.specs.Course.{stand, ends, is_wake, wake_if, IsCourse}
 use Rattle.tc_explore.specs.Inside.Alike.{IsAlike}
-use Rattle.tc_explore.specs.Inside.Simulation.{is_gone, is_late, IsLeaving, IsEnding, IsAhead}
+use Rattle.tc_explore.specs.Inside.Simulation.{is_gone, is_late, is_met, IsLeaving, IsEnding, IsAhead}
 use Rattle.tc_explore.proofs.Alike.{phase_next, fresh, kind_kept, first_kept, kept_by, overall_next}
 use Rattle.tc_explore.proofs.Ahead.{leaving_other}
 
@@ -237,6 +239,46 @@ module _ {past : List Entry} {e : Entry} {c : ℕ} where
   unfolding ends_pass
   halt_not_ending h o me same other =
       subst (λ x. ends x e ≡ false) (sym same) (neither (is_ended e.reply) (halts (Some me) e me.0) h.goes (h.elsewhere (Some me) me.0 other))
+
+-- ---- waits
+
+-- the component that a met wait is for
+pub record IsMetFor (past : List Entry) (op : Op) : Type 0 where
+  pub for_kill : Bool
+  pub comp : Comp
+  pub waits : op ≡ O.Wait for_kill (T.One comp)
+  pub gone : IsGone past comp.0
+
+pub met_for : (past : List Entry) (op : Op) → is_met past op ≡ true → IsMetFor past op
+met_for past (O.Wait k (T.One c)) h = record { for_kill = k; comp = c; waits = refl; gone = gone_is past c.0 h }
+met_for past (O.Wait k T.Any) h = absurd cc
+met_for past (O.Wait k T.All) h = absurd cc
+met_for past _ h = absurd cc
+
+pub met_next : (n : ℕ) (past : List Entry) (e : Entry) (op : Op) → IsLegal n (e ∷ past) → is_met past op ≡ true → is_met (e ∷ past) op ≡ true
+met_next n past e op legal h = let m = met_for past op h in rw m.waits (gone_if (e ∷ past) m.comp.0 (gone_next n past e m.comp.0 legal m.gone))
+
+pub met_special : (n : ℕ) (past : List Entry) (q : List Entry) (op : Op) → is_met q op ≡ true → special_fault n past op ≡ None
+met_special n past q op h = rw (met_for q op h).waits refl
+
+pub met_holds : (past : List Entry) (k : Bool) (c : Comp) → IsGone past c.0 → holds past (record { killed = k; target = T.One c }) ≡ true
+unfolding holds done killed
+met_holds past true c gone = rw gone.dead refl
+met_holds past false c gone = rw gone.dead refl
+
+pub met_reply : (q : List Entry) (b : ℕ) (op : Op) → is_met q op ≡ true → plain_answer q b op ≡ R.Matched
+met_reply q b op h = let m = met_for q op h in rw (m.waits, met_holds q m.for_kill m.comp m.gone) refl
+
+-- a wait that is no error is matched or parked
+pub met_or_parked : (q past : List Entry) (b : ℕ) (op : Op) → is_met q op ≡ true → (plain_answer past b op ≡ R.Matched) ⊎ (plain_answer past b op ≡ R.Parked)
+met_or_parked q past b op h = by_test (holds past (record { killed = m.for_kill; target = T.One m.comp })) refl
+  where
+    m : IsMetFor q op
+    m = met_for q op h
+
+    by_test : (t : Bool) → holds past (record { killed = m.for_kill; target = T.One m.comp }) ≡ t → (plain_answer past b op ≡ R.Matched) ⊎ (plain_answer past b op ≡ R.Parked)
+    by_test true k = inl (rw (m.waits, k) refl)
+    by_test false k = inr (rw (m.waits, k) refl)
 
 -- who goes on is on no killed component
 pub other_than_gone : (past : List Entry) (b c : ℕ) (me : Comp) → is_active past b ≡ true → comp_of past b ≡ Some me → phase past c ≡ P.Killed → (c == me.0) ≡ false

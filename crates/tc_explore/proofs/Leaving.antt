@@ -1,11 +1,12 @@
 -- What the end of a run does that nobody can tell.
-use Rattle.std.proofs.Common.{ℕ, ◌≡◌, ◌≤◌, ◌<◌, ◌==◌, ◌||◌, ◌⊎◌, inl, inr, nat_lt, not, if◌then◌else◌, Bool, true, false, Option, Some, None, is_some, MatchOption, List, ◌∷◌, length, slice_get, get_or, refl, ap, sym, subst, ◌∙◌, arith}
+use Rattle.std.proofs.Common.{ℕ, suc, ◌≡◌, ◌≤◌, ◌<◌, ◌==◌, ◌||◌, ◌⊎◌, inl, inr, nat_lt, not, if◌then◌else◌, Bool, true, false, Option, Some, None, is_some, MatchOption, List, ◌∷◌, length, slice_get, get_or, refl, ap, sym, subst, ◌∙◌, arith}
 use Rattle.std.proofs.lemmas.Bool.Decides.{nat_tests}
 use Rattle.std.proofs.lemmas.Option.{slice_get_within, slice_get-get_or}
 use Rattle.tc_entry.specs.declared.comp.Comp.{Comp}
 use Rattle.tc_entry.specs.declared.entry.Entry.{Entry}
 use Rattle.tc_entry.specs.declared.op.Op.{Op}
 use Rattle.tc_entry.specs.declared.op.Op.TheVariants as O
+use Rattle.tc_entry.specs.declared.op.Target.TheVariants as T
 use Rattle.tc_entry.specs.declared.phase.Phase.{Phase}
 use Rattle.tc_entry.specs.declared.phase.Phase.TheVariants as P
 use Rattle.tc_entry.specs.declared.reply.Reply.TheVariants as R
@@ -14,8 +15,8 @@ use Rattle.tc_step.specs.declared.step.Step.TheVariants as S
 use Rattle.tc_step.specs.declared.step.Status.TheVariants as Q
 use Rattle.tc_step.specs.Steps.{ScriptView}
 use Rattle.tc_table.specs.declared.component_state.ComponentState.{ComponentState}
-use Rattle.tc_table.specs.History.{comps, comp_of, exists, is_alive_type, started_on, halts, kills, ends_case}
-use Rattle.tc_table.specs.Phases.{phase, start_in}
+use Rattle.tc_table.specs.History.{comps, comp_of, exists, is_alive_type, created, started_on, halts, kills, ends_case}
+use Rattle.tc_table.specs.Phases.{phase, phase_if_any, start_in}
 use Rattle.tc_table.specs.Local.{overall}
 use Rattle.tc_table.specs.Answers.{is_active, is_active_on, is_run_of}
 use Rattle.tc_table.specs.Legal.{IsLegal}
@@ -24,13 +25,15 @@ use Rattle.tc_table.proofs.Over.{on_existing}
 use Rattle.tc_table.proofs.LawsOfHistories.{runs_if_active}
 use Rattle.tc_table.proofs.Going.{halted_by_entry, started_by_entry}
 use Rattle.tc_explore.specs.Course.{Stand, stand, call_of, steps_in, script_of, IsCourse}
-use Rattle.tc_explore.specs.Inside.Simulation.{call_at, IsBefore, IsParkedAt, IsFollowed, IsLastAt, IsLeaving, IsEnding, IsFor}
+use Rattle.tc_explore.specs.Inside.Simulation.{is_gone, is_spent, IsQuietAt, IsWakeOf, call_at, IsBefore, IsParkedAt, IsFollowed, IsLastAt, WasParked, IsLeaving, IsEnding, place_of, place_by, IsOrdered, IsFor}
 use Rattle.tc_explore.proofs.Legality.{course_legal}
 use Rattle.tc_explore.proofs.Alike.{phase_next, kind_kept, first_kept, fresh, overall_next}
 use Rattle.tc_explore.proofs.Ahead.{KeepsQuiet, leaving_later, leaving_other, ended_inactive}
 use Rattle.tc_explore.proofs.Standings.{stand_comp, stand_other}
 use Rattle.tc_explore.proofs.Simulation.{some_if, followed_later}
 use Rattle.tc_explore.proofs.Places.{keeps_quiet}
+use Rattle.tc_explore.proofs.Late.{gone_is}
+use Rattle.tc_explore.proofs.Ordered.{gone_after, order_stays}
 
 -- the entry ends its caller, which is not the main run, on this component, which is not alive-type
 pub record Ends (past : List Entry) (e : Entry) (c : Comp) : Type 0 where
@@ -59,8 +62,11 @@ module _ {past : List Entry} {e : Entry} {c : Comp} where
   none_started : Ends past e c → (d : ℕ) → start_in e d ≡ None
   none_started h d = rw (h.op, h.reply) refl
 
-  none_run : Ends past e c → (b : ℕ) → started_on e b ≡ None
+  pub none_run : Ends past e c → (b : ℕ) → started_on e b ≡ None
   none_run h b = rw (h.op, h.reply) refl
+
+  pub ends_make_none : Ends past e c → created e.op e.reply ≡ None
+  ends_make_none h = rw h.op refl
 
   halts_one : Ends past e c → (d : ℕ) → halts (comp_of past e.caller.0) e d ≡ (c.0 == d)
   halts_one h d = rw (h.on, h.op, h.reply, h.not_main) (or_nos (c.0 == d))
@@ -167,16 +173,52 @@ followed_leaves scripts q b s t f ends = by_wake s.wake refl f.place
     calls_as : (k : ℕ) → call_at scripts b s s.comp k ≡ call_at scripts b t t.comp k
     calls_as k = ap (λ o. call_at scripts b s o k) f.comp ∙ same_call t.comp k
 
-    at : IsBefore scripts q b s t → (k : ℕ) → s.called ≤ k → (less : Bool) → nat_lt k t.called ≡ less → IsLastAt (length scripts) q b (call_at scripts b t t.comp k)
-    at h k l true less = inl (h.between k l (grind (arith, nat_tests)))
-    at h k l false less = inr (finish_behind scripts b t t.comp t.called k (grind (arith, nat_tests)) ends)
+    at : (k : ℕ) → (k < t.called → IsQuietAt (length scripts) q b (call_at scripts b t t.comp k)) → (less : Bool) → nat_lt k t.called ≡ less → IsLastAt (length scripts) q b (call_at scripts b s s.comp k)
+    at k h true less = subst (λ op. IsLastAt (length scripts) q b op) (sym (calls_as k)) (inl (h (grind (arith, nat_tests))))
+    at k h false less = subst (λ op. IsLastAt (length scripts) q b op) (sym (calls_as k)) (inr (finish_behind scripts b t t.comp t.called k (grind (arith, nat_tests)) ends))
 
-    by_wake : (o : Option Op) → s.wake ≡ o → MatchOption o (IsBefore scripts q b s t) (λ wake. IsParkedAt scripts b s t wake) → IsLeaving scripts q b s
-    by_wake None k h = record {
-      no_wake = k;
-      calls = λ j l. subst (λ op. IsLastAt (length scripts) q b op) (sym (calls_as j)) (at h j l (nat_lt j t.called) refl);
+    was : (wake : Op) (h : IsParkedAt scripts q b s t wake) → (less : Bool) → nat_lt h.place t.called ≡ less → WasParked scripts q b s wake
+    was wake h true less = record {
+      place = h.place;
+      one_more = h.one_more;
+      wake_of = subst (λ op. IsWakeOf op wake) (sym (calls_as h.place)) h.wake_of;
+      quiet = subst (λ op. IsQuietAt (length scripts) q b op) (sym (calls_as h.place)) (h.between h.place (omega arith) (grind (arith, nat_tests)));
     }
-    by_wake (Some wake) k h = let waits : O.Finish ≡ O.Wait h.wake_of.killed h.wake_of.target = sym ends ∙ h.wake_of.waits in absurd cc
+    was wake h false less =
+        let fewer = h.fewer in
+        let same : h.place ≡ t.called = grind (arith, nat_tests) in
+        let last : call_at scripts b t t.comp h.place ≡ O.Finish = ap (call_at scripts b t t.comp) same ∙ ends in
+        let waits : O.Finish ≡ O.Wait h.wake_of.killed h.wake_of.target = sym last ∙ h.wake_of.waits in
+        absurd cc
+
+    by_wake : (o : Option Op) → s.wake ≡ o → MatchOption o (IsBefore scripts q b s t) (λ wake. IsParkedAt scripts q b s t wake) → IsLeaving scripts q b s
+    by_wake None k h = record {
+      parked = subst (λ o. MatchOption o (Unit {0}) (λ wake. WasParked scripts q b s wake)) (sym k) tt;
+      calls = λ j l. at j (h.between j l) (nat_lt j t.called) refl;
+    }
+    by_wake (Some wake) k h = record {
+      parked = subst (λ o. MatchOption o (Unit {0}) (λ w. WasParked scripts q b s w)) (sym k) (was wake h (nat_lt h.place t.called) refl);
+      calls = λ j l. let more = h.one_more in at j (h.between j (omega (arith, more, l))) (nat_lt j t.called) refl;
+    }
+
+-- from now on it has only quiet calls, and its end
+leaving_last : (scripts : List ScriptView) (q : List Entry) (b : ℕ) (s : Stand) → IsLeaving scripts q b s → (k : ℕ) → place_of s ≤ k → IsLastAt (length scripts) q b (call_at scripts b s s.comp k)
+leaving_last scripts q b s l k less = by_wake s.wake refl l.parked less
+  where
+    by_less : (place : ℕ) → s.called ≡ suc place → IsQuietAt (length scripts) q b (call_at scripts b s s.comp place) → place ≤ k → (t : Bool) → nat_lt place k ≡ t → IsLastAt (length scripts) q b (call_at scripts b s s.comp k)
+    by_less place more quiet near true j = l.calls k (grind (arith, nat_tests, more))
+    by_less place more quiet near false j =
+        let same : place ≡ k = grind (arith, nat_tests) in
+        inl (subst (λ x. IsQuietAt (length scripts) q b (call_at scripts b s s.comp x)) same quiet)
+
+    by_wake : (o : Option Op) → s.wake ≡ o → MatchOption o (Unit {0}) (λ wake. WasParked scripts q b s wake) → place_by o s.called ≤ k → IsLastAt (length scripts) q b (call_at scripts b s s.comp k)
+    by_wake None j h near = l.calls k near
+    by_wake (Some wake) j h near = let more = h.one_more in by_less h.place h.one_more h.quiet (omega (arith, more, near)) (nat_lt h.place k) refl
+
+-- what it waits for is killed
+waits_for_gone : (n : ℕ) (q : List Entry) (b : ℕ) (op : Op) (killed : Bool) (t : Comp) → IsLastAt n q b op → op ≡ O.Wait killed (T.One t) → is_gone (phase_if_any q t.0) ≡ true
+waits_for_gone n q b op killed t (inl quiet) is = ap (is_spent q) (sym is) ∙ quiet.quiet
+waits_for_gone n q b op killed t (inr ends) is = let no : O.Finish ≡ O.Wait killed (T.One t) = sym ends ∙ is in absurd cc
 
 -- ---- q makes the end of a run
 
@@ -217,6 +259,62 @@ module _ (scripts : List ScriptView) (p q : List Entry) (e : Entry) (c : Comp) (
     leaving = leaving_later scripts q (e ∷ q) n.run.0 (stand p n.run.0) keeps n.leaving;
   })
 
+  -- the component comes behind all others by rank
+  abbrev rank_by : Bool → ℕ → ℕ
+  rank_by true d = suc f.order.top
+  rank_by false d = f.order.rank d
+
+  abbrev last_rank : ℕ → ℕ
+  last_rank d = rank_by (c.0 == d) d
+
+  last_below : (d : ℕ) (t : Bool) → rank_by t d ≤ suc f.order.top
+  last_below d true = omega arith
+  last_below d false = let l = f.order.below d in omega (arith, l)
+
+  other_gone : (t : Comp) → is_gone (phase_if_any q t.0) ≡ true → (c.0 == t.0) ≡ false
+  other_gone t gone = by_test (c.0 == t.0) refl
+    where
+      by_test : (s : Bool) → (c.0 == t.0) ≡ s → s ≡ false
+      by_test false k = refl
+      by_test true k =
+          let dead : phase q c.0 ≡ P.Killed = subst (λ x. phase q x ≡ P.Killed) (sym (equal_if c.0 t.0 k)) (gone_is q t.0 gone).dead in
+          let no : P.Killed ≡ P.Running e.caller = sym dead ∙ h.runs in
+          absurd cc
+
+  kept_rank : (t : Comp) → is_gone (phase_if_any q t.0) ≡ true → last_rank t.0 ≡ f.order.rank t.0
+  kept_rank t gone = ap (λ s. rank_by s t.0) (other_gone t gone)
+
+  -- what the run that ends waits for comes before it
+  ordered_here : (b : ℕ) → b ≡ e.caller.0 → IsOrdered scripts last_rank (e ∷ q) c.0 b (stand p b)
+  ordered_here b own = λ k killed t l call.
+      let leaves : IsLeaving scripts q b (stand p b) = subst (λ x. IsLeaving scripts q x (stand p x)) (sym own) (followed_leaves scripts q e.caller.0 (stand p e.caller.0) (stand q e.caller.0) (f.runs e.caller.0 act) ends) in
+      let gone = waits_for_gone (length scripts) q b (call_at scripts b (stand p b) (stand p b).comp k) killed t (leaving_last scripts q b (stand p b) leaves k l) call in
+      let here : last_rank c.0 ≡ suc f.order.top = ap (λ s. rank_by s c.0) (self_equal c.0) in
+      let there = kept_rank t gone in
+      let low = f.order.below t.0 in
+      (omega (arith, here, there, low), gone_after (length scripts) q e lq t.0 gone)
+
+  -- so does what others wait for
+  ordered_there : (d b : ℕ) → (c.0 == d) ≡ false → IsOrdered scripts f.order.rank q d b (stand p b) → IsOrdered scripts last_rank (e ∷ q) d b (stand p b)
+  ordered_there d b other o = λ k killed t l call.
+      let was = o k killed t l call in
+      let here : last_rank d ≡ f.order.rank d = ap (λ s. rank_by s d) other in
+      let there = kept_rank t was.1 in
+      let less = was.0 in
+      (omega (arith, here, there, less), gone_after (length scripts) q e lq t.0 was.1)
+
+  runs_here : (b : ℕ) → is_active p b ≡ true → comp_of p b ≡ Some (record { 0 = c.0 }) → b ≡ e.caller.0
+  unfolding is_active
+  runs_here b on at =
+      let runs : is_run_of b (phase p c.0) ≡ true = ap (is_active_on p b) (sym at) ∙ on in
+      sym (equal_if e.caller.0 b (ap (is_run_of b) (sym (still_running (f.ahead.phases c.0))) ∙ runs))
+
+  ordered_by : (d b : ℕ) → is_active p b ≡ true → comp_of p b ≡ Some (record { 0 = d }) → phase (e ∷ q) d ≡ P.Killed → (t : Bool) → (c.0 == d) ≡ t → IsOrdered scripts last_rank (e ∷ q) d b (stand p b)
+  ordered_by d b on at dead true k =
+      let same : c.0 ≡ d = equal_if c.0 d k in
+      subst (λ x. IsOrdered scripts last_rank (e ∷ q) x b (stand p b)) same (ordered_here b (runs_here b on (at ∙ ap (λ (x : ℕ). Some (record { 0 = x })) (sym same))))
+  ordered_by d b on at dead false k = ordered_there d b k (f.order.each d b on at (sym (end_elsewhere (length scripts) lq h d k) ∙ dead))
+
   by_place : (d : ℕ) (t : Bool) → (c.0 == d) ≡ t → (phase p d ≡ phase (e ∷ q) d) ⊎ IsEnding scripts p (e ∷ q) d
   by_place d true k = subst (λ x. (phase p x ≡ phase (e ∷ q) x) ⊎ IsEnding scripts p (e ∷ q) x) (equal_if c.0 d k) (inr ending_here)
   by_place d false k = ending_elsewhere d k (f.ahead.phases d)
@@ -236,6 +334,12 @@ module _ (scripts : List ScriptView) (p q : List Entry) (e : Entry) (c : Comp) (
         let here : (stand q b).comp ≡ Some me.0 = stand_comp scripts q b cq.1 ∙ me.1 in
         subst (λ t. IsFollowed scripts (e ∷ q) b (stand p b) t) (sym (stand_other q e b me.0 (end_other (length scripts) lq h b on) here))
         (followed_later scripts q (e ∷ q) b (stand p b) (stand q b) keeps (f.runs b was));
+    order = record {
+      rank = last_rank;
+      top = suc f.order.top;
+      below = λ d. last_below d (c.0 == d);
+      each = λ d b on at dead. ordered_by d b on at dead (c.0 == d) refl;
+    };
   }
 
 -- ---- p makes an end that q has made
@@ -288,6 +392,7 @@ module _ (scripts : List ScriptView) (p q : List Entry) (e : Entry) (c : ℕ) (c
         let me = some_if q b on in
         let here : (stand p b).comp ≡ Some me.0 = stand_comp scripts p b cp.1 ∙ (f.ahead.comp_same b ∙ me.1) in
         subst (λ s. IsFollowed scripts q b s (stand q b)) (sym (stand_other p e b me.0 (not_active b on) here)) (f.runs b on);
+    order = order_stays scripts p q e cp f.order (ends_make_none h) (none_run h);
   }
     where
       not_active : (b : ℕ) → is_active q b ≡ true → (e.caller.0 == b) ≡ false

@@ -23,3 +23,4 @@ pub mod Telling
 pub mod Prefixes
 pub mod Taking
 pub mod Late
+pub mod Ordered

@@ -23,16 +23,16 @@ use Rattle.tc_table.specs.Legal.{IsLegal}
 use Rattle.tc_table.specs.Inside.Step.{next_local}
 use Rattle.tc_table.proofs.Over.{stays}
 use Rattle.tc_explore.specs.Course.{Stand, after_own, ends, as_list, is_wake, wake_for, wake_if}
-use Rattle.tc_explore.specs.Inside.Simulation.{is_quiet, is_late, is_spent, IsQuietAt, call_at, IsWakeOf, IsBefore, IsParkedAt, IsFollowed, IsLastAt, IsLeaving}
+use Rattle.tc_explore.specs.Inside.Simulation.{is_quiet, is_late, is_met, is_spent, WasParked, IsQuietAt, call_at, IsWakeOf, IsBefore, IsParkedAt, IsFollowed, IsLastAt, IsLeaving}
 use Rattle.tc_explore.proofs.Alike.{ChangesNothing, overall_next}
 use Rattle.tc_explore.proofs.Ahead.{KeepsQuiet}
-use Rattle.tc_explore.proofs.Late.{late_next, late_special}
+use Rattle.tc_explore.proofs.Late.{late_next, late_special, met_next, met_special}
 
 or_no : (a : Bool) → (a || false) ≡ a
 or_no true = refl
 or_no false = refl
 
-kept_bound : (e : Entry) (s : Stand) → created e.op e.reply ≡ None → (after_own e s).bound ≡ s.bound
+pub kept_bound : (e : Entry) (s : Stand) → created e.op e.reply ≡ None → (after_own e s).bound ≡ s.bound
 kept_bound e s h = rw h (append-nil s.bound)
 
 kept_left : (e : Entry) (s : Stand) → ends s.comp e ≡ false → (after_own e s).left ≡ s.left
@@ -65,7 +65,7 @@ quiet_no_wake w (O.Wake k t) h = absurd cc
 quiet_no_wake w _ h = refl
 
 before_of : (scripts : List ScriptView) (q : List Entry) (b : ℕ) (s t : Stand) → s.wake ≡ None → IsFollowed scripts q b s t → IsBefore scripts q b s t
-before_of scripts q b s t h f = subst (λ o. MatchOption o (IsBefore scripts q b s t) (λ wake. IsParkedAt scripts b s t wake)) h f.place
+before_of scripts q b s t h f = subst (λ o. MatchOption o (IsBefore scripts q b s t) (λ wake. IsParkedAt scripts q b s t wake)) h f.place
 
 -- a quiet call that the other has made already
 pub behind : (scripts : List ScriptView) (q : List Entry) (b : ℕ) (s t : Stand) (e : Entry) → IsFollowed scripts q b s t → s.wake ≡ None → s.called < t.called →
@@ -79,26 +79,45 @@ behind scripts q b s t e f none less made stays_on plain no_wake =
       bound = kept_bound e s made ∙ f.bound;
       left = kept_left e s stays_on ∙ f.left;
       no_wake = f.no_wake;
-      place = subst (λ o. MatchOption o (IsBefore scripts q b (after_own e s) t) (λ wake. IsParkedAt scripts b (after_own e s) t wake)) (sym no_wake) now;
+      place = subst (λ o. MatchOption o (IsBefore scripts q b (after_own e s) t) (λ wake. IsParkedAt scripts q b (after_own e s) t wake)) (sym no_wake) now;
     }
 
 -- a Wait that is parked
-pub parked : (scripts : List ScriptView) (q : List Entry) (b : ℕ) (s t : Stand) (e : Entry) (wake : Op) → IsFollowed scripts q b s t → s.called ≡ t.called →
-    created e.op e.reply ≡ None → ends s.comp e ≡ false → is_wake e.op ≡ false → wake_if e.op e.reply ≡ Some wake → IsWakeOf (call_at scripts b t t.comp t.called) wake →
+pub parked : (scripts : List ScriptView) (q : List Entry) (b : ℕ) (s t : Stand) (e : Entry) (wake : Op) → IsFollowed scripts q b s t → s.wake ≡ None →
+    created e.op e.reply ≡ None → ends s.comp e ≡ false → is_wake e.op ≡ false → wake_if e.op e.reply ≡ Some wake → IsWakeOf (call_at scripts b t t.comp s.called) wake →
     IsFollowed scripts q b (after_own e s) t
-parked scripts q b s t e wake f same made stays_on plain to_come of =
+parked scripts q b s t e wake f none made stays_on plain to_come of =
+    let before = before_of scripts q b s t none f in
     let called = one_more_called e s plain in
-    let now : IsParkedAt scripts b (after_own e s) t wake = record { one_more = omega (arith, called, same); wake_of = of } in
+    let now : IsParkedAt scripts q b (after_own e s) t wake = record {
+      place = s.called;
+      one_more = omega (arith, called);
+      fewer = before.fewer;
+      wake_of = of;
+      between = before.between;
+    } in
     record {
       comp = f.comp;
       bound = kept_bound e s made ∙ f.bound;
       left = kept_left e s stays_on ∙ f.left;
       no_wake = f.no_wake;
-      place = subst (λ o. MatchOption o (IsBefore scripts q b (after_own e s) t) (λ w. IsParkedAt scripts b (after_own e s) t w)) (sym to_come) now;
+      place = subst (λ o. MatchOption o (IsBefore scripts q b (after_own e s) t) (λ w. IsParkedAt scripts q b (after_own e s) t w)) (sym to_come) now;
     }
 
-no_parked_quiet : (past : List Entry) (op wake : Op) → IsWakeOf op wake → is_spent past op ≡ true → ⊥
-no_parked_quiet past op wake h quiet = let off : is_spent past op ≡ false = rw h.waits refl in absurd cc
+-- a Wake that is answered Matched, of a Wait that the other has made already
+pub woken_behind : (scripts : List ScriptView) (q : List Entry) (b : ℕ) (s t : Stand) (e : Entry) (wake : Op) → IsFollowed scripts q b s t → (at : IsParkedAt scripts q b s t wake) → at.place < t.called →
+    created e.op e.reply ≡ None → ends s.comp e ≡ false → is_wake e.op ≡ true → wake_if e.op e.reply ≡ None → IsFollowed scripts q b (after_own e s) t
+woken_behind scripts q b s t e wake f at less made stays_on wakes none =
+    let called : (after_own e s).called ≡ s.called = rw wakes refl in
+    let more = at.one_more in
+    let now : IsBefore scripts q b (after_own e s) t = record { fewer = omega (arith, called, more, less); between = λ k l m. at.between k (omega (arith, called, more, l)) m } in
+    record {
+      comp = f.comp;
+      bound = kept_bound e s made ∙ f.bound;
+      left = kept_left e s stays_on ∙ f.left;
+      no_wake = f.no_wake;
+      place = subst (λ o. MatchOption o (IsBefore scripts q b (after_own e s) t) (λ w. IsParkedAt scripts q b (after_own e s) t w)) (sym none) now;
+    }
 
 -- a quiet call of the other
 pub ahead : (scripts : List ScriptView) (q : List Entry) (b : ℕ) (s t : Stand) (e : Entry) → IsFollowed scripts (e ∷ q) b s t → IsQuietAt (length scripts) (e ∷ q) b (call_at scripts b t t.comp t.called) →
@@ -121,25 +140,32 @@ ahead scripts q b s t e f quiet made stays_on plain no_wake = record {
     same_call None k = refl
     same_call (Some me) k = rw same_bound refl
 
-    at_last : IsBefore scripts (e ∷ q) b s t → (k : ℕ) → s.called ≤ k → k < (after_own e t).called → (less : Bool) → nat_lt k t.called ≡ less → IsQuietAt (length scripts) (e ∷ q) b (call_at scripts b t t.comp k)
-    at_last h k l m true less = h.between k l (grind (arith, nat_tests))
-    at_last h k l m false less =
+    at_last : (k : ℕ) → (k < t.called → IsQuietAt (length scripts) (e ∷ q) b (call_at scripts b t t.comp k)) → k < (after_own e t).called → (less : Bool) → nat_lt k t.called ≡ less →
+        IsQuietAt (length scripts) (e ∷ q) b (call_at scripts b t t.comp k)
+    at_last k h m true less = h (grind (arith, nat_tests))
+    at_last k h m false less =
         let is : k ≡ t.called = grind (arith, nat_tests, called) in
         subst (λ x. IsQuietAt (length scripts) (e ∷ q) b (call_at scripts b t t.comp x)) (sym is) quiet
 
-    by_wake : (o : Option Op) → MatchOption o (IsBefore scripts (e ∷ q) b s t) (λ wake. IsParkedAt scripts b s t wake) →
-        MatchOption o (IsBefore scripts (e ∷ q) b s (after_own e t)) (λ wake. IsParkedAt scripts b s (after_own e t) wake)
+    by_wake : (o : Option Op) → MatchOption o (IsBefore scripts (e ∷ q) b s t) (λ wake. IsParkedAt scripts (e ∷ q) b s t wake) →
+        MatchOption o (IsBefore scripts (e ∷ q) b s (after_own e t)) (λ wake. IsParkedAt scripts (e ∷ q) b s (after_own e t) wake)
     by_wake None h = record {
       fewer = let l = h.fewer in omega (arith, called);
-      between = λ k l m. subst (λ op. IsQuietAt (length scripts) (e ∷ q) b op) (sym (same_call t.comp k)) (at_last h k l m (nat_lt k t.called) refl);
+      between = λ k l m. subst (λ op. IsQuietAt (length scripts) (e ∷ q) b op) (sym (same_call t.comp k)) (at_last k (h.between k l) m (nat_lt k t.called) refl);
     }
-    by_wake (Some wake) h = absurd (no_parked_quiet (e ∷ q) _ wake h.wake_of quiet.quiet)
+    by_wake (Some wake) h = record {
+      place = h.place;
+      one_more = h.one_more;
+      fewer = let l = h.fewer in omega (arith, called);
+      wake_of = subst (λ op. IsWakeOf op wake) (sym (same_call t.comp h.place)) h.wake_of;
+      between = λ k l m. subst (λ op. IsQuietAt (length scripts) (e ∷ q) b op) (sym (same_call t.comp k)) (at_last k (h.between k l) m (nat_lt k t.called) refl);
+    }
 
 -- a quiet call of a run that is leaving
 pub leaving_on : (scripts : List ScriptView) (q : List Entry) (b : ℕ) (s : Stand) (e : Entry) → IsLeaving scripts q b s →
     created e.op e.reply ≡ None → is_wake e.op ≡ false → wake_if e.op e.reply ≡ None → IsLeaving scripts q b (after_own e s)
 leaving_on scripts q b s e l made plain no_wake = record {
-  no_wake = no_wake;
+  parked = subst (λ o. MatchOption o (Unit {0}) (λ wake. WasParked scripts q b (after_own e s) wake)) (sym no_wake) tt;
   calls = λ k m. subst (λ op. IsLastAt (length scripts) q b op) (sym (same_call s.comp k)) (l.calls k (omega (arith, called, m)));
 }
   where
@@ -148,6 +174,51 @@ leaving_on scripts q b s e l made plain no_wake = record {
 
     called : (after_own e s).called ≡ s.called + 1
     called = one_more_called e s plain
+
+    same_call : (o : Option Comp) (k : ℕ) → call_at scripts b (after_own e s) o k ≡ call_at scripts b s o k
+    same_call None k = refl
+    same_call (Some me) k = rw same_bound refl
+
+-- a Wait of it that is parked
+pub leaving_parked : (scripts : List ScriptView) (q : List Entry) (b : ℕ) (s : Stand) (e : Entry) (wake : Op) → IsLeaving scripts q b s →
+    created e.op e.reply ≡ None → is_wake e.op ≡ false → wake_if e.op e.reply ≡ Some wake → IsWakeOf (call_at scripts b s s.comp s.called) wake →
+    IsQuietAt (length scripts) q b (call_at scripts b s s.comp s.called) → IsLeaving scripts q b (after_own e s)
+leaving_parked scripts q b s e wake l made plain to_come of quiet = record {
+  parked = subst (λ o. MatchOption o (Unit {0}) (λ w. WasParked scripts q b (after_own e s) w)) (sym to_come) was;
+  calls = λ k m. subst (λ op. IsLastAt (length scripts) q b op) (sym (same_call s.comp k)) (l.calls k (omega (arith, called, m)));
+}
+  where
+    same_bound : (after_own e s).bound ≡ s.bound
+    same_bound = kept_bound e s made
+
+    called : (after_own e s).called ≡ s.called + 1
+    called = one_more_called e s plain
+
+    same_call : (o : Option Comp) (k : ℕ) → call_at scripts b (after_own e s) o k ≡ call_at scripts b s o k
+    same_call None k = refl
+    same_call (Some me) k = rw same_bound refl
+
+    was : WasParked scripts q b (after_own e s) wake
+    was = record {
+      place = s.called;
+      one_more = omega (arith, called);
+      wake_of = subst (λ op. IsWakeOf op wake) (sym (same_call s.comp s.called)) of;
+      quiet = subst (λ op. IsQuietAt (length scripts) q b op) (sym (same_call s.comp s.called)) quiet;
+    }
+
+-- a Wake of it that is answered Matched
+pub leaving_woken : (scripts : List ScriptView) (q : List Entry) (b : ℕ) (s : Stand) (e : Entry) → IsLeaving scripts q b s →
+    created e.op e.reply ≡ None → is_wake e.op ≡ true → wake_if e.op e.reply ≡ None → IsLeaving scripts q b (after_own e s)
+leaving_woken scripts q b s e l made wakes none = record {
+  parked = subst (λ o. MatchOption o (Unit {0}) (λ w. WasParked scripts q b (after_own e s) w)) (sym none) tt;
+  calls = λ k m. subst (λ op. IsLastAt (length scripts) q b op) (sym (same_call s.comp k)) (l.calls k (omega (arith, called, m)));
+}
+  where
+    same_bound : (after_own e s).bound ≡ s.bound
+    same_bound = kept_bound e s made
+
+    called : (after_own e s).called ≡ s.called
+    called = rw wakes refl
 
     same_call : (o : Option Comp) (k : ℕ) → call_at scripts b (after_own e s) o k ≡ call_at scripts b s o k
     same_call None k = refl
@@ -165,7 +236,7 @@ together scripts q r b s t e f same plain no_wake =
       bound = ap (λ x. x ++ as_list (created e.op e.reply)) f.bound;
       left = rw (f.left, f.comp) refl;
       no_wake = no_wake;
-      place = subst (λ o. MatchOption o (IsBefore scripts r b (after_own e s) (after_own e t)) (λ w. IsParkedAt scripts b (after_own e s) (after_own e t) w)) (sym no_wake) now;
+      place = subst (λ o. MatchOption o (IsBefore scripts r b (after_own e s) (after_own e t)) (λ w. IsParkedAt scripts r b (after_own e s) (after_own e t) w)) (sym no_wake) now;
     }
 
 -- a Wake of the one, and a Wait of the other, with the same reply
@@ -181,14 +252,14 @@ woken scripts q r b s t d e f one_more made_d made_e stays_d stays_e wakes waits
       bound = kept_bound d s made_d ∙ (f.bound ∙ sym (kept_bound e t made_e));
       left = kept_left d s stays_d ∙ (f.left ∙ sym (kept_left e t stays_e));
       no_wake = none_e;
-      place = subst (λ o. MatchOption o (IsBefore scripts r b (after_own d s) (after_own e t)) (λ w. IsParkedAt scripts b (after_own d s) (after_own e t) w)) (sym none_d) now;
+      place = subst (λ o. MatchOption o (IsBefore scripts r b (after_own d s) (after_own e t)) (λ w. IsParkedAt scripts r b (after_own d s) (after_own e t) w)) (sym none_d) now;
     }
 
 -- the same is known
 pub followed_self : (scripts : List ScriptView) (q : List Entry) (b : ℕ) (s : Stand) → s.wake ≡ None → IsFollowed scripts q b s s
 followed_self scripts q b s none =
     let now : IsBefore scripts q b s s = record { fewer = omega arith; between = λ k l m. absurd (omega arith) } in
-    record { comp = refl; bound = refl; left = refl; no_wake = none; place = subst (λ o. MatchOption o (IsBefore scripts q b s s) (λ w. IsParkedAt scripts b s s w)) (sym none) now }
+    record { comp = refl; bound = refl; left = refl; no_wake = none; place = subst (λ o. MatchOption o (IsBefore scripts q b s s) (λ w. IsParkedAt scripts q b s s w)) (sym none) now }
 
 -- ---- quiet calls stay quiet after any entry
 
@@ -231,46 +302,65 @@ still_no_fault n past e b w op quiet h =
     let p = no_fault_by (list_all (λ c. exists past c.0) (names op)) (asks_many op && not (b == 0)) (special_fault n past op) h in
     rw (still_exist past e (names op) p.0, p.1, never_special n (e ∷ past) w op quiet) refl
 
-still_no_fault_late : (n : ℕ) (past : List Entry) (e : Entry) (b : ℕ) (op : Op) → is_late past op ≡ true → fault n past b op ≡ None → fault n (e ∷ past) b op ≡ None
+still_no_fault_by : (n : ℕ) (past : List Entry) (e : Entry) (b : ℕ) (op : Op) → special_fault n (e ∷ past) op ≡ None → fault n past b op ≡ None → fault n (e ∷ past) b op ≡ None
 unfolding fault all_exist
-still_no_fault_late n past e b op late h =
+still_no_fault_by n past e b op none h =
     let p = no_fault_by (list_all (λ c. exists past c.0) (names op)) (asks_many op && not (b == 0)) (special_fault n past op) h in
-    rw (still_exist past e (names op) p.0, p.1, late_special n (e ∷ past) past op late) refl
+    rw (still_exist past e (names op) p.0, p.1, none) refl
 
 pub spent_quiet : (past : List Entry) (op : Op) → is_quiet (overall past) op ≡ true → is_spent past op ≡ true
 spent_quiet past op h = rw h refl
 
-pub spent_late : (past : List Entry) (op : Op) → is_late past op ≡ true → is_spent past op ≡ true
-spent_late past op h = rw h (or_yes (is_quiet (overall past) op))
-  where
-    or_yes : (t : Bool) → (t || true) ≡ true
-    or_yes true = refl
-    or_yes false = refl
+or_second : (s t : Bool) → (s || (true || t)) ≡ true
+or_second true t = refl
+or_second false t = refl
 
--- a call that changes nothing is quiet, or late
-pub quiet_or_late : (past : List Entry) (op : Op) → is_spent past op ≡ true → (is_quiet (overall past) op ≡ true) ⊎ (is_late past op ≡ true)
-quiet_or_late past op h = by_test (is_quiet (overall past) op) refl h
+or_third : (s t : Bool) → (s || (t || true)) ≡ true
+or_third true t = refl
+or_third false true = refl
+or_third false false = refl
+
+pub spent_late : (past : List Entry) (op : Op) → is_late past op ≡ true → is_spent past op ≡ true
+spent_late past op h = rw h (or_second (is_quiet (overall past) op) (is_met past op))
+
+pub spent_met : (past : List Entry) (op : Op) → is_met past op ≡ true → is_spent past op ≡ true
+spent_met past op h = rw h (or_third (is_quiet (overall past) op) (is_late past op))
+
+-- how a call changes nothing: it is quiet, or stops or kills what is killed already, or waits for that
+abbrev pub Spent : List Entry → Op → Type 0
+Spent past op = (is_quiet (overall past) op ≡ true) ⊎ ((is_late past op ≡ true) ⊎ (is_met past op ≡ true))
+
+pub how_spent : (past : List Entry) (op : Op) → is_spent past op ≡ true → Spent past op
+how_spent past op h = by_tests (is_quiet (overall past) op) (is_late past op) refl refl h
   where
-    by_test : (t : Bool) → is_quiet (overall past) op ≡ t → (t || is_late past op) ≡ true → (is_quiet (overall past) op ≡ true) ⊎ (is_late past op ≡ true)
-    by_test true k j = inl k
-    by_test false k j = inr j
+    by_tests : (s t : Bool) → is_quiet (overall past) op ≡ s → is_late past op ≡ t → (s || (t || is_met past op)) ≡ true → Spent past op
+    by_tests true t j k l = inl j
+    by_tests false true j k l = inr (inl k)
+    by_tests false false j k l = inr (inr l)
 
 pub loud_not_quiet : (past : List Entry) (op : Op) → is_spent past op ≡ false → is_quiet (overall past) op ≡ false
 loud_not_quiet past op h = by_test (is_quiet (overall past) op) h
   where
-    by_test : (t : Bool) → (t || is_late past op) ≡ false → t ≡ false
+    by_test : (t : Bool) → (t || (is_late past op || is_met past op)) ≡ false → t ≡ false
     by_test true k = absurd cc
     by_test false k = refl
 
 pub keeps_quiet : (n : ℕ) (past : List Entry) (e : Entry) → IsLegal n (e ∷ past) → KeepsQuiet n past (e ∷ past)
-keeps_quiet n past e legal b op h = by_kind (quiet_or_late past op h.quiet)
+keeps_quiet n past e legal b op h = by_kind (how_spent past op h.quiet)
   where
     grows : level_of (overall past) ≤ level_of (overall (e ∷ past))
     grows = rw (overall_next n past e legal) (no_better (gives e.op e.reply) (overall past))
 
-    by_kind : (is_quiet (overall past) op ≡ true) ⊎ (is_late past op ≡ true) → IsQuietAt n (e ∷ past) b op
+    by_kind : Spent past op → IsQuietAt n (e ∷ past) b op
     by_kind (inl quiet) = record {
       quiet = spent_quiet (e ∷ past) op (quiet_then (overall past) (overall (e ∷ past)) op grows quiet);
       no_fault = still_no_fault n past e b (overall past) op quiet h.no_fault;
     }
-    by_kind (inr late) = record { quiet = spent_late (e ∷ past) op (late_next n past e op legal late); no_fault = still_no_fault_late n past e b op late h.no_fault }
+    by_kind (inr (inl late)) = record {
+      quiet = spent_late (e ∷ past) op (late_next n past e op legal late);
+      no_fault = still_no_fault_by n past e b op (late_special n (e ∷ past) past op late) h.no_fault;
+    }
+    by_kind (inr (inr met)) = record {
+      quiet = spent_met (e ∷ past) op (met_next n past e op legal met);
+      no_fault = still_no_fault_by n past e b op (met_special n (e ∷ past) past op met) h.no_fault;
+    }

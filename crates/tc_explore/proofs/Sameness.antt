@@ -27,6 +27,7 @@ use Rattle.tc_explore.proofs.Legality.{course_legal}
 use Rattle.tc_explore.proofs.Alike.{alike_sym, active_alike, fresh}
 use Rattle.tc_explore.proofs.Ahead.{ahead_after}
 use Rattle.tc_explore.proofs.Standings.{stand_comp, run_in_range}
+use Rattle.tc_explore.proofs.Ordered.{order_alike}
 use Rattle.tc_explore.proofs.Simulation.{some_if, quiet_alike, followed_later}
 
 -- the components are numbered in the order of their creation
@@ -161,6 +162,7 @@ same_for scripts q r p s f = record {
       let was : is_active q b ≡ true = active_alike s.alike b ∙ act in
       subst (λ t. IsFollowed scripts r b (stand p b) t) (s.stands b was).0
       (followed_later scripts q r b (stand p b) (stand q b) (quiet_alike (length scripts) q r (alike_sym q r s.alike)) (f.runs b was));
+  order = order_alike scripts p q r (alike_sym q r s.alike) f.order;
 }
 
 -- ---- numbers

@@ -1,10 +1,12 @@
 -- What one more quiet call of a search stands for.
-use Rattle.std.proofs.Common.{ℕ, ◌≡◌, ◌==◌, ◌⊎◌, inl, inr, true, false, None, Some, List, ◌∷◌, length, slice_get, refl, ap, sym, subst, ◌∙◌}
+use Rattle.std.proofs.Common.{ℕ, ◌≡◌, ◌==◌, inl, inr, true, false, None, Some, List, ◌∷◌, length, slice_get, refl, ap, sym, subst, ◌∙◌}
 use Rattle.tc_verdict.specs.declared.run.Run.{Run}
 use Rattle.tc_entry.specs.declared.comp.Comp.{Comp}
 use Rattle.tc_entry.specs.declared.entry.Entry.{Entry}
 use Rattle.tc_entry.specs.declared.op.Op.{Op}
 use Rattle.tc_entry.specs.declared.op.Op.TheVariants as O
+use Rattle.tc_entry.specs.declared.op.Target.TheVariants as T
+use Rattle.tc_entry.specs.declared.reply.Reply.TheVariants as R
 use Rattle.tc_entry.specs.Reply.{is_ended, is_fault}
 use Rattle.tc_step.specs.Steps.{ScriptView}
 use Rattle.tc_table.specs.Case.{Case, past_of}
@@ -15,15 +17,15 @@ use Rattle.tc_table.proofs.Sound.{plain_if}
 use Rattle.tc_explore.specs.Course.{stand, wake_or, call_of, steps_in, script_of, taken, IsTurn, IsCourse}
 use Rattle.tc_explore.specs.Found.{IsOn}
 use Rattle.tc_explore.specs.Inside.Alike.{IsAlike}
-use Rattle.tc_explore.specs.Inside.Simulation.{is_quiet, is_late, is_spent, IsQuietAt, call_at, IsFollowed, IsFor, IsEnd, IsSilent}
+use Rattle.tc_explore.specs.Inside.Simulation.{is_quiet, is_late, is_met, is_spent, IsQuietAt, IsWakeOf, call_at, IsFollowed, IsFor, IsEnd, IsSilent}
 use Rattle.tc_explore.specs.Inside.Seen.{StandsOn}
 use Rattle.tc_explore.proofs.Legality.{course_legal}
 use Rattle.tc_explore.proofs.Alike.{alike_unchanged}
 use Rattle.tc_explore.proofs.Standings.{has_turn, stand_own, stand_comp}
-use Rattle.tc_explore.proofs.Simulation.{unchanged_quiet, some_if, quiet_alike, followed_later, lead}
+use Rattle.tc_explore.proofs.Simulation.{unchanged_quiet, unchanged_wait, some_if, quiet_alike, followed_later, lead}
 use Rattle.tc_explore.proofs.Leaving.{Ends, running_on, lead_end}
-use Rattle.tc_explore.proofs.Late.{late_for, late_reply, late_halts, alike_late, halt_not_ending, other_than_gone}
-use Rattle.tc_explore.proofs.Places.{not_ending, quiet_sets_no_wake, quiet_no_wake, spent_quiet, spent_late, quiet_or_late, ahead}
+use Rattle.tc_explore.proofs.Late.{late_for, late_reply, late_halts, met_for, met_reply, alike_late, halt_not_ending, other_than_gone}
+use Rattle.tc_explore.proofs.Places.{not_ending, quiet_sets_no_wake, quiet_no_wake, spent_quiet, spent_late, spent_met, Spent, how_spent, ahead}
 
 -- a run with no Wake to come calls its next step
 next_call : (scripts : List ScriptView) (q : List Entry) (e : Entry) → (stand q e.caller.0).wake ≡ None → IsTurn scripts q e →
@@ -74,14 +76,38 @@ lead_late scripts p q e cp cq plain on late f =
     (subst (λ op. IsQuietAt (length scripts) (e ∷ q) e.caller.0 op) (sym call) (keeps e.caller.0 e.op now))
     h.made (halt_not_ending h (stand q e.caller.0).comp me.0 here (other_than_gone q e.caller.0 l.0.0 me.0 is.active me.1 l.1.gone.dead)) h.plain h.no_wake))
 
+-- a wait for what is killed already
+lead_met : (scripts : List ScriptView) (p q : List Entry) (e : Entry) → IsCourse scripts p → IsCourse scripts (e ∷ q) → is_fault e.reply ≡ false → is_ended e.reply ≡ false → is_met q e.op ≡ true →
+    IsFor scripts q p → IsFor scripts (e ∷ q) p
+lead_met scripts p q e cp cq plain on met f =
+    let is = plain_if (length scripts) q e.caller.0 e.op e.reply on plain cq.0.reply in
+    let m = met_for q e.op met in
+    let matched : e.reply ≡ R.Matched = is.is ∙ met_reply q e.caller.0 e.op met in
+    let of : IsWakeOf e.op (O.Wake m.for_kill (T.One m.comp)) = record { killed = m.for_kill; target = T.One m.comp; waits = m.waits; wakes = refl } in
+    let u = unchanged_wait q e (O.Wake m.for_kill (T.One m.comp)) of plain in
+    let after : IsAlike (e ∷ q) q = alike_unchanged (length scripts) q e (course_legal scripts (e ∷ q) cq) u in
+    let me = some_if q e.caller.0 is.active in
+    let fol = f.runs e.caller.0 is.active in
+    let here : (stand q e.caller.0).comp ≡ Some me.0 = stand_comp scripts q e.caller.0 cq.1 ∙ me.1 in
+    let call = next_call scripts q e fol.no_wake cq.0 in
+    let now : IsQuietAt (length scripts) q e.caller.0 e.op = record { quiet = spent_met q e.op met; no_fault = is.no_fault } in
+    let keeps = quiet_alike (length scripts) q (e ∷ q) after in
+    lead scripts p q e cp cq f after (λ act.
+    subst (λ s. IsFollowed scripts (e ∷ q) e.caller.0 (stand p e.caller.0) s) (sym (stand_own q e e.caller.0 refl))
+    (ahead scripts q e.caller.0 (stand p e.caller.0) (stand q e.caller.0) e
+    (followed_later scripts q (e ∷ q) e.caller.0 (stand p e.caller.0) (stand q e.caller.0) keeps fol)
+    (subst (λ op. IsQuietAt (length scripts) (e ∷ q) e.caller.0 op) (sym call) (keeps e.caller.0 e.op now))
+    u.made (not_ending q e (stand q e.caller.0).comp me.0 u here me.1 on) (rw m.waits refl) (rw matched refl)))
+
 -- a call that changes nothing, and is no error
 lead_spent : (scripts : List ScriptView) (p q : List Entry) (e : Entry) → IsCourse scripts p → IsCourse scripts (e ∷ q) → is_fault e.reply ≡ false → is_ended e.reply ≡ false → is_spent q e.op ≡ true →
     IsFor scripts q p → IsFor scripts (e ∷ q) p
-lead_spent scripts p q e cp cq plain on spent f = by_kind (quiet_or_late q e.op spent)
+lead_spent scripts p q e cp cq plain on spent f = by_kind (how_spent q e.op spent)
   where
-    by_kind : (is_quiet (overall q) e.op ≡ true) ⊎ (is_late q e.op ≡ true) → IsFor scripts (e ∷ q) p
+    by_kind : Spent q e.op → IsFor scripts (e ∷ q) p
     by_kind (inl quiet) = lead_quiet scripts p q e cp cq plain on quiet f
-    by_kind (inr late) = lead_late scripts p q e cp cq plain on late f
+    by_kind (inr (inl late)) = lead_late scripts p q e cp cq plain on late f
+    by_kind (inr (inr met)) = lead_met scripts p q e cp cq plain on met f
 
 -- the end of a run that goes on, on a component that nothing can start again
 lead_finish : (scripts : List ScriptView) (p q : List Entry) (e : Entry) → IsCourse scripts (e ∷ q) → is_fault e.reply ≡ false → is_ended e.reply ≡ false → IsEnd q e.caller.0 e.op →

@@ -1,5 +1,5 @@
 -- A history that stands for another still does after one more turn of either.
-use Rattle.std.proofs.Common.{ℕ, ◌≡◌, ◌==◌, not, nat_lt, nat_le, Bool, true, false, Option, Some, None, MatchOption, List, ◌∷◌, length, refl, ap, sym, subst, ◌∙◌, arith}
+use Rattle.std.proofs.Common.{ℕ, ◌≡◌, ◌==◌, ◌⊎◌, not, nat_lt, nat_le, Bool, true, false, Option, Some, None, MatchOption, List, ◌∷◌, length, refl, ap, sym, subst, ◌∙◌, arith}
 use Rattle.std.proofs.lemmas.Bool.Decides.{nat_tests}
 use Rattle.tc_verdict.specs.declared.verdict.Verdict.{Verdict}
 use Rattle.tc_verdict.specs.Verdict.{worse, level_of}
@@ -11,9 +11,10 @@ use Rattle.tc_entry.specs.declared.op.Op.TheVariants as O
 use Rattle.tc_entry.specs.declared.reply.Reply.{Reply}
 use Rattle.tc_entry.specs.declared.reply.Reply.TheVariants as R
 use Rattle.tc_entry.specs.Reply.{is_fault, is_ok}
+use Rattle.tc_entry.specs.declared.phase.Phase.TheVariants as P
 use Rattle.tc_step.specs.Steps.{ScriptView}
-use Rattle.tc_table.specs.History.{comp_of, created, starts_run}
-use Rattle.tc_table.specs.Phases.{start_in}
+use Rattle.tc_table.specs.History.{comp_of, created, starts_run, started_on}
+use Rattle.tc_table.specs.Phases.{phase, start_in}
 use Rattle.tc_table.specs.Local.{overall, gives, setting}
 use Rattle.tc_table.specs.Answers.{is_active}
 use Rattle.tc_table.specs.Laws.{halting_op}
@@ -25,9 +26,10 @@ use Rattle.tc_explore.specs.Course.{Stand, stand, IsCourse}
 use Rattle.tc_explore.specs.Inside.Alike.{IsAlike}
 use Rattle.tc_explore.specs.Inside.Simulation.{is_quiet, call_at, IsWakeOf, IsBefore, IsParkedAt, IsFollowed, IsLeaving, IsEnding, IsAhead, IsFor}
 use Rattle.tc_explore.proofs.Legality.{course_legal}
-use Rattle.tc_explore.proofs.Alike.{ChangesNothing, alike_sym, alike_unchanged, active_alike, fault_alike, late_alike}
+use Rattle.tc_explore.proofs.Alike.{ChangesNothing, alike_sym, alike_unchanged, active_alike, fault_alike, late_alike, met_alike}
 use Rattle.tc_explore.proofs.Ahead.{KeepsQuiet, ahead_after, ahead_turn}
 use Rattle.tc_explore.proofs.Standings.{stand_other, stand_comp}
+use Rattle.tc_explore.proofs.Ordered.{order_stays, order_alike, order_both}
 
 -- ---- entries that change nothing
 
@@ -134,17 +136,30 @@ some_if past b act = by_comp (comp_of past b) refl
 pub followed_later : (scripts : List ScriptView) (q r : List Entry) (b : ℕ) (s t : Stand) → KeepsQuiet (length scripts) q r → IsFollowed scripts q b s t → IsFollowed scripts r b s t
 followed_later scripts q r b s t keeps f = record { comp = f.comp; bound = f.bound; left = f.left; no_wake = f.no_wake; place = by_wake s.wake f.place }
   where
-    by_wake : (o : Option Op) → MatchOption o (IsBefore scripts q b s t) (λ wake. IsParkedAt scripts b s t wake) → MatchOption o (IsBefore scripts r b s t) (λ wake. IsParkedAt scripts b s t wake)
+    by_wake : (o : Option Op) → MatchOption o (IsBefore scripts q b s t) (λ wake. IsParkedAt scripts q b s t wake) → MatchOption o (IsBefore scripts r b s t) (λ wake. IsParkedAt scripts r b s t wake)
     by_wake None h = record { fewer = h.fewer; between = λ k l m. keeps b (call_at scripts b t t.comp k) (h.between k l m) }
-    by_wake (Some wake) h = h
+    by_wake (Some wake) h = record {
+      place = h.place;
+      one_more = h.one_more;
+      fewer = h.fewer;
+      wake_of = h.wake_of;
+      between = λ k l m. keeps b (call_at scripts b t t.comp k) (h.between k l m);
+    }
 
 pub quiet_alike : (n : ℕ) (q r : List Entry) → IsAlike r q → KeepsQuiet n q r
-quiet_alike n q r a b op h = record { quiet = rw (a.overall_same, late_alike a op) h.quiet; no_fault = fault_alike a n b op ∙ h.no_fault }
+quiet_alike n q r a b op h = record { quiet = rw (a.overall_same, late_alike a op, met_alike a op) h.quiet; no_fault = fault_alike a n b op ∙ h.no_fault }
+
+-- ---- a turn of one, or of both
 
 -- a turn of p, behind which q is ahead, where its caller still is where q has it or before
 pub stay : (scripts : List ScriptView) (p q : List Entry) (e : Entry) → IsCourse scripts (e ∷ p) → IsCourse scripts q → IsFor scripts q p → IsAhead scripts (e ∷ p) q →
+    created e.op e.reply ≡ None → ((b : ℕ) → started_on e b ≡ None) →
     (is_active q e.caller.0 ≡ true → IsFollowed scripts q e.caller.0 (stand (e ∷ p) e.caller.0) (stand q e.caller.0)) → IsFor scripts q (e ∷ p)
-stay scripts p q e cp cq f ahead own = record { ahead = ahead; runs = λ b act. by_test b act (e.caller.0 == b) refl }
+stay scripts p q e cp cq f ahead made no_run own = record {
+  ahead = ahead;
+  runs = λ b act. by_test b act (e.caller.0 == b) refl;
+  order = order_stays scripts p q e cp f.order made no_run;
+}
   where
     by_test : (b : ℕ) → is_active q b ≡ true → (t : Bool) → (e.caller.0 == b) ≡ t → IsFollowed scripts q b (stand (e ∷ p) b) (stand q b)
     by_test b act true k =
@@ -161,7 +176,7 @@ pub stutter : (scripts : List ScriptView) (p q : List Entry) (e : Entry) → IsC
     ((c : ℕ) (n : IsEnding scripts p q c) → (e.caller.0 == n.run.0) ≡ true → IsLeaving scripts q n.run.0 (stand (e ∷ p) n.run.0)) →
     (is_active q e.caller.0 ≡ true → IsFollowed scripts q e.caller.0 (stand (e ∷ p) e.caller.0) (stand q e.caller.0)) → IsFor scripts q (e ∷ p)
 stutter scripts p q e cp cq f u leaves own =
-    stay scripts p q e cp cq f (ahead_turn scripts p q e cp.1 (alike_unchanged (length scripts) p e (course_legal scripts (e ∷ p) cp) u) f.ahead leaves) own
+    stay scripts p q e cp cq f (ahead_turn scripts p q e cp.1 (alike_unchanged (length scripts) p e (course_legal scripts (e ∷ p) cp) u) f.ahead leaves) u.made u.no_run own
 
 -- a turn of q that changes nothing
 pub lead : (scripts : List ScriptView) (p q : List Entry) (e : Entry) → IsCourse scripts p → IsCourse scripts (e ∷ q) → IsFor scripts q p → IsAlike (e ∷ q) q →
@@ -169,6 +184,7 @@ pub lead : (scripts : List ScriptView) (p q : List Entry) (e : Entry) → IsCour
 lead scripts p q e cp cq f after own = record {
   ahead = ahead_after scripts p q (e ∷ q) f.ahead (alike_sym (e ∷ q) q after) (quiet_alike (length scripts) q (e ∷ q) after);
   runs = λ b act. by_test b (sym (active_alike after b) ∙ act) (e.caller.0 == b) refl;
+  order = order_alike scripts p q (e ∷ q) after f.order;
 }
   where
     by_test : (b : ℕ) → is_active q b ≡ true → (t : Bool) → (e.caller.0 == b) ≡ t → IsFollowed scripts (e ∷ q) b (stand p b) (stand (e ∷ q) b)
@@ -186,8 +202,12 @@ pub both : (scripts : List ScriptView) (p q : List Entry) (d e : Entry) → IsCo
     IsAhead scripts (d ∷ p) (e ∷ q) → KeepsQuiet (length scripts) q (e ∷ q) →
     (is_active q e.caller.0 ≡ true → IsFollowed scripts (e ∷ q) e.caller.0 (stand (d ∷ p) e.caller.0) (stand (e ∷ q) e.caller.0)) →
     ((b : ℕ) → (e.caller.0 == b) ≡ false → comp_of q b ≡ None → is_active (e ∷ q) b ≡ true → IsFollowed scripts (e ∷ q) b (stand (d ∷ p) b) (stand (e ∷ q) b)) →
-    is_active q e.caller.0 ≡ true → IsFor scripts (e ∷ q) (d ∷ p)
-both scripts p q d e cp cq f callers ahead keeps own fresh acts = record { ahead = ahead; runs = λ b act. by_test b act (e.caller.0 == b) refl }
+    is_active q e.caller.0 ≡ true → ((c : ℕ) → phase (e ∷ q) c ≡ P.Killed → (phase q c ≡ P.Killed) ⊎ (phase (d ∷ p) c ≡ P.Killed)) → IsFor scripts (e ∷ q) (d ∷ p)
+both scripts p q d e cp cq f callers ahead keeps own fresh acts dies = record {
+  ahead = ahead;
+  runs = λ b act. by_test b act (e.caller.0 == b) refl;
+  order = order_both scripts p q d e cp cq f.ahead f.order callers ahead dies acts;
+}
   where
     by_comp : (b : ℕ) → is_active (e ∷ q) b ≡ true → (e.caller.0 == b) ≡ false → (o : Option Comp) → comp_of q b ≡ o → IsFollowed scripts (e ∷ q) b (stand (d ∷ p) b) (stand (e ∷ q) b)
     by_comp b act k None on = fresh b k on act

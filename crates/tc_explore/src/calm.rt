@@ -12,7 +12,7 @@ ghost use Rattle.tc_explore.specs.Inside.Seen.{StandsOn};
 use crate::course::Course;
 use crate::told::level;
 use crate::turns::next_call;
-use tc_entry::{Group, Op, Phase};
+use tc_entry::{Group, Op, Phase, Target};
 use tc_step::{STEPS, Script};
 use tc_verdict::{NoMemory, Run, Verdict, from_user};
 
@@ -39,11 +39,24 @@ fn is_late(course: &Course, op: &Op) -> bool
     }
 }
 
+// Whether a call waits for a component that is killed already.
+fn is_met(course: &Course, op: &Op) -> bool
+    ensures { result ≡ moves.is_met (past_of course.now) op.now }
+{
+    match op {
+        Op::Wait {
+            target: Target::One(comp),
+            ..
+        } => is_gone(course.phase_of(*comp)),
+        _ => false,
+    }
+}
+
 /// Whether a call would change nothing but its caller's place.
 pub(crate) fn is_spent(course: &Course, op: &Op) -> bool
     ensures { result ≡ moves.is_spent (past_of course.now) op.now }
 {
-    is_quiet_now(op, course.verdict()) || is_late(course, op)
+    is_quiet_now(op, course.verdict()) || is_late(course, op) || is_met(course, op)
 }
 
 // Whether a call ends a run.

@@ -320,9 +320,9 @@ fn a_large_test_case_has_fewer_states(rt: HostRuntime) -> Result<(), Fail> {
     Ok(())
 }
 
-// Who stops a component that is killed already changes nothing: one state stands for all of its calls.
+// Who stops a component that is killed already changes nothing, nor who waits for it: one state stands for all such calls.
 #[test]
-fn late_stops_have_no_states(rt: HostRuntime) -> Result<(), Fail> {
+fn late_calls_have_no_states(rt: HostRuntime) -> Result<(), Fail> {
     let alloc = rt.alloc();
     let mut args = Places::new();
     assert!(rt; args.push(P));
@@ -341,7 +341,7 @@ fn late_stops_have_no_states(rt: HostRuntime) -> Result<(), Fail> {
     let late = vec![in alloc;
         Step::Stop(GroupPlace::One(P)),
         Step::Kill(GroupPlace::One(P)),
-        Step::Stop(GroupPlace::One(P)),
+        wait(TargetPlace::One(P)),
     ]?;
     assert!(rt; Script::is_script(1, late.as_slice()));
     let scripts = vec![in alloc;
@@ -352,7 +352,7 @@ fn late_stops_have_no_states(rt: HostRuntime) -> Result<(), Fail> {
     let found = verdicts(&rt, alloc, scripts.as_slice())?;
     assert!(rt; found.len() == 1 && found[0] == Verdict::None);
     let explored = explore(alloc, scripts.as_slice(), MANY)?;
-    is(&rt, "explored.states", explored.states, 7);
+    is(&rt, "explored.states", explored.states, 6);
     Ok(())
 }
 

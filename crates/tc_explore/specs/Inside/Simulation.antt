@@ -1,6 +1,6 @@
 -- A history stands for others that differ from it only in calls that nobody can tell were made: those that change nothing but
 -- their caller's place, and the ends of runs.
-use Rattle.std.specs.Prelude.{ℕ, suc, ◌≡◌, ◌==◌, ◌<◌, ◌≤◌, ◌⊎◌, ◌&&◌, ◌||◌, not, nat_le, Bool, true, false, Option, Some, None, List, ◌∷◌, MatchOption, length, slice_get}
+use Rattle.std.specs.Prelude.{ℕ, suc, ◌≡◌, ◌==◌, ◌<◌, ◌≤◌, ◌-◌, ◌⊎◌, ◌&&◌, ◌||◌, not, nat_le, Bool, true, false, Option, Some, None, List, ◌∷◌, MatchOption, length, slice_get}
 use Rattle.tc_verdict.specs.declared.run.Run.{Run}
 use Rattle.tc_verdict.specs.declared.verdict.Verdict.{Verdict}
 use Rattle.tc_verdict.specs.declared.verdict.Verdict.TheVariants as V
@@ -12,6 +12,7 @@ use Rattle.tc_entry.specs.declared.op.Op.{Op}
 use Rattle.tc_entry.specs.declared.op.Op.TheVariants as O
 use Rattle.tc_entry.specs.declared.op.Group.TheVariants as G
 use Rattle.tc_entry.specs.declared.op.Target.{Target}
+use Rattle.tc_entry.specs.declared.op.Target.TheVariants as T
 use Rattle.tc_entry.specs.declared.phase.Phase.{Phase}
 use Rattle.tc_entry.specs.declared.phase.Phase.TheVariants as P
 use Rattle.tc_entry.specs.Reply.{is_fault}
@@ -46,9 +47,14 @@ is_late q (O.Stop (G.One c)) = not (c.0 == 0) && is_gone (phase_if_any q c.0)
 is_late q (O.Kill (G.One c)) = not (c.0 == 0) && is_gone (phase_if_any q c.0)
 is_late q op = false
 
+-- the call waits for a component that is killed already
+abbrev pub is_met : List Entry → Op → Bool
+is_met q (O.Wait killed (T.One c)) = is_gone (phase_if_any q c.0)
+is_met q op = false
+
 -- the call would change nothing but its caller's place
 abbrev pub is_spent : List Entry → Op → Bool
-is_spent q op = is_quiet (overall q) op || is_late q op
+is_spent q op = is_quiet (overall q) op || (is_late q op || is_met q op)
 
 -- the call of run b is an error, or changes something
 abbrev pub IsLoud : ℕ → List Entry → ℕ → Op → Type 0
@@ -76,10 +82,13 @@ pub record IsBefore (scripts : List ScriptView) (q : List Entry) (b : ℕ) (s t 
   pub fewer : s.called ≤ t.called
   pub between : (k : ℕ) → s.called ≤ k → k < t.called → IsQuietAt (length scripts) q b (call_at scripts b t t.comp k)
 
--- run b was parked at the Wait that the other calls next
-pub record IsParkedAt (scripts : List ScriptView) (b : ℕ) (s t : Stand) (wake : Op) : Type 0 where
-  pub one_more : s.called ≡ suc t.called
-  pub wake_of : IsWakeOf (call_at scripts b t t.comp t.called) wake
+-- run b was parked at a Wait that the other calls next, or has called, and what it called from that on is quiet
+pub record IsParkedAt (scripts : List ScriptView) (q : List Entry) (b : ℕ) (s t : Stand) (wake : Op) : Type 0 where
+  pub place : ℕ
+  pub one_more : s.called ≡ suc place
+  pub fewer : place ≤ t.called
+  pub wake_of : IsWakeOf (call_at scripts b t t.comp place) wake
+  pub between : (k : ℕ) → place ≤ k → k < t.called → IsQuietAt (length scripts) q b (call_at scripts b t t.comp k)
 
 -- what is known of run b is followed by what is known of it after q
 pub record IsFollowed (scripts : List ScriptView) (q : List Entry) (b : ℕ) (s t : Stand) : Type 0 where
@@ -87,15 +96,22 @@ pub record IsFollowed (scripts : List ScriptView) (q : List Entry) (b : ℕ) (s 
   pub bound : s.bound ≡ t.bound
   pub left : s.left ≡ t.left
   pub no_wake : t.wake ≡ None
-  pub place : MatchOption s.wake (IsBefore scripts q b s t) (λ wake. IsParkedAt scripts b s t wake)
+  pub place : MatchOption s.wake (IsBefore scripts q b s t) (λ wake. IsParkedAt scripts q b s t wake)
 
 -- the call of run b would be quiet, or ends the run
 abbrev pub IsLastAt : ℕ → List Entry → ℕ → Op → Type 0
 IsLastAt n q b op = IsQuietAt n q b op ⊎ (op ≡ O.Finish)
 
+-- a run that is known so was parked at this Wait, which is quiet
+pub record WasParked (scripts : List ScriptView) (q : List Entry) (b : ℕ) (s : Stand) (wake : Op) : Type 0 where
+  pub place : ℕ
+  pub one_more : s.called ≡ suc place
+  pub wake_of : IsWakeOf (call_at scripts b s s.comp place) wake
+  pub quiet : IsQuietAt (length scripts) q b (call_at scripts b s s.comp place)
+
 -- a run that is known so has only quiet calls left, and its end
 pub record IsLeaving (scripts : List ScriptView) (q : List Entry) (b : ℕ) (s : Stand) : Type 0 where
-  pub no_wake : s.wake ≡ None
+  pub parked : MatchOption s.wake (Unit {0}) (λ wake. WasParked scripts q b s wake)
   pub calls : (k : ℕ) → s.called ≤ k → IsLastAt (length scripts) q b (call_at scripts b s s.comp k)
 
 -- after p a run is leaving component c, which nothing can start again; after q it has ended
@@ -116,6 +132,26 @@ pub record IsAhead (scripts : List ScriptView) (p q : List Entry) : Type 0 where
   pub comp_same : (b : ℕ) → comp_of p b ≡ comp_of q b
   pub overall_same : overall p ≡ overall q
 
+-- the first call that is still to be answered
+abbrev pub place_by : Option Op → ℕ → ℕ
+place_by None called = called
+place_by (Some wake) called = called - 1
+
+abbrev pub place_of : Stand → ℕ
+place_of s = place_by s.wake s.called
+
+-- run b on component c waits from now on for components only that are killed after q, and that come before c by rank
+abbrev pub IsOrdered : List ScriptView → (ℕ → ℕ) → List Entry → ℕ → ℕ → Stand → Type 0
+IsOrdered scripts rank q c b s =
+    (k : ℕ) (killed : Bool) (t : Comp) → place_of s ≤ k → call_at scripts b s s.comp k ≡ O.Wait killed (T.One t) → (rank t.0 < rank c) × (is_gone (phase_if_any q t.0) ≡ true)
+
+-- so it is of each run that goes on after p on a component that is killed after q
+pub record AreOrdered (scripts : List ScriptView) (p q : List Entry) : Type 0 where
+  pub rank : ℕ → ℕ
+  pub top : ℕ
+  pub below : (c : ℕ) → rank c ≤ top
+  pub each : (c b : ℕ) → is_active p b ≡ true → comp_of p b ≡ Some (record { 0 = c }) → phase q c ≡ P.Killed → IsOrdered scripts rank q c b (stand p b)
+
 -- the call ends run b, which is not the main one, on a component that nothing can start again
 pub record IsEnd (q : List Entry) (b : ℕ) (op : Op) : Type 0 where
   pub finish : op ≡ O.Finish
@@ -132,6 +168,7 @@ IsSilent q b op = (is_spent q op ≡ true) ⊎ IsEnd q b op
 pub record IsFor (scripts : List ScriptView) (q p : List Entry) : Type 0 where
   pub ahead : IsAhead scripts p q
   pub runs : (b : ℕ) → is_active q b ≡ true → IsFollowed scripts q b (stand p b) (stand q b)
+  pub order : AreOrdered scripts p q
 
 -- each history that q stands for has one of these that stands for it
 abbrev pub IsCovered : List ScriptView → (List Entry → Type 0) → List Entry → Type 0
