@@ -63,13 +63,16 @@ fn room_for_one(scripts: &[Script]) -> Option<usize>
     Some(entries)
 }
 
+// By the limit a state counts for one more at each so many of the behaviours times the room of its test case.
+const SIZE_OF_ONE_MORE: usize = 2_000;
+
 // What a state counts for by the limit, if a number can hold it.
 fn weight_for(scripts: &[Script]) -> Option<usize>
     ensures some { IfSome result (λ n. 1 ≤ n) }
     ensures is { IfSome result (λ n. n ≡ weight_of scripts.now) }
 {
     let size = scripts.len().checked_mul(room_for_one(scripts)?)?;
-    (size / 2_000).checked_add(1)
+    (size / SIZE_OF_ONE_MORE).checked_add(1)
 }
 
 // How many states that search looks at: no more than the other, and fewer where the scripts have many steps.
