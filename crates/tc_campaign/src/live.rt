@@ -119,8 +119,10 @@ pub fn run_campaign_live<R: Threads + Wait + Copy + Send + 'static, B: Callable,
     writer: &mut W,
 ) -> Result<(CampaignEnd, u8), OutFault>
     requires names { All HasNames cases.items }
-    ensures done { IfOk result (λ r. IsWrittenRun B.outcome cases.items stop_on threads form (W.contents writer.old) (W.contents writer.new) r.0 r.1) }
-    ensures part { OnErr result (LeavesPart B.outcome cases.items stop_on threads form (W.contents writer.old) (W.contents writer.new)) }
+    ensures done { IfOk result (λ r. IsWrittenRun B.outcome cases.items stop_on threads form
+        (W.contents writer.old) (W.contents writer.new) r.0 r.1) }
+    ensures part { OnErr result (LeavesPart B.outcome cases.items stop_on threads form
+        (W.contents writer.old) (W.contents writer.new)) }
 {
     let plan = Plan {
         stop_on,
