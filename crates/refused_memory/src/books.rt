@@ -187,7 +187,7 @@ fn is_like_log(left: &RunLog, right: &RunLog) -> bool {
         && are_same(left.entries.as_slice(), right.entries.as_slice())
 }
 
-fn is_like_report(left: &Closed, right: &Closed) -> bool {
+pub(crate) fn is_like_report(left: &Closed, right: &Closed) -> bool {
     let (logs, others) = (left.logs.as_slice(), right.logs.as_slice());
     left.behaviours == right.behaviours
         && left.verdict == right.verdict

@@ -4,10 +4,17 @@
 #![tactic(auto)]
 
 mod books;
+mod campaigns;
+mod forms;
+mod live;
 mod outcome;
+mod parts;
 mod quiet;
 mod refusal;
+mod results;
 mod runs;
+mod searches;
+mod states;
 mod tables;
 mod texts;
 
@@ -26,26 +33,42 @@ enum Kind {
     Play,
     MakeRoom,
     Replay,
+    State,
+    PlayState,
+    Copy,
     Read,
     Write,
+    WritePart,
+    Form,
+    Live,
+    Search,
     NewBoard,
     Open,
     Call,
     Close,
+    Run,
     Quiet,
 }
 
-const KINDS: [(Kind, &str); 11] = [
+const KINDS: [(Kind, &str); 19] = [
     (Kind::NewTable, "tables"),
     (Kind::Play, "moves on a table"),
     (Kind::MakeRoom, "room on a table"),
     (Kind::Replay, "checks of a history"),
+    (Kind::State, "states"),
+    (Kind::PlayState, "moves on a state"),
+    (Kind::Copy, "copies"),
     (Kind::Read, "readers"),
     (Kind::Write, "writers"),
+    (Kind::WritePart, "writers of a part"),
+    (Kind::Form, "forms and summaries"),
+    (Kind::Live, "live writers"),
+    (Kind::Search, "searches"),
     (Kind::NewBoard, "boards"),
     (Kind::Open, "opened cases"),
     (Kind::Call, "calls on a pass"),
     (Kind::Close, "closed cases"),
+    (Kind::Run, "runs and campaigns"),
     (Kind::Quiet, "calls that take no memory"),
 ];
 
@@ -65,12 +88,20 @@ fn make<R: Threads + Wait + Copy + Send + 'static>(
         Kind::Play => tables::play(alloc, place, refusal),
         Kind::MakeRoom => tables::make_room(alloc, place, refusal),
         Kind::Replay => tables::replay(alloc, place, refusal),
+        Kind::State => states::make(alloc, place, refusal),
+        Kind::PlayState => states::play(alloc, place, refusal),
+        Kind::Copy => states::copy(alloc, place, refusal),
         Kind::Read => texts::read(alloc, place, refusal),
         Kind::Write => texts::write(alloc, place, refusal),
+        Kind::WritePart => parts::write(alloc, place, refusal),
+        Kind::Form => forms::make(alloc, place, refusal),
+        Kind::Live => live::make(alloc, place, refusal),
+        Kind::Search => searches::make(alloc, place, refusal),
         Kind::NewBoard => books::new_board(alloc, place, refusal),
         Kind::Open => books::open(alloc, place, refusal),
         Kind::Call => books::call(rt, alloc, place, refusal),
         Kind::Close => books::close(rt, alloc, place, refusal),
+        Kind::Run => campaigns::run(rt, alloc, place, refusal),
         Kind::Quiet => quiet::call_unfed(rt, alloc, place, refusal),
     }
 }

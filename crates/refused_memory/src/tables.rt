@@ -51,7 +51,7 @@ pub const MOVES: &str = "behaviours 8
 ";
 
 /// The table of the first so many of these moves.
-fn played(alloc: Global, moves: &[(Run, Op)]) -> Option<Table> {
+pub(crate) fn played(alloc: Global, moves: &[(Run, Op)]) -> Option<Table> {
     let mut table = Table::new(alloc, BEHAVIOURS as u16).ok()?;
     for (run, op) in moves {
         table.play(*run, op.copy()).ok()?;
@@ -65,7 +65,7 @@ pub(crate) fn are_same(left: &[Entry], right: &[Entry]) -> bool {
 }
 
 /// Whether two tables tell the same of each component and of the test case.
-fn is_like(left: &Table, right: &Table) -> bool {
+pub(crate) fn is_like(left: &Table, right: &Table) -> bool {
     for comp in 0..left.components().saturating_add(2) {
         let comp = Comp(comp);
         if left.phase_of(comp) != right.phase_of(comp)

@@ -3,15 +3,17 @@ use crate::outcome::{Outcome, refused_if, right_if};
 use crate::refusal::Refusal;
 use crate::tables::{MOVES, are_same, moves};
 use std::alloc::Global;
-use tc_entry::{Entry, Name, NoMemory, Op, Reply, Run, Verdict};
+use tc_entry::{Entry, Fault, Name, NoMemory, Op, Reply, Run, Verdict};
 use tc_explain::{Refusal as Refused, explain};
 use tc_history::{Block, read_history, write_block};
 use tc_script::{Campaign, CaseScript, ReadFault, ScriptKind, read_campaign};
 use tc_stream::{InputFault, read_input};
-use tc_text::{MoveList, TextFault, read_moves, write_move, write_reply};
+use tc_text::{
+    MoveList, TextFault, append_number, append_text, read_moves, write_move, write_op, write_reply,
+};
 
 /// Histories of both formats.
-const HISTORIES: &str = "history 1 first 2
+pub(crate) const HISTORIES: &str = "history 1 first 2
 0 create -> made 1
 0 start 1 1 0 -> ok
 1 setverdict fail -> ok
@@ -199,20 +201,27 @@ pub(crate) fn read(alloc: Global, place: usize, refusal: &mut Refusal) -> Option
 #[derive(Drop)]
 enum Text<'a> {
     Move(Run, &'a Op),
+    Op(&'a Op),
     Reply(Reply),
     Block(&'a [Entry]),
+    Words(&'a str),
+    Number(u64),
 }
 
 /// Appends the text, the block under this name.
 fn append(out: &mut Vec<u8>, text: &Text, name: &Name) -> Result<(), NoMemory> {
     match text {
         Text::Move(run, op) => write_move(out, *run, op),
+        Text::Op(op) => write_op(out, op),
         Text::Reply(reply) => write_reply(out, reply),
         Text::Block(entries) => write_block(out, name, 8, entries, Verdict::Error),
+        Text::Words(words) => append_text(out, words),
+        Text::Number(number) => append_number(out, *number),
     }
 }
 
-const HEAD: &[u8] = b"what stood there";
+/// What stands before a text that is appended: so little that a text of several pieces wants more than one growth.
+pub(crate) const HEAD: &[u8] = b"#";
 
 /// Appends a text behind what stands there.
 fn append_one(alloc: Global, text: &Text, refusal: &mut Refusal) -> Option<Outcome> {
@@ -234,7 +243,7 @@ fn append_one(alloc: Global, text: &Text, refusal: &mut Refusal) -> Option<Outco
     Some(refused_if(is_kept && is_written, "a refused writer leaves a part"))
 }
 
-/// The writers of each of the moves, of a reply, and of the history of all moves.
+/// The writers of each of the moves, of a history, of a reply, of a move without its caller, of words and of a number.
 pub(crate) fn write(alloc: Global, place: usize, refusal: &mut Refusal) -> Option<Outcome> {
     let list = moves(alloc)?;
     if let Some((run, op)) = list.moves.get(place) {
@@ -244,7 +253,14 @@ pub(crate) fn write(alloc: Global, place: usize, refusal: &mut Refusal) -> Optio
     let entries = blocks.first()?.entries.as_slice();
     match place.checked_sub(list.moves.len())? {
         0 => append_one(alloc, &Text::Block(entries), refusal),
-        1 => append_one(alloc, &Text::Reply(entries.first()?.reply), refusal),
+        1 => append_one(
+            alloc,
+            &Text::Reply(Reply::Fault(Fault::AlreadyRunning)),
+            refusal,
+        ),
+        2 => append_one(alloc, &Text::Op(&list.moves.first()?.1), refusal),
+        3 => append_one(alloc, &Text::Words(SCRIPT), refusal),
+        4 => append_one(alloc, &Text::Number(u64::MAX), refusal),
         _ => None,
     }
 }

@@ -1,0 +1,258 @@
+//! Test cases of one behaviour, which need no thread, and campaigns of them.
+ghost use Rattle.std.specs.Prelude.{All, IfOk, IfSome};
+ghost use Rattle.tc_campaign.specs.Outline.{HasNames};
+
+use crate::books::is_like_report;
+use crate::outcome::{Outcome, refused_if, right_if};
+use crate::refusal::Refusal;
+use std::alloc::Global;
+use std::sync::Wait;
+use std::thread::Threads;
+use tc_behaviour::ScriptJob;
+use tc_book::{Halt, Pass};
+use tc_campaign::{Case, Shard, choose, run_campaign, run_campaign_live};
+use tc_entry::{Name, NoMemory, UserVerdict};
+use tc_exec::{Back, CaseError, CaseReport, Job, run_case};
+use tc_report::{CampaignEnd, Finished, Form, OutFault, Results};
+use tc_script::{Campaign, read_campaign};
+use tc_step::Script;
+
+/// Two test cases of one behaviour.
+const SCRIPT: &str = "testcase first
+behaviour main
+create pump alive named pump
+create lamp
+create spare
+setverdict inconc
+kill pump
+getverdict
+end
+end
+testcase second
+behaviour main
+create pump
+running all
+setverdict pass
+end
+end
+";
+
+/// The test case of this script.
+fn case_of<R: Wait + Copy + Send + 'static>(
+    rt: &R,
+    alloc: Global,
+    name: Name,
+    behaviour: Name,
+    script: Script,
+) -> Result<Case<ScriptJob<R>>, NoMemory>
+    ensures { IfOk result HasNames }
+{
+    let names = vec![in alloc; behaviour]?;
+    let mut jobs = Vec::new(alloc);
+    jobs.push(ScriptJob::new(*rt, alloc, script))?;
+    Ok(Case { name, names, jobs })
+}
+
+/// The next test case, of its first behaviour alone.
+fn next_case<R: Wait + Copy + Send + 'static>(
+    rt: &R,
+    alloc: Global,
+    campaign: &mut Campaign,
+) -> Option<Case<ScriptJob<R>>>
+    ensures { IfSome result HasNames }
+{
+    let (name, case) = campaign.take_first()?;
+    let mut case = case;
+    let (behaviour, script) = case.take_first()?;
+    case_of(rt, alloc, name, behaviour, script).ok()
+}
+
+/// The two test cases.
+fn cases<R: Wait + Copy + Send + 'static>(rt: &R, alloc: Global) -> Option<Vec<Case<ScriptJob<R>>>>
+    ensures { IfSome result (λ v. All HasNames v.items) }
+{
+    let mut campaign = read_campaign(alloc, SCRIPT.as_bytes()).ok()?;
+    let first = next_case(rt, alloc, &mut campaign)?;
+    let second = next_case(rt, alloc, &mut campaign)?;
+    vec![in alloc; first, second].ok()
+}
+
+/// What a behaviour calls.
+fn call_all(pass: &mut Pass) -> Result<(), Halt> {
+    pass.set_verdict(UserVerdict::Pass)?;
+    pass.get_verdict()?;
+    pass.set_verdict(UserVerdict::Inconc)?;
+    pass.get_verdict()?;
+    pass.set_verdict(UserVerdict::None)
+}
+
+fn behave(pass: Pass) -> Back {
+    let mut pass = pass;
+    let made = call_all(&mut pass);
+    Back::after(pass, made)
+}
+
+/// The answer to the run of a test case of one behaviour, with a growth refused where one is given.
+fn answer_of_one<R: Threads + Wait + Copy + Send + 'static>(
+    rt: &R,
+    alloc: Global,
+    refusal: Option<&mut Refusal>,
+) -> Option<Result<CaseReport, CaseError>> {
+    let behaviour: Box<dyn FnOnce(Pass) -> Back + Send> = Box::new(
+        alloc,
+        |pass: Pass| behave(pass),
+    ).ok()?;
+    let mut jobs = Vec::new(alloc);
+    jobs.push(Job::new(behaviour)).ok()?;
+    let Some(refusal) = refusal else {
+        return Some(run_case(rt, alloc, jobs, 0));
+    };
+    refusal.begin();
+    let answer = run_case(rt, alloc, jobs, 0);
+    refusal.end();
+    Some(answer)
+}
+
+/// The run of a test case of one behaviour.
+fn run_one<R: Threads + Wait + Copy + Send + 'static>(
+    rt: &R,
+    alloc: Global,
+    refusal: &mut Refusal,
+) -> Option<Outcome> {
+    let wanted = answer_of_one(rt, alloc, None)?.ok()?;
+    Some(match answer_of_one(rt, alloc, Some(refusal))? {
+        Ok(report) => right_if(
+            is_like_report(&report, &wanted),
+            "a test case is run otherwise",
+        ),
+        Err(why) => refused_if(
+            why == CaseError::NoMemory,
+            "a refused test case has no report for another reason",
+        ),
+    })
+}
+
+/// Whether these are the first of those.
+fn are_first(finished: &[Finished], wanted: &[Finished]) -> bool {
+    finished.len() <= wanted.len()
+        && finished.iter().zip(wanted).all(|(one, other)| {
+            one.name.same(&other.name) && is_like_report(&one.report, &other.report)
+        })
+}
+
+/// Whether a campaign was aborted at this test case for want of memory.
+fn is_aborted_at(ending: &CampaignEnd, wanted: &Name) -> bool {
+    match ending {
+        CampaignEnd::Aborted { name, why } => name.same(wanted) && *why == CaseError::NoMemory,
+        _ => false,
+    }
+}
+
+/// What came of a campaign of which these results are wanted.
+fn judged(results: &Results, wanted: &Results) -> Outcome {
+    let (finished, others) = (results.finished.as_slice(), wanted.finished.as_slice());
+    if !are_first(finished, others) {
+        return Outcome::Wrong("a test case of a campaign is run otherwise");
+    }
+    match others.get(finished.len()) {
+        None => right_if(
+            matches!(results.ending, CampaignEnd::Complete),
+            "a campaign is not complete",
+        ),
+        Some(next) => refused_if(
+            is_aborted_at(&results.ending, &next.name),
+            "a refused campaign ends otherwise",
+        ),
+    }
+}
+
+/// The run of a campaign whose results are kept.
+fn run_kept<R: Threads + Wait + Copy + Send + 'static>(
+    rt: &R,
+    alloc: Global,
+    refusal: &mut Refusal,
+) -> Option<Outcome> {
+    let wanted = run_campaign(rt, alloc, cases(rt, alloc)?, None, 0);
+    let cases = cases(rt, alloc)?;
+    refusal.begin();
+    let results = run_campaign(rt, alloc, cases, None, 0);
+    refusal.end();
+    Some(judged(&results, &wanted))
+}
+
+/// The run of a campaign that is written as its test cases finish; there is room for what is written.
+fn run_live<R: Threads + Wait + Copy + Send + 'static>(
+    rt: &R,
+    alloc: Global,
+    refusal: &mut Refusal,
+) -> Option<Outcome> {
+    let mut wanted = Vec::with_capacity(alloc, 10_000).ok()?;
+    let ample = run_campaign_live(
+        rt,
+        alloc,
+        cases(rt, alloc)?,
+        None,
+        0,
+        Form::Csv,
+        &mut wanted,
+    );
+    let (_, status) = ample.ok()?;
+    let mut out = Vec::with_capacity(alloc, 10_000).ok()?;
+    let cases = cases(rt, alloc)?;
+    refusal.begin();
+    let answer = run_campaign_live(rt, alloc, cases, None, 0, Form::Csv, &mut out);
+    refusal.end();
+    let are_whole = wanted.starts_with(out.as_slice()) && matches!(out.last(), None | Some(b'\n'));
+    Some(match answer {
+        Ok((CampaignEnd::Complete, found)) => right_if(
+            found == status && out.as_slice() == wanted.as_slice(),
+            "a live campaign is written otherwise",
+        ),
+        Ok((CampaignEnd::Aborted { why, .. }, found)) => refused_if(
+            are_whole && found == 3 && why == CaseError::NoMemory,
+            "an aborted live campaign is written otherwise",
+        ),
+        Ok(_) => Outcome::Wrong("a live campaign is stopped"),
+        Err(fault) => refused_if(
+            are_whole && fault == OutFault::NoMemory,
+            "a refused live campaign leaves something else than whole test cases",
+        ),
+    })
+}
+
+/// The choice of a shard.
+fn choose_shard<R: Threads + Wait + Copy + Send + 'static>(
+    rt: &R,
+    alloc: Global,
+    refusal: &mut Refusal,
+) -> Option<Outcome> {
+    let shard = Shard::new(2, 2)?;
+    let cases = cases(rt, alloc)?;
+    let wanted = Name::read("second")?;
+    refusal.begin();
+    let answer = choose(alloc, cases, &[], Some(shard));
+    refusal.end();
+    Some(match answer {
+        Ok(chosen) => right_if(
+            chosen.len() == 1 && chosen.iter().all(|case| case.name.same(&wanted)),
+            "other test cases are chosen",
+        ),
+        Err(NoMemory) => Outcome::Refused,
+    })
+}
+
+/// The run of a test case and of a campaign, one that is written live, and the choice of a shard.
+pub(crate) fn run<R: Threads + Wait + Copy + Send + 'static>(
+    rt: &R,
+    alloc: Global,
+    place: usize,
+    refusal: &mut Refusal,
+) -> Option<Outcome> {
+    match place {
+        0 => run_one(rt, alloc, refusal),
+        1 => run_kept(rt, alloc, refusal),
+        2 => run_live(rt, alloc, refusal),
+        3 => choose_shard(rt, alloc, refusal),
+        _ => None,
+    }
+}
