@@ -3,9 +3,10 @@ from __future__ import annotations
 
 import os
 import sys
+from itertools import accumulate
 from typing import Callable, Iterator, List
 
-from outcomes import HISTORY, Task
+from outcomes import HISTORY, PROGRESS, Task, pieces_of, told_of_first
 from refusing import TOP, Ran, Refusing
 from sweeps import Sweep, numbers, tasks
 
@@ -25,11 +26,19 @@ def narrow_tasks() -> Iterator[Task]:
     return (it for it in tasks() if it.given and not (it.is_run and it.has(HISTORY) and it.name in SIDE_BY_SIDE))
 
 
-def wanted_of(ample: Ran, what: str, number: int) -> Ran:
+def told_of(task: Task, ample: Ran, written: int) -> bytes:
+    """What is told of test cases where so many bytes are out: live, of those up to the one that is not out whole, else of all."""
+    if not task.has(PROGRESS) or not task.has("--live"):
+        return ample.errors
+    ends = accumulate(map(len, pieces_of(task, ample.output)))
+    return b"".join(told_of_first(ample.errors, sum(it <= written for it in ends) + 1))
+
+
+def wanted_of(task: Task, ample: Ran, what: str, number: int) -> Ran:
     """What is to come where the read or write of this number fails, counted from 1."""
     if number > (ample.reads if what == "read" else ample.writes):
         return ample
-    return Ran(b"", READ, 3) if what == "read" else Ran(ample.output[:number - 1], WRITE, 3)
+    return Ran(b"", READ, 3) if what == "read" else Ran(ample.output[:number - 1], told_of(task, ample, number - 1) + WRITE, 3)
 
 
 def failing(refusing: Refusing, program: str, task: Task, what: str, stride: int) -> Sweep:
@@ -42,7 +51,7 @@ def failing(refusing: Refusing, program: str, task: Task, what: str, stride: int
         done.faults.append("by narrow devices it answers otherwise")
     for number in numbers((ample.reads if what == "read" else ample.writes) + 2, stride):
         ran = refusing.run(words, task.given, f"{what}:{number}", is_narrow=True)
-        wanted = wanted_of(ample, what, number)
+        wanted = wanted_of(task, ample, what, number)
         done.runs += 1
         done.refused += ran.refused
         done.met[f"{what}s failed" if wanted is not ample else "right"] += 1
