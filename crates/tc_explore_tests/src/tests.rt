@@ -373,29 +373,27 @@ fn without_behaviours_nothing_is_decided(rt: HostRuntime) -> Result<(), Fail> {
     Ok(())
 }
 
+// How a search of two behaviours within this limit ends, and how many states it tells.
+fn searched<R: Abort>(rt: &R, alloc: Global, limit: usize) -> Result<(Ending, usize), Fail> {
+    let scripts = vec![in alloc;
+        leading(rt, alloc, Step::GetVerdict)?,
+        setting(rt, alloc, UserVerdict::Fail)?,
+    ]?;
+    let explored = explore(alloc, scripts.as_slice(), limit)?;
+    Ok((explored.ending, explored.states))
+}
+
 // A search that comes to its end does so with as many states as it tells, and not with one less.
 #[test]
 fn a_complete_search_tells_its_states(rt: HostRuntime) -> Result<(), Fail> {
     let alloc = rt.alloc();
-    let scripts = vec![in alloc;
-        leading(&rt, alloc, Step::GetVerdict)?,
-        setting(&rt, alloc, UserVerdict::Fail)?,
-    ]?;
-    let explored = explore(alloc, scripts.as_slice(), MANY)?;
-    let states = explored.states;
-    assert!(rt; explored.ending == Ending::Complete && 1 <= states);
-    let within = explore(alloc, scripts.as_slice(), states)?;
-    holds(
-        &rt,
-        "within.ending == Ending::Complete",
-        within.ending == Ending::Complete,
-    );
-    let below = explore(alloc, scripts.as_slice(), states - 1)?;
-    holds(
-        &rt,
-        "below.ending != Ending::Complete",
-        below.ending != Ending::Complete,
-    );
+    let (ending, states) = searched(&rt, alloc, MANY)?;
+    is(&rt, "ending", ending, Ending::Complete);
+    holds(&rt, "1 <= states", 1 <= states);
+    let (within, _) = searched(&rt, alloc, states)?;
+    is(&rt, "within", within, Ending::Complete);
+    let (below, _) = searched(&rt, alloc, states.saturating_sub(1))?;
+    holds(&rt, "below", below != Ending::Complete);
     Ok(())
 }
 
