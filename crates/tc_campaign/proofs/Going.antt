@@ -1,5 +1,5 @@
 -- The run of a campaign with its observer, case by case.
-use Rattle.std.proofs.Common.{ℕ, ◌≡◌, ◌++◌, ◌∷◌, [], Bool, Option, Some, None, List, All, map, length, refl, subst, sym, ap}
+use Rattle.std.proofs.Common.{ℕ, ◌≡◌, ◌++◌, ◌∷◌, [], Bool, Option, Some, None, List, map, length, refl, subst, sym, ap}
 use Rattle.std.proofs.lemmas.List.Elements.{All-nil}
 use Rattle.tc_verdict.specs.declared.verdict.Verdict.{Verdict}
 use Rattle.tc_book.specs.Passes.{PassState}
@@ -10,7 +10,6 @@ use Rattle.tc_report.specs.declared.results.Finished.{Finished}
 use Rattle.tc_report.specs.Observers.{AreTaken}
 use Rattle.tc_report.proofs.Observing.{taken_more}
 use Rattle.tc_campaign.specs.declared.case.Case.{Case}
-use Rattle.tc_campaign.specs.declared.step.Step.{Step}
 use Rattle.tc_campaign.specs.declared.step.Step.TheVariants as S
 use Rattle.tc_campaign.specs.Outline.{outline_of}
 use Rattle.tc_campaign.specs.Campaign.{HasThreads, IsCalled}

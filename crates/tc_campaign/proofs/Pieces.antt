@@ -1,5 +1,5 @@
 -- The text of a campaign that is written as its test cases finish.
-use Rattle.std.proofs.Common.{ℕ, ◌≡◌, ◌∙◌, List, [], Bool, Option, Some, None, Result, Ok, Err, IfErr, IfOk, OnErr, All, refl, sym, ap, subst}
+use Rattle.std.proofs.Common.{ℕ, ◌≡◌, ◌∙◌, List, [], Bool, Option, Some, None, Result, Ok, Err, IfErr, IfOk, OnErr, sym, ap, subst}
 use Rattle.std.specs.Prelude.{IfNone, IfSome, unwrap_or}
 use Rattle.std.proofs.lemmas.List.{append-nil}
 use Rattle.std.proofs.lemmas.List.Elements.{All-nil}
@@ -20,7 +20,7 @@ use Rattle.tc_report.specs.Live.{LiveState, closing_text, form_text, opening_tex
 use Rattle.tc_report.specs.Observers.{AreTaken, IsEndedAt}
 use Rattle.tc_report.specs.Output.{LeavesPrefix}
 use Rattle.tc_report.specs.Progress.{IsToldBy, told_text}
-use Rattle.tc_report.specs.Status.{ending_status, worst_overall}
+use Rattle.tc_report.specs.Status.{ending_status}
 use Rattle.tc_report.specs.Tally.{no_cases, tally_of_cases}
 use Rattle.tc_report.proofs.Pieces.{IsAt, Takes, all_at, ended_at}
 use Rattle.tc_report.proofs.Telling.{nothing_of}

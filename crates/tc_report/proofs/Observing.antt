@@ -1,5 +1,5 @@
 -- The test cases that an observer was given, one after another.
-use Rattle.std.proofs.Common.{◌≡◌, Bool, true, List, [], ◌∷◌, ◌++◌, refl, subst}
+use Rattle.std.proofs.Common.{Bool, true, List, [], ◌∷◌, ◌++◌, refl, subst}
 use Rattle.tc_report.specs.declared.results.Finished.{Finished}
 use Rattle.tc_report.specs.Observers.{AreTaken}
 

@@ -1,5 +1,5 @@
 -- What a live writer has written and counted, test case by test case.
-use Rattle.std.proofs.Common.{ℕ, ◌≡◌, ◌∙◌, ◌+◌, Bool, true, false, arith, List, [], ◌∷◌, ◌++◌, Option, length, map, refl, sym, ap, ap₂, subst, append_assoc}
+use Rattle.std.proofs.Common.{ℕ, ◌≡◌, ◌∙◌, ◌+◌, Bool, true, false, List, [], ◌∷◌, ◌++◌, Option, length, map, refl, sym, ap, subst, append_assoc}
 use Rattle.std.specs.Prelude.{◌==◌, if◌then◌else◌, filter}
 use Rattle.std.proofs.lemmas.List.{append-nil, length-append, map-append}
 use Rattle.std.proofs.lemmas.List.Elements.{filter-append}
@@ -11,13 +11,12 @@ use Rattle.tc_verdict.specs.Verdict.{level_of, worst, worse}
 use Rattle.tc_verdict.proofs.Order.{worst-more}
 use Rattle.tc_stream.specs.Output.{AppendsPrefix}
 use Rattle.tc_report.specs.declared.form.Form.{Form}
-use Rattle.tc_report.specs.declared.results.CampaignEnd.TheVariants as E
 use Rattle.tc_report.specs.declared.results.Finished.{Finished}
-use Rattle.tc_report.specs.Live.{LiveState, IsWritten, Writes, form_text, one_if, part_text, tally_with, text_so_far}
+use Rattle.tc_report.specs.Live.{LiveState, IsWritten, Writes, one_if, part_text, tally_with, text_so_far}
 use Rattle.tc_report.specs.Observers.{AreTaken, IsEndedAt}
 use Rattle.tc_report.specs.Status.{overall_of, worst_overall}
 use Rattle.tc_report.specs.Tally.{cases_of, tally_of_cases}
-use Rattle.tc_report.proofs.Writing.{appends_both, left_is_prefix, prefix_behind, prefix_longer, so_far_more, whole_text}
+use Rattle.tc_report.proofs.Writing.{appends_both, left_is_prefix, prefix_behind, so_far_more}
 
 one_counted : (p : Finished → Bool) (f : Finished) → length (filter p (f ∷ [])) ≡ one_if (p f)
 one_counted p f = go (p f)
