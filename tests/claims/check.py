@@ -15,6 +15,7 @@ sys.dont_write_bytecode = True
 TOP = os.path.dirname(os.path.dirname(os.path.dirname(os.path.abspath(__file__))))
 sys.path.append(os.path.join(TOP, "tests", "program"))
 
+import believed
 from documents import Block, Document, named_by, read
 from script_reader import read_script
 from sources import Sources, files_below
@@ -130,6 +131,14 @@ def fault_of_block(block: Block) -> str:
         read_as = read_script(re.sub(r"(?m)^X$", "getverdict", block.text).encode())
         return read_as.errors.decode().strip() if isinstance(read_as, Judged) else ""
     return ""
+
+
+def believed_lines() -> Iterator[str]:
+    """Rows of the table of what must be believed that are not what the sources have."""
+    rows = [line for _, line in read(TOP, "docs/architecture.md").section("What must be believed") if line.startswith("|")][2:]
+    wanted = list(believed.table())
+    yield from (f"the sources have the row {it}" for it in wanted if it not in rows)
+    yield from (f"the sources have no row {it}" for it in rows if it not in wanted)
 
 
 def quotations(documents: List[Document]) -> Iterator[str]:
@@ -258,6 +267,7 @@ def main() -> int:
     documents = [read(TOP, it) for it in tracked() if it.endswith(".md")]
     checks: Dict[str, Callable[[], Iterator[str]]] = {
         "what the tables of names name stands in the sources": lambda: all_table_claims(sources),
+        "the lines that must be believed are as many as the table says": believed_lines,
         "what the documents quote of examples/ stands there": lambda: quotations(documents),
         "the code that the documents quote stands in its crate": lambda: quoted_code(documents),
         "the commands that name an example name one, with words that there are": lambda: commands(documents),

@@ -1,4 +1,5 @@
 //! What the program runs: test cases and their scripts.
+ghost use Rattle.std.specs.Prelude.{IfOk};
 ghost use Rattle.tc_campaign.specs.Outline.{HasNames};
 
 use super::calls::run_script;
@@ -10,14 +11,14 @@ use tc_book::open_case;
 use tc_campaign::{Case, Form as ReportForm};
 use tc_entry::Name;
 use tc_exec::{Back, Callable, Ending, Job};
-use tc_program::run::{Options, run_cases, run_cases_live};
+use tc_program::run::{Options, run_as, run_cases, run_cases_live};
 use tc_script::{Script, read_campaign};
 use tc_stream::devices::{NarrowWriter, WriteFailure};
 
 const ABORTED: &[u8] = b"ttrun: aborted at a: no behaviours\n";
 
 // A test case of no behaviours.
-fn empty(alloc: Global, name: Name) -> Case<Job>
+fn empty<B: Callable>(alloc: Global, name: Name) -> Case<B>
     ensures { HasNames result }
 {
     Case {
@@ -40,7 +41,7 @@ fn run_empty<R: Threads + Wait + Copy + Send + 'static, E: Write>(
         form: Form::Text,
         progress: false,
     };
-    let cases = vec![in alloc; empty(alloc, name)]?;
+    let cases: Vec<Case<Job>> = vec![in alloc; empty(alloc, name)]?;
     Ok(run_cases(rt, alloc, cases, options, written, errors)?)
 }
 
@@ -57,7 +58,7 @@ fn run_empty_live<R: Threads + Wait + Copy + Send + 'static>(
         form: Form::Text,
         progress: false,
     };
-    let cases = vec![in alloc; empty(alloc, name)]?;
+    let cases: Vec<Case<Job>> = vec![in alloc; empty(alloc, name)]?;
     let form = ReportForm::Text;
     Ok(run_cases_live(rt, alloc, cases, options, form, written, errors)?)
 }
@@ -203,5 +204,67 @@ fn empty_case_of_a_live_run(rt: HostRuntime) -> Result<(), Fail> {
         written.as_slice(),
         lines(alloc, ABORTED_RUN)?.as_slice(),
     );
+    Ok(())
+}
+
+// A test case that passes.
+fn passing<R: Wait + Copy + Send + 'static>(
+    rt: &R,
+    alloc: Global,
+    name: Name,
+) -> Result<Case<ScriptJob<R>>, Fail>
+    ensures { IfOk result HasNames }
+{
+    let text = lines(alloc, "testcase t;behaviour main;setverdict pass;end;end")?;
+    let mut campaign = read_campaign(alloc, text.as_slice())?;
+    let (_, mut scripts) = campaign.take_first().ok_or("a test case")?;
+    let (behaviour, script) = scripts.take_first().ok_or("a behaviour")?;
+    Ok(Case {
+        name,
+        names: vec![in alloc; behaviour]?,
+        jobs: vec![in alloc; ScriptJob::new(*rt, alloc, script)]?,
+    })
+}
+
+// The run of a test case that passes and of one of no behaviours behind it, told of as they finish.
+fn run_told<R: Threads + Wait + Copy + Send + 'static, E: Write>(
+    rt: &R,
+    alloc: Global,
+    live: bool,
+    errors: &mut E,
+) -> Result<Outcome, Fail> {
+    let good = Name::read("t").ok_or("a name")?;
+    let bad = Name::read("a").ok_or("a name")?;
+    let options = Options {
+        stop_on: None,
+        form: Form::Text,
+        progress: true,
+    };
+    let cases = vec![in alloc; passing(rt, alloc, good)?, empty(alloc, bad)]?;
+    let mut written = Vec::new(alloc);
+    Ok(run_as(
+        rt,
+        alloc,
+        cases,
+        options,
+        live,
+        &mut written,
+        errors,
+    )?)
+}
+
+#[test]
+fn an_abort_is_told_behind_a_line_that_is_not(rt: HostRuntime) -> Result<(), Fail> {
+    let alloc = rt.alloc();
+    for (live, fails_at) in [(false, 0), (false, 3), (true, 0), (true, 3)] {
+        let mut errors = NarrowWriter::new(alloc, fails_at, WriteFailure::Broken);
+        let outcome = run_told(&rt, alloc, live, &mut errors)?;
+        is(&rt, "outcome.status", outcome.status, 3);
+        holds(&rt, "outcome.told.is_err()", outcome.told.is_err());
+        let part = errors.taken.as_slice().get(..fails_at);
+        is(&rt, "part", part, b"t pass\n".get(..fails_at));
+        let behind = errors.taken.as_slice().get(fails_at..);
+        is(&rt, "behind", behind, Some(ABORTED));
+    }
     Ok(())
 }

@@ -1,0 +1,247 @@
+"""What of specs/ a reader must believe: the definitions that the clauses of public functions rest on.
+
+`python3 tests/claims/believed.py` prints the table that stands in docs/architecture.md; with --unused the definitions of specs/,
+without those in Inside, on which no public clause rests.
+"""
+from __future__ import annotations
+
+import os
+import re
+import sys
+from typing import Dict, Iterator, List, NamedTuple, Set, Tuple
+
+TOP = os.path.dirname(os.path.dirname(os.path.dirname(os.path.abspath(__file__))))
+# Of these, what a case that was run reports, and the results of a campaign of cases.
+HEADLINE = (("tc_exec", "run_case"), ("tc_exec", "run_case_with"), ("tc_campaign", "run_campaign"), ("tc_campaign", "run_campaign_with"))
+USE = re.compile(r"^\s*(?:unfoldable )?(?:pub )?(?:ghost )?use (?:Rattle\.)?([\w.]+?)(?:\.\{([^}]*)\}|\.(\S+) as (\w+)| as (\w+));?\s*$")
+HEAD = re.compile(r"^(?:(?:abbrev|unfoldable|pub|record|data) )*")
+WORD = re.compile(r"[^\s(){}\[\],;:]+")
+
+Place = Tuple[str, str]
+
+
+class Definition(NamedTuple):
+    """A definition: where it stands, what it cites of its own module and of others, and its lines without comments."""
+
+    crate: str
+    file: str
+    name: str
+    cites: Set[Place]
+    lines: int
+
+
+def text_of(path: str) -> str:
+    with open(os.path.join(TOP, path), encoding="utf-8") as file:
+        return file.read()
+
+
+def files_below(folder: str, ending: str) -> Iterator[str]:
+    for at, _folders, names in sorted(os.walk(os.path.join(TOP, folder))):
+        yield from (os.path.relpath(os.path.join(at, it), TOP) for it in sorted(names) if it.endswith(ending))
+
+
+class Imports:
+    """What the words of a file mean by its imports."""
+
+    def __init__(self, text: str):
+        self.modules: Dict[str, str] = {}
+        self.names: Dict[str, Place] = {}
+        for line in text.split("\n"):
+            found = USE.match(line)
+            if not found:
+                continue
+            module, listed, last, by, other = found.groups()
+            for name in (listed or "").split(","):
+                old, _, new = name.strip().partition(" as ")
+                self.names[(new or old).strip("◌")] = (module, old.strip("◌"))
+            if by or other:
+                self.modules[by or other] = f"{module}.{last}" if last else module
+
+    def places(self, word: str, module: str) -> Iterator[Place]:
+        """What a word may mean, which stands in this module."""
+        first, _, rest = word.partition(".")
+        if first in self.modules and rest:
+            yield self.modules[first], rest.split(".")[0]
+        if first in self.names:
+            yield self.names[first]
+        yield module, first
+
+
+def module_of(path: str) -> str:
+    """`crates/tc_table/specs/Inside/Steps.antt` as `tc_table.specs.Inside.Steps`."""
+    return path[len("crates/"):-len(".antt")].replace("/", ".")
+
+
+def at_the_margin(text: str) -> Iterator[str]:
+    """The lines of a file, those in modules with parameters as if they stood alone."""
+    margin, in_head = 0, False
+    for line in text.split("\n"):
+        indent = len(line) - len(line.lstrip())
+        if line.strip():
+            margin = margin if indent >= margin or in_head else indent
+        if in_head or line[margin:].startswith("module "):
+            in_head = not line.endswith("where")
+            margin += 0 if in_head else 2
+        else:
+            yield line[margin:]
+
+
+def blocks_of(text: str) -> Iterator[List[str]]:
+    """The definitions of a file: lines up to an empty one, or to one of comment at the margin."""
+    block: List[str] = []
+    for line in [*at_the_margin(text), ""]:
+        if line.strip() and not re.match(r"--|(?:unfoldable )?(?:pub )?use |(?:pub )?mod |infix", line):
+            block += [] if line.lstrip().startswith("--") else [line]
+        elif block:
+            yield block
+            block = []
+
+
+def constructors(block: List[str]) -> Iterator[str]:
+    """The names of a data type's constructors, and of a record's fields."""
+    if re.match(r"(?:pub )?(?:data|record)\b", block[0]):
+        for line in block[1:]:
+            found = re.match(r"\s+(?:pub )?([^\W\d]\w*) :", line)
+            if found:
+                yield found[1]
+
+
+def defined() -> Dict[Place, Definition]:
+    """All definitions of specs/, by module and name; a constructor leads to its type."""
+    found: Dict[Place, Definition] = {}
+    for crate in sorted(os.listdir(os.path.join(TOP, "crates"))):
+        for path in files_below(f"crates/{crate}/specs", ".antt"):
+            text, module = text_of(path), module_of(path)
+            imports = Imports(text)
+            for line in re.findall(r"(?m)^(?:unfoldable )?pub (use .*)$", text):
+                for name, place in Imports(line).names.items():
+                    found[module, name] = Definition(crate, path, name, {place}, 0)
+            for block in blocks_of(text):
+                name = WORD.match(HEAD.sub("", block[0]))
+                if not name:
+                    raise ValueError(f"{path}: no name in {block[0]!r}")
+                body = "\n".join(block)
+                cites = {place for word in WORD.findall(body) for place in imports.places(word, module)}
+                own = name[0].strip("◌")
+                it = Definition(crate, path, own, cites, len(block))
+                for key in (own, *constructors(block)):
+                    found.setdefault((module, key), it)
+    return found
+
+
+def offered(crate: str) -> Tuple[Set[str], Set[str]]:
+    """The names that the root of a crate offers of its modules, and the modules that it opens."""
+    text = text_of(f"crates/{crate}/src/lib.rt")
+    modules = set(re.findall(r"^pub mod (\w+)", text, re.M))
+    text = "\n".join([text, *(text_of(f"crates/{crate}/src/{it}.rt") for it in sorted(modules))])
+    named = re.findall(r"^pub use (?:crate::)?\w+::(?:\{([^}]*)\}|(\w+));", text, re.M)
+    return {it.strip() for pair in named for it in "".join(pair).split(",")} - {""}, modules
+
+
+def items_of(text: str) -> Iterator[Tuple[str, str, bool, str]]:
+    """The functions and ghost members of a file: the type of the impl or the trait around it or none, the name, whether it may be
+    called from elsewhere, and its clauses."""
+    around, is_open, lines, at = "", False, text.split("\n"), 0
+    while at < len(lines):
+        line = lines[at]
+        impl = re.match(r"(?:pub )?(impl|trait)\b(?:<[^{]*?>)? *(?:([\w:]+)(?:<[^{]*?>)? for )?(?:&?(?:mut )?)?([\w]+)", line)
+        if impl and line.rstrip().endswith("{"):
+            around, is_open = impl[3], impl[1] == "trait" or impl[2] is not None
+        elif line.startswith("}"):
+            around, is_open = "", False
+        ghost = re.match(r"\s*ghost (\w+)(?::| =)", line)
+        function = re.match(r"\s*(pub )?(?:const )?fn (\w+)", line)
+        if ghost and not re.match(r"\s*ghost use", line):
+            body = line
+            while not re.search(r"\}[;,]?\s*$", lines[at]):
+                at += 1
+                body += "\n" + lines[at]
+            yield around, ghost[1], True, body
+        elif function:
+            body, first = "", at
+            while not re.match(r"\s*\{", lines[at]) and not lines[at].rstrip().endswith((";", "{}")) and not (
+                    at == first and lines[at].rstrip().endswith("{")):
+                at += 1
+                body += "\n" + lines[at]
+            clauses = re.search(r"\b(?:requires|ensures)\b[\s\S]*", body)
+            yield around, function[2], bool(function[1]) or is_open, clauses[0] if clauses else ""
+        at += 1
+
+
+def public_clauses(crate: str) -> Iterator[Tuple[str, Set[Place]]]:
+    """The functions that a crate offers, each with what its clauses cite."""
+    names, modules = offered(crate)
+    for path in files_below(f"crates/{crate}/src", ".rt"):
+        text = text_of(path)
+        if "#[cfg(test)]\nmod" in text and path.endswith("tests.rt"):
+            continue
+        imports = Imports(text)
+        module = path.split("/src/")[1][:-3].split("/")[0]
+        for around, name, is_open, clauses in items_of(text):
+            is_named = module in modules and (not around or re.search(rf"\bpub (?:struct|enum|trait) {around}\b", text))
+            # (what a type keeps behind its view is proved, and nobody has to believe it)
+            if is_open and name != "invariant" and (is_named or (around or name) in names):
+                yield name, {place for word in WORD.findall(clauses) for place in imports.places(word, "")}
+
+
+def rested_on(places: Set[Place], all_of: Dict[Place, Definition]) -> Set[Place]:
+    """The definitions that these places lead to."""
+    found: Set[Place] = set()
+    left = list(places)
+    while left:
+        place = left.pop()
+        it = all_of.get(place)
+        if it and (key := (module_of(it.file), it.name)) not in found:
+            found.add(key)
+            left.extend(it.cites)
+    return found
+
+
+def lines_of(places: Set[Place], all_of: Dict[Place, Definition]) -> int:
+    return sum(all_of[it].lines for it in places)
+
+
+def libraries() -> List[str]:
+    """The crates that have definitions, in the order of crates.txt."""
+    named = re.findall(r"^(\w+)[^:\n]*:", text_of("crates.txt"), re.M)
+    return [it for it in named if os.path.isdir(os.path.join(TOP, "crates", it, "specs"))]
+
+
+def rested_upon() -> Tuple[Dict[Place, Definition], Set[Place], Set[Place]]:
+    """All definitions, those on which the clauses of public functions rest, and those on which the headline does."""
+    all_of = defined()
+    cited: Set[Place] = set()
+    headline: Set[Place] = set()
+    for crate in libraries():
+        for name, places in public_clauses(crate):
+            cited |= places
+            headline |= places if (crate, name) in HEADLINE else set()
+    return all_of, rested_on(cited, all_of), rested_on(headline, all_of)
+
+
+def table() -> Iterator[str]:
+    """The rows of the table: each crate, how many lines of definitions public clauses rest on, and how many the headline; and the sums."""
+    all_of, cited, headline = rested_upon()
+    for crate in libraries():
+        own, of_headline = ({it for it in some if it[0].split(".")[0] == crate} for some in (cited, headline))
+        yield f"| `{crate}` | {lines_of(own, all_of)} | {lines_of(of_headline, all_of) or ''} |".replace("|  |", "| |")
+    yield f"| all | {lines_of(cited, all_of)} | {lines_of(headline, all_of)} |"
+
+
+def unused() -> Iterator[str]:
+    """The definitions outside of Inside on which no public clause rests."""
+    all_of, cited, _ = rested_upon()
+    for place in sorted({(module_of(it.file), it.name) for it in all_of.values() if it.lines} - cited):
+        if ".Inside" not in place[0]:
+            yield f"{place[0]}.{place[1]}: {all_of[place].lines} lines"
+
+
+def main() -> int:
+    """Prints the table, or what is not used."""
+    for line in unused() if "--unused" in sys.argv else table():
+        print(line)
+    return 0
+
+
+if __name__ == "__main__":
+    sys.exit(main())
