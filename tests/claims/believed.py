@@ -98,8 +98,8 @@ def blocks_of(text: str) -> Iterator[List[str]]:
 
 
 def constructors(block: List[str]) -> Iterator[str]:
-    """The names of a data type's constructors, and of a record's fields."""
-    if re.match(r"(?:pub )?(?:data|record)\b", block[0]):
+    """The names of a data type's constructors."""
+    if re.match(r"(?:pub )?data\b", block[0]):
         for line in block[1:]:
             found = re.match(r"\s+(?:pub )?([^\W\d]\w*) :", line)
             if found:
