@@ -268,6 +268,7 @@ def main() -> int:
     checks: Dict[str, Callable[[], Iterator[str]]] = {
         "what the tables of names name stands in the sources": lambda: all_table_claims(sources),
         "the lines that must be believed are as many as the table says": believed_lines,
+        "public clauses rest on each definition of specs/ outside of Inside": believed.unused,
         "what the documents quote of examples/ stands there": lambda: quotations(documents),
         "the code that the documents quote stands in its crate": lambda: quoted_code(documents),
         "the commands that name an example name one, with words that there are": lambda: commands(documents),

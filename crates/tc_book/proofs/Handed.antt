@@ -11,7 +11,8 @@ use Rattle.tc_entry.specs.declared.reply.Reply.{Reply}
 use Rattle.tc_merge.specs.Merge.{is_verdict_call}
 use Rattle.tc_board.specs.declared.answer.Answer.TheVariants.{Met, Found}
 use Rattle.tc_board.specs.Hand.{HandView}
-use Rattle.tc_book.specs.Hands.{found_by, answer_in, answers_in, IsHandOf, Says}
+use Rattle.tc_book.specs.Hands.{found_by, answer_in, answers_in, IsHandOf}
+use Rattle.tc_book.specs.Inside.{Says}
 
 answers_end : (log : List Entry) (e : Entry) → answers_in (log ++ e ∷ []) ≡ answers_in log ++ answer_in e.op e.reply
 answers_end [] e = append-nil (answer_in e.op e.reply)

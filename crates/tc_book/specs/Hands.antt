@@ -34,10 +34,6 @@ abbrev pub answers_in : List Entry → List Answer
 answers_in [] = []
 answers_in (e ∷ log) = answer_in e.op e.reply ++ answers_in log
 
--- a call of the hand had the answer of an entry with this reply
-abbrev pub Says : Op → Reply → HandView → HandView → Type 0
-Says op reply before after = (x : Answer) × (answer_in op reply ≡ x ∷ []) × (after ≡ answered before x)
-
 -- a hand of this run, which met its word and then had the answers of this log's verdict entries
 pub record IsHandOf (hand : HandView) (run : ℕ) (log : List Entry) : Type 0 where
   pub of_run : hand.run ≡ run

@@ -1,5 +1,5 @@
 -- What only the way a book is kept needs: no public clause names a word of this file.
-use Rattle.std.specs.Prelude.{ℕ, zero, suc, ◌++◌, ◌∷◌, ◌≡◌, ◌+◌, ◌≤◌, ◌<◌, ◌==◌, Bool, if◌then◌else◌, option_map, Option, Some, None, List, [], length, sum_by, slice_index_or, All}
+use Rattle.std.specs.Prelude.{ℕ, zero, suc, ◌++◌, ◌∷◌, ◌≡◌, ◌+◌, ◌≤◌, ◌<◌, ◌==◌, Bool, if◌then◌else◌, option_map, Option, Some, None, List, [], length, sum_by, slice_index_or, All, true, false, ◌||◌, not, is_some}
 use Rattle.std.specs.Borrow.{Bor}
 use Rattle.tc_entry.specs.declared.limits.TheConstants.{BEHAVIOURS}
 use Rattle.tc_entry.specs.declared.comp.Comp.{Comp}
@@ -13,12 +13,19 @@ use Rattle.tc_book.specs.declared.places.Places.{Places}
 use Rattle.tc_table.specs.Legal.{IsLegal}
 use Rattle.tc_book.specs.Parts.{part, log_of, is_by}
 use Rattle.tc_book.specs.Closing.{IsOneEach}
-use Rattle.tc_book.specs.OpenCase.{AreOthers}
+use Rattle.tc_book.specs.OpenCase.{AreOthers, OpenCase, past_of, reply_to}
 use Rattle.tc_words.specs.Words.{AreTold}
-use Rattle.tc_board.specs.Hand.{HandView}
+use Rattle.tc_board.specs.Hand.{HandView, answered}
 use Rattle.tc_board.specs.declared.record.Record.{Record}
-use Rattle.tc_book.specs.Passes.{LeftState}
+use Rattle.tc_book.specs.Passes.{LeftState, ended_by, entry_of}
 use Rattle.tc_book.specs.Starts.{start_of}
+use Rattle.tc_board.specs.declared.answer.Answer.{Answer}
+use Rattle.tc_book.specs.Hands.{answer_in}
+use Rattle.tc_verdict.specs.declared.run.Run.{Run}
+use Rattle.tc_table.specs.History.{is_over}
+use Rattle.tc_book.specs.Replies.{is_parked}
+use Rattle.tc_book.specs.declared.until.Until.{Until}
+use Rattle.tc_book.specs.declared.until.Until.TheVariants as U
 
 -- one where it is so
 abbrev pub one_if : Bool → ℕ
@@ -95,3 +102,38 @@ pub record IsKept (n : ℕ) (past : List Entry) (starts : List (Option (Comp × 
   pub covered : count ≤ room
   pub others : AreOthers past
   pub told : AreTold n past words
+
+-- a call of the hand had the answer of an entry with this reply
+abbrev pub Says : Op → Reply → HandView → HandView → Type 0
+Says op reply before after = (x : Answer) × (answer_in op reply ≡ x ∷ []) × (after ≡ answered before x)
+
+-- the log of a started run: the run, the component that it was started on, its entries, the oldest first, and how many more have their place
+pub record LogState : Type 0 where
+  pub run : Run
+  pub own : Comp
+  pub entries : List Entry
+  pub room : ℕ
+
+-- an entry of the run has ended it
+abbrev pub is_closed : LogState → Bool
+is_closed l = ended_by l.own l.entries
+
+-- the entries with one more of the run's
+abbrev pub with_own : LogState → Op → Reply → List Entry
+with_own l op reply = l.entries ++ entry_of l.run op reply ∷ []
+
+-- the reply is Ended, or a dynamic error
+abbrev pub is_halt : Reply → Bool
+is_halt R.Ended = true
+is_halt (R.Fault f) = true
+is_halt _ = false
+
+-- who waits for this goes on: its run was started, or the case is over; or its Wake would not be parked again
+abbrev pub goes_on : OpenCase → Run → Until → Bool
+goes_on b run U.Start = is_some (start_of (past_of b) run.0) || is_over (past_of b)
+goes_on b run (U.Wake killed target) = not (is_parked (reply_to b run (O.Wake killed target)))
+
+-- a run that waits goes on; of one that does not wait there is nothing to say
+abbrev pub wakes : OpenCase → Run → Option Until → Bool
+wakes b run (Some until) = goes_on b run until
+wakes b run None = false

@@ -4,7 +4,6 @@ pub mod Starts
 pub mod OpenCase
 pub mod Waking
 pub mod Passes
-pub mod Logs
 pub mod Hands
 pub mod Parts
 pub mod Report

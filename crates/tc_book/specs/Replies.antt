@@ -5,12 +5,6 @@ use Rattle.tc_entry.specs.declared.op.Op.TheVariants as O
 use Rattle.tc_entry.specs.declared.reply.Reply.{Reply}
 use Rattle.tc_entry.specs.declared.reply.Reply.TheVariants as R
 
--- the reply is Ended, or a dynamic error
-abbrev pub is_halt : Reply → Bool
-is_halt R.Ended = true
-is_halt (R.Fault f) = true
-is_halt _ = false
-
 -- the target of a wait does not hold yet
 abbrev pub is_parked : Reply → Bool
 is_parked R.Parked = true

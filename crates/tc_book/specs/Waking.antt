@@ -20,13 +20,3 @@ pub record NobodyWakes (before after : OpenCase) : Type 0 where
   pub parked : (run : Run) (killed : Bool) (target : Target) → WouldPark before run killed target → WouldPark after run killed target
   pub starts : (b : ℕ) → start_of (past_of after) b ≡ start_of (past_of before) b
   pub over : is_over (past_of after) ≡ is_over (past_of before)
-
--- who waits for this goes on: its run was started, or the case is over; or its Wake would not be parked again
-abbrev pub goes_on : OpenCase → Run → Until → Bool
-goes_on b run U.Start = is_some (start_of (past_of b) run.0) || is_over (past_of b)
-goes_on b run (U.Wake killed target) = not (is_parked (reply_to b run (O.Wake killed target)))
-
--- a run that waits goes on; of one that does not wait there is nothing to say
-abbrev pub wakes : OpenCase → Run → Option Until → Bool
-wakes b run (Some until) = goes_on b run until
-wakes b run None = false

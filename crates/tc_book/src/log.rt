@@ -5,7 +5,7 @@ ghost use Rattle.tc_board.specs.declared.answer.Answer.TheVariants.{Met};
 ghost use Rattle.tc_entry.specs.declared.op.Op.TheVariants as ops;
 ghost use Rattle.tc_merge.specs.Merge.{is_verdict_call};
 ghost use Rattle.tc_book.specs.Hands.{IsHandOf};
-ghost use Rattle.tc_book.specs.Logs.{is_closed, with_own};
+ghost use Rattle.tc_book.specs.Inside.{is_closed, with_own};
 ghost use Rattle.tc_book.specs.Passes.{ended_by};
 ghost use Rattle.tc_book.specs.Replies.{suits};
 
@@ -32,7 +32,7 @@ impl Model for Log {
     ghost use Rattle.std.specs.Vec.{vec_len, vec_capacity};
     ghost use Rattle.tc_book.specs.Passes.{ended_by};
     ghost use Rattle.tc_book.specs.Hands.{IsHandOf};
-    ghost use Rattle.tc_book.specs.Logs.{LogState};
+    ghost use Rattle.tc_book.specs.Inside.{LogState};
 
     ghost Value = { LogState };
 

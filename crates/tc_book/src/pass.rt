@@ -5,7 +5,8 @@ ghost use Rattle.tc_entry.specs.declared.reply.Reply.{Reply};
 ghost use Rattle.tc_entry.specs.declared.reply.Reply.TheVariants as replies;
 ghost use Rattle.tc_book.specs.Hands.{IsHandOf};
 ghost use Rattle.tc_book.specs.Passes.{has_ended, added, By, IsCall, IsWait};
-ghost use Rattle.tc_book.specs.Replies.{suits, is_halt};
+ghost use Rattle.tc_book.specs.Replies.{suits};
+ghost use Rattle.tc_book.specs.Inside.{is_halt};
 ghost use Rattle.tc_merge.specs.Merge.{is_verdict_call};
 
 use crate::halt::Halt;

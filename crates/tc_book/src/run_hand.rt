@@ -4,7 +4,7 @@ ghost use Rattle.std.specs.Arc.{arc_value};
 ghost use Rattle.tc_board.specs.Hand.{answered};
 ghost use Rattle.tc_board.specs.declared.answer.Answer.TheVariants.{Met};
 ghost use Rattle.tc_entry.specs.declared.op.Op.TheVariants as ops;
-ghost use Rattle.tc_book.specs.Hands.{Says};
+ghost use Rattle.tc_book.specs.Inside.{Says};
 ghost use Rattle.tc_book.specs.Replies.{suits};
 
 use std::marker::Model;

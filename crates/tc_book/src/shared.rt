@@ -5,7 +5,7 @@ ghost use Rattle.tc_entry.specs.declared.reply.Reply.TheVariants as replies;
 ghost use Rattle.tc_book.specs.Replies.{suits};
 ghost use Rattle.tc_book.specs.Closing.{IsWhole};
 ghost use Rattle.tc_book.specs.Report.{IsOneHistory};
-ghost use Rattle.tc_book.specs.Logs.{is_closed, with_own};
+ghost use Rattle.tc_book.specs.Inside.{is_closed, with_own};
 ghost use Rattle.tc_book.specs.Starts.{IsAwaited};
 ghost use Rattle.tc_merge.specs.Merge.{is_verdict_call};
 ghost use Rattle.tc_board.specs.Hand.{answered};

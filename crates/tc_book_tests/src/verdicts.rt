@@ -11,6 +11,7 @@ use tc_entry::{Args, Comp, Entry, Group, NoMemory, Op, Reply, Run, Target, UserV
 use tc_verdict::from_user;
 
 const SETTINGS: u32 = 1_000;
+const SETTERS: u16 = 64;
 
 /// The worst verdict that a run sets, and the better one that it sets all other times.
 fn verdicts_of(run: Run) -> (UserVerdict, UserVerdict) {
@@ -60,7 +61,7 @@ fn start_setters<R: Threads + Wait + Copy + Send + 'static>(
 
 /// What run 0 calls: it starts all others, sets its verdicts, and waits until the others are done.
 fn start_and_set<R: Wait>(rt: &R, pass: &mut Pass) -> Result<(), Halt> {
-    for run in 1..64u16 {
+    for run in 1..SETTERS {
         let comp = pass.create(rt, false)?;
         pass.start(rt, comp, Run(run), &Args::new())?;
     }
@@ -81,7 +82,7 @@ fn undisturbed<R: Threads + Wait + Copy + Send + 'static>(
     rt: &R,
     alloc: Global,
 ) -> Result<Closed, Fail> {
-    let (shared, pass, tickets) = open_case(alloc, 64)?;
+    let (shared, pass, tickets) = open_case(alloc, SETTERS)?;
     let mut pass = pass;
     let handles = start_setters(rt, alloc, tickets)?;
     start_and_set(rt, &mut pass)?;
@@ -114,9 +115,9 @@ fn undisturbed_settings_count(rt: HostRuntime) -> Result<(), Fail> {
         &rt,
         "closed.locals.as_slice().len()",
         closed.locals.as_slice().len(),
-        64,
+        usize::from(SETTERS),
     );
-    for (run, local) in (0..64u16).zip(closed.locals.as_slice()) {
+    for (run, local) in (0..SETTERS).zip(closed.locals.as_slice()) {
         assert_eq!(rt; *local, from_user(verdicts_of(Run(run)).0), "run {run}");
     }
     Ok(())

@@ -16,7 +16,8 @@ use Rattle.tc_report.specs.declared.live.LiveWriter.{LiveWriter}
 use Rattle.tc_report.specs.declared.results.CampaignEnd.{CampaignEnd}
 use Rattle.tc_report.specs.declared.results.CampaignEnd.TheVariants as E
 use Rattle.tc_report.specs.declared.results.Finished.{Finished}
-use Rattle.tc_report.specs.Live.{LiveState, closing_text, form_text, opening_text, text_so_far}
+use Rattle.tc_report.specs.Live.{LiveState, closing_text, form_text, opening_text}
+use Rattle.tc_report.specs.Inside.{text_so_far}
 use Rattle.tc_report.specs.Observers.{AreTaken, IsEndedAt}
 use Rattle.tc_report.specs.Output.{LeavesPrefix}
 use Rattle.tc_report.specs.Progress.{IsToldBy, told_text}

@@ -122,7 +122,3 @@ head_lines components bs = opening_text components ++ heads_text components bs
 -- the chart of test cases by their summaries and their histories, of which there are as many
 abbrev pub chart_of : List Summary → List Block → List ℕ
 chart_of ss bs = head_lines (most_components ss) bs ++ (flat_map pair_text (zip ss bs) ++ piece P.End)
-
--- the chart of these histories
-abbrev pub chart_of_blocks : List Block → List ℕ
-chart_of_blocks bs = chart_of (map block_summary bs) bs

@@ -3,3 +3,4 @@ pub mod Arcs
 pub mod Entries
 pub mod Runs
 pub mod Chart
+pub mod Inside

@@ -2,7 +2,7 @@
 ghost use Rattle.std.specs.Prelude.{◌≡◌, ◌<◌, ℕ, [], ◌∷◌, List, None, length, get_or, IfOk, OnOk};
 ghost use Rattle.tc_entry.specs.declared.entry.Entry.{Entry as AnyEntry};
 ghost use Rattle.tc_table.specs.History.{comp_of as component_of};
-ghost use Rattle.tc_chart.specs.Runs.{AreOn};
+ghost use Rattle.tc_chart.specs.Inside.{AreOn};
 
 use std::alloc::Global;
 use tc_entry::{Comp, Entry, NoMemory, Op, Run};

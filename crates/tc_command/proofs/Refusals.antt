@@ -7,7 +7,7 @@ use Rattle.clap.specs.declared.error.kind.ErrorKind.TheVariants.{ArgumentConflic
 use Rattle.clap.proofs.FaultLemmas.{first_fails, past}
 use Rattle.tc_command.specs.Asked.{Asked, asked_by, faults, refusal_by}
 use Rattle.tc_command.specs.Command.{ttrun}
-use Rattle.tc_command.specs.Refusal.{IsRefusedBy, IsToldBy}
+use Rattle.tc_command.specs.Inside.{IsRefusedBy, IsToldBy}
 use Rattle.tc_command.specs.declared.refusal.Refusal.{Refusal}
 use Rattle.tc_command.specs.declared.refusal.Refusal.TheVariants as R
 

@@ -4,3 +4,4 @@ pub mod Asked
 pub mod Lines
 pub mod Refusal
 pub mod Stray
+pub mod Inside

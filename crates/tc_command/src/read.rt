@@ -4,7 +4,7 @@ ghost use Rattle.clap.specs.Words.{FailsBy, found_of, rows_of, subcommand_of, su
 ghost use Rattle.tc_command.specs.Command.{ttrun};
 ghost use Rattle.tc_command.specs.Asked.{asked, asked_by, choice_by, chosen_of, explore_by, faults, form_of, is_given, only_chooses, report_form_of};
 ghost use Rattle.tc_command.specs.Asked.{report_by, run_by, run_or_list, running_by, running_of, words_of};
-ghost use Rattle.tc_command.specs.Refusal.{IsRefusedBy};
+ghost use Rattle.tc_command.specs.Inside.{IsRefusedBy};
 
 use crate::command::command;
 use crate::refusal::{Refusal, error_of};

@@ -1,7 +1,7 @@
 //! Why options that the command has ask for nothing.
 ghost use Rattle.std.specs.Prelude.{◌≡◌, IfOk};
 ghost use Rattle.clap.specs.Built.{BuildsOrBreaks, is_broken};
-ghost use Rattle.tc_command.specs.Refusal.{IsToldBy};
+ghost use Rattle.tc_command.specs.Inside.{IsToldBy};
 
 use clap::error::ErrorKind;
 use clap::{Command, Error};

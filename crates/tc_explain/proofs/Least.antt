@@ -2,7 +2,8 @@
 use Rattle.std.proofs.Common.{ℕ, ◌≡◌, ◌<◌, ◌≤◌, ◌*◌, inl, inr, nat_le, max, Bool, true, false, if◌then◌else◌, Option, Some, None, IfSome, List, [], ◌∷◌, All, length, refl, subst, arith}
 use Rattle.std.proofs.lemmas.Bool.Decides.{nat_tests}
 use Rattle.std.proofs.lemmas.List.Elements.{All-nil, All-cons, All-head, All-tail}
-use Rattle.tc_explain.specs.Nearest.{IsFirstNearest, distance, helpful, near_word, nearer, nearest}
+use Rattle.tc_explain.specs.Nearest.{distance, helpful, near_word, nearer, nearest}
+use Rattle.tc_explain.specs.Inside.{IsFirstNearest}
 
 -- no word of the table is less far
 abbrev IsFar : List ℕ → ℕ → List (List ℕ) → Type 0

@@ -6,3 +6,4 @@ pub mod Replies
 pub mod Places
 pub mod Nearest
 pub mod Explanation
+pub mod Inside

@@ -65,9 +65,3 @@ helpful word (Some near) = if nat_le (3 * distance word near) (max 3 (length wor
 -- the nearest word of the table that helps, for a word that is not long
 abbrev pub near_word : List ℕ → List (List ℕ) → Option (List ℕ)
 near_word word table = if nat_le (length word) 16 then helpful word (nearest word table) else None
-
--- the word is the first of the nearest in the table: no other is nearer, and each before it is farther
-abbrev pub IsFirstNearest : List ℕ → List ℕ → List (List ℕ) → Type 0
-IsFirstNearest word near [] = ⊥
-IsFirstNearest word near (w ∷ ws) =
-    ((near ≡ w) × All (λ other. distance word w ≤ distance word other) ws) ⊎ ((distance word near < distance word w) × IsFirstNearest word near ws)

@@ -1,7 +1,8 @@
 //! The keywords that may stand at a place, and the nearest to a word.
 ghost use Rattle.std.specs.Prelude.{◌≡◌, ◌≤◌, ◌*◌, nat_le, max, IfOk, IfSome, Some, map, option_copied, option_map};
 ghost use Rattle.tc_line.specs.Words.{keyword_text};
-ghost use Rattle.tc_explain.specs.Nearest.{IsFirstNearest, all_words as words_of_scripts, distance, is_step as step_test, may_stand, move_words as words_of_moves, near_word as near_of, nearest as nearest_of, script_words as words_at, spelled};
+ghost use Rattle.tc_explain.specs.Nearest.{all_words as words_of_scripts, distance, is_step as step_test, may_stand, move_words as words_of_moves, near_word as near_of, nearest as nearest_of, script_words as words_at, spelled};
+ghost use Rattle.tc_explain.specs.Inside.{IsFirstNearest};
 
 use crate::scan::Opened;
 use crate::slot::{FINISH, WAKE};

@@ -14,8 +14,8 @@ use Rattle.tc_table.specs.Local.{overall}
 use Rattle.tc_table.specs.Answers.{answer}
 use Rattle.tc_explore.specs.declared.witness.Witness.{Witness}
 use Rattle.tc_explore.specs.Told.{is_found}
-use Rattle.tc_explore.specs.Course.{goes_on, turn, taken, IsTurn, IsCourse}
-use Rattle.tc_explore.specs.Found.{IsOn, CannotGo}
+use Rattle.tc_explore.specs.Course.{goes_on, turn, IsTurn, IsCourse}
+use Rattle.tc_explore.specs.Inside.Going.{taken, IsOn, CannotGo}
 use Rattle.tc_explore.specs.Inside.Simulation.{is_spent, IsCovered, GoesOn, IsClosedFor}
 use Rattle.tc_explore.specs.Inside.Seen.{IsSeen, IsLonger, StandsOn, IsAfter, IsRunClosed}
 use Rattle.tc_explore.proofs.Seeing.{closed_for_longer, covered_by}

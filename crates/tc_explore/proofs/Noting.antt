@@ -9,7 +9,8 @@ use Rattle.tc_verdict.specs.Verdict.{level_of}
 use Rattle.tc_step.specs.Steps.{ScriptView}
 use Rattle.tc_table.proofs.Deciding.{self_equal}
 use Rattle.tc_explore.specs.declared.witness.Witness.{Witness}
-use Rattle.tc_explore.specs.Found.{IsWitness, IsOnce, AreNoted}
+use Rattle.tc_explore.specs.Found.{IsWitness, IsOnce}
+use Rattle.tc_explore.specs.Inside.Going.{AreNoted}
 use Rattle.tc_explore.specs.Told.{is_found}
 
 or_yes : (t : Bool) → (t || true) ≡ true

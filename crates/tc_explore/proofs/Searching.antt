@@ -14,8 +14,8 @@ use Rattle.tc_table.specs.History.{comp_of, is_alive_type}
 use Rattle.tc_table.specs.Local.{overall}
 use Rattle.tc_table.specs.Answers.{answer}
 use Rattle.tc_table.proofs.Sound.{plain_if}
-use Rattle.tc_explore.specs.Course.{stand, wake_or, call_of, steps_in, script_of, taken, IsTurn, IsCourse}
-use Rattle.tc_explore.specs.Found.{IsOn}
+use Rattle.tc_explore.specs.Course.{stand, wake_or, call_of, steps_in, script_of, IsTurn, IsCourse}
+use Rattle.tc_explore.specs.Inside.Going.{taken, IsOn}
 use Rattle.tc_explore.specs.Inside.Alike.{IsAlike}
 use Rattle.tc_explore.specs.Inside.Simulation.{is_quiet, is_late, is_met, is_spent, IsQuietAt, IsWakeOf, call_at, IsFollowed, IsFor, IsEnd, IsSilent}
 use Rattle.tc_explore.specs.Inside.Seen.{StandsOn}

@@ -11,7 +11,7 @@ use Rattle.tc_table.specs.Answers.{is_active}
 use Rattle.tc_explore.specs.declared.witness.Witness.{Witness}
 use Rattle.tc_explore.specs.Told.{is_found}
 use Rattle.tc_explore.specs.Course.{stand, IsCourse}
-use Rattle.tc_explore.specs.Found.{IsOn}
+use Rattle.tc_explore.specs.Inside.Going.{IsOn}
 use Rattle.tc_explore.specs.Inside.Simulation.{IsCovered, GoesOn, IsClosed}
 use Rattle.tc_explore.specs.Inside.Seen.{IsSeen, IsLonger, StandsOn, IsRunClosed}
 use Rattle.tc_explore.specs.Laws.{IsClosedAt, AreClosed, AllFound}

@@ -8,8 +8,8 @@ use Rattle.tc_entry.specs.declared.op.Op.TheVariants as O
 use Rattle.tc_entry.specs.Reply.{is_ok}
 use Rattle.tc_table.specs.History.{started_on, starts_run}
 use Rattle.tc_table.proofs.Deciding.{self_equal, equal_if, if_same}
-use Rattle.tc_explore.specs.Course.{Stand, next, next_for, after_other_by}
-use Rattle.tc_explore.specs.Found.{TakesIn, TakesInFor}
+use Rattle.tc_explore.specs.Course.{Stand, next, after_other_by}
+use Rattle.tc_explore.specs.Inside.Going.{next_for, TakesIn, TakesInFor}
 
 untouched_by : (o : Option Comp) (e : Entry) (b : ℕ) (s : Stand) → started_on e b ≡ None → after_other_by o e b s ≡ s
 untouched_by (Some c) e b s h = refl

@@ -8,8 +8,8 @@ use Rattle.tc_entry.specs.declared.reply.Reply.TheVariants as R
 use Rattle.tc_step.specs.Steps.{ScriptView}
 use Rattle.tc_table.specs.Answers.{answer}
 use Rattle.tc_table.specs.Case.{Case, past_of}
-use Rattle.tc_explore.specs.Course.{turn, taken, is_wake, is_idle_by, IsTurn, IsCourse}
-use Rattle.tc_explore.specs.Found.{IsOn, CannotGo}
+use Rattle.tc_explore.specs.Course.{turn, is_wake, is_idle_by, IsTurn, IsCourse}
+use Rattle.tc_explore.specs.Inside.Going.{taken, IsOn, CannotGo}
 
 -- a call that is the run's next, and no idle Wake, is its turn
 pub turn_taken : (scripts : List ScriptView) (past : List Entry) (n : ℕ) (run : Run) (op : Op) → n ≡ length scripts → turn scripts past run.0 ≡ Some op → is_idle_by op (answer n past run.0 op) ≡ false → IsTurn scripts past (taken n past run op)

@@ -85,10 +85,6 @@ after_other_by None e b s = started (started_on e b) (arguments e.op b) s
 abbrev pub next : Entry → ℕ → Stand → Stand
 next e b s = if e.caller.0 == b then after_own e s else after_other_by s.comp e b s
 
--- after one more entry, for run r alone
-abbrev pub next_for : ℕ → Entry → ℕ → Stand → Stand
-next_for r e b s = if r == b then next e b s else s
-
 -- what is known of run b
 abbrev pub stand : List Entry → ℕ → Stand
 stand [] b = opening b
@@ -155,10 +151,6 @@ pub record IsTurn (scripts : List ScriptView) (past : List Entry) (e : Entry) : 
   pub turn : turn scripts past e.caller.0 ≡ Some e.op
   pub reply : e.reply ≡ answer (length scripts) past e.caller.0 e.op
   pub not_idle : is_idle e ≡ false
-
--- the entry of this call, with the component table's reply
-abbrev pub taken : ℕ → List Entry → Run → Op → Entry
-taken n past run op = record { caller = run; op = op; reply = answer n past run.0 op }
 
 -- a course of the test case whose run b has the b-th of these scripts
 abbrev pub IsCourse : List ScriptView → List Entry → Type 0

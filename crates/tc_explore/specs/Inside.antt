@@ -2,3 +2,4 @@
 pub mod Alike
 pub mod Simulation
 pub mod Seen
+pub mod Going

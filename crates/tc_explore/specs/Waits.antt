@@ -54,10 +54,6 @@ target_words history past (T.One c) = comp_words history c.0 ++ phase_words (pha
 target_words history past T.Any = codes "any"
 target_words history past T.All = codes "all"
 
--- where the state stands for past entries, their text is appended
-abbrev pub AppendsBy : {A E : Type 0} → Result A E → Kept → (List ℕ) → (List ℕ) → (List Entry → List ℕ) → Type 0
-AppendsBy result state before after text = (past : List Entry) → StandsFor state past → OnOk result (after ≡ before ++ text past)
-
 -- the component of a run and what it waits for, if a Wake is to come
 abbrev pub awaited_by : Option Comp → Option Op → Option (Comp × Awaited)
 awaited_by (Some c) (Some (O.Wake killed target)) = Some (c, record { killed = killed; target = target })

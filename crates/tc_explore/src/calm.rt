@@ -5,7 +5,7 @@ ghost use Rattle.tc_entry.specs.declared.op.Op.TheVariants.{Finish};
 ghost use Rattle.tc_entry.specs.Reply as reply;
 ghost use Rattle.tc_table.specs.Case.{past_of};
 ghost use Rattle.tc_table.specs.Answers as answers;
-ghost use Rattle.tc_explore.specs.Found.{IsOn};
+ghost use Rattle.tc_explore.specs.Inside.Going.{IsOn};
 ghost use Rattle.tc_explore.specs.Inside.Simulation as moves;
 ghost use Rattle.tc_explore.specs.Inside.Seen.{StandsOn};
 

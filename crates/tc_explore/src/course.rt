@@ -8,7 +8,7 @@ ghost use Rattle.tc_table.specs.History as history;
 ghost use Rattle.tc_table.specs.Phases as phases;
 ghost use Rattle.tc_table.specs.Faults as faults;
 ghost use Rattle.tc_explore.specs.Course as courses;
-ghost use Rattle.tc_explore.specs.Found as found;
+ghost use Rattle.tc_explore.specs.Inside.Going as going;
 
 use crate::entries::has_gone_on;
 use crate::standing::Standing;
@@ -30,7 +30,7 @@ pub(crate) struct Course {
 
 impl Model for Course {
     ghost use Rattle.tc_table.specs.Case.{Case};
-    ghost use Rattle.tc_explore.specs.Found.{IsKept, IsCounted};
+    ghost use Rattle.tc_explore.specs.Inside.Going.{IsKept, IsCounted};
 
     ghost Value = { Case };
 
@@ -65,7 +65,7 @@ fn copied_standings(alloc: Global, standings: &[Standing]) -> Result<Vec<Standin
 // Takes one more entry in for this run.
 fn take_in_for(standings: &mut Vec<Standing>, entry: &Entry, run: Run) -> Result<(), NoMemory>
     ensures as_many { length standings.new.items ≡ length standings.old.items }
-    ensures one { OnOk result (found.TakesInFor run.0 entry.now standings.old.items standings.new.items) }
+    ensures one { OnOk result (going.TakesInFor run.0 entry.now standings.old.items standings.new.items) }
 {
     let at = usize::from(run.0);
     if at < standings.len() {
@@ -78,7 +78,7 @@ fn take_in_for(standings: &mut Vec<Standing>, entry: &Entry, run: Run) -> Result
 #[tactic(auto, using(crate::proofs::Taking::taking_rules))]
 fn take_in_all(standings: &mut Vec<Standing>, entry: &Entry) -> Result<(), NoMemory>
     ensures as_many { length standings.new.items ≡ length standings.old.items }
-    ensures each { OnOk result (found.TakesIn entry.now standings.old.items standings.new.items) }
+    ensures each { OnOk result (going.TakesIn entry.now standings.old.items standings.new.items) }
 {
     take_in_for(standings, entry, entry.caller)?;
     match &entry.op {
@@ -95,7 +95,7 @@ fn take_in_all(standings: &mut Vec<Standing>, entry: &Entry) -> Result<(), NoMem
 // Counts a call that was carried out.
 fn count_in(carried: &mut Vec<usize>, entry: &Entry) -> Result<(), NoMemory>
     ensures as_many { length carried.new.items ≡ length carried.old.items }
-    ensures each { OnOk result (found.CountsOn entry.now carried.old.items carried.new.items) }
+    ensures each { OnOk result (going.CountsOn entry.now carried.old.items carried.new.items) }
 {
     let at = usize::from(entry.caller.0);
     if at < carried.len() && has_gone_on(entry.reply) {
@@ -180,7 +180,7 @@ impl Course {
     /// The course with one more call. Where memory is refused it is lost.
     pub(crate) fn with(self, run: Run, op: Op) -> Result<Course, NoMemory>
         ensures behaviours { IfOk result (λ c. c.behaviours ≡ self.behaviours) }
-        ensures added { IfOk result (λ c. past_of c ≡ courses.taken self.behaviours (past_of self) run op ∷ past_of self) }
+        ensures added { IfOk result (λ c. past_of c ≡ going.taken self.behaviours (past_of self) run op ∷ past_of self) }
     {
         let Course {
             table,

@@ -1,7 +1,8 @@
 //! What a search has found so far.
 ghost use Rattle.std.specs.Prelude.{◌≡◌, ◌≤◌, [], IfOk, length};
 ghost use Rattle.tc_entry.specs.declared.limits.TheConstants.{BEHAVIOURS};
-ghost use Rattle.tc_explore.specs.Found.{IsOn, AreReached};
+ghost use Rattle.tc_explore.specs.Found.{AreReached};
+ghost use Rattle.tc_explore.specs.Inside.Going.{IsOn};
 ghost use Rattle.tc_explore.specs.Inside.Seen.{IsNoted};
 
 use crate::course::Course;

@@ -4,7 +4,8 @@ ghost use Rattle.std.specs.Prelude.{◌≡◌, ◌≤◌, ◌<◌, ◌∷◌, tr
 ghost use Rattle.tc_entry.specs.declared.limits.TheConstants.{BEHAVIOURS};
 ghost use Rattle.tc_table.specs.Case.{past_of};
 ghost use Rattle.tc_explore.specs.Course as courses;
-ghost use Rattle.tc_explore.specs.Found.{IsOn, IsNext};
+ghost use Rattle.tc_explore.specs.Inside.Going as going;
+ghost use Rattle.tc_explore.specs.Inside.Going.{IsOn, IsNext};
 ghost use Rattle.tc_explore.specs.Inside.Simulation as moves;
 ghost use Rattle.tc_explore.specs.Laws.{IsClosedAt, AreClosed, AllFound};
 ghost use Rattle.tc_explore.specs.Inside.Seen.{IsSeen, IsLonger, IsNoted, IsCallClosed, IsRunOfClosed, AreRunsClosed, IsCaseClosed};
@@ -88,7 +89,7 @@ fn with_call(
     requires on { IsOn scripts.now course.now }
     requires turn { IsNext scripts.now course.now run op }
     ensures on { IfOk result (λ c. IsOn scripts.now c) }
-    ensures added { IfOk result (λ c. past_of c ≡ courses.taken course.now.behaviours (past_of course.now) run op ∷ past_of course.now) }
+    ensures added { IfOk result (λ c. past_of c ≡ going.taken course.now.behaviours (past_of course.now) run op ∷ past_of course.now) }
 {
     course.copied(alloc)?.with(run, op)
 }

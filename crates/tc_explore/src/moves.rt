@@ -1,7 +1,7 @@
 //! Which courses the search goes on with: calls that nobody else can tell apart are made as late as they may be.
 ghost use Rattle.std.specs.Prelude.{◌≤◌, IfOk, length};
 ghost use Rattle.tc_entry.specs.declared.limits.TheConstants.{BEHAVIOURS};
-ghost use Rattle.tc_explore.specs.Found.{IsOn};
+ghost use Rattle.tc_explore.specs.Inside.Going.{IsOn};
 
 use crate::course::Course;
 use crate::quiet::is_quiet_within;

@@ -3,7 +3,7 @@ ghost use Rattle.std.specs.Prelude.{◌≡◌, ◌≤◌, IsTrue, length};
 ghost use Rattle.tc_entry.specs.declared.limits.TheConstants.{BEHAVIOURS};
 ghost use Rattle.tc_table.specs.Case.{past_of};
 ghost use Rattle.tc_table.specs.Faults as faults;
-ghost use Rattle.tc_explore.specs.Found.{IsOn};
+ghost use Rattle.tc_explore.specs.Inside.Going.{IsOn};
 ghost use Rattle.tc_explore.specs.Inside.Seen.{IsSame, HasSameComps, HasSameKinds, HasSamePhases, HasSameStands, phase_code, comp_code};
 
 use crate::course::Course;

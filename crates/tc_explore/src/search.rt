@@ -1,7 +1,8 @@
 //! The search with reductions: fast, and what it finds is sound; nothing is proved of what it may miss.
 ghost use Rattle.std.specs.Prelude.{◌≡◌, ◌≤◌, false, IfOk, IfSome, OnOk, length};
 ghost use Rattle.tc_entry.specs.declared.limits.TheConstants.{BEHAVIOURS};
-ghost use Rattle.tc_explore.specs.Found.{IsOn, IsWitness, AreNoted};
+ghost use Rattle.tc_explore.specs.Found.{IsWitness};
+ghost use Rattle.tc_explore.specs.Inside.Going.{IsOn, AreNoted};
 ghost use Rattle.tc_explore.specs.Inside.Seen.{IsLonger, IsNoted};
 
 use crate::course::Course;

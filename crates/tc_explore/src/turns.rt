@@ -4,7 +4,7 @@ ghost use Rattle.tc_entry.specs.declared.limits.TheConstants.{BEHAVIOURS};
 ghost use Rattle.tc_table.specs.Answers as answers;
 ghost use Rattle.tc_table.specs.Case.{past_of};
 ghost use Rattle.tc_explore.specs.Course as courses;
-ghost use Rattle.tc_explore.specs.Found.{IsOn, IsNext, CannotGo};
+ghost use Rattle.tc_explore.specs.Inside.Going.{IsOn, IsNext, CannotGo};
 
 use crate::course::Course;
 use crate::entries::is_wake;

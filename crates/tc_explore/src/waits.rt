@@ -3,7 +3,8 @@ ghost use Rattle.std.specs.Prelude.{◌≡◌, ◌≤◌, ◌++◌, OnOk, revers
 ghost use Rattle.tc_entry.specs.declared.limits.TheConstants.{BEHAVIOURS};
 ghost use Rattle.tc_table.specs.Legal.{IsLegal};
 ghost use Rattle.tc_table.specs.Standing.{StandsFor};
-ghost use Rattle.tc_explore.specs.Waits.{AppendsBy, awaited_words, is_stuck as is_stuck_reply, phase_words, stand_line, stuck_place as place_of_stuck, target_words, wait_line, wait_lines, waiter_words, waits_text, wake_line, where_words};
+ghost use Rattle.tc_explore.specs.Waits.{awaited_words, is_stuck as is_stuck_reply, phase_words, stand_line, stuck_place as place_of_stuck, target_words, wait_line, wait_lines, waiter_words, waits_text, wake_line, where_words};
+ghost use Rattle.tc_explore.specs.Inside.Going.{AppendsBy};
 
 use crate::components::append_comp;
 use crate::standing::Standing;

@@ -7,8 +7,8 @@ use Rattle.tc_program.specs.declared.outcome.Outcome.{Outcome}
 use Rattle.tc_stream.specs.declared.input.InputFault.{InputFault}
 use Rattle.tc_stream.specs.declared.input.InputFault.TheVariants as I
 use Rattle.tc_program.specs.Choosing.{RefusesShard}
-use Rattle.tc_program.specs.Explained.{HoldsText, IsRead, IsRefusalBy, IsRefusalOf, KeepsText}
-use Rattle.tc_program.specs.Inside.{of_input}
+use Rattle.tc_program.specs.Explained.{HoldsText, IsRead, IsRefusalOf, KeepsText}
+use Rattle.tc_program.specs.Inside.{of_input, IsRefusalBy}
 use Rattle.tc_program.specs.Run.{RefusesWord}
 
 -- what is told of the bytes that were kept is told of the input

@@ -19,7 +19,7 @@ use Rattle.tc_program.specs.declared.judge.Judgement.{Judgement}
 use Rattle.tc_program.specs.declared.judge.Judgement.TheVariants as J
 use Rattle.tc_program.specs.declared.judge.Playing.{Playing}
 use Rattle.tc_program.specs.Check.{IsJudgement, judges_legal, judgement_line}
-use Rattle.tc_program.specs.Inside.{IsPlayed, IsPlayedTo}
+use Rattle.tc_program.specs.Inside.{IsPlayed, IsPlayedTo, HasOneEach, Summarizes}
 use Rattle.tc_program.specs.declared.fault.RunFault.{RunFault}
 use Rattle.tc_program.specs.declared.fault.RunFault.TheVariants as F
 use Rattle.tc_program.specs.declared.outcome.Outcome.{Outcome}
@@ -29,7 +29,6 @@ use Rattle.tc_program.specs.Report.{AreAllLegal, IsFoundIllegal, IsReport, Repor
 use Rattle.tc_program.specs.Streams.{Streams}
 use Rattle.tc_program.specs.Tell.{IsSilent, IsTold}
 use Rattle.tc_program.specs.WrittenHistories.{IsOutside, WasRun, WereRun, block_of, blocks_of}
-use Rattle.tc_program.specs.Reporting.{HasOneEach, Summarizes}
 use Rattle.tc_program.proofs.Checking.{passed_more, printed_more, whole}
 use Rattle.tc_program.proofs.WrittenHistories.{IsRight, are_right, no_difference, only_legal}
 

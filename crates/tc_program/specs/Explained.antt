@@ -46,9 +46,3 @@ abbrev pub IsRefusalOf : Bool → Bool → Option (List ℕ) → Option (List �
 IsRefusalOf explains moves input untold told outcome fault =
     MatchOption (explained explains moves fault) (IsRefusal untold told outcome fault)
     (λ what. (text : List ℕ) × IfSome input (λ given. text ≡ given) × IsExplained untold told outcome fault text what)
-
--- the same of bytes that were kept of the input
-abbrev pub IsRefusalBy : Bool → Bool → List ℕ → Option (List ℕ) → Option (List ℕ) → Outcome → RunFault → Type 0
-IsRefusalBy explains moves kept untold told outcome fault =
-    MatchOption (explained explains moves fault) (IsRefusal untold told outcome fault)
-    (λ what. IsExplained untold told outcome fault kept what)

@@ -1,5 +1,5 @@
 -- What the functions inside of the program say, which no public clause names.
-use Rattle.std.specs.Prelude.{ℕ, ◌≡◌, ◌+◌, Bool, true, false, Option, Some, None, Result, MatchResult, List, [], ◌∷◌, ◌++◌, length, map, reverse}
+use Rattle.std.specs.Prelude.{ℕ, ◌≡◌, ◌+◌, Bool, true, false, Option, Some, None, Result, MatchResult, List, [], ◌∷◌, ◌++◌, length, map, reverse, MatchOption}
 use Rattle.std.specs.Global.{Vec}
 use Rattle.std.specs.List.{flat_map}
 use Rattle.clap.specs.declared.error.kind.ErrorKind.{ErrorKind}
@@ -27,10 +27,19 @@ use Rattle.tc_program.specs.declared.judge.Playing.{Playing}
 use Rattle.tc_program.specs.declared.outcome.Outcome.{Outcome}
 use Rattle.tc_program.specs.declared.replay.Replaying.{Replaying}
 use Rattle.tc_program.specs.Answer.{IsNoTask}
-use Rattle.tc_program.specs.Check.{Checks, IsJudgement, IsOtherReply}
+use Rattle.tc_program.specs.Check.{Checks, IsJudgement, IsOtherReply, judgement_line, judges_legal}
 use Rattle.tc_program.specs.Replay.{move_of, reply_line}
 use Rattle.tc_program.specs.Scripted.{CaseView, names_of, scripts_of}
 use Rattle.tc_program.specs.Streams.{held}
+use Rattle.tc_program.specs.Tell.{IsRefusal}
+use Rattle.tc_program.specs.Explained.{IsExplained, explained}
+use Rattle.std.specs.Io.KnownBytes.{Appends}
+use Rattle.tc_command.specs.declared.task.ReportForm.{ReportForm}
+use Rattle.tc_forms.specs.declared.summary.Summary.{Summary}
+use Rattle.tc_forms.specs.Summary.{block_summary}
+use Rattle.tc_program.specs.declared.report.Reporting.{Reporting}
+use Rattle.tc_program.specs.Give.{LeavesUnwritten}
+use Rattle.tc_program.specs.Report.{form_of}
 
 -- the fault for an input that could not be read whole
 abbrev pub of_input : InputFault → RunFault
@@ -111,3 +120,31 @@ ShowsNoTask contents w w' lines e e' kind outcome = IsNoTask kind (held contents
 -- the line of a test case in a list
 abbrev pub case_line : {B : Type 0} → Case B → List ℕ
 case_line k = k.name ++ (10 ∷ [])
+
+-- the same of bytes that were kept of the input
+abbrev pub IsRefusalBy : Bool → Bool → List ℕ → Option (List ℕ) → Option (List ℕ) → Outcome → RunFault → Type 0
+IsRefusalBy explains moves kept untold told outcome fault =
+    MatchOption (explained explains moves fault) (IsRefusal untold told outcome fault)
+    (λ what. IsExplained untold told outcome fault kept what)
+
+-- the text has as many histories as there are test cases
+abbrev pub HasOneEach : List ℕ → List Summary → Type 0
+HasOneEach text ss = (blocks : List Block) → AreHistories text blocks → length ss ≡ length blocks
+
+-- by this fault their form was not written whole
+abbrev pub LeavesForm : ReportForm → List ℕ → List Summary → Option (List ℕ) → Option (List ℕ) → RunFault → Type 0
+LeavesForm form text ss before after fault = (blocks : List Block) → AreHistories text blocks → LeavesUnwritten before after (form_of form ss blocks) fault
+
+-- a text of histories is refused for want of memory alone, and else this is made of them
+abbrev pub ReportsText : List ℕ → Result Reporting RunFault → Type 0
+ReportsText text result =
+    (blocks : List Block) → AreHistories text blocks → MatchResult result (λ r. Summarizes blocks r.summaries.items r.illegal) (λ fault. fault ≡ F.NoMemory)
+
+-- these are the test cases of the blocks, each of which is found legal; or this is the judgement of the first that is not
+abbrev pub Summarizes : List Block → List Summary → Option Judgement → Type 0
+Summarizes blocks ss None = ((lines : List ℕ) × Feeds blocks lines true) × (ss ≡ map block_summary blocks)
+Summarizes blocks ss (Some j) = (judges_legal j ≡ false) × ((lines : List ℕ) × Feeds blocks (lines ++ judgement_line j) false)
+
+-- the form of these test cases and of the histories of the text was written
+abbrev pub WritesForm : ReportForm → List ℕ → List Summary → Option (List ℕ) → Option (List ℕ) → Type 0
+WritesForm form text ss before after = (blocks : List Block) → AreHistories text blocks → Appends before after (form_of form ss blocks)

@@ -1,7 +1,8 @@
 //! A fault of an input that is explained: its line on standard error, and behind it what the text says there.
 ghost use Rattle.std.specs.Prelude.{◌≡◌, ◌++◌, IfOk, IfErr, OnOk};
 ghost use Rattle.tc_explain.specs.Explanation.{explanation};
-ghost use Rattle.tc_program.specs.Explained.{explained, IsRefusalBy, refusal_of as refusal_by};
+ghost use Rattle.tc_program.specs.Explained.{explained, refusal_of as refusal_by};
+ghost use Rattle.tc_program.specs.Inside.{IsRefusalBy};
 ghost use Rattle.tc_program.specs.Fault.{line_of};
 ghost use Rattle.tc_program.specs.Tell.{IsSilent, IsTold};
 

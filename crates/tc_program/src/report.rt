@@ -5,10 +5,9 @@ ghost use Rattle.tc_history.specs.declared.read.Block.{Block as AnyBlock};
 ghost use Rattle.tc_chart.specs.Chart.{chart_of};
 ghost use Rattle.tc_forms.specs.Status.{status_of_summaries};
 ghost use Rattle.tc_program.specs.Explained.{KeepsText};
-ghost use Rattle.tc_program.specs.Inside.{IsPlayed, RefusesHistory};
+ghost use Rattle.tc_program.specs.Inside.{IsPlayed, RefusesHistory, HasOneEach, LeavesForm, ReportsText, Summarizes, WritesForm};
 ghost use Rattle.tc_program.specs.Limits.{HasAtMost, history_limit};
 ghost use Rattle.tc_program.specs.Report.{RefusesReport, Reports, ReportsRun, form_of, illegal_line};
-ghost use Rattle.tc_program.specs.Reporting.{HasOneEach, LeavesForm, ReportsText, Summarizes, WritesForm};
 ghost use Rattle.tc_program.specs.Streams.{held};
 ghost use Rattle.tc_program.specs.Tell.{IsTold};
 

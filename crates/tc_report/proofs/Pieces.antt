@@ -12,7 +12,8 @@ use Rattle.tc_verdict.proofs.Order.{worst-more}
 use Rattle.tc_stream.specs.Output.{AppendsPrefix}
 use Rattle.tc_report.specs.declared.form.Form.{Form}
 use Rattle.tc_report.specs.declared.results.Finished.{Finished}
-use Rattle.tc_report.specs.Live.{LiveState, IsWritten, Writes, one_if, part_text, tally_with, text_so_far}
+use Rattle.tc_report.specs.Live.{LiveState, IsWritten, Writes, one_if, part_text, tally_with}
+use Rattle.tc_report.specs.Inside.{text_so_far}
 use Rattle.tc_report.specs.Observers.{AreTaken, IsEndedAt}
 use Rattle.tc_report.specs.Status.{overall_of, worst_overall}
 use Rattle.tc_report.specs.Tally.{cases_of, tally_of_cases}

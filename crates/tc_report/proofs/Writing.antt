@@ -10,7 +10,8 @@ use Rattle.tc_report.specs.declared.form.Form.{Form}
 use Rattle.tc_report.specs.declared.form.Form.TheVariants as F
 use Rattle.tc_report.specs.declared.results.CampaignEnd.{CampaignEnd}
 use Rattle.tc_report.specs.declared.results.Finished.{Finished}
-use Rattle.tc_report.specs.Live.{closing_text, form_text, part_text, text_so_far}
+use Rattle.tc_report.specs.Live.{closing_text, form_text, part_text}
+use Rattle.tc_report.specs.Inside.{text_so_far}
 use Rattle.tc_report.specs.Output.{LeavesPrefix}
 use Rattle.tc_report.specs.Tally.{tally_of_cases}
 

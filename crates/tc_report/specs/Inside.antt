@@ -1,9 +1,13 @@
 -- What a CSV writer over memory has written, which no public clause names.
-use Rattle.std.specs.Prelude.{ℕ, ◌≡◌, false, List, ◌++◌}
+use Rattle.std.specs.Prelude.{ℕ, ◌≡◌, false, List, ◌++◌, ◌+◌}
 use Rattle.std.specs.Global.{Vec}
 use Rattle.csv.specs.declared.writer.Writer.{Writer}
 use Rattle.csv.specs.Writing.{default_writer, writer_setup, fields_written, has_written, writer_under, writer_pending}
 use Rattle.tc_report.specs.Csv.{header_text}
+use Rattle.std.specs.List.{flat_map}
+use Rattle.tc_report.specs.declared.form.Form.{Form}
+use Rattle.tc_report.specs.declared.results.Finished.{Finished}
+use Rattle.tc_report.specs.Live.{opening_text, part_text}
 
 -- the bytes in memory, and then those that the writer holds back
 abbrev pub written_by : Writer (Vec ℕ) → List ℕ
@@ -19,3 +23,7 @@ pub record IsBetweenRecords (w : Writer (Vec ℕ)) : Type 0 where
 pub record IsStarted (w : Writer (Vec ℕ)) : Type 0 where
   pub between : IsBetweenRecords w
   pub header : written_by w ≡ header_text
+
+-- what of it stands up to the last of these test cases
+abbrev pub text_so_far : Form → List Finished → List ℕ
+text_so_far form fs = opening_text form ++ flat_map (part_text form) fs

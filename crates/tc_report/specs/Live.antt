@@ -44,10 +44,6 @@ closing_text F.Text tally ending = tally_line tally ++ ending_line ending
 closing_text F.Csv tally ending = []
 closing_text F.History tally ending = []
 
--- what of it stands up to the last of these test cases
-abbrev pub text_so_far : Form → List Finished → List ℕ
-text_so_far form fs = opening_text form ++ flat_map (part_text form) fs
-
 -- one where it is so, else none
 abbrev pub one_if : Bool → ℕ
 one_if true = 1

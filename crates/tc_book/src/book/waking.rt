@@ -5,7 +5,8 @@ ghost use Rattle.tc_entry.specs.declared.reply.Reply.TheVariants as replies;
 ghost use Rattle.tc_table.specs.Laws as laws;
 ghost use Rattle.tc_book.specs.OpenCase.{has_wake, places_after, reply_to, with_entry, without_wake};
 ghost use Rattle.tc_book.specs.Replies.{suits};
-ghost use Rattle.tc_book.specs.Waking.{NobodyWakes, WouldPark, goes_on};
+ghost use Rattle.tc_book.specs.Waking.{NobodyWakes, WouldPark};
+ghost use Rattle.tc_book.specs.Inside.{goes_on};
 ghost use Rattle.tc_merge.specs.Merge.{is_verdict_call};
 
 use crate::book::Book;

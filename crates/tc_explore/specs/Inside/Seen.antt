@@ -16,9 +16,10 @@ use Rattle.tc_table.specs.Answers.{is_active}
 use Rattle.tc_explore.specs.declared.witness.Witness.{Witness}
 use Rattle.tc_explore.specs.declared.findings.Findings.{Findings}
 use Rattle.tc_explore.specs.declared.full.Full.{Full}
-use Rattle.tc_explore.specs.Found.{AreNoted, AreReached}
+use Rattle.tc_explore.specs.Found.{AreReached}
 use Rattle.tc_explore.specs.Told.{is_found}
-use Rattle.tc_explore.specs.Course.{stand, goes_on, taken, IsTurn, IsCourse}
+use Rattle.tc_explore.specs.Course.{stand, goes_on, IsTurn, IsCourse}
+use Rattle.tc_explore.specs.Inside.Going.{taken, AreNoted}
 use Rattle.tc_explore.specs.Inside.Alike.{IsAlike}
 use Rattle.tc_explore.specs.Inside.Simulation.{IsFor, IsCovered, IsClosedFor, IsClosed}
 

@@ -1,6 +1,6 @@
 use Rattle.std.proofs.Common.{◌≡◌, ◌++◌, take, reverse}
 use Rattle.tc_chart.specs.Chart.{entries_text}
-use Rattle.tc_chart.specs.Runs.{AreOn}
+use Rattle.tc_chart.specs.Inside.{AreOn}
 use Rattle.tc_chart.proofs.chart.append_entries.Given as goal
 
 abbrev pub invariant-loop-entry : goal.invariant-loop-entry

@@ -4,7 +4,7 @@ use Rattle.clap.specs.Simple.{is_simple}
 use Rattle.clap.specs.Words.{subcommand_of}
 use Rattle.clap.specs.declared.error.kind.ErrorKind.TheVariants.{OutOfMemory}
 use Rattle.tc_command.specs.Asked.{asked, asked_by, faults}
-use Rattle.tc_command.specs.Refusal.{IsRefusedBy}
+use Rattle.tc_command.specs.Inside.{IsRefusedBy}
 use Rattle.tc_command.proofs.Refusals.{parse_refuses, taken_refuses, told}
 use Rattle.tc_command.proofs.read.read_task.Goals as goal
 

@@ -1,4 +1,4 @@
-use Rattle.tc_explore.specs.Found.{IsOn}
+use Rattle.tc_explore.specs.Inside.Going.{IsOn}
 use Rattle.tc_explore.specs.Inside.Seen.{StandsOn}
 use Rattle.tc_explore.proofs.calm.calmed.Given as goal
 

@@ -2,7 +2,8 @@ use Rattle.std.proofs.Common.{rules, ◌≡◌, ◌∷◌, false}
 use Rattle.tc_entry.specs.Reply.{is_ended, is_fault}
 use Rattle.tc_table.specs.Case.{past_of}
 use Rattle.tc_table.specs.Answers.{answer}
-use Rattle.tc_explore.specs.Course.{IsTurn, taken}
+use Rattle.tc_explore.specs.Course.{IsTurn}
+use Rattle.tc_explore.specs.Inside.Going.{taken}
 use Rattle.tc_explore.specs.Inside.Simulation.{IsSilent}
 use Rattle.tc_explore.proofs.Searching.{lead_call}
 use Rattle.tc_explore.proofs.calm.with_silent_call.Goals as goal

@@ -1,5 +1,5 @@
 use Rattle.std.proofs.Common.{◌<◌, ℕ, All}
-use Rattle.tc_explore.specs.Found.{IsOn}
+use Rattle.tc_explore.specs.Inside.Going.{IsOn}
 use Rattle.tc_explore.specs.Inside.Seen.{IsLonger, IsNoted}
 use Rattle.tc_explore.specs.Laws.{IsClosedAt}
 use Rattle.tc_explore.proofs.full.expand_all.Given as goal

@@ -1,7 +1,7 @@
 use Rattle.std.proofs.Common.{rules}
 use Rattle.std.proofs.lemmas.List.Elements.{All-push}
 use Rattle.tc_table.specs.Case.{past_of}
-use Rattle.tc_explore.specs.Found.{IsOn}
+use Rattle.tc_explore.specs.Inside.Going.{IsOn}
 use Rattle.tc_explore.specs.Inside.Seen.{IsSame}
 use Rattle.tc_explore.proofs.Seeing.{seen_last}
 use Rattle.tc_explore.proofs.full.place.Goals as goal

@@ -1,6 +1,6 @@
 use Rattle.std.proofs.Common.{◌≡◌, ◌<◌, ℕ, true, All}
 use Rattle.tc_table.specs.Case.{past_of}
-use Rattle.tc_explore.specs.Found.{IsOn}
+use Rattle.tc_explore.specs.Inside.Going.{IsOn}
 use Rattle.tc_explore.specs.Inside.Simulation.{GoesOn}
 use Rattle.tc_explore.specs.Inside.Seen.{IsLonger, IsNoted, IsRunClosed}
 use Rattle.tc_explore.proofs.full.try_runs.Given as goal

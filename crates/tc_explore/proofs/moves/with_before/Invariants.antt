@@ -1,4 +1,4 @@
-use Rattle.tc_explore.specs.Found.{IsOn}
+use Rattle.tc_explore.specs.Inside.Going.{IsOn}
 use Rattle.tc_explore.proofs.moves.with_before.Given as goal
 
 abbrev pub invariant-loop-run : goal.invariant-loop-run

@@ -4,7 +4,7 @@ use Rattle.tc_program.specs.Streams.{held}
 use Rattle.tc_program.proofs.Reporting.{keeps_same, made_none, none_illegal, one_each, refused_report, reported, unwritten, written_reported}
 use Rattle.tc_program.specs.WrittenHistories.{blocks_of}
 use Rattle.tc_program.proofs.WrittenHistories.{written_read}
-use Rattle.tc_program.specs.Reporting.{Summarizes}
+use Rattle.tc_program.specs.Inside.{Summarizes}
 use Rattle.tc_program.proofs.report.report.Goals as goal
 
 pub returns-in_err-summaries-clause-written : goal.returns-in_err-summaries-clause-written

@@ -1,0 +1,67 @@
+-- What only the code of the search needs: no public clause rests on a word of this file.
+use Rattle.std.specs.Prelude.{ℕ, ◌==◌, List, ◌≡◌, ◌<◌, length, slice_index_or, ◌++◌, Result, OnOk}
+use Rattle.tc_verdict.specs.declared.run.Run.{Run}
+use Rattle.tc_entry.specs.declared.entry.Entry.{Entry}
+use Rattle.tc_entry.specs.declared.op.Op.{Op}
+use Rattle.tc_table.specs.Answers.{answer}
+use Rattle.tc_explore.specs.Course.{Stand, next, stand, one_more_if, carried, IsTurn, IsCourse}
+use Rattle.tc_step.specs.Steps.{ScriptView}
+use Rattle.tc_table.specs.Case.{Case, past_of}
+use Rattle.tc_explore.specs.declared.witness.Witness.{Witness}
+use Rattle.tc_explore.specs.Found.{AreWitnesses, IsOnce}
+use Rattle.tc_table.specs.Standing.{Kept, StandsFor}
+
+-- after one more entry, for run r alone
+abbrev pub next_for : ℕ → Entry → ℕ → Stand → Stand
+next_for r e b s = if r == b then next e b s else s
+
+-- the entry of this call, with the component table's reply
+abbrev pub taken : ℕ → List Entry → Run → Op → Entry
+taken n past run op = record { caller = run; op = op; reply = answer n past run.0 op }
+
+-- a case that is at a course of these scripts
+pub record IsOn (scripts : List ScriptView) (t : Case) : Type 0 where
+  pub behaviours : t.behaviours ≡ length scripts
+  pub course : IsCourse scripts (past_of t)
+
+-- in a case at a course of these scripts the run makes this call next
+abbrev pub IsNext : List ScriptView → Case → Run → Op → Type 0
+IsNext scripts t run op = IsTurn scripts (past_of t) (taken t.behaviours (past_of t) run op)
+
+-- run b has no call left, or only a Wake that would be parked again
+abbrev pub CannotGo : List ScriptView → List Entry → ℕ → Type 0
+CannotGo scripts past b = (e : Entry) → e.caller.0 ≡ b → IsTurn scripts past e → ⊥
+
+-- what is kept of each run is what the entries say
+pub record IsKept (t : Case) (standings : List Stand) : Type 0 where
+  pub as_many : length standings ≡ t.behaviours
+  pub each : (b : ℕ) (d : Stand) → b < t.behaviours → slice_index_or standings b d ≡ stand (past_of t) b
+
+-- each of these is what was known of its run, and one more entry
+abbrev pub TakesIn : Entry → List Stand → List Stand → Type 0
+TakesIn e before after =
+    (b : ℕ) (d : Stand) → b < length before → slice_index_or after b d ≡ next e b (slice_index_or before b d)
+
+-- what was known of run r is followed by what is known of it after one more entry; of all others the same is known
+abbrev pub TakesInFor : ℕ → Entry → List Stand → List Stand → Type 0
+TakesInFor r e before after =
+    (b : ℕ) (d : Stand) → b < length before → slice_index_or after b d ≡ next_for r e b (slice_index_or before b d)
+
+-- what is kept is how many calls each run has carried out
+pub record IsCounted (t : Case) (counts : List ℕ) : Type 0 where
+  pub as_many : length counts ≡ t.behaviours
+  pub each : (b : ℕ) → b < t.behaviours → slice_index_or counts b 0 ≡ carried (past_of t) b
+
+-- each of these numbers is what it was, one more for the caller of an entry that has gone on
+abbrev pub CountsOn : Entry → List ℕ → List ℕ → Type 0
+CountsOn e before after =
+    (b : ℕ) → b < length before → slice_index_or after b 0 ≡ one_more_if (e.caller.0 == b) e (slice_index_or before b 0)
+
+-- each is a witness, and no verdict has two
+pub record AreNoted (scripts : List ScriptView) (found : List Witness) : Type 0 where
+  pub sound : AreWitnesses scripts found
+  pub once : IsOnce found
+
+-- where the state stands for past entries, their text is appended
+abbrev pub AppendsBy : {A E : Type 0} → Result A E → Kept → (List ℕ) → (List ℕ) → (List Entry → List ℕ) → Type 0
+AppendsBy result state before after text = (past : List Entry) → StandsFor state past → OnOk result (after ≡ before ++ text past)
