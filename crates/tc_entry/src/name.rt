@@ -42,7 +42,7 @@ impl PartialEq for Name {
     ghost laws = { partial_equiv_from_equiv nat_list_eq_equiv };
 
     fn eq(&self, other: &Name) -> bool {
-        self.same(other)
+        self.bytes() == other.bytes()
     }
 }
 
