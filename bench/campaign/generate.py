@@ -1,9 +1,12 @@
 #!/usr/bin/env python3
-"""Prints a script: `many` test cases, or one with `verdicts` or `status` calls or `stopped` at once. The report of each is the same at every run.
+"""Prints a script: `many` test cases, or one with `verdicts` or `status` calls, with runs `parked` beside them, or `stopped` at once.
+
+The report of each is the same at every run.
 
 many      1,000 test cases of two behaviours: a component is created, started and waited for; its behaviour sets pass.
 verdicts  one test case of 64 behaviours of 1,000 steps, nearly all setverdict and getverdict in turn.
 status    the same with running, alive, done and killed.
+parked_N  64 behaviours, of which N wait until the last one has ended, the main one among them; the others make 1,000 status calls.
 stopped   as verdicts, but the first step ends the test case.
 """
 import sys
@@ -47,8 +50,21 @@ def one(steps, first=()):
     yield 'end'
 
 
+def parked(count):
+    workers = range(1, BEHAVIOURS)
+    last = BEHAVIOURS - 1
+    yield 'testcase t_parked'
+    yield from behaviour('main', [*(f'create p{number}' for number in workers),
+                                  *(f'start p{number} w{number} p{last}' for number in workers), 'wait done all'])
+    for number in workers:
+        steps = ['wait done last'] if number < count else turns(STATUS, STEPS)
+        yield from behaviour(f'w{number} last', steps)
+    yield 'end'
+
+
 def main():
-    scripts = {'many': many(), 'verdicts': one(VERDICTS), 'status': one(STATUS), 'stopped': one(VERDICTS, ['stop mtc'])}
+    scripts = {'many': many(), 'verdicts': one(VERDICTS), 'status': one(STATUS), 'stopped': one(VERDICTS, ['stop mtc']),
+               **{f'parked_{count}': parked(count) for count in (1, 8, 32)}}
     sys.stdout.write(''.join(line + '\n' for line in scripts[sys.argv[1]]))
 
 
