@@ -1,5 +1,5 @@
 -- Who wakes by an entry.
-use Rattle.std.specs.Prelude.{ℕ, ◌≡◌, ◌||◌, not, Bool, false, Option, Some, None, is_some}
+use Rattle.std.specs.Prelude.{ℕ, ◌≡◌, Bool}
 use Rattle.tc_verdict.specs.declared.run.Run.{Run}
 use Rattle.tc_entry.specs.declared.op.Op.TheVariants as O
 use Rattle.tc_entry.specs.declared.op.Target.{Target}
@@ -7,9 +7,6 @@ use Rattle.tc_entry.specs.declared.reply.Reply.TheVariants as R
 use Rattle.tc_table.specs.History.{is_over}
 use Rattle.tc_book.specs.OpenCase.{OpenCase, past_of, reply_to}
 use Rattle.tc_book.specs.Starts.{start_of}
-use Rattle.tc_book.specs.Replies.{is_parked}
-use Rattle.tc_book.specs.declared.until.Until.{Until}
-use Rattle.tc_book.specs.declared.until.Until.TheVariants as U
 
 -- the run's Wake would be parked again, if it were made now
 abbrev pub WouldPark : OpenCase → Run → Bool → Target → Type 0

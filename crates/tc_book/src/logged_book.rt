@@ -1,5 +1,5 @@
 //! The book behind the lock. Whatever is added to its history is added to the log of its caller in the same call.
-ghost use Rattle.std.specs.Prelude.{◌≡◌, ◌≢◌, ◌≤◌, ◌+◌, [], true, false, IfOk, OnOk, OnErr, IfErr, IfSome, IfNone, OnSome, IsTrue, IsFalse, Some, None, is_none, replicate, set, slice_index_or};
+ghost use Rattle.std.specs.Prelude.{◌≡◌, ◌≢◌, ◌≤◌, ◌+◌, true, false, IfOk, OnOk, OnErr, IfErr, IfSome, IfNone, OnSome, IsTrue, IsFalse, Some, None, is_none, replicate, set, slice_index_or};
 ghost use Rattle.tc_entry.specs.declared.op.Op.TheVariants as ops;
 ghost use Rattle.tc_entry.specs.declared.reply.Reply.TheVariants as replies;
 ghost use Rattle.tc_table.specs.History as history;

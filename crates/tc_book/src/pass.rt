@@ -1,5 +1,5 @@
 //! The pass of a started run: what its behaviour calls the case by.
-ghost use Rattle.std.specs.Prelude.{◌≡◌, ◌≤◌, [], true, false, IfOk, Some, None, if◌then◌else◌};
+ghost use Rattle.std.specs.Prelude.{◌≡◌, ◌≤◌, [], true, false, IfOk, Some, None};
 ghost use Rattle.tc_entry.specs.declared.op.Op.TheVariants as ops;
 ghost use Rattle.tc_entry.specs.declared.reply.Reply.{Reply};
 ghost use Rattle.tc_entry.specs.declared.reply.Reply.TheVariants as replies;

@@ -1,5 +1,5 @@
 -- The message sequence chart of histories: one chart, in which the test cases stand below one another.
-use Rattle.std.specs.Prelude.{ℕ, ◌+◌, ◌-◌, ◌*◌, ◌==◌, nat_lt, max, if◌then◌else◌, Option, Some, None, List, [], ◌∷◌, ◌++◌, length, map, reverse, zero, suc, codes}
+use Rattle.std.specs.Prelude.{ℕ, ◌+◌, ◌-◌, ◌*◌, ◌==◌, nat_lt, max, if◌then◌else◌, Option, Some, None, List, [], ◌∷◌, ◌++◌, length, reverse, zero, suc, codes}
 use Rattle.std.specs.List.{flat_map, zip}
 use Rattle.std.specs.Fmt.{decimal}
 use Rattle.tc_verdict.specs.declared.verdict.Verdict.{Verdict}
@@ -17,7 +17,6 @@ use Rattle.tc_report.specs.declared.results.CaseEnd.TheVariants as C
 use Rattle.tc_report.specs.Csv.{end_word}
 use Rattle.tc_forms.specs.declared.summary.Summary.{Summary}
 use Rattle.tc_forms.specs.Status.{counted_as}
-use Rattle.tc_forms.specs.Summary.{block_summary}
 use Rattle.tc_chart.specs.declared.arcs.Mark.TheVariants as M
 use Rattle.tc_chart.specs.declared.arcs.Piece.TheVariants as P
 use Rattle.tc_chart.specs.Arcs.{behind_label, between_text, label_end, line_text, piece}

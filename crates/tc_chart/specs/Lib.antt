@@ -1,6 +1,5 @@
 -- The definitions that the contracts of this crate cite.
 pub mod Arcs
 pub mod Entries
-pub mod Runs
 pub mod Chart
 pub mod Inside

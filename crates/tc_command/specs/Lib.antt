@@ -2,6 +2,5 @@
 pub mod Command
 pub mod Asked
 pub mod Lines
-pub mod Refusal
 pub mod Stray
 pub mod Inside

@@ -1,6 +1,5 @@
 //! Why options that the command has ask for nothing.
 ghost use Rattle.std.specs.Prelude.{◌≡◌, IfOk};
-ghost use Rattle.clap.specs.Built.{BuildsOrBreaks, is_broken};
 ghost use Rattle.tc_command.specs.Inside.{IsToldBy};
 
 use clap::error::ErrorKind;

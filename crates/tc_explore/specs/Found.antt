@@ -1,15 +1,12 @@
 -- What is found of a test case: the overall verdicts of its complete courses.
-use Rattle.std.specs.Prelude.{ℕ, ◌≡◌, ◌==◌, ◌<◌, List, length, reverse, slice_index_or, All}
-use Rattle.tc_verdict.specs.declared.run.Run.{Run}
+use Rattle.std.specs.Prelude.{ℕ, ◌≡◌, ◌<◌, List, length, reverse, slice_index_or, All}
 use Rattle.tc_verdict.specs.declared.verdict.Verdict.{Verdict}
 use Rattle.tc_entry.specs.declared.entry.Entry.{Entry}
-use Rattle.tc_entry.specs.declared.op.Op.{Op}
 use Rattle.tc_step.specs.Steps.{ScriptView}
 use Rattle.tc_table.specs.Local.{overall}
 use Rattle.tc_table.specs.Legal.{IsLegal}
-use Rattle.tc_table.specs.Case.{Case, past_of}
 use Rattle.tc_explore.specs.declared.witness.Witness.{Witness}
-use Rattle.tc_explore.specs.Course.{Stand, stand, next, one_more_if, carried, IsTurn, IsCourse, IsComplete}
+use Rattle.tc_explore.specs.Course.{carried, IsCourse, IsComplete}
 
 -- this list, the oldest entry first, is a complete course that ends with this verdict
 pub record IsWitness (scripts : List ScriptView) (history : List Entry) (v : Verdict) : Type 0 where

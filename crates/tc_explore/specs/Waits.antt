@@ -1,5 +1,5 @@
 -- Who waits for whom in a witness that ends since no run can go on.
-use Rattle.std.specs.Prelude.{ℕ, suc, ◌≡◌, if◌then◌else◌, nat_lt, Bool, true, false, Option, Some, None, List, [], ◌∷◌, ◌++◌, codes, length, take, reverse, Result, OnOk}
+use Rattle.std.specs.Prelude.{ℕ, suc, if◌then◌else◌, nat_lt, Bool, true, false, Option, Some, None, List, [], ◌∷◌, ◌++◌, codes, length, take, reverse}
 use Rattle.std.specs.List.{flat_map, range_with_len}
 use Rattle.std.specs.Fmt.{decimal}
 use Rattle.tc_entry.specs.declared.comp.Comp.{Comp}
@@ -16,7 +16,6 @@ use Rattle.tc_entry.specs.declared.reply.Reply.TheVariants as R
 use Rattle.tc_table.specs.declared.awaited.Awaited.{Awaited}
 use Rattle.tc_table.specs.Answers.{is_active}
 use Rattle.tc_table.specs.Phases.{phase_if_any}
-use Rattle.tc_table.specs.Standing.{Kept, StandsFor}
 use Rattle.tc_explore.specs.declared.witness.Witness.{Witness}
 use Rattle.tc_explore.specs.Components.{comp_words}
 use Rattle.tc_explore.specs.Course.{Stand, stand}

@@ -1,5 +1,5 @@
 //! The turns of runs.
-ghost use Rattle.std.specs.Prelude.{◌≡◌, ◌≤◌, ◌<◌, ◌↔◌, ℕ, true, IfOk, IfNone, IfSome, MatchOption, IsTrue, All, length};
+ghost use Rattle.std.specs.Prelude.{◌≡◌, ◌≤◌, ◌<◌, ◌↔◌, true, IfOk, IfNone, IfSome, IsTrue, length};
 ghost use Rattle.tc_entry.specs.declared.limits.TheConstants.{BEHAVIOURS};
 ghost use Rattle.tc_table.specs.Answers as answers;
 ghost use Rattle.tc_table.specs.Case.{past_of};

@@ -18,5 +18,4 @@ pub mod Check
 pub mod Inside
 pub mod WrittenHistories
 pub mod Report
-pub mod Reporting
 pub mod Terminal

@@ -1,5 +1,5 @@
 //! The subcommand `report`.
-ghost use Rattle.std.specs.Prelude.{◌≡◌, ◌++◌, ℕ, List, IfOk, IfErr, OnOk, OnErr, codes, MatchResult};
+ghost use Rattle.std.specs.Prelude.{◌≡◌, ◌++◌, List, IfOk, IfErr, OnOk, OnErr};
 ghost use Rattle.tc_history.specs.Text.{AreHistories, IsMadeOf};
 ghost use Rattle.tc_history.specs.declared.read.Block.{Block as AnyBlock};
 ghost use Rattle.tc_chart.specs.Chart.{chart_of};
