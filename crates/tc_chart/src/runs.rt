@@ -13,7 +13,7 @@ pub(crate) struct RunComps {
     comps: Vec<Option<Comp>>,
 }
 
-#[tactic(auto, unfolding(crate::specs::Runs::AreOn))]
+#[tactic(auto, unfolding(crate::specs::Inside::AreOn))]
 impl RunComps {
     /// At the opening, run 0 is on the main component.
     pub(crate) fn new(alloc: Global) -> Result<RunComps, NoMemory>
