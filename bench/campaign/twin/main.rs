@@ -1,16 +1,21 @@
 //! The job of `ttrun run` in plain Rust, written for speed, to be measured beside it.
-mod entry;
 mod run;
 mod script;
-mod table;
+#[path = "../../twin/mod.rs"]
+mod twin;
 
-use crate::entry::{Verdict, put, put_number, put_op, put_reply};
 use crate::run::{Report, run_case};
 use crate::script::{Case, read_script};
-use std::io::{Read, Write};
+use crate::twin::entry::{Entry, Verdict, put, put_number, put_op, put_reply};
+use crate::twin::streams;
+use std::io::Read;
 use std::process::ExitCode;
 
-const VERDICTS: [Verdict; 5] = [Verdict::None, Verdict::Pass, Verdict::Inconc, Verdict::Fail, Verdict::Error];
+fn put_entry(out: &mut Vec<u8>, entry: &Entry) {
+    put_op(out, &entry.op);
+    put(out, " -> ");
+    put_reply(out, entry.reply);
+}
 
 fn put_case(out: &mut Vec<u8>, case: &Case, report: &Report) {
     put(out, "testcase ");
@@ -24,9 +29,7 @@ fn put_case(out: &mut Vec<u8>, case: &Case, report: &Report) {
         put_number(out, log.comp);
         for entry in &log.entries {
             put(out, "\n  ");
-            put_op(out, &entry.op);
-            put(out, " -> ");
-            put_reply(out, entry.reply);
+            put_entry(out, entry);
         }
     }
     for (comp, verdict) in (0..).zip(&report.locals) {
@@ -50,9 +53,7 @@ fn put_history(out: &mut Vec<u8>, case: &Case, report: &Report) {
         put(out, "\n");
         put_number(out, u32::from(entry.run));
         put(out, " ");
-        put_op(out, &entry.op);
-        put(out, " -> ");
-        put_reply(out, entry.reply);
+        put_entry(out, entry);
     }
     put(out, "\nend ");
     put(out, report.verdict.name());
@@ -62,7 +63,7 @@ fn put_history(out: &mut Vec<u8>, case: &Case, report: &Report) {
 fn put_tally(out: &mut Vec<u8>, verdicts: &[Verdict]) {
     put(out, "cases ");
     put_number(out, verdicts.len() as u32);
-    for verdict in VERDICTS {
+    for verdict in Verdict::ALL {
         put(out, " ");
         put(out, verdict.name());
         put(out, " ");
@@ -92,10 +93,6 @@ fn main() -> ExitCode {
     if !is_history {
         put_tally(&mut out, &verdicts);
     }
-    std::io::stdout().write_all(&out).expect("standard output is written");
-    ExitCode::from(match verdicts.iter().max() {
-        None | Some(Verdict::None | Verdict::Pass) => 0,
-        Some(Verdict::Inconc | Verdict::Fail) => 1,
-        Some(Verdict::Error) => 2,
-    })
+    streams::print(&out);
+    ExitCode::from(verdicts.iter().max().map_or(0, |worst| worst.status()))
 }

@@ -1,8 +1,8 @@
 //! Runs a test case: each behaviour on a thread of its own, an atomic byte for the verdict of each, one lock around the
 //! table with the history of all other calls, and one condition that is notified after each entry.
-use crate::entry::{Args, Entry, Op, Reply, Target, Verdict};
 use crate::script::{Behaviour, Place, Status, Step, TargetPlace};
-use crate::table::Table;
+use crate::twin::entry::{Args, Entry, Op, Reply, Target, Verdict};
+use crate::twin::table::Table;
 use std::sync::atomic::{AtomicU8, Ordering};
 use std::sync::{Condvar, Mutex};
 use std::thread;

@@ -1,5 +1,5 @@
 //! Reads a script. Names are resolved; a script with a fault is refused without saying which.
-use crate::entry::{MOST_ARGUMENTS, Verdict};
+use crate::twin::entry::{MOST_ARGUMENTS, Verdict};
 use std::collections::HashMap;
 
 #[derive(Clone, Copy)]

@@ -11,6 +11,9 @@ pub enum Verdict {
 }
 
 impl Verdict {
+    /// From best to worst.
+    pub const ALL: [Verdict; 5] = [Verdict::None, Verdict::Pass, Verdict::Inconc, Verdict::Fail, Verdict::Error];
+
     pub fn name(self) -> &'static str {
         match self {
             Verdict::None => "none",
@@ -22,30 +25,26 @@ impl Verdict {
     }
 
     pub fn named(word: &[u8]) -> Option<Verdict> {
-        Some(match word {
-            b"none" => Verdict::None,
-            b"pass" => Verdict::Pass,
-            b"inconc" => Verdict::Inconc,
-            b"fail" => Verdict::Fail,
-            b"error" => Verdict::Error,
-            _ => return None,
-        })
+        Verdict::ALL.into_iter().find(|verdict| verdict.name().as_bytes() == word)
     }
 
     /// The verdict at this place from best to worst.
     pub fn of_rank(rank: u8) -> Verdict {
-        match rank {
-            0 => Verdict::None,
-            1 => Verdict::Pass,
-            2 => Verdict::Inconc,
-            3 => Verdict::Fail,
-            _ => Verdict::Error,
-        }
+        Verdict::ALL[usize::from(rank.min(Verdict::Error as u8))]
     }
 
     /// The verdict that a user may set by this name.
     pub fn settable(word: &[u8]) -> Option<Verdict> {
         Verdict::named(word).filter(|verdict| *verdict != Verdict::Error)
+    }
+
+    /// The exit status of a program whose worst verdict this is.
+    pub fn status(self) -> u8 {
+        match self {
+            Verdict::None | Verdict::Pass => 0,
+            Verdict::Inconc | Verdict::Fail => 1,
+            Verdict::Error => 2,
+        }
     }
 }
 
@@ -92,6 +91,48 @@ pub enum Op {
 }
 
 #[derive(Clone, Copy, PartialEq, Eq)]
+pub enum Fault {
+    NoComponent,
+    NotMain,
+    StartMain,
+    AlreadyRunning,
+    NotStartable,
+    NoBehaviour,
+    TooMany,
+    Stuck,
+}
+
+impl Fault {
+    const ALL: [Fault; 8] = [
+        Fault::NoComponent,
+        Fault::NotMain,
+        Fault::StartMain,
+        Fault::AlreadyRunning,
+        Fault::NotStartable,
+        Fault::NoBehaviour,
+        Fault::TooMany,
+        Fault::Stuck,
+    ];
+
+    fn name(self) -> &'static str {
+        match self {
+            Fault::NoComponent => "no-component",
+            Fault::NotMain => "not-main",
+            Fault::StartMain => "start-main",
+            Fault::AlreadyRunning => "already-running",
+            Fault::NotStartable => "not-startable",
+            Fault::NoBehaviour => "no-behaviour",
+            Fault::TooMany => "too-many",
+            Fault::Stuck => "stuck",
+        }
+    }
+
+    pub fn named(word: &[u8]) -> Option<Fault> {
+        Fault::ALL.into_iter().find(|fault| fault.name().as_bytes() == word)
+    }
+}
+
+#[derive(Clone, Copy, PartialEq, Eq)]
 pub enum Reply {
     Made(u32),
     Ok,
@@ -100,7 +141,7 @@ pub enum Reply {
     Matched,
     Parked,
     Ended,
-    Fault(&'static str),
+    Fault(Fault),
 }
 
 #[derive(Clone, Copy)]
@@ -110,10 +151,12 @@ pub struct Entry {
     pub reply: Reply,
 }
 
+#[inline]
 pub fn put(out: &mut Vec<u8>, text: &str) {
     out.extend_from_slice(text.as_bytes());
 }
 
+#[inline]
 pub fn put_number(out: &mut Vec<u8>, mut number: u32) {
     let mut digits = [0u8; 10];
     let mut at = 10;
@@ -172,6 +215,7 @@ pub fn put_op(out: &mut Vec<u8>, op: &Op) {
     }
 }
 
+#[inline]
 pub fn put_reply(out: &mut Vec<u8>, reply: Reply) {
     match reply {
         Reply::Made(comp) => {
@@ -187,7 +231,7 @@ pub fn put_reply(out: &mut Vec<u8>, reply: Reply) {
         Reply::Ended => put(out, "ended"),
         Reply::Fault(fault) => {
             put(out, "error ");
-            put(out, fault);
+            put(out, fault.name());
         }
     }
 }

@@ -1,5 +1,5 @@
 //! The component table: phases, counts, excuses, waits and local verdicts.
-use crate::entry::{Op, Reply, Target, Verdict};
+use super::entry::{Fault, Op, Reply, Target, Verdict};
 
 const MOST_COMPONENTS: usize = 1000;
 
@@ -33,6 +33,7 @@ pub struct Table {
     killed: usize,
     lapsed: usize,
     over: bool,
+    worst: Verdict,
 }
 
 impl Table {
@@ -46,7 +47,7 @@ impl Table {
             excused: false,
             local: Verdict::None,
         };
-        Table { comps: vec![main], runs, running: 0, done: 0, killed: 0, lapsed: 0, over: false }
+        Table { comps: vec![main], runs, running: 0, done: 0, killed: 0, lapsed: 0, over: false, worst: Verdict::None }
     }
 
     pub fn is_over(&self) -> bool {
@@ -62,7 +63,7 @@ impl Table {
     }
 
     pub fn overall(&self) -> Verdict {
-        self.locals().max().unwrap_or(Verdict::None)
+        self.worst
     }
 
     fn count(&mut self, comp: usize, up: bool) {
@@ -87,6 +88,7 @@ impl Table {
         }
     }
 
+    #[inline(always)]
     fn halt(&mut self, comp: usize, kill: bool, outside: bool) {
         self.count(comp, false);
         let of = &mut self.comps[comp];
@@ -116,6 +118,7 @@ impl Table {
     fn give(&mut self, comp: usize, verdict: Verdict) {
         let local = &mut self.comps[comp].local;
         *local = verdict.max(*local);
+        self.worst = verdict.max(self.worst);
     }
 
     fn known(&self, target: Target) -> bool {
@@ -197,37 +200,37 @@ impl Table {
         self.active(run).is_some() && !self.holds(killed, target) && !(run == 0 && self.is_stuck())
     }
 
-    fn start_fault(&self, comp: u32, run: u16, args: &[u32]) -> Option<&'static str> {
+    fn start_fault(&self, comp: u32, run: u16, args: &[u32]) -> Option<Fault> {
         if args.iter().any(|c| *c as usize >= self.comps.len()) {
-            return Some("no-component");
+            return Some(Fault::NoComponent);
         }
         if comp == 0 {
-            return Some("start-main");
+            return Some(Fault::StartMain);
         }
         match self.comps[comp as usize].phase {
-            Phase::Running(_) => return Some("already-running"),
-            Phase::Killed => return Some("not-startable"),
+            Phase::Running(_) => return Some(Fault::AlreadyRunning),
+            Phase::Killed => return Some(Fault::NotStartable),
             Phase::Inactive | Phase::Stopped => {}
         }
         match self.runs.get(usize::from(run)) {
             Some(state) if state.comp.is_none() => None,
-            _ => Some("no-behaviour"),
+            _ => Some(Fault::NoBehaviour),
         }
     }
 
-    fn fault(&self, run: u16, op: &Op) -> Option<&'static str> {
+    fn fault(&self, run: u16, op: &Op) -> Option<Fault> {
         let named = match op {
             Op::Stop(t) | Op::Kill(t) | Op::Running(t) | Op::Alive(t) | Op::Done(t) | Op::Killed(t) => *t,
             Op::Wait { target, .. } | Op::Wake { target, .. } => *target,
             Op::Start { comp, .. } => Target::One(*comp),
-            Op::Create { .. } if self.comps.len() >= MOST_COMPONENTS => return Some("too-many"),
+            Op::Create { .. } if self.comps.len() >= MOST_COMPONENTS => return Some(Fault::TooMany),
             _ => return None,
         };
         if !self.known(named) {
-            return Some("no-component");
+            return Some(Fault::NoComponent);
         }
         if !matches!(named, Target::One(_)) && run != 0 {
-            return Some("not-main");
+            return Some(Fault::NotMain);
         }
         match op {
             Op::Start { comp, run: started, args } => self.start_fault(*comp, *started, args.as_slice()),
@@ -236,6 +239,7 @@ impl Table {
     }
 
     /// Makes a call.
+    #[inline]
     pub fn play(&mut self, run: u16, op: &Op) -> Reply {
         let own = self.active(run);
         if let Some(state) = self.runs.get_mut(usize::from(run)) {
@@ -260,7 +264,7 @@ impl Table {
             Op::Wake { killed, target } => {
                 self.runs[usize::from(run)].waits = Some((*killed, *target));
                 if run == 0 && !self.holds(*killed, *target) && self.is_stuck() {
-                    return self.fail(own, "stuck");
+                    return self.fail(own, Fault::Stuck);
                 }
                 self.wait(run, *killed, *target)
             }
@@ -280,7 +284,7 @@ impl Table {
         }
     }
 
-    fn fail(&mut self, own: usize, fault: &'static str) -> Reply {
+    fn fail(&mut self, own: usize, fault: Fault) -> Reply {
         self.give(own, Verdict::Error);
         self.end(own, None);
         Reply::Fault(fault)
