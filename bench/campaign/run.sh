@@ -1,5 +1,5 @@
 #!/usr/bin/env bash
-# Times `ttrun run` beside a plain Rust program of the same job, on four scripts, and compares their reports.
+# Times `ttrun run` beside a plain Rust program of the same job, on seven scripts, and compares their reports.
 set -eu
 here=$(cd "$(dirname "${BASH_SOURCE[0]}")" && pwd)
 top=$here/../..
@@ -12,8 +12,9 @@ program=$top/crates/ttrun/out/ttrun
 rustc --edition 2024 -O "$here/twin/main.rs" -o "$work/twin"
 rustc --edition 2024 -O "$here/measure.rs" -o "$work/measure"
 
-declare -A counts=([many]=1000 [verdicts]=63873 [status]=63873 [stopped]=64000)
-for script in many verdicts status stopped; do
+declare -A counts=([many]=1000 [verdicts]=63873 [status]=63873 [stopped]=64000 [parked_1]=63000 [parked_8]=56000 [parked_32]=32000)
+scripts=(many verdicts status parked_1 parked_8 parked_32 stopped)
+for script in "${scripts[@]}"; do
     python3 "$here/generate.py" "$script" > "$work/$script"
     "$program" run < "$work/$script" > "$work/ours"
     "$work/twin" < "$work/$script" > "$work/theirs"
@@ -21,6 +22,6 @@ for script in many verdicts status stopped; do
 done
 echo "| script | ttrun, ms | twin, ms | ratio | ttrun, ns each | twin, ns each | ttrun, MiB | twin, MiB |"
 echo "|---|---|---|---|---|---|---|---|"
-for script in many verdicts status stopped; do
+for script in "${scripts[@]}"; do
     "$work/measure" "$script" "${counts[$script]}" "$rounds" "$work/$script" "$program" run -- "$work/twin"
 done

@@ -18,9 +18,12 @@ cp "$top/HANDLES" "$work/"
 cp "$here/times.rt.txt" "$work/crates/times/src/main.rt"
 
 (cd "$work/crates/times" && rt run) > "$work/first.txt" 2> "$work/log.txt" || { cat "$work/log.txt"; exit 1; }
-rustc --edition 2024 -O -o "$work/twin" "$here/twin.rs"
+for name in twin threads; do
+    rustc --edition 2024 -O -o "$work/$name" "$here/$name.rs"
+done
 for _ in $(seq "$rounds"); do
     "$work/crates/times/out/times" >> "$work/ours.txt"
     "$work/twin" >> "$work/theirs.txt"
+    "$work/threads" >> "$work/threads.txt"
 done
-python3 "$here/medians.py" "$work/ours.txt" "$work/theirs.txt"
+python3 "$here/medians.py" "$work/ours.txt" "$work/theirs.txt" "$work/threads.txt"
