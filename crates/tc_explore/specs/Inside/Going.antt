@@ -1,5 +1,5 @@
 -- What only the code of the search needs: no public clause rests on a word of this file.
-use Rattle.std.specs.Prelude.{ℕ, ◌==◌, List, ◌≡◌, ◌<◌, length, slice_index_or, ◌++◌, Result, OnOk}
+use Rattle.std.specs.Prelude.{ℕ, ◌==◌, List, ◌≡◌, ◌<◌, length, slice_index_or, ◌++◌, Result, OnOk, if◌then◌else◌}
 use Rattle.tc_verdict.specs.declared.run.Run.{Run}
 use Rattle.tc_entry.specs.declared.entry.Entry.{Entry}
 use Rattle.tc_entry.specs.declared.op.Op.{Op}
