@@ -108,6 +108,11 @@ RefusesHistory text (F.Text fault) = IsHistoryFault text fault
 RefusesHistory text F.NoMemory = Unit {0}
 RefusesHistory text fault = ⊥
 
+-- these are the test cases of the blocks, each of which is found legal; or this is the judgement of the first that is not
+abbrev pub Summarizes : List Block → List Summary → Option Judgement → Type 0
+Summarizes blocks ss None = ((lines : List ℕ) × Feeds blocks lines true) × (ss ≡ map block_summary blocks)
+Summarizes blocks ss (Some j) = (judges_legal j ≡ false) × ((lines : List ℕ) × Feeds blocks (lines ++ judgement_line j) false)
+
 -- a text of histories is refused for want of memory alone, and else this is what is printed for them, and whether all are legal
 abbrev pub ChecksText : List ℕ → Result (Vec ℕ × Bool) RunFault → Type 0
 ChecksText text result =
@@ -139,11 +144,6 @@ LeavesForm form text ss before after fault = (blocks : List Block) → AreHistor
 abbrev pub ReportsText : List ℕ → Result Reporting RunFault → Type 0
 ReportsText text result =
     (blocks : List Block) → AreHistories text blocks → MatchResult result (λ r. Summarizes blocks r.summaries.items r.illegal) (λ fault. fault ≡ F.NoMemory)
-
--- these are the test cases of the blocks, each of which is found legal; or this is the judgement of the first that is not
-abbrev pub Summarizes : List Block → List Summary → Option Judgement → Type 0
-Summarizes blocks ss None = ((lines : List ℕ) × Feeds blocks lines true) × (ss ≡ map block_summary blocks)
-Summarizes blocks ss (Some j) = (judges_legal j ≡ false) × ((lines : List ℕ) × Feeds blocks (lines ++ judgement_line j) false)
 
 -- the form of these test cases and of the histories of the text was written
 abbrev pub WritesForm : ReportForm → List ℕ → List Summary → Option (List ℕ) → Option (List ℕ) → Type 0
