@@ -11,6 +11,7 @@ use tc_entry::{Args, Comp, Entry, Group, NoMemory, Op, Reply, Run, Target, UserV
 use tc_verdict::from_user;
 
 const SETTINGS: u32 = 1_000;
+
 const SETTERS: u16 = 64;
 
 /// The worst verdict that a run sets, and the better one that it sets all other times.

@@ -242,15 +242,7 @@ fn run_told<R: Threads + Wait + Copy + Send + 'static, E: Write>(
     };
     let cases = vec![in alloc; passing(rt, alloc, good)?, empty(alloc, bad)]?;
     let mut written = Vec::new(alloc);
-    Ok(run_as(
-        rt,
-        alloc,
-        cases,
-        options,
-        live,
-        &mut written,
-        errors,
-    )?)
+    Ok(run_as(rt, alloc, cases, options, live, &mut written, errors)?)
 }
 
 #[test]
