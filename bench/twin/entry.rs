@@ -1,7 +1,7 @@
 //! What a history is made of, and the text of it.
 pub const MOST_ARGUMENTS: usize = 4;
 
-#[derive(Clone, Copy, PartialEq, Eq, PartialOrd, Ord)]
+#[derive(Clone, Copy, PartialEq, Eq, PartialOrd, Ord, Debug)]
 pub enum Verdict {
     None,
     Pass,

@@ -40,14 +40,15 @@ impl Table {
     pub fn new(behaviours: usize) -> Table {
         let mut runs = vec![Run { comp: None, waits: None }; behaviours];
         runs[0].comp = Some(0);
-        let main = Comp {
+        let mut comps = Vec::with_capacity(behaviours);
+        comps.push(Comp {
             phase: Phase::Running(0),
             alive_type: false,
             started: true,
             excused: false,
             local: Verdict::None,
-        };
-        Table { comps: vec![main], runs, running: 0, done: 0, killed: 0, lapsed: 0, over: false, worst: Verdict::None }
+        });
+        Table { comps, runs, running: 0, done: 0, killed: 0, lapsed: 0, over: false, worst: Verdict::None }
     }
 
     pub fn is_over(&self) -> bool {
@@ -188,8 +189,9 @@ impl Table {
         (self.comps[comp].phase == Phase::Running(run)).then_some(comp)
     }
 
+    /// Whether no run goes on. The last ones are asked first, as they are the likeliest to.
     fn is_stuck(&self) -> bool {
-        self.runs.iter().enumerate().all(|(run, state)| {
+        self.runs.iter().enumerate().rev().all(|(run, state)| {
             self.active(run as u16).is_none()
                 || matches!(state.waits, Some((killed, target)) if !self.holds(killed, target))
         })
@@ -273,15 +275,17 @@ impl Table {
                 Reply::Ok
             }
             Op::GetVerdict => Reply::Local(self.comps[own].local),
-            Op::Finish => {
-                if run == 0 {
-                    self.end(own, None);
-                } else {
-                    self.halt(own, false, false);
-                }
-                Reply::Ok
-            }
+            Op::Finish => self.finish(own),
         }
+    }
+
+    fn finish(&mut self, own: usize) -> Reply {
+        if own == 0 {
+            self.end(own, None);
+        } else {
+            self.halt(own, false, false);
+        }
+        Reply::Ok
     }
 
     fn fail(&mut self, own: usize, fault: Fault) -> Reply {

@@ -1,11 +1,12 @@
 //! The job of `ttrun run` in plain Rust, written for speed, to be measured beside it.
-mod run;
 mod script;
+mod steps;
 #[path = "../../twin/mod.rs"]
 mod twin;
 
-use crate::run::{Report, run_case};
 use crate::script::{Case, read_script};
+use crate::steps::run_behaviours;
+use crate::twin::book::Report;
 use crate::twin::entry::{Entry, Verdict, put, put_number, put_op, put_reply};
 use crate::twin::streams;
 use std::io::Read;
@@ -82,7 +83,7 @@ fn main() -> ExitCode {
     let mut out = Vec::new();
     let mut verdicts = Vec::with_capacity(cases.len());
     for case in &cases {
-        let report = run_case(&case.behaviours);
+        let report = run_behaviours(&case.behaviours);
         if is_history {
             put_history(&mut out, case, &report);
         } else {

@@ -1,8 +1,7 @@
 //! Runs a test case: each behaviour on a thread of its own, an atomic byte for the verdict of each, one lock around the
 //! table with the history of all other calls, and one condition that is notified after each entry.
-use crate::script::{Behaviour, Place, Status, Step, TargetPlace};
-use crate::twin::entry::{Args, Entry, Op, Reply, Target, Verdict};
-use crate::twin::table::Table;
+use super::entry::{Args, Entry, Op, Reply, Target, Verdict};
+use super::table::Table;
 use std::sync::atomic::{AtomicU8, Ordering};
 use std::sync::{Condvar, Mutex};
 use std::thread;
@@ -56,7 +55,7 @@ impl Shared {
     fn new(behaviours: usize) -> Shared {
         let mut starts = vec![None; behaviours];
         starts[0] = Some((0, Args::default()));
-        let book = Book { table: Table::new(behaviours), history: Vec::new(), starts };
+        let book = Book { table: Table::new(behaviours), history: Vec::with_capacity(4 * behaviours), starts };
         let words = (0..behaviours).map(|run| AtomicU8::new(if run == 0 { 0 } else { UNBEGUN })).collect();
         Shared { words, book: Mutex::new(book), changed: Condvar::new() }
     }
@@ -86,107 +85,52 @@ impl Shared {
     }
 }
 
-struct Pass<'a> {
+/// The calls of a run. Each answers none once it has ended the run.
+pub struct Pass<'a> {
     shared: &'a Shared,
     run: u16,
-    me: u32,
-    bound: Vec<u32>,
+    pub comp: u32,
+    pub args: Args,
     log: Vec<Entry>,
-    ended: bool,
 }
 
 impl Pass<'_> {
-    fn component(&self, place: Place) -> u32 {
-        match place {
-            Place::Main => 0,
-            Place::Own => self.me,
-            Place::Bound(index) => self.bound[index],
-        }
-    }
-
-    fn target(&self, place: TargetPlace) -> Target {
-        match place {
-            TargetPlace::One(place) => Target::One(self.component(place)),
-            TargetPlace::Any => Target::Any,
-            TargetPlace::All => Target::All,
-        }
-    }
-
-    fn log(&mut self, op: Op, reply: Reply) {
+    fn log(&mut self, op: Op, reply: Reply) -> Option<Reply> {
         self.log.push(Entry { run: self.run, op, reply });
         let ends = match op {
             Op::Stop(target) | Op::Kill(target) => match target {
-                Target::One(comp) => comp == 0 || comp == self.me,
-                _ => self.me != 0,
+                Target::One(comp) => comp == 0 || comp == self.comp,
+                _ => self.comp != 0,
             },
             _ => false,
         };
-        self.ended = ends || matches!(reply, Reply::Ended | Reply::Fault(_));
+        let is_over = ends || matches!(reply, Reply::Ended | Reply::Fault(_));
+        (!is_over).then_some(reply)
     }
 
-    fn call(&mut self, op: Op) {
+    pub fn call(&mut self, op: Op) -> Option<Reply> {
         let reply = self.shared.record(self.run, op);
-        self.log(op, reply);
-        if let Reply::Made(comp) = reply {
-            self.bound.push(comp);
-        }
+        self.log(op, reply)
     }
 
-    fn set_verdict(&mut self, verdict: Verdict) {
+    pub fn set_verdict(&mut self, verdict: Verdict) -> Option<Reply> {
         let found = self.shared.words[usize::from(self.run)].fetch_max(verdict as u8, Ordering::SeqCst);
-        self.log(Op::SetVerdict(verdict), if found < CLOSED { Reply::Ok } else { Reply::Ended });
+        self.log(Op::SetVerdict(verdict), if found < CLOSED { Reply::Ok } else { Reply::Ended })
     }
 
-    fn get_verdict(&mut self) {
+    pub fn get_verdict(&mut self) -> Option<Reply> {
         let found = self.shared.words[usize::from(self.run)].load(Ordering::SeqCst);
         let reply = if found < CLOSED { Reply::Local(Verdict::of_rank(found)) } else { Reply::Ended };
-        self.log(Op::GetVerdict, reply);
+        self.log(Op::GetVerdict, reply)
     }
 
-    fn wait(&mut self, killed: bool, target: Target) {
+    pub fn wait(&mut self, killed: bool, target: Target) -> Option<Reply> {
         let op = Op::Wait { killed, target };
         let mut reply = self.shared.record(self.run, op);
         if reply == Reply::Parked {
             reply = self.shared.wake(self.run, killed, target);
         }
-        self.log(op, reply);
-    }
-
-    fn start(&mut self, on: Place, run: u16, places: &[Place]) {
-        let mut args = Args::default();
-        for place in places {
-            let _ = args.push(self.component(*place));
-        }
-        self.call(Op::Start { comp: self.component(on), run, args });
-    }
-
-    fn step(&mut self, step: &Step) {
-        match step {
-            Step::Create { alive } => self.call(Op::Create { alive: *alive }),
-            Step::Start { on, run, args } => self.start(*on, *run, args),
-            Step::Stop(place) => self.call(Op::Stop(self.target(*place))),
-            Step::Kill(place) => self.call(Op::Kill(self.target(*place))),
-            Step::Ask(Status::Running, place) => self.call(Op::Running(self.target(*place))),
-            Step::Ask(Status::Alive, place) => self.call(Op::Alive(self.target(*place))),
-            Step::Ask(Status::Done, place) => self.call(Op::Done(self.target(*place))),
-            Step::Ask(Status::Killed, place) => self.call(Op::Killed(self.target(*place))),
-            Step::Wait { killed, target } => self.wait(*killed, self.target(*target)),
-            Step::SetVerdict(verdict) => self.set_verdict(*verdict),
-            Step::GetVerdict => self.get_verdict(),
-        }
-    }
-
-    fn run(mut self, steps: &[Step]) -> RunLog {
-        for step in steps {
-            if self.ended {
-                break;
-            }
-            self.step(step);
-        }
-        if !self.ended {
-            self.call(Op::Finish);
-        }
-        RunLog { run: self.run, comp: self.me, entries: self.log }
+        self.log(op, reply)
     }
 }
 
@@ -204,11 +148,14 @@ pub struct Report {
     pub verdict: Verdict,
 }
 
-fn work(shared: &Shared, run: u16, steps: &[Step]) -> Option<RunLog> {
-    let (me, args) = shared.await_start(run)?;
-    let bound = args.as_slice().to_vec();
-    let pass = Pass { shared, run, me, bound, log: Vec::new(), ended: false };
-    Some(pass.run(steps))
+/// Makes the calls of a run once it is started, and its finish where none of them ended it.
+fn work(shared: &Shared, run: u16, job: impl FnOnce(&mut Pass) -> Option<()>) -> Option<RunLog> {
+    let (comp, args) = shared.await_start(run)?;
+    let mut pass = Pass { shared, run, comp, args, log: Vec::new() };
+    if job(&mut pass).is_some() {
+        pass.call(Op::Finish);
+    }
+    Some(RunLog { run, comp, entries: pass.log })
 }
 
 fn is_verdict_call(op: &Op) -> bool {
@@ -252,19 +199,25 @@ fn merged(history: &[Entry], behaviours: usize, logs: &[RunLog]) -> Vec<Entry> {
     all
 }
 
-pub fn run_case(behaviours: &[Behaviour]) -> Report {
-    let shared = Shared::new(behaviours.len());
-    let logs: Vec<_> = thread::scope(|scope| {
+/// Runs a case of as many behaviours as there are jobs; a job answers none where one of its calls ended its run.
+pub fn run_case<Job>(jobs: impl ExactSizeIterator<Item = Job>) -> Report
+where
+    Job: FnOnce(&mut Pass) -> Option<()> + Send,
+{
+    let behaviours = jobs.len();
+    let shared = Shared::new(behaviours);
+    let mut jobs = (0u16..).zip(jobs);
+    let mut logs = Vec::with_capacity(behaviours);
+    thread::scope(|scope| {
         let shared = &shared;
-        let workers: Vec<_> = (1u16..)
-            .zip(&behaviours[1..])
-            .map(|(run, behaviour)| scope.spawn(move || work(shared, run, &behaviour.steps)))
-            .collect();
-        let first = work(shared, 0, &behaviours[0].steps);
-        let others = workers.into_iter().map(|worker| worker.join().unwrap());
-        std::iter::once(first).chain(others).flatten().collect()
+        let first = jobs.next();
+        let workers: Vec<_> = jobs.map(|(run, job)| scope.spawn(move || work(shared, run, job))).collect();
+        logs.extend(first.and_then(|(run, job)| work(shared, run, job)));
+        for worker in workers {
+            logs.extend(worker.join().unwrap());
+        }
     });
     let Book { table, history, .. } = shared.book.into_inner().unwrap();
-    let history = merged(&history, behaviours.len(), &logs);
+    let history = merged(&history, behaviours, &logs);
     Report { history, logs, locals: table.locals().collect(), verdict: table.overall() }
 }
