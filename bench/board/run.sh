@@ -3,15 +3,9 @@
 # The program is proved, built and run in a temporary folder, beside a copy of the crates.
 set -eu
 here=$(cd "$(dirname "$0")" && pwd)
-top=$(cd "$here/../.." && pwd)
 work=$(mktemp -d)
 trap 'rm -rf "$work"' EXIT
 
-mkdir -p "$work/crates/times/src"
-cp -r "$top/crates/tc_verdict" "$top/crates/tc_board" "$work/crates/"
-cp "$top/HANDLES" "$work/"
-printf 'tc_verdict:\ntc_board: tc_verdict atomic_table\ntimes: tc_board tc_verdict\n' > "$work/crates.txt"
-cp "$here/times.rt.txt" "$work/crates/times/src/main.rt"
 for loop in set_often get_often; do
     mkdir -p "$work/crates/times/proofs/$loop"
     cat > "$work/crates/times/proofs/$loop/Invariants.antt" <<END
@@ -23,7 +17,7 @@ invariant-loop l = (l.hand.board ≡ l.board) × (l.hand.answers ≢ [])
 END
 done
 
-(cd "$work/crates/times" && rt run) > "$work/board.txt" 2> "$work/log.txt" || { cat "$work/log.txt"; exit 1; }
+"$here/../beside.sh" "$here" "$work" tc_board tc_verdict > "$work/board.txt"
 rustc --edition 2024 -O -o "$work/rust_times" "$here/times.rs"
 "$work/rust_times" > "$work/rust.txt"
 

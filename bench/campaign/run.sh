@@ -10,7 +10,7 @@ trap 'rm -rf "$work"' EXIT
 "$top/ttrun" --help > "$work/help"
 program=$top/crates/ttrun/out/ttrun
 rustc --edition 2024 -O "$here/twin/main.rs" -o "$work/twin"
-rustc --edition 2024 -O "$here/measure.rs" -o "$work/measure"
+rustc --edition 2024 -O "$here/../measure.rs" -o "$work/measure"
 
 declare -A counts=([many]=1000 [verdicts]=63873 [status]=63873 [stopped]=64000 [parked_1]=63000 [parked_8]=56000 [parked_32]=32000)
 scripts=(many verdicts status parked_1 parked_8 parked_32 stopped)

@@ -10,7 +10,7 @@ trap 'rm -rf "$work"' EXIT
 "$top/ttrun" --help > "$work/help"
 program=$top/crates/ttrun/out/ttrun
 rustc --edition 2024 -O "$here/twin.rs" -o "$work/twin"
-rustc --edition 2024 -O "$here/../campaign/measure.rs" -o "$work/measure"
+rustc --edition 2024 -O "$here/../measure.rs" -o "$work/measure"
 
 for text in one many; do
     python3 "$here/generate.py" "$text" > "$work/$text"

@@ -3,17 +3,25 @@
 set -eu
 here=$(cd "$(dirname "${BASH_SOURCE[0]}")" && pwd)
 top=$here/../..
+rounds=${1:-60}
 work=$(mktemp -d)
 trap 'rm -rf "$work"' EXIT
+
 "$top/ttrun" --help > "$work/help"
-for name in twin measure; do
-    rustc --edition 2024 -O "$here/$name.rs" -o "$work/$name"
-done
-python3 "$here/generate.py" 1048576 > "$work/whole.moves"
-python3 "$here/generate.py" 104857 > "$work/tenth.moves"
+program=$top/crates/ttrun/out/ttrun
+rustc --edition 2024 -O "$here/twin.rs" -o "$work/twin"
+rustc --edition 2024 -O "$here/../measure.rs" -o "$work/measure"
+
+python3 "$here/generate.py" 1048576 > "$work/whole"
+python3 "$here/generate.py" 104857 > "$work/tenth"
 for list in tenth whole; do
-    "$top/ttrun" replay < "$work/$list.moves" > "$work/ours" || true
-    "$work/twin" < "$work/$list.moves" > "$work/theirs" || true
+    "$program" replay < "$work/$list" > "$work/ours" || true
+    "$work/twin" < "$work/$list" > "$work/theirs" || true
     cmp "$work/ours" "$work/theirs"
 done
-"$work/measure" "$top/crates/ttrun/out/ttrun" "$work/twin" "$work/tenth.moves" "$work/whole.moves"
+echo "| move list | ttrun, ms | twin, ms | ratio | ttrun, ns a move | twin, ns a move | ttrun, MiB | twin, MiB |"
+echo "|---|---|---|---|---|---|---|---|"
+for list in tenth whole; do
+    moves=$(($(wc -l < "$work/$list") - 1))
+    "$work/measure" "$list" "$moves" "$rounds" "$work/$list" "$program" replay -- "$work/twin"
+done
