@@ -24,6 +24,7 @@ impl Verdict {
         }
     }
 
+    #[inline]
     pub fn named(word: &[u8]) -> Option<Verdict> {
         Verdict::ALL.into_iter().find(|verdict| verdict.name().as_bytes() == word)
     }
@@ -34,6 +35,7 @@ impl Verdict {
     }
 
     /// The verdict that a user may set by this name.
+    #[inline]
     pub fn settable(word: &[u8]) -> Option<Verdict> {
         Verdict::named(word).filter(|verdict| *verdict != Verdict::Error)
     }

@@ -1,5 +1,6 @@
 //! Reads a script. Names are resolved; a script with a fault is refused without saying which.
 use crate::twin::entry::{MOST_ARGUMENTS, Verdict};
+use crate::twin::words::is_killed;
 use std::collections::HashMap;
 
 #[derive(Clone, Copy)]
@@ -108,11 +109,7 @@ fn read_step<'a>(first: &str, words: &mut Words<'a>, scope: &mut Scope<'a>) -> O
         "done" => Step::Ask(Status::Done, scope.target(words.next()?)?),
         "killed" => Step::Ask(Status::Killed, scope.target(words.next()?)?),
         "wait" => {
-            let killed = match words.next()? {
-                "done" => false,
-                "killed" => true,
-                _ => return None,
-            };
+            let killed = is_killed(words.next()?.as_bytes())?;
             Step::Wait { killed, target: scope.target(words.next()?)? }
         }
         "setverdict" => Step::SetVerdict(Verdict::settable(words.next()?.as_bytes())?),
