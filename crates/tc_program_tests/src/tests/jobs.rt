@@ -219,11 +219,14 @@ fn passing<R: Wait + Copy + Send + 'static>(
     let mut campaign = read_campaign(alloc, text.as_slice())?;
     let (_, mut scripts) = campaign.take_first().ok_or("a test case")?;
     let (behaviour, script) = scripts.take_first().ok_or("a behaviour")?;
-    Ok(Case {
+    let mut case = Case {
         name,
-        names: vec![in alloc; behaviour]?,
-        jobs: vec![in alloc; ScriptJob::new(*rt, alloc, script)]?,
-    })
+        names: Vec::new(alloc),
+        jobs: Vec::new(alloc),
+    };
+    case.names.push(behaviour)?;
+    case.jobs.push(ScriptJob::new(*rt, alloc, script))?;
+    Ok(case)
 }
 
 // The run of a test case that passes and of one of no behaviours behind it, told of as they finish.
