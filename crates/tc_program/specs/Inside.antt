@@ -126,7 +126,8 @@ ShowsNoTask contents w w' lines e e' kind outcome = IsNoTask kind (held contents
 abbrev pub case_line : {B : Type 0} → Case B → List ℕ
 case_line k = k.name ++ (10 ∷ [])
 
--- the same of bytes that were kept of the input
+-- the task was refused, and these bytes were kept of its input: the fault is explained by them where it is asked for and is one of a text,
+-- and else its line alone is told
 abbrev pub IsRefusalBy : Bool → Bool → List ℕ → Option (List ℕ) → Option (List ℕ) → Outcome → RunFault → Type 0
 IsRefusalBy explains moves kept untold told outcome fault =
     MatchOption (explained explains moves fault) (IsRefusal untold told outcome fault)

@@ -24,6 +24,6 @@ pub record IsStarted (w : Writer (Vec ℕ)) : Type 0 where
   pub between : IsBetweenRecords w
   pub header : written_by w ≡ header_text
 
--- what of it stands up to the last of these test cases
+-- what of a campaign's text stands up to the last of these test cases
 abbrev pub text_so_far : Form → List Finished → List ℕ
 text_so_far form fs = opening_text form ++ flat_map (part_text form) fs

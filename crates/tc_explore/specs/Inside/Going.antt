@@ -11,7 +11,7 @@ use Rattle.tc_explore.specs.declared.witness.Witness.{Witness}
 use Rattle.tc_explore.specs.Found.{AreWitnesses, IsOnce}
 use Rattle.tc_table.specs.Standing.{Kept, StandsFor}
 
--- after one more entry, for run r alone
+-- what is known of run b after one more entry where it is run r, and else what was known of it
 abbrev pub next_for : ℕ → Entry → ℕ → Stand → Stand
 next_for r e b s = if r == b then next e b s else s
 
