@@ -7,7 +7,15 @@ ghost use Rattle.tc_text.specs.Reading.{EndsLine};
 pub fn after<'a>(text: &'a [u8], word: &[u8]) -> Option<&'a [u8]>
     ensures { MatchOption result ((rest : List ℕ) → text.now ≢ word.now ++ rest) (λ rest. text.now ≡ word.now ++ rest.now) }
 {
-    text.strip_prefix(word)
+    let (head, rest) = text.split_at_checked(word.len())?;
+    let mut place = 0;
+    while place < word.len() {
+        if head[place] != word[place] {
+            return None;
+        }
+        place += 1;
+    }
+    Some(rest)
 }
 
 /// What stands behind the end of a line, where the text begins with that end: an LF, or nothing.

@@ -1,6 +1,9 @@
-use Rattle.std.proofs.lemmas.Slice.Eq.{strip_prefix_is}
-use Rattle.std.proofs.lemmas.Bool.Decides.{Decides-eqb}
+use Rattle.std.proofs.Common.{arith, ◌≡◌, ◌≤◌, length, take}
+use Rattle.std.proofs.lemmas.List.{length-take-le, take-append-drop, take_all, take_more_same}
 use Rattle.tc_text.proofs.cursor.after.Goals as goal
 
+pub loop-place-preserved : goal.loop-place-preserved
+loop-place-preserved c = grind (arith, take_more_same, length-take-le)
+
 pub returns : goal.returns
-returns c = strip_prefix_is Decides-eqb c.args.text.now c.args.word.now c.strip_prefix.result c.strip_prefix.ensures.cases
+returns c = grind (arith, take_all, length-take-le, take-append-drop)
