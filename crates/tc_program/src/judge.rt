@@ -85,9 +85,8 @@ impl Playing {
         if self.difference.is_some() {
             return Ok(());
         }
-        let given = entry.reply;
-        let reply = self.state.play(entry.caller, entry.op)?;
-        if !given.same(&reply) {
+        if let Some(reply) = self.state.play_entry(&entry)? {
+            let given = entry.reply;
             self.difference = Some(Difference { line, given, reply });
         }
         Ok(())

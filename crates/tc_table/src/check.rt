@@ -34,12 +34,6 @@ impl From<NoMemory> for CheckFault {
     }
 }
 
-fn is_same(a: Reply, b: Reply) -> bool
-    ensures { IsTrue result ↔ (a ≡ b) }
-{
-    a == b
-}
-
 /// The state after a list in which each reply is the table's; else the first place where it is not.
 pub fn replay(alloc: Global, behaviours: u16, list: &[Entry]) -> Result<CaseState, CheckFault>
     requires some { 1 ≤ behaviours }
@@ -51,8 +45,7 @@ pub fn replay(alloc: Global, behaviours: u16, list: &[Entry]) -> Result<CaseStat
 {
     let mut state = CaseState::new(alloc, behaviours)?;
     for (at, entry) in list.iter().enumerate() {
-        let reply = state.play(entry.caller, entry.op.copy())?;
-        if !is_same(reply, entry.reply) {
+        if let Some(reply) = state.play_entry(entry)? {
             return Err(CheckFault::Differs { at, reply });
         }
     }

@@ -1,5 +1,5 @@
 //! What is kept of a test case beside its history.
-ghost use Rattle.std.specs.Prelude.{◌≡◌, ◌<◌, ◌≤◌, [], false, List, IfOk, OnErr};
+ghost use Rattle.std.specs.Prelude.{◌≡◌, ◌≢◌, ◌<◌, ◌≤◌, [], false, List, IfOk, IfSome, IfNone, OnErr};
 ghost use Rattle.std.specs.Bool.{OnTrue};
 ghost use Rattle.std.specs.Result.{IsOk};
 ghost use Rattle.tc_entry.specs.declared.limits.TheConstants.{BEHAVIOURS};
@@ -104,6 +104,25 @@ impl CaseState {
         let entry = Entry { caller, op, reply };
         self.take(&entry)?;
         Ok(reply)
+    }
+
+    /// Takes in an entry whose reply is the table's. Of another it takes in nothing, and answers the table's reply. Where
+    /// memory is refused, as it may be to a Create alone, the state stays as it was.
+    pub fn play_entry(&mut self, entry: &Entry) -> Result<Option<Reply>, NoMemory>
+        ensures behaviours { self.new.behaviours ≡ self.old.behaviours }
+        ensures same { IfOk result (λ other. IfNone other (IsReply self.old entry.now.caller entry.now.op entry.now.reply)) }
+        ensures stands { IfOk result (λ other. IfNone other (TakesIn self.old entry.now self.new)) }
+        ensures other { IfOk result (λ other. IfSome other (λ r. IsReply self.old entry.now.caller entry.now.op r × (r ≢ entry.now.reply) × (self.new ≡ self.old))) }
+        ensures refused { OnErr result (self.new ≡ self.old) }
+        ensures sure { history.is_create entry.now.op ≡ false → IsOk result }
+    {
+        let reply = self.would(entry.caller, &entry.op);
+        if reply.same(&entry.reply) {
+            self.take(entry)?;
+            Ok(None)
+        } else {
+            Ok(Some(reply))
+        }
     }
 
     /// The reply that `play` would give now.

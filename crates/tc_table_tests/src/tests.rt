@@ -118,6 +118,10 @@ fn state_play(state: &mut CaseState, caller: u16, op: &Op) -> Result<Reply, NoMe
     state.play(Run(caller), op.copy())
 }
 
+fn state_play_entry(state: &mut CaseState, entry: &Entry) -> Result<Option<Reply>, NoMemory> {
+    state.play_entry(entry)
+}
+
 fn state_copied(state: &CaseState, alloc: Global) -> Result<CaseState, NoMemory> {
     state.copied(alloc)
 }
@@ -330,6 +334,23 @@ fn calls_on_a_state(rt: HostRuntime) -> Result<(), Fail> {
     case.is_over = true;
     case.overall = Verdict::Error;
     is(&rt, "whole_of_state(state)", whole_of_state(&state), case);
+    Ok(())
+}
+
+#[test]
+fn entries_of_a_state(rt: HostRuntime) -> Result<(), Fail> {
+    let mut state = new_state(rt.alloc())?;
+    let mut made = entry(create(false), Reply::Made(Comp(2)));
+    for (given, wanted, components) in [
+        (Comp(2), Some(Reply::Made(Comp(1))), 1),
+        (Comp(1), None, 2),
+    ] {
+        made.reply = Reply::Made(given);
+        let other = state_play_entry(&mut state, &made)?;
+        is(&rt, "other", other, wanted);
+        let count = whole_of_state(&state).components;
+        is(&rt, "count", count, components);
+    }
     Ok(())
 }
 

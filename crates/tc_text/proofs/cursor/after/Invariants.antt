@@ -1,0 +1,9 @@
+use Rattle.std.proofs.Common.{◌≡◌, ◌-◌, length, take}
+use Rattle.tc_text.proofs.cursor.after.Given as goal
+
+abbrev pub invariant-loop-place : goal.invariant-loop-place
+invariant-loop-place l = take l.place l.head ≡ take l.place l.word
+
+-- proposed from the loop's first test
+abbrev pub decreases-loop-place : goal.decreases-loop-place
+decreases-loop-place l = length l.word - l.place
