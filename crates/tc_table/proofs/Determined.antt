@@ -1,7 +1,6 @@
 -- What the table keeps beside its history determines every reply: two histories that keep the same are answered alike.
 use Rattle.std.proofs.Common.{ℕ, ◌≡◌, ◌&&◌, ◌||◌, not, Bool, true, false, Option, Some, None, is_some, if◌then◌else◌, List, [], ◌∷◌, length, drop, refl, ap, ◌∙◌}
 use Rattle.std.specs.List.{list_any, list_all}
-use Rattle.tc_verdict.specs.declared.run.Run.{Run}
 use Rattle.tc_entry.specs.declared.comp.Comp.{Comp}
 use Rattle.tc_entry.specs.declared.op.Target.{Target}
 use Rattle.tc_entry.specs.declared.op.Target.TheVariants as T
@@ -9,9 +8,7 @@ use Rattle.tc_entry.specs.declared.op.Op.{Op}
 use Rattle.tc_entry.specs.declared.op.Op.TheVariants as O
 use Rattle.tc_entry.specs.declared.phase.Phase.{Phase}
 use Rattle.tc_entry.specs.declared.phase.Phase.TheVariants as P
-use Rattle.tc_entry.specs.declared.reply.Reply.{Reply}
 use Rattle.tc_entry.specs.declared.reply.Reply.TheVariants as R
-use Rattle.tc_entry.specs.declared.reply.Fault.TheVariants as F
 use Rattle.tc_entry.specs.declared.entry.Entry.{Entry}
 use Rattle.tc_table.specs.declared.awaited.Awaited.{Awaited}
 use Rattle.tc_table.specs.declared.component_state.ComponentState.{ComponentState}
@@ -21,8 +18,8 @@ use Rattle.tc_table.specs.Phases.{phase, last_run, is_excused}
 use Rattle.tc_table.specs.Status.{running, alive, done, killed, is_running, is_killed, is_done}
 use Rattle.tc_table.specs.Local.{local}
 use Rattle.tc_table.specs.Waiting.{waiting, holds, waits_in_vain, is_still, is_stuck}
-use Rattle.tc_table.specs.Faults.{fault, all_exist, names, asks_many, special_fault, start_fault, components}
-use Rattle.tc_table.specs.Answers.{answer, answer_unless, plain_answer, is_active, is_active_on, is_run_of, local_reply, wake_reply}
+use Rattle.tc_table.specs.Faults.{fault, names, special_fault, start_fault, components}
+use Rattle.tc_table.specs.Answers.{answer, plain_answer, is_active, is_active_on, is_run_of, local_reply, wake_reply}
 use Rattle.tc_table.specs.Inside.Kept.{state_of, run_of}
 use Rattle.tc_table.proofs.Keeping.{all_exist_same}
 

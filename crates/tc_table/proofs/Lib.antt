@@ -18,6 +18,7 @@ pub mod Counting
 pub mod Determined
 pub mod Named
 pub mod Elsewhere
+pub mod Asking
 pub mod Unchanged
 pub mod LawsOfHistories
 pub mod Quiet

@@ -1,19 +1,18 @@
 -- The names of components say nothing to the table: a history without them is answered alike.
-use Rattle.std.proofs.Common.{ℕ, ◌≡◌, ◌↔◌, Bool, Option, Some, None, is_some, List, [], ◌∷◌, map, refl, ap, sym, subst, ◌∙◌}
-use Rattle.tc_verdict.specs.declared.run.Run.{Run}
+use Rattle.std.proofs.Common.{ℕ, ◌≡◌, Bool, Option, None, List, [], ◌∷◌, map, refl, ap, sym, subst, ◌∙◌}
 use Rattle.tc_entry.specs.declared.op.Op.{Op}
 use Rattle.tc_entry.specs.declared.op.Op.TheVariants as O
 use Rattle.tc_entry.specs.declared.reply.Reply.{Reply}
 use Rattle.tc_entry.specs.declared.reply.Reply.TheVariants as R
 use Rattle.tc_entry.specs.declared.entry.Entry.{Entry}
-use Rattle.tc_table.specs.History.{comps, comp_of, exists, created, is_alive_create, is_alive_type, started_on, halts, kills, is_stop_of, is_kill_of}
+use Rattle.tc_table.specs.History.{comps, comp_of, exists, created, is_alive_create, is_alive_type, started_on, halts, kills}
 use Rattle.tc_table.specs.Phases.{phase, last_run, was_killed, was_halted, is_excused, start_in, halts_from_outside}
 use Rattle.tc_table.specs.Local.{local, overall, gives, verdicts_of}
 use Rattle.tc_table.specs.Waiting.{waiting, parks}
 use Rattle.tc_table.specs.Faults.{fault, all_exist}
 use Rattle.tc_table.specs.Answers.{answer}
 use Rattle.tc_table.specs.Legal.{IsLegal}
-use Rattle.tc_table.specs.Laws.{unnamed, unnamed_op, AgreeInVerdicts, NamesSayNothing}
+use Rattle.tc_table.specs.Laws.{unnamed, unnamed_op, NamesSayNothing}
 use Rattle.tc_table.proofs.Determined.{IsSame, answer_same}
 
 -- what says the same of a Create with any name says the same of the operation without its name

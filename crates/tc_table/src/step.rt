@@ -1,5 +1,5 @@
 //! What one more entry does to what is kept of components and runs.
-ghost use Rattle.std.specs.Prelude.{◌≡◌, ◌≢◌, ℕ, false, length, slice_index_or};
+ghost use Rattle.std.specs.Prelude.{◌≡◌, ◌≢◌, ℕ, None, false, length, slice_index_or};
 ghost use Rattle.tc_table.specs.History as history;
 ghost use Rattle.tc_table.specs.Local as verdicts;
 ghost use Rattle.tc_table.specs.Inside.Step as step;
@@ -254,6 +254,22 @@ pub fn take_in(states: &mut ComponentStates, own: Option<Comp>, entry: &Entry)
     }
 }
 
+/// Whether the call asks or waits: without an error, it changes no component and starts no run.
+pub fn asks(op: &Op) -> bool
+    ensures { result ≡ step.asks op.now }
+{
+    matches!(
+        op,
+        Op::Running(_)
+            | Op::Alive(_)
+            | Op::Done(_)
+            | Op::Killed(_)
+            | Op::Wait { .. }
+            | Op::Wake { .. }
+            | Op::GetVerdict
+    )
+}
+
 /// What is known of a run after one more entry.
 #[tactic(auto, unfolding(crate::specs::Inside::Step::next_run))]
 fn next_run(entry: &Entry, run: u16, state: RunState) -> RunState
@@ -287,6 +303,15 @@ fn take_in_run(runs: &mut Vec<RunState>, entry: &Entry, run: Run)
         let state = runs[run.0 as usize];
         runs[run.0 as usize] = next_run(entry, run.0, state);
     }
+}
+
+/// The same of all runs, for an entry that starts none: it changes its caller.
+pub fn take_in_caller(runs: &mut Vec<RunState>, entry: &Entry)
+    requires starts_none { step.started_run entry.now.op ≡ None }
+    ensures as_many { length runs.new.items ≡ length runs.old.items }
+    ensures each { (b : ℕ) → step.IsNextRun entry.now b runs.old.items runs.new.items }
+{
+    take_in_run(runs, entry, entry.caller);
 }
 
 /// Brings what is known of the runs up to one more entry: it changes its caller and the run that it starts.

@@ -115,3 +115,14 @@ pub record IsSettled (states : List ComponentState) : Type 0 where
 abbrev pub started_run : Op → Option Run
 started_run (O.Start c run args) = Some run
 started_run _ = None
+
+-- the call asks or waits: without an error it changes no component, and starts no run
+abbrev pub asks : Op → Bool
+asks (O.Running target) = true
+asks (O.Alive target) = true
+asks (O.Done target) = true
+asks (O.Killed target) = true
+asks (O.Wait killed target) = true
+asks (O.Wake killed target) = true
+asks O.GetVerdict = true
+asks _ = false

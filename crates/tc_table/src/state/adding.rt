@@ -1,13 +1,15 @@
 //! Taking in an entry, and what it does to all that is kept.
-ghost use Rattle.std.specs.Prelude.{◌≡◌, ◌||◌, false, Some, None, List, OnErr, OnOk};
+ghost use Rattle.std.specs.Prelude.{◌≡◌, ◌||◌, true, false, Some, None, List, OnErr, OnOk};
 ghost use Rattle.std.specs.Result.{IsOk};
 ghost use Rattle.tc_entry.specs.declared.entry.Entry.{Entry};
 ghost use Rattle.tc_table.specs.Standing.{StandsFor, IsReply, TakesIn};
+ghost use Rattle.tc_entry.specs.Reply.{is_fault};
 ghost use Rattle.tc_table.specs.History as history;
+ghost use Rattle.tc_table.specs.Inside.Step as step;
 
 use crate::entries::{created, ends_case, is_alive_create};
 use crate::state::CaseState;
-use crate::step::{take_in, take_in_runs};
+use crate::step::{asks, take_in, take_in_caller, take_in_runs};
 use tc_entry::{Comp, Entry};
 use tc_verdict::NoMemory;
 
@@ -25,6 +27,18 @@ impl CaseState {
         take_in(&mut self.states, own, entry);
         take_in_runs(&mut self.runs, entry);
         self.over = either(self.over, ends_case(entry));
+    }
+
+    /// Takes in an entry that asks or waits, without an error.
+    #[tactic(auto, using(crate::proofs::KeptLemmas::kept_rules, crate::proofs::Settled::settled_rules), unfolding(crate::specs::Standing::StandsFor))]
+    pub(crate) fn ask(&mut self, entry: &Entry)
+        requires legal { IsReply self.old entry.now.caller entry.now.op entry.now.reply }
+        requires asks { step.asks entry.now.op ≡ true }
+        requires plain { is_fault entry.now.reply ≡ false }
+        ensures behaviours { self.new.behaviours ≡ self.old.behaviours }
+        ensures stands { TakesIn self.old entry.now self.new }
+    {
+        take_in_caller(&mut self.runs, entry);
     }
 
     /// Takes in an entry that makes a component.
@@ -49,6 +63,10 @@ impl CaseState {
         ensures refused { OnErr result (self.new ≡ self.old) }
         ensures sure { history.is_create entry.now.op ≡ false → IsOk result }
     {
+        if asks(&entry.op) && !entry.reply.is_fault() {
+            self.ask(entry);
+            return Ok(());
+        }
         match created(&entry.op, entry.reply) {
             None => {
                 let own = self.comp_of(entry.caller);
