@@ -1,9 +1,10 @@
-"""The documents' commands that read a file of examples/, run as they stand there."""
+"""The documents' commands that read a file of examples/, run as they stand there, and the guide's that read a script of its own."""
 from __future__ import annotations
 
 import os
+import re
 import sys
-from typing import List, Set, Tuple
+from typing import Dict, Iterator, List, Optional, Set, Tuple
 
 import examples
 from case import Case
@@ -11,6 +12,51 @@ from case import Case
 sys.path.append(os.path.join(examples.TOP, "tests", "claims"))
 
 from documents import output_of, read
+
+
+GUIDE = "docs/guide.md"
+# A line of a shell that prints a script, into a file or into the program.
+PRINTED = re.compile(r"printf '(?P<text>[^']*)' (?:> (?P<file>[\w.]+)|\| \./ttrun (?P<words>[^|#]*))$")
+# A line of a shell that reads such a file.
+READS = re.compile(r"\./ttrun (?P<words>[^<|#]*)< (?P<file>[\w.]+)$")
+
+
+def shown() -> Iterator[Tuple[int, Tuple[str, ...], bytes, bytes]]:
+    """The guide's blocks that show what the program writes of a script of the guide: line, words, script, what is written."""
+    scripts: Dict[str, bytes] = {}
+    last: Optional[Tuple[Tuple[str, ...], bytes]] = None
+    for block in read(examples.TOP, GUIDE).blocks():
+        if block.language == "sh":
+            last = None
+            for line in block.text.splitlines():
+                printed, reads = PRINTED.match(line), READS.match(line)
+                if printed:
+                    script = printed["text"].replace("\\n", "\n").encode()
+                    if printed["file"]:
+                        scripts[printed["file"]] = script
+                    else:
+                        last = tuple(printed["words"].split()), script
+                elif reads and reads["file"] in scripts:
+                    last = tuple(reads["words"].split()), scripts[reads["file"]]
+        elif block.language == "" and re.match(r"testcase \w+\nbehaviour ", block.text):
+            last = ("explore", "--details"), block.text.encode()
+        elif block.language == "" and last is not None:
+            yield block.line, *last, block.text.encode()
+            last = None
+
+
+def shown_cases() -> List[Case]:
+    """Each such block, byte by byte: an explanation is told on standard error, details are written."""
+    found: List[Case] = []
+    for number, words, script, written in shown():
+        name = f"{GUIDE}_{number}_{'_'.join(words)}"
+        if "--explain" in words:
+            found.append(Case(name, words, script, errors=written, status=3))
+        else:
+            verdicts = set(written.split(b"\n")[0].split()[1:-1])
+            found.append(Case(name, words, script, output=written, status=int(len(verdicts) > 1)))
+    assert [it.words[1] for it in found] == ["--explain", "--details", "--details"], [it.name for it in found]
+    return found
 
 
 def cases() -> List[Case]:
@@ -30,4 +76,4 @@ def cases() -> List[Case]:
             form = "report" if words[0] in ("run", "replay") and "--csv" not in words else "csv"
             found.append(Case(f"{path}_{number}_{'_'.join(words)}_{file}", words, examples.bytes_of(file), output, errors=told,
                               status=examples.status_in(form, output)))
-    return found
+    return found + shown_cases()
