@@ -14,7 +14,8 @@ pub const VERSION: &str = "0.11.0 (rattle-kit-13f logic dac8208d650f15bf)";
 const PROGRAM_HELP: &str = "\
 Each command reads standard input: ttrun run < FILE. No word at all means run.
 
-Status of run and replay: 0 for none and pass, 1 for inconc and fail, 2 for error.
+Status of run, replay and report: 0 for none and pass, 1 for inconc and fail, 2 for error.
+Status of check: 0 where each history is legal.
 Status of explore: 0 where each test case has one verdict, 1 where one has several.
 3 says that a test case was aborted, a history is not legal, or a search met its limit;
 or that the command line or the input was refused, or a device or the memory failed:
