@@ -46,7 +46,7 @@ impl TakesHistories for Checking {
     }
 
     fn take(begun: &mut Playing, line: usize, entry: Entry) -> Result<(), NoMemory> {
-        begun.play(line, entry)
+        begun.play(line, &entry)
     }
 
     fn close(

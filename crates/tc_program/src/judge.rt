@@ -79,13 +79,13 @@ impl Playing {
 
     /// Plays the entry of this line, unless the table gave another reply to one before it.
     #[inline(never)]
-    pub(crate) fn play(&mut self, line: usize, entry: Entry) -> Result<(), NoMemory>
-        ensures { OnOk result (PlaysNext line entry self.old self.new) }
+    pub(crate) fn play(&mut self, line: usize, entry: &Entry) -> Result<(), NoMemory>
+        ensures { OnOk result (PlaysNext line entry.now self.old self.new) }
     {
         if self.difference.is_some() {
             return Ok(());
         }
-        if let Some(reply) = self.state.play_entry(&entry)? {
+        if let Some(reply) = self.state.play_entry(entry)? {
             let given = entry.reply;
             self.difference = Some(Difference { line, given, reply });
         }

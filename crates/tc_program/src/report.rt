@@ -57,7 +57,7 @@ impl TakesHistories for Reporting {
     }
 
     fn take(begun: &mut Playing, line: usize, entry: Entry) -> Result<(), NoMemory> {
-        begun.play(line, entry)
+        begun.play(line, &entry)
     }
 
     fn close(
