@@ -1,4 +1,7 @@
 //! Lines of scripts, their words and their faults.
+mod checks;
+
+use checks::{holds, is};
 use std::process::Abort;
 use std::test::Fail;
 use tc_line::*;
@@ -23,10 +26,10 @@ fn lines_of_a_text(rt: HostRuntime) {
     for (text, expected) in texts {
         let mut lines = Lines::new(text.as_bytes());
         for bytes in expected {
-            assert_eq!(rt; lines.next(), Some(bytes.as_bytes()), "{text}");
+            is(&rt, text, lines.next(), Some(bytes.as_bytes()));
         }
-        assert_eq!(rt; lines.next(), None, "{text}");
-        assert_eq!(rt; lines.next(), None, "{text}");
+        is(&rt, text, lines.next(), None);
+        is(&rt, text, lines.next(), None);
     }
 }
 
@@ -101,13 +104,13 @@ fn faults_of_a_line(rt: HostRuntime) {
         ("done 1", Some(ScriptKind::BadName)),
     ];
     for (line, expected) in lines {
-        assert_eq!(rt; kind_of(&rt, line), expected, "{line}");
+        is(&rt, line, kind_of(&rt, line), expected);
     }
 }
 
 fn is_bound<R: Abort>(rt: &R, reference: &Place<Name>, name: &str) {
     match reference {
-        Place::Bound(bound) => assert_eq!(rt; bound.bytes(), name.as_bytes()),
+        Place::Bound(bound) => is(rt, "bound.bytes()", bound.bytes(), name.as_bytes()),
         _ => panic!(rt; "no name"),
     }
 }
@@ -130,12 +133,16 @@ fn a_start_and_its_words(rt: HostRuntime) {
             },
         ) => {
             is_bound(&rt, on, "p");
-            assert_eq!(rt; behaviour.bytes(), b"worker".as_slice());
-            let args = args.as_slice();
-            assert_eq!(rt; args.len(), 3);
-            assert!(rt; matches!(&args[0], Place::Main));
-            is_bound(&rt, &args[1], "q");
-            assert!(rt; matches!(&args[2], Place::Own));
+            is(
+                &rt,
+                "behaviour.bytes()",
+                behaviour.bytes(),
+                b"worker".as_slice(),
+            );
+            let [Place::Main, second, Place::Own] = args.as_slice() else {
+                panic!(rt; "other arguments")
+            };
+            is_bound(&rt, second, "q");
         }
         _ => panic!(rt; "no start"),
     }
@@ -153,9 +160,9 @@ fn is_create<R: Abort + AllocGlobal>(rt: &R, text: &str, bound: &str, is_alive: 
                 given_name,
             },
         ) => {
-            assert_eq!(rt; name.bytes(), bound.as_bytes(), "{text}");
-            assert_eq!(rt; *alive, is_alive, "{text}");
-            assert_eq!(rt; *given_name, Name::read(given), "{text}");
+            is(rt, text, name.bytes(), bound.as_bytes());
+            is(rt, text, alive, &is_alive);
+            is(rt, text, given_name, &Name::read(given));
         }
         _ => panic!(rt; "{text}"),
     }
@@ -201,15 +208,16 @@ fn names_of_thirty_two_letters(rt: HostRuntime) -> Result<(), Fail> {
         ("wait killed ", ""),
     ];
     let longest = "abcdefghijklmnopqrstuvwxyz_01234";
-    assert_eq!(rt; longest.len(), 32);
+    is(&rt, "longest.len()", longest.len(), 32);
     for (before, behind) in places {
         let line = format!(in rt.alloc(); "{before}{longest}{behind}")?;
-        assert_eq!(rt; kind_of(&rt, line.as_str()), None, "{line}");
+        is(&rt, line.as_str(), kind_of(&rt, line.as_str()), None);
         let line = format!(in rt.alloc(); "{before}{longest}5{behind}")?;
-        assert_eq!(rt;
+        is(
+            &rt,
+            line.as_str(),
             kind_of(&rt, line.as_str()),
             Some(ScriptKind::BadName),
-            "{line}"
         );
     }
     Ok(())
@@ -234,12 +242,17 @@ fn texts_of_the_kinds(rt: HostRuntime) -> Result<(), Fail> {
         (ScriptKind::Arguments, "wrong number of arguments"),
     ];
     for (kind, text) in texts {
-        assert_eq!(rt; kind.text(), text);
-        assert_eq!(rt; kind.to_string(rt.alloc())?.as_str(), text);
+        is(&rt, "kind.text()", kind.text(), text);
+        is(
+            &rt,
+            "kind.to_string(rt.alloc())?.as_str()",
+            kind.to_string(rt.alloc())?.as_str(),
+            text,
+        );
         let fault = LineFault::Kind(kind).to_string(rt.alloc())?;
-        assert_eq!(rt; fault.as_str(), text);
+        is(&rt, "fault.as_str()", fault.as_str(), text);
     }
     let refused = LineFault::NoMemory.to_string(rt.alloc())?;
-    assert_eq!(rt; refused.as_str(), "no memory");
+    is(&rt, "refused.as_str()", refused.as_str(), "no memory");
     Ok(())
 }

@@ -1,4 +1,7 @@
 //! Scripts that are read, and scripts that are refused.
+mod checks;
+
+use checks::{holds, is};
 use std::process::Abort;
 use std::test::Fail;
 use tc_script::*;
@@ -47,7 +50,7 @@ fn fault_of<R: Abort + AllocGlobal>(rt: &R, text: &[u8]) -> Option<(usize, Scrip
 }
 
 fn is_refused<R: Abort + AllocGlobal>(rt: &R, text: &str, line: usize, kind: ScriptKind) {
-    assert_eq!(rt; fault_of(rt, text.as_bytes()), Some((line, kind)), "{text}");
+    is(rt, text, fault_of(rt, text.as_bytes()), Some((line, kind)));
 }
 
 #[test]
@@ -110,12 +113,17 @@ fn lines_of_a_script(rt: HostRuntime) -> Result<(), Fail> {
     ];
     for (line, expected) in lines {
         let found = answer(&rt, "behaviour main", line, "behaviour w a")?;
-        assert_eq!(rt; found, expected, "{line}");
+        is(&rt, line, found, expected);
     }
     let twice = answer(&rt, "behaviour main", "getverdict", "behaviour main")?;
-    assert_eq!(rt; twice, Some((5, ScriptKind::Twice)));
+    is(&rt, "twice", twice, Some((5, ScriptKind::Twice)));
     let parameter = answer(&rt, "behaviour main p", "getverdict", "behaviour w a")?;
-    assert_eq!(rt; parameter, Some((2, ScriptKind::MainParameters)));
+    is(
+        &rt,
+        "parameter",
+        parameter,
+        Some((2, ScriptKind::MainParameters)),
+    );
     Ok(())
 }
 
@@ -136,13 +144,21 @@ fn prefixes_of_a_script(rt: HostRuntime) -> Result<(), Fail> {
             None => accepted.push(length)?,
             Some((line, ScriptKind::BadLine)) => {
                 misread = misread.saturating_add(1);
-                assert!(rt; ended < line && line - ended == 1);
+                holds(
+                    &rt,
+                    "ended < line && line - ended == 1",
+                    ended < line && line - ended == 1,
+                );
             }
             Some((line, kind)) => {
                 cut = cut.saturating_add(1);
-                assert_eq!(rt; kind, ScriptKind::Cut);
+                is(&rt, "kind", kind, ScriptKind::Cut);
                 let is_cut_in_line = !matches!(text, [] | [.., b'\n']);
-                assert!(rt; ended < line && line - ended == if is_cut_in_line { 2 } else { 1 });
+                holds(
+                    &rt,
+                    "the fault is in the line that is cut, or in the next",
+                    ended < line && line - ended == if is_cut_in_line { 2 } else { 1 },
+                );
             }
         }
     }
@@ -150,12 +166,29 @@ fn prefixes_of_a_script(rt: HostRuntime) -> Result<(), Fail> {
         panic!(rt; "{}", accepted.len());
     };
     let line = b"pass\nend\nend".as_slice();
-    assert!(rt; *first <= STORED.len() && STORED[..*first].ends_with(line));
+    holds(
+        &rt,
+        "*first <= STORED.len() && STORED[..*first].ends_with(line)",
+        *first <= STORED.len() && STORED[..*first].ends_with(line),
+    );
     assert!(rt; *second <= STORED.len() && STORED[..*second].ends_with(b"end\nend\n"));
-    assert_eq!(rt; lines_in(&STORED[..*second]), 13);
-    assert!(rt; *first < *second && *second - *first == 1);
-    assert!(rt; *third == STORED.len() - 1 && *fourth == STORED.len());
-    assert_eq!(rt; (misread, cut), (240, 179));
+    is(
+        &rt,
+        "lines_in(&STORED[..*second])",
+        lines_in(&STORED[..*second]),
+        13,
+    );
+    holds(
+        &rt,
+        "*first < *second && *second - *first == 1",
+        *first < *second && *second - *first == 1,
+    );
+    holds(
+        &rt,
+        "*third == STORED.len() - 1 && *fourth == STORED.len()",
+        *third == STORED.len() - 1 && *fourth == STORED.len(),
+    );
+    is(&rt, "(misread, cut)", (misread, cut), (240, 179));
     Ok(())
 }
 
@@ -167,18 +200,18 @@ fn script_of<R: Abort>(
     steps: usize,
 ) -> Option<Script> {
     let (found, script) = case.take_first()?;
-    assert_eq!(rt; found.bytes(), name.as_bytes());
-    assert_eq!(rt; script.parameters(), parameters, "{name}");
-    assert_eq!(rt; script.steps().len(), steps, "{name}");
+    is(rt, "found.bytes()", found.bytes(), name.as_bytes());
+    is(rt, name, script.parameters(), parameters);
+    is(rt, name, script.steps().len(), steps);
     Some(script)
 }
 
 fn is_start<R: Abort>(rt: &R, step: &Step, place: Place, number: u16, given: &[Place]) {
     match step {
         Step::Start { on, run, args } => {
-            assert_eq!(rt; *on, place);
-            assert_eq!(rt; *run, Run(number));
-            assert_eq!(rt; args.as_slice(), given);
+            is(rt, "*on", on, &place);
+            is(rt, "*run", run, &Run(number));
+            is(rt, "args.as_slice()", args.as_slice(), given);
         }
         _ => panic!(rt; "{step:?}"),
     }
@@ -189,30 +222,38 @@ fn is_first_case<R: Abort>(rt: &R, case: &mut CaseScript) -> Option<()> {
     let [create, start, wait, ask] = main.steps() else {
         return None;
     };
-    assert_eq!(rt;
-        *create,
-        Step::Create {
+    is(
+        rt,
+        "*create",
+        create,
+        &Step::Create {
             alive: false,
-            name: None
-        }
+            name: None,
+        },
     );
     is_start(rt, start, Place::Bound(0), 1, &[Place::Main]);
     let target = TargetPlace::One(Place::Bound(0));
-    assert_eq!(rt;
-        *wait,
-        Step::Wait {
+    is(
+        rt,
+        "*wait",
+        wait,
+        &Step::Wait {
             killed: false,
-            target
-        }
+            target,
+        },
     );
-    assert_eq!(rt; *ask, Step::GetVerdict);
+    is(rt, "*ask", ask, &Step::GetVerdict);
     let worker = script_of(rt, case, "worker", 1, 2)?;
     let [alive, set] = worker.steps() else {
         return None;
     };
-    assert_eq!(rt; *alive, Step::Ask(Status::Alive, target));
-    assert_eq!(rt; *set, Step::SetVerdict(UserVerdict::Pass));
-    assert!(rt; case.take_first().is_none());
+    is(rt, "*alive", alive, &Step::Ask(Status::Alive, target));
+    is(rt, "*set", set, &Step::SetVerdict(UserVerdict::Pass));
+    holds(
+        rt,
+        "case.take_first().is_none()",
+        case.take_first().is_none(),
+    );
     Some(())
 }
 
@@ -221,31 +262,42 @@ fn is_second_case<R: Abort>(rt: &R, case: &mut CaseScript) -> Option<()> {
     let [create, start, _, again, _, kill, killed] = main.steps() else {
         return None;
     };
-    assert_eq!(rt;
-        *create,
-        Step::Create {
+    is(
+        rt,
+        "*create",
+        create,
+        &Step::Create {
             alive: true,
-            name: None
-        }
+            name: None,
+        },
     );
     is_start(rt, start, Place::Bound(0), 1, &[]);
     is_start(rt, again, Place::Bound(0), 2, &[Place::Bound(0)]);
-    assert_eq!(rt; *kill, Step::Kill(GroupPlace::All));
-    assert_eq!(rt; *killed, Step::Ask(Status::Killed, TargetPlace::All));
+    is(rt, "*kill", kill, &Step::Kill(GroupPlace::All));
+    is(
+        rt,
+        "*killed",
+        killed,
+        &Step::Ask(Status::Killed, TargetPlace::All),
+    );
     let first = script_of(rt, case, "first", 0, 1)?;
     let [set] = first.steps() else {
         return None;
     };
-    assert_eq!(rt; *set, Step::SetVerdict(UserVerdict::Pass));
+    is(rt, "*set", set, &Step::SetVerdict(UserVerdict::Pass));
     let second = script_of(rt, case, "second", 1, 3)?;
     let [ask, set, running] = second.steps() else {
         return None;
     };
-    assert_eq!(rt; *ask, Step::GetVerdict);
-    assert_eq!(rt; *set, Step::SetVerdict(UserVerdict::None));
+    is(rt, "*ask", ask, &Step::GetVerdict);
+    is(rt, "*set", set, &Step::SetVerdict(UserVerdict::None));
     let target = TargetPlace::One(Place::Bound(0));
-    assert_eq!(rt; *running, Step::Ask(Status::Running, target));
-    assert!(rt; case.take_first().is_none());
+    is(rt, "*running", running, &Step::Ask(Status::Running, target));
+    holds(
+        rt,
+        "case.take_first().is_none()",
+        case.take_first().is_none(),
+    );
     Some(())
 }
 
@@ -257,14 +309,26 @@ fn steps_of_the_stored_run(rt: HostRuntime) {
     let Some((name, mut case)) = campaign.take_first() else {
         panic!(rt; "no test case");
     };
-    assert_eq!(rt; name.bytes(), b"t_pass".as_slice());
-    assert!(rt; is_first_case(&rt, &mut case).is_some());
+    is(&rt, "name.bytes()", name.bytes(), b"t_pass".as_slice());
+    holds(
+        &rt,
+        "is_first_case(&rt, &mut case).is_some()",
+        is_first_case(&rt, &mut case).is_some(),
+    );
     let Some((name, mut case)) = campaign.take_first() else {
         panic!(rt; "one test case");
     };
-    assert_eq!(rt; name.bytes(), b"t_again".as_slice());
-    assert!(rt; is_second_case(&rt, &mut case).is_some());
-    assert!(rt; campaign.take_first().is_none());
+    is(&rt, "name.bytes()", name.bytes(), b"t_again".as_slice());
+    holds(
+        &rt,
+        "is_second_case(&rt, &mut case).is_some()",
+        is_second_case(&rt, &mut case).is_some(),
+    );
+    holds(
+        &rt,
+        "campaign.take_first().is_none()",
+        campaign.take_first().is_none(),
+    );
 }
 
 #[test]
@@ -294,15 +358,17 @@ end
     for (step, (is_alive, given)) in main.steps().iter().zip(&expected) {
         match step {
             Step::Create { alive, name } => {
-                assert_eq!(rt; *alive, *is_alive);
-                assert_eq!(rt; *name, *given);
+                is(&rt, "*alive", alive, is_alive);
+                is(&rt, "*name", name, given);
             }
             _ => panic!(rt; "{step:?}"),
         }
     }
-    assert_eq!(rt;
+    is(
+        &rt,
+        "main.steps().last()",
         main.steps().last(),
-        Some(&Step::Stop(GroupPlace::One(Place::Bound(2))))
+        Some(&Step::Stop(GroupPlace::One(Place::Bound(2)))),
     );
     Ok(())
 }
@@ -368,7 +434,7 @@ fn names_are_bound_line_by_line(rt: HostRuntime) {
         ),
     ];
     for (text, expected) in texts {
-        assert_eq!(rt; fault_of(&rt, text.as_bytes()), expected, "{text}");
+        is(&rt, text, fault_of(&rt, text.as_bytes()), expected);
     }
 }
 
@@ -417,14 +483,16 @@ fn texts_of_the_faults(rt: HostRuntime) -> Result<(), Fail> {
         line: 1003,
         kind: ScriptKind::TooMany,
     };
-    assert_eq!(rt;
+    is(
+        &rt,
+        "fault.to_string(rt.alloc())?.as_str()",
         fault.to_string(rt.alloc())?.as_str(),
-        "line 1003: too many"
+        "line 1003: too many",
     );
     let told = ReadFault::Script(fault).to_string(rt.alloc())?;
-    assert_eq!(rt; told.as_str(), "line 1003: too many");
+    is(&rt, "told.as_str()", told.as_str(), "line 1003: too many");
     let told = ReadFault::NoMemory.to_string(rt.alloc())?;
-    assert_eq!(rt; told.as_str(), "no memory");
+    is(&rt, "told.as_str()", told.as_str(), "no memory");
     Ok(())
 }
 
@@ -455,22 +523,28 @@ fn names_of_exactly_thirty_two_letters(rt: HostRuntime) -> Result<(), Fail> {
         panic!(rt; "{text}");
     };
     let (name, mut case) = campaign.take_first().ok_or("a test case")?;
-    assert_eq!(rt;
+    is(
+        &rt,
+        "name.bytes()",
         name.bytes(),
-        b"txxxxxxxxxxxxxxxxxxxxxxxxxxxxxxx".as_slice()
+        b"txxxxxxxxxxxxxxxxxxxxxxxxxxxxxxx".as_slice(),
     );
     let main = script_of(&rt, &mut case, "mxxxxxxxxxxxxxxxxxxxxxxxxxxxxxxx", 0, 2).ok_or("main")?;
     let worker = script_of(&rt, &mut case, "wxxxxxxxxxxxxxxxxxxxxxxxxxxxxxxx", 1, 1).ok_or("w")?;
-    assert_eq!(rt;
+    is(
+        &rt,
+        "main.steps().first()",
         main.steps().first(),
         Some(&Step::Create {
             alive: false,
-            name: None
-        })
+            name: None,
+        }),
     );
-    assert_eq!(rt;
+    is(
+        &rt,
+        "worker.steps().first()",
         worker.steps().first(),
-        Some(&Step::Stop(GroupPlace::One(Place::Bound(0))))
+        Some(&Step::Stop(GroupPlace::One(Place::Bound(0)))),
     );
     Ok(())
 }
@@ -501,15 +575,40 @@ fn many<R: Abort + AllocGlobal>(
 // Each limit met, and passed by one; the largest script has 64,000 behaviours, more than the bytes of a script have room for.
 #[test]
 fn limits_of_a_script(rt: HostRuntime) -> Result<(), Fail> {
-    assert_eq!(rt; many(&rt, 1, 1, 1000)?, None);
-    assert_eq!(rt; many(&rt, 1, 1, 1001)?, Some((1003, ScriptKind::TooMany)));
-    assert_eq!(rt; many(&rt, 1, 256, 0)?, None);
-    assert_eq!(rt; many(&rt, 1, 257, 0)?, Some((514, ScriptKind::TooMany)));
-    assert_eq!(rt; many(&rt, 1000, 1, 0)?, None);
-    assert_eq!(rt; many(&rt, 1001, 1, 0)?, Some((4001, ScriptKind::TooMany)));
-    assert_eq!(rt; many(&rt, 1000, 64, 0)?, None);
+    is(&rt, "many(&rt, 1, 1, 1000)?", many(&rt, 1, 1, 1000)?, None);
+    is(
+        &rt,
+        "many(&rt, 1, 1, 1001)?",
+        many(&rt, 1, 1, 1001)?,
+        Some((1003, ScriptKind::TooMany)),
+    );
+    is(&rt, "many(&rt, 1, 256, 0)?", many(&rt, 1, 256, 0)?, None);
+    is(
+        &rt,
+        "many(&rt, 1, 257, 0)?",
+        many(&rt, 1, 257, 0)?,
+        Some((514, ScriptKind::TooMany)),
+    );
+    is(&rt, "many(&rt, 1000, 1, 0)?", many(&rt, 1000, 1, 0)?, None);
+    is(
+        &rt,
+        "many(&rt, 1001, 1, 0)?",
+        many(&rt, 1001, 1, 0)?,
+        Some((4001, ScriptKind::TooMany)),
+    );
+    is(
+        &rt,
+        "many(&rt, 1000, 64, 0)?",
+        many(&rt, 1000, 64, 0)?,
+        None,
+    );
     let four = "testcase t\nbehaviour m\nend\nbehaviour w a b c d\nend\nend\n";
-    assert_eq!(rt; fault_of(&rt, four.as_bytes()), None);
+    is(
+        &rt,
+        "fault_of(&rt, four.as_bytes())",
+        fault_of(&rt, four.as_bytes()),
+        None,
+    );
     let five = "testcase t\nbehaviour m\nend\nbehaviour w a b c d e\nend\nend\n";
     is_refused(&rt, five, 4, ScriptKind::TooMany);
     Ok(())

@@ -1,4 +1,7 @@
 //! Texts of moves, replies and lists of moves.
+mod checks;
+
+use checks::{holds, is};
 use std::process::Abort;
 use std::test::Fail;
 use tc_entry::{
@@ -15,12 +18,12 @@ fn is_spelled(
 ) -> Result<(), NoMemory> {
     out.clear();
     write_move(out, Run(caller), &op)?;
-    assert_eq!(rt; out.as_slice(), text.as_bytes());
+    is(rt, "out.as_slice()", out.as_slice(), text.as_bytes());
     let read = read_move(text.as_bytes());
-    assert!(rt; read.is_some(), "{text}");
+    holds(rt, text, read.is_some());
     if let Some((run, read)) = read {
-        assert_eq!(rt; run, Run(caller));
-        assert!(rt; read.same(&op), "{text}");
+        is(rt, "run", run, Run(caller));
+        holds(rt, text, read.same(&op));
     }
     Ok(())
 }
@@ -28,8 +31,8 @@ fn is_spelled(
 fn is_reply(rt: &impl Abort, out: &mut Vec<u8>, reply: Reply, text: &str) -> Result<(), NoMemory> {
     out.clear();
     write_reply(out, &reply)?;
-    assert_eq!(rt; out.as_slice(), text.as_bytes());
-    assert_eq!(rt; read_reply(text.as_bytes()), Some(reply), "{text}");
+    is(rt, "out.as_slice()", out.as_slice(), text.as_bytes());
+    is(rt, text, read_reply(text.as_bytes()), Some(reply));
     Ok(())
 }
 
@@ -53,16 +56,46 @@ fn start(comp: u32, run: u16, comps: &[u32]) -> Op {
 fn single_texts(rt: HostRuntime) -> Result<(), NoMemory> {
     let mut out = Vec::new(rt.alloc());
     write_move(&mut out, Run(0), &start(1, 2, &[3]))?;
-    assert_eq!(rt; out.as_slice(), b"0 start 1 2 3".as_slice());
+    is(
+        &rt,
+        "out.as_slice()",
+        out.as_slice(),
+        b"0 start 1 2 3".as_slice(),
+    );
     let mut out = Vec::new(rt.alloc());
     write_op(&mut out, &start(1, 2, &[3]))?;
-    assert_eq!(rt; out.as_slice(), b"start 1 2 3".as_slice());
+    is(
+        &rt,
+        "out.as_slice()",
+        out.as_slice(),
+        b"start 1 2 3".as_slice(),
+    );
     let mut out = Vec::new(rt.alloc());
     write_reply(&mut out, &Reply::Fault(Fault::Stuck))?;
-    assert_eq!(rt; out.as_slice(), b"error stuck".as_slice());
-    assert_eq!(rt; read_reply(b"made 7"), Some(Reply::Made(Comp(7))));
-    assert_eq!(rt; read_reply(b"error"), Some(Reply::Local(Verdict::Error)));
-    assert_eq!(rt; read_reply(b"made 07"), None);
+    is(
+        &rt,
+        "out.as_slice()",
+        out.as_slice(),
+        b"error stuck".as_slice(),
+    );
+    is(
+        &rt,
+        "read_reply(b\"made 7\")",
+        read_reply(b"made 7"),
+        Some(Reply::Made(Comp(7))),
+    );
+    is(
+        &rt,
+        "read_reply(b\"error\")",
+        read_reply(b"error"),
+        Some(Reply::Local(Verdict::Error)),
+    );
+    is(
+        &rt,
+        "read_reply(b\"made 07\")",
+        read_reply(b"made 07"),
+        None,
+    );
     Ok(())
 }
 
@@ -110,18 +143,27 @@ fn created_components_with_names(rt: HostRuntime) -> Result<(), NoMemory> {
         "0 create named pump ",
         "0 create named abcdefghijklmnopqrstuvwxyz_ABC123",
     ] {
-        assert!(rt; read_move(text.as_bytes()).is_none(), "{text}");
+        holds(&rt, text, read_move(text.as_bytes()).is_none());
     }
-    assert_eq!(rt; take_short_move(b"0 create named pump"), None);
-    assert_eq!(rt;
-        take_move(b"0 create named pump -> made 1"),
-        Some(((Run(0), named(false, "pump")), b" -> made 1".as_slice()))
+    is(
+        &rt,
+        "take_short_move(b\"0 create named pump\")",
+        &take_short_move(b"0 create named pump"),
+        &None,
     );
-    assert_eq!(rt;
-        take_name(b"t_1 64\n"),
-        Name::read("t_1").map(|name| (name, b" 64\n".as_slice()))
+    is(
+        &rt,
+        "take_move(b\"0 create named pump -> made 1\")",
+        &take_move(b"0 create named pump -> made 1"),
+        &Some(((Run(0), named(false, "pump")), b" -> made 1".as_slice())),
     );
-    assert_eq!(rt; take_name(b"all 64"), None);
+    is(
+        &rt,
+        "take_name(b\"t_1 64\\n\")",
+        &take_name(b"t_1 64\n"),
+        &Name::read("t_1").map(|name| (name, b" 64\n".as_slice())),
+    );
+    is(&rt, "take_name(b\"all 64\")", &take_name(b"all 64"), &None);
     Ok(())
 }
 
@@ -319,7 +361,7 @@ fn texts_that_are_no_move(rt: HostRuntime) {
         "0 wait all",
         "0 finish\n",
     ] {
-        assert!(rt; read_move(text.as_bytes()).is_none(), "{text}");
+        holds(&rt, text, read_move(text.as_bytes()).is_none());
     }
 }
 
@@ -337,21 +379,50 @@ fn refused_move_lists(rt: HostRuntime) {
         line,
         kind: TextKind::Move,
     });
-    assert_eq!(rt; fault_of(&rt, b"behaviours 0\n"), first(1));
-    assert_eq!(rt; fault_of(&rt, b"behaviours 257\n"), first(1));
-    assert_eq!(rt; fault_of(&rt, b"\n"), first(1));
-    assert_eq!(rt;
-        fault_of(&rt, b"behaviours 1\n0 setverdict error\n"),
-        bad(2)
+    is(
+        &rt,
+        "fault_of(&rt, b\"behaviours 0\\n\")",
+        fault_of(&rt, b"behaviours 0\n"),
+        first(1),
     );
-    assert_eq!(rt; fault_of(&rt, b"behaviours 1\n0  getverdict\n"), bad(2));
-    assert_eq!(rt; fault_of(&rt, b"behaviours 1\n0 finish\n\n"), bad(3));
-    assert_eq!(rt;
+    is(
+        &rt,
+        "fault_of(&rt, b\"behaviours 257\\n\")",
+        fault_of(&rt, b"behaviours 257\n"),
+        first(1),
+    );
+    is(
+        &rt,
+        "fault_of(&rt, b\"\\n\")",
+        fault_of(&rt, b"\n"),
+        first(1),
+    );
+    is(
+        &rt,
+        "fault_of(&rt, b\"behaviours 1\\n0 setverdict error\\n\")",
+        fault_of(&rt, b"behaviours 1\n0 setverdict error\n"),
+        bad(2),
+    );
+    is(
+        &rt,
+        "fault_of(&rt, b\"behaviours 1\\n0 getverdict\\n\")",
+        fault_of(&rt, b"behaviours 1\n0  getverdict\n"),
+        bad(2),
+    );
+    is(
+        &rt,
+        "fault_of(&rt, b\"behaviours 1\\n0 finish\\n\\n\")",
+        fault_of(&rt, b"behaviours 1\n0 finish\n\n"),
+        bad(3),
+    );
+    is(
+        &rt,
+        "fault_of(&rt, b\"\")",
         fault_of(&rt, b""),
         Some(TextFault::At {
             line: 1,
-            kind: TextKind::Early
-        })
+            kind: TextKind::Early,
+        }),
     );
 }
 
@@ -362,21 +433,22 @@ fn move_lists(rt: HostRuntime) -> Result<(), Fail> {
         (b"behaviours 1\n0 create\n255 finish".as_slice(), 1),
     ] {
         let list = read_moves(rt.alloc(), text).ok().ok_or("a list")?;
-        assert_eq!(rt; list.behaviours, behaviours);
-        assert_eq!(rt; list.moves.len(), 2);
-        assert!(rt;
-            list.moves[0].1.same(&Op::Create {
-                alive: false,
-                name: None
-            })
-        );
-        assert_eq!(rt; list.moves[1].0, Run(255));
-        assert!(rt; list.moves[1].1.same(&Op::Finish));
+        is(&rt, "list.behaviours", list.behaviours, behaviours);
+        let [first, last] = list.moves.as_slice() else {
+            panic!(rt; "{} moves", list.moves.len())
+        };
+        let create = Op::Create {
+            alive: false,
+            name: None,
+        };
+        holds(&rt, "a create", first.1.same(&create));
+        is(&rt, "the last run", last.0, Run(255));
+        holds(&rt, "a finish", last.1.same(&Op::Finish));
     }
     let list = read_moves(rt.alloc(), b"behaviours 7")
         .ok()
         .ok_or("a list")?;
-    assert_eq!(rt; list.moves.len(), 0);
+    is(&rt, "list.moves.len()", list.moves.len(), 0);
     Ok(())
 }
 
@@ -389,9 +461,11 @@ fn numbers_and_words(rt: HostRuntime) -> Result<(), NoMemory> {
     append_text(&mut out, "")?;
     append_text(&mut out, ", ")?;
     append_number(&mut out, 18446744073709551615)?;
-    assert_eq!(rt;
+    is(
+        &rt,
+        "out.as_slice()",
         out.as_slice(),
-        b"0 and 10, 18446744073709551615".as_slice()
+        b"0 and 10, 18446744073709551615".as_slice(),
     );
     Ok(())
 }
@@ -412,48 +486,88 @@ fn texts_of_the_faults(rt: HostRuntime) -> Result<(), Fail> {
             "line 7: text ends too early",
         ),
     ] {
-        assert_eq!(rt; kind.text(), text);
-        assert_eq!(rt; kind.to_string(rt.alloc())?.as_str(), text);
+        is(&rt, "kind.text()", kind.text(), text);
+        is(
+            &rt,
+            "kind.to_string(rt.alloc())?.as_str()",
+            kind.to_string(rt.alloc())?.as_str(),
+            text,
+        );
         let found = TextFault::At { line: 7, kind }.to_string(rt.alloc())?;
-        assert_eq!(rt; found.as_str(), fault);
+        is(&rt, "found.as_str()", found.as_str(), fault);
     }
     let refused = TextFault::NoMemory.to_string(rt.alloc())?;
-    assert_eq!(rt; refused.as_str(), "no memory");
+    is(&rt, "refused.as_str()", refused.as_str(), "no memory");
     Ok(())
 }
 
 #[test]
 fn parts_are_taken(rt: HostRuntime) {
-    assert_eq!(rt; after(b"end pass", b"end "), Some(b"pass".as_slice()));
-    assert_eq!(rt; after(b"end", b"end "), None);
-    assert_eq!(rt; take_line_end(b"\nend"), Some(b"end".as_slice()));
-    assert_eq!(rt; take_line_end(b""), Some(b"".as_slice()));
-    assert_eq!(rt; take_line_end(b" \n"), None);
-    assert_eq!(rt; take_number(b"10 "), Some((10, b" ".as_slice())));
-    assert_eq!(rt; take_number(b"010"), None);
-    assert_eq!(rt; as_behaviours(256), Some(256));
-    assert_eq!(rt; as_behaviours(257), None);
-    assert_eq!(rt;
+    is(
+        &rt,
+        "after(b\"end pass\", b\"end \")",
+        after(b"end pass", b"end "),
+        Some(b"pass".as_slice()),
+    );
+    is(
+        &rt,
+        "after(b\"end\", b\"end \")",
+        after(b"end", b"end "),
+        None,
+    );
+    is(
+        &rt,
+        "take_line_end(b\"\\nend\")",
+        take_line_end(b"\nend"),
+        Some(b"end".as_slice()),
+    );
+    is(
+        &rt,
+        "take_line_end(b\"\")",
+        take_line_end(b""),
+        Some(b"".as_slice()),
+    );
+    is(&rt, "take_line_end(b\" \\n\")", take_line_end(b" \n"), None);
+    is(
+        &rt,
+        "take_number(b\"10 \")",
+        take_number(b"10 "),
+        Some((10, b" ".as_slice())),
+    );
+    is(&rt, "take_number(b\"010\")", take_number(b"010"), None);
+    is(&rt, "as_behaviours(256)", as_behaviours(256), Some(256));
+    is(&rt, "as_behaviours(257)", as_behaviours(257), None);
+    is(
+        &rt,
+        "take_verdict(b\"inconc\\n\")",
         take_verdict(b"inconc\n"),
-        Some((Verdict::Inconc, b"\n".as_slice()))
+        Some((Verdict::Inconc, b"\n".as_slice())),
     );
-    assert_eq!(rt;
+    is(
+        &rt,
+        "take_reply(b\"error\\n\")",
         take_reply(b"error\n"),
-        Some((Reply::Local(Verdict::Error), b"\n".as_slice()))
+        Some((Reply::Local(Verdict::Error), b"\n".as_slice())),
     );
-    assert_eq!(rt;
+    is(
+        &rt,
+        "take_reply(b\"error stuck\\n\")",
         take_reply(b"error stuck\n"),
-        Some((Reply::Fault(Fault::Stuck), b"\n".as_slice()))
+        Some((Reply::Fault(Fault::Stuck), b"\n".as_slice())),
     );
-    assert_eq!(rt;
+    is(
+        &rt,
+        "take_reply(b\"made 7\\n\")",
         take_reply(b"made 7\n"),
-        Some((Reply::Made(Comp(7)), b"\n".as_slice()))
+        Some((Reply::Made(Comp(7)), b"\n".as_slice())),
     );
-    assert_eq!(rt;
+    is(
+        &rt,
+        "take_reply(b\"errors\")",
         take_reply(b"errors"),
-        Some((Reply::Local(Verdict::Error), b"s".as_slice()))
+        Some((Reply::Local(Verdict::Error), b"s".as_slice())),
     );
-    assert_eq!(rt; take_reply(b"maybe"), None);
+    is(&rt, "take_reply(b\"maybe\")", take_reply(b"maybe"), None);
 }
 
 #[test]
@@ -462,47 +576,70 @@ fn moves_are_taken(rt: HostRuntime) {
         killed: true,
         target: Target::Any,
     };
-    assert_eq!(rt;
-        take_move(b"3 wait killed any -> ok"),
-        Some(((Run(3), wait), b" -> ok".as_slice()))
+    is(
+        &rt,
+        "take_move(b\"3 wait killed any -> ok\")",
+        &take_move(b"3 wait killed any -> ok"),
+        &Some(((Run(3), wait), b" -> ok".as_slice())),
     );
     let start = Op::Start {
         comp: Comp(1),
         run: Run(2),
         args: Args::new(),
     };
-    assert_eq!(rt;
-        take_move(b"0 start 1 2\n"),
-        Some(((Run(0), start), b"\n".as_slice()))
+    is(
+        &rt,
+        "take_move(b\"0 start 1 2\\n\")",
+        &take_move(b"0 start 1 2\n"),
+        &Some(((Run(0), start), b"\n".as_slice())),
     );
-    assert_eq!(rt; take_move(b"0 stop any"), None);
+    is(
+        &rt,
+        "take_move(b\"0 stop any\")",
+        &take_move(b"0 stop any"),
+        &None,
+    );
 }
 
 #[test]
 fn a_start_is_no_short_move(rt: HostRuntime) {
     let mut args = Args::new();
-    assert!(rt; args.push(Comp(7)));
+    holds(&rt, "args.push(Comp(7))", args.push(Comp(7)));
     let start = Op::Start {
         comp: Comp(1),
         run: Run(2),
         args,
     };
-    assert_eq!(rt;
-        take_long_move(b"0 start 1 2 7 -> ok"),
-        Some(((Run(0), start), b" -> ok".as_slice()))
+    is(
+        &rt,
+        "take_long_move(b\"0 start 1 2 7 -> ok\")",
+        &take_long_move(b"0 start 1 2 7 -> ok"),
+        &Some(((Run(0), start), b" -> ok".as_slice())),
     );
-    assert_eq!(rt; take_long_move(b"0 stop 1"), None);
-    assert_eq!(rt; take_short_move(b"0 start 1 2"), None);
+    is(
+        &rt,
+        "take_long_move(b\"0 stop 1\")",
+        &take_long_move(b"0 stop 1"),
+        &None,
+    );
+    is(
+        &rt,
+        "take_short_move(b\"0 start 1 2\")",
+        &take_short_move(b"0 start 1 2"),
+        &None,
+    );
     let Some(((run, short), rest)) = take_short_move(b"5 create alive\n") else {
         panic!(rt; "a create was not read")
     };
-    assert_eq!(rt; run, Run(5));
-    assert_eq!(rt;
-        short.op(),
-        Op::Create {
+    is(&rt, "run", run, Run(5));
+    is(
+        &rt,
+        "short.op()",
+        &short.op(),
+        &Op::Create {
             alive: true,
-            name: None
-        }
+            name: None,
+        },
     );
-    assert_eq!(rt; rest, b"\n".as_slice());
+    is(&rt, "rest", rest, b"\n".as_slice());
 }
