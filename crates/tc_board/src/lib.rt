@@ -15,6 +15,3 @@ pub use board::Board;
 pub use hand::{Hand, Said};
 pub use keeper::Keeper;
 pub use record::Record;
-
-#[cfg(test)]
-mod tests;

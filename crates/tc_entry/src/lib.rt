@@ -21,6 +21,3 @@ pub use phase::Phase;
 pub use reply::{Fault, Reply};
 pub use sequence::Sequence;
 pub use tc_verdict::{NoMemory, Run, UserVerdict, Verdict};
-
-#[cfg(test)]
-mod tests;

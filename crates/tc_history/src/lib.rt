@@ -10,6 +10,3 @@ mod read;
 pub use block::write_block;
 pub use header::{FORMAT_1_BEHAVIOURS, Header};
 pub use read::{BegunBlock, Block, TakesHistories, read_history, read_history_into};
-
-#[cfg(test)]
-mod tests;

@@ -9,6 +9,3 @@ mod run_log;
 
 pub use merging::merge;
 pub use run_log::RunLog;
-
-#[cfg(test)]
-mod tests;

@@ -14,6 +14,3 @@ pub use script::Script;
 pub use step::{Status, Step};
 pub use tc_entry::Name;
 pub use tc_verdict::{Run, UserVerdict};
-
-#[cfg(test)]
-mod tests;

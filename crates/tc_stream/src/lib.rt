@@ -9,6 +9,3 @@ mod output;
 pub use counted::{CountedRead, CountedReader, CountedWrite, CountedWriter};
 pub use input::{InputFault, read_counted, read_input};
 pub use output::{WriteFault, write_counted, write_whole};
-
-#[cfg(test)]
-mod tests;

@@ -12,6 +12,3 @@ pub use run::Run;
 pub use user_verdict::{UserVerdict, from_user, of_rank, rank, to_user};
 pub use verdict::{Verdict, name, overwrite, read_name, worse_of, worst};
 pub use words::EARLY_END;
-
-#[cfg(test)]
-mod tests;

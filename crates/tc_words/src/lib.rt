@@ -6,6 +6,3 @@ mod words;
 
 pub use counting::counts;
 pub use words::Words;
-
-#[cfg(test)]
-mod tests;

@@ -1,6 +1,9 @@
 //! Verdicts, their names and their ranks.
-use super::*;
 use std::test::Fail;
+use tc_verdict::{
+    NoMemory, Run, UserVerdict, Verdict, from_user, name, of_rank, overwrite, rank, read_name,
+    to_user, worse_of, worst,
+};
 
 const ALL: [Verdict; 5] = [
     Verdict::None,

@@ -1,7 +1,10 @@
 //! Readers and writers that give and take little, and fail.
-use super::*;
-use crate::devices::{NarrowWriter, SlowReader, WriteFailure};
 use std::test::Fail;
+use tc_stream::devices::{NarrowWriter, SlowReader, WriteFailure};
+use tc_stream::{
+    CountedReader, CountedWriter, InputFault, WriteFault, read_counted, read_input, write_counted,
+    write_whole,
+};
 
 const NEVER: usize = usize::MAX;
 

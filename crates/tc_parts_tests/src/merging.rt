@@ -1,8 +1,8 @@
 //! Histories and logs that are merged.
-use crate::*;
 use std::alloc::Global;
 use std::test::Fail;
 use tc_entry::Sequence;
+use tc_merge::{RunLog, merge};
 use tc_table::{
     Args, Comp, Entry, Group, NoMemory, Op, Reply, Run, UserVerdict, Verdict, replay_check,
 };

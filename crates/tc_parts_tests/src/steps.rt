@@ -1,6 +1,8 @@
 //! Places and steps, bound and unbound.
-use super::*;
 use std::test::Fail;
+use tc_step::{
+    GroupPlace, Name, Place, Places, Run, Script, Status, Step, TargetPlace, UserVerdict,
+};
 
 fn start(on: Place, args: &[Place]) -> Step {
     let mut places = Places::new();

@@ -1,14 +1,12 @@
 //! Texts of histories, read and written.
-use super::*;
-use crate::header::take_header_line;
-use crate::line::{take_end_line, take_entry_line};
 use std::alloc::AllocGlobal;
 use std::process::Abort;
-use std::str;
 use std::test::Fail;
+use std::{slice, str};
 use tc_entry::{
     Args, Comp, Entry, Fault, Group, Name, Op, Reply, Run, Target, UserVerdict, Verdict,
 };
+use tc_history::{FORMAT_1_BEHAVIOURS, read_history, write_block};
 use tc_text::{TextFault, TextKind};
 
 fn entry(op: Op, reply: Reply) -> Entry {
@@ -240,31 +238,68 @@ fn a_written_history_is_read(rt: HostRuntime) -> Result<(), Fail> {
     Ok(())
 }
 
+/// The text is one block, of the test case `t_1` and the verdict none, that says this.
+fn is_one_block<R: Abort + AllocGlobal>(
+    rt: &R,
+    text: &str,
+    format: u16,
+    behaviours: u16,
+    entries: &[Entry],
+) -> Result<(), Fail> {
+    let blocks = read_history(rt.alloc(), text.as_bytes()).map_err(|_| "a history")?;
+    assert_eq!(rt; blocks.len(), 1, "{text}");
+    let block = blocks.first().ok_or("a block")?;
+    assert_eq!(rt; block.format, format, "{text}");
+    assert_eq!(rt; block.name.bytes(), b"t_1".as_slice(), "{text}");
+    assert_eq!(rt; block.behaviours, behaviours, "{text}");
+    assert_eq!(rt; block.first_line, 1, "{text}");
+    assert_eq!(rt; block.entries.as_slice().len(), entries.len(), "{text}");
+    for (read, wanted) in block.entries.as_slice().iter().zip(entries) {
+        assert!(rt; read.same(wanted), "{text}");
+    }
+    assert_eq!(rt; block.verdict, Verdict::None, "{text}");
+    Ok(())
+}
+
+// Each line ends where its newline stands, and says what it says by the format of its block.
 #[test]
 fn lines_are_taken(rt: HostRuntime) -> Result<(), Fail> {
-    let (header, rest) = take_header_line(b"history 1 t_1 64\nend none\n").ok_or("a first line")?;
-    assert_eq!(rt; header.format, 1);
-    assert_eq!(rt; header.name.bytes(), b"t_1".as_slice());
-    assert_eq!(rt; header.behaviours, 64);
-    assert_eq!(rt; take_end_line(rest), Some((Verdict::None, b"".as_slice())));
-    let (taken, rest) = take_entry_line(1, b"0 create -> made 1\nend").ok_or("an entry")?;
-    let created = entry(create(false), Reply::Made(Comp(1)));
-    assert!(rt; taken.same(&created));
-    assert_eq!(rt; rest, b"end".as_slice());
-    assert!(rt; take_header_line(b"history 1 t_1 65\n").is_none());
-    assert!(rt; take_end_line(b"end none \n").is_none());
-    assert!(rt; take_entry_line(1, b"0 create -> made 1 \n").is_none());
-    let pump = b"0 create named pump -> made 1\nend";
-    assert!(rt; take_entry_line(1, pump).is_none());
-    let (taken, rest) = take_entry_line(2, pump).ok_or("an entry")?;
-    let created = entry(named(false, "pump"), Reply::Made(Comp(1)));
-    assert!(rt; taken.same(&created));
-    assert_eq!(rt; rest, b"end".as_slice());
-    let (header, _) = take_header_line(b"history 2 t_1 256\n").ok_or("a first line")?;
-    assert_eq!(rt; header.format, 2);
-    assert_eq!(rt; header.behaviours, 256);
-    assert!(rt; take_header_line(b"history 2 t_1 257\n").is_none());
-    assert!(rt; take_header_line(b"history 3 t_1 1\n").is_none());
+    let created = [entry(create(false), Reply::Made(Comp(1)))];
+    let pump = [entry(named(false, "pump"), Reply::Made(Comp(1)))];
+    is_one_block(&rt, "history 1 t_1 64\nend none\n", 1, 64, &[])?;
+    is_one_block(&rt, "history 2 t_1 256\nend none\n", 2, 256, &[])?;
+    let text = "history 1 t_1 1\n0 create -> made 1\nend none";
+    is_one_block(&rt, text, 1, 1, &created)?;
+    let text = "history 2 t_1 1\n0 create named pump -> made 1\nend none";
+    is_one_block(&rt, text, 2, 1, &pump)?;
+    for (text, line, kind) in [
+        ("history 1 t_1 65\nend none\n", 1, TextKind::FirstLine),
+        ("history 2 t_1 257\nend none\n", 1, TextKind::FirstLine),
+        ("history 3 t_1 1\nend none\n", 1, TextKind::FirstLine),
+        ("history 1 t_1 64\nend none \n", 2, TextKind::Entry),
+        (
+            "history 1 t_1 1\n0 create -> made 1 \nend none\n",
+            2,
+            TextKind::Entry,
+        ),
+        (
+            "history 1 t_1 1\n0 create named pump -> made 1\nend none\n",
+            2,
+            TextKind::Entry,
+        ),
+        (
+            "history 1 t_1 1\n0 create -> made 1\nend",
+            3,
+            TextKind::Entry,
+        ),
+        (
+            "history 2 t_1 1\n0 create named pump -> made 1\nend",
+            3,
+            TextKind::Entry,
+        ),
+    ] {
+        is_refused(&rt, text, line, kind);
+    }
     Ok(())
 }
 

@@ -2,13 +2,13 @@
 ghost use Rattle.std.specs.Prelude.{◌≡◌, ◌≢◌, []};
 ghost use Rattle.tc_board.specs.Keeper.{IsOpen};
 
-use super::*;
 use std::alloc::AllocGlobal;
 use std::process::Abort;
 use std::sync::atomic::{AtomicBool, Ordering};
 use std::test::*;
 use std::thread;
 use std::thread::Threads;
+use tc_board::{Board, Hand, Keeper, Said};
 use tc_verdict::{Run, UserVerdict};
 
 #[test]

@@ -3,16 +3,16 @@ ghost use Rattle.std.specs.Prelude.{◌≡◌, OnOk};
 ghost use Rattle.tc_table.specs.Case.{past_of};
 ghost use Rattle.tc_words.specs.Words.{AreTold};
 
-use super::*;
 use std::sync::Arc;
 use std::test::Fail;
 use tc_board::{Board, Record, Said};
 use tc_entry::{Args, Comp, Entry, Group, Op, Reply};
 use tc_table::Table;
 use tc_verdict::{NoMemory, Run, UserVerdict};
+use tc_words::{Words, counts};
 
 /// Plays a call on the table, and brings the words up to it.
-#[tactic(auto, using(crate::proofs::Newest::past_more))]
+#[tactic(auto, using(tc_words::proofs::Newest::past_more))]
 fn play(words: &mut Words, table: &mut Table, caller: u16, op: Op) -> Result<Reply, NoMemory>
     requires { AreTold table.old.behaviours (past_of table.old) words.old }
     ensures behaviours { table.new.behaviours ≡ table.old.behaviours }

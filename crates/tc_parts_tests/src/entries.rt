@@ -1,6 +1,9 @@
 //! Arguments, names, copies and sequences.
-use super::*;
 use std::test::Fail;
+use tc_entry::{
+    Args, Comp, Entry, Fault, Group, NAME_BYTES, Name, Op, Reply, Run, Sequence, is_behaviours,
+    may_create,
+};
 
 #[test]
 fn arguments_are_at_most_four(rt: HostRuntime) {

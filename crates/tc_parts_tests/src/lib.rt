@@ -1,0 +1,19 @@
+//! The tests of the small libraries, in a crate of their own: a check of them proves no library once more.
+#![tactic(auto)]
+
+#[cfg(test)]
+mod board;
+#[cfg(test)]
+mod entries;
+#[cfg(test)]
+mod histories;
+#[cfg(test)]
+mod merging;
+#[cfg(test)]
+mod steps;
+#[cfg(test)]
+mod streams;
+#[cfg(test)]
+mod verdicts;
+#[cfg(test)]
+mod words;
