@@ -173,8 +173,6 @@ def public_clauses(crate: str) -> Iterator[Tuple[str, Set[Place]]]:
     names, modules = offered(crate)
     for path in files_below(f"crates/{crate}/src", ".rt"):
         text = text_of(path)
-        if "#[cfg(test)]\nmod" in text and path.endswith("tests.rt"):
-            continue
         imports = Imports(text)
         module = path.split("/src/")[1][:-3].split("/")[0]
         for around, name, is_open, clauses in items_of(text):

@@ -61,7 +61,7 @@ def files_of_sources(top: str) -> List[str]:
     """The files of code of all crates, without their tests."""
     found = []
     for at, folders, names in os.walk(os.path.join(top, "crates")):
-        folders[:] = [it for it in folders if it not in ("out", "tests")]
+        folders[:] = [it for it in folders if it not in ("out", "tests") and not it.endswith("_tests")]
         found += [os.path.join(at, it) for it in names if it.endswith(".rt") and it != "tests.rt"]
     return sorted(found)
 
