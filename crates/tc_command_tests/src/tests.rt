@@ -1,4 +1,7 @@
 //! Command lines, of which each two words have a space between them.
+mod checks;
+
+use checks::{holds, is};
 use clap::error::ErrorKind;
 use std::alloc::{AllocError, AllocGlobal, Global};
 use std::process::Abort;
@@ -113,7 +116,7 @@ fn is_read<R: Abort + AllocGlobal>(
     let alloc = rt.alloc();
     let words = words(alloc, line)?;
     let read = read_task(alloc, words.as_slice()).map_err(|error| error.kind());
-    assert_eq!(rt; read, wanted, "{line}");
+    is(rt, line, &read, &wanted);
     Ok(())
 }
 
@@ -325,7 +328,12 @@ fn lines_with_live(rt: HostRuntime) -> Result<(), Fail> {
 fn no_words_at_all(rt: HostRuntime) -> Result<(), Fail> {
     let alloc = rt.alloc();
     let wanted = Task::Run(options(alloc, Form::Text, false, None));
-    assert_eq!(rt; read_task(alloc, &[])?, wanted);
+    is(
+        &rt,
+        "read_task(alloc, &[])?",
+        &read_task(alloc, &[])?,
+        &wanted,
+    );
     Ok(())
 }
 
@@ -536,7 +544,12 @@ fn lines_that_ask_for_the_version(rt: HostRuntime) -> Result<(), Fail> {
     let words = words(alloc, "another-name --version")?;
     let shown = read_task(alloc, words.as_slice()).err().ok_or("shown")?;
     let wanted = format!(in alloc; "ttrun {VERSION}\n")?;
-    assert_eq!(rt; shown.to_string(alloc)?, wanted);
+    is(
+        &rt,
+        "shown.to_string(alloc)?",
+        shown.to_string(alloc)?.as_str(),
+        wanted.as_str(),
+    );
     Ok(())
 }
 
@@ -569,13 +582,17 @@ fn refused_options_are_named(rt: HostRuntime) -> Result<(), Fail> {
         let told = format!(in alloc;
             "error: the argument '--{first}' cannot be used with '--{second}'\n"
         )?;
-        assert!(rt; text.as_str().starts_with(told.as_str()), "{line}: {text}");
+        holds(
+            &rt,
+            "text.as_str().starts_with(told.as_str())",
+            text.as_str().starts_with(told.as_str()),
+        );
     }
     let words = words(alloc, "ttrun report")?;
     let refusal = read_task(alloc, words.as_slice()).err().ok_or("refused")?;
     let text = refusal.to_string(alloc)?;
     let told = "error: one of the arguments '--csv', '--junit' and '--chart' is needed\n";
-    assert!(rt; text.as_str().starts_with(told), "{text}");
+    holds(&rt, text.as_str(), text.as_str().starts_with(told));
     Ok(())
 }
 
@@ -596,20 +613,31 @@ fn a_file_in_place_of_a_subcommand(rt: HostRuntime) -> Result<(), Fail> {
     for (line, file) in lines {
         let line = format!(in alloc; "ttrun {line}")?;
         let words = words(alloc, line.as_str())?;
-        assert_eq!(rt; stray_file(words.as_slice()).is_some(), file.is_some());
+        is(
+            &rt,
+            "stray_file(words.as_slice()).is_some()",
+            stray_file(words.as_slice()).is_some(),
+            file.is_some(),
+        );
         let refusal = read_task(alloc, words.as_slice()).err().ok_or("refused")?;
-        assert_eq!(rt; refusal.kind(), ErrorKind::InvalidSubcommand, "{line}");
+        is(
+            &rt,
+            line.as_str(),
+            refusal.kind(),
+            ErrorKind::InvalidSubcommand,
+        );
         let text = refusal.to_string(alloc)?;
-        assert_eq!(rt;
+        is(
+            &rt,
+            text.as_str(),
             text.as_str().contains("tip: ttrun run < "),
             file.is_some(),
-            "{text}"
         );
         if let Some(file) = file {
             let told = format!(in alloc;
                 "error: unrecognized subcommand '{file}'\n\n  tip: ttrun run < {file}\n"
             )?;
-            assert!(rt; text.as_str().starts_with(told.as_str()), "{text}");
+            holds(&rt, text.as_str(), text.as_str().starts_with(told.as_str()));
         }
     }
     Ok(())
@@ -696,7 +724,11 @@ fn the_help_says_what_each_word_does(rt: HostRuntime) -> Result<(), Fail> {
         let words = words(alloc, line)?;
         let help = read_task(alloc, words.as_slice()).err().ok_or("help")?;
         let text = help.to_string(alloc)?;
-        assert!(rt; text.as_str().contains(part), "{line}: {text}");
+        holds(
+            &rt,
+            "text.as_str().contains(part)",
+            text.as_str().contains(part),
+        );
     }
     Ok(())
 }

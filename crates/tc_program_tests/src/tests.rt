@@ -2,7 +2,7 @@
 //! clauses, so that the proof of a test carries none of the library's.
 mod checks;
 
-use crate::tests::checks::is;
+use crate::tests::checks::{holds, is};
 use calls::{answer, carry_out, fault_line};
 use std::alloc::{AllocError, Global};
 use std::process::Abort;
@@ -68,8 +68,8 @@ impl Command {
         let wanted = lines(rt.alloc(), output)?;
         let mut written = Vec::new(rt.alloc());
         let answer = self.answer(rt.alloc(), given.as_slice(), &mut written)?;
-        assert_eq!(rt; answer, status, "{input}");
-        assert_eq!(rt; written.as_slice(), wanted.as_slice(), "{input}");
+        is(rt, input, answer, status);
+        is(rt, input, written.as_slice(), wanted.as_slice());
         Ok(())
     }
 
@@ -83,7 +83,7 @@ impl Command {
         }
         let wanted = lines(rt.alloc(), line)?;
         is(rt, "told.as_slice()", told.as_slice(), wanted.as_slice());
-        assert!(rt; written.is_empty(), "{line}");
+        holds(rt, line, written.is_empty());
         Ok(())
     }
 }
@@ -163,8 +163,8 @@ impl Came {
     ) -> Result<(), Fail> {
         let told = text_of(alloc, wanted.told)?;
         let written = text_of(alloc, wanted.written)?;
-        assert_eq!(rt; self.told.as_slice(), told.as_slice(), "{of}");
-        assert_eq!(rt; self.written.as_slice(), written.as_slice(), "{of}");
+        is(rt, of, self.told.as_slice(), told.as_slice());
+        is(rt, of, self.written.as_slice(), written.as_slice());
         compare_outcome(rt, &self.outcome, wanted.status, of);
         Ok(())
     }
@@ -172,8 +172,8 @@ impl Came {
 
 // Compares the outcome with one of this status, of which all was told.
 fn compare_outcome<R: Abort>(rt: &R, outcome: &Outcome, status: u8, of: &str) {
-    assert_eq!(rt; outcome.told, Ok(()), "{of}");
-    assert_eq!(rt; outcome.status, status, "{of}");
+    is(rt, of, outcome.told, Ok(()));
+    is(rt, of, outcome.status, status);
 }
 
 // What comes of the task on the input.

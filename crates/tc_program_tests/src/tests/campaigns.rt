@@ -219,7 +219,7 @@ fn words_of_stop_on(rt: HostRuntime) -> Result<(), Fail> {
             lines(rt.alloc(), NO_VERDICT)?.as_slice(),
         );
         holds(&rt, "written.is_empty()", written.is_empty());
-        assert_eq!(rt; reader.reads, 0, "{word}");
+        is(&rt, word, reader.reads, 0);
     }
     Ok(())
 }
@@ -264,14 +264,15 @@ fn compare_with_live<R: Abort + Threads + Wait + Copy + Send + 'static>(
     let input = lines(alloc, script)?;
     let run = came_of_line(rt, alloc, plain.as_str(), input.as_slice())?;
     let live_run = came_of_line(rt, alloc, live.as_str(), input.as_slice())?;
-    assert!(rt; !run.written.is_empty(), "{options}");
-    assert_eq!(rt;
+    holds(rt, options, !run.written.is_empty());
+    is(
+        rt,
+        options,
         live_run.written.as_slice(),
         run.written.as_slice(),
-        "{options}"
     );
-    assert_eq!(rt; live_run.told.as_slice(), run.told.as_slice(), "{options}");
-    assert_eq!(rt; live_run.outcome, run.outcome, "{options}");
+    is(rt, options, live_run.told.as_slice(), run.told.as_slice());
+    is(rt, options, &live_run.outcome, &run.outcome);
     Ok(())
 }
 

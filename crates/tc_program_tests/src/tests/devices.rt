@@ -136,7 +136,7 @@ fn reads<R: Abort + Threads + Wait + Copy + Send + 'static>(
         holds(rt, "told.is_empty()", told.is_empty());
         return Ok(());
     }
-    assert_eq!(rt; outcome.status, 3, "at {fails_at}");
+    is(rt, "outcome.status", outcome.status, 3);
     is(
         rt,
         "told.as_slice()",
@@ -179,17 +179,18 @@ fn writes<R: Abort + Threads + Wait + Copy + Send + 'static>(
         &mut told,
     );
     is(rt, "outcome.told", outcome.told, Ok(()));
-    assert_eq!(rt;
+    is(
+        rt,
+        "Some(writer.taken.as_slice())",
         Some(writer.taken.as_slice()),
         output.as_slice().get(..fails_at),
-        "at {fails_at}"
     );
     if fails_at == output.len() {
         is(rt, "outcome.status", outcome.status, row.status);
         holds(rt, "told.is_empty()", told.is_empty());
         return Ok(());
     }
-    assert_eq!(rt; outcome.status, 3, "at {fails_at}");
+    is(rt, "outcome.status", outcome.status, 3);
     is(
         rt,
         "told.as_slice()",
@@ -236,7 +237,7 @@ fn failing_devices(rt: HostRuntime) -> Result<(), Fail> {
             failed = failed.saturating_add(writes_each(&rt, alloc, number, failure)?);
         }
     }
-    assert!(rt; failed > 1_000, "{failed} calls");
+    holds(&rt, "failed > 1_000", failed > 1_000);
     Ok(())
 }
 
@@ -249,10 +250,10 @@ fn bad_states_are_refused_before_a_read(rt: HostRuntime) -> Result<(), Fail> {
         let mut told = Vec::new(rt.alloc());
         let task = explore_task(Some(word));
         let outcome = carry_out(&rt, rt.alloc(), task, &mut reader, &mut written, &mut told);
-        assert_eq!(rt; told.as_slice(), line, "{word}");
+        is(&rt, word, told.as_slice(), line);
         is(&rt, "outcome.status", outcome.status, 3);
         holds(&rt, "written.is_empty()", written.is_empty());
-        assert_eq!(rt; reader.reads, 0, "{word}");
+        is(&rt, word, reader.reads, 0);
     }
     Ok(())
 }
@@ -338,7 +339,7 @@ fn each_byte_in_place_of_each(rt: HostRuntime) -> Result<(), Fail> {
         }
     }
     let Tried { answered, refused } = tried;
-    assert!(rt; answered >= INCONC.len(), "{answered} answered");
-    assert!(rt; refused > 15_000, "{refused} refused");
+    holds(&rt, "answered >= INCONC.len()", answered >= INCONC.len());
+    holds(&rt, "refused > 15_000", refused > 15_000);
     Ok(())
 }

@@ -82,7 +82,12 @@ fn the_line_stands_before_the_first_read_alone(rt: HostRuntime) -> Result<(), Fa
         );
         is(&rt, "input.read(mut byte)", input.read(&mut byte)?, 1);
         is(&rt, "input.read(mut byte)", input.read(&mut byte)?, 0);
-        assert_eq!(rt; input.errors.taken.len(), told);
+        is(
+            &rt,
+            "input.errors.taken.len()",
+            input.errors.taken.len(),
+            told,
+        );
     }
     Ok(())
 }

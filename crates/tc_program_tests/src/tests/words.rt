@@ -67,13 +67,13 @@ fn shown_unread<R: Abort + Threads + Wait + Copy + Send + 'static>(
     let mut told = Vec::new(alloc);
     let outcome = answer(rt, alloc, words, &mut reader, &mut written, &mut told);
     compare_outcome(rt, &outcome, status, line);
-    assert_eq!(rt; reader.reads, 0, "{line}");
+    is(rt, line, reader.reads, 0);
     let (shown, other) = if status == 0 {
         (written, told)
     } else {
         (told, written)
     };
-    assert!(rt; other.is_empty(), "{line}");
+    holds(rt, line, other.is_empty());
     Ok(shown)
 }
 
@@ -91,8 +91,8 @@ fn words_that_ask_for_no_task(rt: HostRuntime) -> Result<(), Fail> {
     for (line, status, part) in command_lines {
         let shown = shown_unread(&rt, alloc, line, status)?;
         let shown = str::from_utf8(shown.as_slice()).map_err(|_| "a text")?;
-        assert!(rt; shown.contains(part), "{line}: {shown}");
-        assert_eq!(rt; shown.starts_with("error: "), status == 3, "{shown}");
+        holds(&rt, "shown.contains(part)", shown.contains(part));
+        is(&rt, shown, shown.starts_with("error: "), status == 3);
     }
     Ok(())
 }
@@ -118,7 +118,7 @@ fn help_that_is_not_written(rt: HostRuntime) -> Result<(), Fail> {
             told.as_slice(),
             b"ttrun: write fault\n".as_slice(),
         );
-        assert_eq!(rt; writer.taken.len(), fails_at);
+        is(&rt, "writer.taken.len()", writer.taken.len(), fails_at);
     }
     Ok(())
 }
