@@ -1,4 +1,5 @@
 //! Arguments, names, copies and sequences.
+use crate::checks::{holds, is};
 use std::test::Fail;
 use tc_entry::{
     Args, Comp, Entry, Fault, Group, NAME_BYTES, Name, Op, Reply, Run, Sequence, is_behaviours,
@@ -9,35 +10,42 @@ use tc_entry::{
 fn arguments_are_at_most_four(rt: HostRuntime) {
     let mut args = Args::new();
     for number in 0..4 {
-        assert!(rt; args.push(Comp(number)));
+        holds(&rt, "args.push(Comp(number))", args.push(Comp(number)));
     }
-    assert!(rt; !args.push(Comp(4)));
-    assert_eq!(rt;
+    holds(&rt, "!args.push(Comp(4))", !args.push(Comp(4)));
+    is(
+        &rt,
+        "args.as_slice()",
         args.as_slice(),
-        [Comp(0), Comp(1), Comp(2), Comp(3)].as_slice()
+        [Comp(0), Comp(1), Comp(2), Comp(3)].as_slice(),
     );
 }
 
 #[test]
 fn limits(rt: HostRuntime) {
-    assert!(rt; !is_behaviours(0));
-    assert!(rt; is_behaviours(1));
-    assert!(rt; is_behaviours(256));
-    assert!(rt; !is_behaviours(257));
-    assert!(rt; may_create(999));
-    assert!(rt; !may_create(1000));
-    assert_eq!(rt; NAME_BYTES, 32);
+    holds(&rt, "!is_behaviours(0)", !is_behaviours(0));
+    holds(&rt, "is_behaviours(1)", is_behaviours(1));
+    holds(&rt, "is_behaviours(256)", is_behaviours(256));
+    holds(&rt, "!is_behaviours(257)", !is_behaviours(257));
+    holds(&rt, "may_create(999)", may_create(999));
+    holds(&rt, "!may_create(1000)", !may_create(1000));
+    is(&rt, "NAME_BYTES", NAME_BYTES, 32);
 }
 
 #[test]
 fn names(rt: HostRuntime) {
     for text in ["t_1", "abcdefghijklmnopqrstuvwxyz_ABC12"] {
         let read = Name::read(text);
-        assert!(rt; read.is_some(), "{text}");
+        holds(&rt, text, read.is_some());
         if let Some(name) = read {
-            assert_eq!(rt; name.bytes(), text.as_bytes());
-            assert!(rt; name.same(&name.copy()));
-            assert_eq!(rt; Name::of_bytes(text.as_bytes()), Some(name));
+            is(&rt, "name.bytes()", name.bytes(), text.as_bytes());
+            holds(&rt, "name.same(&name.copy())", name.same(&name.copy()));
+            is(
+                &rt,
+                "Name::of_bytes(text.as_bytes())",
+                &Name::of_bytes(text.as_bytes()),
+                &Some(name),
+            );
         }
     }
     for text in [
@@ -51,8 +59,8 @@ fn names(rt: HostRuntime) {
         "a-b",
         "abcdefghijklmnopqrstuvwxyz_ABC123",
     ] {
-        assert!(rt; Name::read(text).is_none(), "{text}");
-        assert!(rt; Name::of_bytes(text.as_bytes()).is_none(), "{text}");
+        holds(&rt, text, Name::read(text).is_none());
+        holds(&rt, text, Name::of_bytes(text.as_bytes()).is_none());
     }
 }
 
@@ -64,7 +72,7 @@ fn named_creates_are_told_apart(rt: HostRuntime) -> Result<(), Fail> {
         alive: true,
         name: Some(pump),
     };
-    assert!(rt; named.same(&named.copy()));
+    holds(&rt, "named.same(&named.copy())", named.same(&named.copy()));
     for other in [
         Op::Create {
             alive: true,
@@ -75,8 +83,8 @@ fn named_creates_are_told_apart(rt: HostRuntime) -> Result<(), Fail> {
             name: Some(valve),
         },
     ] {
-        assert!(rt; !named.same(&other));
-        assert!(rt; !other.same(&named));
+        holds(&rt, "!named.same(&other)", !named.same(&other));
+        holds(&rt, "!other.same(&named)", !other.same(&named));
     }
     Ok(())
 }
@@ -84,7 +92,7 @@ fn named_creates_are_told_apart(rt: HostRuntime) -> Result<(), Fail> {
 #[test]
 fn copies_are_the_same(rt: HostRuntime) {
     let mut args = Args::new();
-    assert!(rt; args.push(Comp(3)));
+    holds(&rt, "args.push(Comp(3))", args.push(Comp(3)));
     let entry = Entry {
         caller: Run(1),
         op: Op::Start {
@@ -95,8 +103,8 @@ fn copies_are_the_same(rt: HostRuntime) {
         reply: Reply::Ok,
     };
     let copy = entry.copy();
-    assert!(rt; entry.same(&copy));
-    assert!(rt; entry == copy);
+    holds(&rt, "entry.same(&copy)", entry.same(&copy));
+    holds(&rt, "entry == copy", entry == copy);
     let other = Entry {
         caller: Run(1),
         op: Op::Start {
@@ -106,18 +114,34 @@ fn copies_are_the_same(rt: HostRuntime) {
         },
         reply: Reply::Ok,
     };
-    assert!(rt; !entry.same(&other));
-    assert!(rt; !Op::GetVerdict.same(&Op::Finish));
-    assert!(rt; Op::StopCase.same(&Op::StopCase.copy()));
-    assert!(rt; !Op::StopCase.same(&Op::Finish));
-    assert_eq!(rt; Comp(5).copy(), Comp(5));
-    assert!(rt; Reply::Parked.copy().same(&Reply::Parked));
+    holds(&rt, "!entry.same(&other)", !entry.same(&other));
+    holds(
+        &rt,
+        "!Op::GetVerdict.same(&Op::Finish)",
+        !Op::GetVerdict.same(&Op::Finish),
+    );
+    holds(
+        &rt,
+        "Op::StopCase.same(&Op::StopCase.copy())",
+        Op::StopCase.same(&Op::StopCase.copy()),
+    );
+    holds(
+        &rt,
+        "!Op::StopCase.same(&Op::Finish)",
+        !Op::StopCase.same(&Op::Finish),
+    );
+    is(&rt, "Comp(5).copy()", Comp(5).copy(), Comp(5));
+    holds(
+        &rt,
+        "Reply::Parked.copy().same(&Reply::Parked)",
+        Reply::Parked.copy().same(&Reply::Parked),
+    );
 }
 
 // What the documents say of the memory of a report rests on this.
 #[test]
 fn an_entry_takes_48_bytes(rt: HostRuntime) {
-    assert_eq!(rt; size_of::<Entry>(), 48);
+    is(&rt, "size_of::<Entry>()", size_of::<Entry>(), 48);
 }
 
 #[test]
@@ -128,19 +152,41 @@ fn kinds_of_replies(rt: HostRuntime) {
         Reply::Fault(Fault::Stuck),
         Reply::Parked,
     ] {
-        assert_eq!(rt; reply.is_ok(), reply == Reply::Ok);
-        assert_eq!(rt; reply.is_ended(), reply == Reply::Ended);
-        assert_eq!(rt; reply.is_fault(), reply == Reply::Fault(Fault::Stuck));
+        is(&rt, "reply.is_ok()", reply.is_ok(), reply == Reply::Ok);
+        is(
+            &rt,
+            "reply.is_ended()",
+            reply.is_ended(),
+            reply == Reply::Ended,
+        );
+        is(
+            &rt,
+            "reply.is_fault()",
+            reply.is_fault(),
+            reply == Reply::Fault(Fault::Stuck),
+        );
     }
 }
 
 #[test]
 fn members_of_a_group(rt: HostRuntime) {
-    assert!(rt; Group::One(Comp(2)).is_of(2));
-    assert!(rt; !Group::One(Comp(2)).is_of(1));
-    assert!(rt; Group::One(Comp(0)).is_of(0));
-    assert!(rt; Group::All.is_of(1));
-    assert!(rt; !Group::All.is_of(0));
+    holds(
+        &rt,
+        "Group::One(Comp(2)).is_of(2)",
+        Group::One(Comp(2)).is_of(2),
+    );
+    holds(
+        &rt,
+        "!Group::One(Comp(2)).is_of(1)",
+        !Group::One(Comp(2)).is_of(1),
+    );
+    holds(
+        &rt,
+        "Group::One(Comp(0)).is_of(0)",
+        Group::One(Comp(0)).is_of(0),
+    );
+    holds(&rt, "Group::All.is_of(1)", Group::All.is_of(1));
+    holds(&rt, "!Group::All.is_of(0)", !Group::All.is_of(0));
 }
 
 #[test]
@@ -148,6 +194,11 @@ fn sequences(rt: HostRuntime) -> Result<(), Fail> {
     let mut comps = Sequence::new(Vec::new(rt.alloc()));
     comps.push(Comp(1))?;
     comps.push(Comp(2))?;
-    assert_eq!(rt; comps.as_slice(), [Comp(1), Comp(2)].as_slice());
+    is(
+        &rt,
+        "comps.as_slice()",
+        comps.as_slice(),
+        [Comp(1), Comp(2)].as_slice(),
+    );
     Ok(())
 }

@@ -1,4 +1,5 @@
 //! Texts of histories, read and written.
+use crate::checks::{holds, is};
 use std::alloc::AllocGlobal;
 use std::process::Abort;
 use std::test::Fail;
@@ -54,9 +55,11 @@ fn history_of_a_stuck_case(rt: HostRuntime) -> Result<(), Fail> {
     let name = Name::read("solo").ok_or("a name")?;
     let mut out = Vec::new(rt.alloc());
     write_block(&mut out, &name, 1, &entries, Verdict::Error)?;
-    assert_eq!(rt;
+    is(
+        &rt,
+        "out.as_slice()",
         out.as_slice(),
-        b"history 2 solo 1\n0 create -> made 1\n0 setverdict pass -> ok\n0 wait done 1 -> parked\n0 wake done 1 -> error stuck\nend error\n".as_slice()
+        b"history 2 solo 1\n0 create -> made 1\n0 setverdict pass -> ok\n0 wait done 1 -> parked\n0 wake done 1 -> error stuck\nend error\n".as_slice(),
     );
     Ok(())
 }
@@ -64,7 +67,7 @@ fn history_of_a_stuck_case(rt: HostRuntime) -> Result<(), Fail> {
 /// The text is refused so.
 fn is_refused<R: Abort + AllocGlobal>(rt: &R, text: &str, line: usize, kind: TextKind) {
     let found = read_history(rt.alloc(), text.as_bytes()).err();
-    assert_eq!(rt; found, Some(TextFault::At { line, kind }), "{text}");
+    is(rt, text, found, Some(TextFault::At { line, kind }));
 }
 
 #[test]
@@ -78,13 +81,23 @@ end none
 history 1 again 64
 end error";
     let blocks = read_history(rt.alloc(), text.as_bytes()).map_err(|_| "histories")?;
-    assert_eq!(rt; blocks.len(), 2);
+    is(&rt, "blocks.len()", blocks.len(), 2);
     let first = blocks.first().ok_or("a block")?;
-    assert_eq!(rt; first.name.bytes(), b"t".as_slice());
-    assert_eq!(rt; first.format, 1);
-    assert_eq!(rt; first.behaviours, 1);
-    assert_eq!(rt; first.first_line, 1);
-    assert_eq!(rt; first.entries.as_slice().len(), 4);
+    is(
+        &rt,
+        "first.name.bytes()",
+        first.name.bytes(),
+        b"t".as_slice(),
+    );
+    is(&rt, "first.format", first.format, 1);
+    is(&rt, "first.behaviours", first.behaviours, 1);
+    is(&rt, "first.first_line", first.first_line, 1);
+    is(
+        &rt,
+        "first.entries.as_slice().len()",
+        first.entries.as_slice().len(),
+        4,
+    );
     let waited = entry(
         Op::Wait {
             killed: false,
@@ -93,14 +106,23 @@ end error";
         Reply::Matched,
     );
     let last = first.entries.as_slice().get(3).ok_or("an entry")?;
-    assert!(rt; last.same(&waited));
-    assert_eq!(rt; first.verdict, Verdict::None);
+    holds(&rt, "last.same(&waited)", last.same(&waited));
+    is(&rt, "first.verdict", first.verdict, Verdict::None);
     let second = blocks.get(1).ok_or("a block")?;
-    assert_eq!(rt; second.name.bytes(), b"again".as_slice());
-    assert_eq!(rt; second.behaviours, 64);
-    assert_eq!(rt; second.first_line, 7);
-    assert!(rt; second.entries.as_slice().is_empty());
-    assert_eq!(rt; second.verdict, Verdict::Error);
+    is(
+        &rt,
+        "second.name.bytes()",
+        second.name.bytes(),
+        b"again".as_slice(),
+    );
+    is(&rt, "second.behaviours", second.behaviours, 64);
+    is(&rt, "second.first_line", second.first_line, 7);
+    holds(
+        &rt,
+        "second.entries.as_slice().is_empty()",
+        second.entries.as_slice().is_empty(),
+    );
+    is(&rt, "second.verdict", second.verdict, Verdict::Error);
     Ok(())
 }
 
@@ -169,22 +191,30 @@ history 2 c 1
 end none
 ";
     let blocks = read_history(rt.alloc(), text.as_bytes()).map_err(|_| "histories")?;
-    assert_eq!(rt; blocks.len(), 3);
+    is(&rt, "blocks.len()", blocks.len(), 3);
     for (block, (format, behaviours, first_line)) in blocks
         .as_slice()
         .iter()
         .zip([(2, 256, 1), (1, 64, 6), (2, 1, 9)].iter())
     {
-        assert_eq!(rt; block.format, *format);
-        assert_eq!(rt; block.behaviours, *behaviours);
-        assert_eq!(rt; block.first_line, *first_line);
+        is(&rt, "block.format", block.format, *format);
+        is(&rt, "block.behaviours", block.behaviours, *behaviours);
+        is(&rt, "block.first_line", block.first_line, *first_line);
     }
     let first = blocks.get(0).ok_or("a block")?.entries.as_slice();
     let pump = entry(named(false, "pump"), Reply::Made(Comp(1)));
-    assert!(rt; first.get(0).ok_or("an entry")?.same(&pump));
+    holds(
+        &rt,
+        "first.get(0).ok_or(\"an entry\")?.same(&pump)",
+        first.get(0).ok_or("an entry")?.same(&pump),
+    );
     let other = entry(named(true, "named"), Reply::Made(Comp(2)));
-    assert!(rt; first.get(1).ok_or("an entry")?.same(&other));
-    assert_eq!(rt; FORMAT_1_BEHAVIOURS, 64);
+    holds(
+        &rt,
+        "first.get(1).ok_or(\"an entry\")?.same(&other)",
+        first.get(1).ok_or("an entry")?.same(&other),
+    );
+    is(&rt, "FORMAT_1_BEHAVIOURS", FORMAT_1_BEHAVIOURS, 64);
     is_refused(
         &rt,
         "history 2 a 1\n0 create named pump -> made 1\nend none\nhistory 1 b 1\n0 create named pump -> made 1\nend none\n",
@@ -220,21 +250,30 @@ fn a_written_history_is_read(rt: HostRuntime) -> Result<(), Fail> {
     write_block(&mut out, &one, 256, &first, Verdict::Inconc)?;
     write_block(&mut out, &other, 1, &[], Verdict::None)?;
     let blocks = read_history(rt.alloc(), out.as_slice()).map_err(|_| "histories")?;
-    assert_eq!(rt; blocks.len(), 2);
+    is(&rt, "blocks.len()", blocks.len(), 2);
     let block = blocks.get(0).ok_or("a block")?;
-    assert!(rt; block.name.same(&one));
-    assert_eq!(rt; block.format, 2);
-    assert_eq!(rt; block.behaviours, 256);
-    assert_eq!(rt; block.first_line, 1);
-    assert_eq!(rt; block.entries.as_slice().len(), 3);
+    holds(&rt, "block.name.same(&one)", block.name.same(&one));
+    is(&rt, "block.format", block.format, 2);
+    is(&rt, "block.behaviours", block.behaviours, 256);
+    is(&rt, "block.first_line", block.first_line, 1);
+    is(
+        &rt,
+        "block.entries.as_slice().len()",
+        block.entries.as_slice().len(),
+        3,
+    );
     for (read, written) in block.entries.as_slice().iter().zip(first.iter()) {
-        assert!(rt; read.same(written));
+        holds(&rt, "read.same(written)", read.same(written));
     }
-    assert_eq!(rt; block.verdict, Verdict::Inconc);
+    is(&rt, "block.verdict", block.verdict, Verdict::Inconc);
     let block = blocks.get(1).ok_or("a block")?;
-    assert!(rt; block.name.same(&other));
-    assert_eq!(rt; block.first_line, 6);
-    assert!(rt; block.entries.as_slice().is_empty());
+    holds(&rt, "block.name.same(&other)", block.name.same(&other));
+    is(&rt, "block.first_line", block.first_line, 6);
+    holds(
+        &rt,
+        "block.entries.as_slice().is_empty()",
+        block.entries.as_slice().is_empty(),
+    );
     Ok(())
 }
 
@@ -247,17 +286,17 @@ fn is_one_block<R: Abort + AllocGlobal>(
     entries: &[Entry],
 ) -> Result<(), Fail> {
     let blocks = read_history(rt.alloc(), text.as_bytes()).map_err(|_| "a history")?;
-    assert_eq!(rt; blocks.len(), 1, "{text}");
+    is(rt, text, blocks.len(), 1);
     let block = blocks.first().ok_or("a block")?;
-    assert_eq!(rt; block.format, format, "{text}");
-    assert_eq!(rt; block.name.bytes(), b"t_1".as_slice(), "{text}");
-    assert_eq!(rt; block.behaviours, behaviours, "{text}");
-    assert_eq!(rt; block.first_line, 1, "{text}");
-    assert_eq!(rt; block.entries.as_slice().len(), entries.len(), "{text}");
+    is(rt, text, block.format, format);
+    is(rt, text, block.name.bytes(), b"t_1".as_slice());
+    is(rt, text, block.behaviours, behaviours);
+    is(rt, text, block.first_line, 1);
+    is(rt, text, block.entries.as_slice().len(), entries.len());
     for (read, wanted) in block.entries.as_slice().iter().zip(entries) {
-        assert!(rt; read.same(wanted), "{text}");
+        holds(rt, text, read.same(wanted));
     }
-    assert_eq!(rt; block.verdict, Verdict::None, "{text}");
+    is(rt, text, block.verdict, Verdict::None);
     Ok(())
 }
 
@@ -307,15 +346,15 @@ fn lines_are_taken(rt: HostRuntime) -> Result<(), Fail> {
 #[test]
 fn names_of_thirty_two_letters(rt: HostRuntime) -> Result<(), Fail> {
     let longest = "abcdefghijklmnopqrstuvwxyz_01234";
-    assert_eq!(rt; longest.len(), 32);
+    is(&rt, "longest.len()", longest.len(), 32);
     let name = Name::read(longest).ok_or("a name")?;
     let mut out = Vec::new(rt.alloc());
     write_block(&mut out, &name, 1, &[], Verdict::None)?;
     let text = format!(in rt.alloc(); "history 2 {longest} 1\nend none\n")?;
-    assert_eq!(rt; out.as_slice(), text.as_bytes());
+    is(&rt, "out.as_slice()", out.as_slice(), text.as_bytes());
     let blocks = read_history(rt.alloc(), text.as_bytes()).map_err(|_| "a history")?;
     let block = blocks.first().ok_or("a block")?;
-    assert!(rt; block.name.same(&name));
+    holds(&rt, "block.name.same(&name)", block.name.same(&name));
     let text = format!(in rt.alloc(); "history 1 {longest}5 1\nend none\n")?;
     is_refused(&rt, text.as_str(), 1, TextKind::FirstLine);
     Ok(())
@@ -427,21 +466,26 @@ fn lines_of_a_written_history(rt: HostRuntime) -> Result<(), Fail> {
     let mut out = Vec::new(rt.alloc());
     write_block(&mut out, &name, 64, entries.as_slice(), Verdict::Fail)?;
     let text = str::from_utf8(out.as_slice()).map_err(|_| "a text")?;
-    assert_eq!(rt; text.lines().count(), 462);
+    is(&rt, "text.lines().count()", text.lines().count(), 462);
     let mut lines = text.lines();
-    assert_eq!(rt; lines.next(), Some("history 2 t 64"));
+    is(&rt, "lines.next()", lines.next(), Some("history 2 t 64"));
     for (_, op) in operations.iter() {
         for (_, reply) in replies.iter() {
             let wanted = format!(in rt.alloc(); "0 {op} -> {reply}")?;
-            assert_eq!(rt; lines.next(), Some(wanted.as_str()));
+            is(&rt, "lines.next()", lines.next(), Some(wanted.as_str()));
         }
     }
-    assert_eq!(rt; lines.next(), Some("end fail"));
+    is(&rt, "lines.next()", lines.next(), Some("end fail"));
     let blocks = read_history(rt.alloc(), out.as_slice()).map_err(|_| "a history")?;
     let block = blocks.first().ok_or("a block")?;
-    assert_eq!(rt; block.entries.as_slice().len(), 460);
+    is(
+        &rt,
+        "block.entries.as_slice().len()",
+        block.entries.as_slice().len(),
+        460,
+    );
     for (read, written) in block.entries.as_slice().iter().zip(entries.as_slice()) {
-        assert!(rt; read.same(written));
+        holds(&rt, "read.same(written)", read.same(written));
     }
     Ok(())
 }

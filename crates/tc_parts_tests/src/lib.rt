@@ -4,6 +4,8 @@
 #[cfg(test)]
 mod board;
 #[cfg(test)]
+mod checks;
+#[cfg(test)]
 mod entries;
 #[cfg(test)]
 mod histories;

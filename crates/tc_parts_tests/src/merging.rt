@@ -1,4 +1,5 @@
 //! Histories and logs that are merged.
+use crate::checks::{holds, is};
 use std::alloc::Global;
 use std::test::Fail;
 use tc_entry::Sequence;
@@ -103,12 +104,16 @@ fn merge_of_three_logs(rt: HostRuntime) -> Result<(), Fail> {
         set(1, UserVerdict::Fail, Reply::Ended),
         get(2, Reply::Ended),
     ];
-    assert_eq!(rt; merged.len(), expected.len());
+    is(&rt, "merged.len()", merged.len(), expected.len());
     for (merged, expected) in merged.iter().zip(expected.iter()) {
-        assert!(rt; merged.same(expected));
+        holds(&rt, "merged.same(expected)", merged.same(expected));
     }
     let verdict = replay_check(alloc, 3, &merged);
-    assert!(rt; matches!(verdict, Ok(Verdict::Inconc)));
+    holds(
+        &rt,
+        "matches!(verdict, Ok(Verdict::Inconc))",
+        matches!(verdict, Ok(Verdict::Inconc)),
+    );
     Ok(())
 }
 
@@ -116,10 +121,10 @@ fn merge_of_three_logs(rt: HostRuntime) -> Result<(), Fail> {
 fn merge_of_nothing(rt: HostRuntime) -> Result<(), Fail> {
     let alloc = rt.alloc();
     let merged = merge(alloc, &[], &[])?;
-    assert!(rt; merged.is_empty());
+    holds(&rt, "merged.is_empty()", merged.is_empty());
     let logs = vec![in alloc; log(0, 0, Vec::new(alloc)), log(3, 1, Vec::new(alloc))]?;
     let merged = merge(alloc, &[], &logs)?;
-    assert!(rt; merged.is_empty());
+    holds(&rt, "merged.is_empty()", merged.is_empty());
     Ok(())
 }
 
@@ -142,11 +147,15 @@ fn merge_of_one_run(rt: HostRuntime) -> Result<(), Fail> {
     ]?;
     let merged = merge(alloc, &history, &logs)?;
     let whole = logs[0].entries.as_slice();
-    assert_eq!(rt; merged.len(), whole.len());
+    is(&rt, "merged.len()", merged.len(), whole.len());
     for (merged, logged) in merged.iter().zip(whole) {
-        assert!(rt; merged.same(logged));
+        holds(&rt, "merged.same(logged)", merged.same(logged));
     }
     let verdict = replay_check(alloc, 1, &merged);
-    assert!(rt; matches!(verdict, Ok(Verdict::Fail)));
+    holds(
+        &rt,
+        "matches!(verdict, Ok(Verdict::Fail))",
+        matches!(verdict, Ok(Verdict::Fail)),
+    );
     Ok(())
 }

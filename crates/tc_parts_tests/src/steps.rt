@@ -1,4 +1,5 @@
 //! Places and steps, bound and unbound.
+use crate::checks::{holds, is};
 use std::test::Fail;
 use tc_step::{
     GroupPlace, Name, Place, Places, Run, Script, Status, Step, TargetPlace, UserVerdict,
@@ -35,19 +36,32 @@ fn a_script_of_bound_places(rt: HostRuntime) -> Result<(), Fail> {
         Step::SetVerdict(UserVerdict::Pass),
         Step::GetVerdict,
     ]?;
-    assert!(rt; !Script::is_script(0, steps.as_slice()));
-    assert!(rt; !Script::is_script(5, steps.as_slice()));
+    holds(
+        &rt,
+        "!Script::is_script(0, steps.as_slice())",
+        !Script::is_script(0, steps.as_slice()),
+    );
+    holds(
+        &rt,
+        "!Script::is_script(5, steps.as_slice())",
+        !Script::is_script(5, steps.as_slice()),
+    );
     assert!(rt; Script::is_script(1, steps.as_slice()));
     let script = Script::new(1, steps);
-    assert_eq!(rt; script.parameters(), 1);
-    assert_eq!(rt; script.steps().len(), 8);
-    assert_eq!(rt; script.steps()[3], Step::Kill(GroupPlace::All));
+    is(&rt, "script.parameters()", script.parameters(), 1);
+    is(&rt, "script.steps().len()", script.steps().len(), 8);
+    is(
+        &rt,
+        "script.steps().get(3)",
+        script.steps().get(3),
+        Some(&Step::Kill(GroupPlace::All)),
+    );
     for (name, is_same) in [("pump", true), ("valve", false), ("", false)] {
         let other = Step::Create {
             alive: true,
             name: Name::read(name),
         };
-        assert_eq!(rt; script.steps()[0] == other, is_same, "{name}");
+        is(&rt, name, script.steps()[0] == other, is_same);
     }
     Ok(())
 }
@@ -62,7 +76,11 @@ fn places_are_bound_before_they_are_named(rt: HostRuntime) -> Result<(), Fail> {
             name: None
         },
     ]?;
-    assert!(rt; !Script::is_script(0, before.as_slice()));
+    holds(
+        &rt,
+        "!Script::is_script(0, before.as_slice())",
+        !Script::is_script(0, before.as_slice()),
+    );
     let after = vec![in alloc;
         Step::Create {
             alive: false,
@@ -70,12 +88,28 @@ fn places_are_bound_before_they_are_named(rt: HostRuntime) -> Result<(), Fail> {
         },
         Step::Stop(GroupPlace::One(Place::Bound(0))),
     ]?;
-    assert!(rt; Script::is_script(0, after.as_slice()));
+    holds(
+        &rt,
+        "Script::is_script(0, after.as_slice())",
+        Script::is_script(0, after.as_slice()),
+    );
     let args = vec![in alloc; start(Place::Main, &[Place::Own, Place::Bound(2)])]?;
-    assert!(rt; !Script::is_script(2, args.as_slice()));
-    assert!(rt; Script::is_script(3, args.as_slice()));
-    assert!(rt; Place::Bound(2).is_bound(3));
-    assert!(rt; !args[0].is_bound(2));
+    holds(
+        &rt,
+        "!Script::is_script(2, args.as_slice())",
+        !Script::is_script(2, args.as_slice()),
+    );
+    holds(
+        &rt,
+        "Script::is_script(3, args.as_slice())",
+        Script::is_script(3, args.as_slice()),
+    );
+    holds(
+        &rt,
+        "Place::Bound(2).is_bound(3)",
+        Place::Bound(2).is_bound(3),
+    );
+    holds(&rt, "!args[0].is_bound(2)", !args[0].is_bound(2));
     Ok(())
 }
 
@@ -86,9 +120,17 @@ fn at_most_a_thousand_steps(rt: HostRuntime) -> Result<(), Fail> {
     for _ in 0..1000 {
         steps.push(Step::GetVerdict)?;
     }
-    assert!(rt; Script::is_script(4, steps.as_slice()));
+    holds(
+        &rt,
+        "Script::is_script(4, steps.as_slice())",
+        Script::is_script(4, steps.as_slice()),
+    );
     steps.push(Step::GetVerdict)?;
-    assert!(rt; !Script::is_script(4, steps.as_slice()));
+    holds(
+        &rt,
+        "!Script::is_script(4, steps.as_slice())",
+        !Script::is_script(4, steps.as_slice()),
+    );
     Ok(())
 }
 
@@ -96,34 +138,74 @@ fn at_most_a_thousand_steps(rt: HostRuntime) -> Result<(), Fail> {
 fn places_are_at_most_four(rt: HostRuntime) {
     let mut places = Places::new();
     for index in 0..4 {
-        assert!(rt; places.push(Place::Bound(index)));
+        holds(
+            &rt,
+            "places.push(Place::Bound(index))",
+            places.push(Place::Bound(index)),
+        );
     }
-    assert!(rt; !places.push(Place::Own));
-    assert_eq!(rt; places.as_slice().len(), 4);
-    assert_eq!(rt; places.as_slice()[3], Place::Bound(3));
+    holds(&rt, "!places.push(Place::Own)", !places.push(Place::Own));
+    is(&rt, "places.as_slice().len()", places.as_slice().len(), 4);
+    is(
+        &rt,
+        "places.as_slice().last()",
+        places.as_slice().last(),
+        Some(&Place::Bound(3)),
+    );
 }
 
 #[test]
 fn places_under_a_function(rt: HostRuntime) {
     let is_third = |index: &usize| *index == 3;
-    assert_eq!(rt; Place::Bound(3).map(is_third), Place::Bound(true));
-    assert_eq!(rt; Place::Own.map(is_third), Place::<bool>::Own);
-    assert_eq!(rt; Place::Main.map(is_third), Place::<bool>::Main);
+    is(
+        &rt,
+        "Place::Bound(3).map(is_third)",
+        Place::Bound(3).map(is_third),
+        Place::Bound(true),
+    );
+    is(
+        &rt,
+        "Place::Own.map(is_third)",
+        Place::Own.map(is_third),
+        Place::<bool>::Own,
+    );
+    is(
+        &rt,
+        "Place::Main.map(is_third)",
+        Place::Main.map(is_third),
+        Place::<bool>::Main,
+    );
     let is_own = |place: &Place| *place == Place::Own;
     let one = GroupPlace::One(Place::Own);
-    assert_eq!(rt; one.map(is_own), GroupPlace::One(true));
-    assert_eq!(rt;
+    is(
+        &rt,
+        "one.map(is_own)",
+        one.map(is_own),
+        GroupPlace::One(true),
+    );
+    is(
+        &rt,
+        "GroupPlace::<Place>::All.map(is_own)",
         GroupPlace::<Place>::All.map(is_own),
-        GroupPlace::<bool>::All
+        GroupPlace::<bool>::All,
     );
     let one = TargetPlace::One(Place::Main);
-    assert_eq!(rt; one.map(is_own), TargetPlace::One(false));
-    assert_eq!(rt;
-        TargetPlace::<Place>::Any.map(is_own),
-        TargetPlace::<bool>::Any
+    is(
+        &rt,
+        "one.map(is_own)",
+        one.map(is_own),
+        TargetPlace::One(false),
     );
-    assert_eq!(rt;
+    is(
+        &rt,
+        "TargetPlace::<Place>::Any.map(is_own)",
+        TargetPlace::<Place>::Any.map(is_own),
+        TargetPlace::<bool>::Any,
+    );
+    is(
+        &rt,
+        "TargetPlace::<Place>::All.map(is_own)",
         TargetPlace::<Place>::All.map(is_own),
-        TargetPlace::<bool>::All
+        TargetPlace::<bool>::All,
     );
 }

@@ -1,4 +1,5 @@
 //! Readers and writers that give and take little, and fail.
+use crate::checks::is;
 use std::test::Fail;
 use tc_stream::devices::{NarrowWriter, SlowReader, WriteFailure};
 use tc_stream::{
@@ -12,14 +13,16 @@ const NEVER: usize = usize::MAX;
 fn reads_to_the_end_or_the_limit(rt: HostRuntime) -> Result<(), Fail> {
     let mut reader = SlowReader::new(b"abc", NEVER);
     let bytes = read_input(rt.alloc(), &mut reader, 3)?;
-    assert_eq!(rt; bytes.as_slice(), b"abc".as_slice());
-    assert_eq!(rt; reader.reads, 4);
+    is(&rt, "bytes.as_slice()", bytes.as_slice(), b"abc".as_slice());
+    is(&rt, "reader.reads", reader.reads, 4);
     let mut reader = SlowReader::new(b"abcd", NEVER);
-    assert_eq!(rt;
-        read_input(rt.alloc(), &mut reader, 3),
-        Err(InputFault::TooLong)
+    is(
+        &rt,
+        "read_input(rt.alloc(), &mut reader, 3)",
+        &read_input(rt.alloc(), &mut reader, 3),
+        &Err(InputFault::TooLong),
     );
-    assert_eq!(rt; reader.reads, 4);
+    is(&rt, "reader.reads", reader.reads, 4);
     Ok(())
 }
 
@@ -32,15 +35,19 @@ fn inputs_of_several_pieces(rt: HostRuntime) -> Result<(), Fail> {
             bytes.push((place % 251) as u8)?;
         }
         let mut reader = bytes.as_slice();
-        assert_eq!(rt;
+        is(
+            &rt,
+            "read_input(rt.alloc(), &mut reader, length)?.as_slice()",
             read_input(rt.alloc(), &mut reader, length)?.as_slice(),
-            bytes.as_slice()
+            bytes.as_slice(),
         );
         if length > 0 {
             let mut reader = bytes.as_slice();
-            assert_eq!(rt;
-                read_input(rt.alloc(), &mut reader, length - 1),
-                Err(InputFault::TooLong)
+            is(
+                &rt,
+                "read_input(rt.alloc(), &mut reader, length - 1)",
+                &read_input(rt.alloc(), &mut reader, length - 1),
+                &Err(InputFault::TooLong),
             );
         }
     }
@@ -53,8 +60,8 @@ fn each_read_fails_in_turn(rt: HostRuntime) {
     for fails_at in 0..4 {
         let mut reader = SlowReader::new(b"abc", fails_at);
         let answer = read_input(rt.alloc(), &mut reader, 3);
-        assert_eq!(rt; answer, Err(InputFault::Read), "at {fails_at}");
-        assert_eq!(rt; reader.reads, fails_at + 1);
+        is(&rt, "answer", &answer, &Err(InputFault::Read));
+        is(&rt, "reader.reads", reader.reads, fails_at + 1);
     }
 }
 
@@ -70,12 +77,19 @@ fn each_write_fails_in_turn(rt: HostRuntime) -> Result<(), Fail> {
             } else {
                 Err(WriteFault)
             };
-            assert_eq!(rt; answer, wanted, "{failure:?} at {fails_at}");
-            assert_eq!(rt;
+            is(&rt, "answer", answer, wanted);
+            is(
+                &rt,
+                "writer.taken.as_slice()",
                 writer.taken.as_slice(),
-                b"abcd".get(..fails_at).ok_or("a prefix")?
+                b"abcd".get(..fails_at).ok_or("a prefix")?,
             );
-            assert_eq!(rt; writer.writes, fails_at.saturating_add(1).min(4));
+            is(
+                &rt,
+                "writer.writes",
+                writer.writes,
+                fails_at.saturating_add(1).min(4),
+            );
         }
     }
     Ok(())
@@ -85,12 +99,17 @@ fn each_write_fails_in_turn(rt: HostRuntime) -> Result<(), Fail> {
 fn counted_calls(rt: HostRuntime) -> Result<(), Fail> {
     let mut reader = SlowReader::new(b"abcd", NEVER);
     let bytes = read_counted(rt.alloc(), &mut CountedReader::new(&mut reader), 4)?;
-    assert_eq!(rt; bytes.as_slice(), b"abcd".as_slice());
-    assert_eq!(rt; reader.reads, 5);
+    is(
+        &rt,
+        "bytes.as_slice()",
+        bytes.as_slice(),
+        b"abcd".as_slice(),
+    );
+    is(&rt, "reader.reads", reader.reads, 5);
     let mut writer = NarrowWriter::new(rt.alloc(), NEVER, WriteFailure::Full);
     let answer = write_counted(&mut CountedWriter::new(&mut writer), b"abcd");
-    assert_eq!(rt; answer, Ok(()));
-    assert_eq!(rt; writer.writes, 4);
+    is(&rt, "answer", answer, Ok(()));
+    is(&rt, "writer.writes", writer.writes, 4);
     Ok(())
 }
 
@@ -101,8 +120,18 @@ fn texts_of_the_faults(rt: HostRuntime) -> Result<(), Fail> {
         (InputFault::Read, "read fault"),
         (InputFault::NoMemory, "no memory"),
     ] {
-        assert_eq!(rt; fault.to_string(rt.alloc())?.as_str(), text);
+        is(
+            &rt,
+            "fault.to_string(rt.alloc())?.as_str()",
+            fault.to_string(rt.alloc())?.as_str(),
+            text,
+        );
     }
-    assert_eq!(rt; WriteFault.to_string(rt.alloc())?.as_str(), "write fault");
+    is(
+        &rt,
+        "WriteFault.to_string(rt.alloc())?.as_str()",
+        WriteFault.to_string(rt.alloc())?.as_str(),
+        "write fault",
+    );
     Ok(())
 }
