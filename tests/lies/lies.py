@@ -55,7 +55,9 @@ LIES = (
 """),
     )),
     Lie("the_stopping_rule_is_dropped", (
-        ("""run_campaign(rt, alloc, cases, options.stop_on, THREADS)""", """run_campaign(rt, alloc, cases, None, THREADS)"""),
+        ("""        stop_on: options.stop_on,
+""", """        stop_on: None,
+"""),
     )),
     Lie("help_ends_with_3", (
         ("""\
