@@ -7,9 +7,13 @@ from typing import List, Tuple
 
 from case import Case, SomeText, Word
 
-COMMANDS = ("run", "check", "replay", "explore", "report", "ttrun run < FILE", "No word at all means run")
+COMMANDS = ("run", "check", "replay", "explore", "report", "ttrun run < FILE", "No word at all means run",
+            "Status of run, replay and report: 0 for none and pass, 1 for inconc and fail, 2 for error.",
+            "Status of check: 0 where each history is legal.",
+            "Status of explore: 0 where each test case has one verdict, 1 where one has several.")
 ALL_OPTIONS = ("--csv", "--history", "--junit", "--live", "--progress", "--stop-on", "--list", "--only", "--shard", "ttrun run < FILE",
-               "none, pass, inconc, fail or error")
+               "none, pass, inconc, fail or error",
+               "Status: 0 for none and pass, 1 for inconc and fail, 2 for error, 3 for an abort or a refusal.")
 
 # The words, and what the help names.
 HELP: List[Tuple[Tuple[str, ...], Tuple[str, ...]]] = [

@@ -31,14 +31,19 @@ ends : (reply : Reply) → is_fault reply ≡ false → (not (is_ended reply) &&
 ends reply plain = rw plain (and_no (not (is_ended reply)))
 
 by_op : (own : Option Comp) (caller : Run) (op : Op) (reply : Reply) → asks op ≡ true → is_fault reply ≡ false → Asks own (record { caller = caller; op = op; reply = reply })
-by_op own caller (O.Running target) reply h plain = record { goes_on = ends reply plain; touches = rw (ends reply plain) (if_same (is_ended reply) T.Nothing); makes = refl; starts = refl }
-by_op own caller (O.Alive target) reply h plain = record { goes_on = ends reply plain; touches = rw (ends reply plain) (if_same (is_ended reply) T.Nothing); makes = refl; starts = refl }
-by_op own caller (O.Done target) reply h plain = record { goes_on = ends reply plain; touches = rw (ends reply plain) (if_same (is_ended reply) T.Nothing); makes = refl; starts = refl }
-by_op own caller (O.Killed target) reply h plain = record { goes_on = ends reply plain; touches = rw (ends reply plain) (if_same (is_ended reply) T.Nothing); makes = refl; starts = refl }
-by_op own caller (O.Wait killed target) reply h plain = record { goes_on = ends reply plain; touches = rw (ends reply plain) (if_same (is_ended reply) T.Nothing); makes = refl; starts = refl }
-by_op own caller (O.Wake killed target) reply h plain = record { goes_on = ends reply plain; touches = rw (ends reply plain) (if_same (is_ended reply) T.Nothing); makes = refl; starts = refl }
-by_op own caller O.GetVerdict reply h plain = record { goes_on = ends reply plain; touches = rw (ends reply plain) (if_same (is_ended reply) T.Nothing); makes = refl; starts = refl }
-by_op own caller _ reply h plain = absurd cc
+by_op own caller (O.Create alive name) reply h plain = absurd cc
+by_op own caller (O.Start comp run args) reply h plain = absurd cc
+by_op own caller (O.Stop group) reply h plain = absurd cc
+by_op own caller (O.Kill group) reply h plain = absurd cc
+by_op own caller O.StopCase reply h plain = absurd cc
+by_op own caller (O.SetVerdict v) reply h plain = absurd cc
+by_op own caller O.Finish reply h plain = absurd cc
+by_op own caller _ reply h plain = record {
+  goes_on = ends reply plain;
+  touches = rw (ends reply plain) (if_same (is_ended reply) T.Nothing);
+  makes = refl;
+  starts = refl;
+}
 
 pub asks_of : (own : Option Comp) (e : Entry) → asks e.op ≡ true → is_fault e.reply ≡ false → Asks own e
 asks_of own e = by_op own e.caller e.op e.reply

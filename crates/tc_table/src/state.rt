@@ -112,7 +112,9 @@ impl CaseState {
         ensures behaviours { self.new.behaviours ≡ self.old.behaviours }
         ensures same { IfOk result (λ other. IfNone other (IsReply self.old entry.now.caller entry.now.op entry.now.reply)) }
         ensures stands { IfOk result (λ other. IfNone other (TakesIn self.old entry.now self.new)) }
-        ensures other { IfOk result (λ other. IfSome other (λ r. IsReply self.old entry.now.caller entry.now.op r × (r ≢ entry.now.reply) × (self.new ≡ self.old))) }
+        ensures other { IfOk result (λ other. IfSome other (IsReply self.old entry.now.caller entry.now.op)) }
+        ensures differs { IfOk result (λ other. IfSome other (λ reply. reply ≢ entry.now.reply)) }
+        ensures stays { IfOk result (λ other. IfSome other (λ _. self.new ≡ self.old)) }
         ensures refused { OnErr result (self.new ≡ self.old) }
         ensures sure { history.is_create entry.now.op ≡ false → IsOk result }
     {
