@@ -12,7 +12,7 @@ use tc_book::laws::merge;
 use tc_book::{
     CloseFault, Closed, Halt, Left, Pass, RunLog, Shared, Ticket, close_case, open_case,
 };
-use tc_entry::{Args, BEHAVIOURS, Entry, NoMemory, Op, Run};
+use tc_entry::{Args, BEHAVIOURS, Comp, Entry, Name, NoMemory, Op, Run, Target};
 use tc_text::{MoveList, read_moves};
 
 /// Calls of two runs, none of which waits for a thread.
@@ -51,15 +51,39 @@ const CALLS: &str = "behaviours 2
 0 create
 ";
 
-/// Adds what the runs leave that were never started.
-fn add_unstarted<R: Wait>(rt: &R, tickets: Vec<Ticket>, lefts: &mut Vec<Left>) -> Option<()> {
-    for ticket in tickets {
-        match ticket.await_start(rt) {
-            Ok(pass) => lefts.push(pass.leave(rt)).ok()?,
-            Err(left) => lefts.push(left).ok()?,
-        }
+/// Adds what a run leaves. Whether there was memory for it.
+fn add_left<R: Wait>(rt: &R, pass: Pass, lefts: &mut Vec<Left>) -> bool {
+    lefts.push(pass.leave(rt)).is_ok()
+}
+
+/// Adds what the run of this ticket leaves. Whether there was memory for it.
+fn add_unstarted<R: Wait>(rt: &R, ticket: Ticket, lefts: &mut Vec<Left>) -> bool {
+    match ticket.await_start(rt) {
+        Ok(pass) => add_left(rt, pass, lefts),
+        Err(left) => lefts.push(left).is_ok(),
     }
-    Some(())
+}
+
+/// Adds what the runs leave that were never started. Whether there was memory for all.
+fn add_all_unstarted<R: Wait>(rt: &R, tickets: Vec<Ticket>, lefts: &mut Vec<Left>) -> bool {
+    let mut are_added = true;
+    for ticket in tickets {
+        let is_added = add_unstarted(rt, ticket, lefts);
+        are_added = are_added && is_added;
+    }
+    are_added
+}
+
+/// Adds what runs leave that have passes. Whether there was memory for both.
+fn add_passes<R: Wait>(rt: &R, main: Pass, other: Option<Pass>, lefts: &mut Vec<Left>) -> bool {
+    let is_added = add_left(rt, main, lefts);
+    match other {
+        Some(pass) => {
+            let is_other_added = add_left(rt, pass, lefts);
+            is_added && is_other_added
+        }
+        None => is_added,
+    }
 }
 
 /// A case of two behaviours.
@@ -71,32 +95,78 @@ struct Opened {
     other: Option<Pass>,
 }
 
-/// Makes a call; none of those that a pass does not have.
-fn call_on<R: Wait>(rt: &R, pass: &mut Pass, op: &Op) -> Result<(), Halt> {
+/// Creates a component.
+fn create_on<R: Wait>(
+    rt: &R,
+    pass: &mut Pass,
+    alive: bool,
+    name: &Option<Name>,
+) -> Result<(), Halt> {
+    match name {
+        Some(name) => pass.create_named(rt, alive, name.copy()).map(|_| ()),
+        None => pass.create(rt, alive).map(|_| ()),
+    }
+}
+
+/// Asks for a status.
+fn ask_on<R: Wait>(rt: &R, pass: &mut Pass, op: &Op) -> Result<(), Halt> {
     match op {
-        Op::Create { alive, name: None } => pass.create(rt, *alive).map(|_| ()),
-        Op::Create {
-            alive,
-            name: Some(name),
-        } => pass.create_named(rt, *alive, name.copy()).map(|_| ()),
-        Op::Start { comp, run, args } => pass.start(rt, *comp, *run, args),
-        Op::Stop(group) => pass.stop(rt, *group),
-        Op::Kill(group) => pass.kill(rt, *group),
-        Op::StopCase => pass.stop_case(rt),
         Op::Running(target) => pass.running(rt, *target).map(|_| ()),
         Op::Alive(target) => pass.alive(rt, *target).map(|_| ()),
         Op::Done(target) => pass.done(rt, *target).map(|_| ()),
         Op::Killed(target) => pass.killed(rt, *target).map(|_| ()),
-        Op::Wait {
-            killed: true,
-            target,
-        } => pass.wait_killed(rt, *target),
-        Op::Wait {
-            killed: false,
-            target,
-        } => pass.wait_done(rt, *target),
+        _ => Ok(()),
+    }
+}
+
+/// Ends something.
+fn end_on<R: Wait>(rt: &R, pass: &mut Pass, op: &Op) -> Result<(), Halt> {
+    match op {
+        Op::Stop(group) => pass.stop(rt, *group),
+        Op::Kill(group) => pass.kill(rt, *group),
+        Op::StopCase => pass.stop_case(rt),
+        _ => Ok(()),
+    }
+}
+
+/// Waits.
+fn wait_on<R: Wait>(rt: &R, pass: &mut Pass, killed: bool, target: Target) -> Result<(), Halt> {
+    if killed {
+        pass.wait_killed(rt, target)
+    } else {
+        pass.wait_done(rt, target)
+    }
+}
+
+/// Sets or gets the verdict.
+fn judge_on(pass: &mut Pass, op: &Op) -> Result<(), Halt> {
+    match op {
         Op::SetVerdict(verdict) => pass.set_verdict(*verdict),
         Op::GetVerdict => pass.get_verdict().map(|_| ()),
+        _ => Ok(()),
+    }
+}
+
+/// Starts a run.
+fn start_on<R: Wait>(
+    rt: &R,
+    pass: &mut Pass,
+    comp: Comp,
+    run: Run,
+    args: &Args,
+) -> Result<(), Halt> {
+    pass.start(rt, comp, run, args)
+}
+
+/// Makes a call; none of those that a pass does not have.
+fn call_on<R: Wait>(rt: &R, pass: &mut Pass, op: &Op) -> Result<(), Halt> {
+    match op {
+        Op::Create { alive, name } => create_on(rt, pass, *alive, name),
+        Op::Start { comp, run, args } => start_on(rt, pass, *comp, *run, args),
+        Op::Stop(_) | Op::Kill(_) | Op::StopCase => end_on(rt, pass, op),
+        Op::Running(_) | Op::Alive(_) | Op::Done(_) | Op::Killed(_) => ask_on(rt, pass, op),
+        Op::Wait { killed, target } => wait_on(rt, pass, *killed, *target),
+        Op::SetVerdict(_) | Op::GetVerdict => judge_on(pass, op),
         Op::Wake { .. } | Op::Finish => Ok(()),
     }
 }
@@ -159,18 +229,27 @@ impl Opened {
             other,
         } = self;
         let mut lefts = Vec::new(alloc);
-        lefts.push(main.leave(rt)).ok()?;
-        if let Some(pass) = other {
-            lefts.push(pass.leave(rt)).ok()?;
+        let are_left = add_passes(rt, main, other, &mut lefts);
+        let are_unstarted = add_all_unstarted(rt, tickets, &mut lefts);
+        if are_left && are_unstarted {
+            Some((shared, lefts))
+        } else {
+            None
         }
-        add_unstarted(rt, tickets, &mut lefts)?;
-        Some((shared, lefts))
     }
 
+    /// The closed case.
     fn closed<R: Wait>(self, rt: &R, alloc: Global) -> Option<Closed> {
         let (shared, lefts) = self.left(rt, alloc)?;
         close_case(rt, alloc, shared, lefts).ok()
     }
+}
+
+/// The case behind these calls.
+fn opened_behind<R: Wait>(rt: &R, alloc: Global, moves: &[(Run, Op)]) -> Option<Opened> {
+    let mut opened = Opened::new(alloc)?;
+    opened.call_all(rt, moves);
+    Some(opened)
 }
 
 fn is_like_pass(left: &Pass, right: &Pass) -> bool {
@@ -264,10 +343,8 @@ struct Both {
 impl Both {
     /// Behind these calls.
     fn behind<R: Wait>(rt: &R, alloc: Global, moves: &[(Run, Op)]) -> Option<Both> {
-        let mut opened = Opened::new(alloc)?;
-        opened.call_all(rt, moves);
-        let mut other = Opened::new(alloc)?;
-        other.call_all(rt, moves);
+        let opened = opened_behind(rt, alloc, moves)?;
+        let other = opened_behind(rt, alloc, moves)?;
         Some(Both { opened, other })
     }
 
@@ -295,24 +372,50 @@ impl Both {
         }
     }
 
-    /// Whether both close alike behind these calls.
-    fn close_alike<R: Wait>(self, rt: &R, alloc: Global, op: &Op, moves: &[(Run, Op)]) -> bool {
-        let Both {
-            mut opened,
-            mut other,
-        } = self;
-        opened.meet(rt, op);
-        opened.call_all(rt, moves);
-        other.meet(rt, op);
-        other.call_all(rt, moves);
-        are_closed_alike(opened.closed(rt, alloc), other.closed(rt, alloc))
+    /// Makes these calls in both, behind a call that was made.
+    fn go_on<R: Wait>(&mut self, rt: &R, op: &Op, moves: &[(Run, Op)]) {
+        self.opened.meet(rt, op);
+        self.opened.call_all(rt, moves);
+        self.other.meet(rt, op);
+        self.other.call_all(rt, moves);
+    }
+
+    /// Whether both close alike.
+    fn close_alike<R: Wait>(self, rt: &R, alloc: Global) -> bool {
+        let Both { opened, other } = self;
+        let closed = opened.closed(rt, alloc);
+        let wanted = other.closed(rt, alloc);
+        are_closed_alike(&closed, &wanted)
     }
 }
 
-fn are_closed_alike(left: Option<Closed>, right: Option<Closed>) -> bool {
+fn are_closed_alike(left: &Option<Closed>, right: &Option<Closed>) -> bool {
     match (left, right) {
-        (Some(left), Some(right)) => is_like_report(&left, &right),
+        (Some(left), Some(right)) => is_like_report(left, right),
         _ => false,
+    }
+}
+
+/// The call in a place, behind those before it and before those behind it.
+fn call_in<R: Wait>(
+    rt: &R,
+    alloc: Global,
+    moves: &[(Run, Op)],
+    place: usize,
+    refusal: &mut Refusal,
+) -> Option<Outcome> {
+    let (run, op) = moves.get(place)?;
+    let behind = moves.get(place.saturating_add(1)..)?;
+    let mut both = Both::behind(rt, alloc, moves.get(..place)?)?;
+    let outcome = both.call(rt, *run, op, refusal);
+    let is_wrong = matches!(outcome, Outcome::Wrong(_));
+    if !is_wrong {
+        both.go_on(rt, op, behind);
+    }
+    if both.close_alike(rt, alloc) || is_wrong {
+        Some(outcome)
+    } else {
+        Some(Outcome::Wrong("a call changes its case"))
     }
 }
 
@@ -324,18 +427,7 @@ pub(crate) fn call<R: Wait>(
     refusal: &mut Refusal,
 ) -> Option<Outcome> {
     let list = calls(alloc)?;
-    let (run, op) = list.moves.get(place)?;
-    let behind = list.moves.get(place.saturating_add(1)..)?;
-    let mut both = Both::behind(rt, alloc, list.moves.get(..place)?)?;
-    let outcome = both.call(rt, *run, op, refusal);
-    if matches!(outcome, Outcome::Wrong(_)) {
-        return Some(outcome);
-    }
-    if both.close_alike(rt, alloc, op, behind) {
-        Some(outcome)
-    } else {
-        Some(Outcome::Wrong("a call changes its case"))
-    }
+    call_in(rt, alloc, list.moves.as_slice(), place, refusal)
 }
 
 /// The history without its verdict entries.
@@ -364,25 +456,37 @@ fn merged(alloc: Global, closed: &Closed, refusal: &mut Refusal) -> Option<Outco
     })
 }
 
+/// A case behind all calls.
+fn opened_behind_all<R: Wait>(rt: &R, alloc: Global) -> Option<Opened> {
+    let list = calls(alloc)?;
+    opened_behind(rt, alloc, list.moves.as_slice())
+}
+
+/// The close of a case behind all calls.
+fn closed_behind_all<R: Wait>(rt: &R, alloc: Global) -> Option<Closed> {
+    opened_behind_all(rt, alloc)?.closed(rt, alloc)
+}
+
+/// What came of the close of a case, which is to be this one.
+fn closed_as(answer: &Result<Closed, CloseFault>, wanted: &Closed) -> Outcome {
+    match answer {
+        Ok(closed) => right_if(is_like_report(closed, wanted), "a case is closed otherwise"),
+        Err(fault) => refused_if(*fault == CloseFault::NoMemory, "a whole case is torn"),
+    }
+}
+
 /// The close of a case, which is to be this one.
 fn close_one<R: Wait>(
     rt: &R,
     alloc: Global,
-    opened: Opened,
     wanted: &Closed,
     refusal: &mut Refusal,
 ) -> Option<Outcome> {
-    let (shared, lefts) = opened.left(rt, alloc)?;
+    let (shared, lefts) = opened_behind_all(rt, alloc)?.left(rt, alloc)?;
     refusal.begin();
     let answer = close_case(rt, alloc, shared, lefts);
     refusal.end();
-    Some(match answer {
-        Ok(closed) => right_if(
-            is_like_report(&closed, wanted),
-            "a case is closed otherwise",
-        ),
-        Err(fault) => refused_if(fault == CloseFault::NoMemory, "a whole case is torn"),
-    })
+    Some(closed_as(&answer, wanted))
 }
 
 /// The close of a case behind all calls, and the merge of its logs.
@@ -392,11 +496,9 @@ pub(crate) fn close<R: Wait>(
     place: usize,
     refusal: &mut Refusal,
 ) -> Option<Outcome> {
-    let list = calls(alloc)?;
-    let Both { opened, other } = Both::behind(rt, alloc, list.moves.as_slice())?;
-    let wanted = other.closed(rt, alloc)?;
+    let wanted = closed_behind_all(rt, alloc)?;
     match place {
-        0 => close_one(rt, alloc, opened, &wanted, refusal),
+        0 => close_one(rt, alloc, &wanted, refusal),
         1 => merged(alloc, &wanted, refusal),
         _ => None,
     }
@@ -407,22 +509,52 @@ fn left_by_main<R: Wait>(rt: &R, opened: Opened) -> Left {
     opened.main.leave(rt)
 }
 
-/// The leave of a pass behind the first calls.
-pub(crate) fn leave<R: Wait>(rt: &R, alloc: Global, refusal: &mut Refusal) -> Option<Outcome> {
+/// A case behind the first calls.
+fn opened_behind_first<R: Wait>(rt: &R, alloc: Global) -> Option<Opened> {
     let list = calls(alloc)?;
-    let Both { opened, other } = Both::behind(rt, alloc, list.moves.get(..10)?)?;
-    let wanted = left_by_main(rt, other);
+    opened_behind(rt, alloc, list.moves.get(..10)?)
+}
+
+/// What the main run leaves with no growth given.
+fn left_unfed<R: Wait>(rt: &R, opened: Opened, refusal: &mut Refusal) -> Left {
     refusal.begin_each();
     let left = left_by_main(rt, opened);
     refusal.end();
+    left
+}
+
+/// What came of a leave, of which this is wanted.
+fn left_as(left: &Left, wanted: &Left) -> Outcome {
     let is_finished = left
         .log()
         .last()
         .is_some_and(|last| last.op.same(&Op::Finish));
-    Some(right_if(
+    right_if(
         is_finished && are_same(left.log(), wanted.log()),
         "a pass leaves otherwise",
-    ))
+    )
+}
+
+/// The leave of a pass behind the first calls.
+pub(crate) fn leave<R: Wait>(rt: &R, alloc: Global, refusal: &mut Refusal) -> Option<Outcome> {
+    let wanted = left_by_main(rt, opened_behind_first(rt, alloc)?);
+    let left = left_unfed(rt, opened_behind_first(rt, alloc)?, refusal);
+    Some(left_as(&left, &wanted))
+}
+
+/// Stops the case. Whether that was done.
+fn stops<R: Wait>(rt: &R, pass: &mut Pass) -> bool {
+    pass.stop_case(rt).is_ok()
+}
+
+/// A case that was stopped.
+fn stopped<R: Wait>(rt: &R, alloc: Global) -> Option<Opened> {
+    let mut opened = Opened::new(alloc)?;
+    if stops(rt, &mut opened.main) {
+        Some(opened)
+    } else {
+        None
+    }
 }
 
 /// The leave of a pass that has ended.
@@ -431,15 +563,61 @@ pub(crate) fn leave_ended<R: Wait>(
     alloc: Global,
     refusal: &mut Refusal,
 ) -> Option<Outcome> {
-    let mut opened = Opened::new(alloc)?;
-    opened.main.stop_case(rt).ok()?;
-    refusal.begin_each();
-    let left = left_by_main(rt, opened);
-    refusal.end();
+    let left = left_unfed(rt, stopped(rt, alloc)?, refusal);
     Some(right_if(
         left.log().len() == 1,
         "a pass that has ended leaves otherwise",
     ))
+}
+
+/// What a ticket gives with no growth given.
+fn given_unfed<R: Wait>(rt: &R, ticket: Ticket, refusal: &mut Refusal) -> Result<Pass, Left> {
+    refusal.begin_each();
+    let given = ticket.await_start(rt);
+    refusal.end();
+    given
+}
+
+/// Starts a run on a component that is created for it, which is given back.
+fn start_on_another<R: Wait>(rt: &R, main: &mut Pass, run: Run) -> Option<Comp> {
+    let comp = main.create(rt, false).ok()?;
+    start_on(rt, main, comp, run, &Args::new()).ok()?;
+    Some(comp)
+}
+
+/// Whether the ticket of a run that is started gives its pass.
+fn gives_pass<R: Wait>(rt: &R, main: &mut Pass, ticket: Ticket, refusal: &mut Refusal) -> bool {
+    let Some(comp) = start_on_another(rt, main, ticket.run()) else {
+        return false;
+    };
+    match &given_unfed(rt, ticket, refusal) {
+        Ok(pass) => pass.me() == comp,
+        Err(_) => false,
+    }
+}
+
+/// Whether the ticket of a run that is not started gives what it leaves, once the case is stopped.
+fn gives_left<R: Wait>(rt: &R, main: &mut Pass, ticket: Ticket, refusal: &mut Refusal) -> bool {
+    if !stops(rt, main) {
+        return false;
+    }
+    match &given_unfed(rt, ticket, refusal) {
+        Ok(_) => false,
+        Err(left) => left.log().is_empty(),
+    }
+}
+
+/// Whether two tickets give what they are to give.
+fn give_all<R: Wait>(
+    rt: &R,
+    main: &mut Pass,
+    tickets: &mut Vec<Ticket>,
+    refusal: &mut Refusal,
+) -> Option<bool> {
+    let (last, first) = (tickets.pop()?, tickets.pop()?);
+    let is_started = gives_pass(rt, main, first, refusal);
+    let is_unstarted = gives_left(rt, main, last, refusal);
+    Some(is_started && is_unstarted)
 }
 
 /// What tickets give: the pass of a run that was started, and what one leaves that was not.
@@ -449,39 +627,51 @@ pub(crate) fn await_starts<R: Wait>(
     refusal: &mut Refusal,
 ) -> Option<Outcome> {
     let (_shared, mut main, mut tickets) = open_case(alloc, 3).ok()?;
-    let (last, first) = (tickets.pop()?, tickets.pop()?);
-    let comp = main.create(rt, false).ok()?;
-    main.start(rt, comp, first.run(), &Args::new()).ok()?;
+    let are_given = give_all(rt, &mut main, &mut tickets, refusal)?;
+    Some(right_if(are_given, "a ticket gives something else"))
+}
+
+/// Whether a pass answers each of these calls that it has ended.
+fn answers_ended<R: Wait>(rt: &R, pass: &mut Pass, moves: &[(Run, Op)]) -> bool {
+    let mut are_ended = true;
+    for (_, op) in moves {
+        if call_on(rt, pass, op) != Err(Halt::Ended) {
+            are_ended = false;
+        }
+    }
+    are_ended
+}
+
+/// Makes these calls on a pass that has ended.
+fn call_all_ended<R: Wait>(
+    rt: &R,
+    pass: &mut Pass,
+    moves: &[(Run, Op)],
+    refusal: &mut Refusal,
+) -> Outcome {
     refusal.begin_each();
-    let started = first.await_start(rt);
+    let are_ended = answers_ended(rt, pass, moves);
+    let is_stopped = pass.stop_case(rt) == Err(Halt::Ended);
     refusal.end();
-    main.stop_case(rt).ok()?;
-    refusal.begin_each();
-    let unstarted = last.await_start(rt);
-    refusal.end();
-    Some(right_if(
-        started.is_ok_and(|pass| pass.me() == comp)
-            && unstarted.is_err_and(|left| left.log().is_empty()),
-        "a ticket gives something else",
-    ))
+    right_if(
+        are_ended && is_stopped && pass.log().len() == 1,
+        "a call on an ended pass is no Ended",
+    )
+}
+
+/// All calls on this pass, which has ended.
+fn call_all_on<R: Wait>(
+    rt: &R,
+    alloc: Global,
+    pass: &mut Pass,
+    refusal: &mut Refusal,
+) -> Option<Outcome> {
+    let list = calls(alloc)?;
+    Some(call_all_ended(rt, pass, list.moves.as_slice(), refusal))
 }
 
 /// All calls on a pass that has ended.
 pub(crate) fn call_ended<R: Wait>(rt: &R, alloc: Global, refusal: &mut Refusal) -> Option<Outcome> {
-    let list = calls(alloc)?;
-    let mut opened = Opened::new(alloc)?;
-    opened.main.stop_case(rt).ok()?;
-    refusal.begin_each();
-    let mut are_ended = true;
-    for (_, op) in list.moves.as_slice() {
-        if call_on(rt, &mut opened.main, op) != Err(Halt::Ended) {
-            are_ended = false;
-        }
-    }
-    let is_stopped = opened.main.stop_case(rt) == Err(Halt::Ended);
-    refusal.end();
-    Some(right_if(
-        are_ended && is_stopped && opened.main.log().len() == 1,
-        "a call on an ended pass is no Ended",
-    ))
+    let mut opened = stopped(rt, alloc)?;
+    call_all_on(rt, alloc, &mut opened.main, refusal)
 }

@@ -53,6 +53,14 @@ fn case_of<R: Wait + Copy + Send + 'static>(
     Ok(Case { name, names, jobs })
 }
 
+/// The names of the next test case and of its first behaviour, and its script.
+fn next_script(campaign: &mut Campaign) -> Option<(Name, Name, Script)> {
+    let (name, case) = campaign.take_first()?;
+    let mut case = case;
+    let (behaviour, script) = case.take_first()?;
+    Some((name, behaviour, script))
+}
+
 /// The next test case, of its first behaviour alone.
 fn next_case<R: Wait + Copy + Send + 'static>(
     rt: &R,
@@ -61,9 +69,7 @@ fn next_case<R: Wait + Copy + Send + 'static>(
 ) -> Option<Case<ScriptJob<R>>>
     ensures { IfSome result HasNames }
 {
-    let (name, case) = campaign.take_first()?;
-    let mut case = case;
-    let (behaviour, script) = case.take_first()?;
+    let (name, behaviour, script) = next_script(campaign)?;
     case_of(rt, alloc, name, behaviour, script).ok()
 }
 
@@ -92,11 +98,12 @@ fn behave(pass: Pass) -> Back {
     Back::after(pass, made)
 }
 
-/// The answer to the run of a test case of one behaviour, with a growth refused where one is given.
+/// The answer to the run of a test case of that behaviour alone, with a growth refused where that is asked for.
 fn answer_of_one<R: Threads + Wait + Copy + Send + 'static>(
     rt: &R,
     alloc: Global,
-    refusal: Option<&mut Refusal>,
+    refusal: &mut Refusal,
+    refuses: bool,
 ) -> Option<Result<CaseReport, CaseError>> {
     let behaviour: Box<dyn FnOnce(Pass) -> Back + Send> = Box::new(
         alloc,
@@ -104,13 +111,28 @@ fn answer_of_one<R: Threads + Wait + Copy + Send + 'static>(
     ).ok()?;
     let mut jobs = Vec::new(alloc);
     jobs.push(Job::new(behaviour)).ok()?;
-    let Some(refusal) = refusal else {
-        return Some(run_case(rt, alloc, jobs, 0));
-    };
-    refusal.begin();
+    if refuses {
+        refusal.begin();
+    }
     let answer = run_case(rt, alloc, jobs, 0);
-    refusal.end();
+    if refuses {
+        refusal.end();
+    }
     Some(answer)
+}
+
+/// What came of the run of a test case, of which this report is wanted.
+fn report_as(answer: &Result<CaseReport, CaseError>, wanted: &CaseReport) -> Outcome {
+    match answer {
+        Ok(report) => right_if(
+            is_like_report(report, wanted),
+            "a test case is run otherwise",
+        ),
+        Err(why) => refused_if(
+            *why == CaseError::NoMemory,
+            "a refused test case has no report for another reason",
+        ),
+    }
 }
 
 /// The run of a test case of one behaviour.
@@ -119,17 +141,9 @@ fn run_one<R: Threads + Wait + Copy + Send + 'static>(
     alloc: Global,
     refusal: &mut Refusal,
 ) -> Option<Outcome> {
-    let wanted = answer_of_one(rt, alloc, None)?.ok()?;
-    Some(match answer_of_one(rt, alloc, Some(refusal))? {
-        Ok(report) => right_if(
-            is_like_report(&report, &wanted),
-            "a test case is run otherwise",
-        ),
-        Err(why) => refused_if(
-            why == CaseError::NoMemory,
-            "a refused test case has no report for another reason",
-        ),
-    })
+    let wanted = answer_of_one(rt, alloc, refusal, false)?.ok()?;
+    let answer = answer_of_one(rt, alloc, refusal, true)?;
+    Some(report_as(&answer, &wanted))
 }
 
 /// Whether these are the first of those.
@@ -166,58 +180,122 @@ fn judged(results: &Results, wanted: &Results) -> Outcome {
     }
 }
 
+/// The results of the two test cases.
+fn results<R: Threads + Wait + Copy + Send + 'static>(rt: &R, alloc: Global) -> Option<Results> {
+    let cases = cases(rt, alloc)?;
+    Some(run_campaign(rt, alloc, cases, None, 0))
+}
+
+/// The results of the two test cases with a growth refused.
+fn refused_results<R: Threads + Wait + Copy + Send + 'static>(
+    rt: &R,
+    alloc: Global,
+    refusal: &mut Refusal,
+) -> Option<Results> {
+    let cases = cases(rt, alloc)?;
+    refusal.begin();
+    let results = run_campaign(rt, alloc, cases, None, 0);
+    refusal.end();
+    Some(results)
+}
+
 /// The run of a campaign whose results are kept.
 fn run_kept<R: Threads + Wait + Copy + Send + 'static>(
     rt: &R,
     alloc: Global,
     refusal: &mut Refusal,
 ) -> Option<Outcome> {
-    let wanted = run_campaign(rt, alloc, cases(rt, alloc)?, None, 0);
-    let cases = cases(rt, alloc)?;
-    refusal.begin();
-    let results = run_campaign(rt, alloc, cases, None, 0);
-    refusal.end();
+    let wanted = results(rt, alloc)?;
+    let results = refused_results(rt, alloc, refusal)?;
     Some(judged(&results, &wanted))
 }
 
-/// The run of a campaign that is written as its test cases finish; there is room for what is written.
+type LiveAnswer = Result<(CampaignEnd, u8), OutFault>;
+
+/// The answer to a campaign that is written to this.
+fn live_answer<R: Threads + Wait + Copy + Send + 'static>(
+    rt: &R,
+    alloc: Global,
+    out: &mut Vec<u8>,
+) -> Option<LiveAnswer> {
+    let cases = cases(rt, alloc)?;
+    Some(run_campaign_live(rt, alloc, cases, None, 0, Form::Csv, out))
+}
+
+/// The answer to a campaign that is written to this, with a growth refused.
+fn refused_live_answer<R: Threads + Wait + Copy + Send + 'static>(
+    rt: &R,
+    alloc: Global,
+    out: &mut Vec<u8>,
+    refusal: &mut Refusal,
+) -> Option<LiveAnswer> {
+    let cases = cases(rt, alloc)?;
+    refusal.begin();
+    let answer = run_campaign_live(rt, alloc, cases, None, 0, Form::Csv, out);
+    refusal.end();
+    Some(answer)
+}
+
+/// What came of a live campaign that left this, of which that status and that text are wanted.
+fn live_as(answer: &LiveAnswer, out: &[u8], status: u8, wanted: &[u8]) -> Outcome {
+    let are_whole = wanted.starts_with(out) && matches!(out.last(), None | Some(b'\n'));
+    match answer {
+        Ok((CampaignEnd::Complete, found)) => right_if(
+            *found == status && out == wanted,
+            "a live campaign is written otherwise",
+        ),
+        Ok((CampaignEnd::Aborted { why, .. }, found)) => refused_if(
+            are_whole && *found == 3 && *why == CaseError::NoMemory,
+            "an aborted live campaign is written otherwise",
+        ),
+        Ok(_) => Outcome::Wrong("a live campaign is stopped"),
+        Err(fault) => refused_if(
+            are_whole && *fault == OutFault::NoMemory,
+            "a refused live campaign leaves something else than whole test cases",
+        ),
+    }
+}
+
+/// The status of a campaign that is written to this.
+fn live_status<R: Threads + Wait + Copy + Send + 'static>(
+    rt: &R,
+    alloc: Global,
+    out: &mut Vec<u8>,
+) -> Option<u8> {
+    let (_, status) = live_answer(rt, alloc, out)?.ok()?;
+    Some(status)
+}
+
+/// The run of a campaign that is written as its test cases finish, of which this is wanted; there is room for what is written.
+fn run_live_as<R: Threads + Wait + Copy + Send + 'static>(
+    rt: &R,
+    alloc: Global,
+    status: u8,
+    wanted: &[u8],
+    refusal: &mut Refusal,
+) -> Option<Outcome> {
+    let mut out = Vec::with_capacity(alloc, 10_000).ok()?;
+    let answer = refused_live_answer(rt, alloc, &mut out, refusal)?;
+    Some(live_as(&answer, out.as_slice(), status, wanted))
+}
+
+/// The run of a campaign that is written as its test cases finish.
 fn run_live<R: Threads + Wait + Copy + Send + 'static>(
     rt: &R,
     alloc: Global,
     refusal: &mut Refusal,
 ) -> Option<Outcome> {
     let mut wanted = Vec::with_capacity(alloc, 10_000).ok()?;
-    let ample = run_campaign_live(
-        rt,
-        alloc,
-        cases(rt, alloc)?,
-        None,
-        0,
-        Form::Csv,
-        &mut wanted,
-    );
-    let (_, status) = ample.ok()?;
-    let mut out = Vec::with_capacity(alloc, 10_000).ok()?;
-    let cases = cases(rt, alloc)?;
-    refusal.begin();
-    let answer = run_campaign_live(rt, alloc, cases, None, 0, Form::Csv, &mut out);
-    refusal.end();
-    let are_whole = wanted.starts_with(out.as_slice()) && matches!(out.last(), None | Some(b'\n'));
-    Some(match answer {
-        Ok((CampaignEnd::Complete, found)) => right_if(
-            found == status && out.as_slice() == wanted.as_slice(),
-            "a live campaign is written otherwise",
-        ),
-        Ok((CampaignEnd::Aborted { why, .. }, found)) => refused_if(
-            are_whole && found == 3 && why == CaseError::NoMemory,
-            "an aborted live campaign is written otherwise",
-        ),
-        Ok(_) => Outcome::Wrong("a live campaign is stopped"),
-        Err(fault) => refused_if(
-            are_whole && fault == OutFault::NoMemory,
-            "a refused live campaign leaves something else than whole test cases",
-        ),
-    })
+    let status = live_status(rt, alloc, &mut wanted)?;
+    run_live_as(rt, alloc, status, wanted.as_slice(), refusal)
+}
+
+/// Whether the one that was chosen has this name.
+fn are_chosen<R: Wait + Copy + Send + 'static>(
+    chosen: &[Case<ScriptJob<R>>],
+    wanted: &Name,
+) -> bool {
+    chosen.len() == 1 && chosen.iter().all(|case| case.name.same(wanted))
 }
 
 /// The choice of a shard.
@@ -232,9 +310,9 @@ fn choose_shard<R: Threads + Wait + Copy + Send + 'static>(
     refusal.begin();
     let answer = choose(alloc, cases, &[], Some(shard));
     refusal.end();
-    Some(match answer {
+    Some(match &answer {
         Ok(chosen) => right_if(
-            chosen.len() == 1 && chosen.iter().all(|case| case.name.same(&wanted)),
+            are_chosen(chosen.as_slice(), &wanted),
             "other test cases are chosen",
         ),
         Err(NoMemory) => Outcome::Refused,

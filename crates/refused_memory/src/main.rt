@@ -146,6 +146,42 @@ fn sweep_all<R: Threads + Wait + Copy + Send + 'static>(
     sum
 }
 
+/// Prints on standard error how many calls of a kind there were, and how many growths of theirs were refused.
+fn tell_counts<R: Eprint>(rt: &R, name: &str, sum: &Sum) -> io::Result<()> {
+    let (calls, refused, kept) = (sum.calls, sum.refused, sum.absorbed);
+    eprintln!(rt; "{name}: {calls} calls, {refused} refused, {kept} answered all the same")
+}
+
+/// Prints on standard output what came of the calls of a kind.
+fn tell_outcome<R: Print>(rt: &R, name: &str, sum: &Sum) -> io::Result<()> {
+    match sum.wrong {
+        Some(why) => println!(rt; "{name}: {why}"),
+        None => println!(rt; "{name}: right"),
+    }
+}
+
+/// Whether nothing was wrong with the calls of a kind: makes them, and prints what came of them.
+fn run_kind<R: Threads + Wait + Copy + Send + Print + Eprint + 'static>(
+    rt: &R,
+    alloc: Global,
+    kind: Kind,
+    name: &str,
+    refusal: &mut Refusal,
+) -> io::Result<bool> {
+    let sum = sweep_all(rt, alloc, kind, refusal);
+    tell_counts(rt, name, &sum)?;
+    tell_outcome(rt, name, &sum)?;
+    Ok(sum.wrong.is_none())
+}
+
+/// Says where there is no library that refuses.
+fn tell_unheard<R: Eprint>(rt: &R, refusal: &Refusal) -> io::Result<()> {
+    if refusal.is_heard() {
+        return Ok(());
+    }
+    eprintln!(rt; "nothing refuses memory: each call is made once")
+}
+
 /// Whether nothing was wrong: prints on standard output what came of each kind of call, and on standard error how many there
 /// were, and how many growths of theirs were refused.
 fn run<R: Threads + Wait + Copy + Send + Print + Eprint + 'static>(
@@ -153,21 +189,11 @@ fn run<R: Threads + Wait + Copy + Send + Print + Eprint + 'static>(
     alloc: Global,
 ) -> io::Result<bool> {
     let mut refusal = Refusal::new(alloc);
+    tell_unheard(rt, &refusal)?;
     let mut is_right = true;
-    if !refusal.is_heard() {
-        eprintln!(rt; "nothing refuses memory: each call is made once")?;
-    }
     for (kind, name) in KINDS {
-        let sum = sweep_all(rt, alloc, kind, &mut refusal);
-        let (calls, refused, kept) = (sum.calls, sum.refused, sum.absorbed);
-        eprintln!(rt; "{name}: {calls} calls, {refused} refused, {kept} answered all the same")?;
-        match sum.wrong {
-            Some(why) => {
-                is_right = false;
-                println!(rt; "{name}: {why}")?;
-            }
-            None => println!(rt; "{name}: right")?,
-        }
+        let is_kind_right = run_kind(rt, alloc, kind, name, &mut refusal)?;
+        is_right = is_right && is_kind_right;
     }
     Ok(is_right)
 }

@@ -34,15 +34,35 @@ fn append(out: &mut Vec<u8>, part: Part, name: &Name) -> Result<(), NoMemory> {
     }
 }
 
+/// A part behind what stands there.
+fn written(alloc: Global, part: Part, name: &Name) -> Option<Vec<u8>> {
+    let mut out = HEAD.to_vec(alloc).ok()?;
+    if append(&mut out, part, name).is_ok() {
+        Some(out)
+    } else {
+        None
+    }
+}
+
+/// Appends a part.
+fn append_as(
+    out: &mut Vec<u8>,
+    wanted: &[u8],
+    part: Part,
+    name: &Name,
+    refusal: &mut Refusal,
+) -> Outcome {
+    refusal.begin();
+    let answer = append(out, part, name);
+    refusal.end();
+    appended(answer, out.as_slice(), wanted)
+}
+
 /// The lines of local verdicts, the line of an overall verdict, and which test case was refused.
 pub(crate) fn write(alloc: Global, place: usize, refusal: &mut Refusal) -> Option<Outcome> {
     let part = *[Part::Locals, Part::Verdict, Part::Aborted].get(place)?;
     let name = Name::read("a_long_name_of_a_test_case")?;
-    let mut wanted = HEAD.to_vec(alloc).ok()?;
-    append(&mut wanted, part, &name).ok()?;
+    let wanted = written(alloc, part, &name)?;
     let mut out = HEAD.to_vec(alloc).ok()?;
-    refusal.begin();
-    let answer = append(&mut out, part, &name);
-    refusal.end();
-    Some(appended(answer, out.as_slice(), wanted.as_slice()))
+    Some(append_as(&mut out, wanted.as_slice(), part, &name, refusal))
 }

@@ -70,11 +70,8 @@ fn new_book(alloc: Global) -> Option<Book> {
     Book::new(alloc, 2, keeper, board).ok()
 }
 
-/// The wake of a wait that is stuck, and the leave of its run.
-fn wake_stuck(alloc: Global, refusal: &mut Refusal) -> Option<Outcome> {
-    let mut book = new_book(alloc)?;
-    book.record(Run(0), CREATE).ok()?;
-    let parked = book.record(Run(0), WAIT).ok()?;
+/// What comes of the wake of a wait that is stuck, which was parked, and of the leave of its run.
+fn wake_stuck_in(book: &mut Book, parked: Reply, refusal: &mut Refusal) -> Outcome {
     refusal.begin_each();
     let woken = book.wake(Run(0), false, FIRST);
     let left = book.leave(Run(0), true);
@@ -83,12 +80,24 @@ fn wake_stuck(alloc: Global, refusal: &mut Refusal) -> Option<Outcome> {
         (parked, woken, left),
         (Reply::Parked, Some(Reply::Fault(_)), Some(None))
     );
-    Some(right_if(is_right, "a wake is answered otherwise"))
+    right_if(is_right, "a wake is answered otherwise")
 }
 
-/// The wake of a wait that goes on waiting, and then is matched; the leave of the run that it waited for.
-fn wake_matched(alloc: Global, refusal: &mut Refusal) -> Option<Outcome> {
+/// Creates a component and waits for it. The answer to the wait.
+fn create_and_wait(book: &mut Book) -> Option<Reply> {
+    book.record(Run(0), CREATE).ok()?;
+    book.record(Run(0), WAIT).ok()
+}
+
+/// The wake of a wait that is stuck, and the leave of its run.
+fn wake_stuck(alloc: Global, refusal: &mut Refusal) -> Option<Outcome> {
     let mut book = new_book(alloc)?;
+    let parked = create_and_wait(&mut book)?;
+    Some(wake_stuck_in(&mut book, parked, refusal))
+}
+
+/// Creates a component, starts run 1 on it and waits for it. The answer to the wait.
+fn start_and_wait(book: &mut Book) -> Option<Reply> {
     book.record(Run(0), CREATE).ok()?;
     let start = Op::Start {
         comp: Comp(1),
@@ -96,7 +105,11 @@ fn wake_matched(alloc: Global, refusal: &mut Refusal) -> Option<Outcome> {
         args: Args::new(),
     };
     book.record(Run(0), start).ok()?;
-    book.record(Run(0), WAIT).ok()?;
+    book.record(Run(0), WAIT).ok()
+}
+
+/// What comes of the wakes of a wait that goes on waiting, and then is matched, and of the leave of the run that it waited for.
+fn wake_matched_in(book: &mut Book, refusal: &mut Refusal) -> Outcome {
     refusal.begin_each();
     let asleep = book.wake(Run(0), false, FIRST);
     let left = book.leave(Run(1), false);
@@ -106,7 +119,14 @@ fn wake_matched(alloc: Global, refusal: &mut Refusal) -> Option<Outcome> {
         (asleep, left, woken),
         (None, Some(Some(Reply::Ok)), Some(Reply::Matched))
     );
-    Some(right_if(is_right, "a matched wait is woken otherwise"))
+    right_if(is_right, "a matched wait is woken otherwise")
+}
+
+/// The wake of a wait that goes on waiting, and then is matched; the leave of the run that it waited for.
+fn wake_matched(alloc: Global, refusal: &mut Refusal) -> Option<Outcome> {
+    let mut book = new_book(alloc)?;
+    start_and_wait(&mut book)?;
+    Some(wake_matched_in(&mut book, refusal))
 }
 
 /// The calls of a hand.

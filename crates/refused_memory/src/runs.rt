@@ -7,18 +7,27 @@ use std::thread::Threads;
 use tc_book::Pass;
 use tc_campaign::{Case, run_campaign};
 use tc_entry::BEHAVIOURS;
-use tc_exec::{Back, CaseError, Job, run_case};
-use tc_report::CampaignEnd;
+use tc_exec::{Back, CaseError, CaseReport, Job, run_case};
+use tc_report::{CampaignEnd, Results};
 
-/// The run of so many jobs that do nothing, with so many workers, which is to be refused for this reason.
-fn run_refused<R: Threads + Wait + Copy + Send + 'static>(
+/// What came of a test case that is to be refused for this reason.
+fn refused_as(answer: &Result<CaseReport, CaseError>, wanted: CaseError) -> Outcome {
+    match answer {
+        Err(CaseError::NoMemory) => Outcome::Refused,
+        Err(why) => right_if(*why == wanted, "a test case is refused for another reason"),
+        Ok(_) => Outcome::Wrong("a test case that is to be refused is run"),
+    }
+}
+
+/// The answer to the run of so many jobs that do nothing, with so many workers. The boxes are made where they are run, since
+/// a function that hands out a boxed closure fails the gate.
+fn answer_of_idle<R: Threads + Wait + Copy + Send + 'static>(
     rt: &R,
     alloc: Global,
     count: usize,
     workers: u16,
-    wanted: CaseError,
     refusal: &mut Refusal,
-) -> Option<Outcome> {
+) -> Option<Result<CaseReport, CaseError>> {
     let mut jobs = Vec::new(alloc);
     for _ in 0..count {
         let idle: Box<dyn FnOnce(Pass) -> Back + Send> = Box::new(
@@ -30,11 +39,20 @@ fn run_refused<R: Threads + Wait + Copy + Send + 'static>(
     refusal.begin_each();
     let answer = run_case(rt, alloc, jobs, workers);
     refusal.end();
-    Some(match answer {
-        Err(CaseError::NoMemory) => Outcome::Refused,
-        Err(why) => right_if(why == wanted, "a test case is refused for another reason"),
-        Ok(_) => Outcome::Wrong("a test case that is to be refused is run"),
-    })
+    Some(answer)
+}
+
+/// The run of so many jobs that do nothing, with so many workers, which is to be refused for this reason.
+fn run_refused<R: Threads + Wait + Copy + Send + 'static>(
+    rt: &R,
+    alloc: Global,
+    count: usize,
+    workers: u16,
+    wanted: CaseError,
+    refusal: &mut Refusal,
+) -> Option<Outcome> {
+    let answer = answer_of_idle(rt, alloc, count, workers, refusal)?;
+    Some(refused_as(&answer, wanted))
 }
 
 /// The run of no job.
@@ -82,7 +100,12 @@ pub(crate) fn run_no_case<R: Threads + Wait + Copy + Send + 'static>(
     let results = run_campaign(rt, alloc, cases, None, 1);
     refusal.end();
     Some(right_if(
-        results.finished.as_slice().is_empty() && matches!(results.ending, CampaignEnd::Complete),
+        is_empty(&results),
         "a campaign of no test case is not complete",
     ))
+}
+
+/// Whether a campaign of no test case is complete.
+fn is_empty(results: &Results) -> bool {
+    results.finished.as_slice().is_empty() && matches!(results.ending, CampaignEnd::Complete)
 }

@@ -11,7 +11,7 @@ use crate::texts::HEAD;
 use std::alloc::Global;
 use tc_entry::{BEHAVIOURS, Name, NoMemory};
 use tc_explore::{Explored, Witness, explore};
-use tc_script::read_campaign;
+use tc_script::{CaseScript, read_campaign};
 use tc_step::Script;
 
 /// A test case of two verdicts, in which two runs may wait in vain, with a step that is never carried out.
@@ -39,33 +39,68 @@ end
 /// So many states are looked at.
 const STATES: usize = 1_000;
 
+/// The test case.
+fn race(alloc: Global) -> Option<CaseScript> {
+    let mut campaign = read_campaign(alloc, RACE.as_bytes()).ok()?;
+    let (_, case) = campaign.take_first()?;
+    Some(case)
+}
+
+/// Takes the next script of a test case. Whether there is one, and memory for it.
+fn add_script(case: &mut CaseScript, scripts: &mut Vec<Script>) -> bool {
+    match case.take_first() {
+        Some((_, script)) => scripts.push(script).is_ok(),
+        None => false,
+    }
+}
+
+/// Takes the three scripts of that test case. Whether there are three, and memory for them.
+fn add_scripts(case: &mut CaseScript, scripts: &mut Vec<Script>) -> bool {
+    for _ in 0..3 {
+        if !add_script(case, scripts) {
+            return false;
+        }
+    }
+    true
+}
+
 /// The scripts of that test case.
 fn scripts(alloc: Global) -> Option<Vec<Script>> {
-    let (_, case) = read_campaign(alloc, RACE.as_bytes()).ok()?.take_first()?;
-    let mut case = case;
+    let mut case = race(alloc)?;
     let mut scripts = Vec::new(alloc);
-    for _ in 0..3 {
-        let (_, script) = case.take_first()?;
-        scripts.push(script).ok()?;
+    if add_scripts(&mut case, &mut scripts) {
+        Some(scripts)
+    } else {
+        None
     }
-    Some(scripts)
 }
 
 fn is_like_witness(left: &Witness, right: &Witness) -> bool {
     left.verdict == right.verdict && are_same(left.history.as_slice(), right.history.as_slice())
 }
 
+fn are_like_witnesses(left: &[Witness], right: &[Witness]) -> bool {
+    left.len() == right.len()
+        && left
+            .iter()
+            .zip(right)
+            .all(|(one, other)| is_like_witness(one, other))
+}
+
 /// Whether two searches found the same.
 fn is_like(left: &Explored, right: &Explored) -> bool {
-    let (found, others) = (left.found.as_slice(), right.found.as_slice());
     left.states == right.states
         && left.ending == right.ending
         && left.reached.as_slice() == right.reached.as_slice()
-        && found.len() == others.len()
-        && found
-            .iter()
-            .zip(others)
-            .all(|(one, other)| is_like_witness(one, other))
+        && are_like_witnesses(left.found.as_slice(), right.found.as_slice())
+}
+
+/// What came of a search, which is to find this.
+fn found_as(answer: &Result<Explored, NoMemory>, wanted: &Explored) -> Outcome {
+    match answer {
+        Ok(explored) => right_if(is_like(explored, wanted), "a search finds something else"),
+        Err(NoMemory) => Outcome::Refused,
+    }
 }
 
 /// The search, which is to find this.
@@ -75,10 +110,7 @@ fn search(alloc: Global, scripts: &[Script], wanted: &Explored, refusal: &mut Re
     refusal.begin();
     let answer = explore(alloc, scripts, STATES);
     refusal.end();
-    match answer {
-        Ok(explored) => right_if(is_like(&explored, wanted), "a search finds something else"),
-        Err(NoMemory) => Outcome::Refused,
-    }
+    found_as(&answer, wanted)
 }
 
 /// What is told of a search.
@@ -130,10 +162,13 @@ fn tell(
     Some(appended(answer, out.as_slice(), wanted.as_slice()))
 }
 
-/// The search, and its line, its witnesses and its details.
-pub(crate) fn make(alloc: Global, place: usize, refusal: &mut Refusal) -> Option<Outcome> {
-    let scripts = scripts(alloc)?;
-    let scripts = scripts.as_slice();
+/// The call in a place, on these scripts.
+fn make_on(
+    alloc: Global,
+    scripts: &[Script],
+    place: usize,
+    refusal: &mut Refusal,
+) -> Option<Outcome> {
     if scripts.len() > BEHAVIOURS {
         return None;
     }
@@ -145,4 +180,10 @@ pub(crate) fn make(alloc: Global, place: usize, refusal: &mut Refusal) -> Option
         3 => tell(alloc, Told::Details, scripts, &explored, refusal),
         _ => None,
     }
+}
+
+/// The search, and its line, its witnesses and its details.
+pub(crate) fn make(alloc: Global, place: usize, refusal: &mut Refusal) -> Option<Outcome> {
+    let scripts = scripts(alloc)?;
+    make_on(alloc, scripts.as_slice(), place, refusal)
 }

@@ -7,6 +7,7 @@ use tc_entry::{Entry, Fault, Name, NoMemory, Op, Reply, Run, Verdict};
 use tc_explain::{Refusal as Refused, explain};
 use tc_history::{Block, read_history, write_block};
 use tc_script::{Campaign, CaseScript, ReadFault, ScriptKind, read_campaign};
+use tc_step::Script;
 use tc_stream::{InputFault, read_input};
 use tc_text::{
     MoveList, TextFault, append_number, append_text, read_moves, write_move, write_op, write_reply,
@@ -88,35 +89,69 @@ fn are_like_blocks(left: &[Block], right: &[Block]) -> bool {
             .all(|(one, other)| is_like_block(one, other))
 }
 
-/// Whether two test cases have the same behaviours.
-fn are_like_scripts(left: CaseScript, right: CaseScript) -> bool {
-    let (mut left, mut right) = (left, right);
-    for _ in 0..10 {
-        match (left.take_first(), right.take_first()) {
-            (None, None) => return true,
-            (Some((name, script)), Some((other_name, other))) => {
-                if !name.same(&other_name) || script.steps() != other.steps() {
-                    return false;
-                }
+/// Whether two behaviours that were taken out are the last, and whether they differ; none where they are the same.
+fn compared_behaviours(
+    left: &Option<(Name, Script)>,
+    right: &Option<(Name, Script)>,
+) -> Option<bool> {
+    match (left, right) {
+        (None, None) => Some(true),
+        (Some((name, script)), Some((other_name, other))) => {
+            if name.same(other_name) && script.steps() == other.steps() {
+                None
+            } else {
+                Some(false)
             }
-            _ => return false,
+        }
+        _ => Some(false),
+    }
+}
+
+/// Takes the next behaviour out of two test cases, and compares them.
+fn compare_behaviours(left: &mut CaseScript, right: &mut CaseScript) -> Option<bool> {
+    let (one, other) = (left.take_first(), right.take_first());
+    compared_behaviours(&one, &other)
+}
+
+/// Whether two test cases have the same behaviours.
+fn are_like_scripts(left: &mut CaseScript, right: &mut CaseScript) -> bool {
+    for _ in 0..10 {
+        if let Some(are_alike) = compare_behaviours(left, right) {
+            return are_alike;
         }
     }
     false
 }
 
-/// Whether two campaigns have the same test cases.
-fn are_like_campaigns(left: Campaign, right: Campaign) -> bool {
-    let (mut left, mut right) = (left, right);
-    for _ in 0..10 {
-        match (left.take_first(), right.take_first()) {
-            (None, None) => return true,
-            (Some((name, case)), Some((other_name, other))) => {
-                if !name.same(&other_name) || !are_like_scripts(case, other) {
-                    return false;
-                }
+/// Whether two test cases that were taken out are the last, and whether they differ; none where they are the same.
+fn compared_cases(
+    left: &mut Option<(Name, CaseScript)>,
+    right: &mut Option<(Name, CaseScript)>,
+) -> Option<bool> {
+    match (left, right) {
+        (None, None) => Some(true),
+        (Some((name, case)), Some((other_name, other))) => {
+            if name.same(other_name) && are_like_scripts(case, other) {
+                None
+            } else {
+                Some(false)
             }
-            _ => return false,
+        }
+        _ => Some(false),
+    }
+}
+
+/// Takes the next test case out of two campaigns, and compares them.
+fn compare_cases(left: &mut Campaign, right: &mut Campaign) -> Option<bool> {
+    let (mut one, mut other) = (left.take_first(), right.take_first());
+    compared_cases(&mut one, &mut other)
+}
+
+/// Whether two campaigns have the same test cases.
+fn are_like_campaigns(left: &mut Campaign, right: &mut Campaign) -> bool {
+    for _ in 0..10 {
+        if let Some(are_alike) = compare_cases(left, right) {
+            return are_alike;
         }
     }
     false
@@ -126,15 +161,26 @@ const READ: &str = "a text is read otherwise";
 
 const REFUSED_READER: &str = "a refused reader says something else";
 
+fn list_as(answer: &Result<MoveList, TextFault>, wanted: &MoveList) -> Outcome {
+    match answer {
+        Ok(list) => right_if(are_like_moves(list, wanted), READ),
+        Err(fault) => refused_if(matches!(fault, TextFault::NoMemory), REFUSED_READER),
+    }
+}
+
 fn read_list(alloc: Global, refusal: &mut Refusal) -> Option<Outcome> {
     refusal.begin();
     let answer = read_moves(alloc, MOVES.as_bytes());
     refusal.end();
-    let wanted = read_moves(alloc, MOVES.as_bytes()).ok()?;
-    Some(match answer {
-        Ok(list) => right_if(are_like_moves(&list, &wanted), READ),
+    let wanted = moves(alloc)?;
+    Some(list_as(&answer, &wanted))
+}
+
+fn blocks_as(answer: &Result<Vec<Block>, TextFault>, wanted: &[Block]) -> Outcome {
+    match answer {
+        Ok(blocks) => right_if(are_like_blocks(blocks.as_slice(), wanted), READ),
         Err(fault) => refused_if(matches!(fault, TextFault::NoMemory), REFUSED_READER),
-    })
+    }
 }
 
 fn read_blocks(alloc: Global, refusal: &mut Refusal) -> Option<Outcome> {
@@ -142,36 +188,59 @@ fn read_blocks(alloc: Global, refusal: &mut Refusal) -> Option<Outcome> {
     let answer = read_history(alloc, HISTORIES.as_bytes());
     refusal.end();
     let wanted = read_history(alloc, HISTORIES.as_bytes()).ok()?;
-    Some(match answer {
-        Ok(blocks) => right_if(are_like_blocks(blocks.as_slice(), wanted.as_slice()), READ),
-        Err(fault) => refused_if(matches!(fault, TextFault::NoMemory), REFUSED_READER),
-    })
+    Some(blocks_as(&answer, wanted.as_slice()))
+}
+
+fn notes_as(answer: &Result<Vec<u8>, NoMemory>, wanted: &[u8]) -> Outcome {
+    match answer {
+        Ok(notes) => right_if(notes.as_slice() == wanted, "a text is explained otherwise"),
+        Err(NoMemory) => Outcome::Refused,
+    }
+}
+
+/// The explanation of the misspelt script.
+fn explained(alloc: Global) -> Result<Vec<u8>, NoMemory> {
+    explain(
+        alloc,
+        MISSPELT.as_bytes(),
+        3,
+        Refused::Script(ScriptKind::BadLine),
+    )
 }
 
 fn explain_script(alloc: Global, refusal: &mut Refusal) -> Option<Outcome> {
-    let fault = Refused::Script(ScriptKind::BadLine);
     refusal.begin();
-    let answer = explain(alloc, MISSPELT.as_bytes(), 3, fault);
+    let answer = explained(alloc);
     refusal.end();
-    let wanted = explain(alloc, MISSPELT.as_bytes(), 3, fault).ok()?;
-    Some(match answer {
-        Ok(notes) => right_if(
-            notes.as_slice() == wanted.as_slice(),
-            "a text is explained otherwise",
-        ),
-        Err(NoMemory) => Outcome::Refused,
-    })
+    let wanted = explained(alloc).ok()?;
+    Some(notes_as(&answer, wanted.as_slice()))
+}
+
+/// The campaign of the script.
+fn campaign(alloc: Global) -> Result<Campaign, ReadFault> {
+    read_campaign(alloc, SCRIPT.as_bytes())
+}
+
+fn campaign_as(answer: &mut Result<Campaign, ReadFault>, wanted: &mut Campaign) -> Outcome {
+    match answer {
+        Ok(campaign) => right_if(are_like_campaigns(campaign, wanted), READ),
+        Err(fault) => refused_if(matches!(fault, ReadFault::NoMemory), REFUSED_READER),
+    }
 }
 
 fn read_script(alloc: Global, refusal: &mut Refusal) -> Option<Outcome> {
     refusal.begin();
-    let answer = read_campaign(alloc, SCRIPT.as_bytes());
+    let mut answer = campaign(alloc);
     refusal.end();
-    let wanted = read_campaign(alloc, SCRIPT.as_bytes()).ok()?;
-    Some(match answer {
-        Ok(campaign) => right_if(are_like_campaigns(campaign, wanted), READ),
-        Err(fault) => refused_if(matches!(fault, ReadFault::NoMemory), REFUSED_READER),
-    })
+    let mut wanted = campaign(alloc).ok()?;
+    Some(campaign_as(&mut answer, &mut wanted))
+}
+
+fn bytes_as(answer: &Result<Vec<u8>, InputFault>) -> Outcome {
+    match answer {
+        Ok(bytes) => right_if(bytes.as_slice() == MOVES.as_bytes(), READ),
+        Err(fault) => refused_if(matches!(fault, InputFault::NoMemory), REFUSED_READER),
+    }
 }
 
 fn read_bytes(alloc: Global, refusal: &mut Refusal) -> Outcome {
@@ -179,10 +248,7 @@ fn read_bytes(alloc: Global, refusal: &mut Refusal) -> Outcome {
     refusal.begin();
     let answer = read_input(alloc, &mut reader, 10_000);
     refusal.end();
-    match answer {
-        Ok(bytes) => right_if(bytes.as_slice() == MOVES.as_bytes(), READ),
-        Err(fault) => refused_if(matches!(fault, InputFault::NoMemory), REFUSED_READER),
-    }
+    bytes_as(&answer)
 }
 
 /// The readers of moves, of histories, of a script and of an input, and the explanation of a script.
@@ -198,7 +264,7 @@ pub(crate) fn read(alloc: Global, place: usize, refusal: &mut Refusal) -> Option
 }
 
 /// What is written.
-#[derive(Drop)]
+#[derive(Clone, Copy)]
 enum Text<'a> {
     Move(Run, &'a Op),
     Op(&'a Op),
@@ -223,45 +289,75 @@ fn append(out: &mut Vec<u8>, text: &Text, name: &Name) -> Result<(), NoMemory> {
 /// What stands before a text that is appended: so little that a text of several pieces wants more than one growth.
 pub(crate) const HEAD: &[u8] = b"#";
 
+/// A text behind what stands there.
+fn written(alloc: Global, text: &Text, name: &Name) -> Option<Vec<u8>> {
+    let mut out = HEAD.to_vec(alloc).ok()?;
+    if append(&mut out, text, name).is_ok() {
+        Some(out)
+    } else {
+        None
+    }
+}
+
+/// Appends a text with a growth refused, and then again.
+fn append_as(
+    out: &mut Vec<u8>,
+    wanted: &[u8],
+    text: &Text,
+    name: &Name,
+    refusal: &mut Refusal,
+) -> Outcome {
+    refusal.begin();
+    let answer = append(out, text, name);
+    refusal.end();
+    if answer.is_ok() {
+        return right_if(out.as_slice() == wanted, "a text is written otherwise");
+    }
+    let is_kept = out.as_slice() == HEAD;
+    let is_written = append(out, text, name).is_ok() && out.as_slice() == wanted;
+    refused_if(is_kept && is_written, "a refused writer leaves a part")
+}
+
 /// Appends a text behind what stands there.
 fn append_one(alloc: Global, text: &Text, refusal: &mut Refusal) -> Option<Outcome> {
     let name = Name::read("t")?;
-    let mut wanted = HEAD.to_vec(alloc).ok()?;
-    append(&mut wanted, text, &name).ok()?;
+    let wanted = written(alloc, text, &name)?;
     let mut out = HEAD.to_vec(alloc).ok()?;
-    refusal.begin();
-    let answer = append(&mut out, text, &name);
-    refusal.end();
-    if answer.is_ok() {
-        return Some(right_if(
-            out.as_slice() == wanted.as_slice(),
-            "a text is written otherwise",
-        ));
-    }
-    let is_kept = out.as_slice() == HEAD;
-    let is_written = append(&mut out, text, &name).is_ok() && out.as_slice() == wanted.as_slice();
-    Some(refused_if(is_kept && is_written, "a refused writer leaves a part"))
+    Some(append_as(&mut out, wanted.as_slice(), text, &name, refusal))
+}
+
+/// Appends the first of the histories.
+fn append_block(alloc: Global, refusal: &mut Refusal) -> Option<Outcome> {
+    let blocks = read_history(alloc, HISTORIES.as_bytes()).ok()?;
+    let entries = blocks.first()?.entries.as_slice();
+    append_one(alloc, &Text::Block(entries), refusal)
+}
+
+/// The writer in a place behind those of moves.
+fn append_other(
+    alloc: Global,
+    moves: &[(Run, Op)],
+    place: usize,
+    refusal: &mut Refusal,
+) -> Option<Outcome> {
+    let text = match place {
+        0 => return append_block(alloc, refusal),
+        1 => Text::Reply(Reply::Fault(Fault::AlreadyRunning)),
+        2 => Text::Op(&moves.first()?.1),
+        3 => Text::Words(SCRIPT),
+        4 => Text::Number(u64::MAX),
+        _ => return None,
+    };
+    append_one(alloc, &text, refusal)
 }
 
 /// The writers of each of the moves, of a history, of a reply, of a move without its caller, of words and of a number.
 pub(crate) fn write(alloc: Global, place: usize, refusal: &mut Refusal) -> Option<Outcome> {
     let list = moves(alloc)?;
-    if let Some((run, op)) = list.moves.get(place) {
-        return append_one(alloc, &Text::Move(*run, op), refusal);
-    }
-    let blocks = read_history(alloc, HISTORIES.as_bytes()).ok()?;
-    let entries = blocks.first()?.entries.as_slice();
-    match place.checked_sub(list.moves.len())? {
-        0 => append_one(alloc, &Text::Block(entries), refusal),
-        1 => append_one(
-            alloc,
-            &Text::Reply(Reply::Fault(Fault::AlreadyRunning)),
-            refusal,
-        ),
-        2 => append_one(alloc, &Text::Op(&list.moves.first()?.1), refusal),
-        3 => append_one(alloc, &Text::Words(SCRIPT), refusal),
-        4 => append_one(alloc, &Text::Number(u64::MAX), refusal),
-        _ => None,
+    let moves = list.moves.as_slice();
+    match moves.get(place) {
+        Some((run, op)) => append_one(alloc, &Text::Move(*run, op), refusal),
+        None => append_other(alloc, moves, place.checked_sub(moves.len())?, refusal),
     }
 }
 
@@ -276,19 +372,28 @@ fn takes_behaviours(case: CaseScript, wanted: usize) -> bool {
     case.take_first().is_none()
 }
 
+/// The behaviours of a test case that was taken out, taken out one by one, as many as are wanted.
+fn takes_case(taken: Option<(Name, CaseScript)>, wanted: usize) -> bool {
+    match taken {
+        Some((_, case)) => takes_behaviours(case, wanted),
+        None => false,
+    }
+}
+
+/// The two test cases of a campaign and their behaviours, taken out one by one.
+fn takes_cases(campaign: &mut Campaign) -> bool {
+    let (first, second) = (campaign.take_first(), campaign.take_first());
+    let is_last = campaign.take_first().is_none();
+    let is_first_right = takes_case(first, 2);
+    let is_second_right = takes_case(second, 1);
+    is_last && is_first_right && is_second_right
+}
+
 /// The test cases of a campaign and their behaviours, taken out one by one.
 pub(crate) fn take_all(alloc: Global, refusal: &mut Refusal) -> Option<Outcome> {
-    let mut campaign = read_campaign(alloc, SCRIPT.as_bytes()).ok()?;
+    let mut campaign = campaign(alloc).ok()?;
     refusal.begin_each();
-    let (first, second, none) = (
-        campaign.take_first(),
-        campaign.take_first(),
-        campaign.take_first(),
-    );
-    let mut is_right = none.is_none();
-    for (taken, wanted) in [(first, 2), (second, 1)] {
-        is_right = is_right && taken.is_some_and(|(_, case)| takes_behaviours(case, wanted));
-    }
+    let is_right = takes_cases(&mut campaign);
     refusal.end();
     Some(right_if(is_right, "a campaign is taken out otherwise"))
 }
