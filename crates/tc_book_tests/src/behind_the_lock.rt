@@ -2,6 +2,7 @@
 use crate::calls::one;
 use crate::checks::{got, holds, is};
 use std::alloc::Global;
+use std::process::Abort;
 use std::sync::Arc;
 use tc_board::{Board, Record};
 use tc_book::CloseFault;
@@ -85,43 +86,47 @@ fn create() -> Op {
     }
 }
 
+/// Calls up to the wait of run 0, which is parked.
+fn start_and_park<R: Abort>(rt: &R, book: &mut Book) {
+    let made = Some(Reply::Made(Comp(1)));
+    is(rt, "create", replied(book, 0, create()), made);
+    holds(rt, "unbegun", is_unbegun(book));
+    is(rt, "start", replied(book, 0, start()), Some(Reply::Ok));
+    holds(rt, "begun", is_begun(book));
+    is(rt, "wake before a wait", woken(book), None);
+    is(rt, "wait", replied(book, 0, wait()), Some(Reply::Parked));
+}
+
+/// Calls from then on, up to the wake of run 0 after the end of run 1.
+fn finish_and_wake<R: Abort>(rt: &R, book: &mut Book) {
+    is(rt, "wake too early", woken(book), None);
+    is(rt, "finish", finished(book, 1), Some(Some(Reply::Ok)));
+    let closed = Record::Closed(UserVerdict::None, UserVerdict::None);
+    is(rt, "the word of run 1", word(book), closed);
+    is(rt, "second finish", finished(book, 1), None);
+    is(rt, "wake", woken(book), Some(Reply::Matched));
+}
+
+/// The reply to an Alive of component 1 by run 0.
+fn alive(book: &mut Book) -> Option<Reply> {
+    replied(book, 0, Op::Alive(one(1)))
+}
+
+/// Calls from then on, after which the case is over.
+fn finish_main<R: Abort>(rt: &R, book: &mut Book) {
+    is(rt, "alive", alive(book), Some(Reply::Answer(false)));
+    let finish = finished(book, 0);
+    is(rt, "finish of run 0", finish, Some(Some(Reply::Ok)));
+    is(rt, "alive once it is over", alive(book), Some(Reply::Ended));
+}
+
 #[test]
 fn calls_on_a_book(rt: HostRuntime) {
     let alloc = rt.alloc();
     let mut book = got(&rt, book_of_two(alloc));
-    let made = Some(Reply::Made(Comp(1)));
-    is(&rt, "create", replied(&mut book, 0, create()), made);
-    holds(&rt, "unbegun", is_unbegun(&book));
-    is(
-        &rt,
-        "start",
-        replied(&mut book, 0, start()),
-        Some(Reply::Ok),
-    );
-    holds(&rt, "begun", is_begun(&book));
-    is(&rt, "wake before a wait", woken(&mut book), None);
-    is(
-        &rt,
-        "wait",
-        replied(&mut book, 0, wait()),
-        Some(Reply::Parked),
-    );
-    is(&rt, "wake too early", woken(&mut book), None);
-    is(&rt, "finish", finished(&mut book, 1), Some(Some(Reply::Ok)));
-    let closed = Record::Closed(UserVerdict::None, UserVerdict::None);
-    is(&rt, "the word of run 1", word(&book), closed);
-    is(&rt, "second finish", finished(&mut book, 1), None);
-    is(&rt, "wake", woken(&mut book), Some(Reply::Matched));
-    let alive = replied(&mut book, 0, Op::Alive(one(1)));
-    is(&rt, "alive", alive, Some(Reply::Answer(false)));
-    is(
-        &rt,
-        "finish of run 0",
-        finished(&mut book, 0),
-        Some(Some(Reply::Ok)),
-    );
-    let over = replied(&mut book, 0, Op::Alive(one(1)));
-    is(&rt, "alive once it is over", over, Some(Reply::Ended));
+    start_and_park(&rt, &mut book);
+    finish_and_wake(&rt, &mut book);
+    finish_main(&rt, &mut book);
     is(&rt, "close", refused(alloc, book), Some(CloseFault::Torn));
 }
 
@@ -136,10 +141,18 @@ fn called(book: &mut Book, run: Run, op: Op) -> Option<(Reply, bool)> {
     book.call(run, op).ok()
 }
 
+/// Whether a call on a book is answered with this reply, and says so whether somebody who waits may go on.
+fn is_answered(book: &mut Book, run: Run, op: Op, reply: Reply, wakes: bool) -> bool {
+    match called(book, run, op) {
+        Some((found, may_wake)) => found == reply && may_wake == wakes,
+        None => false,
+    }
+}
+
 /// Whether each call on a book is answered with this reply, and says so whether somebody who waits may go on.
 fn are_answered(book: &mut Book, calls: Vec<Called>) -> bool {
     for (run, op, reply, wakes) in calls {
-        if called(book, run, op) != Some((reply, wakes)) {
+        if !is_answered(book, run, op, reply, wakes) {
             return false;
         }
     }
@@ -189,24 +202,33 @@ fn called_wake(book: &mut Book, run: u16) -> Option<(Reply, bool)> {
     book.call_wake(Run(run), false, one(1))
 }
 
+/// Ends the test unless a book answers these calls so.
+fn answers<R: Abort>(rt: &R, what: &str, book: &mut Book, calls: Result<Vec<Called>, NoMemory>) {
+    let calls = got(rt, calls);
+    holds(rt, what, are_answered(book, calls));
+}
+
+/// The Wakes once run 1 has ended.
+fn wake_both<R: Abort>(rt: &R, book: &mut Book) {
+    is(rt, "wake of run 1", called_wake(book, 1), None);
+    let matched = Some((Reply::Matched, false));
+    is(rt, "wake", called_wake(book, 0), matched);
+    is(rt, "second wake", called_wake(book, 0), None);
+}
+
 /// 10 calls and 4 Wakes on a book: their replies, and by which of them somebody who waits may go on.
 #[test]
 fn calls_that_wake(rt: HostRuntime) {
     let alloc = rt.alloc();
     let mut book = got(&rt, book_of_two(alloc));
-    let calls = got(&rt, up_to_the_wait(alloc));
-    holds(&rt, "up to the wait", are_answered(&mut book, calls));
+    answers(&rt, "up to the wait", &mut book, up_to_the_wait(alloc));
     is(&rt, "wake too early", called_wake(&mut book, 0), None);
-    let calls = got(&rt, up_to_the_end(alloc));
-    holds(
+    answers(
         &rt,
         "up to the end of run 1",
-        are_answered(&mut book, calls),
+        &mut book,
+        up_to_the_end(alloc),
     );
-    is(&rt, "wake of run 1", called_wake(&mut book, 1), None);
-    let matched = Some((Reply::Matched, false));
-    is(&rt, "wake", called_wake(&mut book, 0), matched);
-    is(&rt, "second wake", called_wake(&mut book, 0), None);
-    let calls = got(&rt, up_to_the_fault(alloc));
-    holds(&rt, "up to the fault", are_answered(&mut book, calls));
+    wake_both(&rt, &mut book);
+    answers(&rt, "up to the fault", &mut book, up_to_the_fault(alloc));
 }

@@ -12,6 +12,19 @@ use tc_entry::{
 };
 use tc_table::{Table, replay_check};
 
+/// Ends the test unless a closed case has so many entries and this overall verdict.
+fn is_told<R: Abort>(rt: &R, closed: &Closed, entries: usize, verdict: Verdict) {
+    let history = closed.history.as_slice();
+    is(rt, "entries of the history", history.len(), entries);
+    is(rt, "overall verdict", closed.verdict, verdict);
+}
+
+/// Ends the test unless the two runs of a closed case have these local verdicts.
+fn are_locals<R: Abort>(rt: &R, closed: &Closed, first: Verdict, second: Verdict) {
+    let locals = [first, second];
+    is(rt, "locals", closed.locals.as_slice(), locals.as_slice());
+}
+
 /// How a case is refused that is closed by what the run of another case left.
 fn closed_by_another<R: Abort + Wait>(rt: &R, alloc: Global) -> Option<CloseFault> {
     let (first, first_pass, _) = got(rt, open(alloc, 1));
@@ -69,12 +82,7 @@ fn torn_closes(rt: HostRuntime) {
         torn,
     );
     let closed = closed_by_both(&rt, alloc);
-    is(
-        &rt,
-        "entries and verdict",
-        told(&closed),
-        (1, Verdict::None),
-    );
+    is_told(&rt, &closed, 1, Verdict::None);
     is(&rt, "logs", closed.logs.as_slice().len(), 1);
 }
 
@@ -100,6 +108,15 @@ fn ends_in_a_wait(log: &[Entry]) -> bool {
     }
 }
 
+/// A Create, a Kill, and a wait that is answered at once.
+fn calls_alone<R: Abort + Wait>(rt: &R, pass: &mut Pass) {
+    is(rt, "created", create(rt, pass, false), Ok(Comp(1)));
+    is(rt, "done", done(rt, pass, 1), Ok(false));
+    is(rt, "kill", kill(rt, pass, 1), Ok(()));
+    is(rt, "wait", wait_killed(rt, pass, one(1)), Ok(()));
+    holds(rt, "four entries, a wait last", ends_in_a_wait(pass.log()));
+}
+
 #[test]
 fn quiet_calls(rt: HostRuntime) {
     let alloc = rt.alloc();
@@ -107,11 +124,7 @@ fn quiet_calls(rt: HostRuntime) {
     let (_, pass, tickets) = got(&rt, open(alloc, 1));
     let mut pass = pass;
     is(&rt, "tickets", tickets.len(), 0);
-    is(&rt, "created", create(&rt, &mut pass, false), Ok(Comp(1)));
-    is(&rt, "done", done(&rt, &mut pass, 1), Ok(false));
-    is(&rt, "kill", kill(&rt, &mut pass, 1), Ok(()));
-    is(&rt, "wait", wait_killed(&rt, &mut pass, one(1)), Ok(()));
-    holds(&rt, "four entries, a wait last", ends_in_a_wait(pass.log()));
+    calls_alone(&rt, &mut pass);
 }
 
 /// Whether the entry is the Create of a component that is not alive-type, or is so, with this name or without one.
@@ -129,6 +142,15 @@ fn are_created(history: &[Entry], name: &Name) -> bool {
         && is_create(third, false, None)
 }
 
+/// Makes two components of this name, and one without.
+fn create_three<R: Abort + Wait>(rt: &R, pass: &mut Pass, name: &Name) {
+    let first = create_named(rt, pass, false, name);
+    is(rt, "first", first, Ok(Comp(1)));
+    let second = create_named(rt, pass, true, name);
+    is(rt, "second", second, Ok(Comp(2)));
+    is(rt, "third", create(rt, pass, false), Ok(Comp(3)));
+}
+
 /// Names stand in the log and in the report; two components may have the same, and none is an error.
 #[test]
 fn components_with_names(rt: HostRuntime) {
@@ -136,28 +158,11 @@ fn components_with_names(rt: HostRuntime) {
     let pump = got(&rt, Name::read("pump").ok_or("a name"));
     let (shared, pass, _) = got(&rt, open(alloc, 1));
     let mut pass = pass;
-    is(
-        &rt,
-        "first",
-        create_named(&rt, &mut pass, false, &pump),
-        Ok(Comp(1)),
-    );
-    is(
-        &rt,
-        "second",
-        create_named(&rt, &mut pass, true, &pump),
-        Ok(Comp(2)),
-    );
-    is(&rt, "third", create(&rt, &mut pass, false), Ok(Comp(3)));
+    create_three(&rt, &mut pass, &pump);
     let left = leave(&rt, pass);
     let closed = got(&rt, close_of_one(&rt, alloc, shared, left));
     holds(&rt, "names", are_created(closed.history.as_slice(), &pump));
-    is(
-        &rt,
-        "entries and verdict",
-        told(&closed),
-        (4, Verdict::None),
-    );
+    is_told(&rt, &closed, 4, Verdict::None);
 }
 
 /// A case of two behaviours, in which run 0 has started run 1 on component 1 with component 0 as its argument.
@@ -175,18 +180,22 @@ fn is_started(pass: &Pass, run: u16, comp: u32, args: &[Comp]) -> bool {
     (pass.run(), pass.me()) == (Run(run), Comp(comp)) && pass.args() == args
 }
 
-/// What run 0 is told of component 1 while run 1 is going on, and the verdict that run 1 then sets and gets.
-fn going_on<R: Abort + Wait>(rt: &R, main: &mut Pass, other: &mut Pass) -> (bool, bool, Verdict) {
-    let is_running = got(rt, running(rt, main, 1));
-    let is_alive = got(rt, alive(rt, main, 1));
+/// Ends the test unless run 1 is going on, and is told the verdict that it sets.
+fn is_going_on<R: Abort + Wait>(rt: &R, main: &mut Pass, other: &mut Pass) {
+    is(rt, "running", got(rt, running(rt, main, 1)), true);
+    is(rt, "alive", got(rt, alive(rt, main, 1)), true);
     got(rt, set(other, UserVerdict::Inconc));
-    (is_running, is_alive, got(rt, get(other)))
+    is(rt, "its verdict", got(rt, get(other)), Verdict::Inconc);
 }
 
-/// Stops component 1, and answers whether it is killed then.
-fn stopped<R: Abort + Wait>(rt: &R, main: &mut Pass) -> bool {
+/// Stops component 1: it is not killed then, and the next call of its run comes too late.
+fn stop_other<R: Abort + Wait>(rt: &R, main: &mut Pass, other: &mut Pass) {
     got(rt, stop(rt, main, 1));
-    got(rt, killed(rt, main, 1))
+    is(rt, "killed", got(rt, killed(rt, main, 1)), false);
+    is(rt, "ended", is_ended(other), false);
+    is(rt, "late", get(other), Err(Halt::Ended));
+    is(rt, "ended then", is_ended(other), true);
+    is(rt, "wait", wait_done(rt, main, one(1)), Ok(()));
 }
 
 /// Whether run 1 has left three entries, and was started on component 1 with component 0 as its argument.
@@ -200,18 +209,8 @@ fn is_left(left: &Left) -> bool {
 /// The calls of two runs on one thread, of which the second is stopped, and what both left.
 fn calls_of_two<R: Abort + Wait>(rt: &R, main: Pass, other: Pass) -> (Left, Left) {
     let (mut main, mut other) = (main, other);
-    let told = going_on(rt, &mut main, &mut other);
-    is(
-        rt,
-        "running, alive, set",
-        told,
-        (true, true, Verdict::Inconc),
-    );
-    is(rt, "killed", stopped(rt, &mut main), false);
-    is(rt, "ended", is_ended(&other), false);
-    is(rt, "late", get(&mut other), Err(Halt::Ended));
-    is(rt, "ended then", is_ended(&other), true);
-    is(rt, "wait", wait_done(rt, &mut main, one(1)), Ok(()));
+    is_going_on(rt, &mut main, &mut other);
+    stop_other(rt, &mut main, &mut other);
     (leave(rt, main), leave(rt, other))
 }
 
@@ -225,14 +224,18 @@ fn book_on_one_thread(rt: HostRuntime) {
     holds(&rt, "what run 1 left", is_left(&other));
     let closed = got(&rt, close_of_two(&rt, alloc, shared, main, other));
     is(&rt, "behaviours", closed.behaviours, 2);
-    is(
-        &rt,
-        "entries and verdict",
-        told(&closed),
-        (11, Verdict::Inconc),
-    );
-    let locals = [Verdict::None, Verdict::Inconc];
-    is(&rt, "locals", closed.locals.as_slice(), locals.as_slice());
+    is_told(&rt, &closed, 11, Verdict::Inconc);
+    are_locals(&rt, &closed, Verdict::None, Verdict::Inconc);
+}
+
+/// A Stop of a component that is not there ends the pass.
+fn stop_nobody<R: Abort + Wait>(rt: &R, pass: &mut Pass) {
+    let fault = Halt::Fault(Fault::NoComponent);
+    is(rt, "stop", stop(rt, pass, 7), Err(fault));
+    is(rt, "entries", entries(pass), 1);
+    is(rt, "ended", is_ended(pass), true);
+    is(rt, "late", create(rt, pass, false), Err(Halt::Ended));
+    is(rt, "entries then", entries(pass), 1);
 }
 
 #[test]
@@ -240,20 +243,20 @@ fn a_fault_ends_the_pass(rt: HostRuntime) {
     let alloc = rt.alloc();
     let (shared, pass, _) = got(&rt, open(alloc, 1));
     let mut pass = pass;
-    let fault = Halt::Fault(Fault::NoComponent);
-    is(&rt, "stop", stop(&rt, &mut pass, 7), Err(fault));
-    is(&rt, "entries", entries(&pass), 1);
-    is(&rt, "ended", is_ended(&pass), true);
-    is(&rt, "late", create(&rt, &mut pass, false), Err(Halt::Ended));
-    is(&rt, "entries then", entries(&pass), 1);
+    stop_nobody(&rt, &mut pass);
     let left = leave(&rt, pass);
     let closed = got(&rt, close_of_one(&rt, alloc, shared, left));
-    is(
-        &rt,
-        "entries and verdict",
-        told(&closed),
-        (1, Verdict::Error),
-    );
+    is_told(&rt, &closed, 1, Verdict::Error);
+}
+
+/// A stop of the test case ends the pass.
+fn stop_the_case<R: Abort + Wait>(rt: &R, pass: &mut Pass) {
+    is(rt, "set", set(pass, UserVerdict::Pass), Ok(()));
+    is(rt, "stop", stop_case(rt, pass), Ok(()));
+    is(rt, "ended", is_ended(pass), true);
+    is(rt, "late stop", stop_case(rt, pass), Err(Halt::Ended));
+    is(rt, "late get", get(pass), Err(Halt::Ended));
+    is(rt, "entries", entries(pass), 2);
 }
 
 #[test]
@@ -261,25 +264,10 @@ fn stop_of_a_case(rt: HostRuntime) {
     let alloc = rt.alloc();
     let (shared, pass, _) = got(&rt, open(alloc, 1));
     let mut pass = pass;
-    is(&rt, "set", set(&mut pass, UserVerdict::Pass), Ok(()));
-    is(&rt, "stop", stop_case(&rt, &mut pass), Ok(()));
-    is(&rt, "ended", is_ended(&pass), true);
-    is(
-        &rt,
-        "late stop",
-        stop_case(&rt, &mut pass),
-        Err(Halt::Ended),
-    );
-    is(&rt, "late get", get(&mut pass), Err(Halt::Ended));
-    is(&rt, "entries", entries(&pass), 2);
+    stop_the_case(&rt, &mut pass);
     let left = leave(&rt, pass);
     let closed = got(&rt, close_of_one(&rt, alloc, shared, left));
-    is(
-        &rt,
-        "entries and verdict",
-        told(&closed),
-        (2, Verdict::Error),
-    );
+    is_told(&rt, &closed, 2, Verdict::Error);
 }
 
 /// A case in which run 1 stops the test case, after which neither it nor the main run is answered.
@@ -304,14 +292,8 @@ fn stopped_by_the_other<R: Abort + Wait>(rt: &R, alloc: Global) -> Closed {
 #[test]
 fn stop_of_a_case_by_another(rt: HostRuntime) {
     let closed = stopped_by_the_other(&rt, rt.alloc());
-    is(
-        &rt,
-        "entries and verdict",
-        told(&closed),
-        (5, Verdict::Error),
-    );
-    let locals = [Verdict::Pass, Verdict::Error];
-    is(&rt, "locals", closed.locals.as_slice(), locals.as_slice());
+    is_told(&rt, &closed, 5, Verdict::Error);
+    are_locals(&rt, &closed, Verdict::Pass, Verdict::Error);
 }
 
 /// The behaviour of run 1: it sets pass.
@@ -334,22 +316,35 @@ fn worker<R: Abort + Threads + Wait + Copy + Send + 'static>(
     got(&rt, thread::spawn(&rt, move || sets_pass(&rt, ticket)))
 }
 
+/// Makes component 1, starts run 1 on it, and waits until it is done.
+fn start_and_wait<R: Abort + Wait>(rt: &R, pass: &mut Pass) {
+    is(rt, "created", create(rt, pass, false), Ok(Comp(1)));
+    got(rt, start(rt, pass, 1, 1));
+    got(rt, wait_done(rt, pass, one(1)));
+}
+
 #[test]
 fn book_on_two_threads(rt: HostRuntime) {
     let alloc = rt.alloc();
     let (shared, pass, tickets) = got(&rt, open(alloc, 2));
     let (mut pass, mut tickets) = (pass, tickets);
     let worker = worker(&rt, take(&rt, &mut tickets, 0));
-    is(&rt, "created", create(&rt, &mut pass, false), Ok(Comp(1)));
-    got(&rt, start(&rt, &mut pass, 1, 1));
-    got(&rt, wait_done(&rt, &mut pass, one(1)));
+    start_and_wait(&rt, &mut pass);
     let first = leave(&rt, pass);
     let second = worker.join(&rt);
     let closed = got(&rt, close_of_two(&rt, alloc, shared, first, second));
-    let locals = [Verdict::None, Verdict::Pass];
-    is(&rt, "locals", closed.locals.as_slice(), locals.as_slice());
+    are_locals(&rt, &closed, Verdict::None, Verdict::Pass);
     let replayed = replay_check(alloc, 2, closed.history.as_slice());
     is(&rt, "replayed", replayed.ok(), Some(Verdict::Pass));
+}
+
+/// Starts run 1, stops it, and asks for a run that is not there.
+fn start_too_many<R: Abort + Wait>(rt: &R, pass: &mut Pass) {
+    got(rt, create(rt, pass, true));
+    got(rt, start(rt, pass, 1, 1));
+    got(rt, stop(rt, pass, 1));
+    let fault = Halt::Fault(Fault::NoBehaviour);
+    is(rt, "start", start(rt, pass, 1, 2), Err(fault));
 }
 
 /// A case has as many runs as it was opened for.
@@ -357,9 +352,5 @@ fn book_on_two_threads(rt: HostRuntime) {
 fn runs_of_a_case(rt: HostRuntime) {
     let (_, pass, _) = got(&rt, open(rt.alloc(), 2));
     let mut pass = pass;
-    got(&rt, create(&rt, &mut pass, true));
-    got(&rt, start(&rt, &mut pass, 1, 1));
-    got(&rt, stop(&rt, &mut pass, 1));
-    let fault = Halt::Fault(Fault::NoBehaviour);
-    is(&rt, "start", start(&rt, &mut pass, 1, 2), Err(fault));
+    start_too_many(&rt, &mut pass);
 }

@@ -175,8 +175,3 @@ pub(crate) fn close_of_two<R: Abort + Wait>(
     let lefts = got(rt, vec![in alloc; first, second]);
     close(rt, alloc, shared, lefts)
 }
-
-/// How many entries a closed case has, and its overall verdict.
-pub(crate) fn told(closed: &Closed) -> (usize, Verdict) {
-    (closed.history.as_slice().len(), closed.verdict)
-}

@@ -1,10 +1,13 @@
 //! Small cases of three runs, whose calls are made in every order, with verdict calls among them: each closes.
-use crate::checks::is;
+use crate::calls::{
+    await_start, close, create, get, kill, kill_all, leave, open, set, start, stop, stop_case,
+};
+use crate::checks::{at_least, got, is};
 use std::alloc::Global;
+use std::process::Abort;
 use std::sync::Wait;
-use std::test::Fail;
-use tc_book::*;
-use tc_entry::{Args, Comp, Entry, Group, NoMemory, Op, Reply, Run, UserVerdict};
+use tc_book::{Closed, Halt, Left, Pass, Shared, Ticket};
+use tc_entry::{Entry, NoMemory, Op, Reply, Run, UserVerdict, Verdict};
 use tc_table::replay_check;
 
 /// A call of a small case.
@@ -73,19 +76,24 @@ enum Step {
     Left(Left),
 }
 
-/// Makes a call, and answers the run that it started.
-fn make<R: Wait>(rt: &R, pass: &mut Pass, call: Call) -> Result<Option<u16>, Halt> {
+/// Makes a call.
+fn make<R: Wait>(rt: &R, pass: &mut Pass, call: Call) -> Result<(), Halt> {
     match call {
-        Call::Set(verdict) => pass.set_verdict(verdict).map(|_| None),
-        Call::Get => pass.get_verdict().map(|_| None),
-        Call::Start(comp, run) => {
-            pass.start(rt, Comp(comp), Run(run), &Args::new())?;
-            Ok(Some(run))
-        }
-        Call::Stop(comp) => pass.stop(rt, Group::One(Comp(comp))).map(|_| None),
-        Call::Kill(comp) => pass.kill(rt, Group::One(Comp(comp))).map(|_| None),
-        Call::KillAll => pass.kill(rt, Group::All).map(|_| None),
-        Call::StopCase => pass.stop_case(rt).map(|_| None),
+        Call::Set(verdict) => set(pass, verdict),
+        Call::Get => get(pass).map(|_| ()),
+        Call::Start(comp, run) => start(rt, pass, comp, run),
+        Call::Stop(comp) => stop(rt, pass, comp),
+        Call::Kill(comp) => kill(rt, pass, comp),
+        Call::KillAll => kill_all(rt, pass),
+        Call::StopCase => stop_case(rt, pass),
+    }
+}
+
+/// The run that a call has started, if any.
+fn started(call: Call, made: Result<(), Halt>) -> Option<u16> {
+    match (call, made) {
+        (Call::Start(_, run), Ok(())) => Some(run),
+        _ => None,
     }
 }
 
@@ -112,63 +120,83 @@ impl Player {
         ticket
     }
 
+    /// The pass, by the ticket before the first step; or what the run leaves that was never started.
+    fn enter<R: Wait>(&mut self, rt: &R) -> Option<Result<Pass, Left>> {
+        match self.ticket.take() {
+            Some(ticket) => Some(await_start(rt, ticket)),
+            None => self.pass.take().map(Ok),
+        }
+    }
+
     /// Makes the next of these calls; after the last, or where the pass has ended, leaves.
     fn step<R: Wait>(&mut self, rt: &R, calls: &[Call]) -> Step {
-        let entered = match (self.pass.take(), self.ticket.take()) {
-            (Some(pass), _) => Ok(pass),
-            (None, Some(ticket)) => ticket.await_start(rt),
-            (None, None) => return Step::Made,
-        };
-        let mut pass = match entered {
-            Ok(pass) => pass,
-            Err(left) => return Step::Left(left),
-        };
-        match calls.get(self.made) {
+        match self.enter(rt) {
+            Some(Ok(pass)) => self.go_on(rt, pass, calls.get(self.made).copied()),
+            Some(Err(left)) => Step::Left(left),
+            None => Step::Made,
+        }
+    }
+
+    /// Makes this call on the pass; without one, or where the pass has ended, leaves.
+    fn go_on<R: Wait>(&mut self, rt: &R, pass: Pass, call: Option<Call>) -> Step {
+        let mut pass = pass;
+        match call {
             Some(call) if !pass.is_ended() => {
                 self.made = self.made.saturating_add(1);
-                let made = make(rt, &mut pass, *call);
+                let made = make(rt, &mut pass, call);
                 self.pass = Some(pass);
-                match made {
-                    Ok(Some(run)) => Step::Started(run),
-                    _ => Step::Made,
+                match started(call, made) {
+                    Some(run) => Step::Started(run),
+                    None => Step::Made,
                 }
             }
-            _ => Step::Left(pass.leave(rt)),
+            _ => Step::Left(leave(rt, pass)),
         }
     }
 }
 
-/// A case of three runs: run 0 has made components 1 and 2 and started run 1 on component 1.
-fn set_up<R: Wait>(rt: &R, alloc: Global) -> Result<(Shared, Vec<Player>), Halt> {
-    let Ok((shared, pass, tickets)) = open_case(alloc, 3) else {
-        return Err(Halt::NoMemory);
-    };
-    let mut pass = pass;
-    pass.create(rt, true)?;
-    pass.create(rt, true)?;
-    pass.start(rt, Comp(1), Run(1), &Args::new())?;
-    let mut players = Vec::new(alloc);
-    let first = Player {
+/// Makes alive-type components 1 and 2 and starts run 1 on component 1.
+fn begin<R: Abort + Wait>(rt: &R, main: &mut Pass) {
+    got(rt, create(rt, main, true));
+    got(rt, create(rt, main, true));
+    got(rt, start(rt, main, 1, 1));
+}
+
+/// Run 0, which has begun.
+fn first_player(pass: Pass) -> Player {
+    Player {
         ticket: None,
         pass: Some(pass),
         started: true,
         made: 0,
-    };
-    if players.push(first).is_err() {
-        return Err(Halt::NoMemory);
     }
+}
+
+/// Another run, of which the first is started.
+fn other_player(ticket: Ticket) -> Player {
+    Player {
+        started: ticket.run() == Run(1),
+        ticket: Some(ticket),
+        pass: None,
+        made: 0,
+    }
+}
+
+/// Adds the runs of these tickets.
+fn add_players<R: Abort>(rt: &R, tickets: Vec<Ticket>, players: &mut Vec<Player>) {
     for ticket in tickets {
-        let player = Player {
-            started: ticket.run() == Run(1),
-            ticket: Some(ticket),
-            pass: None,
-            made: 0,
-        };
-        if players.push(player).is_err() {
-            return Err(Halt::NoMemory);
-        }
+        got(rt, players.push(other_player(ticket)));
     }
-    Ok((shared, players))
+}
+
+/// A case of three runs: run 0 has made components 1 and 2 and started run 1 on component 1.
+fn set_up<R: Abort + Wait>(rt: &R, alloc: Global) -> (Shared, Vec<Player>) {
+    let (shared, pass, tickets) = got(rt, open(alloc, 3));
+    let mut pass = pass;
+    begin(rt, &mut pass);
+    let mut players = got(rt, vec![in alloc; first_player(pass)]);
+    add_players(rt, tickets, &mut players);
+    (shared, players)
 }
 
 /// Which of the runs may go on.
@@ -182,80 +210,80 @@ fn ready(alloc: Global, players: &[Player]) -> Result<Vec<usize>, NoMemory> {
     Ok(ready)
 }
 
-/// Lets the run that the order chooses make its next step. False once no run goes on.
-fn go_on<R: Wait>(
-    rt: &R,
-    players: &mut Vec<Player>,
-    lefts: &mut Vec<Left>,
-    small: &Small,
-    order: &mut Order,
-    ready: &[usize],
-) -> Result<bool, NoMemory> {
-    if ready.is_empty() {
-        return Ok(false);
-    }
-    let choice = order.choose(ready.len())?;
-    let i = ready.get(choice).copied().unwrap_or(0);
-    let (Some(player), Some(calls)) = (players.get_mut(i), small.get(i)) else {
-        return Ok(false);
-    };
-    match player.step(rt, calls) {
+/// Marks the run as started that a step has started; keeps what it left.
+fn take_step<R: Abort>(rt: &R, players: &mut [Player], lefts: &mut Vec<Left>, step: Step) {
+    match step {
         Step::Made => {}
-        Step::Left(left) => lefts.push(left)?,
+        Step::Left(left) => got(rt, lefts.push(left)),
         Step::Started(run) => {
             if let Some(other) = players.get_mut(usize::from(run)) {
                 other.started = true;
             }
         }
     }
-    Ok(true)
+}
+
+/// Lets the run that the order chooses make its next step. False once no run goes on.
+fn go_on<R: Abort + Wait>(
+    rt: &R,
+    players: &mut Vec<Player>,
+    lefts: &mut Vec<Left>,
+    small: &Small,
+    order: &mut Order,
+    ready: &[usize],
+) -> bool {
+    if ready.is_empty() {
+        return false;
+    }
+    let choice = got(rt, order.choose(ready.len()));
+    let i = ready.get(choice).copied().unwrap_or(0);
+    let (Some(player), Some(calls)) = (players.get_mut(i), small.get(i)) else {
+        return false;
+    };
+    let step = player.step(rt, calls);
+    take_step(rt, players, lefts, step);
+    true
 }
 
 /// Lets the runs go on in an order, until none does.
-fn run_all<R: Wait>(
+fn run_all<R: Abort + Wait>(
     rt: &R,
     alloc: Global,
     players: &mut Vec<Player>,
     lefts: &mut Vec<Left>,
     small: &Small,
     order: &mut Order,
-) -> Result<(), NoMemory> {
+) {
     for _ in 0..16u32 {
-        let ready = ready(alloc, players)?;
-        if !go_on(rt, players, lefts, small, order, &ready)? {
+        let ready = got(rt, ready(alloc, players));
+        if !go_on(rt, players, lefts, small, order, &ready) {
             break;
         }
     }
-    Ok(())
 }
 
 /// What a run hands back that was never started, once the case is over.
 fn unstarted<R: Wait>(rt: &R, player: Player) -> Option<Left> {
-    player.into_ticket()?.await_start(rt).err()
+    await_start(rt, player.into_ticket()?).err()
 }
 
 /// Adds what the runs hand back that were never started.
-fn add_unstarted<R: Wait>(
-    rt: &R,
-    players: Vec<Player>,
-    lefts: &mut Vec<Left>,
-) -> Result<(), NoMemory> {
+fn add_unstarted<R: Abort + Wait>(rt: &R, players: Vec<Player>, lefts: &mut Vec<Left>) {
     for player in players {
         if let Some(left) = unstarted(rt, player) {
-            lefts.push(left)?;
+            got(rt, lefts.push(left));
         }
     }
-    Ok(())
 }
 
 /// Plays a small case in one order.
-fn play<R: Wait>(rt: &R, alloc: Global, small: &Small, order: &mut Order) -> Result<Closed, Fail> {
-    let (shared, players) = set_up(rt, alloc)?;
+fn play<R: Abort + Wait>(rt: &R, alloc: Global, small: &Small, order: &mut Order) -> Closed {
+    let (shared, players) = set_up(rt, alloc);
     let mut players = players;
     let mut lefts = Vec::new(alloc);
-    run_all(rt, alloc, &mut players, &mut lefts, small, order)?;
-    add_unstarted(rt, players, &mut lefts)?;
-    Ok(close_case(rt, alloc, shared, lefts)?)
+    run_all(rt, alloc, &mut players, &mut lefts, small, order);
+    add_unstarted(rt, players, &mut lefts);
+    got(rt, close(rt, alloc, shared, lefts))
 }
 
 /// The small cases: a stop and a restart; a Kill of all; a Stop of the main component; a Start that is an error where the
@@ -302,30 +330,57 @@ fn count_stop(stopped: &mut [usize; 3], history: &[Entry]) {
     }
 }
 
+/// The verdict of a legal history of three runs.
+fn replayed<R: Abort>(rt: &R, alloc: Global, history: &[Entry]) -> Verdict {
+    got(rt, replay_check(alloc, 3, history))
+}
+
+/// Plays a small case in an order: it closes, with a legal history. Counts where a StopCase ended it.
+fn play_and_replay<R: Abort + Wait>(
+    rt: &R,
+    alloc: Global,
+    small: &Small,
+    order: &mut Order,
+    stopped: &mut [usize; 3],
+) {
+    let closed = play(rt, alloc, small, order);
+    let history = closed.history.as_slice();
+    is(rt, "replayed", replayed(rt, alloc, history), closed.verdict);
+    count_stop(stopped, history);
+}
+
+/// Plays a small case in every order, and says how many there are.
+fn play_all<R: Abort + Wait>(
+    rt: &R,
+    alloc: Global,
+    small: &Small,
+    stopped: &mut [usize; 3],
+) -> usize {
+    let mut order = Order::first(alloc);
+    let mut orders = 0usize;
+    for _ in 0..100_000u32 {
+        play_and_replay(rt, alloc, small, &mut order, stopped);
+        orders = orders.saturating_add(1);
+        if !order.advance() {
+            break;
+        }
+    }
+    orders
+}
+
 /// Every order of the calls of each small case, on one thread: each closes, with a legal history. They are 9,469 orders,
 /// in 783 of which a StopCase ends the case.
 #[test]
-fn every_order_of_small_cases(rt: HostRuntime) -> Result<(), Fail> {
-    let alloc = rt.alloc();
+fn every_order_of_small_cases(rt: HostRuntime) {
     let mut orders = 0usize;
     let mut stopped = [0usize; 3];
     for small in small_cases() {
-        let mut order = Order::first(alloc);
-        for _ in 0..100_000u32 {
-            let closed = play(&rt, alloc, &small, &mut order)?;
-            let replayed = replay_check(alloc, 3, closed.history.as_slice())?;
-            is(&rt, "replayed", replayed, closed.verdict);
-            orders = orders.saturating_add(1);
-            count_stop(&mut stopped, closed.history.as_slice());
-            if !order.advance() {
-                break;
-            }
-        }
+        let more = play_all(&rt, rt.alloc(), &small, &mut stopped);
+        orders = orders.saturating_add(more);
     }
-    assert!(rt;
-        stopped.iter().all(|count| *count >= 100),
-        "StopCase ended the case: {stopped:?}"
-    );
-    assert!(rt; orders >= 9_400, "{orders} orders");
-    Ok(())
+    let [by_main, by_first, by_second] = stopped;
+    at_least(&rt, "cases that run 0 stopped", by_main, 100);
+    at_least(&rt, "cases that run 1 stopped", by_first, 100);
+    at_least(&rt, "cases that run 2 stopped", by_second, 100);
+    at_least(&rt, "orders", orders, 9_400);
 }

@@ -1,4 +1,4 @@
-//! The tests of `tc_campaign` by its public calls, in a crate of their own: a check of them doesn't prove the library once more.
+//! The tests of campaigns and of scripted behaviours (`tc_campaign`, `tc_behaviour`), in a crate of their own: a check of them proves no library once more.
 #![tactic(auto)]
 
 #[cfg(test)]

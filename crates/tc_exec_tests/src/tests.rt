@@ -1,11 +1,17 @@
 //! Cases whose behaviours run on threads.
 mod checks;
 mod hostile;
+mod jobs;
 
-use crate::tests::checks::{holds, is};
+use crate::tests::checks::{got, holds, is};
+use crate::tests::jobs::*;
+use std::alloc::{AllocError, Global};
+use std::fmt::Debug;
+use std::process::Abort;
 use std::sync::atomic::{AtomicU64, Ordering};
 use std::sync::{Arc, Wait};
 use std::test::Fail;
+use std::thread::Threads;
 use tc_book::{CloseFault, Halt, Pass, open_case};
 use tc_entry::{
     Args, Comp, Entry, Fault, Group, Name, Op, Reply, Run, Target, UserVerdict, Verdict,
@@ -13,15 +19,6 @@ use tc_entry::{
 use tc_exec::*;
 
 type Behaviour = Box<dyn FnOnce(Pass) -> Back + Send>;
-
-/// Creates a component for each other run, starts them, and waits until all are done.
-fn starts_all<R: Wait>(rt: &R, pass: &mut Pass, behaviours: u16) -> Result<(), Halt> {
-    for run in 1..behaviours {
-        let comp = pass.create(rt, false)?;
-        pass.start(rt, comp, Run(run), &Args::new())?;
-    }
-    pass.wait_done(rt, Target::All)
-}
 
 /// Looks at a flag until it is set, a billion times at most, and says whether it was set.
 fn is_seen(flag: &AtomicU64) -> bool {
@@ -46,27 +43,38 @@ fn meets(pass: Pass, mine: &AtomicU64, other: &AtomicU64) -> Back {
     Back::after(pass, made)
 }
 
+fn that_meets(
+    alloc: Global,
+    mine: Arc<AtomicU64>,
+    other: Arc<AtomicU64>,
+) -> Result<Job, AllocError> {
+    let run: Behaviour = Box::new(alloc, move |pass: Pass| meets(pass, &mine, &other))?;
+    Ok(Job::new(run))
+}
+
+/// Two jobs that meet each other.
+fn that_meet<R: Abort>(rt: &R, alloc: Global) -> (Job, Job) {
+    let one = zero(rt, alloc);
+    let two = zero(rt, alloc);
+    let (one_seen, two_seen) = (shared_with(rt, &one), shared_with(rt, &two));
+    let first = got(rt, that_meets(alloc, one, two_seen));
+    let second = got(rt, that_meets(alloc, two, one_seen));
+    (first, second)
+}
+
 #[test]
 fn behaviours_run_together(rt: HostRuntime) -> Result<(), Fail> {
     let alloc = rt.alloc();
-    let one = Arc::new(alloc, AtomicU64::new(0))?;
-    let two = Arc::new(alloc, AtomicU64::new(0))?;
-    let (one_seen, two_seen) = (Arc::try_clone(&one)?, Arc::try_clone(&two)?);
-    let first: Behaviour = Box::new(alloc, move |pass: Pass| {
-        let mut pass = pass;
-        let made = starts_all(&rt, &mut pass, 3);
-        Back::after(pass, made)
-    })?;
-    let second: Behaviour = Box::new(alloc, move |pass: Pass| meets(pass, &one, &two_seen))?;
-    let third: Behaviour = Box::new(alloc, move |pass: Pass| meets(pass, &two, &one_seen))?;
-    let jobs = vec![in alloc; Job::new(first), Job::new(second), Job::new(third)]?;
-    let report = run_case(&rt, alloc, jobs, 64)?;
-    is(&rt, "report.verdict", report.verdict, Verdict::Pass);
+    let first: Behaviour = Box::new(alloc, move |pass: Pass| starts_all(&rt, pass, 3))?;
+    let (second, third) = that_meet(&rt, alloc);
+    let report = report_of_three(&rt, alloc, Job::new(first), second, third);
+    is(&rt, "overall verdict", report.verdict, Verdict::Pass);
+    let locals = [Verdict::None, Verdict::Pass, Verdict::Pass];
     is(
         &rt,
-        "report.locals.as_slice()",
+        "local verdicts",
         report.locals.as_slice(),
-        [Verdict::None, Verdict::Pass, Verdict::Pass].as_slice(),
+        locals.as_slice(),
     );
     Ok(())
 }
@@ -105,24 +113,24 @@ fn sets_late<R: Wait>(rt: &R, pass: Pass, flag: &AtomicU64, more: u32, ended: &A
     Back::after(pass, Ok(()))
 }
 
-fn sets_pass(pass: Pass) -> Back {
-    let mut pass = pass;
-    let made = pass.set_verdict(UserVerdict::Pass);
-    Back::after(pass, made)
+/// Whether the late setting is the one entry of run 1.
+fn is_late_setting(entries: &[Entry]) -> bool {
+    matches!(
+        entries,
+        [Entry {
+            op: Op::SetVerdict(UserVerdict::Fail),
+            reply: Reply::Ended,
+            ..
+        },]
+    )
 }
 
 /// Whether the late setting is the one entry of run 1, and only the pass of run 2 counts.
 fn is_late_case(report: &CaseReport) -> bool {
-    let logs = report.logs.as_slice();
-    logs.len() == 3
-        && matches!(
-            logs[1].entries.as_slice(),
-            [Entry {
-                op: Op::SetVerdict(UserVerdict::Fail),
-                reply: Reply::Ended,
-                ..
-            },]
-        )
+    let [_, late, _] = report.logs.as_slice() else {
+        return false;
+    };
+    is_late_setting(late.entries.as_slice())
         && report.locals.as_slice() == [Verdict::None, Verdict::Pass].as_slice()
         && report.verdict == Verdict::Pass
 }
@@ -130,153 +138,128 @@ fn is_late_case(report: &CaseReport) -> bool {
 #[test]
 fn late_setting_does_not_count(rt: HostRuntime) -> Result<(), Fail> {
     let alloc = rt.alloc();
-    let flag = Arc::new(alloc, AtomicU64::new(0))?;
-    let count = Arc::new(alloc, AtomicU64::new(0))?;
-    let (flag_set, counted) = (Arc::try_clone(&flag)?, Arc::try_clone(&count)?);
+    let (flag, ended) = (zero(&rt, alloc), zero(&rt, alloc));
+    let (flag_set, counted) = (shared_with(&rt, &flag), shared_with(&rt, &ended));
     let first: Behaviour = Box::new(alloc, move |pass: Pass| restarts(&rt, pass, &flag_set))?;
     let second: Behaviour = Box::new(alloc, move |pass: Pass| {
         sets_late(&rt, pass, &flag, 0, &counted)
     })?;
-    let third: Behaviour = Box::new(alloc, move |pass: Pass| sets_pass(pass))?;
-    let jobs = vec![in alloc; Job::new(first), Job::new(second), Job::new(third)]?;
-    let report = run_case(&rt, alloc, jobs, 64)?;
-    is(
-        &rt,
-        "count.load(Ordering::SeqCst)",
-        count.load(Ordering::SeqCst),
-        1,
-    );
-    holds(&rt, "is_late_case(report)", is_late_case(&report));
+    let third = got(&rt, that_sets_pass(alloc));
+    let report = report_of_three(&rt, alloc, Job::new(first), Job::new(second), third);
+    is(&rt, "calls answered Ended", number(&ended), 1);
+    holds(&rt, "only the pass of run 2 counts", is_late_case(&report));
     Ok(())
 }
 
 #[test]
 fn calls_after_the_end(rt: HostRuntime) -> Result<(), Fail> {
     let alloc = rt.alloc();
-    let flag = Arc::new(alloc, AtomicU64::new(0))?;
-    let count = Arc::new(alloc, AtomicU64::new(0))?;
-    let (flag_set, counted) = (Arc::try_clone(&flag)?, Arc::try_clone(&count)?);
+    let (flag, ended) = (zero(&rt, alloc), zero(&rt, alloc));
+    let (flag_set, counted) = (shared_with(&rt, &flag), shared_with(&rt, &ended));
     let first: Behaviour = Box::new(alloc, move |pass: Pass| restarts(&rt, pass, &flag_set))?;
     let second: Behaviour = Box::new(alloc, move |pass: Pass| {
         sets_late(&rt, pass, &flag, 500, &counted)
     })?;
-    let third: Behaviour = Box::new(alloc, move |pass: Pass| sets_pass(pass))?;
-    let jobs = vec![in alloc; Job::new(first), Job::new(second), Job::new(third)]?;
-    let report = run_case(&rt, alloc, jobs, 64)?;
-    is(
-        &rt,
-        "count.load(Ordering::SeqCst)",
-        count.load(Ordering::SeqCst),
-        1001,
-    );
-    holds(&rt, "is_late_case(report)", is_late_case(&report));
+    let third = got(&rt, that_sets_pass(alloc));
+    let report = report_of_three(&rt, alloc, Job::new(first), Job::new(second), third);
+    is(&rt, "calls answered Ended", number(&ended), 1001);
+    holds(&rt, "only the pass of run 2 counts", is_late_case(&report));
     Ok(())
 }
 
-#[test]
-fn unstarted_job_is_dropped(rt: HostRuntime) -> Result<(), Fail> {
-    let alloc = rt.alloc();
-    let called = Arc::new(alloc, AtomicU64::new(0))?;
-    let theirs = Arc::try_clone(&called)?;
-    let first: Behaviour = Box::new(alloc, move |pass: Pass| Back::after(pass, Ok(())))?;
-    let second: Behaviour = Box::new(alloc, move |pass: Pass| {
-        theirs.store(1, Ordering::SeqCst);
-        Back::after(pass, Ok(()))
-    })?;
-    let jobs = vec![in alloc; Job::new(first), Job::new(second)]?;
-    let report = run_case(&rt, alloc, jobs, 64)?;
-    is(
-        &rt,
-        "called.load(Ordering::SeqCst)",
-        called.load(Ordering::SeqCst),
-        0,
-    );
-    is(
-        &rt,
-        "report.locals.as_slice()",
-        report.locals.as_slice(),
-        [Verdict::None].as_slice(),
-    );
-    let logs = report.logs.as_slice();
-    assert_eq!(rt; logs.len(), 1);
-    is(&rt, "logs[0].run", logs[0].run, Run(0));
-    let log = logs[0].entries.as_slice();
-    assert_eq!(rt; log.len(), 1);
-    holds(
-        &rt,
-        "log[0]",
-        matches!(
-            log[0],
-            Entry {
+/// Whether a case has one log, of run 0, whose one entry is its Finish.
+fn is_finish_alone(report: &CaseReport) -> bool {
+    let [log] = report.logs.as_slice() else {
+        return false;
+    };
+    log.run == Run(0)
+        && matches!(
+            log.entries.as_slice(),
+            [Entry {
                 op: Op::Finish,
                 reply: Reply::Ok,
                 ..
-            }
-        ),
-    );
-    Ok(())
+            },]
+        )
 }
 
 #[test]
-fn back_after_its_calls(rt: HostRuntime) -> Result<(), Fail> {
+fn unstarted_job_is_dropped(rt: HostRuntime) {
+    let alloc = rt.alloc();
+    let called = zero(&rt, alloc);
+    let first = got(&rt, that_returns(alloc));
+    let second = got(&rt, that_marks(alloc, shared_with(&rt, &called)));
+    let report = report_of_two(&rt, alloc, first, second, 64);
+    is(&rt, "calls of run 1", number(&called), 0);
+    let locals = [Verdict::None];
+    is(
+        &rt,
+        "local verdicts",
+        report.locals.as_slice(),
+        locals.as_slice(),
+    );
+    holds(&rt, "a Finish of run 0 alone", is_finish_alone(&report));
+}
+
+/// A pass of a case of one behaviour, which has set inconc.
+fn used_pass<R: Abort>(rt: &R, alloc: Global) -> Pass {
+    let (_, pass, _) = got(rt, open_case(alloc, 1));
+    let mut pass = pass;
+    got(rt, pass.set_verdict(UserVerdict::Inconc));
+    pass
+}
+
+/// Ends the test unless a pass comes back whole after its calls, with this ending.
+fn comes_back<R: Abort>(rt: &R, alloc: Global, made: Result<(), Halt>, ending: Ending) {
+    let back = Back::after(used_pass(rt, alloc), made);
+    is(rt, "ending", back.ending, ending);
+    is(rt, "run", back.pass.run(), Run(0));
+    is(rt, "entries", back.pass.log().len(), 1);
+}
+
+#[test]
+fn back_after_its_calls(rt: HostRuntime) {
     for (made, ending) in [
         (Ok(()), Ending::Returned),
         (Err(Halt::Ended), Ending::Returned),
         (Err(Halt::Fault(Fault::NoComponent)), Ending::Returned),
         (Err(Halt::NoMemory), Ending::Starved),
     ] {
-        let (_, mut pass, _) = open_case(rt.alloc(), 1)?;
-        pass.set_verdict(UserVerdict::Inconc)?;
-        let back = Back::after(pass, made);
-        is(&rt, "back.ending", back.ending, ending);
-        is(&rt, "back.pass.run()", back.pass.run(), Run(0));
-        assert_eq!(rt; back.pass.log().len(), 1);
+        comes_back(&rt, rt.alloc(), made, ending);
     }
-    Ok(())
+}
+
+/// Why a case of one behaviour is refused, which comes back for want of memory.
+fn refusal_of_starved<R: Abort + Threads + Wait + Copy + Send + 'static>(
+    rt: &R,
+    alloc: Global,
+) -> Option<CaseError> {
+    let starved = got(rt, that_starves(alloc));
+    refusal(rt, alloc, got(rt, vec![in alloc; starved]), 64)
 }
 
 #[test]
-fn refused_cases(rt: HostRuntime) -> Result<(), Fail> {
+fn refused_cases(rt: HostRuntime) {
     let alloc = rt.alloc();
-    let none = run_case(&rt, alloc, Vec::new(alloc), 64);
-    holds(&rt, "none", matches!(none, Err(CaseError::NoBehaviours)));
-    let called = Arc::new(alloc, AtomicU64::new(0))?;
-    for (count, threads, refusal) in [
+    let none = refusal(&rt, alloc, Vec::new(alloc), 64);
+    is(&rt, "no behaviours", none, Some(CaseError::NoBehaviours));
+    let called = zero(&rt, alloc);
+    for (count, threads, wanted) in [
         (257u16, 0u16, CaseError::TooManyBehaviours),
         (65, 0, CaseError::NoThread),
         (3, 1, CaseError::NoThread),
     ] {
-        let mut jobs = Vec::new(alloc);
-        for _ in 0..count {
-            let theirs = Arc::try_clone(&called)?;
-            let run: Behaviour = Box::new(alloc, move |pass: Pass| {
-                theirs.store(1, Ordering::SeqCst);
-                Back::after(pass, Ok(()))
-            })?;
-            jobs.push(Job::new(run))?;
-        }
-        let Err(error) = run_case(&rt, alloc, jobs, threads) else {
-            panic!(rt; "the case is refused")
-        };
-        is(&rt, "error", error, refusal);
+        let jobs = that_mark(&rt, alloc, count, &called);
+        is(
+            &rt,
+            "refusal",
+            refusal(&rt, alloc, jobs, threads),
+            Some(wanted),
+        );
     }
-    is(
-        &rt,
-        "called.load(Ordering::SeqCst)",
-        called.load(Ordering::SeqCst),
-        0,
-    );
-    let starved: Behaviour = Box::new(
-        alloc,
-        move |pass: Pass| Back::after(pass, Err(Halt::NoMemory)),
-    )?;
-    let jobs = vec![in alloc; Job::new(starved)]?;
-    holds(
-        &rt,
-        "run_case(rt, alloc, jobs, 64)",
-        matches!(run_case(&rt, alloc, jobs, 64), Err(CaseError::NoMemory)),
-    );
-    Ok(())
+    is(&rt, "calls of behaviours", number(&called), 0);
+    let starved = refusal_of_starved(&rt, alloc);
+    is(&rt, "no memory", starved, Some(CaseError::NoMemory));
 }
 
 /// Whether so many runs were logged, and each but the first gave its component pass.
@@ -292,6 +275,27 @@ fn is_judged_by_all(report: &CaseReport, behaviours: usize) -> bool {
         && others.iter().all(|local| *local == Verdict::Pass)
 }
 
+/// This job, and others that set pass, so many in all.
+fn with_passes<R: Abort>(rt: &R, alloc: Global, first: Job, behaviours: u16) -> Vec<Job> {
+    let mut jobs = got(rt, vec![in alloc; first]);
+    for _ in 1..behaviours {
+        let job = got(rt, that_sets_pass(alloc));
+        got(rt, jobs.push(job));
+    }
+    jobs
+}
+
+/// Whether a case of so many behaviours is judged by all of them.
+fn are_judged<R: Abort + Threads + Wait + Copy + Send + 'static>(
+    rt: &R,
+    alloc: Global,
+    jobs: Vec<Job>,
+    behaviours: u16,
+) -> bool {
+    let report = got(rt, report_of(rt, alloc, jobs, behaviours.saturating_sub(1)));
+    is_judged_by_all(&report, usize::from(behaviours))
+}
+
 /// Cases of 64 behaviours, and of as many as a case may have: the first starts the others, each on a component of its own, and
 /// each of those sets pass.
 #[test]
@@ -299,76 +303,84 @@ fn sixty_four_jobs(rt: HostRuntime) -> Result<(), Fail> {
     let alloc = rt.alloc();
     for behaviours in [64u16, 256] {
         let first: Behaviour = Box::new(alloc, move |pass: Pass| {
-            let mut pass = pass;
-            let made = starts_all(&rt, &mut pass, behaviours);
-            Back::after(pass, made)
+            starts_all(&rt, pass, behaviours)
         })?;
-        let mut jobs = vec![in alloc; Job::new(first)]?;
-        for _ in 1..behaviours {
-            let run: Behaviour = Box::new(alloc, move |pass: Pass| sets_pass(pass))?;
-            jobs.push(Job::new(run))?;
-        }
-        let report = run_case(&rt, alloc, jobs, behaviours.saturating_sub(1))?;
-        assert!(rt;
-            is_judged_by_all(&report, usize::from(behaviours)),
-            "{behaviours}"
-        );
+        let jobs = with_passes(&rt, alloc, Job::new(first), behaviours);
+        let judged = are_judged(&rt, alloc, jobs, behaviours);
+        assert!(rt; judged, "{behaviours}");
     }
     Ok(())
+}
+
+/// A behaviour that creates a component of this name.
+fn names_component<R: Wait>(rt: &R, pass: Pass, name: &Name) -> Back {
+    let mut pass = pass;
+    let made = pass.create_named(rt, false, name.copy()).map(|_| ());
+    Back::after(pass, made)
+}
+
+/// Whether a history begins with the Create of component 1 under this name.
+fn begins_with_name(history: &[Entry], name: &Name) -> bool {
+    let Some(first) = history.first() else {
+        return false;
+    };
+    let wanted = Op::Create {
+        alive: false,
+        name: Some(name.copy()),
+    };
+    first.op.same(&wanted) && first.reply == Reply::Made(Comp(1))
 }
 
 #[test]
 fn names_stand_in_the_log(rt: HostRuntime) -> Result<(), Fail> {
     let alloc = rt.alloc();
-    let pump = Name::read("pump").ok_or("a name")?;
-    let wanted = Op::Create {
-        alive: false,
-        name: Some(pump.copy()),
-    };
-    let main: Behaviour = Box::new(alloc, move |pass: Pass| {
-        let mut pass = pass;
-        let made = pass.create_named(&rt, false, pump.copy()).map(|_| ());
-        Back::after(pass, made)
-    })?;
-    let report = run_case(&rt, alloc, vec![in alloc; Job::new(main)]?, 0)?;
-    let first = report.history.as_slice().first().ok_or("an entry")?;
-    holds(&rt, "first.op.same(wanted)", first.op.same(&wanted));
-    is(&rt, "first.reply", first.reply, Reply::Made(Comp(1)));
-    is(&rt, "report.verdict", report.verdict, Verdict::None);
+    let pump = got(&rt, Name::read("pump").ok_or("a name"));
+    let theirs = pump.copy();
+    let main: Behaviour = Box::new(alloc, move |pass: Pass| names_component(&rt, pass, &theirs))?;
+    let report = report_of_one(&rt, alloc, Job::new(main));
+    let history = report.history.as_slice();
+    holds(
+        &rt,
+        "the name in the history",
+        begins_with_name(history, &pump),
+    );
+    is(&rt, "overall verdict", report.verdict, Verdict::None);
     Ok(())
 }
 
+/// The report of a case of one behaviour, which has no worker.
+fn report_of_one<R: Abort + Threads + Wait + Copy + Send + 'static>(
+    rt: &R,
+    alloc: Global,
+    job: Job,
+) -> CaseReport {
+    let jobs = got(rt, vec![in alloc; job]);
+    got(rt, report_of(rt, alloc, jobs, 0))
+}
+
+/// Ends the test unless a text was made, and is this one.
+fn is_text<R: Abort, E: Debug + Drop>(rt: &R, what: &str, made: Result<String, E>, wanted: &str) {
+    let text = got(rt, made);
+    is(rt, what, text.as_str(), wanted);
+}
+
+/// Ends the test unless a close and a case are refused with these words.
+fn is_refused_with<R: Abort>(rt: &R, alloc: Global, fault: CloseFault, text: &str) {
+    is_text(rt, "fault of a close", fault.to_string(alloc), text);
+    let error = CaseError::from(fault);
+    is_text(rt, "error of a case", error.to_string(alloc), text);
+}
+
 #[test]
-fn texts_of_the_faults(rt: HostRuntime) -> Result<(), Fail> {
+fn texts_of_the_faults(rt: HostRuntime) {
     let alloc = rt.alloc();
-    for (fault, text) in [
-        (CloseFault::Torn, "torn"),
-        (CloseFault::NoMemory, "no memory"),
-    ] {
-        is(
-            &rt,
-            "fault.to_string(alloc).as_str()",
-            fault.to_string(alloc)?.as_str(),
-            text,
-        );
-        is(
-            &rt,
-            "CaseError::from(fault).to_string(alloc).as_str()",
-            CaseError::from(fault).to_string(alloc)?.as_str(),
-            text,
-        );
-    }
+    is_refused_with(&rt, alloc, CloseFault::Torn, "torn");
+    is_refused_with(&rt, alloc, CloseFault::NoMemory, "no memory");
     for (halt, text) in [
         (Halt::Ended, "ended"),
         (Halt::Fault(Fault::NoComponent), "error no-component"),
         (Halt::NoMemory, "no memory"),
     ] {
-        is(
-            &rt,
-            "halt.to_string(alloc).as_str()",
-            halt.to_string(alloc)?.as_str(),
-            text,
-        );
+        is_text(&rt, "a halt", halt.to_string(alloc), text);
     }
-    Ok(())
 }

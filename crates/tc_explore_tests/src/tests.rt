@@ -7,15 +7,15 @@ mod runs;
 mod schedules;
 
 use crate::tests::checks::{holds, is};
-use play::all_schedules;
+use play::{All, all_schedules};
 use std::alloc::Global;
 use std::process::Abort;
 use std::test::Fail;
-use tc_entry::{Name, Op, Reply};
-use tc_explore::{Ending, Explored, explore};
+use tc_entry::{Entry, Name, Op, Reply};
+use tc_explore::{Ending, Explored, Witness, explore};
 use tc_step::{GroupPlace, Place, Places, Script, Status, Step, TargetPlace};
-use tc_table::replay_check;
-use tc_verdict::{Run, UserVerdict, Verdict};
+use tc_table::{CheckFault, replay_check};
+use tc_verdict::{NoMemory, Run, UserVerdict, Verdict};
 
 const P: Place = Place::Bound(0);
 
@@ -45,24 +45,59 @@ fn wait(target: TargetPlace) -> Step {
     }
 }
 
-fn script<R: Abort>(rt: &R, steps: Vec<Step>) -> Script {
-    assert!(rt; Script::is_script(0, steps.as_slice()));
-    Script::new(0, steps)
+// A behaviour of so many parameters.
+fn script_of<R: Abort>(rt: &R, parameters: usize, steps: Vec<Step>) -> Script {
+    assert!(rt; Script::is_script(parameters, steps.as_slice()));
+    Script::new(parameters, steps)
 }
 
-// The verdicts of the witnesses, each judged by the component table.
-fn witnessed<R: Abort>(
+fn script<R: Abort>(rt: &R, steps: Vec<Step>) -> Script {
+    script_of(rt, 0, steps)
+}
+
+// What a search of at most so many states finds.
+fn search<R: Abort>(
     rt: &R,
     alloc: Global,
     scripts: &[Script],
-    explored: &Explored,
-) -> Result<Vec<Verdict>, Fail> {
+    limit: usize,
+) -> Result<Explored, NoMemory> {
+    assert!(rt; scripts.len() <= 64);
+    explore(alloc, scripts, limit)
+}
+
+// What all schedules give.
+fn schedules_of<R: Abort>(
+    rt: &R,
+    alloc: Global,
+    scripts: &[Script],
+) -> Result<Option<All>, NoMemory> {
     assert!(rt; 1 <= scripts.len() && scripts.len() <= 64);
-    let behaviours = scripts.len() as u16;
+    all_schedules(alloc, scripts, CALLS)
+}
+
+// The verdict of a history by the component table.
+fn replayed<R: Abort>(
+    rt: &R,
+    alloc: Global,
+    behaviours: usize,
+    history: &[Entry],
+) -> Result<Verdict, CheckFault> {
+    assert!(rt; 1 <= behaviours && behaviours <= 64);
+    replay_check(alloc, behaviours as u16, history)
+}
+
+// The verdicts of the witnesses of a case of so many behaviours, each judged by the component table.
+fn witnessed<R: Abort>(
+    rt: &R,
+    alloc: Global,
+    behaviours: usize,
+    witnesses: &[Witness],
+) -> Result<Vec<Verdict>, Fail> {
     let mut verdicts = Vec::new(alloc);
-    for witness in explored.found.as_slice() {
-        let replayed = replay_check(alloc, behaviours, witness.history.as_slice())?;
-        is(rt, "replayed", replayed, witness.verdict);
+    for witness in witnesses {
+        let judged = replayed(rt, alloc, behaviours, witness.history.as_slice())?;
+        is(rt, "the verdict of a witness", judged, witness.verdict);
         verdicts.push(witness.verdict)?;
     }
     Ok(verdicts)
@@ -73,116 +108,138 @@ fn are_same(one: &[Verdict], other: &[Verdict]) -> bool {
     one.len() == other.len() && one.iter().all(|verdict| other.contains(verdict))
 }
 
-// The verdicts that a search found which misses none: those of all schedules, of each one witness, which has its verdict by
-// the component table. Each run is reached as far as in all schedules.
-fn verdicts<R: Abort>(rt: &R, alloc: Global, scripts: &[Script]) -> Result<Vec<Verdict>, Fail> {
-    assert!(rt; 1 <= scripts.len() && scripts.len() <= 64);
-    let explored = explore(alloc, scripts, MANY)?;
-    holds(
-        rt,
-        "explored.ending == Ending::Complete",
-        explored.ending == Ending::Complete,
-    );
-    let found = witnessed(rt, alloc, scripts, &explored)?;
-    let all = all_schedules(alloc, scripts, CALLS)?.ok_or("fewer calls")?;
-    holds(
-        rt,
-        "are_same(found.as_slice(), all.verdicts.as_slice())",
-        are_same(found.as_slice(), all.verdicts.as_slice()),
-    );
+// All schedules give these verdicts, and reach each run so far.
+fn compare_with_schedules<R: Abort>(
+    rt: &R,
+    alloc: Global,
+    scripts: &[Script],
+    found: &[Verdict],
+    reached: &[usize],
+) -> Result<(), Fail> {
+    let all = schedules_of(rt, alloc, scripts)?.ok_or("fewer calls")?;
+    let are_found = are_same(found, all.verdicts.as_slice());
+    holds(rt, "the verdicts of all schedules", are_found);
     is(
         rt,
-        "explored.reached.as_slice()",
-        explored.reached.as_slice(),
+        "how far runs are reached",
+        reached,
         all.reached.as_slice(),
     );
-    Ok(found)
+    Ok(())
 }
 
-// A main behaviour that starts one on a component, with this step behind.
-fn leading<R: Abort>(rt: &R, alloc: Global, last: Step) -> Result<Script, Fail> {
+// A search that misses none finds these verdicts: those of all schedules, of each one witness, which has its verdict by the
+// component table. Each run is reached as far as in all schedules.
+fn finds<R: Abort>(
+    rt: &R,
+    alloc: Global,
+    scripts: &[Script],
+    wanted: &[Verdict],
+) -> Result<(), Fail> {
+    let explored = search(rt, alloc, scripts, MANY)?;
+    is(rt, "the ending", explored.ending, Ending::Complete);
+    let witnesses = explored.found.as_slice();
+    let found = witnessed(rt, alloc, scripts.len(), witnesses)?;
+    let found = found.as_slice();
+    compare_with_schedules(rt, alloc, scripts, found, explored.reached.as_slice())?;
+    assert!(rt; are_same(found, wanted), "{found:?} in place of {wanted:?}");
+    Ok(())
+}
+
+// Adds a main behaviour that starts one on a component, with this step behind.
+fn add_leading<R: Abort>(
+    rt: &R,
+    alloc: Global,
+    scripts: &mut Vec<Script>,
+    last: Step,
+) -> Result<(), Fail> {
     let steps = vec![in alloc; create(false), start(P, 1), last]?;
-    Ok(script(rt, steps))
+    Ok(scripts.push(script(rt, steps))?)
 }
 
-fn setting<R: Abort>(rt: &R, alloc: Global, verdict: UserVerdict) -> Result<Script, Fail> {
+// Adds a behaviour that sets this verdict.
+fn add_setting<R: Abort>(
+    rt: &R,
+    alloc: Global,
+    scripts: &mut Vec<Script>,
+    verdict: UserVerdict,
+) -> Result<(), Fail> {
     let steps = vec![in alloc; Step::GetVerdict, Step::SetVerdict(verdict)]?;
-    Ok(script(rt, steps))
+    Ok(scripts.push(script(rt, steps))?)
+}
+
+// The main behaviour that starts one on a component, with this step behind, and the one that sets this verdict.
+fn two<R: Abort>(
+    rt: &R,
+    alloc: Global,
+    last: Step,
+    verdict: UserVerdict,
+) -> Result<Vec<Script>, Fail> {
+    let mut scripts = Vec::new(alloc);
+    add_leading(rt, alloc, &mut scripts, last)?;
+    add_setting(rt, alloc, &mut scripts, verdict)?;
+    Ok(scripts)
+}
+
+// The two behaviours of which the main one does not wait for the other, which sets fail.
+fn race<R: Abort>(rt: &R, alloc: Global) -> Result<Vec<Script>, Fail> {
+    two(rt, alloc, Step::GetVerdict, UserVerdict::Fail)
+}
+
+// The history of the only verdict: so these runs call, and the first ends its wait and finishes.
+fn is_waited_for<R: Abort>(rt: &R, history: &[Entry]) {
+    let callers = [0, 0, 1, 1, 1, 0, 0];
+    assert_eq!(rt; history.len(), callers.len());
+    for (entry, caller) in history.iter().zip(&callers) {
+        is(rt, "the caller", entry.caller, Run(*caller));
+    }
+    let is_matched = history[5].reply.same(&Reply::Matched);
+    holds(rt, "the wait is over", is_matched);
+    let is_finish = history[6].op.same(&Op::Finish);
+    holds(rt, "the last call is a finish", is_finish);
+}
+
+// The search has come to its end, and found one witness, of the verdict pass.
+fn has_one_witness<R: Abort>(rt: &R, explored: &Explored) {
+    is(rt, "the ending", explored.ending, Ending::Complete);
+    holds(rt, "a state", explored.states >= 1);
+    let found = explored.found.as_slice();
+    assert_eq!(rt; found.len(), 1);
+    is(rt, "the verdict", found[0].verdict, Verdict::Pass);
+    is_waited_for(rt, found[0].history.as_slice());
 }
 
 #[test]
 fn who_waits_has_one_verdict(rt: HostRuntime) -> Result<(), Fail> {
     let alloc = rt.alloc();
-    let scripts = vec![in alloc;
-        leading(&rt, alloc, wait(TargetPlace::One(P)))?,
-        setting(&rt, alloc, UserVerdict::Pass)?,
-    ]?;
-    let explored = explore(alloc, scripts.as_slice(), MANY)?;
-    holds(
-        &rt,
-        "explored.ending == Ending::Complete ",
-        explored.ending == Ending::Complete && explored.states >= 1,
-    );
-    assert_eq!(rt; explored.found.as_slice().len(), 1);
-    let witness = &explored.found.as_slice()[0];
-    is(&rt, "witness.verdict", witness.verdict, Verdict::Pass);
-    let history = witness.history.as_slice();
-    let callers = [0, 0, 1, 1, 1, 0, 0];
-    assert_eq!(rt; history.len(), callers.len());
-    for (entry, caller) in history.iter().zip(&callers) {
-        is(&rt, "entry.caller", entry.caller, Run(*caller));
-    }
-    holds(
-        &rt,
-        "history[5].reply.same(Reply::Matched)",
-        history[5].reply.same(&Reply::Matched),
-    );
-    holds(
-        &rt,
-        "history[6].op.same(Op::Finish)",
-        history[6].op.same(&Op::Finish),
-    );
+    let last = wait(TargetPlace::One(P));
+    let scripts = two(&rt, alloc, last, UserVerdict::Pass)?;
+    let explored = search(&rt, alloc, scripts.as_slice(), MANY)?;
+    has_one_witness(&rt, &explored);
     Ok(())
 }
 
 #[test]
 fn who_does_not_wait_has_two(rt: HostRuntime) -> Result<(), Fail> {
-    let alloc = rt.alloc();
-    let scripts = vec![in alloc;
-        leading(&rt, alloc, Step::GetVerdict)?,
-        setting(&rt, alloc, UserVerdict::Fail)?,
-    ]?;
-    let found = verdicts(&rt, alloc, scripts.as_slice())?;
-    assert_eq!(rt; found.len(), 2);
-    holds(
-        &rt,
-        "found.contains(Verdict::None) ",
-        found.contains(&Verdict::None) && found.contains(&Verdict::Fail),
-    );
-    Ok(())
+    let scripts = race(&rt, rt.alloc())?;
+    let wanted = [Verdict::None, Verdict::Fail];
+    finds(&rt, rt.alloc(), scripts.as_slice(), wanted.as_slice())
 }
 
 #[test]
 fn a_kill_comes_before_or_after_each_setting(rt: HostRuntime) -> Result<(), Fail> {
     let alloc = rt.alloc();
+    let mut scripts = Vec::new(alloc);
+    add_leading(&rt, alloc, &mut scripts, Step::Kill(GroupPlace::All))?;
     let steps = vec![in alloc;
         Step::SetVerdict(UserVerdict::Pass),
         Step::SetVerdict(UserVerdict::Inconc),
         Step::SetVerdict(UserVerdict::Pass),
         Step::SetVerdict(UserVerdict::Fail),
     ]?;
-    let scripts = vec![in alloc;
-        leading(&rt, alloc, Step::Kill(GroupPlace::All))?,
-        script(&rt, steps),
-    ]?;
-    let found = verdicts(&rt, alloc, scripts.as_slice())?;
-    assert_eq!(rt; found.len(), 4);
-    holds(
-        &rt,
-        "not found.contains(Verdict::Error)",
-        !found.contains(&Verdict::Error),
-    );
-    Ok(())
+    scripts.push(script(&rt, steps))?;
+    let wanted = [Verdict::None, Verdict::Pass, Verdict::Inconc, Verdict::Fail];
+    finds(&rt, alloc, scripts.as_slice(), wanted.as_slice())
 }
 
 #[test]
@@ -190,28 +247,21 @@ fn who_waits_in_vain_is_stuck(rt: HostRuntime) -> Result<(), Fail> {
     let alloc = rt.alloc();
     let steps = vec![in alloc; create(true), wait(TargetPlace::One(P))]?;
     let scripts = vec![in alloc; script(&rt, steps)]?;
-    let found = verdicts(&rt, alloc, scripts.as_slice())?;
-    assert!(rt; found.len() == 1 && found[0] == Verdict::Error);
-    Ok(())
+    finds(&rt, alloc, scripts.as_slice(), [Verdict::Error].as_slice())
 }
 
 #[test]
 fn a_stop_of_the_case_is_an_error(rt: HostRuntime) -> Result<(), Fail> {
     let alloc = rt.alloc();
+    let mut scripts = Vec::new(alloc);
+    add_leading(&rt, alloc, &mut scripts, wait(TargetPlace::All))?;
     let steps = vec![in alloc; Step::SetVerdict(UserVerdict::Pass), Step::StopCase]?;
-    let scripts = vec![in alloc;
-        leading(&rt, alloc, wait(TargetPlace::All))?,
-        script(&rt, steps),
-    ]?;
-    let found = verdicts(&rt, alloc, scripts.as_slice())?;
-    assert!(rt; found.len() == 1 && found[0] == Verdict::Error);
-    Ok(())
+    scripts.push(script(&rt, steps))?;
+    finds(&rt, alloc, scripts.as_slice(), [Verdict::Error].as_slice())
 }
 
-// The component is started again once its first run has ended, or too early, which is an error.
-#[test]
-fn a_restart_comes_too_early_or_not(rt: HostRuntime) -> Result<(), Fail> {
-    let alloc = rt.alloc();
+// Adds a main behaviour that starts the component again once another has ended.
+fn add_restarting<R: Abort>(rt: &R, alloc: Global, scripts: &mut Vec<Script>) -> Result<(), Fail> {
     let steps = vec![in alloc;
         create(true),
         create(false),
@@ -221,27 +271,24 @@ fn a_restart_comes_too_early_or_not(rt: HostRuntime) -> Result<(), Fail> {
         start(P, 3),
         wait(TargetPlace::All),
     ]?;
-    let scripts = vec![in alloc;
-        script(&rt, steps),
-        setting(&rt, alloc, UserVerdict::None)?,
-        setting(&rt, alloc, UserVerdict::None)?,
-        setting(&rt, alloc, UserVerdict::Inconc)?,
-    ]?;
-    let found = verdicts(&rt, alloc, scripts.as_slice())?;
-    assert_eq!(rt; found.len(), 2);
-    holds(
-        &rt,
-        "found.contains(Verdict::Inconc) ",
-        found.contains(&Verdict::Inconc) && found.contains(&Verdict::Error),
-    );
-    Ok(())
+    Ok(scripts.push(script(rt, steps))?)
 }
 
-// Two components make one each and start a behaviour on it: which of these is the third component differs, also of the
-// behaviours that have ended.
+// The component is started again once its first run has ended, or too early, which is an error.
 #[test]
-fn ended_behaviours_on_either_of_two_components(rt: HostRuntime) -> Result<(), Fail> {
+fn a_restart_comes_too_early_or_not(rt: HostRuntime) -> Result<(), Fail> {
     let alloc = rt.alloc();
+    let mut scripts = Vec::new(alloc);
+    add_restarting(&rt, alloc, &mut scripts)?;
+    for verdict in [UserVerdict::None, UserVerdict::None, UserVerdict::Inconc] {
+        add_setting(&rt, alloc, &mut scripts, verdict)?;
+    }
+    let wanted = [Verdict::Inconc, Verdict::Error];
+    finds(&rt, alloc, scripts.as_slice(), wanted.as_slice())
+}
+
+// Adds a main behaviour that starts one on each of two components, and waits for them.
+fn add_starting<R: Abort>(rt: &R, alloc: Global, scripts: &mut Vec<Script>) -> Result<(), Fail> {
     let steps = vec![in alloc;
         create(false),
         create(false),
@@ -249,137 +296,166 @@ fn ended_behaviours_on_either_of_two_components(rt: HostRuntime) -> Result<(), F
         start(Q, 2),
         wait(TargetPlace::All),
     ]?;
-    let scripts = vec![in alloc;
-        script(&rt, steps),
-        script(&rt, vec![in alloc; create(false), start(P, 3)]?),
-        script(&rt, vec![in alloc; create(false), start(P, 4)]?),
-        script(&rt, Vec::new(alloc)),
-        script(&rt, Vec::new(alloc)),
-    ]?;
-    let found = verdicts(&rt, alloc, scripts.as_slice())?;
-    assert!(rt; found.len() == 1 && found[0] == Verdict::None);
+    Ok(scripts.push(script(rt, steps))?)
+}
+
+// Adds a behaviour that makes a component and starts this one on it.
+fn add_making<R: Abort>(
+    rt: &R,
+    alloc: Global,
+    scripts: &mut Vec<Script>,
+    run: u16,
+) -> Result<(), Fail> {
+    let steps = vec![in alloc; create(false), start(P, run)]?;
+    Ok(scripts.push(script(rt, steps))?)
+}
+
+// Adds a behaviour of no steps.
+fn add_empty<R: Abort>(rt: &R, alloc: Global, scripts: &mut Vec<Script>) -> Result<(), Fail> {
+    Ok(scripts.push(script(rt, Vec::new(alloc)))?)
+}
+
+// Two components make one each and start a behaviour on it: which of these is the third component differs, also of the
+// behaviours that have ended.
+#[test]
+fn ended_behaviours_on_either_of_two_components(rt: HostRuntime) -> Result<(), Fail> {
+    let alloc = rt.alloc();
+    let mut scripts = Vec::new(alloc);
+    add_starting(&rt, alloc, &mut scripts)?;
+    add_making(&rt, alloc, &mut scripts, 3)?;
+    add_making(&rt, alloc, &mut scripts, 4)?;
+    add_empty(&rt, alloc, &mut scripts)?;
+    add_empty(&rt, alloc, &mut scripts)?;
+    finds(&rt, alloc, scripts.as_slice(), [Verdict::None].as_slice())
+}
+
+// A search within this limit ends so, and looks at so many states.
+fn ends_within<R: Abort>(
+    rt: &R,
+    alloc: Global,
+    scripts: &[Script],
+    limit: usize,
+    (ending, states): (Ending, Option<usize>),
+) -> Result<(), Fail> {
+    let explored = search(rt, alloc, scripts, limit)?;
+    is(rt, "the ending", explored.ending, ending);
+    if let Some(states) = states {
+        is(rt, "the number of states", explored.states, states);
+    }
+    Ok(())
+}
+
+// Searches within these limits end so.
+fn end_within<R: Abort>(
+    rt: &R,
+    alloc: Global,
+    scripts: &[Script],
+    rows: &[(usize, Ending, Option<usize>)],
+) -> Result<(), Fail> {
+    for (limit, ending, states) in rows {
+        ends_within(rt, alloc, scripts, *limit, (*ending, *states))?;
+    }
     Ok(())
 }
 
 #[test]
 fn a_search_ends_at_its_limit(rt: HostRuntime) -> Result<(), Fail> {
-    let alloc = rt.alloc();
-    let scripts = vec![in alloc;
-        leading(&rt, alloc, Step::GetVerdict)?,
-        setting(&rt, alloc, UserVerdict::Fail)?,
-    ]?;
-    for limit in 0..3 {
-        let explored = explore(alloc, scripts.as_slice(), limit)?;
-        holds(
-            &rt,
-            "explored.ending == Ending::Undecided",
-            explored.ending == Ending::Undecided,
-        );
-        is(&rt, "explored.states", explored.states, limit);
+    let scripts = race(&rt, rt.alloc())?;
+    let rows = [
+        (0, Ending::Undecided, Some(0)),
+        (1, Ending::Undecided, Some(1)),
+        (2, Ending::Undecided, Some(2)),
+        (3, Ending::Reduced, None),
+    ];
+    end_within(&rt, rt.alloc(), scripts.as_slice(), rows.as_slice())
+}
+
+// Adds a behaviour of a thousand steps.
+fn add_long<R: Abort>(rt: &R, alloc: Global, scripts: &mut Vec<Script>) -> Result<(), Fail> {
+    let mut steps = Vec::new(alloc);
+    for _ in 0..1_000 {
+        steps.push(Step::GetVerdict)?;
     }
-    let explored = explore(alloc, scripts.as_slice(), 3)?;
-    holds(
-        &rt,
-        "explored.ending == Ending::Reduced",
-        explored.ending == Ending::Reduced,
-    );
-    Ok(())
+    Ok(scripts.push(script(rt, steps))?)
 }
 
 // Of a test case with many behaviours and steps a state counts for more: here each for 25.
 #[test]
 fn a_large_test_case_has_fewer_states(rt: HostRuntime) -> Result<(), Fail> {
-    let alloc = rt.alloc();
-    let mut scripts = vec![in alloc;
-        leading(&rt, alloc, Step::GetVerdict)?,
-        setting(&rt, alloc, UserVerdict::Fail)?,
-    ]?;
+    let mut scripts = race(&rt, rt.alloc())?;
     for _ in 0..6 {
-        let mut steps = Vec::new(alloc);
-        for _ in 0..1_000 {
-            steps.push(Step::GetVerdict)?;
-        }
-        scripts.push(script(&rt, steps))?;
+        add_long(&rt, rt.alloc(), &mut scripts)?;
     }
-    assert!(rt; scripts.len() <= 64);
-    for (limit, states) in [(24, 0), (25, 1), (74, 2)] {
-        let explored = explore(alloc, scripts.as_slice(), limit)?;
-        holds(
-            &rt,
-            "explored.ending == Ending::Undecided",
-            explored.ending == Ending::Undecided,
-        );
-        is(&rt, "explored.states", explored.states, states);
+    let rows = [
+        (24, Ending::Undecided, Some(0)),
+        (25, Ending::Undecided, Some(1)),
+        (74, Ending::Undecided, Some(2)),
+        (75, Ending::Reduced, None),
+    ];
+    end_within(&rt, rt.alloc(), scripts.as_slice(), rows.as_slice())
+}
+
+// A start of the second behaviour on the second component, with the first as its argument.
+fn start_with_first<R: Abort>(rt: &R) -> Step {
+    let mut args = Places::new();
+    assert!(rt; args.push(P));
+    Step::Start {
+        on: Q,
+        run: Run(2),
+        args,
     }
-    let explored = explore(alloc, scripts.as_slice(), 75)?;
-    holds(
-        &rt,
-        "explored.ending == Ending::Reduced",
-        explored.ending == Ending::Reduced,
-    );
-    Ok(())
+}
+
+// Adds a main behaviour that waits for a component, and then starts one that has it as its argument.
+fn add_waiting<R: Abort>(rt: &R, alloc: Global, scripts: &mut Vec<Script>) -> Result<(), Fail> {
+    let steps = vec![in alloc;
+        create(false),
+        start(P, 1),
+        wait(TargetPlace::One(P)),
+        create(false),
+        start_with_first(rt),
+        wait(TargetPlace::All),
+    ]?;
+    Ok(scripts.push(script(rt, steps))?)
+}
+
+// Adds a behaviour that stops and kills its argument, and waits for it.
+fn add_late<R: Abort>(rt: &R, alloc: Global, scripts: &mut Vec<Script>) -> Result<(), Fail> {
+    let late = vec![in alloc;
+        Step::Stop(GroupPlace::One(P)),
+        Step::Kill(GroupPlace::One(P)),
+        wait(TargetPlace::One(P)),
+    ]?;
+    Ok(scripts.push(script_of(rt, 1, late))?)
 }
 
 // Who stops a component that is killed already changes nothing, nor who waits for it: one state stands for all such calls.
 #[test]
 fn late_calls_have_no_states(rt: HostRuntime) -> Result<(), Fail> {
     let alloc = rt.alloc();
-    let mut args = Places::new();
-    assert!(rt; args.push(P));
-    let steps = vec![in alloc;
-        create(false),
-        start(P, 1),
-        wait(TargetPlace::One(P)),
-        create(false),
-        Step::Start {
-            on: Q,
-            run: Run(2),
-            args
-        },
-        wait(TargetPlace::All),
-    ]?;
-    let late = vec![in alloc;
-        Step::Stop(GroupPlace::One(P)),
-        Step::Kill(GroupPlace::One(P)),
-        wait(TargetPlace::One(P)),
-    ]?;
-    assert!(rt; Script::is_script(1, late.as_slice()));
-    let scripts = vec![in alloc;
-        script(&rt, steps),
-        script(&rt, Vec::new(alloc)),
-        Script::new(1, late),
-    ]?;
-    let found = verdicts(&rt, alloc, scripts.as_slice())?;
-    assert!(rt; found.len() == 1 && found[0] == Verdict::None);
-    let explored = explore(alloc, scripts.as_slice(), MANY)?;
-    is(&rt, "explored.states", explored.states, 6);
-    Ok(())
+    let mut scripts = Vec::new(alloc);
+    add_waiting(&rt, alloc, &mut scripts)?;
+    add_empty(&rt, alloc, &mut scripts)?;
+    add_late(&rt, alloc, &mut scripts)?;
+    let scripts = scripts.as_slice();
+    finds(&rt, alloc, scripts, [Verdict::None].as_slice())?;
+    ends_within(&rt, alloc, scripts, MANY, (Ending::Complete, Some(6)))
 }
 
 #[test]
 fn without_behaviours_nothing_is_decided(rt: HostRuntime) -> Result<(), Fail> {
-    let explored = explore(rt.alloc(), &[], MANY)?;
-    holds(
-        &rt,
-        "explored.ending == Ending::Undecided",
-        explored.ending == Ending::Undecided,
-    );
-    is(&rt, "explored.states", explored.states, 0);
-    holds(
-        &rt,
-        "explored.found.as_slice().is_empty()",
-        explored.found.as_slice().is_empty(),
-    );
+    let explored = search(&rt, rt.alloc(), &[], MANY)?;
+    is(&rt, "the ending", explored.ending, Ending::Undecided);
+    is(&rt, "the number of states", explored.states, 0);
+    let found = explored.found.as_slice();
+    holds(&rt, "no verdict is found", found.is_empty());
     Ok(())
 }
 
 // How a search of two behaviours within this limit ends, and how many states it tells.
 fn searched<R: Abort>(rt: &R, alloc: Global, limit: usize) -> Result<(Ending, usize), Fail> {
-    let scripts = vec![in alloc;
-        leading(rt, alloc, Step::GetVerdict)?,
-        setting(rt, alloc, UserVerdict::Fail)?,
-    ]?;
-    let explored = explore(alloc, scripts.as_slice(), limit)?;
+    let scripts = race(rt, alloc)?;
+    let explored = search(rt, alloc, scripts.as_slice(), limit)?;
     Ok((explored.ending, explored.states))
 }
 
@@ -397,56 +473,70 @@ fn a_complete_search_tells_its_states(rt: HostRuntime) -> Result<(), Fail> {
     Ok(())
 }
 
-// The line that is told of a test case t, and its status.
-fn told(alloc: Global, explored: &Explored) -> Result<(String, u8), Fail> {
+// Compares the line that is told of a test case t, and its status.
+fn is_told<R: Abort>(
+    rt: &R,
+    alloc: Global,
+    explored: &Explored,
+    (line, status): (&str, u8),
+) -> Result<(), Fail> {
     let name = Name::read("t").ok_or("a name")?;
     let mut out = Vec::new(alloc);
     explored.append_line(&mut out, &name)?;
-    let line = str::from_utf8(out.as_slice()).map_err(|_| "a text")?;
-    Ok((line.to_string(alloc)?, explored.status()))
+    is(rt, "the line", out.as_slice(), line.as_bytes());
+    is(rt, "the status", explored.status(), status);
+    Ok(())
+}
+
+// Compares what is told of a search within this limit.
+fn tells<R: Abort>(
+    rt: &R,
+    alloc: Global,
+    scripts: &[Script],
+    limit: usize,
+    told: (&str, u8),
+) -> Result<(), Fail> {
+    let explored = search(rt, alloc, scripts, limit)?;
+    is_told(rt, alloc, &explored, told)
+}
+
+// Compares what is told of the race within each limit.
+fn race_is_told<R: Abort>(rt: &R, alloc: Global) -> Result<(), Fail> {
+    let race = race(rt, alloc)?;
+    let rows = [
+        (MANY, "t none fail complete\n", 1),
+        (3, "t none fail looked at 3 states\n", 1),
+        (0, "t undecided after 0 states\n", 3),
+    ];
+    for (limit, line, status) in rows {
+        tells(rt, alloc, race.as_slice(), limit, (line, status))?;
+    }
+    Ok(())
+}
+
+// Compares the histories of the witnesses of a test case t of one behaviour.
+fn has_histories<R: Abort>(
+    rt: &R,
+    alloc: Global,
+    explored: &Explored,
+    wanted: &str,
+) -> Result<(), Fail> {
+    let name = Name::read("t").ok_or("a name")?;
+    let mut out = Vec::new(alloc);
+    explored.append_witnesses(&mut out, &name, 1)?;
+    is(rt, "the histories", out.as_slice(), wanted.as_bytes());
+    Ok(())
 }
 
 #[test]
 fn lines_and_statuses(rt: HostRuntime) -> Result<(), Fail> {
     let alloc = rt.alloc();
-    let race = vec![in alloc;
-        leading(&rt, alloc, Step::GetVerdict)?,
-        setting(&rt, alloc, UserVerdict::Fail)?,
-    ]?;
-    let (line, status) = told(alloc, &explore(alloc, race.as_slice(), MANY)?)?;
-    is(
-        &rt,
-        "line.as_str()",
-        line.as_str(),
-        "t none fail complete\n",
-    );
-    is(&rt, "status", status, 1);
-    let (line, status) = told(alloc, &explore(alloc, race.as_slice(), 3)?)?;
-    is(
-        &rt,
-        "line.as_str()",
-        line.as_str(),
-        "t none fail looked at 3 states\n",
-    );
-    is(&rt, "status", status, 1);
-    let (line, status) = told(alloc, &explore(alloc, race.as_slice(), 0)?)?;
-    is(
-        &rt,
-        "line.as_str()",
-        line.as_str(),
-        "t undecided after 0 states\n",
-    );
-    is(&rt, "status", status, 3);
-    let alone = vec![in alloc; setting(&rt, alloc, UserVerdict::Pass)?]?;
-    let explored = explore(alloc, alone.as_slice(), MANY)?;
-    let (line, status) = told(alloc, &explored)?;
-    is(&rt, "line.as_str()", line.as_str(), "t pass complete\n");
-    is(&rt, "status", status, 0);
-    let mut out = Vec::new(alloc);
-    let name = Name::read("t").ok_or("a name")?;
-    explored.append_witnesses(&mut out, &name, 1)?;
+    race_is_told(&rt, alloc)?;
+    let mut alone = Vec::new(alloc);
+    add_setting(&rt, alloc, &mut alone, UserVerdict::Pass)?;
+    let explored = search(&rt, alloc, alone.as_slice(), MANY)?;
+    is_told(&rt, alloc, &explored, ("t pass complete\n", 0))?;
     let wanted =
         "history 2 t 1\n0 getverdict -> none\n0 setverdict pass -> ok\n0 finish -> ok\nend pass\n";
-    is(&rt, "out.as_slice()", out.as_slice(), wanted.as_bytes());
-    Ok(())
+    has_histories(&rt, alloc, &explored, wanted)
 }

@@ -1,4 +1,4 @@
-//! The tests of the small libraries, in a crate of their own: a check of them proves no library once more.
+//! The tests of the libraries on which the executor stands, in a crate of their own: a check of them proves no library once more.
 #![tactic(auto)]
 
 #[cfg(test)]
@@ -15,6 +15,10 @@ mod merging;
 mod steps;
 #[cfg(test)]
 mod streams;
+#[cfg(test)]
+mod tables;
+#[cfg(test)]
+mod texts;
 #[cfg(test)]
 mod verdicts;
 #[cfg(test)]

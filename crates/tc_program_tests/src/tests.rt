@@ -14,6 +14,7 @@ use tc_program::check::check;
 use tc_program::fault::RunFault;
 use tc_program::outcome::Outcome;
 use tc_program::replay::replay;
+use tc_table::NoMemory;
 
 mod calls;
 mod campaigns;
@@ -37,6 +38,43 @@ fn lines(alloc: Global, text: &str) -> Result<Vec<u8>, AllocError> {
     }
     bytes.push(b'\n')?;
     Ok(bytes)
+}
+
+// Whether a text with this byte, in which `;` stands for a line feed, has the byte that was found in its place.
+fn is_byte(found: u8, byte: u8) -> bool {
+    found == if byte == b';' { b'\n' } else { byte }
+}
+
+// Whether these are the bytes of the text with a line feed for each `;`, and one at the end; no bytes for no text.
+fn are_lines(found: &[u8], text: &str) -> bool {
+    let text = text.as_bytes();
+    match found.split_last() {
+        Some((last, before)) if !text.is_empty() => {
+            *last == b'\n'
+                && before.len() == text.len()
+                && before
+                    .iter()
+                    .zip(text)
+                    .all(|(found, byte)| is_byte(*found, *byte))
+        }
+        last => last.is_none() && text.is_empty(),
+    }
+}
+
+// Ends the test unless the lines of this text were found.
+fn is_lines<R: Abort>(rt: &R, what: &str, found: &[u8], wanted: &str) {
+    assert!(rt;
+        are_lines(found, wanted),
+        "{what}: {found:?} in place of {wanted}"
+    );
+}
+
+// Tells of the fault; of no fault, nothing.
+fn tell(answer: Result<u8, RunFault>, told: &mut Vec<u8>) -> Result<(), NoMemory> {
+    match answer {
+        Ok(_) => Ok(()),
+        Err(fault) => fault_line(&fault, told),
+    }
 }
 
 // A command that reads an input, writes an output and answers a status.
@@ -65,11 +103,10 @@ impl Command {
         status: u8,
     ) -> Result<(), Fail> {
         let given = lines(rt.alloc(), input)?;
-        let wanted = lines(rt.alloc(), output)?;
         let mut written = Vec::new(rt.alloc());
-        let answer = self.answer(rt.alloc(), given.as_slice(), &mut written)?;
-        is(rt, input, answer, status);
-        is(rt, input, written.as_slice(), wanted.as_slice());
+        let answer = self.answer(rt.alloc(), given.as_slice(), &mut written);
+        is(rt, input, answer, Ok(status));
+        is_lines(rt, input, written.as_slice(), output);
         Ok(())
     }
 
@@ -77,12 +114,9 @@ impl Command {
     fn refuses<R: Abort + AllocGlobal>(self, rt: &R, input: &[u8], line: &str) -> Result<(), Fail> {
         let mut written = Vec::new(rt.alloc());
         let mut told = Vec::new(rt.alloc());
-        match self.answer(rt.alloc(), input, &mut written) {
-            Ok(_) => panic!(rt; "{line}: the input was taken"),
-            Err(fault) => fault_line(&fault, &mut told)?,
-        }
-        let wanted = lines(rt.alloc(), line)?;
-        is(rt, "told.as_slice()", told.as_slice(), wanted.as_slice());
+        let answer = self.answer(rt.alloc(), input, &mut written);
+        tell(answer, &mut told)?;
+        is_lines(rt, "what is told", told.as_slice(), line);
         holds(rt, line, written.is_empty());
         Ok(())
     }
@@ -107,13 +141,17 @@ fn refuses<R: Abort + AllocGlobal>(rt: &R, input: &[u8], line: &str) -> Result<(
 fn words_of(alloc: Global, line: &str) -> Result<Vec<String>, AllocError> {
     let mut words = Vec::new(alloc);
     for word in line.split(' ') {
-        words.push(word.to_string(alloc)?)?;
+        push_word(alloc, &mut words, word)?;
     }
     Ok(words)
 }
 
+fn push_word(alloc: Global, words: &mut Vec<String>, word: &str) -> Result<(), AllocError> {
+    Ok(words.push(word.to_string(alloc)?)?)
+}
+
 // What is written of an input, what is told of it, and its status.
-#[derive(Drop)]
+#[derive(Clone, Copy)]
 struct Wanted<'a> {
     written: &'a str,
     told: &'a str,
@@ -154,19 +192,10 @@ struct Came {
 
 impl Came {
     // Compares it with what is wanted; what is told is told whole.
-    fn compare<R: Abort>(
-        &self,
-        rt: &R,
-        alloc: Global,
-        wanted: &Wanted,
-        of: &str,
-    ) -> Result<(), Fail> {
-        let told = text_of(alloc, wanted.told)?;
-        let written = text_of(alloc, wanted.written)?;
-        is(rt, of, self.told.as_slice(), told.as_slice());
-        is(rt, of, self.written.as_slice(), written.as_slice());
+    fn compare<R: Abort>(&self, rt: &R, wanted: Wanted, of: &str) {
+        is_lines(rt, of, self.told.as_slice(), wanted.told);
+        is_lines(rt, of, self.written.as_slice(), wanted.written);
         compare_outcome(rt, &self.outcome, wanted.status, of);
-        Ok(())
     }
 }
 
@@ -221,9 +250,10 @@ fn answers<R: Abort + Threads + Wait + Copy + Send + 'static>(
     input: &str,
     wanted: Wanted,
 ) -> Result<(), Fail> {
-    let input = text_of(alloc, input)?;
+    let input = lines(alloc, input)?;
     let came = came_of_line(rt, alloc, line, input.as_slice())?;
-    came.compare(rt, alloc, &wanted, line)
+    came.compare(rt, wanted, line);
+    Ok(())
 }
 
 // Carries out the task on the input, and compares what comes of it.
@@ -233,14 +263,6 @@ fn carries_out<R: Abort + Threads + Wait + Copy + Send + 'static>(
     task: Task,
     input: &[u8],
     wanted: Wanted,
-) -> Result<(), Fail> {
-    came_of(rt, alloc, task, input).compare(rt, alloc, &wanted, "a task")
-}
-
-// No bytes for no text, else its lines.
-fn text_of(alloc: Global, text: &str) -> Result<Vec<u8>, AllocError> {
-    if text.is_empty() {
-        return Ok(Vec::new(alloc));
-    }
-    lines(alloc, text)
+) {
+    came_of(rt, alloc, task, input).compare(rt, wanted, "a task");
 }

@@ -1,4 +1,4 @@
-//! The tests of `tc_report` by its public calls, in a crate of their own: a check of them doesn't prove the library once more.
+//! The tests of reports, forms and charts (`tc_report`, `tc_forms`, `tc_chart`), in a crate of their own: a check of them proves no library once more.
 #![tactic(auto)]
 
 #[cfg(test)]

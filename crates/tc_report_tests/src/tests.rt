@@ -1,7 +1,9 @@
 //! Results made by hand, and their texts. The calls of the library stand in small functions without clauses, so that the
 //! proof of a test carries none of the library's.
+mod charts;
 mod checks;
 mod devices;
+mod forms;
 mod live;
 mod progress;
 mod runs;
@@ -48,11 +50,16 @@ fn name(text: &str) -> Result<Name, Fail> {
     Ok(Name::read(text).ok_or("a name")?)
 }
 
-fn names(alloc: Global, texts: &[&str]) -> Result<Sequence<Name>, Fail> {
-    let mut names = Vec::new(alloc);
+fn add_names(names: &mut Vec<Name>, texts: &[&str]) -> Result<(), Fail> {
     for text in texts {
         names.push(name(text)?)?;
     }
+    Ok(())
+}
+
+fn names(alloc: Global, texts: &[&str]) -> Result<Sequence<Name>, Fail> {
+    let mut names = Vec::new(alloc);
+    add_names(&mut names, texts)?;
     Ok(Sequence::new(names))
 }
 
@@ -111,19 +118,37 @@ fn copied(alloc: Global, entries: &[Entry]) -> Result<Sequence<Entry>, Fail> {
     Ok(Sequence::new(copies))
 }
 
-/// The entries of this run.
-fn log_of(alloc: Global, history: &[Entry], run: u16, comp: u32) -> Result<RunLog, Fail> {
-    let mut entries = Vec::new(alloc);
+/// Adds the entries of this run.
+fn add_entries(entries: &mut Vec<Entry>, history: &[Entry], run: u16) -> Result<(), Fail> {
     for one in history {
         if one.caller == Run(run) {
             entries.push(one.copy())?;
         }
     }
+    Ok(())
+}
+
+/// The entries of this run.
+fn log_of(alloc: Global, history: &[Entry], run: u16, comp: u32) -> Result<RunLog, Fail> {
+    let mut entries = Vec::new(alloc);
+    add_entries(&mut entries, history, run)?;
     Ok(RunLog {
         run: Run(run),
         comp: Comp(comp),
         entries: Sequence::new(entries),
     })
+}
+
+fn add_logs(
+    alloc: Global,
+    logs: &mut Vec<RunLog>,
+    history: &[Entry],
+    runs: &[(u16, u32)],
+) -> Result<(), Fail> {
+    for (run, comp) in runs {
+        logs.push(log_of(alloc, history, *run, *comp)?)?;
+    }
+    Ok(())
 }
 
 fn logs_of(
@@ -132,14 +157,12 @@ fn logs_of(
     runs: &[(u16, u32)],
 ) -> Result<Sequence<RunLog>, Fail> {
     let mut logs = Vec::new(alloc);
-    for (run, comp) in runs {
-        logs.push(log_of(alloc, history, *run, *comp)?)?;
-    }
+    add_logs(alloc, &mut logs, history, runs)?;
     Ok(Sequence::new(logs))
 }
 
 /// A test case that is over, by its parts.
-#[derive(Drop)]
+#[derive(Clone, Copy)]
 struct Over<'a> {
     name: &'a str,
     behaviours: &'a [&'a str],
@@ -151,17 +174,28 @@ struct Over<'a> {
 }
 
 impl Over<'_> {
+    fn report(&self, alloc: Global) -> Result<CaseReport, Fail> {
+        let behaviours = u16::try_from(self.runs.len())?;
+        let history = copied(alloc, self.history)?;
+        let logs = logs_of(alloc, self.history, self.runs)?;
+        let locals = locals(alloc, self.locals)?;
+        Ok(CaseReport {
+            behaviours,
+            history,
+            logs,
+            locals,
+            verdict: self.verdict,
+        })
+    }
+
     fn finished(&self, alloc: Global) -> Result<Finished, Fail> {
+        let name = name(self.name)?;
+        let names = names(alloc, self.behaviours)?;
+        let report = self.report(alloc)?;
         Ok(Finished {
-            name: name(self.name)?,
-            names: names(alloc, self.behaviours)?,
-            report: CaseReport {
-                behaviours: u16::try_from(self.runs.len())?,
-                history: copied(alloc, self.history)?,
-                logs: logs_of(alloc, self.history, self.runs)?,
-                locals: locals(alloc, self.locals)?,
-                verdict: self.verdict,
-            },
+            name,
+            names,
+            report,
         })
     }
 }
@@ -268,6 +302,23 @@ fn ended(finished: Vec<Finished>, ending: CampaignEnd) -> Results {
         finished: Sequence::new(finished),
         ending,
     }
+}
+
+/// The results of a campaign of one test case, which is complete.
+fn results_of_one(alloc: Global, case: Finished) -> Result<Results, Fail> {
+    let finished = vec![in alloc; case]?;
+    Ok(ended(finished, CampaignEnd::Complete))
+}
+
+/// The results of a campaign of two test cases that ended so.
+fn results_of_two(
+    alloc: Global,
+    first: Finished,
+    second: Finished,
+    ending: CampaignEnd,
+) -> Result<Results, Fail> {
+    let finished = vec![in alloc; first, second]?;
+    Ok(ended(finished, ending))
 }
 
 /// The results of a campaign of no test case that aborted.

@@ -1,5 +1,11 @@
-//! The tests of `tc_script` by its public calls, in a crate of their own: a check of them doesn't prove the library once more.
+//! The tests of the libraries that read scripts, and of explanations, in a crate of their own: a check of them proves no library once more.
 #![tactic(auto)]
 
 #[cfg(test)]
-mod tests;
+mod checks;
+#[cfg(test)]
+mod explanations;
+#[cfg(test)]
+mod lines;
+#[cfg(test)]
+mod scripts;

@@ -35,29 +35,52 @@ fn told(alloc: Global, cases: &[Case<u8>]) -> Result<Vec<u8>, AllocError> {
     Ok(text)
 }
 
+/// The names of the test cases from a to e that are chosen.
+fn choose_told(alloc: Global, only: &str, shard: Option<Shard>) -> Result<Vec<u8>, Fail> {
+    let cases = plain(alloc, "a b c d e")?;
+    let only = names(alloc, only)?;
+    let chosen = choose(alloc, cases, only.as_slice(), shard)?;
+    Ok(told(alloc, chosen.as_slice())?)
+}
+
+/// Checks which test cases are chosen by their names and by a shard of this number.
+fn chooses<R: Abort>(
+    rt: &R,
+    alloc: Global,
+    only: &str,
+    number: u32,
+    of: u32,
+    wanted: &str,
+) -> Result<(), Fail> {
+    let found = choose_told(alloc, only, Shard::new(number, of))?;
+    is(
+        rt,
+        "the chosen test cases",
+        found.as_slice(),
+        wanted.as_bytes(),
+    );
+    Ok(())
+}
+
+// Without a shard where its number is 0.
 #[test]
 fn chosen_test_cases(rt: HostRuntime) -> Result<(), Fail> {
     let alloc = rt.alloc();
-    let shard = |number: u32, of: u32| Shard::new(number, of);
     let rows = [
-        ("", None, "abcde"),
-        ("d b", None, "bd"),
-        ("b b", None, "b"),
-        ("z", None, ""),
-        ("", shard(1, 1), "abcde"),
-        ("", shard(1, 2), "ace"),
-        ("", shard(2, 2), "bd"),
-        ("", shard(3, 3), "c"),
-        ("", shard(7, 7), ""),
-        ("e c b", shard(1, 2), "be"),
-        ("e c b", shard(2, 2), "c"),
+        ("", 0, 0, "abcde"),
+        ("d b", 0, 0, "bd"),
+        ("b b", 0, 0, "b"),
+        ("z", 0, 0, ""),
+        ("", 1, 1, "abcde"),
+        ("", 1, 2, "ace"),
+        ("", 2, 2, "bd"),
+        ("", 3, 3, "c"),
+        ("", 7, 7, ""),
+        ("e c b", 1, 2, "be"),
+        ("e c b", 2, 2, "c"),
     ];
-    for (only, shard, wanted) in rows {
-        let cases = plain(alloc, "a b c d e")?;
-        let only = names(alloc, only)?;
-        let chosen = choose(alloc, cases, only.as_slice(), shard)?;
-        let found = told(alloc, chosen.as_slice())?;
-        is(&rt, "found.as_slice()", found.as_slice(), wanted.as_bytes());
+    for (only, number, of, wanted) in rows {
+        chooses(&rt, alloc, only, number, of, wanted)?;
     }
     Ok(())
 }
@@ -91,18 +114,30 @@ fn shards_by_their_numbers(rt: HostRuntime) -> Result<(), Fail> {
     Ok(())
 }
 
+/// Checks whether three test cases have these names.
+fn has_names<R: Abort>(
+    rt: &R,
+    alloc: Global,
+    cases: &[Case<u8>],
+    only: &str,
+    wanted: bool,
+) -> Result<(), Fail> {
+    let only = names(alloc, only)?;
+    is(
+        rt,
+        "whether there are all",
+        have_all(cases, only.as_slice()),
+        wanted,
+    );
+    Ok(())
+}
+
 #[test]
 fn names_of_test_cases(rt: HostRuntime) -> Result<(), Fail> {
     let alloc = rt.alloc();
     let cases = plain(alloc, "a b c")?;
     for (only, wanted) in [("", true), ("c a", true), ("a z", false), ("z", false)] {
-        let only = names(alloc, only)?;
-        is(
-            &rt,
-            "have_all(cases.as_slice(), only.as_slice())",
-            have_all(cases.as_slice(), only.as_slice()),
-            wanted,
-        );
+        has_names(&rt, alloc, cases.as_slice(), only, wanted)?;
     }
     Ok(())
 }

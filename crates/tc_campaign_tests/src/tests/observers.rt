@@ -6,7 +6,6 @@ use super::*;
 use crate::tests::checks::{holds, is};
 use std::io;
 use std::io::Write;
-use std::thread::Threads;
 use tc_stream::devices::{NarrowWriter, WriteFailure};
 
 /// Notes how many test cases have begun when each report comes, and ends the campaign at the report of this number.
@@ -26,40 +25,74 @@ impl Observer for Noting {
     }
 }
 
-/// A test case that is counted when it begins.
-fn counted(alloc: Global, text: &str, begun: &Arc<AtomicU64>) -> Result<Case, Fail>
-    ensures { IfOk result HasNames }
-{
-    let theirs = Arc::try_clone(begun)?;
-    let run: Behaviour = Box::new(alloc, move |pass: Pass| {
-        theirs.fetch_add(1, Ordering::SeqCst);
-        sets(pass, UserVerdict::Pass)
-    })?;
-    case(alloc, text, run)
+/// An observer that ends the campaign at the report of this number.
+fn observer(alloc: Global, begun: &Arc<AtomicU64>, last: usize) -> Result<Noting, Fail> {
+    Ok(Noting {
+        begun: Arc::try_clone(begun)?,
+        noted: Vec::new(alloc),
+        last,
+    })
+}
+
+/// The ending of three counted test cases that are observed.
+fn observe_three<R: Threads + Wait + Copy + Send + 'static>(
+    rt: &R,
+    alloc: Global,
+    noting: &mut Noting,
+) -> Result<Option<CampaignEnd>, Fail> {
+    let cases = vec![in alloc;
+        counted(alloc, "a", &noting.begun)?,
+        counted(alloc, "b", &noting.begun)?,
+        counted(alloc, "c", &noting.begun)?,
+    ]?;
+    Ok(run_campaign_with(rt, alloc, cases, None, 0, noting))
+}
+
+/// The ending of two counted test cases that are observed; the campaign ends at pass.
+fn observe_to_pass<R: Threads + Wait + Copy + Send + 'static>(
+    rt: &R,
+    alloc: Global,
+    noting: &mut Noting,
+) -> Result<Option<CampaignEnd>, Fail> {
+    let cases = vec![in alloc;
+        counted(alloc, "a", &noting.begun)?,
+        counted(alloc, "b", &noting.begun)?,
+    ]?;
+    Ok(run_campaign_with(rt, alloc, cases, Some(Verdict::Pass), 0, noting))
 }
 
 #[test]
 fn each_report_comes_before_the_next_case(rt: HostRuntime) -> Result<(), Fail> {
     let alloc = rt.alloc();
     let begun = Arc::new(alloc, AtomicU64::new(0))?;
-    let cases = vec![in alloc;
-        counted(alloc, "a", &begun)?,
-        counted(alloc, "b", &begun)?,
-        counted(alloc, "c", &begun)?,
-    ]?;
-    let mut noting = Noting {
-        begun: Arc::try_clone(&begun)?,
-        noted: Vec::new(alloc),
-        last: usize::MAX,
-    };
-    let ending = run_campaign_with(&rt, alloc, cases, None, 0, &mut noting);
-    holds(&rt, "ending", matches!(ending, Some(CampaignEnd::Complete)));
+    let mut noting = observer(alloc, &begun, usize::MAX)?;
+    let ending = observe_three(&rt, alloc, &mut noting)?;
+    holds(
+        &rt,
+        "the campaign is complete",
+        matches!(ending, Some(CampaignEnd::Complete)),
+    );
     is(
         &rt,
-        "noting.noted.as_slice()",
+        "how many cases had begun at each report",
         noting.noted.as_slice(),
         [1u64, 2, 3].as_slice(),
     );
+    Ok(())
+}
+
+/// Observes three test cases up to the report of this number.
+fn refuse_at<R: Abort + Threads + Wait + Copy + Send + 'static>(
+    rt: &R,
+    alloc: Global,
+    last: usize,
+) -> Result<(), Fail> {
+    let begun = Arc::new(alloc, AtomicU64::new(0))?;
+    let mut noting = observer(alloc, &begun, last)?;
+    let ending = observe_three(rt, alloc, &mut noting)?;
+    holds(rt, "the campaign is cut short", ending.is_none());
+    is(rt, "how many reports came", noting.noted.len(), last);
+    is(rt, "how many cases began", count(&begun), last as u64);
     Ok(())
 }
 
@@ -67,26 +100,7 @@ fn each_report_comes_before_the_next_case(rt: HostRuntime) -> Result<(), Fail> {
 fn no_case_begins_behind_a_refusal(rt: HostRuntime) -> Result<(), Fail> {
     let alloc = rt.alloc();
     for last in 1..4usize {
-        let begun = Arc::new(alloc, AtomicU64::new(0))?;
-        let cases = vec![in alloc;
-            counted(alloc, "a", &begun)?,
-            counted(alloc, "b", &begun)?,
-            counted(alloc, "c", &begun)?,
-        ]?;
-        let mut noting = Noting {
-            begun: Arc::try_clone(&begun)?,
-            noted: Vec::new(alloc),
-            last,
-        };
-        let ending = run_campaign_with(&rt, alloc, cases, None, 0, &mut noting);
-        holds(&rt, "ending.is_none()", ending.is_none());
-        assert_eq!(rt; noting.noted.len(), last);
-        is(
-            &rt,
-            "begun.load(Ordering::SeqCst)",
-            begun.load(Ordering::SeqCst),
-            last as u64,
-        );
+        refuse_at(&rt, alloc, last)?;
     }
     Ok(())
 }
@@ -95,21 +109,16 @@ fn no_case_begins_behind_a_refusal(rt: HostRuntime) -> Result<(), Fail> {
 fn the_rule_stops_an_observed_campaign(rt: HostRuntime) -> Result<(), Fail> {
     let alloc = rt.alloc();
     let begun = Arc::new(alloc, AtomicU64::new(0))?;
-    let cases = vec![in alloc; counted(alloc, "a", &begun)?, counted(alloc, "b", &begun)?]?;
-    let mut noting = Noting {
-        begun: Arc::try_clone(&begun)?,
-        noted: Vec::new(alloc),
-        last: usize::MAX,
-    };
-    let ending = run_campaign_with(&rt, alloc, cases, Some(Verdict::Pass), 0, &mut noting);
+    let mut noting = observer(alloc, &begun, usize::MAX)?;
+    let ending = observe_to_pass(&rt, alloc, &mut noting)?;
     holds(
         &rt,
-        "ending",
+        "the rule stops the campaign",
         matches!(ending, Some(CampaignEnd::StoppedAfter(_))),
     );
     is(
         &rt,
-        "noting.noted.as_slice()",
+        "how many cases had begun at each report",
         noting.noted.as_slice(),
         [1u64].as_slice(),
     );
@@ -136,45 +145,60 @@ impl Write for Flushing {
     }
 }
 
-#[test]
-fn a_live_campaign_is_written_case_by_case(rt: HostRuntime) -> Result<(), Fail> {
-    let alloc = rt.alloc();
-    let begun = Arc::new(alloc, AtomicU64::new(0))?;
-    let cases = vec![in alloc; counted(alloc, "a", &begun)?, counted(alloc, "b", &begun)?]?;
-    let mut writer = Flushing {
-        begun: Arc::try_clone(&begun)?,
+/// The answer to two counted test cases that are written as they finish.
+fn write_two<R: Threads + Wait + Copy + Send + 'static, W: Write>(
+    rt: &R,
+    alloc: Global,
+    begun: &Arc<AtomicU64>,
+    form: Form,
+    writer: &mut W,
+) -> Result<Result<(CampaignEnd, u8), OutFault>, Fail> {
+    let cases = vec![in alloc; counted(alloc, "a", begun)?, counted(alloc, "b", begun)?]?;
+    Ok(run_campaign_live(rt, alloc, cases, None, 0, form, writer))
+}
+
+/// A writer that has taken nothing.
+fn fresh_writer(alloc: Global, begun: &Arc<AtomicU64>) -> Result<Flushing, Fail> {
+    Ok(Flushing {
+        begun: Arc::try_clone(begun)?,
         taken: Vec::new(alloc),
         flushes: Vec::new(alloc),
-    };
-    let (ending, status) = run_campaign_live(&rt, alloc, cases, None, 0, Form::Csv, &mut writer)?;
-    holds(&rt, "ending", matches!(ending, CampaignEnd::Complete));
-    is(&rt, "status", status, 0);
+    })
+}
+
+/// Checks a writer that has taken the table of two test cases.
+fn is_flushed_case_by_case<R: Abort>(rt: &R, writer: &Flushing) {
     let wanted = "testcase,components,none,pass,inconc,fail,error,verdict
 a,1,0,1,0,0,0,pass
 b,1,0,1,0,0,0,pass
 ";
+    is(rt, "the table", writer.taken.as_slice(), wanted.as_bytes());
     is(
-        &rt,
-        "writer.taken.as_slice()",
-        writer.taken.as_slice(),
-        wanted.as_bytes(),
-    );
-    is(
-        &rt,
-        "writer.flushes.as_slice()",
+        rt,
+        "how many cases had begun at each flush",
         writer.flushes.as_slice(),
         [0u64, 1, 2, 2].as_slice(),
     );
+}
+
+#[test]
+fn a_live_campaign_is_written_case_by_case(rt: HostRuntime) -> Result<(), Fail> {
+    let alloc = rt.alloc();
+    let begun = Arc::new(alloc, AtomicU64::new(0))?;
+    let mut writer = fresh_writer(alloc, &begun)?;
+    let (ending, status) = write_two(&rt, alloc, &begun, Form::Csv, &mut writer)??;
+    holds(&rt, "the campaign is complete", is_complete(&ending));
+    is(&rt, "the status", status, 0);
+    is_flushed_case_by_case(&rt, &writer);
     Ok(())
 }
 
 fn told_cases(alloc: Global, begun: &Arc<AtomicU64>) -> Result<Vec<Case>, Fail>
     ensures { IfOk result (λ cases. All HasNames cases.items) }
 {
-    let fails: Behaviour = Box::new(alloc, |pass: Pass| sets(pass, UserVerdict::Fail))?;
     Ok(vec![in alloc;
         counted(alloc, "a", begun)?,
-        case(alloc, "b", fails)?,
+        case_that(alloc, "b", Does::Sets(UserVerdict::Fail))?,
         counted(alloc, "c", begun)?,
     ]?)
 }
@@ -187,35 +211,37 @@ fn plan(stop_on: Option<Verdict>, tells: bool) -> Plan {
     }
 }
 
+/// Runs three test cases, and checks what is told of them.
+fn tell<R: Abort + Threads + Wait + Copy + Send + 'static>(
+    rt: &R,
+    alloc: Global,
+    plan: Plan,
+    wanted: &str,
+    finished: usize,
+) -> Result<(), Fail> {
+    let begun = Arc::new(alloc, AtomicU64::new(0))?;
+    let cases = told_cases(alloc, &begun)?;
+    let mut lines = Vec::new(alloc);
+    let Told { results, told } = run_campaign_told(rt, alloc, cases, plan, &mut lines);
+    is(rt, "whether the lines were written", told, Ok(()));
+    is(
+        rt,
+        "how many cases finished",
+        results.finished.as_slice().len(),
+        finished,
+    );
+    is(rt, "what is told", lines.as_slice(), wanted.as_bytes());
+    Ok(())
+}
+
 #[test]
 fn a_campaign_is_told_of(rt: HostRuntime) -> Result<(), Fail> {
     let alloc = rt.alloc();
-    let runs = [
-        (None, true, "a pass\nb fail\nc pass\nfailed: b fail\n", 3),
-        (
-            Some(Verdict::Fail),
-            true,
-            "a pass\nb fail\nfailed: b fail\n",
-            2,
-        ),
-        (None, false, "", 3),
-    ];
-    for (stop_on, tells, wanted, finished) in runs {
-        let begun = Arc::new(alloc, AtomicU64::new(0))?;
-        let cases = told_cases(alloc, &begun)?;
-        let mut lines = Vec::new(alloc);
-        let Told { results, told } = run_campaign_told(
-            &rt,
-            alloc,
-            cases,
-            plan(stop_on, tells),
-            &mut lines,
-        );
-        is(&rt, "told", told, Ok(()));
-        is(&rt, "finished", results.finished.as_slice().len(), finished);
-        is(&rt, "lines.as_slice()", lines.as_slice(), wanted.as_bytes());
-    }
-    Ok(())
+    let whole = "a pass\nb fail\nc pass\nfailed: b fail\n";
+    tell(&rt, alloc, plan(None, true), whole, 3)?;
+    let stopped = "a pass\nb fail\nfailed: b fail\n";
+    tell(&rt, alloc, plan(Some(Verdict::Fail), true), stopped, 2)?;
+    tell(&rt, alloc, plan(None, false), "", 3)
 }
 
 // The table of three test cases, written live and told of.
@@ -238,11 +264,11 @@ fn a_live_campaign_is_told_of(rt: HostRuntime) -> Result<(), Fail> {
     let mut lines = Vec::new(alloc);
     let LiveEnd { ended, told } = told_table(&rt, alloc, &mut table, &mut lines)?;
     let (ending, status) = ended?;
-    holds(&rt, "ending", matches!(ending, CampaignEnd::Complete));
-    is(&rt, "status", status, 1);
-    is(&rt, "told", told, Ok(()));
+    holds(&rt, "the campaign is complete", is_complete(&ending));
+    is(&rt, "the status", status, 1);
+    is(&rt, "whether the lines were written", told, Ok(()));
     let wanted = "a pass\nb fail\nc pass\nfailed: b fail\n";
-    is(&rt, "lines.as_slice()", lines.as_slice(), wanted.as_bytes());
+    is(&rt, "what is told", lines.as_slice(), wanted.as_bytes());
     Ok(())
 }
 
@@ -255,17 +281,19 @@ fn a_campaign_that_is_cut_short_is_told_of(rt: HostRuntime) -> Result<(), Fail> 
     let mut table = NarrowWriter::new(alloc, header.len() + row.len(), WriteFailure::Full);
     let mut lines = Vec::new(alloc);
     let LiveEnd { ended, told } = told_table(&rt, alloc, &mut table, &mut lines)?;
-    holds(&rt, "ended", matches!(ended, Err(OutFault::Write)));
-    is(&rt, "told", told, Ok(()));
+    holds(
+        &rt,
+        "the table is not written",
+        matches!(ended, Err(OutFault::Write)),
+    );
+    is(&rt, "whether the lines were written", told, Ok(()));
     let wanted = "a pass\nb fail\nfailed: b fail\n";
-    is(&rt, "lines.as_slice()", lines.as_slice(), wanted.as_bytes());
+    is(&rt, "what is told", lines.as_slice(), wanted.as_bytes());
     Ok(())
 }
 
-#[test]
-fn no_case_begins_behind_a_write_fault(rt: HostRuntime) -> Result<(), Fail> {
-    let alloc = rt.alloc();
-    let text = "testcase a
+/// The report of two test cases.
+const REPORT: &str = "testcase a
 run 0 main on 0
   setverdict pass -> ok
   finish -> ok
@@ -280,25 +308,43 @@ verdict pass
 cases 2 none 0 pass 2 inconc 0 fail 0 error 0
 complete
 ";
-    let first = text.find("testcase b").ok_or("the second case")?;
-    for fails_at in 0..=text.len() {
-        let begun = Arc::new(alloc, AtomicU64::new(0))?;
-        let cases = vec![in alloc; counted(alloc, "a", &begun)?, counted(alloc, "b", &begun)?]?;
-        let mut writer = NarrowWriter::new(alloc, fails_at, WriteFailure::Broken);
-        let answer = run_campaign_live(&rt, alloc, cases, None, 0, Form::Text, &mut writer);
-        assert_eq!(rt; answer.is_ok(), fails_at == text.len(), "at {fails_at}");
-        if let Err(fault) = answer {
-            is(&rt, "fault", fault, OutFault::Write);
-        }
-        let part = text.as_bytes().get(..fails_at).ok_or("a prefix")?;
-        is(
-            &rt,
-            "writer.taken.as_slice()",
-            writer.taken.as_slice(),
-            part,
-        );
-        let run = if fails_at < first { 1 } else { 2 };
-        assert_eq!(rt; begun.load(Ordering::SeqCst), run, "at {fails_at}");
+
+/// Whether an answer is that of a writer that fails, or else of one that does not.
+fn is_answered(answer: &Result<(CampaignEnd, u8), OutFault>, fails: bool) -> bool {
+    match answer {
+        Ok(_) => !fails,
+        Err(fault) => fails && *fault == OutFault::Write,
+    }
+}
+
+/// Writes the report to a writer that fails behind so many bytes; so many test cases begin.
+fn fail_at<R: Abort + Threads + Wait + Copy + Send + 'static>(
+    rt: &R,
+    alloc: Global,
+    fails_at: usize,
+    cases: u64,
+) -> Result<(), Fail> {
+    let begun = Arc::new(alloc, AtomicU64::new(0))?;
+    let mut writer = NarrowWriter::new(alloc, fails_at, WriteFailure::Broken);
+    let answer = write_two(rt, alloc, &begun, Form::Text, &mut writer)?;
+    holds(
+        rt,
+        "the answer is that of the writer",
+        is_answered(&answer, fails_at != REPORT.len()),
+    );
+    let part = REPORT.as_bytes().get(..fails_at);
+    is(rt, "what is written", Some(writer.taken.as_slice()), part);
+    is(rt, "how many cases began", count(&begun), cases);
+    Ok(())
+}
+
+#[test]
+fn no_case_begins_behind_a_write_fault(rt: HostRuntime) -> Result<(), Fail> {
+    let alloc = rt.alloc();
+    let first = REPORT.find("testcase b").ok_or("the second case")?;
+    for fails_at in 0..=REPORT.len() {
+        let cases = if fails_at < first { 1 } else { 2 };
+        fail_at(&rt, alloc, fails_at, cases)?;
     }
     Ok(())
 }

@@ -3,12 +3,15 @@ ghost use Rattle.std.specs.Prelude.{IfOk, ⊤};
 ghost use Rattle.tc_campaign.specs.Outline.{HasNames};
 
 use crate::tests::checks::is;
-use crate::tests::{back, name};
+use crate::tests::{back, has_abort, name};
 use std::alloc::Global;
 use std::process::Abort;
+use std::sync::Wait;
 use std::test::Fail;
+use std::thread::Threads;
 use tc_book::{Halt, Pass, open_case};
 use tc_campaign::*;
+use tc_entry::Name;
 use tc_exec::{Back, Callable, CaseError};
 
 /// A behaviour that does what its kind says.
@@ -32,6 +35,34 @@ impl Callable for Kind {
     }
 }
 
+/// Adds a behaviour with its name.
+fn add(names: &mut Vec<Name>, jobs: &mut Vec<Kind>, text: &str, kind: Kind) -> Result<(), Fail> {
+    names.push(name(text)?)?;
+    jobs.push(kind)?;
+    Ok(())
+}
+
+/// Adds so many behaviours that return.
+fn add_others(names: &mut Vec<Name>, jobs: &mut Vec<Kind>, count: u16) -> Result<(), Fail> {
+    for _ in 0..count {
+        add(names, jobs, "other", Kind::Returns)?;
+    }
+    Ok(())
+}
+
+/// Adds the first behaviour, if there is one, and so many that return.
+fn add_all(
+    names: &mut Vec<Name>,
+    jobs: &mut Vec<Kind>,
+    first: Option<Kind>,
+    others: u16,
+) -> Result<(), Fail> {
+    if let Some(kind) = first {
+        add(names, jobs, "main", kind)?;
+    }
+    add_others(names, jobs, others)
+}
+
 /// A case of so many behaviours, of which the first is of this kind.
 fn case_of<R: Abort>(
     rt: &R,
@@ -44,14 +75,7 @@ fn case_of<R: Abort>(
 {
     let mut names = Vec::new(alloc);
     let mut jobs = Vec::new(alloc);
-    if let Some(kind) = first {
-        names.push(name("main")?)?;
-        jobs.push(kind)?;
-    }
-    for _ in 0..others {
-        names.push(name("other")?)?;
-        jobs.push(Kind::Returns)?;
-    }
+    add_all(&mut names, &mut jobs, first, others)?;
     assert!(rt; names.len() == jobs.len());
     Ok(Case {
         name: name(text)?,
@@ -60,46 +84,98 @@ fn case_of<R: Abort>(
     })
 }
 
+/// The results of three test cases, of which the second is of these behaviours.
+fn run_between<R: Abort + Threads + Wait + Copy + Send + 'static>(
+    rt: &R,
+    alloc: Global,
+    first: Option<Kind>,
+    others: u16,
+) -> Result<Results, Fail> {
+    let refused = case_of(rt, alloc, "b", first, others)?;
+    let cases = vec![in alloc;
+        case_of(rt, alloc, "a", Some(Kind::Returns), 1)?,
+        refused,
+        case_of(rt, alloc, "c", Some(Kind::Returns), 1)?,
+    ]?;
+    Ok(run_campaign(rt, alloc, cases, None, 1))
+}
+
+/// Checks that a campaign was aborted at its second test case, for this reason.
+fn is_aborted<R: Abort>(rt: &R, results: &Results, refusal: CaseError) {
+    is(
+        rt,
+        "how many test cases have a report",
+        tally(results).cases,
+        1,
+    );
+    let CampaignEnd::Aborted { name, why } = &results.ending else {
+        panic!(rt; "the campaign is aborted")
+    };
+    is(
+        rt,
+        "the test case that is refused",
+        name.bytes(),
+        b"b".as_slice(),
+    );
+    is(rt, "the reason", *why, refusal);
+}
+
+/// Checks that a test case of these behaviours is refused.
+fn refuses<R: Abort + Threads + Wait + Copy + Send + 'static>(
+    rt: &R,
+    alloc: Global,
+    first: Option<Kind>,
+    others: u16,
+    refusal: CaseError,
+    told: &str,
+) -> Result<(), Fail> {
+    let results = run_between(rt, alloc, first, others)?;
+    is_aborted(rt, &results, refusal);
+    has_abort(rt, alloc, &results, told);
+    Ok(())
+}
+
 // All five refusals, each between two cases that are not refused.
 #[test]
 fn each_refusal_aborts(rt: HostRuntime) -> Result<(), Fail> {
     let alloc = rt.alloc();
+    let told = "ttrun: aborted at b: no behaviours\n";
+    refuses(&rt, alloc, None, 0, CaseError::NoBehaviours, told)?;
+    let told = "ttrun: aborted at b: too many behaviours\n";
+    refuses(
+        &rt,
+        alloc,
+        Some(Kind::Returns),
+        256,
+        CaseError::TooManyBehaviours,
+        told,
+    )?;
+    let told = "ttrun: aborted at b: no memory\n";
+    refuses(
+        &rt,
+        alloc,
+        Some(Kind::Starves),
+        1,
+        CaseError::NoMemory,
+        told,
+    )?;
+    let told = "ttrun: aborted at b: no thread\n";
+    refuses(
+        &rt,
+        alloc,
+        Some(Kind::Returns),
+        2,
+        CaseError::NoThread,
+        told,
+    )?;
     let (_shared, other, _) = open_case(alloc, 1)?;
-    let refused = vec![in alloc;
-        (None, 0, CaseError::NoBehaviours, "no behaviours"),
-        (
-            Some(Kind::Returns),
-            256,
-            CaseError::TooManyBehaviours,
-            "too many behaviours"
-        ),
-        (Some(Kind::Starves), 1, CaseError::NoMemory, "no memory"),
-        (Some(Kind::Returns), 2, CaseError::NoThread, "no thread"),
-        (Some(Kind::Exchanges(other)), 0, CaseError::Torn, "torn"),
-    ]?;
-    assert_eq!(rt; refused.len(), 5);
-    for (first, others, refusal, told) in refused {
-        let cases = vec![in alloc;
-            case_of(&rt, alloc, "a", Some(Kind::Returns), 1)?,
-            case_of(&rt, alloc, "b", first, others)?,
-            case_of(&rt, alloc, "c", Some(Kind::Returns), 1)?,
-        ]?;
-        let results = run_campaign(&rt, alloc, cases, None, 1);
-        assert_eq!(rt; tally(&results).cases, 1, "{told}");
-        let CampaignEnd::Aborted { name, why } = &results.ending else {
-            panic!(rt; "aborted: {told}")
-        };
-        is(&rt, "name.bytes()", name.bytes(), b"b".as_slice());
-        is(&rt, "*why", *why, refusal);
-        let mut line = Vec::new(alloc);
-        is(
-            &rt,
-            "write_abort(results, mut line)",
-            write_abort(&results, &mut line),
-            Ok(true),
-        );
-        let wanted = format!(in alloc; "ttrun: aborted at b: {told}\n")?;
-        is(&rt, "line.as_slice()", line.as_slice(), wanted.as_bytes());
-    }
-    Ok(())
+    let told = "ttrun: aborted at b: torn\n";
+    refuses(
+        &rt,
+        alloc,
+        Some(Kind::Exchanges(other)),
+        0,
+        CaseError::Torn,
+        told,
+    )
 }

@@ -12,3 +12,16 @@ pub(crate) fn is<R: Abort, T: PartialEq + Debug + Copy>(rt: &R, what: &str, foun
 pub(crate) fn holds<R: Abort>(rt: &R, what: &str, fact: bool) {
     assert!(rt; fact, "{what}");
 }
+
+/// Ends the test unless as many were met as are wanted.
+pub(crate) fn at_least<R: Abort>(rt: &R, what: &str, met: u64, floor: u64) {
+    assert!(rt; floor <= met, "{what}: {met}, fewer than {floor}");
+}
+
+/// What a call answered; an error ends the test.
+pub(crate) fn got<R: Abort, T, E: Debug + Drop>(rt: &R, answer: Result<T, E>) -> T {
+    match answer {
+        Ok(value) => value,
+        Err(why) => panic!(rt; "{why:?}"),
+    }
+}

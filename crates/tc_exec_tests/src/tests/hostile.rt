@@ -1,17 +1,20 @@
 //! Behaviours that do what they should not, and threads that are refused.
 ghost use Rattle.std.specs.Prelude.{⊤};
 
-use crate::tests::checks::{holds, is};
-use crate::tests::{Behaviour, starts_all};
-use std::alloc::Global;
+use crate::tests::Behaviour;
+use crate::tests::checks::{at_least, got, holds, is};
+use crate::tests::jobs::*;
+use std::alloc::{AllocError, Global};
+use std::process::Abort;
 use std::rt::Files;
 use std::sync::atomic::{AtomicU64, Ordering};
 use std::sync::{Arc, Wait};
 use std::test::Fail;
+use std::thread::Threads;
 use std::time::{Clock, Duration};
 use std::{fs, thread};
 use tc_book::{Halt, Pass, open_case};
-use tc_entry::{Args, Comp, Group, Reply, Run, UserVerdict, Verdict};
+use tc_entry::{Args, Comp, Entry, Group, Reply, Run, UserVerdict, Verdict};
 use tc_exec::*;
 use tc_table::replay_check;
 
@@ -30,38 +33,30 @@ impl Gate for Refuses {
     }
 }
 
-#[test]
-fn gate_refuses_a_thread(rt: HostRuntime) -> Result<(), Fail> {
-    let alloc = rt.alloc();
-    let called = Arc::new(alloc, AtomicU64::new(0))?;
-    let mut jobs = Vec::new(alloc);
-    for _ in 0..4 {
-        let theirs = Arc::try_clone(&called)?;
-        let run: Behaviour = Box::new(alloc, move |pass: Pass| {
-            theirs.store(1, Ordering::SeqCst);
-            Back::after(pass, Ok(()))
-        })?;
-        jobs.push(Job::new(run))?;
-    }
-    let mut gate = Refuses {
+/// A gate that allows no worker of run 2.
+fn refuses_run_2(alloc: Global) -> Refuses {
+    Refuses {
         run: Run(2),
         asked: Vec::new(alloc),
-    };
-    let refused = run_case_with(&rt, alloc, jobs, 3, &mut gate);
-    holds(&rt, "refused", matches!(refused, Err(CaseError::NoThread)));
+    }
+}
+
+#[test]
+fn gate_refuses_a_thread(rt: HostRuntime) {
+    let alloc = rt.alloc();
+    let called = zero(&rt, alloc);
+    let jobs = that_mark(&rt, alloc, 4, &called);
+    let mut gate = refuses_run_2(alloc);
+    let refused = refusal_at(&rt, alloc, jobs, 3, &mut gate);
+    is(&rt, "refusal", refused, Some(CaseError::NoThread));
+    is(&rt, "calls of behaviours", number(&called), 0);
+    let asked = [Run(1), Run(2)];
     is(
         &rt,
-        "called.load(Ordering::SeqCst)",
-        called.load(Ordering::SeqCst),
-        0,
-    );
-    is(
-        &rt,
-        "gate.asked.as_slice()",
+        "runs that were asked for",
         gate.asked.as_slice(),
-        [Run(1), Run(2)].as_slice(),
+        asked.as_slice(),
     );
-    Ok(())
 }
 
 /// Takes its time to be dropped, and then sets the flag.
@@ -77,69 +72,63 @@ impl Drop for Lingers {
     }
 }
 
-#[test]
-fn workers_end_before_a_refusal(rt: HostRuntime) -> Result<(), Fail> {
-    let alloc = rt.alloc();
-    let gone = Arc::new(alloc, AtomicU64::new(0))?;
-    let lingers = Lingers(Arc::try_clone(&gone)?);
-    let first: Behaviour = Box::new(alloc, move |pass: Pass| Back::after(pass, Ok(())))?;
-    let second: Behaviour = Box::new(alloc, move |pass: Pass| {
+/// A job that lingers: what it holds takes its time to be dropped, and then sets the flag.
+fn that_lingers(alloc: Global, gone: Arc<AtomicU64>) -> Result<Job, AllocError> {
+    let lingers = Lingers(gone);
+    let run: Behaviour = Box::new(alloc, move |pass: Pass| {
         drop(lingers);
         Back::after(pass, Ok(()))
     })?;
-    let third: Behaviour = Box::new(alloc, move |pass: Pass| Back::after(pass, Ok(())))?;
-    let jobs = vec![in alloc; Job::new(first), Job::new(second), Job::new(third)]?;
-    let mut gate = Refuses {
-        run: Run(2),
-        asked: Vec::new(alloc),
-    };
-    let refused = run_case_with(&rt, alloc, jobs, 2, &mut gate);
-    is(
-        &rt,
-        "gone.load(Ordering::SeqCst)",
-        gone.load(Ordering::SeqCst),
-        1,
-    );
-    holds(&rt, "refused", matches!(refused, Err(CaseError::NoThread)));
-    Ok(())
+    Ok(Job::new(run))
+}
+
+/// Three jobs, of which the second lingers.
+fn lingering_jobs<R: Abort>(rt: &R, alloc: Global, gone: &Arc<AtomicU64>) -> Vec<Job> {
+    let first = got(rt, that_returns(alloc));
+    let second = got(rt, that_lingers(alloc, shared_with(rt, gone)));
+    let third = got(rt, that_returns(alloc));
+    got(rt, vec![in alloc; first, second, third])
 }
 
 #[test]
-fn workers_end_before_want_of_memory(rt: HostRuntime) -> Result<(), Fail> {
+fn workers_end_before_a_refusal(rt: HostRuntime) {
     let alloc = rt.alloc();
-    let gone = Arc::new(alloc, AtomicU64::new(0))?;
-    let lingers = Lingers(Arc::try_clone(&gone)?);
-    let first: Behaviour = Box::new(
-        alloc,
-        move |pass: Pass| Back::after(pass, Err(Halt::NoMemory)),
-    )?;
-    let second: Behaviour = Box::new(alloc, move |pass: Pass| {
-        drop(lingers);
-        Back::after(pass, Ok(()))
-    })?;
-    let jobs = vec![in alloc; Job::new(first), Job::new(second)]?;
-    let refused = run_case(&rt, alloc, jobs, 1);
-    is(
-        &rt,
-        "gone.load(Ordering::SeqCst)",
-        gone.load(Ordering::SeqCst),
-        1,
-    );
-    holds(&rt, "refused", matches!(refused, Err(CaseError::NoMemory)));
-    Ok(())
+    let gone = zero(&rt, alloc);
+    let jobs = lingering_jobs(&rt, alloc, &gone);
+    let mut gate = refuses_run_2(alloc);
+    let refused = refusal_at(&rt, alloc, jobs, 2, &mut gate);
+    is(&rt, "what lingers is gone", number(&gone), 1);
+    is(&rt, "refusal", refused, Some(CaseError::NoThread));
 }
 
-/// How many threads the program has; none where the system does not tell.
-fn threads_now<R: Files + Alloc>(rt: &R) -> u64 {
-    let Ok(status) = fs::read_to_string(rt, "/proc/self/status") else {
-        return 0;
-    };
-    for line in status.as_str().lines() {
+#[test]
+fn workers_end_before_want_of_memory(rt: HostRuntime) {
+    let alloc = rt.alloc();
+    let gone = zero(&rt, alloc);
+    let first = got(&rt, that_starves(alloc));
+    let second = got(&rt, that_lingers(alloc, shared_with(&rt, &gone)));
+    let jobs = got(&rt, vec![in alloc; first, second]);
+    let refused = refusal(&rt, alloc, jobs, 1);
+    is(&rt, "what lingers is gone", number(&gone), 1);
+    is(&rt, "refusal", refused, Some(CaseError::NoMemory));
+}
+
+/// The number of threads in what the system tells of the program; none where it does not tell.
+fn threads_told(status: &str) -> u64 {
+    for line in status.lines() {
         if let Some(count) = line.strip_prefix("Threads:") {
             return count.trim().parse::<u64>().unwrap_or(0);
         }
     }
     0
+}
+
+/// How many threads the program has; none where the system does not tell.
+fn threads_now<R: Files + Alloc>(rt: &R) -> u64 {
+    match fs::read_to_string(rt, "/proc/self/status") {
+        Ok(status) => threads_told(status.as_str()),
+        Err(_) => 0,
+    }
 }
 
 /// Looks at the number of threads until it is this one, ten thousand times at most, and says whether it was.
@@ -172,26 +161,30 @@ impl<R: Files + Alloc> Gate for Counts<R> {
     }
 }
 
-// Seven questions: when a worker is asked about, the threads of all before it are there, and its own is not.
-#[test]
-fn a_thread_lives_before_the_next_question(rt: HostRuntime) -> Result<(), Fail> {
-    let alloc = rt.alloc();
-    let mut jobs = Vec::new(alloc);
-    for _ in 0..8 {
-        let run: Behaviour = Box::new(alloc, move |pass: Pass| Back::after(pass, Ok(())))?;
-        jobs.push(Job::new(run))?;
-    }
-    holds(&rt, "are_threads(rt, 1)", are_threads(&rt, 1));
-    let mut gate = Counts {
-        rt,
+/// A gate that has not been asked yet.
+fn counting<R: Files + Alloc + Copy>(rt: &R) -> Counts<R> {
+    Counts {
+        rt: *rt,
         asked: 0,
         found: 0,
-    };
-    let report = run_case_with(&rt, alloc, jobs, 7, &mut gate)?;
-    assert_eq!(rt; report.logs.as_slice().len(), 1);
-    is(&rt, "gate.asked", gate.asked, 7);
-    is(&rt, "gate.found", gate.found, 7);
-    Ok(())
+    }
+}
+
+// Seven questions: when a worker is asked about, the threads of all before it are there, and its own is not.
+#[test]
+fn a_thread_lives_before_the_next_question(rt: HostRuntime) {
+    let jobs = that_return(&rt, rt.alloc(), 8);
+    holds(&rt, "one thread before the case", are_threads(&rt, 1));
+    let mut gate = counting(&rt);
+    let answer = report_at(&rt, rt.alloc(), jobs, 7, &mut gate);
+    is(&rt, "logs", count_logs(&rt, answer), 1);
+    is(&rt, "questions", gate.asked, 7);
+    is(&rt, "questions with one thread each", gate.found, 7);
+}
+
+/// How many runs a case has logged.
+fn count_logs<R: Abort>(rt: &R, answer: Result<CaseReport, CaseError>) -> usize {
+    got(rt, answer).logs.as_slice().len()
 }
 
 /// The bytes of a mapping of the program's memory, by its line, as `7f0000000000-7f0000200000 rw-p ..`.
@@ -203,18 +196,23 @@ fn mapped(line: &str) -> Option<u64> {
     to.checked_sub(from)
 }
 
-/// How many mappings of the program have the size of a worker's stack; none where the system does not tell.
-fn stacks_now<R: Files + Alloc>(rt: &R) -> u64 {
-    let Ok(maps) = fs::read_to_string(rt, "/proc/self/maps") else {
-        return 0;
-    };
+/// How many mappings have the size of a worker's stack, of those that the system tells of.
+fn stacks_told(maps: &str) -> u64 {
     let mut stacks = 0u64;
-    for line in maps.as_str().lines() {
+    for line in maps.lines() {
         if mapped(line) == Some(WORKER_STACK as u64) {
             stacks = stacks.saturating_add(1);
         }
     }
     stacks
+}
+
+/// How many mappings of the program have the size of a worker's stack; none where the system does not tell.
+fn stacks_now<R: Files + Alloc>(rt: &R) -> u64 {
+    match fs::read_to_string(rt, "/proc/self/maps") {
+        Ok(maps) => stacks_told(maps.as_str()),
+        Err(_) => 0,
+    }
 }
 
 /// Allows every worker, and keeps how many stacks there were when the last was asked about.
@@ -237,18 +235,13 @@ impl<R: Files + Alloc> Gate for SeesStacks<R> {
 
 // 254 workers are there at the last question. A stack that lies beside other memory of the program may be told as one with it.
 #[test]
-fn stacks_of_workers(rt: HostRuntime) -> Result<(), Fail> {
+fn stacks_of_workers(rt: HostRuntime) {
     let alloc = rt.alloc();
-    is(&rt, "WORKER_STACK", WORKER_STACK, 2_097_152);
-    let mut jobs = Vec::new(alloc);
-    for _ in 0..256 {
-        let run: Behaviour = Box::new(alloc, move |pass: Pass| Back::after(pass, Ok(())))?;
-        jobs.push(Job::new(run))?;
-    }
+    is(&rt, "bytes of a stack", WORKER_STACK, 2_097_152);
+    let jobs = that_return(&rt, alloc, 256);
     let mut gate = SeesStacks { rt, stacks: 0 };
-    run_case_with(&rt, alloc, jobs, 255, &mut gate)?;
-    assert!(rt; gate.stacks >= 240, "{} stacks", gate.stacks);
-    Ok(())
+    got(&rt, report_at(&rt, alloc, jobs, 255, &mut gate));
+    at_least(&rt, "stacks", gate.stacks, 240);
 }
 
 /// A frame of one and a half MiB, all of which is written.
@@ -263,74 +256,94 @@ fn deep(seed: usize) -> u8 {
     frame[at % 0x18_0000].min(2)
 }
 
+/// Sets pass after a call with a deep frame.
+fn goes_deep(pass: Pass) -> Back {
+    let mut pass = pass;
+    let is_written = (1..3).contains(&deep(usize::from(pass.run().0)));
+    let made = pass.set_verdict(if is_written {
+        UserVerdict::Pass
+    } else {
+        UserVerdict::Fail
+    });
+    Back::after(pass, made)
+}
+
+fn that_goes_deep(alloc: Global) -> Result<Job, AllocError> {
+    let run: Behaviour = Box::new(alloc, move |pass: Pass| goes_deep(pass))?;
+    Ok(Job::new(run))
+}
+
 #[test]
 fn a_behaviour_with_a_deep_frame(rt: HostRuntime) -> Result<(), Fail> {
     let alloc = rt.alloc();
-    let first: Behaviour = Box::new(alloc, move |pass: Pass| {
-        let mut pass = pass;
-        let made = starts_all(&rt, &mut pass, 2);
-        Back::after(pass, made)
-    })?;
-    let second: Behaviour = Box::new(alloc, move |pass: Pass| {
-        let mut pass = pass;
-        let is_written = (1..3).contains(&deep(usize::from(pass.run().0)));
-        let made = pass.set_verdict(if is_written {
-            UserVerdict::Pass
-        } else {
-            UserVerdict::Fail
-        });
-        Back::after(pass, made)
-    })?;
-    let report = run_case(
-        &rt,
-        alloc,
-        vec![in alloc; Job::new(first), Job::new(second)]?,
-        1,
-    )?;
-    is(&rt, "report.verdict", report.verdict, Verdict::Pass);
+    let first: Behaviour = Box::new(alloc, move |pass: Pass| starts_all(&rt, pass, 2))?;
+    let second = got(&rt, that_goes_deep(alloc));
+    let report = report_of_two(&rt, alloc, Job::new(first), second, 1);
+    is(&rt, "overall verdict", report.verdict, Verdict::Pass);
     Ok(())
+}
+
+/// A call on its own pass, after which the pass of another case is handed back.
+fn hands_back<R: Wait>(rt: &R, pass: Pass, other: Pass, ending: Ending) -> Back {
+    let mut pass = pass;
+    let _ = pass.kill(rt, Group::One(Comp(0)));
+    Back {
+        pass: other,
+        ending,
+    }
+}
+
+/// The pass of a case of its own.
+fn another_pass<R: Abort>(rt: &R, alloc: Global) -> Pass {
+    let (_, pass, _) = got(rt, open_case(alloc, 1));
+    pass
+}
+
+/// Why a case of one behaviour is refused, if it is.
+fn refusal_of_one<R: Abort + Threads + Wait + Copy + Send + 'static>(
+    rt: &R,
+    alloc: Global,
+    job: Job,
+) -> Option<CaseError> {
+    refusal(rt, alloc, got(rt, vec![in alloc; job]), 64)
 }
 
 #[test]
 fn pass_of_another_case(rt: HostRuntime) -> Result<(), Fail> {
-    let alloc = rt.alloc();
-    for (ending, refusal) in [
+    for (ending, wanted) in [
         (Ending::Returned, CaseError::Torn),
         (Ending::Starved, CaseError::NoMemory),
     ] {
-        let (_, other, _) = open_case(alloc, 1)?;
-        let run: Behaviour = Box::new(alloc, move |pass: Pass| {
-            let mut pass = pass;
-            let _ = pass.kill(&rt, Group::One(Comp(0)));
-            Back {
-                pass: other,
-                ending,
-            }
+        let other = another_pass(&rt, rt.alloc());
+        let run: Behaviour = Box::new(rt.alloc(), move |pass: Pass| {
+            hands_back(&rt, pass, other, ending)
         })?;
-        let jobs = vec![in alloc; Job::new(run)]?;
-        let Err(error) = run_case(&rt, alloc, jobs, 64) else {
-            panic!(rt; "what came back is not whole")
-        };
-        is(&rt, "error", error, refusal);
+        let refused = refusal_of_one(&rt, rt.alloc(), Job::new(run));
+        is(&rt, "refusal", refused, Some(wanted));
     }
     Ok(())
+}
+
+/// Two jobs, the first of which sets pass.
+fn two_jobs(alloc: Global) -> Result<Vec<Job>, AllocError> {
+    let first = that_sets_pass(alloc)?;
+    let second = that_returns(alloc)?;
+    Ok(vec![in alloc; first, second]?)
+}
+
+/// Ends the test unless a whole case is reported, or refused for want of memory.
+fn is_whole<R: Abort>(rt: &R, answer: Result<CaseReport, CaseError>) {
+    match answer {
+        Ok(report) => is(rt, "overall verdict", report.verdict, Verdict::Pass),
+        Err(why) => is(rt, "refusal", why, CaseError::NoMemory),
+    }
 }
 
 // Where each allocation of this test fails in turn, memory is what is told of: never that a whole case is torn.
 #[test]
 fn a_whole_case_is_never_torn(rt: HostRuntime) -> Result<(), Fail> {
-    let alloc = rt.alloc();
-    let first: Behaviour = Box::new(alloc, move |pass: Pass| {
-        let mut pass = pass;
-        let made = pass.set_verdict(UserVerdict::Pass);
-        Back::after(pass, made)
-    })?;
-    let second: Behaviour = Box::new(alloc, move |pass: Pass| Back::after(pass, Ok(())))?;
-    let jobs = vec![in alloc; Job::new(first), Job::new(second)]?;
-    match run_case(&rt, alloc, jobs, 1) {
-        Ok(report) => is(&rt, "report.verdict", report.verdict, Verdict::Pass),
-        Err(why) => is(&rt, "why", why, CaseError::NoMemory),
-    }
+    let jobs = two_jobs(rt.alloc())?;
+    is_whole(&rt, report_of(&rt, rt.alloc(), jobs, 1));
     Ok(())
 }
 
@@ -342,7 +355,7 @@ fn pause<R: Clock>(rt: &R, late: Option<u64>) {
 }
 
 /// Starts run 1 on component 1 with component 2 as its argument, and kills all, so late.
-fn kills_all<R: Wait + Clock>(rt: &R, pass: &mut Pass, late: Option<u64>) -> Result<(), Halt> {
+fn kill_all<R: Wait + Clock>(rt: &R, pass: &mut Pass, late: Option<u64>) -> Result<(), Halt> {
     let comp = pass.create(rt, true)?;
     let other = pass.create(rt, true)?;
     let mut args = Args::new();
@@ -350,6 +363,13 @@ fn kills_all<R: Wait + Clock>(rt: &R, pass: &mut Pass, late: Option<u64>) -> Res
     pass.start(rt, comp, Run(1), &args)?;
     pause(rt, late);
     pass.kill(rt, Group::All)
+}
+
+/// A behaviour that starts run 1, and kills all, so late.
+fn kills_all<R: Wait + Clock>(rt: &R, pass: Pass, late: Option<u64>) -> Back {
+    let mut pass = pass;
+    let made = kill_all(rt, &mut pass, late);
+    Back::after(pass, made)
 }
 
 /// Starts run 2 on the component that is the argument, so late.
@@ -363,12 +383,30 @@ fn starts_argument<R: Wait + Clock>(rt: &R, pass: Pass, late: Option<u64>) -> Ba
     Back::after(pass, made)
 }
 
+/// A job that sets the flag, and fail.
+fn that_fails(alloc: Global, ran: Arc<AtomicU64>) -> Result<Job, AllocError> {
+    let run: Behaviour = Box::new(alloc, move |pass: Pass| {
+        let mut pass = pass;
+        ran.store(1, Ordering::SeqCst);
+        let made = pass.set_verdict(UserVerdict::Fail);
+        Back::after(pass, made)
+    })?;
+    Ok(Job::new(run))
+}
+
+/// Whether a history of three runs is legal, and has this verdict.
+fn is_legal(alloc: Global, history: &[Entry], verdict: Verdict) -> bool {
+    match replay_check(alloc, 3, history) {
+        Ok(replayed) => replayed == verdict,
+        Err(_) => false,
+    }
+}
+
 /// The reply to the Start by run 1, where the report is legal and tells rightly whether run 2 ran.
 fn reply_of_start(alloc: Global, report: &CaseReport, ran: bool) -> Option<Reply> {
     let logs = report.logs.as_slice();
     let is_told = logs.iter().any(|log| log.run == Run(2));
-    let verdict = replay_check(alloc, 3, report.history.as_slice()).ok()?;
-    if is_told != ran || verdict != report.verdict {
+    if is_told != ran || !is_legal(alloc, report.history.as_slice(), report.verdict) {
         return None;
     }
     let start = logs.get(1)?.entries.as_slice().first()?;
@@ -384,42 +422,44 @@ fn lateness(round: u32, place: u32) -> Option<u64> {
     }
 }
 
+/// Lets a Kill of all by the first job and a Start by the second run against each other, where the third sets the flag; the
+/// reply to the Start, as `reply_of_start`.
+fn reply_against_kill<R: Abort + Threads + Wait + Copy + Send + 'static>(
+    rt: &R,
+    alloc: Global,
+    jobs: (Job, Job, Job),
+    ran: &AtomicU64,
+) -> Option<Reply> {
+    let (first, second, third) = jobs;
+    let report = report_of_three(rt, alloc, first, second, third);
+    reply_of_start(alloc, &report, number(ran) == 1)
+}
+
 // 200 rounds, in 25 of which the Kill is late, and in 25 the Start; and more until each was first in at least 20.
 #[test]
 fn start_against_kill(rt: HostRuntime) -> Result<(), Fail> {
     let alloc = rt.alloc();
-    let (mut starts, mut kills) = (0u32, 0u32);
+    let (mut starts, mut kills) = (0u64, 0u64);
     for round in 0..2000u32 {
         if round >= 200 && starts >= 20 && kills >= 20 {
             break;
         }
-        let flag = Arc::new(alloc, AtomicU64::new(0))?;
-        let theirs = Arc::try_clone(&flag)?;
         let first: Behaviour = Box::new(alloc, move |pass: Pass| {
-            let mut pass = pass;
-            let made = kills_all(&rt, &mut pass, lateness(round, 3));
-            Back::after(pass, made)
+            kills_all(&rt, pass, lateness(round, 3))
         })?;
         let second: Behaviour = Box::new(alloc, move |pass: Pass| {
             starts_argument(&rt, pass, lateness(round, 7))
         })?;
-        let third: Behaviour = Box::new(alloc, move |pass: Pass| {
-            let mut pass = pass;
-            theirs.store(1, Ordering::SeqCst);
-            let made = pass.set_verdict(UserVerdict::Fail);
-            Back::after(pass, made)
-        })?;
-        let jobs = vec![in alloc; Job::new(first), Job::new(second), Job::new(third)]?;
-        let report = run_case(&rt, alloc, jobs, 64)?;
-        match reply_of_start(alloc, &report, flag.load(Ordering::SeqCst) == 1) {
+        let ran = zero(&rt, alloc);
+        let third = got(&rt, that_fails(alloc, shared_with(&rt, &ran)));
+        let jobs = (Job::new(first), Job::new(second), third);
+        match reply_against_kill(&rt, alloc, jobs, &ran) {
             Some(Reply::Ok) => starts = starts.saturating_add(1),
             Some(Reply::Ended) => kills = kills.saturating_add(1),
             reply => panic!(rt; "round {round}: {reply:?}"),
         }
     }
-    assert!(rt;
-        starts >= 20 && kills >= 20,
-        "{starts} starts and {kills} kills were first"
-    );
+    at_least(&rt, "rounds in which the Start was first", starts, 20);
+    at_least(&rt, "rounds in which the Kill was first", kills, 20);
     Ok(())
 }

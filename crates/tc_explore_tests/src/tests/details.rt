@@ -2,99 +2,115 @@
 use super::*;
 use crate::tests::checks::{holds, is};
 
-// The details of a test case whose search came to its end.
-fn details<R: Abort>(rt: &R, alloc: Global, scripts: &[Script]) -> Result<String, Fail> {
-    assert!(rt; 1 <= scripts.len() && scripts.len() <= 64);
+// Appends the details of a test case whose search came to its end.
+fn append_details<R: Abort>(
+    rt: &R,
+    alloc: Global,
+    scripts: &[Script],
+    out: &mut Vec<u8>,
+) -> Result<(), NoMemory> {
+    assert!(rt; scripts.len() <= 64);
     let explored = explore(alloc, scripts, MANY)?;
-    holds(
-        rt,
-        "explored.ending == Ending::Complete",
-        explored.ending == Ending::Complete,
-    );
+    is(rt, "the ending", explored.ending, Ending::Complete);
+    explored.append_details(alloc, out, scripts)
+}
+
+fn details<R: Abort>(rt: &R, alloc: Global, scripts: &[Script]) -> Result<Vec<u8>, NoMemory> {
     let mut out = Vec::new(alloc);
-    explored.append_details(alloc, &mut out, scripts)?;
-    let text = str::from_utf8(out.as_slice()).map_err(|_| "a text")?;
-    Ok(text.to_string(alloc)?)
+    append_details(rt, alloc, scripts, &mut out)?;
+    Ok(out)
+}
+
+// Compares the details of a test case.
+fn are_details<R: Abort>(
+    rt: &R,
+    alloc: Global,
+    scripts: &[Script],
+    wanted: &str,
+) -> Result<(), Fail> {
+    let text = details(rt, alloc, scripts)?;
+    is(rt, "the details", text.as_slice(), wanted.as_bytes());
+    Ok(())
+}
+
+// The details have this start, and this part.
+fn have_race<R: Abort>(rt: &R, details: &[u8], start: &str, part: &str) -> Result<(), Fail> {
+    let text = str::from_utf8(details).map_err(|_| "a text")?;
+    holds(rt, "the start of the details", text.starts_with(start));
+    holds(rt, "the entries side by side", text.contains(part));
+    Ok(())
 }
 
 #[test]
 fn a_race_side_by_side(rt: HostRuntime) -> Result<(), Fail> {
-    let alloc = rt.alloc();
-    let scripts = vec![in alloc;
-        leading(&rt, alloc, Step::GetVerdict)?,
-        setting(&rt, alloc, UserVerdict::Fail)?,
-    ]?;
-    let text = details(&rt, alloc, scripts.as_slice())?;
-    let wanted =
+    let scripts = race(&rt, rt.alloc())?;
+    let text = details(&rt, rt.alloc(), scripts.as_slice())?;
+    let start =
         "  none: mtc none, 1 none\n  fail: mtc none, 1 fail\n  none and fail: alike for 4 entries\n";
-    holds(
-        &rt,
-        "text.as_str().starts_with(wanted)",
-        text.as_str().starts_with(wanted),
-    );
-    let wanted =
+    let part =
         "  none                                 | fail\n  0 finish -> ok                       | 1 setverdict fail -> ok\n";
-    holds(
-        &rt,
-        "text.as_str().contains(wanted)",
-        text.as_str().contains(wanted),
-    );
-    Ok(())
+    have_race(&rt, text.as_slice(), start, part)
 }
 
 #[test]
 fn one_verdict_has_no_race(rt: HostRuntime) -> Result<(), Fail> {
-    let alloc = rt.alloc();
-    let scripts = vec![in alloc; setting(&rt, alloc, UserVerdict::Pass)?]?;
-    let text = details(&rt, alloc, scripts.as_slice())?;
-    is(&rt, "text.as_str()", text.as_str(), "  pass: mtc pass\n");
-    Ok(())
+    let mut scripts = Vec::new(rt.alloc());
+    add_setting(&rt, rt.alloc(), &mut scripts, UserVerdict::Pass)?;
+    let wanted = "  pass: mtc pass\n";
+    are_details(&rt, rt.alloc(), scripts.as_slice(), wanted)
+}
+
+// A start of the first behaviour on the first component, with the second as its argument.
+fn start_with_second<R: Abort>(rt: &R) -> Step {
+    let mut args = Places::new();
+    holds(rt, "an argument", args.push(Q));
+    Step::Start {
+        on: P,
+        run: Run(1),
+        args,
+    }
+}
+
+// A wait until this component is killed.
+fn wait_killed(place: Place) -> Step {
+    Step::Wait {
+        killed: true,
+        target: TargetPlace::One(place),
+    }
+}
+
+fn create_pump() -> Step {
+    Step::Create {
+        alive: true,
+        name: Name::read("pump"),
+    }
+}
+
+// Adds a main behaviour that starts one on a component, and waits for another.
+fn add_main<R: Abort>(rt: &R, alloc: Global, scripts: &mut Vec<Script>) -> Result<(), Fail> {
+    let steps = vec![in alloc;
+        create_pump(),
+        create(false),
+        start_with_second(rt),
+        wait(TargetPlace::One(Q)),
+    ]?;
+    Ok(scripts.push(script(rt, steps))?)
 }
 
 #[test]
 fn who_waits_for_whom(rt: HostRuntime) -> Result<(), Fail> {
     let alloc = rt.alloc();
-    let mut args = Places::new();
-    holds(&rt, "args.push(Q)", args.push(Q));
-    let steps = vec![in alloc;
-        Step::Create {
-            alive: true,
-            name: Name::read("pump")
-        },
-        create(false),
-        Step::Start {
-            on: P,
-            run: Run(1),
-            args
-        },
-        wait(TargetPlace::One(Q)),
-    ]?;
-    let waiting = vec![in alloc;
-        Step::Wait {
-            killed: true,
-            target: TargetPlace::One(P)
-        },
-    ]?;
-    assert!(rt; Script::is_script(1, waiting.as_slice()));
-    let scripts = vec![in alloc; script(&rt, steps), Script::new(1, waiting)]?;
-    let text = details(&rt, alloc, scripts.as_slice())?;
+    let mut scripts = Vec::new(alloc);
+    add_main(&rt, alloc, &mut scripts)?;
+    let waiting = vec![in alloc; wait_killed(P)]?;
+    scripts.push(script_of(&rt, 1, waiting))?;
     let wanted =
         "  error: mtc error, 1 pump none, 2 none\n  stuck: run 0 on mtc waits for done of 2, not started\n  stuck: run 1 on 1 pump waits for killed of 2, not started\n  not seen: run 1 from step 1 of 1 on: wait killed #1\n";
-    is(&rt, "text.as_str()", text.as_str(), wanted);
-    Ok(())
+    are_details(&rt, alloc, scripts.as_slice(), wanted)
 }
 
-#[test]
-fn steps_behind_a_wait_that_is_never_over(rt: HostRuntime) -> Result<(), Fail> {
-    let alloc = rt.alloc();
-    let waiting = vec![in alloc;
-        Step::GetVerdict,
-        Step::Wait {
-            killed: true,
-            target: TargetPlace::One(Place::Own)
-        },
-        Step::StopCase,
-    ]?;
+// Adds a main behaviour that waits for the one that it starts, and one that waits for itself.
+fn add_endless<R: Abort>(rt: &R, alloc: Global, scripts: &mut Vec<Script>) -> Result<(), Fail> {
     let steps = vec![in alloc;
         create(true),
         start(P, 1),
@@ -102,89 +118,105 @@ fn steps_behind_a_wait_that_is_never_over(rt: HostRuntime) -> Result<(), Fail> {
         Step::SetVerdict(UserVerdict::Pass),
         Step::GetVerdict,
     ]?;
-    let scripts = vec![in alloc; script(&rt, steps), script(&rt, waiting)]?;
-    let text = details(&rt, alloc, scripts.as_slice())?;
+    scripts.push(script(rt, steps))?;
+    let waiting = vec![in alloc; Step::GetVerdict, wait_killed(Place::Own), Step::StopCase]?;
+    Ok(scripts.push(script(rt, waiting))?)
+}
+
+#[test]
+fn steps_behind_a_wait_that_is_never_over(rt: HostRuntime) -> Result<(), Fail> {
+    let mut scripts = Vec::new(rt.alloc());
+    add_endless(&rt, rt.alloc(), &mut scripts)?;
+    let text = details(&rt, rt.alloc(), scripts.as_slice())?;
     let wanted =
         "  not seen: run 0 from step 4 of 5 on: setverdict pass\n  not seen: run 1 from step 2 of 3 on: wait killed self\n";
-    holds(
-        &rt,
-        "text.as_str().ends_with(wanted)",
-        text.as_str().ends_with(wanted),
-    );
+    let is_end = text.as_slice().ends_with(wanted.as_bytes());
+    holds(&rt, "the end of the details", is_end);
     Ok(())
 }
 
-// What is told of a step behind a wait that is stuck.
-fn told_of<R: Abort>(rt: &R, alloc: Global, step: Step) -> Result<String, Fail> {
+// A main behaviour with this step behind a wait that is stuck, and one that is not started.
+fn stuck_before<R: Abort>(rt: &R, alloc: Global, step: Step) -> Result<Vec<Script>, Fail> {
     let steps = vec![in alloc; create(true), wait(TargetPlace::One(P)), step]?;
-    let scripts = vec![in alloc; script(rt, steps), setting(rt, alloc, UserVerdict::Pass)?]?;
-    let text = details(rt, alloc, scripts.as_slice())?;
-    let line = text
-        .as_str()
-        .lines()
-        .find(|line| line.contains("run 0 from"));
-    Ok(line.ok_or("a line")?.to_string(alloc)?)
+    let mut scripts = Vec::new(alloc);
+    scripts.push(script(rt, steps))?;
+    add_setting(rt, alloc, &mut scripts, UserVerdict::Pass)?;
+    Ok(scripts)
+}
+
+// The line of the details that tells of run 0 is this line.
+fn has_line<R: Abort>(rt: &R, details: &[u8], line: &str) -> Result<(), Fail> {
+    let text = str::from_utf8(details).map_err(|_| "a text")?;
+    let told = text.lines().find(|line| line.contains("run 0 from"));
+    is(rt, "the line of a step", told, Some(line));
+    Ok(())
+}
+
+// Compares what is told of a step behind a wait that is stuck.
+fn is_step_text<R: Abort>(rt: &R, alloc: Global, step: Step, text: &str) -> Result<(), Fail> {
+    let scripts = stuck_before(rt, alloc, step)?;
+    let found = details(rt, alloc, scripts.as_slice())?;
+    let line = format!(in alloc; "  not seen: run 0 from step 3 of 3 on: {text}")?;
+    has_line(rt, found.as_slice(), line.as_str())
+}
+
+// A start with two arguments.
+fn start_with_two<R: Abort>(rt: &R) -> Step {
+    let mut args = Places::new();
+    holds(rt, "the first argument", args.push(P));
+    holds(rt, "the second argument", args.push(Place::Main));
+    Step::Start {
+        on: P,
+        run: Run(1),
+        args,
+    }
+}
+
+// The text of each step that asks for a status or has to do with a verdict.
+fn texts_of_questions<R: Abort>(rt: &R, alloc: Global) -> Result<(), Fail> {
+    let any = TargetPlace::Any;
+    let all = TargetPlace::All;
+    let one = TargetPlace::One(P);
+    for (status, target, text) in [
+        (Status::Running, any, "running any"),
+        (Status::Alive, any, "alive any"),
+        (Status::Done, all, "done all"),
+        (Status::Killed, one, "killed #1"),
+    ] {
+        is_step_text(rt, alloc, Step::Ask(status, target), text)?;
+    }
+    let inconc = Step::SetVerdict(UserVerdict::Inconc);
+    is_step_text(rt, alloc, inconc, "setverdict inconc")?;
+    is_step_text(rt, alloc, Step::GetVerdict, "getverdict")
+}
+
+// The text of each step that makes, starts, ends or awaits components.
+fn texts_of_calls<R: Abort>(rt: &R, alloc: Global) -> Result<(), Fail> {
+    is_step_text(rt, alloc, create(false), "create")?;
+    is_step_text(rt, alloc, create_pump(), "create alive named pump")?;
+    is_step_text(rt, alloc, start_with_two(rt), "start #1 run 1 #1 mtc")?;
+    let own = GroupPlace::One(Place::Own);
+    is_step_text(rt, alloc, Step::Stop(own), "stop self")?;
+    is_step_text(rt, alloc, Step::Kill(GroupPlace::All), "kill all")?;
+    is_step_text(rt, alloc, Step::StopCase, "stopcase")?;
+    is_step_text(rt, alloc, wait(TargetPlace::All), "wait done all")
 }
 
 #[test]
 fn the_text_of_each_step(rt: HostRuntime) -> Result<(), Fail> {
-    let alloc = rt.alloc();
-    let mut args = Places::new();
-    holds(&rt, "args.push(P)", args.push(P));
-    holds(&rt, "args.push(Place::Main)", args.push(Place::Main));
-    let start = Step::Start {
-        on: P,
-        run: Run(1),
-        args,
-    };
-    let name = Name::read("pump");
-    let any = TargetPlace::Any;
-    let steps = vec![in alloc;
-        (create(false), "create"),
-        (
-            Step::Create { alive: true, name },
-            "create alive named pump"
-        ),
-        (start, "start #1 run 1 #1 mtc"),
-        (Step::Stop(GroupPlace::One(Place::Own)), "stop self"),
-        (Step::Kill(GroupPlace::All), "kill all"),
-        (Step::StopCase, "stopcase"),
-        (Step::Ask(Status::Running, any), "running any"),
-        (Step::Ask(Status::Alive, any), "alive any"),
-        (Step::Ask(Status::Done, TargetPlace::All), "done all"),
-        (Step::Ask(Status::Killed, TargetPlace::One(P)), "killed #1"),
-        (wait(TargetPlace::All), "wait done all"),
-        (Step::SetVerdict(UserVerdict::Inconc), "setverdict inconc"),
-        (Step::GetVerdict, "getverdict"),
-    ]?;
-    for (step, text) in steps {
-        let told = told_of(&rt, alloc, step)?;
-        let wanted = format!(in alloc; "  not seen: run 0 from step 3 of 3 on: {text}")?;
-        is(&rt, "told.as_str()", told.as_str(), wanted.as_str());
-    }
-    Ok(())
+    texts_of_calls(&rt, rt.alloc())?;
+    texts_of_questions(&rt, rt.alloc())
 }
 
 #[test]
 fn all_steps_are_seen(rt: HostRuntime) -> Result<(), Fail> {
     let alloc = rt.alloc();
-    let scripts = vec![in alloc;
-        leading(&rt, alloc, wait(TargetPlace::One(P)))?,
-        setting(&rt, alloc, UserVerdict::Pass)?,
-    ]?;
-    let text = details(&rt, alloc, scripts.as_slice())?;
-    is(
-        &rt,
-        "text.as_str()",
-        text.as_str(),
-        "  pass: mtc none, 1 pass\n",
-    );
-    let explored = explore(alloc, scripts.as_slice(), MANY)?;
-    is(
-        &rt,
-        "explored.reached.as_slice()",
-        explored.reached.as_slice(),
-        &[4, 3],
-    );
+    let last = wait(TargetPlace::One(P));
+    let scripts = two(&rt, alloc, last, UserVerdict::Pass)?;
+    let wanted = "  pass: mtc none, 1 pass\n";
+    are_details(&rt, alloc, scripts.as_slice(), wanted)?;
+    let explored = search(&rt, alloc, scripts.as_slice(), MANY)?;
+    let reached = explored.reached.as_slice();
+    is(&rt, "how far runs are reached", reached, [4, 3].as_slice());
     Ok(())
 }

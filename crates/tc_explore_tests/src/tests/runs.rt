@@ -5,10 +5,13 @@ ghost use Rattle.tc_entry.specs.declared.limits.TheConstants.{BEHAVIOURS};
 use super::play::Play;
 use super::random::random_scripts;
 use std::alloc::Global;
+use std::process::Abort;
+use std::sync::Wait;
 use std::test::Fail;
+use std::thread::Threads;
 use tc_behaviour::ScriptJob;
 use tc_entry::{Entry, Reply};
-use tc_exec::{Everyone, run_case_with};
+use tc_exec::{CaseReport, Everyone, run_case_with};
 use tc_step::Script;
 use tc_verdict::Verdict;
 
@@ -63,9 +66,59 @@ impl Met {
     }
 }
 
+// The jobs of the random scripts.
+fn jobs_of<R: Abort + Wait + Copy + Send + 'static>(
+    rt: &R,
+    alloc: Global,
+    seed: u64,
+) -> Result<Vec<ScriptJob<R>>, Fail> {
+    let mut jobs = Vec::new(alloc);
+    for script in random_scripts(rt, alloc, seed, LONGEST)? {
+        jobs.push(ScriptJob::new(*rt, alloc, script))?;
+    }
+    Ok(jobs)
+}
+
+// The report of a run of the random scripts.
+fn report_of<R: Abort + Threads + Wait + Copy + Send + 'static>(
+    rt: &R,
+    alloc: Global,
+    seed: u64,
+) -> Result<CaseReport, Fail> {
+    let jobs = jobs_of(rt, alloc, seed)?;
+    Ok(run_case_with(rt, alloc, jobs, 2, &mut Everyone)?)
+}
+
+// The report is of a complete course of the random scripts.
+fn is_course<R: Abort>(rt: &R, alloc: Global, seed: u64, report: &CaseReport) -> Result<(), Fail> {
+    let scripts = random_scripts(rt, alloc, seed, LONGEST)?;
+    assert!(rt; 1 <= scripts.len() && scripts.len() <= 64);
+    let history = report.history.as_slice();
+    let is_course = is_played(alloc, scripts.as_slice(), history, report.verdict)?;
+    assert!(rt; is_course, "{seed}");
+    Ok(())
+}
+
+// Runs the random scripts.
+fn run_random<R: Abort + Threads + Wait + Copy + Send + 'static>(
+    rt: &R,
+    alloc: Global,
+    seed: u64,
+    met: &mut Met,
+) -> Result<(), Fail> {
+    let report = report_of(rt, alloc, seed)?;
+    is_course(rt, alloc, seed, &report)?;
+    met.take(report.history.as_slice());
+    Ok(())
+}
+
+// Ends the test unless more than so many were met.
+fn are_more<R: Abort>(rt: &R, what: &str, found: usize, least: usize) {
+    assert!(rt; found > least, "{what}: {found}");
+}
+
 #[test]
 fn histories_of_runs_are_complete_courses(rt: HostRuntime) -> Result<(), Fail> {
-    let alloc = rt.alloc();
     let mut met = Met {
         entries: 0,
         parked: 0,
@@ -73,21 +126,11 @@ fn histories_of_runs_are_complete_courses(rt: HostRuntime) -> Result<(), Fail> {
         faults: 0,
     };
     for seed in 0..CASES {
-        let mut jobs = Vec::new(alloc);
-        for script in random_scripts(&rt, alloc, seed, LONGEST)? {
-            jobs.push(ScriptJob::new(rt, alloc, script))?;
-        }
-        let report = run_case_with(&rt, alloc, jobs, 2, &mut Everyone)?;
-        let scripts = random_scripts(&rt, alloc, seed, LONGEST)?;
-        assert!(rt; 1 <= scripts.len() && scripts.len() <= 64);
-        let history = report.history.as_slice();
-        let is_course = is_played(alloc, scripts.as_slice(), history, report.verdict)?;
-        assert!(rt; is_course, "{seed}");
-        met.take(report.history.as_slice());
+        run_random(&rt, rt.alloc(), seed, &mut met)?;
     }
-    assert!(rt; met.entries > 2000, "{}", met.entries);
-    assert!(rt; met.parked > 40, "{}", met.parked);
-    assert!(rt; met.ended > 100, "{}", met.ended);
-    assert!(rt; met.faults > 100, "{}", met.faults);
+    are_more(&rt, "entries", met.entries, 2000);
+    are_more(&rt, "parked", met.parked, 40);
+    are_more(&rt, "ended", met.ended, 100);
+    are_more(&rt, "faults", met.faults, 100);
     Ok(())
 }

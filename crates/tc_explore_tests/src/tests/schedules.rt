@@ -1,5 +1,4 @@
 //! Random test cases: what a search finds, held to all schedules.
-use super::play::all_schedules;
 use super::random::random_scripts;
 use super::*;
 
@@ -46,9 +45,77 @@ fn lengths(alloc: Global, scripts: &[Script]) -> Result<Vec<usize>, Fail> {
     Ok(lengths)
 }
 
+// Ends the test unless this holds of the case of this seed.
+fn holds_of<R: Abort>(rt: &R, seed: u64, what: &str, fact: bool) {
+    assert!(rt; fact, "{what}, case {seed}");
+}
+
+// Holds what was found to all schedules: no more, and all of it if the search was complete.
+fn compare<R: Abort>(rt: &R, seed: u64, explored: &Explored, found: &[Verdict], all: &All) {
+    let told = all.verdicts.as_slice();
+    let all_reached = all.reached.as_slice();
+    let reached = explored.reached.as_slice();
+    let are_told = found.iter().all(|verdict| told.contains(verdict));
+    holds_of(rt, seed, "verdicts of all schedules", are_told);
+    let is_within = are_within(reached, all_reached);
+    holds_of(rt, seed, "no run is reached further", is_within);
+    if explored.ending == Ending::Complete {
+        holds_of(rt, seed, "each verdict", are_same(found, told));
+        let are_reached = reached == all_reached;
+        holds_of(rt, seed, "each run is reached as far", are_reached);
+    }
+}
+
+// Takes in a complete search that found so many verdicts.
+fn count(
+    alloc: Global,
+    scripts: &[Script],
+    verdicts: usize,
+    reached: &[usize],
+    counts: &mut Counts,
+) -> Result<(), Fail> {
+    let lengths = lengths(alloc, scripts)?;
+    counts.take(verdicts, !are_within(lengths.as_slice(), reached));
+    Ok(())
+}
+
+// Compares a search of the scripts with all schedules, where these are not too many, and counts it if it was complete.
+fn compare_search<R: Abort>(
+    rt: &R,
+    alloc: Global,
+    seed: u64,
+    scripts: &[Script],
+    counts: &mut Counts,
+) -> Result<(), Fail> {
+    let explored = search(rt, alloc, scripts, MANY)?;
+    let found = witnessed(rt, alloc, scripts.len(), explored.found.as_slice())?;
+    if let Some(all) = schedules_of(rt, alloc, scripts)? {
+        compare(rt, seed, &explored, found.as_slice(), &all);
+        if explored.ending == Ending::Complete {
+            let reached = explored.reached.as_slice();
+            count(alloc, scripts, found.len(), reached, counts)?;
+        }
+    }
+    Ok(())
+}
+
+fn compare_random<R: Abort>(
+    rt: &R,
+    alloc: Global,
+    seed: u64,
+    counts: &mut Counts,
+) -> Result<(), Fail> {
+    let scripts = random_scripts(rt, alloc, seed, LONGEST)?;
+    compare_search(rt, alloc, seed, scripts.as_slice(), counts)
+}
+
+// Ends the test unless there are so many.
+fn are_many<R: Abort>(rt: &R, what: &str, found: usize, least: usize) {
+    assert!(rt; found >= least, "{what}: {found}");
+}
+
 #[test]
 fn a_complete_search_finds_the_verdicts_of_all_schedules(rt: HostRuntime) -> Result<(), Fail> {
-    let alloc = rt.alloc();
     let mut counts = Counts {
         complete: 0,
         with_two: 0,
@@ -56,30 +123,11 @@ fn a_complete_search_finds_the_verdicts_of_all_schedules(rt: HostRuntime) -> Res
         unseen: 0,
     };
     for seed in 0..CASES {
-        let scripts = random_scripts(&rt, alloc, seed, LONGEST)?;
-        let scripts = scripts.as_slice();
-        assert!(rt; 1 <= scripts.len() && scripts.len() <= 64);
-        let explored = explore(alloc, scripts, MANY)?;
-        let found = witnessed(&rt, alloc, scripts, &explored)?;
-        let Some(all) = all_schedules(alloc, scripts, CALLS)? else {
-            continue;
-        };
-        let told = all.verdicts.as_slice();
-        let reached = explored.reached.as_slice();
-        assert!(rt;
-            found.iter().all(|verdict| told.contains(verdict)),
-            "{seed}"
-        );
-        assert!(rt; are_within(reached, all.reached.as_slice()), "{seed}");
-        if explored.ending == Ending::Complete {
-            assert!(rt; are_same(found.as_slice(), told), "{seed}");
-            assert!(rt; reached == all.reached.as_slice(), "{seed}");
-            counts.take(found.len(), !are_within(&lengths(alloc, scripts)?, reached));
-        }
+        compare_random(&rt, rt.alloc(), seed, &mut counts)?;
     }
-    assert!(rt; counts.complete >= 1_000, "{}", counts.complete);
-    assert!(rt; counts.with_two >= 100, "{}", counts.with_two);
-    assert!(rt; counts.with_three >= 10, "{}", counts.with_three);
-    assert!(rt; counts.unseen >= 100, "{}", counts.unseen);
+    are_many(&rt, "complete searches", counts.complete, 1_000);
+    are_many(&rt, "two verdicts", counts.with_two, 100);
+    are_many(&rt, "three verdicts", counts.with_three, 10);
+    are_many(&rt, "steps that are not seen", counts.unseen, 100);
     Ok(())
 }

@@ -170,73 +170,98 @@ fn refused_scripts(rt: HostRuntime) -> Result<(), Fail> {
         ("", "ttrun: line 1: text ends too early"),
     ];
     for (script, told) in scripts {
-        for form in [Form::Text, Form::Csv, Form::History] {
-            for live in [false, true] {
-                let wanted = Wanted {
-                    written: "",
-                    told,
-                    status: 3,
-                };
-                let task = run_task(rt.alloc(), form, live, None);
-                carries_out(&rt, rt.alloc(), task, script.as_bytes(), wanted)?;
-            }
-        }
+        refuses_script(&rt, rt.alloc(), script, told);
     }
     Ok(())
+}
+
+// Gives the script to a run in each form, at the end and live, and compares what is told; nothing may be written.
+fn refuses_script<R: Abort + Threads + Wait + Copy + Send + 'static>(
+    rt: &R,
+    alloc: Global,
+    script: &str,
+    told: &str,
+) {
+    let wanted = Wanted {
+        written: "",
+        told,
+        status: 3,
+    };
+    for (form, live) in [
+        (Form::Text, false),
+        (Form::Text, true),
+        (Form::Csv, false),
+        (Form::Csv, true),
+        (Form::History, false),
+        (Form::History, true),
+    ] {
+        let task = run_task(alloc, form, live, None);
+        carries_out(rt, alloc, task, script.as_bytes(), wanted);
+    }
+}
+
+// A run with this word of `--stop-on` is refused, and reads nothing.
+fn refuses_stop_word<R: Abort + Threads + Wait + Copy + Send + 'static>(
+    rt: &R,
+    alloc: Global,
+    word: &str,
+) {
+    let mut reader = SlowReader::new(CASES.as_bytes(), usize::MAX);
+    let mut written = Vec::new(alloc);
+    let mut told = Vec::new(alloc);
+    let task = run_task(alloc, Form::Text, false, Some(word));
+    let outcome = carry_out(rt, alloc, task, &mut reader, &mut written, &mut told);
+    compare_outcome(rt, &outcome, 3, word);
+    is_lines(rt, word, told.as_slice(), NO_VERDICT);
+    holds(rt, word, written.is_empty());
+    is(rt, word, reader.reads, 0);
 }
 
 #[test]
 fn words_of_stop_on(rt: HostRuntime) -> Result<(), Fail> {
-    is(
-        &rt,
-        "stop_word('error')",
-        stop_word("error"),
-        Ok(Verdict::Error),
-    );
-    is(
-        &rt,
-        "stop_word('inconc')",
-        stop_word("inconc"),
-        Ok(Verdict::Inconc),
-    );
+    let error = Ok(Verdict::Error);
+    is(&rt, "the verdict error", stop_word("error"), error);
+    let inconc = Ok(Verdict::Inconc);
+    is(&rt, "the verdict inconc", stop_word("inconc"), inconc);
     for word in ["maybe", "Fail", ""] {
-        is(
-            &rt,
-            "stop_word(word)",
-            stop_word(word),
-            Err(RunFault::StopOn),
-        );
-        let mut reader = SlowReader::new(CASES.as_bytes(), usize::MAX);
-        let mut written = Vec::new(rt.alloc());
-        let mut told = Vec::new(rt.alloc());
-        let task = run_task(rt.alloc(), Form::Text, false, Some(word));
-        let outcome = carry_out(&rt, rt.alloc(), task, &mut reader, &mut written, &mut told);
-        compare_outcome(&rt, &outcome, 3, word);
-        is(
-            &rt,
-            "told.as_slice()",
-            told.as_slice(),
-            lines(rt.alloc(), NO_VERDICT)?.as_slice(),
-        );
-        holds(&rt, "written.is_empty()", written.is_empty());
-        is(&rt, word, reader.reads, 0);
+        is(&rt, word, stop_word(word), Err(RunFault::StopOn));
+        refuses_stop_word(&rt, rt.alloc(), word);
     }
     Ok(())
 }
 
+// Appends the steps that make a component and start this behaviour on it.
+fn push_start(alloc: Global, number: usize, text: &mut String) -> Result<(), Fail> {
+    let steps = format!(in alloc; "create p{number}\nstart p{number} b{number}\n")?;
+    Ok(text.push_str(steps.as_str())?)
+}
+
+// Appends a behaviour that passes.
+fn push_behaviour(alloc: Global, number: usize, text: &mut String) -> Result<(), Fail> {
+    let behaviour = format!(in alloc; "behaviour b{number}\nsetverdict pass\nend\n")?;
+    Ok(text.push_str(behaviour.as_str())?)
+}
+
+fn push_main(alloc: Global, text: &mut String) -> Result<(), Fail> {
+    text.push_str("testcase t\nbehaviour main\n")?;
+    for number in 1..256 {
+        push_start(alloc, number, text)?;
+    }
+    Ok(text.push_str("wait done all\nend\n")?)
+}
+
+fn push_behaviours(alloc: Global, text: &mut String) -> Result<(), Fail> {
+    for number in 1..256 {
+        push_behaviour(alloc, number, text)?;
+    }
+    Ok(text.push_str("end\n")?)
+}
+
 // A test case of 256 behaviours: the first makes 255 components, starts the others on them, and waits for them.
 fn many_behaviours(alloc: Global) -> Result<String, Fail> {
-    let mut text = "testcase t\nbehaviour main\n".to_string(alloc)?;
-    for number in 1..256 {
-        let steps = format!(in alloc; "create p{number}\nstart p{number} b{number}\n")?;
-        text.push_str(steps.as_str())?;
-    }
-    text.push_str("wait done all\nend\n")?;
-    for number in 1..256 {
-        let behaviour = format!(in alloc; "behaviour b{number}\nsetverdict pass\nend\n")?;
-        text.push_str(behaviour.as_str())?;
-    }
-    text.push_str("end\n")?;
+    let mut text = String::new(alloc);
+    push_main(alloc, &mut text)?;
+    push_behaviours(alloc, &mut text)?;
     Ok(text)
 }
 
@@ -249,44 +274,70 @@ fn a_case_of_256_behaviours(rt: HostRuntime) -> Result<(), Fail> {
         status: 0,
     };
     let task = run_task(rt.alloc(), Form::Csv, false, None);
-    carries_out(&rt, rt.alloc(), task, text.as_bytes(), wanted)
+    carries_out(&rt, rt.alloc(), task, text.as_bytes(), wanted);
+    Ok(())
+}
+
+// What comes of a run with these options.
+fn came_with<R: Abort + Threads + Wait + Copy + Send + 'static>(
+    rt: &R,
+    alloc: Global,
+    (live, options): (&str, &str),
+    input: &[u8],
+) -> Result<Came, Fail> {
+    let line = format!(in alloc; "ttrun run{live}{options}")?;
+    Ok(came_of_line(rt, alloc, line.as_str(), input)?)
+}
+
+// Compares what came of a live run with what came of a run.
+fn compare_runs<R: Abort>(rt: &R, options: &str, run: &Came, live_run: &Came) {
+    let written = run.written.as_slice();
+    holds(rt, options, !written.is_empty());
+    is(rt, options, live_run.written.as_slice(), written);
+    is(rt, options, live_run.told.as_slice(), run.told.as_slice());
+    is(rt, options, &live_run.outcome, &run.outcome);
 }
 
 // Whether a live run writes, tells and answers what a run with these options does.
 fn compare_with_live<R: Abort + Threads + Wait + Copy + Send + 'static>(
     rt: &R,
     alloc: Global,
-    script: &str,
+    input: &[u8],
     options: &str,
 ) -> Result<(), Fail> {
-    let plain = format!(in alloc; "ttrun run{options}")?;
-    let live = format!(in alloc; "ttrun run --live{options}")?;
+    let run = came_with(rt, alloc, ("", options), input)?;
+    let live_run = came_with(rt, alloc, (" --live", options), input)?;
+    compare_runs(rt, options, &run, &live_run);
+    Ok(())
+}
+
+// Compares runs of the script with each of these options.
+fn compare_each_with_live<R: Abort + Threads + Wait + Copy + Send + 'static>(
+    rt: &R,
+    alloc: Global,
+    script: &str,
+    each: &[&str],
+) -> Result<(), Fail> {
     let input = lines(alloc, script)?;
-    let run = came_of_line(rt, alloc, plain.as_str(), input.as_slice())?;
-    let live_run = came_of_line(rt, alloc, live.as_str(), input.as_slice())?;
-    holds(rt, options, !run.written.is_empty());
-    is(
-        rt,
-        options,
-        live_run.written.as_slice(),
-        run.written.as_slice(),
-    );
-    is(rt, options, live_run.told.as_slice(), run.told.as_slice());
-    is(rt, options, &live_run.outcome, &run.outcome);
+    for options in each {
+        compare_with_live(rt, alloc, input.as_slice(), options)?;
+    }
     Ok(())
 }
 
 // The history of a test case of two threads depends on their order, so the restart has none here.
 #[test]
 fn live_runs_write_the_same(rt: HostRuntime) -> Result<(), Fail> {
-    let alloc = rt.alloc();
-    for script in [CASES, RESTART, STUCK] {
-        for options in ["", " --csv", " --stop-on fail", " --csv --stop-on pass"] {
-            compare_with_live(&rt, alloc, script, options)?;
-        }
-    }
-    for script in [CASES, STUCK] {
-        compare_with_live(&rt, alloc, script, " --history")?;
+    let plain = ["", " --csv", " --stop-on fail", " --csv --stop-on pass"];
+    let history = [" --history"];
+    for (script, options) in [
+        (CASES, plain.as_slice()),
+        (RESTART, plain.as_slice()),
+        (STUCK, plain.as_slice()),
+        (CASES, history.as_slice()),
+        (STUCK, history.as_slice()),
+    ] {
+        compare_each_with_live(&rt, rt.alloc(), script, options)?;
     }
     Ok(())
 }

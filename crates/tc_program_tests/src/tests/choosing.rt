@@ -7,27 +7,76 @@ use tc_program::choosing::shard_of;
 const SCRIPT: &str =
     "testcase a;behaviour main;setverdict pass;end;end;testcase b;behaviour main;setverdict fail;end;end;testcase c;behaviour main;end;end;testcase d;behaviour main;setverdict inconc;end;end";
 
-#[test]
-fn lists_and_runs_of_chosen_test_cases(rt: HostRuntime) -> Result<(), Fail> {
-    let head = "testcase,components,none,pass,inconc,fail,error,verdict";
+const HEAD: &str = "testcase,components,none,pass,inconc,fail,error,verdict";
+
+// Lists the test cases that are chosen, and compares their names.
+fn lists<R: Abort + Threads + Wait + Copy + Send + 'static>(
+    rt: &R,
+    alloc: Global,
+    options: &str,
+    written: &str,
+) -> Result<(), Fail> {
+    let line = format!(in alloc; "ttrun run --list{options}")?;
+    let wanted = Wanted {
+        written,
+        told: "",
+        status: 0,
+    };
+    answers(rt, alloc, line.as_str(), SCRIPT, wanted)
+}
+
+// Runs the test cases that are chosen with this command, and compares the table.
+fn runs_with<R: Abort + Threads + Wait + Copy + Send + 'static>(
+    rt: &R,
+    alloc: Global,
+    (command, options): (&str, &str),
+    wanted: Wanted,
+) -> Result<(), Fail> {
+    let line = format!(in alloc; "ttrun run --csv{command}{options}")?;
+    answers(rt, alloc, line.as_str(), SCRIPT, wanted)
+}
+
+// Runs the test cases that are chosen, at the end and live, and compares the rows of the table.
+fn runs<R: Abort + Threads + Wait + Copy + Send + 'static>(
+    rt: &R,
+    alloc: Global,
+    options: &str,
+    rows: &str,
+    status: u8,
+) -> Result<(), Fail> {
+    let table = format!(in alloc; "{HEAD}{rows}")?;
+    let wanted = Wanted {
+        written: table.as_str(),
+        told: "",
+        status,
+    };
+    runs_with(rt, alloc, ("", options), wanted)?;
+    runs_with(rt, alloc, (" --live", options), wanted)
+}
+
+fn lists_each<R: Abort + Threads + Wait + Copy + Send + 'static>(
+    rt: &R,
+    alloc: Global,
+) -> Result<(), Fail> {
     let rows = [
-        (" --list", "a;b;c;d", 0),
-        (" --list --only c --only a", "a;c", 0),
-        (" --list --shard 1/2", "a;c", 0),
-        (" --list --shard 2/2", "b;d", 0),
-        (" --list --shard 2/3 --only a --only b --only d", "b", 0),
-        (" --list --shard 5/5", "", 0),
+        ("", "a;b;c;d"),
+        (" --only c --only a", "a;c"),
+        (" --shard 1/2", "a;c"),
+        (" --shard 2/2", "b;d"),
+        (" --shard 2/3 --only a --only b --only d", "b"),
+        (" --shard 5/5", ""),
     ];
-    for (options, written, status) in rows {
-        let line = format!(in rt.alloc(); "ttrun run{options}")?;
-        let wanted = Wanted {
-            written,
-            told: "",
-            status,
-        };
-        answers(&rt, rt.alloc(), line.as_str(), SCRIPT, wanted)?;
+    for (options, written) in rows {
+        lists(rt, alloc, options, written)?;
     }
-    let runs = [
+    Ok(())
+}
+
+fn runs_each<R: Abort + Threads + Wait + Copy + Send + 'static>(
+    rt: &R,
+    alloc: Global,
+) -> Result<(), Fail> {
+    let rows = [
         (" --only a", ";a,1,0,1,0,0,0,pass", 0),
         (
             " --only d --only a",
@@ -43,19 +92,32 @@ fn lists_and_runs_of_chosen_test_cases(rt: HostRuntime) -> Result<(), Fail> {
         (" --shard 7/9", "", 0),
         (" --shard 2/2 --stop-on fail", ";b,1,0,0,0,1,0,fail", 1),
     ];
-    for (options, written, status) in runs {
-        for live in ["", " --live"] {
-            let line = format!(in rt.alloc(); "ttrun run --csv{live}{options}")?;
-            let output = format!(in rt.alloc(); "{head}{written}")?;
-            let wanted = Wanted {
-                written: output.as_str(),
-                told: "",
-                status,
-            };
-            answers(&rt, rt.alloc(), line.as_str(), SCRIPT, wanted)?;
-        }
+    for (options, written, status) in rows {
+        runs(rt, alloc, options, written, status)?;
     }
     Ok(())
+}
+
+#[test]
+fn lists_and_runs_of_chosen_test_cases(rt: HostRuntime) -> Result<(), Fail> {
+    lists_each(&rt, rt.alloc())?;
+    runs_each(&rt, rt.alloc())
+}
+
+// A command with this choice is refused.
+fn refuses_choice<R: Abort + Threads + Wait + Copy + Send + 'static>(
+    rt: &R,
+    alloc: Global,
+    (command, options): (&str, &str),
+    told: &str,
+) -> Result<(), Fail> {
+    let line = format!(in alloc; "ttrun {command} {options}")?;
+    let wanted = Wanted {
+        written: "",
+        told,
+        status: 3,
+    };
+    answers(rt, alloc, line.as_str(), SCRIPT, wanted)
 }
 
 #[test]
@@ -78,34 +140,23 @@ fn choices_that_are_refused(rt: HostRuntime) -> Result<(), Fail> {
     ];
     for (options, told) in rows {
         for command in ["run", "run --list", "run --live --csv"] {
-            let line = format!(in rt.alloc(); "ttrun {command} {options}")?;
-            let wanted = Wanted {
-                written: "",
-                told,
-                status: 3,
-            };
-            answers(&rt, rt.alloc(), line.as_str(), SCRIPT, wanted)?;
+            refuses_choice(&rt, rt.alloc(), (command, options), told)?;
         }
     }
     Ok(())
 }
 
+// Compares the shard that the word names.
+fn is_shard<R: Abort>(rt: &R, word: Option<&str>, shard: Option<Shard>) {
+    is(rt, "the shard", shard_of(word), Ok(shard));
+}
+
 #[test]
 fn words_of_shards(rt: HostRuntime) -> Result<(), Fail> {
     let last = 4294967295u32;
-    is(&rt, "shard_of(None)", shard_of(None), Ok(None));
-    is(
-        &rt,
-        "shard_of(Some('1/1'))",
-        shard_of(Some("1/1")),
-        Ok(Shard::new(1, 1)),
-    );
-    let last_of_all = Shard::new(last, last);
-    is(
-        &rt,
-        "shard_of(Some('4294967295/4294967295'))",
-        shard_of(Some("4294967295/4294967295")),
-        Ok(last_of_all),
-    );
+    is_shard(&rt, None, None);
+    is_shard(&rt, Some("1/1"), Shard::new(1, 1));
+    let all = Some("4294967295/4294967295");
+    is_shard(&rt, all, Shard::new(last, last));
     Ok(())
 }

@@ -31,31 +31,50 @@ const SUITE: &str =
 const ELEMENTS: &str =
     "\"/>;</properties>;<testcase name=\"t\" classname=\"ttrun\">;<failure type=\"fail\" message=\"verdict fail\"/>;<system-out>;local 0 fail;</system-out>;</testcase>;</testsuite>;</testsuites>";
 
-// An input of a task, and what comes of it.
-#[derive(Drop)]
-struct Row {
-    task: Task<'static>,
-    input: &'static str,
-    output: String,
-    status: u8,
-}
-
 const ROWS: usize = 12;
 
-// The task of a row that is no run, its input and its status.
-fn other_task(alloc: Global, number: usize) -> (Task<'static>, &'static str, u8) {
-    let explains = false;
+// The task of this number: the runs are the last, at the end and live.
+fn task_of(alloc: Global, number: usize) -> Task<'static> {
     match number {
-        0 => (Task::Replay { explains }, MOVES, 2),
-        1 => (Task::Check { explains }, HISTORY, 3),
-        2 => (report_task(ReportForm::Csv), WRITTEN_HISTORY, 1),
-        3 => (report_task(ReportForm::Junit), WRITTEN_HISTORY, 1),
-        4 => (explore_task(None), SCRIPT, 0),
-        _ => {
-            let options = run_options(alloc, Form::Text, false, None);
-            (Task::List(options.choice), SCRIPT, 0)
-        }
+        0 => Task::Replay { explains: false },
+        1 => Task::Check { explains: false },
+        2 => report_task(ReportForm::Csv),
+        3 => report_task(ReportForm::Junit),
+        4 => explore_task(None),
+        5 => Task::List(run_options(alloc, Form::Text, false, None).choice),
+        6 | 9 => run_task(alloc, Form::Text, number >= 9, None),
+        7 | 10 => run_task(alloc, Form::Csv, number >= 9, None),
+        _ => run_task(alloc, Form::History, number >= 9, None),
     }
+}
+
+// Its input, what is written of it, and its status.
+fn row_of(number: usize) -> (&'static str, &'static str, u8) {
+    match number {
+        0 => (MOVES, REPLIES, 2),
+        1 => (HISTORY, JUDGED, 3),
+        2 => (WRITTEN_HISTORY, TABLE, 1),
+        3 => (WRITTEN_HISTORY, SUITE, 1),
+        4 => (SCRIPT, "t fail complete", 0),
+        5 => (SCRIPT, "t", 0),
+        6 | 9 => (SCRIPT, REPORT, 1),
+        7 | 10 => (SCRIPT, TABLE, 1),
+        _ => (SCRIPT, WRITTEN_HISTORY, 1),
+    }
+}
+
+// What is written of its input: of the JUnit report, the version and what stands behind it too.
+fn output_of(alloc: Global, number: usize) -> Result<Vec<u8>, Fail> {
+    let (_, output, _) = row_of(number);
+    if number == 3 {
+        return junit_report(alloc, output);
+    }
+    Ok(lines(alloc, output)?)
+}
+
+fn junit_report(alloc: Global, suite: &str) -> Result<Vec<u8>, Fail> {
+    let report = format!(in alloc; "{suite}{VERSION}{ELEMENTS}")?;
+    Ok(lines(alloc, report.as_str())?)
 }
 
 fn report_task(form: ReportForm) -> Task<'static> {
@@ -73,225 +92,168 @@ fn explore_task<'a>(states: Option<&'a str>) -> Task<'a> {
     }
 }
 
-// The output of a row that is no run.
-fn other_output(alloc: Global, number: usize) -> Result<String, Fail> {
-    let output = match number {
-        0 => REPLIES,
-        1 => JUDGED,
-        2 => TABLE,
-        3 => return Ok(format!(in alloc; "{SUITE}{VERSION}{ELEMENTS}")?),
-        4 => "t fail complete",
-        _ => "t",
-    };
-    Ok(output.to_string(alloc)?)
-}
-
-fn other_row(alloc: Global, number: usize) -> Result<Row, Fail> {
-    let (task, input, status) = other_task(alloc, number);
-    Ok(Row {
-        task,
-        input,
-        output: other_output(alloc, number)?,
-        status,
-    })
-}
-
-// The row of a task with this number: the runs are the last, at the end and live.
-fn row_of(alloc: Global, number: usize) -> Result<Row, Fail> {
-    let (form, output) = match number {
-        6 | 9 => (Form::Text, REPORT),
-        7 | 10 => (Form::Csv, TABLE),
-        8 | 11 => (Form::History, WRITTEN_HISTORY),
-        _ => return other_row(alloc, number),
-    };
-    Ok(Row {
-        task: run_task(alloc, form, number >= 9, None),
-        input: SCRIPT,
-        output: output.to_string(alloc)?,
-        status: 1,
-    })
-}
-
-// What comes of the row's task where the reader fails at this read.
+// What comes of the task of this number where the reader fails at this read.
 fn reads<R: Abort + Threads + Wait + Copy + Send + 'static>(
     rt: &R,
     alloc: Global,
-    row: Row,
+    number: usize,
+    (input, output): (&[u8], &[u8]),
     fails_at: usize,
-) -> Result<(), Fail> {
-    let input = lines(alloc, row.input)?;
-    let mut reader = SlowReader::new(input.as_slice(), fails_at);
+) {
+    let (_, _, status) = row_of(number);
+    let task = task_of(alloc, number);
+    let mut reader = SlowReader::new(input, fails_at);
     let mut written = Vec::new(alloc);
     let mut told = Vec::new(alloc);
-    let outcome = carry_out(rt, alloc, row.task, &mut reader, &mut written, &mut told);
-    is(rt, "outcome.told", outcome.told, Ok(()));
+    let outcome = carry_out(rt, alloc, task, &mut reader, &mut written, &mut told);
     if fails_at > input.len() {
-        is(rt, "outcome.status", outcome.status, row.status);
-        is(
-            rt,
-            "written.as_slice()",
-            written.as_slice(),
-            lines(alloc, row.output.as_str())?.as_slice(),
-        );
-        holds(rt, "told.is_empty()", told.is_empty());
-        return Ok(());
+        compare_outcome(rt, &outcome, status, "a task whose reader does not fail");
+        is(rt, "what is written", written.as_slice(), output);
+        holds(rt, "nothing is told", told.is_empty());
+        return;
     }
-    is(rt, "outcome.status", outcome.status, 3);
-    is(
-        rt,
-        "told.as_slice()",
-        told.as_slice(),
-        b"ttrun: read fault\n".as_slice(),
-    );
-    holds(rt, "written.is_empty()", written.is_empty());
-    is(
-        rt,
-        "Some(reader.reads)",
-        Some(reader.reads),
-        fails_at.checked_add(1),
-    );
-    Ok(())
+    compare_outcome(rt, &outcome, 3, "a task whose reader fails");
+    is_lines(rt, "what is told", told.as_slice(), "ttrun: read fault");
+    holds(rt, "nothing is written", written.is_empty());
+    let count = fails_at.checked_add(1);
+    is(rt, "the number of reads", Some(reader.reads), count);
 }
 
-// What comes of the row's task where the writer fails at this write.
+// What comes of the task of this number where the writer fails at this write.
 fn writes<R: Abort + Threads + Wait + Copy + Send + 'static>(
     rt: &R,
     alloc: Global,
-    row: Row,
-    fails_at: usize,
-    failure: WriteFailure,
-) -> Result<(), Fail> {
-    let input = lines(alloc, row.input)?;
-    let output = lines(alloc, row.output.as_str())?;
-    let mut writer = NarrowWriter {
-        taken: Vec::new(alloc),
-        writes: 0,
-        fails_at,
-        failure,
-    };
+    number: usize,
+    (input, output): (&[u8], &[u8]),
+    (fails_at, failure): (usize, WriteFailure),
+) {
+    let (_, _, status) = row_of(number);
+    let task = task_of(alloc, number);
+    let mut reader = input;
+    let mut writer = NarrowWriter::new(alloc, fails_at, failure);
     let mut told = Vec::new(alloc);
-    let outcome = carry_out(
-        rt,
-        alloc,
-        row.task,
-        &mut input.as_slice(),
-        &mut writer,
-        &mut told,
-    );
-    is(rt, "outcome.told", outcome.told, Ok(()));
-    is(
-        rt,
-        "Some(writer.taken.as_slice())",
-        Some(writer.taken.as_slice()),
-        output.as_slice().get(..fails_at),
-    );
+    let outcome = carry_out(rt, alloc, task, &mut reader, &mut writer, &mut told);
+    let taken = Some(writer.taken.as_slice());
+    is(rt, "what is taken", taken, output.get(..fails_at));
     if fails_at == output.len() {
-        is(rt, "outcome.status", outcome.status, row.status);
-        holds(rt, "told.is_empty()", told.is_empty());
-        return Ok(());
+        compare_outcome(rt, &outcome, status, "a task whose writer does not fail");
+        holds(rt, "nothing is told", told.is_empty());
+        return;
     }
-    is(rt, "outcome.status", outcome.status, 3);
-    is(
-        rt,
-        "told.as_slice()",
-        told.as_slice(),
-        b"ttrun: write fault\n".as_slice(),
-    );
-    Ok(())
+    compare_outcome(rt, &outcome, 3, "a task whose writer fails");
+    is_lines(rt, "what is told", told.as_slice(), "ttrun: write fault");
 }
 
-// Fails each read of the row's task in turn, and none; how many there were.
+// Fails each read of the task in turn, and none; how many there were.
 fn reads_each<R: Abort + Threads + Wait + Copy + Send + 'static>(
     rt: &R,
     alloc: Global,
     number: usize,
-) -> Result<usize, Fail> {
-    let count = row_of(alloc, number)?.input.len().saturating_add(3);
+    (input, output): (&[u8], &[u8]),
+) -> usize {
+    let count = input.len().saturating_add(2);
     for fails_at in 0..count {
-        reads(rt, alloc, row_of(alloc, number)?, fails_at)?;
+        reads(rt, alloc, number, (input, output), fails_at);
     }
-    Ok(count)
+    count
 }
 
-// Fails each write of the row's task in turn, and none; how many there were.
+// Fails each write of the task in turn, and none; how many there were.
 fn writes_each<R: Abort + Threads + Wait + Copy + Send + 'static>(
     rt: &R,
     alloc: Global,
     number: usize,
+    (input, output): (&[u8], &[u8]),
     failure: WriteFailure,
-) -> Result<usize, Fail> {
-    let count = row_of(alloc, number)?.output.len().saturating_add(2);
+) -> usize {
+    let count = output.len().saturating_add(1);
     for fails_at in 0..count {
-        writes(rt, alloc, row_of(alloc, number)?, fails_at, failure)?;
+        writes(rt, alloc, number, (input, output), (fails_at, failure));
     }
-    Ok(count)
+    count
+}
+
+// Fails each read and each write of the task in turn; how many there were.
+fn fails_each<R: Abort + Threads + Wait + Copy + Send + 'static>(
+    rt: &R,
+    alloc: Global,
+    number: usize,
+) -> Result<usize, Fail> {
+    let (input, _, _) = row_of(number);
+    let input = lines(alloc, input)?;
+    let output = output_of(alloc, number)?;
+    let row = (input.as_slice(), output.as_slice());
+    let read = reads_each(rt, alloc, number, row);
+    let broken = writes_each(rt, alloc, number, row, WriteFailure::Broken);
+    let full = writes_each(rt, alloc, number, row, WriteFailure::Full);
+    Ok(read.saturating_add(broken).saturating_add(full))
 }
 
 #[test]
 fn failing_devices(rt: HostRuntime) -> Result<(), Fail> {
-    let alloc = rt.alloc();
     let mut failed = 0usize;
     for number in 0..ROWS {
-        failed = failed.saturating_add(reads_each(&rt, alloc, number)?);
-        for failure in [WriteFailure::Broken, WriteFailure::Full] {
-            failed = failed.saturating_add(writes_each(&rt, alloc, number, failure)?);
-        }
+        failed = failed.saturating_add(fails_each(&rt, rt.alloc(), number)?);
     }
-    holds(&rt, "failed > 1_000", failed > 1_000);
+    holds(&rt, "more than 1000 failed", failed > 1_000);
     Ok(())
+}
+
+// A search with this word of `--states` is refused, and reads nothing.
+fn refuses_states<R: Abort + Threads + Wait + Copy + Send + 'static>(
+    rt: &R,
+    alloc: Global,
+    word: &str,
+) {
+    let mut reader = SlowReader::new(SCRIPT.as_bytes(), 0);
+    let mut written = Vec::new(alloc);
+    let mut told = Vec::new(alloc);
+    let task = explore_task(Some(word));
+    let outcome = carry_out(rt, alloc, task, &mut reader, &mut written, &mut told);
+    let line = "ttrun: --states takes a number from 1 to 1000000";
+    is_lines(rt, word, told.as_slice(), line);
+    is(rt, "the status", outcome.status, 3);
+    holds(rt, "nothing is written", written.is_empty());
+    is(rt, word, reader.reads, 0);
 }
 
 #[test]
 fn bad_states_are_refused_before_a_read(rt: HostRuntime) -> Result<(), Fail> {
-    let line = "ttrun: --states takes a number from 1 to 1000000\n".as_bytes();
     for word in ["", "0", "01", "1000001", "many"] {
-        let mut reader = SlowReader::new(SCRIPT.as_bytes(), 0);
-        let mut written = Vec::new(rt.alloc());
-        let mut told = Vec::new(rt.alloc());
-        let task = explore_task(Some(word));
-        let outcome = carry_out(&rt, rt.alloc(), task, &mut reader, &mut written, &mut told);
-        is(&rt, word, told.as_slice(), line);
-        is(&rt, "outcome.status", outcome.status, 3);
-        holds(&rt, "written.is_empty()", written.is_empty());
-        is(&rt, word, reader.reads, 0);
+        refuses_states(&rt, rt.alloc(), word);
     }
     Ok(())
 }
 
+// What comes of a refused list of moves where standard error fails at this write; the whole line is this.
+fn tells_up_to<R: Abort + Threads + Wait + Copy + Send + 'static>(
+    rt: &R,
+    alloc: Global,
+    line: &[u8],
+    fails_at: usize,
+) {
+    let mut errors = NarrowWriter::new(alloc, fails_at, WriteFailure::Broken);
+    let mut written = Vec::new(alloc);
+    let mut reader = b"behaviours 0\n".as_slice();
+    let task = Task::Replay { explains: false };
+    let outcome = carry_out(rt, alloc, task, &mut reader, &mut written, &mut errors);
+    let told = if fails_at == line.len() {
+        Ok(())
+    } else {
+        Err(RunFault::Write)
+    };
+    is(rt, "the status", outcome.status, 3);
+    is(rt, "what is told", outcome.told, told);
+    let taken = Some(errors.taken.as_slice());
+    is(rt, "what is taken", taken, line.get(..fails_at));
+    holds(rt, "nothing is written", written.is_empty());
+}
+
 #[test]
 fn standard_error_that_fails(rt: HostRuntime) -> Result<(), Fail> {
-    let line = b"ttrun: line 1: bad first line\n";
+    let line = b"ttrun: line 1: bad first line\n".as_slice();
     for fails_at in 0..=line.len() {
-        let mut errors = NarrowWriter {
-            taken: Vec::new(rt.alloc()),
-            writes: 0,
-            fails_at,
-            failure: WriteFailure::Broken,
-        };
-        let mut written = Vec::new(rt.alloc());
-        let mut reader = b"behaviours 0\n".as_slice();
-        let outcome = carry_out(
-            &rt,
-            rt.alloc(),
-            Task::Replay { explains: false },
-            &mut reader,
-            &mut written,
-            &mut errors,
-        );
-        let told = if fails_at == line.len() {
-            Ok(())
-        } else {
-            Err(RunFault::Write)
-        };
-        is(&rt, "outcome.status", outcome.status, 3);
-        is(&rt, "outcome.told", outcome.told, told);
-        is(
-            &rt,
-            "Some(errors.taken.as_slice())",
-            Some(errors.taken.as_slice()),
-            line.get(..fails_at),
-        );
-        holds(&rt, "written.is_empty()", written.is_empty());
+        tells_up_to(&rt, rt.alloc(), line, fails_at);
     }
     Ok(())
 }
@@ -309,12 +271,16 @@ impl Tried {
         let mut written = Vec::new(alloc);
         match Command::Replay.answer(alloc, input, &mut written) {
             Ok(status) => {
-                holds(rt, "status < 3", status < 3);
+                holds(rt, "a status below 3", status < 3);
                 self.answered = self.answered.saturating_add(1);
             }
             Err(fault) => {
-                holds(rt, "fault", matches!(fault, RunFault::Text(_)));
-                holds(rt, "written.is_empty()", written.is_empty());
+                holds(
+                    rt,
+                    "a fault of the text",
+                    matches!(fault, RunFault::Text(_)),
+                );
+                holds(rt, "nothing is written", written.is_empty());
                 self.refused = self.refused.saturating_add(1);
             }
         }
@@ -329,17 +295,28 @@ fn with_byte(alloc: Global, text: &str, place: usize, byte: u8) -> Result<Vec<u8
     Ok(bytes)
 }
 
+// Replays the list of moves with each byte in this place.
+fn replay_with_each_byte<R: Abort>(
+    rt: &R,
+    alloc: Global,
+    place: usize,
+    tried: &mut Tried,
+) -> Result<(), Fail> {
+    for byte in 0..=255 {
+        let input = with_byte(alloc, INCONC, place, byte)?;
+        tried.replay(rt, alloc, input.as_slice());
+    }
+    Ok(())
+}
+
 #[test]
 fn each_byte_in_place_of_each(rt: HostRuntime) -> Result<(), Fail> {
     let mut tried = Tried::default();
     for place in 0..INCONC.len() {
-        for byte in 0..=255 {
-            let input = with_byte(rt.alloc(), INCONC, place, byte)?;
-            tried.replay(&rt, rt.alloc(), input.as_slice());
-        }
+        replay_with_each_byte(&rt, rt.alloc(), place, &mut tried)?;
     }
-    let Tried { answered, refused } = tried;
-    holds(&rt, "answered >= INCONC.len()", answered >= INCONC.len());
-    holds(&rt, "refused > 15_000", refused > 15_000);
+    let enough = tried.answered >= INCONC.len();
+    holds(&rt, "an answer for each place", enough);
+    holds(&rt, "more than 15000 are refused", tried.refused > 15_000);
     Ok(())
 }

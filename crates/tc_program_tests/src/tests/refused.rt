@@ -25,8 +25,29 @@ fn refused_move_lists(rt: HostRuntime) -> Result<(), Fail> {
 #[test]
 fn an_input_past_its_limit(rt: HostRuntime) -> Result<(), Fail> {
     let long = Vec::from_elem(rt.alloc(), b'0', 1_048_577)?;
-    refuses(&rt, long.as_slice(), "ttrun: input too long")?;
-    refuses(&rt, &long.as_slice()[1..], "ttrun: line 1: bad first line")
+    refuses_long(&rt, long.as_slice())
+}
+
+// The input is refused for its length, and not without its first byte.
+fn refuses_long<R: Abort + AllocGlobal>(rt: &R, input: &[u8]) -> Result<(), Fail> {
+    refuses(rt, input, "ttrun: input too long")?;
+    let behind = input.get(1..).ok_or("a byte")?;
+    refuses(rt, behind, "ttrun: line 1: bad first line")
+}
+
+// The fault has this text, and is told in a line of it.
+fn is_told<R: Abort>(rt: &R, alloc: Global, fault: &RunFault, text: &str) -> Result<(), Fail> {
+    let found = fault.to_string(alloc)?;
+    is(rt, "the text", found.as_str(), text);
+    let line = format!(in alloc; "ttrun: {text}\n")?;
+    is_told_so(rt, alloc, fault, line.as_bytes())
+}
+
+fn is_told_so<R: Abort>(rt: &R, alloc: Global, fault: &RunFault, line: &[u8]) -> Result<(), Fail> {
+    let mut told = Vec::new(alloc);
+    fault_line(fault, &mut told)?;
+    is(rt, "what is told", told.as_slice(), line);
+    Ok(())
 }
 
 #[test]
@@ -58,19 +79,7 @@ fn lines_of_faults(rt: HostRuntime) -> Result<(), Fail> {
         ),
     ];
     for (fault, text) in cases {
-        is(
-            &rt,
-            "fault.to_string(rt.alloc()).as_str()",
-            fault.to_string(rt.alloc())?.as_str(),
-            text,
-        );
-        let mut line = Vec::new(rt.alloc());
-        fault_line(&fault, &mut line)?;
-        let mut wanted = Vec::new(rt.alloc());
-        wanted.extend_from_slice(b"ttrun: ")?;
-        wanted.extend_from_slice(text.as_bytes())?;
-        wanted.push(b'\n')?;
-        is(&rt, "line.as_slice()", line.as_slice(), wanted.as_slice());
+        is_told(&rt, rt.alloc(), &fault, text)?;
     }
     Ok(())
 }

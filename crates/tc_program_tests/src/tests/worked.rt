@@ -108,19 +108,23 @@ fn a_ptc_stops_the_main(rt: HostRuntime) -> Result<(), Fail> {
 
 #[test]
 fn stop_of_a_case(rt: HostRuntime) -> Result<(), Fail> {
-    replays(
-        &rt,
-        "behaviours 2;0 create;0 start 1 1;1 setverdict pass;1 stopcase;0 getverdict",
-        "made 1;ok;ok;ok;ended;verdict error",
-        2,
-    )?;
-    replays(
-        &rt,
-        "behaviours 1;0 stopcase;0 getverdict",
-        "ok;ended;verdict error",
-        2,
-    )?;
-    replays(&rt, "behaviours 2;1 stopcase", "ended;verdict none", 0)
+    let rows = [
+        (
+            "behaviours 2;0 create;0 start 1 1;1 setverdict pass;1 stopcase;0 getverdict",
+            "made 1;ok;ok;ok;ended;verdict error",
+            2,
+        ),
+        (
+            "behaviours 1;0 stopcase;0 getverdict",
+            "ok;ended;verdict error",
+            2,
+        ),
+        ("behaviours 2;1 stopcase", "ended;verdict none", 0),
+    ];
+    for (input, output, status) in rows {
+        replays(&rt, input, output, status)?;
+    }
+    Ok(())
 }
 
 #[test]
@@ -196,23 +200,49 @@ fn faults_of_a_start(rt: HostRuntime) -> Result<(), Fail> {
         ),
     ];
     for (moves, replies) in cases {
-        let input = format!(in rt.alloc(); "behaviours 2;{moves}")?;
-        let output = format!(in rt.alloc(); "{replies};verdict error")?;
-        replays(&rt, input.as_str(), output.as_str(), 2)?;
+        is_a_fault(&rt, rt.alloc(), moves, replies)?;
     }
     Ok(())
 }
 
-#[test]
-fn a_thousand_components(rt: HostRuntime) -> Result<(), Fail> {
-    let mut input = "behaviours 1".to_string(rt.alloc())?;
-    let mut output = String::new(rt.alloc());
+// Replays the moves of two behaviours, which end in a fault.
+fn is_a_fault<R: Abort + AllocGlobal>(
+    rt: &R,
+    alloc: Global,
+    moves: &str,
+    replies: &str,
+) -> Result<(), Fail> {
+    let input = format!(in alloc; "behaviours 2;{moves}")?;
+    let output = format!(in alloc; "{replies};verdict error")?;
+    replays(rt, input.as_str(), output.as_str(), 2)
+}
+
+// Appends a move that makes the component of this number, and the reply to it.
+fn push_create(
+    alloc: Global,
+    number: usize,
+    input: &mut String,
+    output: &mut String,
+) -> Result<(), Fail> {
+    let reply = format!(in alloc; "made {number};")?;
+    input.push_str(";0 create")?;
+    Ok(output.push_str(reply.as_str())?)
+}
+
+// Appends moves that make one component more than there may be, and the replies.
+fn push_creates(alloc: Global, input: &mut String, output: &mut String) -> Result<(), Fail> {
+    input.push_str("behaviours 1")?;
     for number in 1..1000 {
-        input.push_str(";0 create")?;
-        let reply = format!(in rt.alloc(); "made {number};")?;
-        output.push_str(reply.as_str())?;
+        push_create(alloc, number, input, output)?;
     }
     input.push_str(";0 create")?;
-    output.push_str("error too-many;verdict error")?;
+    Ok(output.push_str("error too-many;verdict error")?)
+}
+
+#[test]
+fn a_thousand_components(rt: HostRuntime) -> Result<(), Fail> {
+    let mut input = String::new(rt.alloc());
+    let mut output = String::new(rt.alloc());
+    push_creates(rt.alloc(), &mut input, &mut output)?;
     replays(&rt, input.as_str(), output.as_str(), 2)
 }

@@ -20,6 +20,18 @@ const FAILS_FIRST: &str =
 const EIGHT: &str =
     "testcase t_eight;behaviour main;create a;create b;create c;create d;create e;create f;create g;start a one;start b two;start c three;start d four;start e five;start f six;start g seven;wait done all;setverdict pass;end;behaviour one;setverdict pass;end;behaviour two;setverdict inconc;end;behaviour three;getverdict;end;behaviour four;setverdict pass;end;behaviour five;stop self;end;behaviour six;kill self;end;behaviour seven;setverdict none;end;end";
 
+// Appends the start of the line of a history of this name.
+fn push_start(alloc: Global, name: &str, legal: &mut String) -> Result<(), Fail> {
+    let start = format!(in alloc; "legal {name} ")?;
+    Ok(legal.push_str(start.as_str())?)
+}
+
+// Appends the end of the line of a history of so many entries.
+fn push_end(alloc: Global, entries: usize, verdict: &str, legal: &mut String) -> Result<(), Fail> {
+    let end = format!(in alloc; "{entries} {verdict}\n")?;
+    Ok(legal.push_str(end.as_str())?)
+}
+
 // Appends what `check` writes of this line of a history, which stands behind so many entries; how many there are then.
 fn append_legal(
     alloc: Global,
@@ -31,12 +43,12 @@ fn append_legal(
     match words.next() {
         Some("history") => {
             let name = words.nth(1).ok_or("a name")?;
-            legal.push_str(format!(in alloc; "legal {name} ")?.as_str())?;
+            push_start(alloc, name, legal)?;
             Ok(0)
         }
         Some("end") => {
             let verdict = words.next().ok_or("a verdict")?;
-            legal.push_str(format!(in alloc; "{entries} {verdict}\n")?.as_str())?;
+            push_end(alloc, entries, verdict, legal)?;
             Ok(entries)
         }
         _ => Ok(entries.saturating_add(1)),
@@ -53,36 +65,52 @@ fn legal_lines(alloc: Global, histories: &str) -> Result<String, Fail> {
     Ok(legal)
 }
 
+// Checks the histories, so many, and compares what is written: each is legal.
+fn are_legal<R: Abort + Threads + Wait + Copy + Send + 'static>(
+    rt: &R,
+    alloc: Global,
+    histories: &str,
+    finished: usize,
+) -> Result<(), Fail> {
+    let legal = legal_lines(alloc, histories)?;
+    let count = legal.as_str().lines().count();
+    is(rt, "the number of histories", count, finished);
+    let check = Task::Check { explains: false };
+    let checked = came_of(rt, alloc, check, histories.as_bytes());
+    compare_outcome(rt, &checked.outcome, 0, "a check");
+    is(
+        rt,
+        "what is written",
+        checked.written.as_slice(),
+        legal.as_bytes(),
+    );
+    holds(rt, "nothing is told", checked.told.is_empty());
+    Ok(())
+}
+
+// The histories that a run of the campaign writes.
+fn histories_of<R: Abort + Threads + Wait + Copy + Send + 'static>(
+    rt: &R,
+    alloc: Global,
+    (text, stop_on): (&str, Option<&str>),
+) -> Result<Came, Fail> {
+    let text = lines(alloc, text)?;
+    let task = run_task(alloc, Form::History, false, stop_on);
+    let run = came_of(rt, alloc, task, text.as_slice());
+    holds(rt, "a status below 3", run.outcome.status < 3);
+    holds(rt, "nothing is told", run.told.is_empty());
+    Ok(run)
+}
+
 // Runs the campaign, and checks the histories that it writes: each of so many is legal.
 fn writes_legal<R: Abort + Threads + Wait + Copy + Send + 'static>(
     rt: &R,
     alloc: Global,
     (text, stop_on, finished): (&str, Option<&str>, usize),
 ) -> Result<(), Fail> {
-    let text = lines(alloc, text)?;
-    let task = run_task(alloc, Form::History, false, stop_on);
-    let run = came_of(rt, alloc, task, text.as_slice());
-    holds(rt, "run.outcome.status < 3", run.outcome.status < 3);
-    holds(rt, "run.told.is_empty()", run.told.is_empty());
+    let run = histories_of(rt, alloc, (text, stop_on))?;
     let histories = str::from_utf8(run.written.as_slice()).map_err(|_| "a text")?;
-    let legal = legal_lines(alloc, histories)?;
-    is(
-        rt,
-        "legal.as_str().lines().count()",
-        legal.as_str().lines().count(),
-        finished,
-    );
-    let check = Task::Check { explains: false };
-    let checked = came_of(rt, alloc, check, histories.as_bytes());
-    compare_outcome(rt, &checked.outcome, 0, "a check");
-    is(
-        rt,
-        "checked.written.as_slice()",
-        checked.written.as_slice(),
-        legal.as_bytes(),
-    );
-    holds(rt, "checked.told.is_empty()", checked.told.is_empty());
-    Ok(())
+    are_legal(rt, alloc, histories, finished)
 }
 
 #[test]
@@ -101,6 +129,6 @@ fn written_histories_are_legal(rt: HostRuntime) -> Result<(), Fail> {
         writes_legal(&rt, rt.alloc(), campaign)?;
         checked = checked.saturating_add(campaign.2);
     }
-    is(&rt, "checked", checked, 140);
+    is(&rt, "the number of histories", checked, 140);
     Ok(())
 }

@@ -1,12 +1,34 @@
 //! Writers that fail.
 use super::*;
-use crate::tests::checks::is;
+use crate::tests::checks::{holds, is};
 use std::process::Abort;
 use tc_stream::devices::{NarrowWriter, WriteFailure};
 
 const FAILURES: [WriteFailure; 2] = [WriteFailure::Broken, WriteFailure::Full];
 
-/// What is answered where the writer fails at this write, in each way, if it comes to it; the whole text is this.
+/// Writes the results to a writer that fails behind this part of their text, which is so long.
+fn fail_behind<R: Abort>(
+    rt: &R,
+    alloc: Global,
+    form: Form,
+    results: &Results,
+    part: &[u8],
+    length: usize,
+    writer: &mut NarrowWriter,
+) {
+    let place = part.len();
+    let wanted = if place == length {
+        Ok(())
+    } else {
+        Err(OutFault::Write)
+    };
+    is(rt, "the answer", give(alloc, form, results, writer), wanted);
+    is(rt, "what is written", writer.taken.as_slice(), part);
+    let writes = place.saturating_add(1).min(length);
+    is(rt, "how many writes there were", writer.writes, writes);
+}
+
+/// Writes the results to a writer that fails at this write, in each way, if it comes to it; the whole text is this.
 fn fails_at<R: Abort>(
     rt: &R,
     alloc: Global,
@@ -18,54 +40,65 @@ fn fails_at<R: Abort>(
     let part = whole.get(..place).ok_or("a prefix")?;
     for failure in FAILURES {
         let mut writer = NarrowWriter::new(alloc, place, failure);
-        let answer = give(alloc, form, results, &mut writer);
-        let wanted = if place == whole.len() {
-            Ok(())
-        } else {
-            Err(OutFault::Write)
-        };
-        is(rt, "answer", answer, wanted);
-        is(rt, "writer.taken.as_slice()", writer.taken.as_slice(), part);
-        is(
-            rt,
-            "writer.writes",
-            writer.writes,
-            place.saturating_add(1).min(whole.len()),
-        );
+        fail_behind(rt, alloc, form, results, part, whole.len(), &mut writer);
     }
     Ok(())
+}
+
+/// Each byte of the whole text is once the one that the writer fails at.
+fn each_byte_fails<R: Abort>(
+    rt: &R,
+    alloc: Global,
+    form: Form,
+    results: &Results,
+    whole: &[u8],
+) -> Result<(), Fail> {
+    for place in 0..=whole.len() {
+        fails_at(rt, alloc, form, results, whole, place)?;
+    }
+    Ok(())
+}
+
+/// Each byte of a text is once the one that the writer fails at, in each way; how many writers there were.
+fn each_write_fails<R: Abort>(
+    rt: &R,
+    alloc: Global,
+    form: Form,
+    results: &Results,
+) -> Result<usize, Fail> {
+    let whole = text_of(alloc, form, results)?;
+    each_byte_fails(rt, alloc, form, results, whole.as_slice())?;
+    Ok(whole.len().saturating_add(1).saturating_mul(FAILURES.len()))
+}
+
+/// Each byte of the three texts is once the one that the writer fails at; how many writers there were.
+fn all_writes_fail<R: Abort>(rt: &R, alloc: Global, results: &Results) -> Result<usize, Fail> {
+    let mut failures = 0usize;
+    for form in FORMS {
+        failures = failures.saturating_add(each_write_fails(rt, alloc, form, results)?);
+    }
+    Ok(failures)
 }
 
 // Each byte of the three texts is once the one that the writer fails at, in each way: over 800 writers.
 #[test]
 fn each_write_fails_in_turn(rt: HostRuntime) -> Result<(), Fail> {
-    let mut failures = 0usize;
-    let finished = vec![in rt.alloc(); stuck_case(rt.alloc())?]?;
-    let results = ended(finished, CampaignEnd::Complete);
-    for form in FORMS {
-        let whole = text_of(rt.alloc(), form, &results)?;
-        for place in 0..=whole.len() {
-            fails_at(&rt, rt.alloc(), form, &results, whole.as_slice(), place)?;
-            failures = failures.saturating_add(FAILURES.len());
-        }
-    }
-    assert!(rt; failures > 800, "{failures}");
+    let results = results_of_one(rt.alloc(), stuck_case(rt.alloc())?)?;
+    let failures = all_writes_fail(&rt, rt.alloc(), &results)?;
+    holds(&rt, "there are over 800 writers", failures > 800);
+    Ok(())
+}
+
+/// Checks the text of a fault.
+fn has_text<R: Abort>(rt: &R, alloc: Global, fault: OutFault, wanted: &str) -> Result<(), Fail> {
+    is(rt, "the text of a fault", fault.text(), wanted);
+    let shown = fault.to_string(alloc)?;
+    is(rt, "a fault as it is shown", shown.as_str(), wanted);
     Ok(())
 }
 
 #[test]
 fn texts_of_the_faults(rt: HostRuntime) -> Result<(), Fail> {
-    for (fault, text) in [
-        (OutFault::NoMemory, "no memory"),
-        (OutFault::Write, "write fault"),
-    ] {
-        is(&rt, "fault.text()", fault.text(), text);
-        is(
-            &rt,
-            "fault.to_string(rt.alloc()).as_str()",
-            fault.to_string(rt.alloc())?.as_str(),
-            text,
-        );
-    }
-    Ok(())
+    has_text(&rt, rt.alloc(), OutFault::NoMemory, "no memory")?;
+    has_text(&rt, rt.alloc(), OutFault::Write, "write fault")
 }

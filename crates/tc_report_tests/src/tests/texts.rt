@@ -1,8 +1,7 @@
 //! Reports of results, byte by byte.
 use super::*;
-use crate::tests::checks::{holds, is};
+use crate::tests::checks::is;
 use std::process::Abort;
-use std::str;
 use tc_report::{Tally, tally, write_abort};
 
 // Compares the text of the results in this form, and their status.
@@ -15,23 +14,35 @@ fn compare<R: Abort>(
     ends_in: u8,
 ) -> Result<(), Fail> {
     let text = text_of(alloc, form, results)?;
-    is(rt, "text.as_slice()", text.as_slice(), wanted.as_bytes());
-    is(rt, "status(results)", status(results), ends_in);
+    is(rt, "the text", text.as_slice(), wanted.as_bytes());
+    is(rt, "the status", status(results), ends_in);
     Ok(())
 }
 
-// The line of an abort, if there was one, behind an x.
-fn abort_line(alloc: Global, results: &Results) -> Result<(bool, Vec<u8>), Fail> {
+// Compares the line of an abort, if there was one, behind an x.
+fn compare_abort<R: Abort>(
+    rt: &R,
+    alloc: Global,
+    results: &Results,
+    is_aborted: bool,
+    wanted: &str,
+) -> Result<(), Fail> {
     let mut line = Vec::new(alloc);
     line.push(b'x')?;
-    let is_told = write_abort(results, &mut line)?;
-    Ok((is_told, line))
+    let answer = write_abort(results, &mut line);
+    is(rt, "whether an abort is told of", answer, Ok(is_aborted));
+    is(
+        rt,
+        "the line of the abort",
+        line.as_slice(),
+        wanted.as_bytes(),
+    );
+    Ok(())
 }
 
 #[test]
 fn restarted_component_report(rt: HostRuntime) -> Result<(), Fail> {
-    let finished = vec![in rt.alloc(); restarted_case(rt.alloc())?]?;
-    let results = ended(finished, CampaignEnd::Complete);
+    let results = results_of_one(rt.alloc(), restarted_case(rt.alloc())?)?;
     let wanted = "testcase t_fail
 run 0 main on 0
   create alive -> made 1
@@ -62,22 +73,20 @@ fn no_thread_report(rt: HostRuntime) -> Result<(), Fail> {
     let results = aborted(rt.alloc(), "t", CaseError::NoThread)?;
     let wanted = "cases 0 none 0 pass 0 inconc 0 fail 0 error 0\naborted at t: no thread\n";
     compare(&rt, rt.alloc(), Form::Text, &results, wanted, 3)?;
-    let (is_told, line) = abort_line(rt.alloc(), &results)?;
-    holds(&rt, "is_told", is_told);
-    is(
+    compare_abort(
         &rt,
-        "line.as_slice()",
-        line.as_slice(),
-        "xttrun: aborted at t: no thread\n".as_bytes(),
-    );
-    Ok(())
+        rt.alloc(),
+        &results,
+        true,
+        "xttrun: aborted at t: no thread\n",
+    )
 }
 
 #[test]
 fn odd_report(rt: HostRuntime) -> Result<(), Fail> {
+    let ending = CampaignEnd::StoppedAfter(name("odd")?);
     let first = setting_case(rt.alloc(), "a", UserVerdict::Inconc)?;
-    let finished = vec![in rt.alloc(); first, odd_case(rt.alloc())?]?;
-    let results = ended(finished, CampaignEnd::StoppedAfter(name("odd")?));
+    let results = results_of_two(rt.alloc(), first, odd_case(rt.alloc())?, ending)?;
     let wanted = "testcase a
 run 0 main on 0
   setverdict inconc -> ok
@@ -106,17 +115,14 @@ cases 2 none 0 pass 0 inconc 1 fail 0 error 1
 stopped after odd
 ";
     compare(&rt, rt.alloc(), Form::Text, &results, wanted, 2)?;
-    let (is_told, line) = abort_line(rt.alloc(), &results)?;
-    holds(&rt, "not is_told", !is_told);
-    is(&rt, "line.as_slice()", line.as_slice(), b"x".as_slice());
-    Ok(())
+    compare_abort(&rt, rt.alloc(), &results, false, "x")
 }
 
 #[test]
 fn records_of_two_cases(rt: HostRuntime) -> Result<(), Fail> {
     let first = setting_case(rt.alloc(), "a", UserVerdict::Pass)?;
-    let finished = vec![in rt.alloc(); first, odd_case(rt.alloc())?]?;
-    let results = ended(finished, CampaignEnd::Complete);
+    let second = odd_case(rt.alloc())?;
+    let results = results_of_two(rt.alloc(), first, second, CampaignEnd::Complete)?;
     let wanted = "testcase,components,none,pass,inconc,fail,error,verdict
 a,1,0,1,0,0,0,pass
 odd,11,1,2,3,1,4,error
@@ -126,9 +132,9 @@ odd,11,1,2,3,1,4,error
 
 #[test]
 fn history_of_a_stuck_case(rt: HostRuntime) -> Result<(), Fail> {
+    let first = stuck_case(rt.alloc())?;
     let second = setting_case(rt.alloc(), "b", UserVerdict::Fail)?;
-    let finished = vec![in rt.alloc(); stuck_case(rt.alloc())?, second]?;
-    let results = ended(finished, CampaignEnd::Complete);
+    let results = results_of_two(rt.alloc(), first, second, CampaignEnd::Complete)?;
     let wanted = "history 2 solo 1
 0 create -> made 1
 0 setverdict pass -> ok
@@ -143,6 +149,24 @@ end fail
     compare(&rt, rt.alloc(), Form::History, &results, wanted, 2)
 }
 
+fn add_settings(
+    alloc: Global,
+    finished: &mut Vec<Finished>,
+    settings: &[UserVerdict],
+) -> Result<(), Fail> {
+    for setting in settings {
+        finished.push(setting_case(alloc, "a", *setting)?)?;
+    }
+    Ok(())
+}
+
+/// The results of test cases that set these verdicts.
+fn results_of_settings(alloc: Global, settings: &[UserVerdict]) -> Result<Results, Fail> {
+    let mut finished = Vec::new(alloc);
+    add_settings(alloc, &mut finished, settings)?;
+    Ok(ended(finished, CampaignEnd::Complete))
+}
+
 #[test]
 fn tallies_and_statuses(rt: HostRuntime) -> Result<(), Fail> {
     let settings = [
@@ -151,11 +175,7 @@ fn tallies_and_statuses(rt: HostRuntime) -> Result<(), Fail> {
         UserVerdict::Pass,
         UserVerdict::Inconc,
     ];
-    let mut finished = Vec::new(rt.alloc());
-    for setting in settings {
-        finished.push(setting_case(rt.alloc(), "a", setting)?)?;
-    }
-    let results = ended(finished, CampaignEnd::Complete);
+    let results = results_of_settings(rt.alloc(), &settings)?;
     let wanted = Tally {
         cases: 4,
         none: 1,
@@ -164,40 +184,60 @@ fn tallies_and_statuses(rt: HostRuntime) -> Result<(), Fail> {
         fail: 0,
         error: 0,
     };
-    is(&rt, "tally(results)", tally(&results), wanted);
-    is(&rt, "status(results)", status(&results), 1);
-    let empty = ended(Vec::new(rt.alloc()), CampaignEnd::Complete);
-    is(&rt, "status(empty)", status(&empty), 0);
+    is(
+        &rt,
+        "how many cases have each verdict",
+        tally(&results),
+        wanted,
+    );
+    is(&rt, "the status", status(&results), 1);
+    let empty = results_of_settings(rt.alloc(), &[])?;
+    is(&rt, "the status of no test case", status(&empty), 0);
     Ok(())
+}
+
+/// Checks the text of a refusal.
+fn has_text<R: Abort>(rt: &R, alloc: Global, why: CaseError, wanted: &str) -> Result<(), Fail> {
+    is(rt, "the text of a refusal", why.text(), wanted);
+    let shown = why.to_string(alloc)?;
+    is(rt, "a refusal as it is shown", shown.as_str(), wanted);
+    Ok(())
+}
+
+/// Checks what is told of a campaign that was aborted for this reason.
+fn is_told<R: Abort>(rt: &R, alloc: Global, why: CaseError, wanted: &str) -> Result<(), Fail> {
+    let results = aborted(alloc, "case_1", why)?;
+    compare_abort(rt, alloc, &results, true, wanted)
 }
 
 #[test]
 fn words_of_refusals(rt: HostRuntime) -> Result<(), Fail> {
     let words = [
-        (CaseError::NoBehaviours, "no behaviours"),
-        (CaseError::TooManyBehaviours, "too many behaviours"),
-        (CaseError::NoMemory, "no memory"),
-        (CaseError::NoThread, "no thread"),
-        (CaseError::Torn, "torn"),
+        (
+            CaseError::NoBehaviours,
+            "no behaviours",
+            "xttrun: aborted at case_1: no behaviours\n",
+        ),
+        (
+            CaseError::TooManyBehaviours,
+            "too many behaviours",
+            "xttrun: aborted at case_1: too many behaviours\n",
+        ),
+        (
+            CaseError::NoMemory,
+            "no memory",
+            "xttrun: aborted at case_1: no memory\n",
+        ),
+        (
+            CaseError::NoThread,
+            "no thread",
+            "xttrun: aborted at case_1: no thread\n",
+        ),
+        (CaseError::Torn, "torn", "xttrun: aborted at case_1: torn\n"),
     ];
-    for (why, text) in words {
-        is(&rt, "why.text()", why.text(), text);
-        is(
-            &rt,
-            "why.to_string(rt.alloc()).as_str()",
-            why.to_string(rt.alloc())?.as_str(),
-            text,
-        );
-        let results = aborted(rt.alloc(), "case_1", why)?;
-        let (is_told, line) = abort_line(rt.alloc(), &results)?;
-        holds(&rt, "is_told", is_told);
-        let wanted = format!(in rt.alloc(); "xttrun: aborted at case_1: {text}\n")?;
-        is(
-            &rt,
-            "str::from_utf8(line.as_slice())",
-            str::from_utf8(line.as_slice()),
-            Ok(wanted.as_str()),
-        );
+    for (why, text, line) in words {
+        has_text(&rt, rt.alloc(), why, text)?;
+        is_told(&rt, rt.alloc(), why, line)?;
     }
     Ok(())
 }

@@ -1,7 +1,5 @@
 //! Lines of scripts, their words and their faults.
-mod checks;
-
-use checks::{holds, is};
+use crate::checks::{holds, is};
 use std::process::Abort;
 use std::test::Fail;
 use tc_line::*;
@@ -33,79 +31,98 @@ fn lines_of_a_text(rt: HostRuntime) {
     }
 }
 
+/// Each line has this fault.
+fn have_fault<R: Abort + AllocGlobal>(rt: &R, fault: Option<ScriptKind>, lines: &[&str]) {
+    for line in lines {
+        is(rt, line, kind_of(rt, line), fault);
+    }
+}
+
 #[test]
 fn faults_of_a_line(rt: HostRuntime) {
-    let lines = [
-        ("", None),
-        ("   ", None),
-        ("# \u{e9}", None),
-        ("  #", None),
-        ("  end  ", None),
-        ("testcase t", None),
-        ("behaviour b p q r s t", None),
-        ("create  p   alive", None),
-        ("create named named named", None),
-        ("create p named alive", None),
-        ("create p alive named alive", None),
-        ("create alive alive named named", None),
-        ("create  p  named  all_pumps ", None),
-        ("start mtc b self p", None),
-        ("stop all", None),
-        ("kill self", None),
-        ("running any", None),
-        ("alive all", None),
-        ("done mtc", None),
-        ("killed p", None),
-        ("wait done any", None),
-        ("wait killed p", None),
-        ("setverdict none", None),
-        ("setverdict inconc", None),
-        ("stopcase", None),
-        ("getverdict", None),
-        ("\tend", Some(ScriptKind::BadByte)),
-        ("end \u{e9}", Some(ScriptKind::BadByte)),
-        ("End", Some(ScriptKind::BadLine)),
-        ("end end", Some(ScriptKind::BadLine)),
-        ("testcase", Some(ScriptKind::BadLine)),
-        ("testcase a b", Some(ScriptKind::BadLine)),
-        ("behaviour", Some(ScriptKind::BadLine)),
-        ("create p dead", Some(ScriptKind::BadLine)),
-        ("create 1 dead", Some(ScriptKind::BadLine)),
-        ("create", Some(ScriptKind::BadLine)),
-        ("create p named", Some(ScriptKind::BadLine)),
-        ("create named named", Some(ScriptKind::BadLine)),
-        ("create p alive named", Some(ScriptKind::BadLine)),
-        ("create p alive alive", Some(ScriptKind::BadLine)),
-        ("create p called l", Some(ScriptKind::BadLine)),
-        ("create p named l alive", Some(ScriptKind::BadLine)),
-        ("create p named named l", Some(ScriptKind::BadLine)),
-        ("create p dead named l", Some(ScriptKind::BadLine)),
-        ("create p alive called l", Some(ScriptKind::BadLine)),
-        ("create p alive named l m", Some(ScriptKind::BadLine)),
-        ("create 1 called mtc", Some(ScriptKind::BadLine)),
-        ("start p", Some(ScriptKind::BadLine)),
-        ("wait running p", Some(ScriptKind::BadLine)),
-        ("setverdict error", Some(ScriptKind::BadLine)),
-        ("stopcase all", Some(ScriptKind::BadLine)),
-        ("getverdict p", Some(ScriptKind::BadLine)),
-        ("finish", Some(ScriptKind::BadLine)),
-        ("testcase all", Some(ScriptKind::BadName)),
-        ("behaviour b mtc", Some(ScriptKind::BadName)),
-        ("create self", Some(ScriptKind::BadName)),
-        ("create mtc named l", Some(ScriptKind::BadName)),
-        ("create p named mtc", Some(ScriptKind::BadName)),
-        ("create p named 1", Some(ScriptKind::BadName)),
-        ("create 1 alive named l", Some(ScriptKind::BadName)),
-        ("create p alive named all", Some(ScriptKind::BadName)),
-        ("start all b", Some(ScriptKind::BadName)),
-        ("start p mtc", Some(ScriptKind::BadName)),
-        ("start p b any", Some(ScriptKind::BadName)),
-        ("stop any", Some(ScriptKind::BadName)),
-        ("done 1", Some(ScriptKind::BadName)),
-    ];
-    for (line, expected) in lines {
-        is(&rt, line, kind_of(&rt, line), expected);
-    }
+    have_fault(
+        &rt,
+        None,
+        &[
+            "",
+            "   ",
+            "# \u{e9}",
+            "  #",
+            "  end  ",
+            "testcase t",
+            "behaviour b p q r s t",
+            "create  p   alive",
+            "create named named named",
+            "create p named alive",
+            "create p alive named alive",
+            "create alive alive named named",
+            "create  p  named  all_pumps ",
+            "start mtc b self p",
+            "stop all",
+            "kill self",
+            "running any",
+            "alive all",
+            "done mtc",
+            "killed p",
+            "wait done any",
+            "wait killed p",
+            "setverdict none",
+            "setverdict inconc",
+            "stopcase",
+            "getverdict",
+        ],
+    );
+    have_fault(&rt, Some(ScriptKind::BadByte), &["\tend", "end \u{e9}"]);
+    have_fault(
+        &rt,
+        Some(ScriptKind::BadLine),
+        &[
+            "End",
+            "end end",
+            "testcase",
+            "testcase a b",
+            "behaviour",
+            "create p dead",
+            "create 1 dead",
+            "create",
+            "create p named",
+            "create named named",
+            "create p alive named",
+            "create p alive alive",
+            "create p called l",
+            "create p named l alive",
+            "create p named named l",
+            "create p dead named l",
+            "create p alive called l",
+            "create p alive named l m",
+            "create 1 called mtc",
+            "start p",
+            "wait running p",
+            "setverdict error",
+            "stopcase all",
+            "getverdict p",
+            "finish",
+        ],
+    );
+    have_fault(
+        &rt,
+        Some(ScriptKind::BadName),
+        &[
+            "testcase all",
+            "behaviour b mtc",
+            "create self",
+            "create mtc named l",
+            "create p named mtc",
+            "create p named 1",
+            "create 1 alive named l",
+            "create p alive named all",
+            "start all b",
+            "start p mtc",
+            "start p b any",
+            "stop any",
+            "done 1",
+        ],
+    );
 }
 
 fn is_bound<R: Abort>(rt: &R, reference: &Place<Name>, name: &str) {

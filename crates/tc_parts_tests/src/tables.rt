@@ -1,8 +1,6 @@
 //! Calls on a table and on a state, and lists of entries. The calls of the library stand in small functions without
 //! clauses, so that the proof of a test carries none of the library's.
-mod checks;
-
-use crate::tests::checks::{holds, is};
+use crate::checks::{holds, is};
 use std::alloc::Global;
 use std::process::Abort;
 use std::test::Fail;
@@ -157,12 +155,7 @@ fn replayed(alloc: Global, list: &[Entry]) -> Result<CaseState, CheckFault> {
 /// Plays the moves on a table, and compares the replies.
 fn plays<R: Abort>(rt: &R, table: &mut Table, moves: &[(u16, Op, Reply)]) -> Result<(), Fail> {
     for (caller, op, reply) in moves {
-        is(
-            rt,
-            "play(table, *caller, op)",
-            play(table, *caller, op)?,
-            *reply,
-        );
+        is(rt, "the reply", play(table, *caller, op)?, *reply);
     }
     Ok(())
 }
@@ -174,31 +167,17 @@ fn state_plays<R: Abort>(
     moves: &[(u16, Op, Reply)],
 ) -> Result<(), Fail> {
     for (caller, op, reply) in moves {
-        is(
-            rt,
-            "state_would(state, *caller, op)",
-            state_would(state, *caller, op),
-            *reply,
-        );
-        is(
-            rt,
-            "state_play(state, *caller, op)",
-            state_play(state, *caller, op)?,
-            *reply,
-        );
+        let would = state_would(state, *caller, op);
+        is(rt, "what would be replied", would, *reply);
+        is(rt, "the reply", state_play(state, *caller, op)?, *reply);
     }
     Ok(())
 }
 
-#[test]
-fn calls_on_a_table(rt: HostRuntime) -> Result<(), Fail> {
-    let mut table = new_table(rt.alloc())?;
-    is(
-        &rt,
-        "would(table, 0, create(true))",
-        would(&table, 0, &create(true)),
-        Reply::Made(Comp(1)),
-    );
+/// The main behaviour stops a component whose verdict is fail.
+fn stops_a_component(rt: &impl Abort, table: &mut Table) -> Result<(), Fail> {
+    let made = would(table, 0, &create(true));
+    is(rt, "a create", made, Reply::Made(Comp(1)));
     let moves = [
         (0, create(true), Reply::Made(Comp(1))),
         (0, start(1, 1), Reply::Ok),
@@ -206,44 +185,64 @@ fn calls_on_a_table(rt: HostRuntime) -> Result<(), Fail> {
         (1, Op::GetVerdict, Reply::Local(Verdict::Fail)),
         (0, Op::Stop(Group::All), Reply::Ok),
     ];
-    plays(&rt, &mut table, &moves)?;
-    holds(&rt, "not is_active(table, 1)", !is_active(&table, 1));
-    is(&rt, "entries(table)", entries(&table), 5);
-    let mut case = Whole {
-        behaviours: 2,
-        components: 2,
-        overall: Verdict::Fail,
-        is_over: false,
-    };
-    is(&rt, "whole_of(table)", whole_of(&table), case);
-    let mut component = Seen {
-        phase: Some(Phase::Stopped),
+    plays(rt, table, &moves)
+}
+
+/// What is seen of the component that was stopped, or killed.
+fn failed_in(phase: Phase) -> Seen {
+    Seen {
+        phase: Some(phase),
         local: Some(Verdict::Fail),
         last_run: Some(Run(1)),
         is_alive_type: true,
-    };
-    is(&rt, "seen_in(table, 1)", seen_in(&table, 1), component);
-    is(&rt, "seen_in(table, 2)", seen_in(&table, 2), NOTHING);
-    let main = seen_in(&table, 0);
-    is(&rt, "main.phase", main.phase, Some(Phase::Running(Run(0))));
-    holds(&rt, "not main.is_alive_type", !main.is_alive_type);
-    is(
-        &rt,
-        "play(mut table, 0, Op::Finish)",
-        play(&mut table, 0, &Op::Finish)?,
-        Reply::Ok,
-    );
-    case.is_over = true;
-    is(&rt, "whole_of(table)", whole_of(&table), case);
-    component.phase = Some(Phase::Killed);
-    is(&rt, "seen_in(table, 1)", seen_in(&table, 1), component);
-    is(
-        &rt,
-        "play(mut table, 0, Op::Finish)",
-        play(&mut table, 0, &Op::Finish)?,
-        Reply::Ended,
-    );
+    }
+}
+
+/// What is seen of a test case of two components whose verdict is fail.
+fn failed_case(is_over: bool) -> Whole {
+    Whole {
+        behaviours: 2,
+        components: 2,
+        overall: Verdict::Fail,
+        is_over,
+    }
+}
+
+fn is_stopped(rt: &impl Abort, table: &Table) {
+    holds(rt, "the run is not active", !is_active(table, 1));
+    is(rt, "entries", entries(table), 5);
+    is(rt, "the case", whole_of(table), failed_case(false));
+    let component = seen_in(table, 1);
+    is(rt, "component 1", component, failed_in(Phase::Stopped));
+    is(rt, "component 2", seen_in(table, 2), NOTHING);
+    let main = seen_in(table, 0);
+    is(rt, "the main", main.phase, Some(Phase::Running(Run(0))));
+    holds(rt, "it is not of alive-type", !main.is_alive_type);
+}
+
+/// The main behaviour ends, and is then told so.
+fn ends(rt: &impl Abort, table: &mut Table) -> Result<(), Fail> {
+    is(rt, "a finish", play(table, 0, &Op::Finish)?, Reply::Ok);
+    is(rt, "the case", whole_of(table), failed_case(true));
+    let component = seen_in(table, 1);
+    is(rt, "component 1", component, failed_in(Phase::Killed));
+    is(rt, "one more", play(table, 0, &Op::Finish)?, Reply::Ended);
     Ok(())
+}
+
+#[test]
+fn calls_on_a_table(rt: HostRuntime) -> Result<(), Fail> {
+    let mut table = new_table(rt.alloc())?;
+    stops_a_component(&rt, &mut table)?;
+    is_stopped(&rt, &table);
+    ends(&rt, &mut table)
+}
+
+/// What is seen of a component that is in this phase, with this verdict.
+fn is_in(rt: &impl Abort, state: &CaseState, comp: u32, phase: Phase, local: Verdict) {
+    let seen = seen_in_state(state, comp);
+    is(rt, "its phase", seen.phase, Some(phase));
+    is(rt, "its verdict", seen.local, Some(local));
 }
 
 #[test]
@@ -259,37 +258,17 @@ fn stop_of_a_case(rt: HostRuntime) -> Result<(), Fail> {
         (1, Op::StopCase, Reply::Ended),
     ];
     state_plays(&rt, &mut state, &moves)?;
-    let (main, component) = (seen_in_state(&state, 0), seen_in_state(&state, 1));
-    is(&rt, "main.phase", main.phase, Some(Phase::Killed));
-    is(&rt, "main.local", main.local, Some(Verdict::None));
-    is(&rt, "component.phase", component.phase, Some(Phase::Killed));
-    is(
-        &rt,
-        "component.local",
-        component.local,
-        Some(Verdict::Error),
-    );
+    is_in(&rt, &state, 0, Phase::Killed, Verdict::None);
+    is_in(&rt, &state, 1, Phase::Killed, Verdict::Error);
     let case = whole_of_state(&state);
-    holds(&rt, "case.is_over", case.is_over);
-    is(&rt, "case.overall", case.overall, Verdict::Error);
+    holds(&rt, "it is over", case.is_over);
+    is(&rt, "its verdict", case.overall, Verdict::Error);
     Ok(())
 }
 
-#[test]
-fn calls_on_a_state(rt: HostRuntime) -> Result<(), Fail> {
-    let mut state = new_state(rt.alloc())?;
-    is(
-        &rt,
-        "whole_of_state(state).components",
-        whole_of_state(&state).components,
-        1,
-    );
-    is(
-        &rt,
-        "state_would(state, 0, create(false))",
-        state_would(&state, 0, &create(false)),
-        Reply::Made(Comp(1)),
-    );
+/// The main behaviour waits for a component, which sets inconc and ends.
+fn waits(rt: &impl Abort, state: &mut CaseState) -> Result<(), Fail> {
+    is(rt, "components", whole_of_state(state).components, 1);
     let wait = Op::Wait {
         killed: false,
         target: Target::All,
@@ -303,38 +282,40 @@ fn calls_on_a_state(rt: HostRuntime) -> Result<(), Fail> {
         (1, Op::Finish, Reply::Ok),
         (1, Op::GetVerdict, Reply::Ended),
     ];
-    state_plays(&rt, &mut state, &moves)?;
-    let mut case = Whole {
+    state_plays(rt, state, &moves)
+}
+
+/// What is seen of a test case of two components.
+fn case_of_two(overall: Verdict, is_over: bool) -> Whole {
+    Whole {
         behaviours: 2,
         components: 2,
-        overall: Verdict::Inconc,
-        is_over: false,
-    };
-    is(&rt, "whole_of_state(state)", whole_of_state(&state), case);
-    let (main, component) = (seen_in_state(&state, 0), seen_in_state(&state, 1));
-    is(&rt, "main.phase", main.phase, Some(Phase::Running(Run(0))));
-    is(&rt, "main.local", main.local, Some(Verdict::None));
-    is(&rt, "component.phase", component.phase, Some(Phase::Killed));
-    is(
-        &rt,
-        "component.local",
-        component.local,
-        Some(Verdict::Inconc),
-    );
-    holds(&rt, "not component.is_alive_type", !component.is_alive_type);
-    is(
-        &rt,
-        "seen_in_state(state, 2)",
-        seen_in_state(&state, 2),
-        NOTHING,
-    );
-    let stop = Op::Stop(Group::One(Comp(7)));
-    let reply = state_play(&mut state, 0, &stop)?;
-    is(&rt, "reply", reply, Reply::Fault(Fault::NoComponent));
-    case.is_over = true;
-    case.overall = Verdict::Error;
-    is(&rt, "whole_of_state(state)", whole_of_state(&state), case);
+        overall,
+        is_over,
+    }
+}
+
+/// A stop of a component that there is not ends the test case.
+fn stops_nothing(rt: &impl Abort, state: &mut CaseState) -> Result<(), Fail> {
+    let goes_on = case_of_two(Verdict::Inconc, false);
+    is(rt, "the case", whole_of_state(state), goes_on);
+    let reply = state_play(state, 0, &Op::Stop(Group::One(Comp(7))))?;
+    is(rt, "the stop", reply, Reply::Fault(Fault::NoComponent));
+    let is_over = case_of_two(Verdict::Error, true);
+    is(rt, "the case", whole_of_state(state), is_over);
     Ok(())
+}
+
+#[test]
+fn calls_on_a_state(rt: HostRuntime) -> Result<(), Fail> {
+    let mut state = new_state(rt.alloc())?;
+    waits(&rt, &mut state)?;
+    is_in(&rt, &state, 0, Phase::Running(Run(0)), Verdict::None);
+    is_in(&rt, &state, 1, Phase::Killed, Verdict::Inconc);
+    let is_alive_type = seen_in_state(&state, 1).is_alive_type;
+    holds(&rt, "it is not of alive-type", !is_alive_type);
+    is(&rt, "component 2", seen_in_state(&state, 2), NOTHING);
+    stops_nothing(&rt, &mut state)
 }
 
 #[test]
@@ -347,27 +328,29 @@ fn entries_of_a_state(rt: HostRuntime) -> Result<(), Fail> {
     ] {
         made.reply = Reply::Made(given);
         let other = state_play_entry(&mut state, &made)?;
-        is(&rt, "other", other, wanted);
+        is(&rt, "the table's reply", other, wanted);
         let count = whole_of_state(&state).components;
-        is(&rt, "count", count, components);
+        is(&rt, "components", count, components);
     }
+    Ok(())
+}
+
+/// A question takes no more room than that of its entry.
+fn is_quiet(rt: &impl Abort, table: &mut Table) -> Result<(), Fail> {
+    table.make_room(2)?;
+    let before = room(table);
+    holds(rt, "room for two", 2 <= before);
+    let reply = play(table, 0, &Op::GetVerdict)?;
+    is(rt, "the reply", reply, Reply::Local(Verdict::None));
+    let left = before.saturating_sub(1);
+    holds(rt, "room for one", left <= room(table));
     Ok(())
 }
 
 #[test]
 fn quiet_calls(rt: HostRuntime) -> Result<(), Fail> {
     let mut table = Table::new(rt.alloc(), 1)?;
-    table.make_room(2)?;
-    let before = room(&table);
-    holds(&rt, "2 <= before", 2 <= before);
-    let reply = play(&mut table, 0, &Op::GetVerdict)?;
-    is(&rt, "reply", reply, Reply::Local(Verdict::None));
-    holds(
-        &rt,
-        "before.saturating_sub(1) <= room(table)",
-        before.saturating_sub(1) <= room(&table),
-    );
-    Ok(())
+    is_quiet(&rt, &mut table)
 }
 
 #[test]
@@ -386,20 +369,23 @@ fn replay_check_of_a_list(rt: HostRuntime) -> Result<(), Fail> {
         at: 3,
         reply: Reply::Parked,
     };
-    is(
-        &rt,
-        "checked(rt.alloc(), list)",
-        checked(rt.alloc(), &list),
-        Err(differs),
-    );
+    is(&rt, "matched", checked(rt.alloc(), &list), Err(differs));
     list[3].reply = Reply::Parked;
-    is(
-        &rt,
-        "checked(rt.alloc(), list)",
-        checked(rt.alloc(), &list),
-        Ok(Verdict::None),
-    );
+    let legal = Ok(Verdict::None);
+    is(&rt, "parked", checked(rt.alloc(), &list), legal);
     Ok(())
+}
+
+fn is_restarted(rt: &impl Abort, state: &CaseState) {
+    is(rt, "behaviours", whole_of_state(state).behaviours, 3);
+    for (comp, run) in [(0, Some(Run(0))), (1, Some(Run(2))), (2, None)] {
+        is(rt, "the last run", seen_in_state(state, comp).last_run, run);
+    }
+    let local = seen_in_state(state, 1).local;
+    is(rt, "its verdict", local, Some(Verdict::None));
+    for (run, wanted) in [(0, true), (1, false), (2, true)] {
+        is(rt, "active", state.is_active(Run(run)), wanted);
+    }
 }
 
 #[test]
@@ -411,25 +397,7 @@ fn replay_of_a_restart(rt: HostRuntime) -> Result<(), Fail> {
         entry(start(1, 2), Reply::Ok),
     ];
     let state = replayed(rt.alloc(), &list)?;
-    is(
-        &rt,
-        "whole_of_state(state).behaviours",
-        whole_of_state(&state).behaviours,
-        3,
-    );
-    let (main, component) = (seen_in_state(&state, 0), seen_in_state(&state, 1));
-    is(&rt, "main.last_run", main.last_run, Some(Run(0)));
-    is(&rt, "component.last_run", component.last_run, Some(Run(2)));
-    is(&rt, "component.local", component.local, Some(Verdict::None));
-    is(
-        &rt,
-        "seen_in_state(state, 2).last_run",
-        seen_in_state(&state, 2).last_run,
-        None,
-    );
-    for (run, wanted) in [(0, true), (1, false), (2, true)] {
-        assert_eq!(rt; state.is_active(Run(run)), wanted, "run {run}");
-    }
+    is_restarted(&rt, &state);
     Ok(())
 }
 
@@ -444,7 +412,7 @@ fn texts_of_a_check(rt: HostRuntime) -> Result<(), Fail> {
         (CheckFault::NoMemory, "no memory"),
     ] {
         let shown = format!(in rt.alloc(); "{fault}")?;
-        is(&rt, "shown.as_str()", shown.as_str(), text);
+        is(&rt, "its text", shown.as_str(), text);
     }
     Ok(())
 }
@@ -465,92 +433,52 @@ fn copies(table: &Table, alloc: Global) -> Result<usize, NoMemory> {
     Ok(copied_entries(alloc, table.history())?.len())
 }
 
+/// A copy has what the table has, and can be copied in turn.
+fn are_same(rt: &impl Abort, alloc: Global, table: &Table, copy: &Table) -> Result<(), Fail> {
+    is(rt, "behaviours", whole_of(copy).behaviours, 2);
+    is(rt, "components", copies(copy, alloc)?, 2);
+    holds(rt, "the same", have_same(table, copy, 2));
+    Ok(())
+}
+
+/// The copy ends, and the table goes on.
+fn part(rt: &impl Abort, table: &mut Table, copy: &mut Table) -> Result<(), Fail> {
+    let pass = Op::SetVerdict(UserVerdict::Pass);
+    is(rt, "the end", play(copy, 0, &Op::Finish)?, Reply::Ok);
+    holds(rt, "the copy is over", whole_of(copy).is_over);
+    holds(rt, "the table goes on", !whole_of(table).is_over);
+    is(rt, "on the copy", would(copy, 1, &pass), Reply::Ended);
+    is(rt, "on the table", play(table, 1, &pass)?, Reply::Ok);
+    is(rt, "its verdict", whole_of(table).overall, Verdict::Pass);
+    is(rt, "the copy's", whole_of(copy).overall, Verdict::None);
+    Ok(())
+}
+
 #[test]
 fn a_copy_goes_on_by_itself(rt: HostRuntime) -> Result<(), Fail> {
-    let alloc = rt.alloc();
-    let mut table = new_table(alloc)?;
+    let mut table = new_table(rt.alloc())?;
     let moves = [
         (0, create(false), Reply::Made(Comp(1))),
         (0, start(1, 1), Reply::Ok),
     ];
     plays(&rt, &mut table, &moves)?;
-    let mut copy = copied(&table, alloc)?;
-    is(
-        &rt,
-        "whole_of(copy).behaviours",
-        whole_of(&copy).behaviours,
-        2,
-    );
-    is(&rt, "copies(copy, alloc)", copies(&copy, alloc)?, 2);
-    holds(
-        &rt,
-        "have_same(table, copy, 2)",
-        have_same(&table, &copy, 2),
-    );
-    is(
-        &rt,
-        "play(mut copy, 0, Op::Finish)",
-        play(&mut copy, 0, &Op::Finish)?,
-        Reply::Ok,
-    );
-    holds(
-        &rt,
-        "whole_of(copy).is_over  !whole_of(table).is_over",
-        whole_of(&copy).is_over && !whole_of(&table).is_over,
-    );
-    let pass = Op::SetVerdict(UserVerdict::Pass);
-    is(
-        &rt,
-        "would(copy, 1, pass)",
-        would(&copy, 1, &pass),
-        Reply::Ended,
-    );
-    is(
-        &rt,
-        "play(mut table, 1, pass)",
-        play(&mut table, 1, &pass)?,
-        Reply::Ok,
-    );
-    is(
-        &rt,
-        "whole_of(table).overall",
-        whole_of(&table).overall,
-        Verdict::Pass,
-    );
-    is(
-        &rt,
-        "whole_of(copy).overall",
-        whole_of(&copy).overall,
-        Verdict::None,
-    );
-    Ok(())
+    let mut copy = copied(&table, rt.alloc())?;
+    are_same(&rt, rt.alloc(), &table, &copy)?;
+    part(&rt, &mut table, &mut copy)
+}
+
+/// Whether a copy of the state is over.
+fn is_copy_over(state: &CaseState, alloc: Global) -> Result<bool, NoMemory> {
+    Ok(whole_of_state(&state_copied(state, alloc)?).is_over)
 }
 
 #[test]
 fn a_copy_of_a_state(rt: HostRuntime) -> Result<(), Fail> {
     let mut state = new_state(rt.alloc())?;
     let early = state_copied(&state, rt.alloc())?;
-    holds(
-        &rt,
-        "not whole_of_state(early).is_over",
-        !whole_of_state(&early).is_over,
-    );
-    is(
-        &rt,
-        "state_play(mut state, 0, Op::Finish)",
-        state_play(&mut state, 0, &Op::Finish)?,
-        Reply::Ok,
-    );
-    let late = state_copied(&state, rt.alloc())?;
-    holds(
-        &rt,
-        "whole_of_state(late).is_over",
-        whole_of_state(&late).is_over,
-    );
-    holds(
-        &rt,
-        "not whole_of_state(early).is_over",
-        !whole_of_state(&early).is_over,
-    );
+    let end = state_play(&mut state, 0, &Op::Finish)?;
+    is(&rt, "the end", end, Reply::Ok);
+    is(&rt, "late", is_copy_over(&state, rt.alloc())?, true);
+    is(&rt, "early", whole_of_state(&early).is_over, false);
     Ok(())
 }

@@ -1,11 +1,10 @@
 //! Scripts that are read, and scripts that are refused.
-mod checks;
-
-use checks::{holds, is};
+use crate::checks::{holds, is};
+use std::alloc::{AllocError, Global};
 use std::process::Abort;
 use std::test::Fail;
 use tc_script::*;
-use tc_step::{GroupPlace, Place, Run, Script, Status, Step, TargetPlace, UserVerdict};
+use tc_step::{GroupPlace, Place, Places, Run, Status, Step, TargetPlace, UserVerdict};
 
 const STORED: &[u8] = b"# two test cases
 testcase t_pass
@@ -131,204 +130,202 @@ fn lines_in(text: &[u8]) -> usize {
     text.iter().filter(|byte| **byte == b'\n').count()
 }
 
-// All 423 prefixes of the stored script: four are accepted, the last line of 240 is of no form, and 179 end too early.
-#[test]
-fn prefixes_of_a_script(rt: HostRuntime) -> Result<(), Fail> {
-    let mut accepted = Vec::new(rt.alloc());
-    let mut misread = 0u64;
-    let mut cut = 0u64;
-    for length in 0..=STORED.len() {
-        let text = &STORED[..length];
-        let ended = lines_in(text);
-        match fault_of(&rt, text) {
-            None => accepted.push(length)?,
-            Some((line, ScriptKind::BadLine)) => {
-                misread = misread.saturating_add(1);
-                holds(
-                    &rt,
-                    "ended < line && line - ended == 1",
-                    ended < line && line - ended == 1,
-                );
-            }
-            Some((line, kind)) => {
-                cut = cut.saturating_add(1);
-                is(&rt, "kind", kind, ScriptKind::Cut);
-                let is_cut_in_line = !matches!(text, [] | [.., b'\n']);
-                holds(
-                    &rt,
-                    "the fault is in the line that is cut, or in the next",
-                    ended < line && line - ended == if is_cut_in_line { 2 } else { 1 },
-                );
-            }
+/// What is found of the prefixes of a text.
+#[derive(Drop)]
+struct Found {
+    /// The lengths of those that are accepted.
+    accepted: Vec<usize>,
+    /// How many have a last line of no form.
+    misread: u64,
+    /// How many end too early.
+    cut: u64,
+}
+
+/// Takes in what is found of the stored script up to this length.
+fn take_prefix<R: Abort + AllocGlobal>(
+    rt: &R,
+    found: &mut Found,
+    length: usize,
+) -> Result<(), Fail> {
+    let text = STORED.get(..length).ok_or("a prefix")?;
+    let next = lines_in(text).saturating_add(1);
+    match fault_of(rt, text) {
+        None => found.accepted.push(length)?,
+        Some((line, ScriptKind::BadLine)) => {
+            found.misread = found.misread.saturating_add(1);
+            is(rt, "the last line", line, next);
+        }
+        Some((line, kind)) => {
+            found.cut = found.cut.saturating_add(1);
+            is(rt, "its kind", kind, ScriptKind::Cut);
+            let is_cut_in_line = !matches!(text, [] | [.., b'\n']);
+            let behind = next.saturating_add(usize::from(is_cut_in_line));
+            is(rt, "the line behind the text", line, behind);
         }
     }
-    let [first, second, third, fourth] = accepted.as_slice() else {
-        panic!(rt; "{}", accepted.len());
-    };
-    let line = b"pass\nend\nend".as_slice();
-    holds(
-        &rt,
-        "*first <= STORED.len() && STORED[..*first].ends_with(line)",
-        *first <= STORED.len() && STORED[..*first].ends_with(line),
-    );
-    assert!(rt; *second <= STORED.len() && STORED[..*second].ends_with(b"end\nend\n"));
-    is(
-        &rt,
-        "lines_in(&STORED[..*second])",
-        lines_in(&STORED[..*second]),
-        13,
-    );
-    holds(
-        &rt,
-        "*first < *second && *second - *first == 1",
-        *first < *second && *second - *first == 1,
-    );
-    holds(
-        &rt,
-        "*third == STORED.len() - 1 && *fourth == STORED.len()",
-        *third == STORED.len() - 1 && *fourth == STORED.len(),
-    );
-    is(&rt, "(misread, cut)", (misread, cut), (240, 179));
     Ok(())
 }
 
-fn script_of<R: Abort>(
+/// The stored script ends so where it is cut at this length.
+fn ends_so(length: usize, end: &str) -> bool {
+    STORED
+        .get(..length)
+        .is_some_and(|text| text.ends_with(end.as_bytes()))
+}
+
+// All 423 prefixes of the stored script: four are accepted, the last line of 240 is of no form, and 179 end too early.
+#[test]
+fn prefixes_of_a_script(rt: HostRuntime) -> Result<(), Fail> {
+    let mut found = Found {
+        accepted: Vec::new(rt.alloc()),
+        misread: 0,
+        cut: 0,
+    };
+    for length in 0..=STORED.len() {
+        take_prefix(&rt, &mut found, length)?;
+    }
+    let [first, second, third, fourth] = found.accepted.as_slice() else {
+        panic!(rt; "{}", found.accepted.len());
+    };
+    holds(&rt, "the first", ends_so(*first, "pass\nend\nend"));
+    holds(&rt, "the second", ends_so(*second, "pass\nend\nend\n"));
+    is(&rt, "the second", *second, first.saturating_add(1));
+    is(
+        &rt,
+        "its lines",
+        STORED.get(..*second).map(lines_in),
+        Some(13),
+    );
+    is(&rt, "the third", third.saturating_add(1), STORED.len());
+    is(&rt, "the fourth", *fourth, STORED.len());
+    is(&rt, "the others", (found.misread, found.cut), (240, 179));
+    Ok(())
+}
+
+/// The next behaviour has this name, so many parameters, and these steps.
+fn is_script<R: Abort>(
     rt: &R,
     case: &mut CaseScript,
     name: &str,
     parameters: usize,
-    steps: usize,
-) -> Option<Script> {
+    steps: &[Step],
+) -> Option<()> {
     let (found, script) = case.take_first()?;
-    is(rt, "found.bytes()", found.bytes(), name.as_bytes());
+    is(rt, "the name", found.bytes(), name.as_bytes());
     is(rt, name, script.parameters(), parameters);
-    is(rt, name, script.steps().len(), steps);
-    Some(script)
+    is(rt, name, script.steps(), steps);
+    Some(())
 }
 
-fn is_start<R: Abort>(rt: &R, step: &Step, place: Place, number: u16, given: &[Place]) {
-    match step {
-        Step::Start { on, run, args } => {
-            is(rt, "*on", on, &place);
-            is(rt, "*run", run, &Run(number));
-            is(rt, "args.as_slice()", args.as_slice(), given);
-        }
-        _ => panic!(rt; "{step:?}"),
+/// A start on the component of the first name.
+fn start(number: u16, given: &[Place]) -> Step {
+    let mut args = Places::new();
+    for place in given {
+        let _ = args.push(*place);
+    }
+    Step::Start {
+        on: Place::Bound(0),
+        run: Run(number),
+        args,
+    }
+}
+
+fn create(alive: bool) -> Step {
+    Step::Create { alive, name: None }
+}
+
+/// The component of the first name.
+const FIRST: TargetPlace = TargetPlace::One(Place::Bound(0));
+
+fn wait() -> Step {
+    Step::Wait {
+        killed: false,
+        target: FIRST,
     }
 }
 
 fn is_first_case<R: Abort>(rt: &R, case: &mut CaseScript) -> Option<()> {
-    let main = script_of(rt, case, "main", 0, 4)?;
-    let [create, start, wait, ask] = main.steps() else {
-        return None;
-    };
-    is(
+    is_script(
         rt,
-        "*create",
-        create,
-        &Step::Create {
-            alive: false,
-            name: None,
-        },
-    );
-    is_start(rt, start, Place::Bound(0), 1, &[Place::Main]);
-    let target = TargetPlace::One(Place::Bound(0));
-    is(
+        case,
+        "main",
+        0,
+        &[
+            create(false),
+            start(1, &[Place::Main]),
+            wait(),
+            Step::GetVerdict,
+        ],
+    )?;
+    is_script(
         rt,
-        "*wait",
-        wait,
-        &Step::Wait {
-            killed: false,
-            target,
-        },
-    );
-    is(rt, "*ask", ask, &Step::GetVerdict);
-    let worker = script_of(rt, case, "worker", 1, 2)?;
-    let [alive, set] = worker.steps() else {
-        return None;
-    };
-    is(rt, "*alive", alive, &Step::Ask(Status::Alive, target));
-    is(rt, "*set", set, &Step::SetVerdict(UserVerdict::Pass));
-    holds(
-        rt,
-        "case.take_first().is_none()",
-        case.take_first().is_none(),
-    );
+        case,
+        "worker",
+        1,
+        &[
+            Step::Ask(Status::Alive, FIRST),
+            Step::SetVerdict(UserVerdict::Pass),
+        ],
+    )?;
+    holds(rt, "no third behaviour", case.take_first().is_none());
     Some(())
 }
 
 fn is_second_case<R: Abort>(rt: &R, case: &mut CaseScript) -> Option<()> {
-    let main = script_of(rt, case, "main", 0, 7)?;
-    let [create, start, _, again, _, kill, killed] = main.steps() else {
-        return None;
-    };
-    is(
+    is_script(
         rt,
-        "*create",
-        create,
-        &Step::Create {
-            alive: true,
-            name: None,
-        },
-    );
-    is_start(rt, start, Place::Bound(0), 1, &[]);
-    is_start(rt, again, Place::Bound(0), 2, &[Place::Bound(0)]);
-    is(rt, "*kill", kill, &Step::Kill(GroupPlace::All));
-    is(
+        case,
+        "main",
+        0,
+        &[
+            create(true),
+            start(1, &[]),
+            wait(),
+            start(2, &[Place::Bound(0)]),
+            wait(),
+            Step::Kill(GroupPlace::All),
+            Step::Ask(Status::Killed, TargetPlace::All),
+        ],
+    )?;
+    let pass = Step::SetVerdict(UserVerdict::Pass);
+    is_script(rt, case, "first", 0, &[pass])?;
+    is_script(
         rt,
-        "*killed",
-        killed,
-        &Step::Ask(Status::Killed, TargetPlace::All),
-    );
-    let first = script_of(rt, case, "first", 0, 1)?;
-    let [set] = first.steps() else {
-        return None;
-    };
-    is(rt, "*set", set, &Step::SetVerdict(UserVerdict::Pass));
-    let second = script_of(rt, case, "second", 1, 3)?;
-    let [ask, set, running] = second.steps() else {
-        return None;
-    };
-    is(rt, "*ask", ask, &Step::GetVerdict);
-    is(rt, "*set", set, &Step::SetVerdict(UserVerdict::None));
-    let target = TargetPlace::One(Place::Bound(0));
-    is(rt, "*running", running, &Step::Ask(Status::Running, target));
-    holds(
-        rt,
-        "case.take_first().is_none()",
-        case.take_first().is_none(),
-    );
+        case,
+        "second",
+        1,
+        &[
+            Step::GetVerdict,
+            Step::SetVerdict(UserVerdict::None),
+            Step::Ask(Status::Running, FIRST),
+        ],
+    )?;
+    holds(rt, "no fourth behaviour", case.take_first().is_none());
     Some(())
 }
 
+/// Takes the next test case, whose name is this.
+fn next_case<R: Abort>(rt: &R, campaign: &mut Campaign, named: &str) -> Option<CaseScript> {
+    let (name, case) = campaign.take_first()?;
+    is(rt, "the name", name.bytes(), named.as_bytes());
+    Some(case)
+}
+
+fn has_first_case<R: Abort>(rt: &R, campaign: &mut Campaign) -> Option<()> {
+    is_first_case(rt, &mut next_case(rt, campaign, "t_pass")?)
+}
+
+fn has_second_case<R: Abort>(rt: &R, campaign: &mut Campaign) -> Option<()> {
+    is_second_case(rt, &mut next_case(rt, campaign, "t_again")?)
+}
+
 #[test]
-fn steps_of_the_stored_run(rt: HostRuntime) {
-    let Ok(mut campaign) = read_campaign(rt.alloc(), STORED) else {
-        panic!(rt; "refused");
-    };
-    let Some((name, mut case)) = campaign.take_first() else {
-        panic!(rt; "no test case");
-    };
-    is(&rt, "name.bytes()", name.bytes(), b"t_pass".as_slice());
-    holds(
-        &rt,
-        "is_first_case(&rt, &mut case).is_some()",
-        is_first_case(&rt, &mut case).is_some(),
-    );
-    let Some((name, mut case)) = campaign.take_first() else {
-        panic!(rt; "one test case");
-    };
-    is(&rt, "name.bytes()", name.bytes(), b"t_again".as_slice());
-    holds(
-        &rt,
-        "is_second_case(&rt, &mut case).is_some()",
-        is_second_case(&rt, &mut case).is_some(),
-    );
-    holds(
-        &rt,
-        "campaign.take_first().is_none()",
-        campaign.take_first().is_none(),
-    );
+fn steps_of_the_stored_run(rt: HostRuntime) -> Result<(), Fail> {
+    let mut campaign = read_campaign(rt.alloc(), STORED)?;
+    has_first_case(&rt, &mut campaign).ok_or("t_pass")?;
+    has_second_case(&rt, &mut campaign).ok_or("t_again")?;
+    holds(&rt, "two test cases", campaign.take_first().is_none());
+    Ok(())
 }
 
 #[test]
@@ -345,31 +342,21 @@ end
 end
 "
         .as_slice();
-    let mut campaign = read_campaign(rt.alloc(), text)?;
-    let (_, mut case) = campaign.take_first().ok_or("a test case")?;
-    let main = script_of(&rt, &mut case, "main", 0, 6).ok_or("main")?;
-    let expected = [
-        (false, Name::read("named")),
-        (false, Name::read("alive")),
-        (true, Name::read("alive")),
-        (false, None),
-        (true, None),
+    let named = |alive, name| Step::Create {
+        alive,
+        name: Name::read(name),
+    };
+    let steps = [
+        named(false, "named"),
+        named(false, "alive"),
+        named(true, "alive"),
+        create(false),
+        create(true),
+        Step::Stop(GroupPlace::One(Place::Bound(2))),
     ];
-    for (step, (is_alive, given)) in main.steps().iter().zip(&expected) {
-        match step {
-            Step::Create { alive, name } => {
-                is(&rt, "*alive", alive, is_alive);
-                is(&rt, "*name", name, given);
-            }
-            _ => panic!(rt; "{step:?}"),
-        }
-    }
-    is(
-        &rt,
-        "main.steps().last()",
-        main.steps().last(),
-        Some(&Step::Stop(GroupPlace::One(Place::Bound(2)))),
-    );
+    let mut campaign = read_campaign(rt.alloc(), text)?;
+    let mut case = next_case(&rt, &mut campaign, "t").ok_or("a test case")?;
+    is_script(&rt, &mut case, "main", 0, &steps).ok_or("main")?;
     Ok(())
 }
 
@@ -496,57 +483,101 @@ fn texts_of_the_faults(rt: HostRuntime) -> Result<(), Fail> {
     Ok(())
 }
 
-/// A script whose five names have 32 letters each, but for one that has a letter more.
-fn long_names<R: Abort + AllocGlobal>(rt: &R, longer: usize) -> Result<String, Fail> {
-    let mut names = Vec::new(rt.alloc());
-    for (place, first) in ["t", "m", "p", "w", "b"].iter().enumerate() {
-        let more = if place == longer { "x" } else { "" };
-        names.push(format!(in rt.alloc(); "{first}xxxxxxxxxxxxxxxxxxxxxxxxxxxxxxx{more}")?)?;
+/// A name of 32 letters that begins with this one, or of a letter more.
+fn long_name(alloc: Global, first: &str, is_longer: bool) -> Result<String, AllocError> {
+    let more = if is_longer { "x" } else { "" };
+    format!(in alloc; "{first}xxxxxxxxxxxxxxxxxxxxxxxxxxxxxxx{more}")
+}
+
+/// A script in which the five letters stand for names of 32 letters, but for one that has a letter more.
+const NAMES: &str = "testcase t
+behaviour m
+create p
+start p w p
+end
+behaviour w b
+stop b
+end
+end
+";
+
+/// The script of long names, of which the one with this letter has 33.
+fn long_names(alloc: Global, longer: &str) -> Result<String, AllocError> {
+    let mut text = String::new(alloc);
+    for line in NAMES.lines() {
+        for word in line.split(' ') {
+            append_word(&mut text, alloc, word, longer)?;
+        }
+        text.push_str("\n")?;
     }
-    let [case, main, made, worker, boss] = names.as_slice() else {
-        panic!(rt; "{}", names.len());
-    };
-    Ok(format!(in rt.alloc();
-        "testcase {case}\nbehaviour {main}\ncreate {made}\nstart {made} {worker} {made}\nend\nbehaviour {worker} {boss}\nstop {boss}\nend\nend\n"
-    )?)
+    Ok(text)
+}
+
+/// Appends a space and a word, which is a long name where it is one letter.
+fn append_word(
+    text: &mut String,
+    alloc: Global,
+    word: &str,
+    longer: &str,
+) -> Result<(), AllocError> {
+    text.push_str(" ")?;
+    if word.len() == 1 {
+        return text.push_str(long_name(alloc, word, word == longer)?.as_str());
+    }
+    text.push_str(word)
+}
+
+fn has_long_names<R: Abort>(rt: &R, campaign: &mut Campaign) -> Option<()> {
+    let mut case = next_case(rt, campaign, "txxxxxxxxxxxxxxxxxxxxxxxxxxxxxxx")?;
+    is_script(
+        rt,
+        &mut case,
+        "mxxxxxxxxxxxxxxxxxxxxxxxxxxxxxxx",
+        0,
+        &[create(false), start(1, &[Place::Bound(0)])],
+    )?;
+    let stop = Step::Stop(GroupPlace::One(Place::Bound(0)));
+    is_script(
+        rt,
+        &mut case,
+        "wxxxxxxxxxxxxxxxxxxxxxxxxxxxxxxx",
+        1,
+        &[stop],
+    )
 }
 
 // A name with 33 letters is refused in the line where it first stands, and names with 32 letters are read whole.
 #[test]
 fn names_of_exactly_thirty_two_letters(rt: HostRuntime) -> Result<(), Fail> {
-    for (longer, line) in [1, 2, 3, 4, 6].iter().enumerate() {
-        let text = long_names(&rt, longer)?;
-        is_refused(&rt, text.as_str(), *line, ScriptKind::BadName);
+    for (longer, line) in [("t", 1), ("m", 2), ("p", 3), ("w", 4), ("b", 6)] {
+        let text = long_names(rt.alloc(), longer)?;
+        is_refused(&rt, text.as_str(), line, ScriptKind::BadName);
     }
-    let text = long_names(&rt, 5)?;
-    let Ok(mut campaign) = read_campaign(rt.alloc(), text.as_bytes()) else {
-        panic!(rt; "{text}");
-    };
-    let (name, mut case) = campaign.take_first().ok_or("a test case")?;
-    is(
-        &rt,
-        "name.bytes()",
-        name.bytes(),
-        b"txxxxxxxxxxxxxxxxxxxxxxxxxxxxxxx".as_slice(),
-    );
-    let main = script_of(&rt, &mut case, "mxxxxxxxxxxxxxxxxxxxxxxxxxxxxxxx", 0, 2).ok_or("main")?;
-    let worker = script_of(&rt, &mut case, "wxxxxxxxxxxxxxxxxxxxxxxxxxxxxxxx", 1, 1).ok_or("w")?;
-    is(
-        &rt,
-        "main.steps().first()",
-        main.steps().first(),
-        Some(&Step::Create {
-            alive: false,
-            name: None,
-        }),
-    );
-    is(
-        &rt,
-        "worker.steps().first()",
-        worker.steps().first(),
-        Some(&Step::Stop(GroupPlace::One(Place::Bound(0)))),
-    );
+    let text = long_names(rt.alloc(), "")?;
+    let mut campaign = read_campaign(rt.alloc(), text.as_bytes())?;
+    has_long_names(&rt, &mut campaign).ok_or("behaviours")?;
     Ok(())
+}
+
+fn append_behaviour(text: &mut String, number: usize, steps: usize) -> Result<(), AllocError> {
+    write!(text, "behaviour b{number}\n")?;
+    for _ in 0..steps {
+        text.push_str("getverdict\n")?;
+    }
+    text.push_str("end\n")
+}
+
+fn append_case(
+    text: &mut String,
+    number: usize,
+    behaviours: usize,
+    steps: usize,
+) -> Result<(), AllocError> {
+    write!(text, "testcase t{number}\n")?;
+    for behaviour in 0..behaviours {
+        append_behaviour(text, behaviour, steps)?;
+    }
+    text.push_str("end\n")
 }
 
 fn many<R: Abort + AllocGlobal>(
@@ -555,60 +586,31 @@ fn many<R: Abort + AllocGlobal>(
     behaviours: usize,
     steps: usize,
 ) -> Result<Option<(usize, ScriptKind)>, Fail> {
-    let mut text = Vec::new(rt.alloc());
+    let mut text = String::new(rt.alloc());
     for case in 0..cases {
-        let head = format!(in rt.alloc(); "testcase t{case}\n")?;
-        text.extend_from_slice(head.as_bytes())?;
-        for behaviour in 0..behaviours {
-            let head = format!(in rt.alloc(); "behaviour b{behaviour}\n")?;
-            text.extend_from_slice(head.as_bytes())?;
-            for _ in 0..steps {
-                text.extend_from_slice(b"getverdict\n")?;
-            }
-            text.extend_from_slice(b"end\n")?;
-        }
-        text.extend_from_slice(b"end\n")?;
+        append_case(&mut text, case, behaviours, steps)?;
     }
-    Ok(fault_of(rt, text.as_slice()))
+    Ok(fault_of(rt, text.as_bytes()))
 }
 
 // Each limit met, and passed by one; the largest script has 64,000 behaviours, more than the bytes of a script have room for.
 #[test]
 fn limits_of_a_script(rt: HostRuntime) -> Result<(), Fail> {
-    is(&rt, "many(&rt, 1, 1, 1000)?", many(&rt, 1, 1, 1000)?, None);
-    is(
-        &rt,
-        "many(&rt, 1, 1, 1001)?",
-        many(&rt, 1, 1, 1001)?,
-        Some((1003, ScriptKind::TooMany)),
-    );
-    is(&rt, "many(&rt, 1, 256, 0)?", many(&rt, 1, 256, 0)?, None);
-    is(
-        &rt,
-        "many(&rt, 1, 257, 0)?",
-        many(&rt, 1, 257, 0)?,
-        Some((514, ScriptKind::TooMany)),
-    );
-    is(&rt, "many(&rt, 1000, 1, 0)?", many(&rt, 1000, 1, 0)?, None);
-    is(
-        &rt,
-        "many(&rt, 1001, 1, 0)?",
-        many(&rt, 1001, 1, 0)?,
-        Some((4001, ScriptKind::TooMany)),
-    );
-    is(
-        &rt,
-        "many(&rt, 1000, 64, 0)?",
-        many(&rt, 1000, 64, 0)?,
-        None,
-    );
+    for (cases, behaviours, steps, line) in [
+        (1, 1, 1000, None),
+        (1, 1, 1001, Some(1003)),
+        (1, 256, 0, None),
+        (1, 257, 0, Some(514)),
+        (1000, 1, 0, None),
+        (1001, 1, 0, Some(4001)),
+        (1000, 64, 0, None),
+    ] {
+        let wanted = line.map(|line| (line, ScriptKind::TooMany));
+        let fault = many(&rt, cases, behaviours, steps)?;
+        is(&rt, "a limit of a script", fault, wanted);
+    }
     let four = "testcase t\nbehaviour m\nend\nbehaviour w a b c d\nend\nend\n";
-    is(
-        &rt,
-        "fault_of(&rt, four.as_bytes())",
-        fault_of(&rt, four.as_bytes()),
-        None,
-    );
+    is(&rt, four, fault_of(&rt, four.as_bytes()), None);
     let five = "testcase t\nbehaviour m\nend\nbehaviour w a b c d e\nend\nend\n";
     is_refused(&rt, five, 4, ScriptKind::TooMany);
     Ok(())

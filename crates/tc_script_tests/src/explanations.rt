@@ -57,6 +57,18 @@ fn the_nearest_keyword(rt: HostRuntime) -> Result<(), Fail> {
     )
 }
 
+/// Of this line the place is told, and what would be understood there.
+fn expect_form(
+    rt: &impl Abort,
+    alloc: Global,
+    line: &str,
+    place: &str,
+    wanted: &str,
+) -> Result<(), Fail> {
+    let told = format!(in alloc; "  line: `{line}`\n  {place}\n  understood there: {wanted}\n")?;
+    expect(rt, alloc, line.as_bytes(), 1, BAD_LINE, told.as_str())
+}
+
 #[test]
 fn words_of_a_form(rt: HostRuntime) -> Result<(), Fail> {
     let lines = [
@@ -84,10 +96,7 @@ fn words_of_a_form(rt: HostRuntime) -> Result<(), Fail> {
         ("create 1x", "column 8: `1x`", "the name of a component"),
     ];
     for (line, place, wanted) in lines {
-        let told = format!(in rt.alloc();
-            "  line: `{line}`\n  {place}\n  understood there: {wanted}\n"
-        )?;
-        expect(&rt, rt.alloc(), line.as_bytes(), 1, BAD_LINE, told.as_str())?;
+        expect_form(&rt, rt.alloc(), line, place, wanted)?;
     }
     Ok(())
 }

@@ -1,33 +1,71 @@
 //! Charts of histories, byte by byte.
+use crate::tests::checks::is;
 use std::alloc::Global;
 use std::test::Fail;
 use tc_chart::chart_report;
+use tc_entry::{Entry, NoMemory};
 use tc_forms::{Summary, summary_of_state};
 use tc_history::{Block, read_history};
 use tc_table::CaseState;
 
-// The summary of a legal history.
-fn summary_of(alloc: Global, block: &Block) -> Result<Summary, Fail> {
-    if block.behaviours < 1 || 256 < block.behaviours {
+/// The state of a test case of so many behaviours.
+fn opened(alloc: Global, behaviours: u16) -> Result<CaseState, Fail> {
+    if behaviours < 1 || 256 < behaviours {
         return Err("behaviours".into());
     }
-    let mut state = CaseState::new(alloc, block.behaviours)?;
-    for entry in block.entries.as_slice() {
-        state.play(entry.caller, entry.op.copy())?;
-    }
-    Ok(summary_of_state(alloc, &block.name, &state)?)
+    Ok(CaseState::new(alloc, behaviours)?)
 }
 
-fn chart_of(alloc: Global, text: &str) -> Result<Vec<u8>, Fail> {
-    let blocks = read_history(alloc, text.as_bytes()).map_err(|_| "histories")?;
-    let mut cases = Vec::new(alloc);
-    for block in &blocks {
+fn play(state: &mut CaseState, entry: &Entry) -> Result<(), NoMemory> {
+    state.play(entry.caller, entry.op.copy())?;
+    Ok(())
+}
+
+fn play_all(state: &mut CaseState, entries: &[Entry]) -> Result<(), NoMemory> {
+    for entry in entries {
+        play(state, entry)?;
+    }
+    Ok(())
+}
+
+fn summary_of_played(alloc: Global, block: &Block, state: &CaseState) -> Result<Summary, NoMemory> {
+    summary_of_state(alloc, &block.name, state)
+}
+
+/// The summary of a legal history.
+fn summary_of(alloc: Global, block: &Block) -> Result<Summary, Fail> {
+    let mut state = opened(alloc, block.behaviours)?;
+    play_all(&mut state, block.entries.as_slice())?;
+    Ok(summary_of_played(alloc, block, &state)?)
+}
+
+fn add_summaries(alloc: Global, cases: &mut Vec<Summary>, blocks: &[Block]) -> Result<(), Fail> {
+    for block in blocks {
         cases.push(summary_of(alloc, block)?)?;
     }
+    Ok(())
+}
+
+/// The chart of histories, of which there are to be as many as summaries.
+fn chart(alloc: Global, cases: &[Summary], blocks: &[Block]) -> Result<Vec<u8>, Fail> {
     if cases.len() != blocks.len() {
         return Err("summaries".into());
     }
-    Ok(chart_report(alloc, cases.as_slice(), blocks.as_slice())?)
+    Ok(chart_report(alloc, cases, blocks)?)
+}
+
+fn blocks_of(alloc: Global, text: &str) -> Result<Vec<Block>, Fail> {
+    match read_history(alloc, text.as_bytes()) {
+        Ok(blocks) => Ok(blocks),
+        Err(_) => Err("histories".into()),
+    }
+}
+
+fn chart_of(alloc: Global, text: &str) -> Result<Vec<u8>, Fail> {
+    let blocks = blocks_of(alloc, text)?;
+    let mut cases = Vec::new(alloc);
+    add_summaries(alloc, &mut cases, blocks.as_slice())?;
+    chart(alloc, cases.as_slice(), blocks.as_slice())
 }
 
 // Creates with and without a name, starts with arguments, waits, a stop, a verdict; a question and a late call are not drawn.
@@ -55,7 +93,7 @@ end inconc
     )?;
     let wanted: &[u8] =
         b"msc {\nwidth=\"600\", wordwraparcs=\"1\";\nc0 [label=\"mtc\"], c1 [label=\"1 link\"], c2 [label=\"2\"];\n--- [label=\"testcase t_supervised\"];\nc0>>c1 [label=\"create named link\"];\nc0>>c2 [label=\"create alive\"];\nc0=>c2 [label=\"start run 1 with 1\"];\nc2 box c2 [label=\"wait done 1\"];\nc0=>c1 [label=\"start run 2 with 2 1\"];\nc0 box c0 [label=\"wait done 1\"];\nc1=>c2 [label=\"stop\"];\nc1 rbox c1 [label=\"setverdict inconc\", textbgcolour=\"#ffff99\"];\nc1 abox c1 [label=\"finish run 2\"];\nc1>>c0 [label=\"done 1\"];\nc0 abox c0 [label=\"finish run 0\"];\nc0 rbox c0 [label=\"local none\", textbgcolour=\"#eeeeee\"],\nc1 rbox c1 [label=\"local inconc\", textbgcolour=\"#ffff99\"],\nc2 rbox c2 [label=\"local none\", textbgcolour=\"#eeeeee\"];\nc0 abox c2 [label=\"verdict inconc\", textbgcolour=\"#ffff99\"];\n|||;\n}\n";
-    assert_eq!(rt; chart.as_slice(), wanted);
+    is(&rt, "the chart", chart.as_slice(), wanted);
     Ok(())
 }
 
@@ -91,6 +129,6 @@ end none
     )?;
     let wanted: &[u8] =
         b"msc {\nwidth=\"600\", wordwraparcs=\"1\";\nc0 [label=\"mtc\"], c1 [label=\"1\"], c2 [label=\"2\"];\n--- [label=\"testcase a\"];\nc0>>c1 [label=\"create\"];\nc0=>c1 [label=\"start run 1\"];\nc0:>c1 [label=\"kill\"];\nc1 rbox c1 [label=\"setverdict fail -> ended\", textbgcolour=\"#eeeeee\"];\nc0=>* [label=\"stop all\"];\nc0:>* [label=\"kill all\"];\nc0 box c0 [label=\"killed all\"];\nc1>>c0 [label=\"done 1\"];\nc0 box c0 [label=\"start 7 1 -> error no-component\", textbgcolour=\"#ff6666\"];\nc0 rbox c0 [label=\"local error\", textbgcolour=\"#ff6666\"],\nc1 rbox c1 [label=\"local none\", textbgcolour=\"#eeeeee\"];\nc0 abox c1 [label=\"verdict error\", textbgcolour=\"#ff6666\"];\n|||;\n--- [label=\"testcase b\"];\nc0 rbox c0 [label=\"setverdict pass\", textbgcolour=\"#99ff99\"];\nc0:>* [label=\"stopcase\", textbgcolour=\"#ff6666\"];\nc0 rbox c0 [label=\"local error\", textbgcolour=\"#ff6666\"];\nc0 abox c0 [label=\"verdict error\", textbgcolour=\"#ff6666\"];\n|||;\n--- [label=\"testcase c\"];\nc0>>c1 [label=\"create\"];\nc0>>c2 [label=\"create\"];\nc0=>c1 [label=\"start run 1\"];\nc0 box c0 [label=\"wait done any\"];\nc1 box c1 [label=\"wait killed 2\"];\nc0 rbox c0 [label=\"local none\", textbgcolour=\"#eeeeee\"],\nc1 rbox c1 [label=\"local none\", textbgcolour=\"#eeeeee\"],\nc2 rbox c2 [label=\"local none\", textbgcolour=\"#eeeeee\"];\nc0 abox c2 [label=\"unfinished\", textbgcolour=\"#ff6666\"];\n|||;\n}\n";
-    assert_eq!(rt; chart.as_slice(), wanted);
+    is(&rt, "the chart", chart.as_slice(), wanted);
     Ok(())
 }

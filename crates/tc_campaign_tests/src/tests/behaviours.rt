@@ -1,20 +1,19 @@
 //! Scripts as they are run on a pass and in a case.
 ghost use Rattle.std.specs.Prelude.{◌≡◌, []};
 
-mod checks;
-
 use crate::tests::checks::{holds, is};
 use std::alloc::Global;
 use std::process::Abort;
 use std::sync::Wait;
 use std::test::Fail;
+use std::thread::Threads;
 use tc_behaviour::*;
-use tc_book::{Pass, RunLog, open_case};
+use tc_book::{Pass, RunLog, Ticket, open_case};
 use tc_entry::{
     Args, Comp, Entry, Fault, Group, Name, Op, Reply, Run, Target, UserVerdict, Verdict,
 };
 use tc_exec::{CaseReport, Everyone, Job, run_case, run_case_with};
-use tc_script::read_campaign;
+use tc_script::{CaseScript, read_campaign};
 use tc_step::{GroupPlace, Place, Places, Status, Step, TargetPlace};
 
 fn one(index: u16) -> TargetPlace {
@@ -42,8 +41,36 @@ fn script<R: Abort>(rt: &R, parameters: usize, steps: Vec<Step>) -> Script {
     Script::new(parameters, steps)
 }
 
+/// What a script of no parameter hands back that is run on a pass.
+fn run_on<R: Wait>(rt: &R, alloc: Global, script: Script, pass: Pass) -> Back {
+    script.run(rt, alloc, pass)
+}
+
 fn back_of<R: Wait, B: Behaviour>(rt: &R, alloc: Global, behaviour: B, pass: Pass) -> Back {
     behaviour.run(rt, alloc, pass)
+}
+
+/// The pass of the main run of a case of one behaviour.
+fn only_pass(alloc: Global) -> Result<Pass, Fail> {
+    let (_, pass, _) = open_case(alloc, 1)?;
+    Ok(pass)
+}
+
+/// The pass of the main run of a case of two behaviours, and the ticket of the other run.
+fn pass_and_ticket(alloc: Global) -> Result<(Pass, Ticket), Fail> {
+    let (_, pass, mut tickets) = open_case(alloc, 2)?;
+    match tickets.pop() {
+        Some(ticket) => Ok((pass, ticket)),
+        None => Err(Fail::from("there is no ticket")),
+    }
+}
+
+/// The pass of a run that was started.
+fn started<R: Abort + Wait>(rt: &R, ticket: Ticket) -> Pass {
+    match ticket.await_start(rt) {
+        Ok(pass) => pass,
+        Err(_) => panic!(rt; "the run was started"),
+    }
 }
 
 /// The pass that a script of two parameters hands back without a call.
@@ -64,6 +91,12 @@ fn has_logged(back: &Back, run: Run, calls: &[(Op, Reply)]) -> bool {
         })
 }
 
+/// Checks that a script came back with its pass after these calls of its run.
+fn has_made<R: Abort>(rt: &R, back: &Back, run: Run, calls: &[(Op, Reply)]) {
+    holds(rt, "the log is of the calls", has_logged(back, run, calls));
+    is(rt, "the ending", back.ending, Ending::Returned);
+}
+
 /// A behaviour with one parameter, which the other starts with one argument.
 const STARTED_WITH_ONE: &str = "testcase t
 behaviour main
@@ -73,18 +106,33 @@ behaviour w a
 end
 end";
 
+/// The second behaviour of a test case.
+fn second(scripts: &mut CaseScript) -> Option<(Name, Script)> {
+    let _main = scripts.take_first();
+    scripts.take_first()
+}
+
+/// The test case of that text.
+fn started_with_one(alloc: Global) -> Result<CaseScript, Fail> {
+    let mut campaign = read_campaign(alloc, STARTED_WITH_ONE.as_bytes())?;
+    let (_, scripts) = campaign.take_first().ok_or("a test case")?;
+    Ok(scripts)
+}
+
+/// The behaviour of that test case which has a parameter.
+fn with_a_parameter(alloc: Global) -> Result<(Name, Script), Fail> {
+    let mut scripts = started_with_one(alloc)?;
+    Ok(second(&mut scripts).ok_or("the behaviour w")?)
+}
+
 #[test]
 fn wrong_argument_count_runs_nothing(rt: HostRuntime) -> Result<(), Fail> {
     let alloc = rt.alloc();
-    let mut campaign = read_campaign(alloc, STARTED_WITH_ONE.as_bytes())?;
-    let (_, mut scripts) = campaign.take_first().ok_or("a test case")?;
-    let _main = scripts.take_first();
-    let (name, script) = scripts.take_first().ok_or("the behaviour w")?;
-    is(&rt, "name.bytes()", name.bytes(), b"w".as_slice());
-    let (_, pass, _) = open_case(alloc, 1)?;
-    let back = script.run(&rt, alloc, pass);
-    is(&rt, "back.ending", back.ending, Ending::Returned);
-    assert_eq!(rt; back.pass.log().len(), 0);
+    let (name, script) = with_a_parameter(alloc)?;
+    is(&rt, "the name", name.bytes(), b"w".as_slice());
+    let pass = only_pass(alloc)?;
+    let back = run_on(&rt, alloc, script, pass);
+    has_made(&rt, &back, Run(0), &[]);
     Ok(())
 }
 
@@ -100,10 +148,8 @@ fn a_script_of_two_parameters_without_arguments(rt: HostRuntime) -> Result<(), F
     Ok(())
 }
 
-#[test]
-fn each_step_of_the_main_behaviour(rt: HostRuntime) -> Result<(), Fail> {
-    let alloc = rt.alloc();
-    let (_, pass, _) = open_case(alloc, 2)?;
+/// A script of each step but StopCase, which starts run 1.
+fn each_step<R: Abort>(rt: &R, alloc: Global) -> Result<Script, Fail> {
     let steps = vec![in alloc;
         Step::Create {
             alive: true,
@@ -131,9 +177,13 @@ fn each_step_of_the_main_behaviour(rt: HostRuntime) -> Result<(), Fail> {
             target: TargetPlace::All
         },
     ]?;
-    let back = back_of(&rt, alloc, script(&rt, 0, steps), pass);
+    Ok(script(rt, 0, steps))
+}
+
+/// The calls of that script.
+fn each_call(alloc: Global) -> Result<Vec<(Op, Reply)>, Fail> {
     let comp = Target::One(Comp(1));
-    let calls = vec![in alloc;
+    Ok(vec![in alloc;
         (
             Op::Create {
                 alive: true,
@@ -171,22 +221,23 @@ fn each_step_of_the_main_behaviour(rt: HostRuntime) -> Result<(), Fail> {
             },
             Reply::Matched
         ),
-    ]?;
-    holds(
-        &rt,
-        "has_logged(back, Run(0), calls.as_slice())",
-        has_logged(&back, Run(0), calls.as_slice()),
-    );
-    is(&rt, "back.ending", back.ending, Ending::Returned);
-    holds(&rt, "not back.pass.is_ended()", !back.pass.is_ended());
-    Ok(())
+    ]?)
 }
 
 #[test]
-fn places_stand_for_components(rt: HostRuntime) -> Result<(), Fail> {
+fn each_step_of_the_main_behaviour(rt: HostRuntime) -> Result<(), Fail> {
     let alloc = rt.alloc();
-    let (_, pass, tickets) = open_case(alloc, 2)?;
-    let mut tickets = tickets;
+    let script = each_step(&rt, alloc)?;
+    let (pass, _) = pass_and_ticket(alloc)?;
+    let back = back_of(&rt, alloc, script, pass);
+    let calls = each_call(alloc)?;
+    has_made(&rt, &back, Run(0), calls.as_slice());
+    holds(&rt, "the pass has not ended", !back.pass.is_ended());
+    Ok(())
+}
+
+/// A script that creates two components, and starts run 1 on the second with the first and the main one as arguments.
+fn starts_with_two<R: Abort>(rt: &R, alloc: Global) -> Result<Script, Fail> {
     let steps = vec![in alloc;
         Step::Create {
             alive: false,
@@ -202,11 +253,11 @@ fn places_stand_for_components(rt: HostRuntime) -> Result<(), Fail> {
             args: places(&[Place::Bound(0), Place::Own])
         },
     ]?;
-    let back = script(&rt, 0, steps).run(&rt, alloc, pass);
-    assert_eq!(rt; back.pass.log().len(), 3);
-    let Ok(pass) = tickets.remove(0).await_start(&rt) else {
-        panic!(rt; "the run was started")
-    };
+    Ok(script(rt, 0, steps))
+}
+
+/// A script of two parameters that has each kind of place.
+fn names_places<R: Abort>(rt: &R, alloc: Global) -> Result<Script, Fail> {
     let steps = vec![in alloc;
         Step::Kill(GroupPlace::One(Place::Bound(0))),
         Step::Create {
@@ -222,8 +273,12 @@ fn places_stand_for_components(rt: HostRuntime) -> Result<(), Fail> {
             target: one(0)
         },
     ]?;
-    let back = script(&rt, 2, steps).run(&rt, alloc, pass);
-    let calls = vec![in alloc;
+    Ok(script(rt, 2, steps))
+}
+
+/// The calls of that script, where run 1 was started by the other.
+fn calls_on_components(alloc: Global) -> Result<Vec<(Op, Reply)>, Fail> {
+    Ok(vec![in alloc;
         (Op::Kill(Group::One(Comp(1))), Reply::Ok),
         (
             Op::Create {
@@ -243,21 +298,41 @@ fn places_stand_for_components(rt: HostRuntime) -> Result<(), Fail> {
             },
             Reply::Matched
         ),
-    ]?;
-    holds(
-        &rt,
-        "has_logged(back, Run(1), calls.as_slice())",
-        has_logged(&back, Run(1), calls.as_slice()),
+    ]?)
+}
+
+/// Runs the first of those scripts, which makes all its calls.
+fn start_with_two<R: Abort + Wait>(rt: &R, alloc: Global, pass: Pass) -> Result<(), Fail> {
+    let script = starts_with_two(rt, alloc)?;
+    let back = run_on(rt, alloc, script, pass);
+    is(
+        rt,
+        "how many calls the first script makes",
+        back.pass.log().len(),
+        3,
     );
-    is(&rt, "back.ending", back.ending, Ending::Returned);
+    Ok(())
+}
+
+/// Runs the second of those scripts on the pass of run 1.
+fn name_places<R: Abort + Wait>(rt: &R, alloc: Global, ticket: Ticket) -> Result<(), Fail> {
+    let script = names_places(rt, alloc)?;
+    let back = run_on(rt, alloc, script, started(rt, ticket));
+    let calls = calls_on_components(alloc)?;
+    has_made(rt, &back, Run(1), calls.as_slice());
     Ok(())
 }
 
 #[test]
-fn a_script_ends_with_its_pass(rt: HostRuntime) -> Result<(), Fail> {
+fn places_stand_for_components(rt: HostRuntime) -> Result<(), Fail> {
     let alloc = rt.alloc();
-    let (_, pass, tickets) = open_case(alloc, 2)?;
-    let mut tickets = tickets;
+    let (pass, ticket) = pass_and_ticket(alloc)?;
+    start_with_two(&rt, alloc, pass)?;
+    name_places(&rt, alloc, ticket)
+}
+
+/// A script that starts run 1 on a component that it stops, and then errs, before its last step.
+fn errs_at_last<R: Abort>(rt: &R, alloc: Global) -> Result<Script, Fail> {
     let steps = vec![in alloc;
         Step::Create {
             alive: true,
@@ -276,23 +351,37 @@ fn a_script_ends_with_its_pass(rt: HostRuntime) -> Result<(), Fail> {
         },
         Step::GetVerdict,
     ]?;
-    let back = script(&rt, 0, steps).run(&rt, alloc, pass);
-    is(&rt, "back.ending", back.ending, Ending::Returned);
-    assert_eq!(rt; back.pass.log().len(), 4);
+    Ok(script(rt, 0, steps))
+}
+
+/// Whether the last entry of a log starts the main component.
+fn ends_with_an_error(log: &[Entry]) -> bool {
+    matches!(
+        log.last(),
+        Some(Entry {
+            reply: Reply::Fault(Fault::StartMain),
+            ..
+        })
+    )
+}
+
+/// Runs that script, which makes no call behind the one that errs.
+fn err_at_last<R: Abort + Wait>(rt: &R, alloc: Global, pass: Pass) -> Result<(), Fail> {
+    let script = errs_at_last(rt, alloc)?;
+    let back = run_on(rt, alloc, script, pass);
+    is(rt, "the ending", back.ending, Ending::Returned);
+    let log = back.pass.log();
+    is(rt, "how many calls are made", log.len(), 4);
     holds(
-        &rt,
-        "back.pass.log()[3]",
-        matches!(
-            back.pass.log()[3],
-            Entry {
-                reply: Reply::Fault(Fault::StartMain),
-                ..
-            }
-        ),
+        rt,
+        "the last call starts the main component",
+        ends_with_an_error(log),
     );
-    let Ok(pass) = tickets.remove(0).await_start(&rt) else {
-        panic!(rt; "the run was started")
-    };
+    Ok(())
+}
+
+/// A script of two steps.
+fn asks_and_creates<R: Abort>(rt: &R, alloc: Global) -> Result<Script, Fail> {
     let steps = vec![in alloc;
         Step::GetVerdict,
         Step::Create {
@@ -300,43 +389,59 @@ fn a_script_ends_with_its_pass(rt: HostRuntime) -> Result<(), Fail> {
             name: None
         },
     ]?;
-    let back = script(&rt, 0, steps).run(&rt, alloc, pass);
-    is(&rt, "back.ending", back.ending, Ending::Returned);
-    holds(
-        &rt,
-        "has_logged(back, Run(1), [(Op::GetVerdict,",
-        has_logged(&back, Run(1), &[(Op::GetVerdict, Reply::Ended)]),
-    );
+    Ok(script(rt, 0, steps))
+}
+
+/// Runs that script in a case that is over, in which it makes its first call alone.
+fn ask_behind_the_end<R: Abort + Wait>(rt: &R, alloc: Global, ticket: Ticket) -> Result<(), Fail> {
+    let script = asks_and_creates(rt, alloc)?;
+    let back = run_on(rt, alloc, script, started(rt, ticket));
+    has_made(rt, &back, Run(1), &[(Op::GetVerdict, Reply::Ended)]);
     Ok(())
+}
+
+#[test]
+fn a_script_ends_with_its_pass(rt: HostRuntime) -> Result<(), Fail> {
+    let alloc = rt.alloc();
+    let (pass, ticket) = pass_and_ticket(alloc)?;
+    err_at_last(&rt, alloc, pass)?;
+    ask_behind_the_end(&rt, alloc, ticket)
+}
+
+/// A script that stops its own component before its last step.
+fn stops_itself<R: Abort>(rt: &R, alloc: Global) -> Result<Script, Fail> {
+    let steps = vec![in alloc; Step::Stop(GroupPlace::One(Place::Own)), Step::GetVerdict]?;
+    Ok(script(rt, 0, steps))
 }
 
 #[test]
 fn a_run_that_stops_itself(rt: HostRuntime) -> Result<(), Fail> {
     let alloc = rt.alloc();
-    let (_, pass, _) = open_case(alloc, 1)?;
-    let steps = vec![in alloc; Step::Stop(GroupPlace::One(Place::Own)), Step::GetVerdict]?;
-    let back = script(&rt, 0, steps).run(&rt, alloc, pass);
-    is(&rt, "back.ending", back.ending, Ending::Returned);
-    holds(
+    let script = stops_itself(&rt, alloc)?;
+    let pass = only_pass(alloc)?;
+    let back = run_on(&rt, alloc, script, pass);
+    has_made(
         &rt,
-        "has_logged(back, Run(0),",
-        has_logged(&back, Run(0), &[(Op::Stop(Group::One(Comp(0))), Reply::Ok)]),
+        &back,
+        Run(0),
+        &[(Op::Stop(Group::One(Comp(0))), Reply::Ok)],
     );
     Ok(())
+}
+
+/// A script that ends its test case before its last step.
+fn stops_the_case<R: Abort>(rt: &R, alloc: Global) -> Result<Script, Fail> {
+    let steps = vec![in alloc; Step::StopCase, Step::SetVerdict(UserVerdict::Pass)]?;
+    Ok(script(rt, 0, steps))
 }
 
 #[test]
 fn stop_of_a_case(rt: HostRuntime) -> Result<(), Fail> {
     let alloc = rt.alloc();
-    let (_, pass, _) = open_case(alloc, 1)?;
-    let steps = vec![in alloc; Step::StopCase, Step::SetVerdict(UserVerdict::Pass)]?;
-    let back = script(&rt, 0, steps).run(&rt, alloc, pass);
-    is(&rt, "back.ending", back.ending, Ending::Returned);
-    holds(
-        &rt,
-        "has_logged(back, Run(0), [(Op::StopCase,",
-        has_logged(&back, Run(0), &[(Op::StopCase, Reply::Ok)]),
-    );
+    let script = stops_the_case(&rt, alloc)?;
+    let pass = only_pass(alloc)?;
+    let back = run_on(&rt, alloc, script, pass);
+    has_made(&rt, &back, Run(0), &[(Op::StopCase, Reply::Ok)]);
     Ok(())
 }
 
@@ -425,65 +530,112 @@ fn is_led(report: &CaseReport) -> bool {
         && report.verdict == Verdict::Fail
 }
 
-// Both forms of a job: a script with its runtime, and a box.
+/// Adds a script as a job with its runtime.
+fn add_job<R: Wait + Copy + Send + 'static>(
+    rt: &R,
+    alloc: Global,
+    jobs: &mut Vec<ScriptJob<R>>,
+    script: Script,
+) -> Result<(), Fail> {
+    jobs.push(ScriptJob::new(*rt, alloc, script))?;
+    Ok(())
+}
+
+/// Runs `leads`, with these arguments, and `fails` in a case, each as a script with its runtime.
+fn run_with_runtimes<R: Abort + Threads + Wait + Copy + Send + 'static>(
+    rt: &R,
+    alloc: Global,
+    args: &[Place],
+) -> Result<CaseReport, Fail> {
+    let mut jobs = Vec::new(alloc);
+    add_job(rt, alloc, &mut jobs, leads(rt, alloc, args)?)?;
+    add_job(rt, alloc, &mut jobs, fails(rt, alloc)?)?;
+    Ok(run_case_with(rt, alloc, jobs, 1, &mut Everyone)?)
+}
+
 #[test]
 fn scripts_are_run_in_a_case(rt: HostRuntime) -> Result<(), Fail> {
     let alloc = rt.alloc();
-    let first = ScriptJob::new(rt, alloc, leads(&rt, alloc, &[Place::Main])?);
-    let second = ScriptJob::new(rt, alloc, fails(&rt, alloc)?);
-    let jobs = vec![in alloc; first, second]?;
-    let report = run_case_with(&rt, alloc, jobs, 1, &mut Everyone)?;
-    holds(&rt, "is_led(report)", is_led(&report));
+    let report = run_with_runtimes(&rt, alloc, &[Place::Main])?;
+    holds(&rt, "each log is of its own script", is_led(&report));
+    Ok(())
+}
+
+#[test]
+fn boxed_scripts_are_run_in_a_case(rt: HostRuntime) -> Result<(), Fail> {
+    let alloc = rt.alloc();
     let (first, second) = (leads(&rt, alloc, &[Place::Main])?, fails(&rt, alloc)?);
     let jobs = vec![in alloc;
         Job::new(Box::new(alloc, move |pass| first.run(&rt, alloc, pass))?),
         Job::new(Box::new(alloc, move |pass| second.run(&rt, alloc, pass))?),
     ]?;
     let report = run_case(&rt, alloc, jobs, 1)?;
-    holds(&rt, "is_led(report)", is_led(&report));
+    holds(&rt, "each log is of its own boxed script", is_led(&report));
     Ok(())
+}
+
+/// Whether the second of two logs has no call.
+fn is_second_silent(report: &CaseReport) -> bool {
+    match report.logs.as_slice() {
+        [_, second] => are_calls(second, Run(1), &[Op::Finish]),
+        _ => false,
+    }
 }
 
 #[test]
 fn a_started_script_of_another_count_makes_no_call(rt: HostRuntime) -> Result<(), Fail> {
     let alloc = rt.alloc();
-    let first = ScriptJob::new(rt, alloc, leads(&rt, alloc, &[])?);
-    let second = ScriptJob::new(rt, alloc, fails(&rt, alloc)?);
-    let jobs = vec![in alloc; first, second]?;
-    let report = run_case_with(&rt, alloc, jobs, 1, &mut Everyone)?;
-    let [_, second] = report.logs.as_slice() else {
-        panic!(rt; "run 1 was started")
-    };
+    let report = run_with_runtimes(&rt, alloc, &[])?;
     holds(
         &rt,
-        "are_calls(second, Run(1), [Op::Finish])",
-        are_calls(second, Run(1), &[Op::Finish]),
+        "run 1 was started, and makes no call",
+        is_second_silent(&report),
     );
-    is(&rt, "report.verdict", report.verdict, Verdict::None);
+    is(&rt, "the overall verdict", report.verdict, Verdict::None);
     Ok(())
+}
+
+/// Adds so many steps that ask for the verdict.
+fn add_questions(steps: &mut Vec<Step>, count: usize) -> Result<(), Fail> {
+    for _ in 0..count {
+        steps.push(Step::GetVerdict)?;
+    }
+    Ok(())
+}
+
+/// A script of a thousand steps.
+fn thousand_steps<R: Abort>(rt: &R, alloc: Global) -> Result<Script, Fail> {
+    let mut steps = Vec::new(alloc);
+    add_questions(&mut steps, 999)?;
+    steps.push(Step::Create {
+        alive: true,
+        name: None,
+    })?;
+    Ok(script(rt, 0, steps))
+}
+
+/// The last reply of a log.
+fn last_reply(log: &[Entry]) -> Option<Reply> {
+    match log.last() {
+        Some(entry) => Some(entry.reply),
+        None => None,
+    }
 }
 
 // A thousand steps, the most that a script has; each is called.
 #[test]
 fn each_step_of_a_long_script(rt: HostRuntime) -> Result<(), Fail> {
     let alloc = rt.alloc();
-    let (_, pass, _) = open_case(alloc, 1)?;
-    let mut steps = Vec::new(alloc);
-    for _ in 0..999 {
-        steps.push(Step::GetVerdict)?;
-    }
-    steps.push(Step::Create {
-        alive: true,
-        name: None,
-    })?;
-    let back = script(&rt, 0, steps).run(&rt, alloc, pass);
-    is(&rt, "back.ending", back.ending, Ending::Returned);
+    let script = thousand_steps(&rt, alloc)?;
+    let pass = only_pass(alloc)?;
+    let back = run_on(&rt, alloc, script, pass);
+    is(&rt, "the ending", back.ending, Ending::Returned);
     let log = back.pass.log();
-    assert_eq!(rt; log.len(), 1000);
+    is(&rt, "how many calls are made", log.len(), 1000);
     holds(
         &rt,
-        "log[999].reply",
-        matches!(log[999].reply, Reply::Made(Comp(1))),
+        "the last step creates component 1",
+        matches!(last_reply(log), Some(Reply::Made(Comp(1)))),
     );
     Ok(())
 }

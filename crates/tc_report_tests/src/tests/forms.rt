@@ -1,7 +1,5 @@
 //! Summaries made by hand, and their forms. The calls of the library stand in small functions without clauses, so that the
 //! proof of a test carries none of the library's.
-mod checks;
-
 use crate::tests::checks::{holds, is};
 use std::alloc::Global;
 use std::process::Abort;
@@ -70,8 +68,8 @@ fn summary(
     })
 }
 
-/// A summary with each end that a test case can have.
-fn every_end(alloc: Global) -> Result<Vec<Summary>, Fail> {
+/// Adds a summary with each end that a test case can have.
+fn add_every_end(alloc: Global, cases: &mut Vec<Summary>) -> Result<(), Fail> {
     let over = CaseEnd::Over;
     let ends: [(&str, &[Verdict], CaseEnd); 7] = [
         ("t_none", &[Verdict::None], over(Verdict::None)),
@@ -90,10 +88,16 @@ fn every_end(alloc: Global) -> Result<Vec<Summary>, Fail> {
         ("t_open", &[Verdict::Pass], CaseEnd::Unfinished),
         ("t_torn", &[], CaseEnd::Aborted(CaseError::Torn)),
     ];
-    let mut cases = Vec::new(alloc);
     for (text, locals, ending) in ends {
         cases.push(summary(alloc, text, locals, ending)?)?;
     }
+    Ok(())
+}
+
+/// A summary with each end that a test case can have.
+fn every_end(alloc: Global) -> Result<Vec<Summary>, Fail> {
+    let mut cases = Vec::new(alloc);
+    add_every_end(alloc, &mut cases)?;
     Ok(cases)
 }
 
@@ -103,7 +107,7 @@ fn csv_of_every_end(rt: HostRuntime) -> Result<(), Fail> {
     let text = table_of(rt.alloc(), cases.as_slice())?;
     let wanted: &[u8] =
         b"testcase,components,none,pass,inconc,fail,error,verdict\nt_none,1,1,0,0,0,0,none\nt_pass,2,1,1,0,0,0,pass\nt_inconc,1,0,0,1,0,0,inconc\nt_fail,2,0,1,0,1,0,fail\nt_error,1,0,0,0,0,1,error\nt_open,1,0,1,0,0,0,unfinished\nt_torn,0,0,0,0,0,0,aborted\n";
-    is(&rt, "text.as_slice()", text.as_slice(), wanted);
+    is(&rt, "the report", text.as_slice(), wanted);
     Ok(())
 }
 
@@ -113,8 +117,15 @@ fn junit_of_every_end(rt: HostRuntime) -> Result<(), Fail> {
     let text = suite_of(rt.alloc(), "1.2.3", cases.as_slice())?;
     let wanted: &[u8] =
         b"<?xml version=\"1.0\" encoding=\"UTF-8\"?>\n<testsuites tests=\"7\" failures=\"2\" errors=\"3\" skipped=\"1\">\n<testsuite name=\"ttrun\" tests=\"7\" failures=\"2\" errors=\"3\" skipped=\"1\">\n<properties>\n<property name=\"version\" value=\"1.2.3\"/>\n</properties>\n<testcase name=\"t_none\" classname=\"ttrun\">\n<skipped/>\n<system-out>\nlocal 0 none\n</system-out>\n</testcase>\n<testcase name=\"t_pass\" classname=\"ttrun\">\n<system-out>\nlocal 0 pass\nlocal 1 none\n</system-out>\n</testcase>\n<testcase name=\"t_inconc\" classname=\"ttrun\">\n<failure type=\"inconc\" message=\"verdict inconc\"/>\n<system-out>\nlocal 0 inconc\n</system-out>\n</testcase>\n<testcase name=\"t_fail\" classname=\"ttrun\">\n<failure type=\"fail\" message=\"verdict fail\"/>\n<system-out>\nlocal 0 pass\nlocal 1 fail\n</system-out>\n</testcase>\n<testcase name=\"t_error\" classname=\"ttrun\">\n<error type=\"error\" message=\"verdict error\"/>\n<system-out>\nlocal 0 error\n</system-out>\n</testcase>\n<testcase name=\"t_open\" classname=\"ttrun\">\n<error type=\"unfinished\" message=\"the test case is not over\"/>\n<system-out>\nlocal 0 pass\n</system-out>\n</testcase>\n<testcase name=\"t_torn\" classname=\"ttrun\">\n<error type=\"aborted\" message=\"torn\"/>\n<system-out>\n</system-out>\n</testcase>\n</testsuite>\n</testsuites>\n";
-    is(&rt, "text.as_slice()", text.as_slice(), wanted);
+    is(&rt, "the report", text.as_slice(), wanted);
     Ok(())
+}
+
+/// Checks the status of each of these test cases alone.
+fn have_statuses<R: Abort>(rt: &R, cases: &[Summary], wanted: &[u8]) {
+    for (one, status) in cases.chunks(1).zip(wanted.iter()) {
+        is(rt, "the status of one test case", status_of(one), *status);
+    }
 }
 
 // The status of each end alone, and of all.
@@ -123,75 +134,107 @@ fn statuses(rt: HostRuntime) -> Result<(), Fail> {
     let cases = every_end(rt.alloc())?;
     let all = cases.as_slice();
     let wanted = [0, 0, 1, 1, 2, 2, 2];
-    for (one, status) in all.chunks(1).zip(wanted.iter()) {
-        is(&rt, "status_of(one)", status_of(one), *status);
-    }
-    assert_eq!(rt; all.len(), wanted.len());
-    is(&rt, "status_of(all)", status_of(all), 2);
+    have_statuses(&rt, all, &wanted);
+    is(
+        &rt,
+        "how many test cases there are",
+        all.len(),
+        wanted.len(),
+    );
+    is(&rt, "the status of all", status_of(all), 2);
     let four = all.get(..4).ok_or("four test cases")?;
-    is(&rt, "status_of(four)", status_of(four), 1);
-    is(&rt, "status_of([])", status_of(&[]), 0);
+    is(&rt, "the status of four", status_of(four), 1);
+    is(&rt, "the status of none", status_of(&[]), 0);
     Ok(())
 }
 
-fn played(alloc: Global, finished: bool) -> Result<CaseState, Fail> {
-    let mut state = CaseState::new(alloc, 1)?;
+/// Creates a component, and sets fail; then finishes, if that is wanted.
+fn play_all(state: &mut CaseState, finishes: bool) -> Result<(), NoMemory> {
     let create = Op::Create {
         alive: true,
         name: None,
     };
-    play(&mut state, create)?;
-    play(&mut state, Op::SetVerdict(UserVerdict::Fail))?;
-    if finished {
-        play(&mut state, Op::Finish)?;
+    play(state, create)?;
+    play(state, Op::SetVerdict(UserVerdict::Fail))?;
+    if finishes {
+        play(state, Op::Finish)?;
     }
+    Ok(())
+}
+
+fn played(alloc: Global, finishes: bool) -> Result<CaseState, Fail> {
+    let mut state = CaseState::new(alloc, 1)?;
+    play_all(&mut state, finishes)?;
     Ok(state)
 }
 
-fn end_of(alloc: Global, finished: bool) -> Result<CaseEnd, Fail> {
-    let state = played(alloc, finished)?;
-    let summary = summary_of_state(alloc, &name("t")?, &state)?;
+fn summary_of(alloc: Global, name: &Name, state: &CaseState) -> Result<Summary, NoMemory> {
+    summary_of_state(alloc, name, state)
+}
+
+fn summary_of_played(alloc: Global, finishes: bool) -> Result<Summary, Fail> {
+    let name = name("t")?;
+    let state = played(alloc, finishes)?;
+    Ok(summary_of(alloc, &name, &state)?)
+}
+
+fn end_of(alloc: Global, finishes: bool) -> Result<CaseEnd, Fail> {
+    let summary = summary_of_played(alloc, finishes)?;
     Ok(summary.ending)
 }
 
 #[test]
 fn ends_of_states(rt: HostRuntime) -> Result<(), Fail> {
     let open = end_of(rt.alloc(), false)?;
-    is(&rt, "open", open, CaseEnd::Unfinished);
+    is(&rt, "the end of an open case", open, CaseEnd::Unfinished);
     let over = end_of(rt.alloc(), true)?;
-    is(&rt, "over", over, CaseEnd::Over(Verdict::Fail));
+    is(
+        &rt,
+        "the end of a case that is over",
+        over,
+        CaseEnd::Over(Verdict::Fail),
+    );
     Ok(())
 }
 
 #[test]
 fn local_verdicts_of_a_state(rt: HostRuntime) -> Result<(), Fail> {
-    let state = played(rt.alloc(), true)?;
-    let summary = summary_of_state(rt.alloc(), &name("t")?, &state)?;
+    let summary = summary_of_played(rt.alloc(), true)?;
     let wanted: &[Verdict] = &[Verdict::Fail, Verdict::None];
-    is(
-        &rt,
-        "summary.locals.as_slice()",
-        summary.locals.as_slice(),
-        wanted,
-    );
+    is(&rt, "the local verdicts", summary.locals.as_slice(), wanted);
     Ok(())
 }
 
-fn finished(alloc: Global, text: &str, verdict: Verdict) -> Result<Finished, Fail> {
-    let mut locals = Vec::new(alloc);
-    locals.push(verdict)?;
-    locals.push(Verdict::None)?;
-    Ok(Finished {
-        name: name(text)?,
-        names: Sequence::new(Vec::new(alloc)),
-        report: CaseReport {
-            behaviours: 1,
-            history: Sequence::new(Vec::new(alloc)),
-            logs: Sequence::new(Vec::new(alloc)),
-            locals: Sequence::new(locals),
-            verdict,
-        },
+fn report(alloc: Global, verdict: Verdict) -> Result<CaseReport, Fail> {
+    let locals = vec![in alloc; verdict, Verdict::None]?;
+    Ok(CaseReport {
+        behaviours: 1,
+        history: Sequence::new(Vec::new(alloc)),
+        logs: Sequence::new(Vec::new(alloc)),
+        locals: Sequence::new(locals),
+        verdict,
     })
+}
+
+fn finished(alloc: Global, text: &str, verdict: Verdict) -> Result<Finished, Fail> {
+    let name = name(text)?;
+    let report = report(alloc, verdict)?;
+    Ok(Finished {
+        name,
+        names: Sequence::new(Vec::new(alloc)),
+        report,
+    })
+}
+
+fn add_finished(
+    alloc: Global,
+    all: &mut Vec<Finished>,
+    cases: &[(&str, Verdict)],
+) -> Result<(), Fail> {
+    for (text, verdict) in cases {
+        all.push(finished(alloc, text, *verdict)?)?;
+    }
+    Ok(())
 }
 
 /// The results of a campaign that ended so, with these test cases before.
@@ -201,9 +244,7 @@ fn results_of(
     ending: CampaignEnd,
 ) -> Result<Results, Fail> {
     let mut all = Vec::new(alloc);
-    for (text, verdict) in cases {
-        all.push(finished(alloc, text, *verdict)?)?;
-    }
+    add_finished(alloc, &mut all, cases)?;
     Ok(Results {
         finished: Sequence::new(all),
         ending,
@@ -218,8 +259,17 @@ fn aborted(why: CaseError) -> Result<CampaignEnd, Fail> {
 
 /// Compares what was written with what was made, which is so long at least.
 fn compare<R: Abort>(rt: &R, written: &[u8], made: &[u8], least: usize) {
-    is(rt, "written", written, made);
-    assert!(rt; made.len() > least);
+    is(rt, "what is written", written, made);
+    holds(rt, "it is long enough", made.len() > least);
+}
+
+/// Compares the JUnit report of results with that of their summaries.
+fn compare_suites<R: Abort>(rt: &R, alloc: Global, results: &Results) -> Result<(), Fail> {
+    let written = suite_of_results(alloc, "7", results)?;
+    let summaries = summaries_of(alloc, results)?;
+    let made = suite_of(alloc, "7", summaries.as_slice())?;
+    compare(rt, written.as_slice(), made.as_slice(), 500);
+    Ok(())
 }
 
 // The JUnit report of results is that of their summaries.
@@ -227,10 +277,16 @@ fn compare<R: Abort>(rt: &R, written: &[u8], made: &[u8], least: usize) {
 fn junit_of_some_results(rt: HostRuntime) -> Result<(), Fail> {
     let ending = aborted(CaseError::NoMemory)?;
     let results = results_of(rt.alloc(), &[("a", Verdict::Fail)], ending)?;
-    let written = suite_of_results(rt.alloc(), "7", &results)?;
-    let summaries = summaries_of(rt.alloc(), &results)?;
-    let made = suite_of(rt.alloc(), "7", summaries.as_slice())?;
-    compare(&rt, written.as_slice(), made.as_slice(), 500);
+    compare_suites(&rt, rt.alloc(), &results)
+}
+
+/// Compares the table of results with that of their two summaries.
+fn compare_tables<R: Abort>(rt: &R, alloc: Global, results: &Results) -> Result<(), Fail> {
+    let summaries = summaries_of(alloc, results)?;
+    is(rt, "how many summaries there are", summaries.len(), 2);
+    let wanted = table_of_results(alloc, results)?;
+    let made = table_of(alloc, summaries.as_slice())?;
+    compare(rt, wanted.as_slice(), made.as_slice(), 60);
     Ok(())
 }
 
@@ -239,31 +295,23 @@ fn junit_of_some_results(rt: HostRuntime) -> Result<(), Fail> {
 fn summaries_of_some_results(rt: HostRuntime) -> Result<(), Fail> {
     let cases = [("a", Verdict::Pass), ("b", Verdict::Error)];
     let results = results_of(rt.alloc(), &cases, CampaignEnd::Complete)?;
-    let summaries = summaries_of(rt.alloc(), &results)?;
-    assert_eq!(rt; summaries.len(), 2);
-    let wanted = table_of_results(rt.alloc(), &results)?;
-    let made = table_of(rt.alloc(), summaries.as_slice())?;
-    compare(&rt, wanted.as_slice(), made.as_slice(), 60);
-    Ok(())
+    compare_tables(&rt, rt.alloc(), &results)
+}
+
+/// Checks the summary of the test case that has no report.
+fn ends_without_a_report<R: Abort>(rt: &R, last: &Summary, name: &Name) {
+    let ending = CaseEnd::Aborted(CaseError::NoThread);
+    is(rt, "the end of the last test case", last.ending, ending);
+    holds(rt, "it has the name of the last", last.name.same(name));
 }
 
 #[test]
 fn summary_of_an_aborted_campaign(rt: HostRuntime) -> Result<(), Fail> {
     let ending = aborted(CaseError::NoThread)?;
+    let name = name("b")?;
     let results = results_of(rt.alloc(), &[("a", Verdict::Pass)], ending)?;
     let summaries = summaries_of(rt.alloc(), &results)?;
-    assert_eq!(rt; summaries.len(), 2);
-    let last = summaries.last().ok_or("a summary")?;
-    is(
-        &rt,
-        "last.ending",
-        last.ending,
-        CaseEnd::Aborted(CaseError::NoThread),
-    );
-    holds(
-        &rt,
-        "last.name.same(name('b'))",
-        last.name.same(&name("b")?),
-    );
+    is(&rt, "how many summaries there are", summaries.len(), 2);
+    ends_without_a_report(&rt, summaries.last().ok_or("a summary")?, &name);
     Ok(())
 }
