@@ -1,9 +1,11 @@
 -- When the words are refused, by what the parse answered.
-use Rattle.std.proofs.Common.{◌≡◌, ◌∙◌, true, sym, ap, subst, List, [], Result, Err, inl, inr}
-use Rattle.clap.specs.Words.{App, HasKind, Text, fault_of, is_simple_and_free, kind_of, subcommand_of}
+use Rattle.std.proofs.Common.{◌≡◌, ◌∙◌, true, sym, ap, subst, List, [], Result, Ok, Err, inl, inr}
+use Rattle.std.specs.Result.{IsErrAnd}
+use Rattle.clap.specs.Words.{App, FailsBy, HasKind, Text, fault_of, is_simple_and_free, kind_of, subcommand_of}
 use Rattle.clap.specs.declared.error.Error.{Error}
 use Rattle.clap.specs.declared.error.kind.ErrorKind.{ErrorKind}
 use Rattle.clap.specs.declared.error.kind.ErrorKind.TheVariants.{ArgumentConflict, MissingRequiredArgument}
+use Rattle.clap.specs.Kinds.{Kinds}
 use Rattle.clap.proofs.FaultLemmas.{first_fails, past}
 use Rattle.tc_command.specs.Asked.{Asked, asked_by, faults, refusal_by}
 use Rattle.tc_command.specs.Command.{ttrun}
@@ -32,3 +34,8 @@ told app words (R.Conflict first second) e is kinds asks tells =
 told app words R.NoForm e is kinds asks tells =
     subst (λ k. HasKind k e) (sym (taken_refuses app words (Err MissingRequiredArgument) is kinds asks)) (inr (inl tells))
 told app words R.NoMemory e is kinds asks tells = absurd tells
+
+-- an answer that is this error fails as it does
+pub fails_so : {T : Type 0} (kinds : Kinds) (r : Result T Error) (e : Error) → IsErrAnd r (λ x. x ≡ e) → HasKind kinds e → FailsBy kinds r
+fails_so kinds (Ok x) e is has = absurd is
+fails_so kinds (Err x) e is has = subst (HasKind kinds) (sym is) has

@@ -11,9 +11,9 @@ flag_rule name = record (new_rule name) { long = Some name; action = Some SetTru
 abbrev pub word_rule : Text → Rule
 word_rule name = record (new_rule name) { long = Some name; action = Some Set; value_names = 1 }
 
--- --only, which takes one word, and may stand again and again
-abbrev pub only : Rule
-only = record (new_rule (codes "only")) { long = Some (codes "only"); action = Some Append; value_names = 1 }
+-- an option of this name, which takes one word, and may stand again and again
+abbrev pub words_rule : Text → Rule
+words_rule name = record (new_rule name) { long = Some name; action = Some Append; value_names = 1 }
 
 -- the forms of a run: --csv, --history and --junit
 abbrev pub with_forms : App → App
@@ -21,7 +21,7 @@ with_forms app = with_rule (with_rule (with_rule app (flag_rule (codes "csv"))) 
 
 -- which test cases: --list, --only and --shard
 abbrev pub with_choice : App → App
-with_choice app = with_rule (with_rule (with_rule app (flag_rule (codes "list"))) only) (word_rule (codes "shard"))
+with_choice app = with_rule (with_rule (with_rule app (flag_rule (codes "list"))) (words_rule (codes "only"))) (word_rule (codes "shard"))
 
 -- an option more, which asks for a fault to be explained: --explain
 abbrev pub with_explain : App → App

@@ -1,9 +1,17 @@
 -- What only the reading of the words needs: no public clause rests on a word of this file.
-use Rattle.std.specs.Prelude.{◌≡◌, Result, Err}
-use Rattle.clap.specs.Words.{kind_of}
+use Rattle.std.specs.Prelude.{◌≡◌, ◌∷◌, [], List, Result, Err}
+use Rattle.clap.specs.Words.{App, Rule, Text, app_of, kind_of, with_rule, with_subcommand}
+use Rattle.clap.specs.declared.builder.command.Command.{Command}
+use Rattle.clap.specs.declared.builder.command.Command.TheViews.{out-Command}
 use Rattle.clap.specs.declared.error.Error.{Error}
 use Rattle.clap.specs.declared.error.kind.ErrorKind.{ErrorKind}
 use Rattle.clap.specs.declared.error.kind.ErrorKind.TheVariants.{ArgumentConflict, MissingRequiredArgument}
+use Rattle.tc_command.specs.Command.{check, explore, flag_rule, replay, report, run, word_rule, words_rule}
+use Rattle.tc_command.specs.declared.command.OptionRow.{OptionRow}
+use Rattle.tc_command.specs.declared.command.Subcommand.{Subcommand}
+use Rattle.tc_command.specs.declared.command.Subcommand.TheVariants as S
+use Rattle.tc_command.specs.declared.command.Takes.{Takes}
+use Rattle.tc_command.specs.declared.command.Takes.TheVariants as T
 use Rattle.tc_command.specs.declared.refusal.Refusal.{Refusal}
 use Rattle.tc_command.specs.declared.refusal.Refusal.TheVariants as R
 
@@ -18,3 +26,36 @@ abbrev pub IsToldBy : Refusal → Error → Type 0
 IsToldBy (R.Conflict first second) e = kind_of e ≡ ArgumentConflict
 IsToldBy R.NoForm e = kind_of e ≡ MissingRequiredArgument
 IsToldBy R.NoMemory e = ⊥
+
+-- an option of this name, which takes so many words
+abbrev pub rule_taking : Takes → Text → Rule
+rule_taking T.Nothing name = flag_rule name
+rule_taking (T.Word word) name = word_rule name
+rule_taking (T.Words word) name = words_rule name
+
+-- the option of a row
+abbrev pub rule_of_row : OptionRow → Rule
+rule_of_row row = rule_taking row.1 row.0.now
+
+-- an application with the options of these rows more, in their order
+abbrev pub with_rows : List OptionRow → App → App
+with_rows [] app = app
+with_rows (row ∷ rows) app = with_rows rows (with_rule app (rule_of_row row))
+
+-- the new command is the old one with so much more, none of it for the subcommands below
+pub record GrowsBy (more : App → App) (old : Command) (new : Command) : Type 0 where
+  pub options : app_of new ≡ more (app_of old)
+  pub local : (out-Command new).has_globals ≡ (out-Command old).has_globals
+
+-- what each subcommand offers
+abbrev pub app_of_subcommand : Subcommand → App
+app_of_subcommand S.Run = run
+app_of_subcommand S.Explore = explore
+app_of_subcommand S.Check = check
+app_of_subcommand S.Report = report
+app_of_subcommand S.Replay = replay
+
+-- an application with these subcommands more, in their order
+abbrev pub with_each : List Subcommand → App → App
+with_each [] app = app
+with_each (s ∷ ss) app = with_each ss (with_subcommand app (app_of_subcommand s).top)

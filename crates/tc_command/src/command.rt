@@ -2,7 +2,8 @@
 ghost use Rattle.std.specs.Prelude.{◌≡◌, IfOk, codes, false};
 ghost use Rattle.clap.specs.Words.{app_of, rule_of};
 ghost use Rattle.clap.specs.declared.builder.command.Command.TheViews.{out-Command};
-ghost use Rattle.tc_command.specs.Command.{check, explore, flag_rule, only, replay, report, run, ttrun, word_rule};
+ghost use Rattle.tc_command.specs.Command.{check, explore, flag_rule, replay, report, run, ttrun, word_rule, words_rule};
+ghost use Rattle.tc_command.specs.Inside.{GrowsBy, app_of_subcommand, rule_of_row, with_each, with_rows};
 
 use clap::{Arg, ArgAction, Command};
 use std::alloc::{AllocError, Global};
@@ -30,6 +31,94 @@ shards, K from 1 to N, has those whose place, from 0, is K - 1 modulo N.
 --list stands with --only and --shard alone, and --junit not with --live.
 Status: 0 for none and pass, 1 for inconc and fail, 2 for error, 3 for an abort or a refusal.";
 
+// The words that an option takes, by what the help calls one: none, one, or one each time that the option stands.
+#[derive(Clone, Copy)]
+enum Takes {
+    Nothing,
+    Word(&'static str),
+    Words(&'static str),
+}
+
+// An option: its name, the words that it takes, and what the help says of it.
+#[derive(Clone, Copy)]
+struct OptionRow(&'static str, Takes, &'static str);
+
+const EXPLAIN: OptionRow = OptionRow(
+    "explain",
+    Takes::Nothing,
+    "after a fault's line, says what stands there and what would be understood",
+);
+
+const RUN_OPTIONS: [OptionRow; 10] = [
+    OptionRow("csv", Takes::Nothing, "writes the report as CSV"),
+    OptionRow(
+        "history",
+        Takes::Nothing,
+        "writes the histories of the test cases",
+    ),
+    OptionRow(
+        "junit",
+        Takes::Nothing,
+        "writes the report as a JUnit suite",
+    ),
+    OptionRow(
+        "live",
+        Takes::Nothing,
+        "writes each test case as it finishes",
+    ),
+    OptionRow(
+        "progress",
+        Takes::Nothing,
+        "tells of each test case as it finishes, on standard error",
+    ),
+    OptionRow(
+        "stop-on",
+        Takes::Word("VERDICT"),
+        "stops after a test case with this verdict, or a worse one",
+    ),
+    OptionRow(
+        "list",
+        Takes::Nothing,
+        "prints the names of the test cases, and runs none",
+    ),
+    OptionRow(
+        "only",
+        Takes::Words("NAME"),
+        "runs this test case; may be given again, for others",
+    ),
+    OptionRow(
+        "shard",
+        Takes::Word("K/N"),
+        "runs the K-th of N shards of the test cases",
+    ),
+    EXPLAIN,
+];
+
+const EXPLORE_OPTIONS: [OptionRow; 3] = [
+    OptionRow(
+        "history",
+        Takes::Nothing,
+        "writes a history for each verdict that was found",
+    ),
+    OptionRow(
+        "details",
+        Takes::Nothing,
+        "says where schedules part and who waits for whom",
+    ),
+    OptionRow(
+        "states",
+        Takes::Word("N"),
+        "looks at so many states of a test case at most",
+    ),
+];
+
+const REPORT_OPTIONS: [OptionRow; 4] = [
+    OptionRow("csv", Takes::Nothing, "writes a table as CSV"),
+    OptionRow("junit", Takes::Nothing, "writes a JUnit suite"),
+    OptionRow("chart", Takes::Nothing, "writes a message sequence chart"),
+    EXPLAIN,
+];
+
 // An option that takes no word.
 fn flag<'a>(alloc: Global, name: &'a str, help: &'a str) -> Arg<'a>
     ensures rule { rule_of result ≡ flag_rule name.entry.now }
@@ -53,132 +142,144 @@ fn option<'a>(alloc: Global, name: &'a str, word: &'a str, help: &'a str) -> Arg
         .action(ArgAction::Set)
 }
 
-// The option that takes the name of a test case, and may stand again and again.
-fn only_option<'a>(alloc: Global) -> Arg<'a>
-    ensures rule { rule_of result ≡ only }
+// An option that takes one word, and may stand again and again.
+fn repeated_option<'a>(alloc: Global, name: &'a str, word: &'a str, help: &'a str) -> Arg<'a>
+    ensures rule { rule_of result ≡ words_rule name.entry.now }
     ensures local { result.global ≡ false }
 {
-    Arg::new(alloc, "only")
-        .long("only")
-        .help("runs this test case; may be given again, for others")
-        .value_name("NAME")
+    Arg::new(alloc, name)
+        .long(name)
+        .help(help)
+        .value_name(word)
         .action(ArgAction::Append)
 }
 
-// The option that asks for a fault to be explained.
-fn explain_option<'a>(alloc: Global) -> Arg<'a>
-    ensures rule { rule_of result ≡ flag_rule (codes "explain") }
+// The option of a row.
+fn option_of<'a>(alloc: Global, row: OptionRow) -> Arg<'a>
+    ensures rule { rule_of result ≡ rule_of_row row }
     ensures local { result.global ≡ false }
 {
-    flag(
-        alloc,
-        "explain",
-        "after a fault's line, says what stands there and what would be understood",
-    )
+    let OptionRow(name, takes, help) = row;
+    match takes {
+        Takes::Nothing => flag(alloc, name, help),
+        Takes::Word(word) => option(alloc, name, word, help),
+        Takes::Words(word) => repeated_option(alloc, name, word, help),
+    }
+}
+
+// The command with these options more.
+fn with_options<'a>(
+    alloc: Global,
+    mut command: Command<'a>,
+    rows: &[OptionRow],
+) -> Result<Command<'a>, AllocError>
+    ensures { IfOk result (GrowsBy (with_rows rows.now) command.entry) }
+{
+    for row in rows {
+        command = command.arg(option_of(alloc, *row))?;
+    }
+    Ok(command)
 }
 
 fn run_command<'a>(alloc: Global) -> Result<Command<'a>, AllocError>
     ensures options { IfOk result (λ c. app_of c ≡ run) }
     ensures local { IfOk result (λ c. (out-Command c).has_globals ≡ false) }
 {
-    Command::new(alloc, "run")
+    let command = Command::new(alloc, "run")
         .about("runs the campaign of a script, and writes its report")
-        .after_help(RUN_HELP)
-        .arg(flag(alloc, "csv", "writes the report as CSV"))?
-        .arg(flag(alloc, "history", "writes the histories of the test cases"))?
-        .arg(flag(alloc, "junit", "writes the report as a JUnit suite"))?
-        .arg(flag(alloc, "live", "writes each test case as it finishes"))?
-        .arg(flag(
-            alloc,
-            "progress",
-            "tells of each test case as it finishes, on standard error",
-        ))?
-        .arg(option(
-            alloc,
-            "stop-on",
-            "VERDICT",
-            "stops after a test case with this verdict, or a worse one",
-        ))?
-        .arg(flag(
-            alloc,
-            "list",
-            "prints the names of the test cases, and runs none",
-        ))?
-        .arg(only_option(alloc))?
-        .arg(option(
-            alloc,
-            "shard",
-            "K/N",
-            "runs the K-th of N shards of the test cases",
-        ))?
-        .arg(explain_option(alloc))
+        .after_help(RUN_HELP);
+    with_options(alloc, command, &RUN_OPTIONS)
 }
 
 fn explore_command<'a>(alloc: Global) -> Result<Command<'a>, AllocError>
     ensures options { IfOk result (λ c. app_of c ≡ explore) }
     ensures local { IfOk result (λ c. (out-Command c).has_globals ≡ false) }
 {
-    Command::new(alloc, "explore")
-        .about("looks for every overall verdict that a schedule of a test case can give")
-        .arg(flag(
-            alloc,
-            "history",
-            "writes a history for each verdict that was found",
-        ))?
-        .arg(flag(
-            alloc,
-            "details",
-            "says where schedules part and who waits for whom",
-        ))?
-        .arg(option(
-            alloc,
-            "states",
-            "N",
-            "looks at so many states of a test case at most",
-        ))
+    let command = Command::new(alloc, "explore").about(
+        "looks for every overall verdict that a schedule of a test case can give",
+    );
+    with_options(alloc, command, &EXPLORE_OPTIONS)
 }
 
 fn report_command<'a>(alloc: Global) -> Result<Command<'a>, AllocError>
     ensures options { IfOk result (λ c. app_of c ≡ report) }
     ensures local { IfOk result (λ c. (out-Command c).has_globals ≡ false) }
 {
-    Command::new(alloc, "report")
-        .about("reads histories, and writes them in one of these forms")
-        .arg(flag(alloc, "csv", "writes a table as CSV"))?
-        .arg(flag(alloc, "junit", "writes a JUnit suite"))?
-        .arg(flag(alloc, "chart", "writes a message sequence chart"))?
-        .arg(explain_option(alloc))
+    let command = Command::new(alloc, "report").about(
+        "reads histories, and writes them in one of these forms",
+    );
+    with_options(alloc, command, &REPORT_OPTIONS)
 }
 
 fn check_command<'a>(alloc: Global) -> Result<Command<'a>, AllocError>
     ensures options { IfOk result (λ c. app_of c ≡ check) }
     ensures local { IfOk result (λ c. (out-Command c).has_globals ≡ false) }
 {
-    Command::new(alloc, "check")
-        .about("replays histories, and says which are legal")
-        .arg(explain_option(alloc))
+    let command = Command::new(alloc, "check").about("replays histories, and says which are legal");
+    with_options(alloc, command, &[EXPLAIN])
 }
 
 fn replay_command<'a>(alloc: Global) -> Result<Command<'a>, AllocError>
     ensures options { IfOk result (λ c. app_of c ≡ replay) }
     ensures local { IfOk result (λ c. (out-Command c).has_globals ≡ false) }
 {
-    Command::new(alloc, "replay")
-        .about("replays a list of moves, and prints each reply and the overall verdict")
-        .arg(explain_option(alloc))
+    let command = Command::new(alloc, "replay").about(
+        "replays a list of moves, and prints each reply and the overall verdict",
+    );
+    with_options(alloc, command, &[EXPLAIN])
+}
+
+#[derive(Clone, Copy)]
+enum Subcommand {
+    Run,
+    Explore,
+    Check,
+    Report,
+    Replay,
+}
+
+const SUBCOMMANDS: [Subcommand; 5] = [
+    Subcommand::Run,
+    Subcommand::Explore,
+    Subcommand::Check,
+    Subcommand::Report,
+    Subcommand::Replay,
+];
+
+fn subcommand_of<'a>(alloc: Global, subcommand: Subcommand) -> Result<Command<'a>, AllocError>
+    ensures options { IfOk result (λ c. app_of c ≡ app_of_subcommand subcommand) }
+    ensures local { IfOk result (λ c. (out-Command c).has_globals ≡ false) }
+{
+    match subcommand {
+        Subcommand::Run => run_command(alloc),
+        Subcommand::Explore => explore_command(alloc),
+        Subcommand::Check => check_command(alloc),
+        Subcommand::Report => report_command(alloc),
+        Subcommand::Replay => replay_command(alloc),
+    }
+}
+
+// The program's command with these subcommands more.
+fn with_subcommands<'a>(
+    alloc: Global,
+    mut program: Command<'a>,
+    subcommands: &[Subcommand],
+) -> Result<Command<'a>, AllocError>
+    ensures { IfOk result (GrowsBy (with_each subcommands.now) program.entry) }
+{
+    for subcommand in subcommands {
+        program = program.subcommand(subcommand_of(alloc, *subcommand)?)?;
+    }
+    Ok(program)
 }
 
 /// The command with its subcommands.
 pub(crate) fn command<'a>(alloc: Global) -> Result<Command<'a>, AllocError>
     ensures { IfOk result (λ c. app_of c ≡ ttrun) }
 {
-    Command::new(alloc, "ttrun")
+    let program = Command::new(alloc, "ttrun")
         .about("the component control runtime of a TTCN-3 test executor")
         .version(VERSION)
-        .after_help(PROGRAM_HELP)
-        .subcommand(run_command(alloc)?)?
-        .subcommand(explore_command(alloc)?)?
-        .subcommand(check_command(alloc)?)?
-        .subcommand(report_command(alloc)?)?
-        .subcommand(replay_command(alloc)?)
+        .after_help(PROGRAM_HELP);
+    with_subcommands(alloc, program, &SUBCOMMANDS)
 }

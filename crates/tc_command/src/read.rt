@@ -1,6 +1,6 @@
 //! Words, and the task that they ask for.
-ghost use Rattle.std.specs.Prelude.{◌≡◌, IfOk, IfErr, Ok, codes, is_none, map, string_bytes};
-ghost use Rattle.clap.specs.Words.{FailsBy, found_of, rows_of, subcommand_of, subcommand_rows_of};
+ghost use Rattle.std.specs.Prelude.{◌≡◌, IfOk, IfErr, Ok, codes, is_none, map, string_bytes, true};
+ghost use Rattle.clap.specs.Words.{FailsBy, app_of, fault_of, found_of, is_simple, is_simple_and_free, rows_of, subcommand_of, subcommand_rows_of};
 ghost use Rattle.tc_command.specs.Command.{ttrun};
 ghost use Rattle.tc_command.specs.Asked.{asked, asked_by, choice_by, chosen_of, explore_by, faults, form_of, is_given, only_chooses, report_form_of};
 ghost use Rattle.tc_command.specs.Asked.{report_by, run_by, run_or_list, running_by, running_of, words_of};
@@ -11,7 +11,7 @@ use crate::refusal::{Refusal, error_of};
 use crate::stray::with_tip;
 use crate::task::{Choice, Form, ReportForm, RunOptions, Task};
 use clap::parser::ValueSource;
-use clap::{ArgMatches, Error};
+use clap::{ArgMatches, Command, Error};
 use std::alloc::{AllocError, Global};
 
 // Whether the words have this option.
@@ -211,6 +211,40 @@ fn task<'a>(alloc: Global, matches: &ArgMatches<'a>) -> Result<Task<'a>, Refusal
     }
 }
 
+// What the command finds in the words.
+fn parsed<'a>(
+    alloc: Global,
+    command: &mut Command<'a>,
+    words: &'a [String],
+) -> Result<ArgMatches<'a>, Error>
+    ensures found { IfOk result (λ m. is_simple (app_of command.old) ≡ true
+        → subcommand_rows_of m ≡ subcommand_of (app_of command.old) (map string_bytes words.entry.now)) }
+    ensures refused { is_simple_and_free (app_of command.old) ≡ true
+        → FailsBy (fault_of (app_of command.old) (map string_bytes words.entry.now)) result }
+{
+    match command.try_get_matches_from_mut(words) {
+        Ok(matches) => Ok(matches),
+        Err(error) => Err(with_tip(alloc, command, words, error)?),
+    }
+}
+
+// What the words ask for, as the program's command reads them.
+fn read_by<'a>(
+    alloc: Global,
+    command: &mut Command<'a>,
+    words: &'a [String],
+) -> Result<Task<'a>, Error>
+    ensures asked { app_of command.old ≡ ttrun
+        → IfOk result (λ task. asked_by (subcommand_of ttrun (map string_bytes words.entry.now)) ≡ Ok (asked task)) }
+    ensures refused { app_of command.old ≡ ttrun → FailsBy (faults (map string_bytes words.entry.now)) result }
+{
+    let matches = parsed(alloc, command, words)?;
+    match task(alloc, &matches) {
+        Ok(task) => Ok(task),
+        Err(refusal) => Err(error_of(alloc, command, refusal)?),
+    }
+}
+
 /// What the words ask for, the first of which is the program's name; with no further word it is `run`.
 /// An error of the kind DisplayHelp answers words that ask for help, one of the kind DisplayVersion words that ask for the
 /// version, any other one words that are refused.
@@ -219,12 +253,5 @@ pub fn read_task<'a>(alloc: Global, words: &'a [String]) -> Result<Task<'a>, Err
     ensures refused { FailsBy (faults (map string_bytes words.entry.now)) result }
 {
     let mut command = command(alloc)?;
-    let matches = match command.try_get_matches_from_mut(words) {
-        Ok(matches) => matches,
-        Err(error) => return Err(with_tip(alloc, &mut command, words, error)?),
-    };
-    match task(alloc, &matches) {
-        Ok(task) => Ok(task),
-        Err(refusal) => Err(error_of(alloc, &mut command, refusal)?),
-    }
+    read_by(alloc, &mut command, words)
 }
