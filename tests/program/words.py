@@ -11,19 +11,40 @@ COMMANDS = ("run", "check", "replay", "explore", "report", "ttrun run < FILE", "
             "Status of run, replay and report: 0 for none and pass, 1 for inconc and fail, 2 for error.",
             "Status of check: 0 where each history is legal.",
             "Status of explore: 0 where each test case has one verdict, 1 where one has several.")
-ALL_OPTIONS = ("--csv", "--history", "--junit", "--live", "--progress", "--stop-on", "--list", "--only", "--shard", "ttrun run < FILE",
-               "none, pass, inconc, fail or error",
+EXPLAIN = "after a fault's line, says what stands there and what would be understood\n"
+# A line for each option, as it stands in the help.
+ALL_OPTIONS = ("runs the campaign of a script, and writes its report\n",
+               "  --csv                writes the report as CSV\n",
+               "  --history            writes the histories of the test cases\n",
+               "  --junit              writes the report as a JUnit suite\n",
+               "  --live               writes each test case as it finishes\n",
+               "  --progress           tells of each test case as it finishes, on standard error\n",
+               "  --stop-on <VERDICT>  stops after a test case with this verdict, or a worse one\n",
+               "  --list               prints the names of the test cases, and runs none\n",
+               "  --only <NAME>        runs this test case; may be given again, for others\n",
+               "  --shard <K/N>        runs the K-th of N shards of the test cases\n",
+               "  --explain            " + EXPLAIN,
+               "ttrun run < FILE", "none, pass, inconc, fail or error",
                "Status: 0 for none and pass, 1 for inconc and fail, 2 for error, 3 for an abort or a refusal.")
+EXPLORE = ("looks for every overall verdict that a schedule of a test case can give\n",
+           "  --history     writes a history for each verdict that was found\n",
+           "  --details     says where schedules part and who waits for whom\n",
+           "  --states <N>  looks at so many states of a test case at most\n")
+REPORT = ("reads histories, and writes them in one of these forms\n",
+          "  --csv      writes a table as CSV\n", "  --junit    writes a JUnit suite\n",
+          "  --chart    writes a message sequence chart\n", "  --explain  " + EXPLAIN)
+CHECK = ("replays histories, and says which are legal\n", "  --explain  " + EXPLAIN)
+REPLAY = ("replays a list of moves, and prints each reply and the overall verdict\n", "  --explain  " + EXPLAIN)
 
 # The words, and what the help names.
 HELP: List[Tuple[Tuple[str, ...], Tuple[str, ...]]] = [
     (("--help",), COMMANDS), (("-h",), COMMANDS), (("help",), COMMANDS),
     (("help", "run"), ALL_OPTIONS), (("run", "--help"), ALL_OPTIONS), (("run", "-h"), ALL_OPTIONS),
     (("run", "--csv", "--help"), ALL_OPTIONS), (("run", "--stop-on", "fail", "-h"), ALL_OPTIONS),
-    (("help", "check"), ("check",)), (("check", "--help"), ("check",)), (("check", "-h"), ("check",)),
-    (("help", "explore"), ("--states", "--history")), (("explore", "-h"), ("--states", "--history")),
-    (("help", "report"), ("--csv", "--junit")), (("report", "--help"), ("--csv", "--junit")),
-    (("help", "replay"), ("replay",)), (("replay", "--help"), ("replay",)), (("replay", "-h"), ("replay",)),
+    (("help", "check"), CHECK), (("check", "--help"), CHECK), (("check", "-h"), CHECK),
+    (("help", "explore"), EXPLORE), (("explore", "-h"), EXPLORE),
+    (("help", "report"), REPORT), (("report", "--help"), REPORT),
+    (("help", "replay"), REPLAY), (("replay", "--help"), REPLAY), (("replay", "-h"), REPLAY),
 ]
 
 REFUSED: List[Tuple[str, Tuple[Word, ...]]] = [
