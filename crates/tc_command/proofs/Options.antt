@@ -1,14 +1,16 @@
 -- The options among the words, as the matches hold them.
-use Rattle.std.proofs.Common.{◌≡◌, ◌∙◌, refl, ap, sym, Option, Some, None, List, []}
+use Rattle.std.proofs.Common.{ℕ, ◌≡◌, ◌∙◌, ◌<◌, refl, All, ap, get_or, length, map, subst, sym, Option, Some, None, List, []}
+use Rattle.std.proofs.lemmas.List.{get_or-map, length-map}
+use Rattle.tc_entry.specs.Name.{IsName}
 use Rattle.std.specs.Prelude.{find, option_map, option_and_then, unwrap_or}
 use Rattle.std.specs.Borrow.{Bor}
 use Rattle.std.specs.Str.{bytes_eq}
 use Rattle.clap.specs.Facts.{Entry}
-use Rattle.clap.specs.Matches.{matched_of, raw_values}
-use Rattle.clap.specs.Walk.{Row, Text, row_of, rows_of, texts}
+use Rattle.clap.specs.Matches.{first_value, matched_of, raw_values}
+use Rattle.clap.specs.Walk.{Row, Text, first_of, row_of, rows_of, texts}
 use Rattle.clap.specs.declared.parser.matches.Found.{Found}
 use Rattle.clap.specs.declared.parser.matches.MatchedArg.{MatchedArg}
-use Rattle.clap.proofs.WalkLemmas.{find_row, raw_values-rows}
+use Rattle.clap.proofs.WalkLemmas.{find_row, first_value-rows, raw_values-rows}
 use Rattle.tc_command.specs.Asked.{words_of}
 
 -- the source of an option's value, by its row
@@ -28,3 +30,11 @@ words_are f id ws is = ap (λ o. unwrap_or o []) (sym is ∙ raw_values-rows f i
 -- without a row there is none
 pub no_words : (f : Found) (id : Text) → option_map raw_values (matched_of f id) ≡ None → [] ≡ words_of id (rows_of f)
 no_words f id is = ap (λ o. unwrap_or o []) (sym is ∙ raw_values-rows f id)
+
+-- the first value of an option, by its row
+pub first_word : (f : Found) (id : Text) → first_value f id ≡ first_of id (rows_of f)
+first_word f id = first_value-rows f id
+
+-- where all words are names, each is one
+pub name_at : (words : List (Bor Text)) (i : ℕ) (d : Bor Text) → i < length words → All IsName (map (λ w. w.now) words) → IsName (get_or words i d).now
+name_at words i d within all = subst IsName (get_or-map (λ (w : Bor Text). w.now) words i d d.now within) (all i d.now (subst (λ n. i < n) (sym (length-map words (λ (w : Bor Text). w.now))) within))

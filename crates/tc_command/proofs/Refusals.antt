@@ -1,41 +1,51 @@
--- When the words are refused, by what the parse answered.
+-- What the words are read as, by what the parse answered and what the options ask for.
 use Rattle.std.proofs.Common.{◌≡◌, ◌∙◌, true, sym, ap, subst, List, [], Result, Ok, Err, inl, inr}
+use Rattle.std.specs.Prelude.{Option}
 use Rattle.std.specs.Result.{IsErrAnd}
-use Rattle.clap.specs.Words.{App, FailsBy, HasKind, Text, fault_of, is_simple_and_free, kind_of, subcommand_of}
+use Rattle.clap.specs.Words.{App, HasKind, Row, Text, fault_of, is_simple_and_free, kind_of, subcommand_of}
+use Rattle.clap.specs.Simple.{is_simple}
 use Rattle.clap.specs.declared.error.Error.{Error}
-use Rattle.clap.specs.declared.error.kind.ErrorKind.{ErrorKind}
-use Rattle.clap.specs.declared.error.kind.ErrorKind.TheVariants.{ArgumentConflict, MissingRequiredArgument}
-use Rattle.clap.specs.Kinds.{Kinds}
 use Rattle.clap.proofs.FaultLemmas.{first_fails, past}
-use Rattle.tc_command.specs.Asked.{Asked, asked_by, faults, refusal_by}
+use Rattle.tc_command.specs.Asked.{Asks, HasBadWord, IsReading, faults, line_of, option_faults}
 use Rattle.tc_command.specs.Command.{ttrun}
-use Rattle.tc_command.specs.Inside.{IsRefusedBy, IsToldBy}
+use Rattle.tc_command.specs.Inside.{IsRefusedBy, IsTaken, IsToldBy}
+use Rattle.tc_command.specs.declared.read.Refused.{Refused}
+use Rattle.tc_command.specs.declared.read.Refused.TheVariants as Told
 use Rattle.tc_command.specs.declared.refusal.Refusal.{Refusal}
 use Rattle.tc_command.specs.declared.refusal.Refusal.TheVariants as R
+use Rattle.tc_command.specs.declared.task.Task.{Task}
 
 -- what the parse refuses is refused, for the same reason
 pub parse_refuses : (app : App) (words : List Text) (e : Error) → app ≡ ttrun
-    → (is_simple_and_free app ≡ true → HasKind (fault_of app words) e) → HasKind (faults words) e
+    → (is_simple_and_free app ≡ true → HasKind (fault_of app words) e) → IsReading words (Err (Told.Line e))
 parse_refuses app words e is kinds =
     first_fails (fault_of ttrun words) _ (kind_of e) (subst (λ a. HasKind (fault_of a words) e) is (kinds (ap is_simple_and_free is)))
 
--- what the parse takes is refused for what its options ask
-pub taken_refuses : (app : App) (words : List Text) (answer : Result Asked ErrorKind) → app ≡ ttrun → (is_simple_and_free app ≡ true → fault_of app words ≡ [])
-    → asked_by (subcommand_of app words) ≡ answer → faults words ≡ refusal_by answer
-taken_refuses app words answer is kinds asks =
-    past (fault_of ttrun words) _ (ap (λ x. fault_of x words) (sym is) ∙ kinds (ap is_simple_and_free is))
-    ∙ ap refusal_by (ap (λ x. asked_by (subcommand_of x words)) (sym is) ∙ asks)
+module _ (app : App) (words : List Text) (found : Option (Text × List Row)) (is : app ≡ ttrun) (free : is_simple_and_free app ≡ true → fault_of app words ≡ [])
+    (same : is_simple app ≡ true → found ≡ subcommand_of app words) where
+  -- the line is that of the words
+  line_is : line_of found ≡ line_of (subcommand_of ttrun words)
+  line_is = ap line_of (same (ap is_simple is)) ∙ ap (λ a. line_of (subcommand_of a words)) is
 
--- what the parse takes is refused as the error tells
-pub told : (app : App) (words : List Text) (refusal : Refusal) (e : Error) → app ≡ ttrun → (is_simple_and_free app ≡ true → fault_of app words ≡ [])
-    → IsRefusedBy (asked_by (subcommand_of app words)) refusal → IsToldBy refusal e → HasKind (faults words) e
-told app words (R.Conflict first second) e is kinds asks tells =
-    subst (λ k. HasKind k e) (sym (taken_refuses app words (Err ArgumentConflict) is kinds asks)) (inr (inl tells))
-told app words R.NoForm e is kinds asks tells =
-    subst (λ k. HasKind k e) (sym (taken_refuses app words (Err MissingRequiredArgument) is kinds asks)) (inr (inl tells))
-told app words R.NoMemory e is kinds asks tells = absurd tells
+  -- what the parse takes is refused for its options
+  faults_are : faults words ≡ option_faults (line_of found)
+  faults_are = past (fault_of ttrun words) _ (ap (λ x. fault_of x words) (sym is) ∙ free (ap is_simple_and_free is)) ∙ sym (ap option_faults line_is)
 
--- an answer that is this error fails as it does
-pub fails_so : {T : Type 0} (kinds : Kinds) (r : Result T Error) (e : Error) → IsErrAnd r (λ x. x ≡ e) → HasKind kinds e → FailsBy kinds r
-fails_so kinds (Ok x) e is has = absurd is
-fails_so kinds (Err x) e is has = subst (HasKind kinds) (sym is) has
+  -- what its options ask for is read
+  pub task_read : (task : Task) → IsTaken (line_of found) task → IsReading words (Ok task)
+  task_read task taken = (faults_are ∙ taken.0, subst (λ line. Asks line task) line_is taken.1)
+
+  -- what is told of its options is why the words are refused
+  pub refusal_read : (refusal : Refusal) (refused : Refused) → IsRefusedBy (line_of found) refusal → IsToldBy refusal refused → IsReading words (Err refused)
+  refusal_read (R.Conflict first second) (Told.Line e) why told = subst (λ k. HasKind k e) (sym (faults_are ∙ why)) (inr (inl told))
+  refusal_read (R.Conflict first second) (Told.Word f) why told = absurd told
+  refusal_read R.NoForm (Told.Line e) why told = subst (λ k. HasKind k e) (sym (faults_are ∙ why)) (inr (inl told))
+  refusal_read R.NoForm (Told.Word f) why told = absurd told
+  refusal_read (R.Word fault) (Told.Line e) why told = absurd told
+  refusal_read (R.Word fault) (Told.Word f) why told = (faults_are ∙ why.0, subst (λ g. HasBadWord (line_of (subcommand_of ttrun words)).1 g) (sym told) (subst (λ line. HasBadWord line.1 fault) line_is why.1))
+  refusal_read R.NoMemory refused why told = absurd told
+
+-- an answer that is this error is read as it is
+pub fails_so : (words : List Text) (r : Result Task Refused) (e : Error) → IsErrAnd r (λ x. x ≡ Told.Line e) → IsReading words (Err (Told.Line e)) → IsReading words r
+fails_so words (Ok x) e is reads = absurd is
+fails_so words (Err x) e is reads = subst (λ r. IsReading words (Err r)) (sym is) reads

@@ -1,5 +1,5 @@
 -- The program's command as a command line reads it: its subcommands, and their options.
-use Rattle.std.specs.Prelude.{Some, true, codes}
+use Rattle.std.specs.Prelude.{List, [], ◌∷◌, Some, true, codes}
 use Rattle.clap.specs.Words.{App, Rule, Text, new_app, new_rule, with_rule, with_subcommand}
 use Rattle.clap.specs.declared.builder.action.ArgAction.TheVariants.{Append, Set, SetTrue}
 
@@ -15,41 +15,32 @@ word_rule name = record (new_rule name) { long = Some name; action = Some Set; v
 abbrev pub words_rule : Text → Rule
 words_rule name = record (new_rule name) { long = Some name; action = Some Append; value_names = 1 }
 
--- the forms of a run: --csv, --history and --junit
-abbrev pub with_forms : App → App
-with_forms app = with_rule (with_rule (with_rule app (flag_rule (codes "csv"))) (flag_rule (codes "history"))) (flag_rule (codes "junit"))
+-- a command with these options more, in their order
+abbrev pub with_rules : App → List Rule → App
+with_rules app [] = app
+with_rules app (rule ∷ rules) = with_rules (with_rule app rule) rules
 
--- which test cases: --list, --only and --shard
-abbrev pub with_choice : App → App
-with_choice app = with_rule (with_rule (with_rule app (flag_rule (codes "list"))) (words_rule (codes "only"))) (word_rule (codes "shard"))
-
--- an option more, which asks for a fault to be explained: --explain
-abbrev pub with_explain : App → App
-with_explain app = with_rule app (flag_rule (codes "explain"))
-
--- as they finish: --live and --progress
-abbrev pub with_live : App → App
-with_live app = with_rule (with_rule app (flag_rule (codes "live"))) (flag_rule (codes "progress"))
-
--- run has the options of forms, --live and --progress, --stop-on, the options that choose, and --explain
+-- the options of `run`: its forms, as it finishes, how it is stopped, which test cases, and whether a fault is explained
 abbrev pub run : App
-run = with_explain (with_choice (with_rule (with_live (with_forms (new_app (codes "run")))) (word_rule (codes "stop-on"))))
+run = with_rules (new_app (codes "run")) (
+    flag_rule (codes "csv") ∷ flag_rule (codes "history") ∷ flag_rule (codes "junit") ∷ flag_rule (codes "live") ∷ flag_rule (codes "progress")
+    ∷ word_rule (codes "stop-on") ∷ flag_rule (codes "list") ∷ words_rule (codes "only") ∷ word_rule (codes "shard") ∷ flag_rule (codes "explain") ∷ [])
 
--- explore has the options --history, --details and --states
+-- the options of `explore`
 abbrev pub explore : App
-explore = with_rule (with_rule (with_rule (new_app (codes "explore")) (flag_rule (codes "history"))) (flag_rule (codes "details"))) (word_rule (codes "states"))
+explore = with_rules (new_app (codes "explore")) (flag_rule (codes "history") ∷ flag_rule (codes "details") ∷ word_rule (codes "states") ∷ [])
 
--- report has the options --csv, --junit, --chart and --explain
+-- the options of `report`
 abbrev pub report : App
-report = with_explain (with_rule (with_rule (with_rule (new_app (codes "report")) (flag_rule (codes "csv"))) (flag_rule (codes "junit"))) (flag_rule (codes "chart")))
+report = with_rules (new_app (codes "report")) (flag_rule (codes "csv") ∷ flag_rule (codes "junit") ∷ flag_rule (codes "chart") ∷ flag_rule (codes "explain") ∷ [])
 
--- check has the option --explain
+-- the option of `check`
 abbrev pub check : App
-check = with_explain (new_app (codes "check"))
+check = with_rules (new_app (codes "check")) (flag_rule (codes "explain") ∷ [])
 
--- replay has the option --explain
+-- the option of `replay`
 abbrev pub replay : App
-replay = with_explain (new_app (codes "replay"))
+replay = with_rules (new_app (codes "replay")) (flag_rule (codes "explain") ∷ [])
 
 -- a command that tells its version
 abbrev pub with_version : App → App

@@ -1,31 +1,57 @@
 -- What only the reading of the words needs: no public clause rests on a word of this file.
-use Rattle.std.specs.Prelude.{◌≡◌, ◌∷◌, [], List, Result, Err}
-use Rattle.clap.specs.Words.{App, Rule, Text, app_of, kind_of, with_rule, with_subcommand}
+use Rattle.std.specs.Prelude.{◌≡◌, ◌∷◌, [], Bool, List, true}
+use Rattle.clap.specs.Words.{App, Row, Rule, Text, app_of, kind_of, with_rule, with_subcommand}
 use Rattle.clap.specs.declared.builder.command.Command.{Command}
 use Rattle.clap.specs.declared.builder.command.Command.TheViews.{out-Command}
-use Rattle.clap.specs.declared.error.Error.{Error}
-use Rattle.clap.specs.declared.error.kind.ErrorKind.{ErrorKind}
 use Rattle.clap.specs.declared.error.kind.ErrorKind.TheVariants.{ArgumentConflict, MissingRequiredArgument}
+use Rattle.tc_command.specs.Asked.{Asks, HasBadWord, option_faults}
 use Rattle.tc_command.specs.Command.{check, explore, flag_rule, replay, report, run, word_rule, words_rule}
 use Rattle.tc_command.specs.declared.command.OptionRow.{OptionRow}
 use Rattle.tc_command.specs.declared.command.Subcommand.{Subcommand}
 use Rattle.tc_command.specs.declared.command.Subcommand.TheVariants as S
 use Rattle.tc_command.specs.declared.command.Takes.{Takes}
 use Rattle.tc_command.specs.declared.command.Takes.TheVariants as T
+use Rattle.tc_command.specs.declared.read.Refused.{Refused}
+use Rattle.tc_command.specs.declared.read.Refused.TheVariants as Told
 use Rattle.tc_command.specs.declared.refusal.Refusal.{Refusal}
 use Rattle.tc_command.specs.declared.refusal.Refusal.TheVariants as R
+use Rattle.tc_command.specs.declared.task.Task.{Task}
+use Rattle.tc_command.specs.declared.word.WordFault.{WordFault}
 
--- what is asked for is refused for this reason; want of memory says nothing of it
-abbrev pub IsRefusedBy : {X : Type 0} → Result X ErrorKind → Refusal → Type 0
-IsRefusedBy answer (R.Conflict first second) = answer ≡ Err ArgumentConflict
-IsRefusedBy answer R.NoForm = answer ≡ Err MissingRequiredArgument
-IsRefusedBy answer R.NoMemory = Unit {0}
+-- options are refused for this reason; want of memory says nothing of them
+abbrev pub IsRefusedBy : Subcommand × List Row → Refusal → Type 0
+IsRefusedBy line (R.Conflict first second) = option_faults line ≡ ArgumentConflict ∷ []
+IsRefusedBy line R.NoForm = option_faults line ≡ MissingRequiredArgument ∷ []
+IsRefusedBy line (R.Word fault) = (option_faults line ≡ []) × HasBadWord line.1 fault
+IsRefusedBy line R.NoMemory = Unit {0}
 
--- the error is of the kind of the refusal
-abbrev pub IsToldBy : Refusal → Error → Type 0
-IsToldBy (R.Conflict first second) e = kind_of e ≡ ArgumentConflict
-IsToldBy R.NoForm e = kind_of e ≡ MissingRequiredArgument
-IsToldBy R.NoMemory e = ⊥
+-- two options clash, where some do
+abbrev pub IsClash : Bool → Refusal → Type 0
+IsClash some (R.Conflict first second) = some ≡ true
+IsClash some refusal = ⊥
+
+-- a word is refused for this reason, or memory
+abbrev pub IsBadWord : Type 0 → WordFault → Refusal → Type 0
+IsBadWord Why fault (R.Word f) = (f ≡ fault) × Why
+IsBadWord Why fault R.NoMemory = Unit {0}
+IsBadWord Why fault refusal = ⊥
+
+-- the first word that names nothing is refused, or memory
+abbrev pub IsWordRefused : List Row → Refusal → Type 0
+IsWordRefused rows (R.Word fault) = HasBadWord rows fault
+IsWordRefused rows R.NoMemory = Unit {0}
+IsWordRefused rows refusal = ⊥
+
+-- options are taken, and ask for this task
+abbrev pub IsTaken : Subcommand × List Row → Task → Type 0
+IsTaken line task = (option_faults line ≡ []) × Asks line task
+
+-- the refusal is told: by an error of its kind, or as a word that names nothing
+abbrev pub IsToldBy : Refusal → Refused → Type 0
+IsToldBy (R.Conflict first second) (Told.Line e) = kind_of e ≡ ArgumentConflict
+IsToldBy R.NoForm (Told.Line e) = kind_of e ≡ MissingRequiredArgument
+IsToldBy (R.Word fault) (Told.Word f) = f ≡ fault
+IsToldBy refusal refused = ⊥
 
 -- an option of this name, which takes so many words
 abbrev pub rule_taking : Takes → Text → Rule

@@ -229,8 +229,9 @@ fn replay_command<'a>(alloc: Global) -> Result<Command<'a>, AllocError>
     with_options(alloc, command, &[EXPLAIN])
 }
 
+/// What the program does, by its subcommands.
 #[derive(Clone, Copy)]
-enum Subcommand {
+pub(crate) enum Subcommand {
     Run,
     Explore,
     Check,

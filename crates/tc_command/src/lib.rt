@@ -2,13 +2,16 @@
 #![tactic(auto)]
 
 mod command;
-pub mod laws;
 mod read;
 mod refusal;
+mod shard;
 mod stray;
 mod task;
+mod word;
 
 pub use command::VERSION;
-pub use read::read_task;
+pub use read::{Refused, read_task};
+pub use shard::Shard;
 pub use stray::stray_file;
 pub use task::{Choice, Form, ReportForm, RunOptions, Task};
+pub use word::WordFault;

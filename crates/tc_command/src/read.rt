@@ -1,191 +1,243 @@
 //! Words, and the task that they ask for.
-ghost use Rattle.std.specs.Prelude.{◌≡◌, IfOk, IfErr, Ok, codes, is_none, map, string_bytes, true};
-ghost use Rattle.clap.specs.Words.{FailsBy, app_of, fault_of, found_of, is_simple, is_simple_and_free, rows_of, subcommand_of, subcommand_rows_of};
+ghost use Rattle.std.specs.Prelude.{◌≡◌, All, IfOk, IfErr, List, None, OnOk, codes, false, map, option_copied, string_bytes, true};
+ghost use Rattle.std.specs.List.{list_any};
+ghost use Rattle.clap.specs.Words.{FailsBy, Row, app_of, fault_of, first_of, found_of, is_simple, is_simple_and_free, rows_of, subcommand_of, subcommand_rows_of};
+ghost use Rattle.tc_entry.specs.Name.{IsName};
 ghost use Rattle.tc_command.specs.Command.{ttrun};
-ghost use Rattle.tc_command.specs.Asked.{asked, asked_by, choice_by, chosen_of, explore_by, faults, form_of, is_given, only_chooses, report_form_of};
-ghost use Rattle.tc_command.specs.Asked.{report_by, run_by, run_or_list, running_by, running_of, words_of};
-ghost use Rattle.tc_command.specs.Inside.{IsRefusedBy};
+ghost use Rattle.tc_command.specs.Asked.{Asks, AsksRun, IsReading, apart as spec_apart, are_both, form_of, is_given, line_of};
+ghost use Rattle.tc_command.specs.Asked.{report_form_of, subcommand_named as spec_named, words_of};
+ghost use Rattle.tc_command.specs.Inside.{IsBadWord, IsClash, IsRefusedBy, IsTaken, IsWordRefused};
+ghost use Rattle.tc_command.specs.declared.command.Subcommand.TheVariants.{Explore, Report, Run};
+ghost use Rattle.tc_command.specs.declared.refusal.Refusal.TheVariants.{NoForm};
+ghost use Rattle.tc_command.specs.declared.word.WordFault.TheVariants as fault;
 
-use crate::command::command;
-use crate::refusal::{Refusal, error_of};
+use crate::command::{Subcommand, command};
+use crate::refusal::{Refusal, told_of};
 use crate::stray::with_tip;
 use crate::task::{Choice, Form, ReportForm, RunOptions, Task};
+use crate::word::{self, WordFault};
 use clap::parser::ValueSource;
 use clap::{ArgMatches, Command, Error};
 use std::alloc::{AllocError, Global};
+use tc_entry::Name;
+
+/// Why words ask for no task.
+#[derive(Drop)]
+pub enum Refused {
+    /// They ask for help or for the version, or the command line is refused, or memory was.
+    Line(Error),
+    /// A word behind an option names nothing.
+    Word(WordFault),
+}
+
+impl From<Error> for Refused {
+    ghost use Rattle.std.specs.Prelude.{◌≡◌};
+    ghost use Rattle.tc_command.specs.declared.read.Refused.TheVariants as refused;
+
+    ghost from_gives = { λ error r. r ≡ refused.Line error };
+
+    fn from(error: Error) -> Refused {
+        Refused::Line(error)
+    }
+}
+
+// Options of which each two do not stand together.
+fn apart(subcommand: Subcommand) -> &'static [(&'static str, &'static str)]
+    ensures { (rows : List Row) → list_any (λ p. are_both rows (p.0.now, p.1.now)) result.now ≡ list_any (are_both rows) (spec_apart subcommand) }
+{
+    match subcommand {
+        Subcommand::Run => &[
+            ("csv", "history"),
+            ("csv", "junit"),
+            ("history", "junit"),
+            ("list", "csv"),
+            ("list", "history"),
+            ("list", "junit"),
+            ("list", "live"),
+            ("list", "progress"),
+            ("list", "stop-on"),
+            ("list", "explain"),
+            ("junit", "live"),
+        ],
+        Subcommand::Explore => &[("history", "details")],
+        Subcommand::Report => &[("csv", "junit"), ("csv", "chart"), ("junit", "chart")],
+        Subcommand::Check | Subcommand::Replay => &[],
+    }
+}
 
 // Whether the words have this option.
 #[tactic(auto, using(crate::proofs::Options::source_of))]
 fn has_option(matches: &ArgMatches<'_>, id: &str) -> bool
-    ensures { result ≡ is_given id.now (rows_of (found_of matches.now)) }
+    ensures { result ≡ is_given (rows_of (found_of matches.now)) id.now }
 {
     matches!(matches.value_source(id), Some(ValueSource::CommandLine))
 }
 
+// That of no pair of options both are given.
+fn refuse_both(
+    options: &ArgMatches<'_>,
+    pairs: &[(&'static str, &'static str)],
+) -> Result<(), Refusal>
+    ensures none { OnOk result (list_any (λ p. are_both (rows_of (found_of options.now)) (p.0.now, p.1.now)) pairs.now ≡ false) }
+    ensures some { IfErr result (IsClash (list_any (λ p. are_both (rows_of (found_of options.now)) (p.0.now, p.1.now)) pairs.now)) }
+{
+    for (first, second) in pairs {
+        if has_option(options, first) && has_option(options, second) {
+            return Err(Refusal::Conflict(first, second));
+        }
+    }
+    Ok(())
+}
+
+// The word of this option, the first where it has more.
+#[tactic(auto, using(crate::proofs::Options::first_word))]
+fn word_of<'a>(options: &ArgMatches<'a>, id: &str) -> Option<&'a str>
+    ensures { option_copied result ≡ first_of id.now (rows_of (found_of options.now)) }
+{
+    options.get_str(id)
+}
+
 // The form that the options of `run` ask for.
-fn form(options: &ArgMatches<'_>) -> Result<Form, Refusal>
-    ensures taken { IfOk result (λ f. form_of (rows_of (found_of options.now)) ≡ Ok f) }
-    ensures refused { IfErr result (IsRefusedBy (form_of (rows_of (found_of options.now)))) }
+fn form(options: &ArgMatches<'_>) -> Form
+    ensures { result ≡ form_of (rows_of (found_of options.now)) }
 {
-    let csv = has_option(options, "csv");
-    let history = has_option(options, "history");
-    let junit = has_option(options, "junit");
-    match (csv, history, junit) {
-        (false, false, false) => Ok(Form::Text),
-        (true, false, false) => Ok(Form::Csv),
-        (false, true, false) => Ok(Form::History),
-        (false, false, true) => Ok(Form::Junit),
-        (true, true, _) => Err(Refusal::Conflict("csv", "history")),
-        (true, false, true) => Err(Refusal::Conflict("csv", "junit")),
-        (false, true, true) => Err(Refusal::Conflict("history", "junit")),
+    if has_option(options, "csv") {
+        Form::Csv
+    } else if has_option(options, "history") {
+        Form::History
+    } else if has_option(options, "junit") {
+        Form::Junit
+    } else {
+        Form::Text
     }
 }
 
-// The names that `--only` is given.
-#[tactic(auto, using(crate::proofs::Options::words_are, crate::proofs::Options::no_words))]
-fn names<'a>(alloc: Global, options: &ArgMatches<'a>) -> Result<Vec<&'a str>, AllocError>
-    ensures { IfOk result (λ v. map (λ w. w.now) v.items ≡ words_of (codes "only") (rows_of (found_of options.now))) }
+// The form that the options of `report` ask for, where they ask for one.
+fn report_form(options: &ArgMatches<'_>) -> Option<ReportForm>
+    ensures { result ≡ report_form_of (rows_of (found_of options.now)) }
 {
-    match options.get_strs("only") {
-        Some(words) => words.to_vec(alloc),
-        None => Ok(Vec::new(alloc)),
-    }
-}
-
-// Which test cases the options choose.
-fn choice<'a>(alloc: Global, options: &ArgMatches<'a>) -> Result<Choice<'a>, AllocError>
-    ensures { IfOk result (λ c. chosen_of c ≡ choice_by (rows_of (found_of options.now))) }
-{
-    let only = names(alloc, options)?;
-    let shard = options.get_str("shard");
-    Ok(Choice { only, shard })
-}
-
-// How the options ask for a campaign to be run, in this form.
-fn run_options<'a>(
-    alloc: Global,
-    options: &ArgMatches<'a>,
-    form: Form,
-) -> Result<RunOptions<'a>, AllocError>
-    ensures { IfOk result (λ r. running_of r ≡ running_by (rows_of (found_of options.now)) form) }
-{
-    let choice = choice(alloc, options)?;
-    let live = has_option(options, "live");
-    let progress = has_option(options, "progress");
-    let stop_on = options.get_str("stop-on");
-    let explains = has_option(options, "explain");
-    Ok(RunOptions {
-        form,
-        live,
-        progress,
-        stop_on,
-        choice,
-        explains,
-    })
-}
-
-// An option beside which `--list` can't stand.
-fn beside_list(options: &RunOptions<'_>) -> Option<&'static str>
-    ensures { only_chooses (running_of options.now) ≡ is_none result }
-{
-    match options.form {
-        Form::Csv => return Some("csv"),
-        Form::History => return Some("history"),
-        Form::Junit => return Some("junit"),
-        Form::Text => {}
-    }
-    if options.live {
-        Some("live")
-    } else if options.progress {
-        Some("progress")
-    } else if options.stop_on.is_some() {
-        Some("stop-on")
-    } else if options.explains {
-        Some("explain")
+    if has_option(options, "csv") {
+        Some(ReportForm::Csv)
+    } else if has_option(options, "junit") {
+        Some(ReportForm::Junit)
+    } else if has_option(options, "chart") {
+        Some(ReportForm::Chart)
     } else {
         None
     }
 }
 
-// The run with these options, or the list of its test cases.
-fn run_or_list_task(options: RunOptions<'_>, lists: bool) -> Result<Task<'_>, Refusal>
-    ensures taken { IfOk result (λ task. run_or_list lists (running_of options.entry) ≡ Ok (asked task)) }
-    ensures refused { IfErr result (IsRefusedBy (run_or_list lists (running_of options.entry))) }
+// The names that `--only` is given.
+#[tactic(auto, using(crate::proofs::Options::words_are, crate::proofs::Options::no_words))]
+fn names(alloc: Global, options: &ArgMatches<'_>) -> Result<Vec<Name>, Refusal>
+    ensures taken { IfOk result (λ v. v.items ≡ words_of (codes "only") (rows_of (found_of options.now))) }
+    ensures refused { IfErr result (IsBadWord (All IsName (words_of (codes "only") (rows_of (found_of options.now))) → ⊥) fault.Only) }
 {
-    if lists {
-        return match beside_list(&options) {
-            Some(other) => Err(Refusal::Conflict("list", other)),
-            None => Ok(Task::List(options.choice)),
-        };
+    match options.get_strs("only") {
+        Some(words) => {
+            let words = words.to_vec(alloc)?;
+            word::names(alloc, words.as_slice())
+        }
+        None => Ok(Vec::new(alloc)),
     }
-    if options.live && options.form == Form::Junit {
-        return Err(Refusal::Conflict("junit", "live"));
-    }
-    Ok(Task::Run(options))
+}
+
+// How the options ask for a campaign to be run.
+fn run_options(alloc: Global, options: &ArgMatches<'_>) -> Result<RunOptions, Refusal>
+    ensures taken { IfOk result (AsksRun (rows_of (found_of options.now))) }
+    ensures refused { IfErr result (IsWordRefused (rows_of (found_of options.now))) }
+{
+    let shard = word::shard(word_of(options, "shard"))?;
+    let stop_on = word::stop_on(word_of(options, "stop-on"))?;
+    let only = names(alloc, options)?;
+    Ok(RunOptions {
+        form: form(options),
+        live: has_option(options, "live"),
+        progress: has_option(options, "progress"),
+        stop_on,
+        choice: Choice { only, shard },
+        explains: has_option(options, "explain"),
+    })
 }
 
 // What the options of `run` ask for.
-fn run_task<'a>(alloc: Global, options: &ArgMatches<'a>) -> Result<Task<'a>, Refusal>
-    ensures taken { IfOk result (λ task. run_by (rows_of (found_of options.now)) ≡ Ok (asked task)) }
-    ensures refused { IfErr result (IsRefusedBy (run_by (rows_of (found_of options.now)))) }
+fn run_task(alloc: Global, options: &ArgMatches<'_>) -> Result<Task, Refusal>
+    ensures taken { IfOk result (Asks (Run, rows_of (found_of options.now))) }
+    ensures refused { IfErr result (IsWordRefused (rows_of (found_of options.now))) }
 {
-    let form = form(options)?;
-    let lists = has_option(options, "list");
-    let options = run_options(alloc, options, form)?;
-    run_or_list_task(options, lists)
+    let run = run_options(alloc, options)?;
+    if has_option(options, "list") {
+        Ok(Task::List(run.choice))
+    } else {
+        Ok(Task::Run(run))
+    }
 }
 
 // What the options of `explore` ask for.
-fn explore_task<'a>(options: &ArgMatches<'a>) -> Result<Task<'a>, Refusal>
-    ensures taken { IfOk result (λ task. explore_by (rows_of (found_of options.now)) ≡ Ok (asked task)) }
-    ensures refused { IfErr result (IsRefusedBy (explore_by (rows_of (found_of options.now)))) }
+fn explore_task(options: &ArgMatches<'_>) -> Result<Task, Refusal>
+    ensures taken { IfOk result (Asks (Explore, rows_of (found_of options.now))) }
+    ensures refused { IfErr result (IsWordRefused (rows_of (found_of options.now))) }
 {
-    let histories = has_option(options, "history");
-    let details = has_option(options, "details");
-    if histories && details {
-        return Err(Refusal::Conflict("history", "details"));
-    }
-    let states = options.get_str("states");
+    let states = word::states(word_of(options, "states"))?;
     Ok(Task::Explore {
-        histories,
-        details,
+        histories: has_option(options, "history"),
+        details: has_option(options, "details"),
         states,
     })
 }
 
-// The form that the options of `report` ask for.
-fn report_form(options: &ArgMatches<'_>) -> Result<ReportForm, Refusal>
-    ensures taken { IfOk result (λ f. report_form_of (rows_of (found_of options.now)) ≡ Ok f) }
-    ensures refused { IfErr result (IsRefusedBy (report_form_of (rows_of (found_of options.now)))) }
+// What the options of `report` ask for.
+fn report_task(options: &ArgMatches<'_>) -> Result<Task, Refusal>
+    ensures taken { IfOk result (Asks (Report, rows_of (found_of options.now))) }
+    ensures refused { IfErr result (λ r. (r ≡ NoForm) × (report_form_of (rows_of (found_of options.now)) ≡ None)) }
 {
-    let csv = has_option(options, "csv");
-    let junit = has_option(options, "junit");
-    let chart = has_option(options, "chart");
-    match (csv, junit, chart) {
-        (true, false, false) => Ok(ReportForm::Csv),
-        (false, true, false) => Ok(ReportForm::Junit),
-        (false, false, true) => Ok(ReportForm::Chart),
-        (false, false, false) => Err(Refusal::NoForm),
-        (true, true, _) => Err(Refusal::Conflict("csv", "junit")),
-        (true, false, true) => Err(Refusal::Conflict("csv", "chart")),
-        (false, true, true) => Err(Refusal::Conflict("junit", "chart")),
+    let form = report_form(options).ok_or(Refusal::NoForm)?;
+    Ok(Task::Report {
+        form,
+        explains: has_option(options, "explain"),
+    })
+}
+
+// What a subcommand with its options asks for.
+fn subcommand_task(
+    alloc: Global,
+    subcommand: Subcommand,
+    options: &ArgMatches<'_>,
+) -> Result<Task, Refusal>
+    ensures taken { IfOk result (IsTaken (subcommand, rows_of (found_of options.now))) }
+    ensures refused { IfErr result (IsRefusedBy (subcommand, rows_of (found_of options.now))) }
+{
+    refuse_both(options, apart(subcommand))?;
+    match subcommand {
+        Subcommand::Run => run_task(alloc, options),
+        Subcommand::Explore => explore_task(options),
+        Subcommand::Report => report_task(options),
+        Subcommand::Check => Ok(Task::Check {
+            explains: has_option(options, "explain"),
+        }),
+        Subcommand::Replay => Ok(Task::Replay {
+            explains: has_option(options, "explain"),
+        }),
     }
 }
 
-// What the options of `report` ask for.
-fn report_task<'a>(options: &ArgMatches<'_>) -> Result<Task<'a>, Refusal>
-    ensures taken { IfOk result (λ task. report_by (rows_of (found_of options.now)) ≡ Ok (asked task)) }
-    ensures refused { IfErr result (IsRefusedBy (report_by (rows_of (found_of options.now)))) }
+// The subcommand of this name; any other word that the command line takes is `run`.
+fn subcommand_named(name: &str) -> Subcommand
+    ensures { result ≡ spec_named name.now }
 {
-    let form = report_form(options)?;
-    let explains = has_option(options, "explain");
-    Ok(Task::Report { form, explains })
+    match name {
+        "check" => Subcommand::Check,
+        "replay" => Subcommand::Replay,
+        "explore" => Subcommand::Explore,
+        "report" => Subcommand::Report,
+        _ => Subcommand::Run,
+    }
 }
 
-// What the subcommand asks for.
-fn task<'a>(alloc: Global, matches: &ArgMatches<'a>) -> Result<Task<'a>, Refusal>
-    ensures taken { IfOk result (λ task. asked_by (subcommand_rows_of matches.now) ≡ Ok (asked task)) }
-    ensures refused { IfErr result (IsRefusedBy (asked_by (subcommand_rows_of matches.now))) }
+// What the line asks for.
+fn task(alloc: Global, matches: &ArgMatches<'_>) -> Result<Task, Refusal>
+    ensures taken { IfOk result (IsTaken (line_of (subcommand_rows_of matches.now))) }
+    ensures refused { IfErr result (IsRefusedBy (line_of (subcommand_rows_of matches.now))) }
 {
     match matches.subcommand() {
         None => Ok(Task::Run(RunOptions {
@@ -199,15 +251,7 @@ fn task<'a>(alloc: Global, matches: &ArgMatches<'a>) -> Result<Task<'a>, Refusal
             },
             explains: false,
         })),
-        Some(("check", options)) => Ok(Task::Check {
-            explains: has_option(options, "explain"),
-        }),
-        Some(("replay", options)) => Ok(Task::Replay {
-            explains: has_option(options, "explain"),
-        }),
-        Some(("explore", options)) => explore_task(options),
-        Some(("report", options)) => report_task(options),
-        Some((_, options)) => run_task(alloc, options),
+        Some((name, options)) => subcommand_task(alloc, subcommand_named(name), options),
     }
 }
 
@@ -233,25 +277,28 @@ fn read_by<'a>(
     alloc: Global,
     command: &mut Command<'a>,
     words: &'a [String],
-) -> Result<Task<'a>, Error>
-    ensures asked { app_of command.old ≡ ttrun
-        → IfOk result (λ task. asked_by (subcommand_of ttrun (map string_bytes words.entry.now)) ≡ Ok (asked task)) }
-    ensures refused { app_of command.old ≡ ttrun → FailsBy (faults (map string_bytes words.entry.now)) result }
+) -> Result<Task, Refused>
+    ensures { app_of command.old ≡ ttrun → IsReading (map string_bytes words.entry.now) result }
 {
     let matches = parsed(alloc, command, words)?;
     match task(alloc, &matches) {
         Ok(task) => Ok(task),
-        Err(refusal) => Err(error_of(alloc, command, refusal)?),
+        Err(refusal) => match told_of(alloc, command, refusal) {
+            Ok(refused) => Err(refused),
+            Err(error) => Err(Refused::Line(Error::from(error))),
+        },
     }
 }
 
 /// What the words ask for, the first of which is the program's name; with no further word it is `run`.
 /// An error of the kind DisplayHelp answers words that ask for help, one of the kind DisplayVersion words that ask for the
-/// version, any other one words that are refused.
-pub fn read_task<'a>(alloc: Global, words: &'a [String]) -> Result<Task<'a>, Error>
-    ensures asked { IfOk result (λ task. asked_by (subcommand_of ttrun (map string_bytes words.entry.now)) ≡ Ok (asked task)) }
-    ensures refused { FailsBy (faults (map string_bytes words.entry.now)) result }
+/// version, any other one words that are refused. Words of which each option may stand, and one behind an option names
+/// nothing, are refused for that word.
+pub fn read_task(alloc: Global, words: &[String]) -> Result<Task, Refused>
+    ensures { IsReading (map string_bytes words.entry.now) result }
 {
-    let mut command = command(alloc)?;
-    read_by(alloc, &mut command, words)
+    match command(alloc) {
+        Ok(mut command) => read_by(alloc, &mut command, words),
+        Err(error) => Err(Refused::Line(Error::from(error))),
+    }
 }

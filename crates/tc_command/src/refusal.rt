@@ -1,10 +1,14 @@
-//! Why options that the command has ask for nothing.
+//! Why words ask for nothing.
 ghost use Rattle.std.specs.Prelude.{◌≡◌, IfOk};
+ghost use Rattle.clap.specs.Words.{kind_of};
+ghost use Rattle.clap.specs.declared.error.kind.ErrorKind.TheVariants.{ArgumentConflict};
 ghost use Rattle.tc_command.specs.Inside.{IsToldBy};
 
+use crate::read::Refused;
+use crate::word::WordFault;
 use clap::error::ErrorKind;
 use clap::{Command, Error};
-use std::alloc::{AllocError, Global};
+use std::alloc::{AllocError, AllocFailed, Global};
 
 /// Why options ask for nothing.
 #[derive(Clone, Copy, Debug, PartialEq, Eq)]
@@ -13,6 +17,8 @@ pub(crate) enum Refusal {
     Conflict(&'static str, &'static str),
     /// `report` without a form.
     NoForm,
+    /// A word behind an option names nothing.
+    Word(WordFault),
     /// Memory was refused.
     NoMemory,
 }
@@ -28,25 +34,58 @@ impl From<AllocError> for Refusal {
     }
 }
 
-/// The error that tells of the refusal, with the usage of the command.
-pub(crate) fn error_of(
+impl<T: Drop> From<AllocFailed<T>> for Refusal {
+    ghost use Rattle.std.specs.Prelude.{◌≡◌};
+    ghost use Rattle.tc_command.specs.declared.refusal.Refusal.TheVariants as refusals;
+
+    ghost from_gives = { λ _ r. r ≡ refusals.NoMemory };
+
+    fn from(_: AllocFailed<T>) -> Refusal {
+        Refusal::NoMemory
+    }
+}
+
+impl From<WordFault> for Refusal {
+    ghost use Rattle.std.specs.Prelude.{◌≡◌};
+    ghost use Rattle.tc_command.specs.declared.refusal.Refusal.TheVariants as refusals;
+
+    ghost from_gives = { λ fault r. r ≡ refusals.Word fault };
+
+    fn from(fault: WordFault) -> Refusal {
+        Refusal::Word(fault)
+    }
+}
+
+// The error that tells of options that do not stand together, with the usage of the command.
+fn conflict_error(
+    alloc: Global,
+    command: &mut Command<'_>,
+    first: &str,
+    second: &str,
+) -> Result<Error, AllocError>
+    ensures { IfOk result (λ e. kind_of e ≡ ArgumentConflict) }
+{
+    let text = format!(in alloc; "the argument '--{first}' cannot be used with '--{second}'")?;
+    command.error(ErrorKind::ArgumentConflict, text.as_str())
+}
+
+/// The refusal as it is told: as a word that names nothing, or by an error with the usage of the command.
+pub(crate) fn told_of(
     alloc: Global,
     command: &mut Command<'_>,
     refusal: Refusal,
-) -> Result<Error, AllocError>
+) -> Result<Refused, AllocError>
     ensures { IfOk result (IsToldBy refusal) }
 {
     match refusal {
         Refusal::Conflict(first, second) => {
-            let text = format!(in alloc;
-                "the argument '--{first}' cannot be used with '--{second}'"
-            )?;
-            command.error(ErrorKind::ArgumentConflict, text.as_str())
+            Ok(Refused::Line(conflict_error(alloc, command, first, second)?))
         }
-        Refusal::NoForm => command.error(
+        Refusal::NoForm => Ok(Refused::Line(command.error(
             ErrorKind::MissingRequiredArgument,
             "one of the arguments '--csv', '--junit' and '--chart' is needed",
-        ),
+        )?)),
+        Refusal::Word(fault) => Ok(Refused::Word(fault)),
         Refusal::NoMemory => Err(AllocError),
     }
 }

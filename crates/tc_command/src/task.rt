@@ -1,4 +1,7 @@
 //! What the program can be asked for.
+use crate::shard::Shard;
+use tc_entry::Name;
+use tc_verdict::Verdict;
 
 /// In which form the results are written.
 #[derive(Clone, Copy, Debug, PartialEq, Eq)]
@@ -26,41 +29,41 @@ pub enum ReportForm {
 
 /// Which test cases of a script are chosen.
 #[derive(Debug, Drop, PartialEq, Eq)]
-pub struct Choice<'a> {
-    /// The words of `--only` in their order; without one all test cases are chosen.
-    pub only: Vec<&'a str>,
-    /// The word of `--shard`.
-    pub shard: Option<&'a str>,
+pub struct Choice {
+    /// The names of `--only` in their order; without one all test cases are chosen.
+    pub only: Vec<Name>,
+    /// The shard of `--shard`.
+    pub shard: Option<Shard>,
 }
 
 /// How a campaign is run.
 #[derive(Debug, Drop, PartialEq, Eq)]
-pub struct RunOptions<'a> {
+pub struct RunOptions {
     /// How its results are written.
     pub form: Form,
     /// Whether each test case is written as it finishes.
     pub live: bool,
     /// Whether each test case is told of as it finishes.
     pub progress: bool,
-    /// The word of `--stop-on`.
-    pub stop_on: Option<&'a str>,
+    /// The stopping rule: a test case with this verdict, or a worse one, is the last.
+    pub stop_on: Option<Verdict>,
     /// Which test cases are run.
-    pub choice: Choice<'a>,
+    pub choice: Choice,
     /// Whether a fault of the script is explained.
     pub explains: bool,
 }
 
 /// What the program is asked for. A task that explains says behind the line of a fault what stands there.
 #[derive(Debug, Drop, PartialEq, Eq)]
-pub enum Task<'a> {
+pub enum Task {
     /// Replay a list of moves.
     Replay {
         explains: bool,
     },
     /// Run a campaign.
-    Run(RunOptions<'a>),
+    Run(RunOptions),
     /// Print the names of the test cases, and run none.
-    List(Choice<'a>),
+    List(Choice),
     /// Check histories.
     Check {
         explains: bool,
@@ -70,10 +73,11 @@ pub enum Task<'a> {
         form: ReportForm,
         explains: bool,
     },
-    /// Explore a campaign: whether the histories of the witnesses are written or details told, and the word of `--states`.
+    /// Explore a campaign: whether the histories of the witnesses are written or details told, and at how many states of a
+    /// test case it looks at most.
     Explore {
         histories: bool,
         details: bool,
-        states: Option<&'a str>,
+        states: usize,
     },
 }

@@ -7,6 +7,7 @@ use std::alloc::{AllocError, AllocGlobal, Global};
 use std::process::Abort;
 use std::test::Fail;
 use tc_command::*;
+use tc_verdict::{Verdict, name};
 
 const HELP: &str = "DisplayHelp";
 
@@ -24,6 +25,14 @@ const VERSION_SHOWN: &str = "DisplayVersion";
 
 const NO_FORM: &str = "MissingRequiredArgument";
 
+const NO_VERDICT: &str = "--stop-on takes none, pass, inconc, fail or error";
+
+const NO_STATES: &str = "--states takes a number from 1 to 1000000";
+
+const NO_SHARD: &str = "--shard takes K/N, with K from 1 to N";
+
+const NO_NAME: &str = "--only takes the name of a test case of the script";
+
 fn words(alloc: Global, line: &str) -> Result<Vec<String>, AllocError> {
     let mut words = Vec::new(alloc);
     for word in line.split(' ') {
@@ -37,21 +46,26 @@ fn given(is_given: bool, option: &'static str) -> &'static str {
     if is_given { option } else { "" }
 }
 
-/// The option with its word where it is given, behind a space.
-fn given_word(alloc: Global, option: &str, word: Option<&str>) -> Result<String, AllocError> {
-    match word {
-        Some(word) => format!(in alloc; " {option}={word}"),
-        None => Ok(String::new(alloc)),
-    }
-}
-
 fn words_of_choice(alloc: Global, choice: &Choice) -> Result<String, AllocError> {
     let mut words = String::new(alloc);
     for name in &choice.only {
-        words.push_str(given_word(alloc, "--only", Some(name))?.as_str())?;
+        words.push_str(" --only=")?;
+        for byte in name.bytes() {
+            words.push(*byte as char)?;
+        }
     }
-    words.push_str(given_word(alloc, "--shard", choice.shard)?.as_str())?;
+    if let Some(shard) = choice.shard {
+        let word = format!(in alloc; " --shard={}/{}", shard.number(), shard.shards())?;
+        words.push_str(word.as_str())?;
+    }
     Ok(words)
+}
+
+fn words_of_rule(alloc: Global, rule: Option<Verdict>) -> Result<String, AllocError> {
+    match rule {
+        Some(verdict) => format!(in alloc; " --stop-on={}", name(verdict)),
+        None => Ok(String::new(alloc)),
+    }
 }
 
 fn word_of_form(form: Form) -> &'static str {
@@ -67,7 +81,7 @@ fn words_of_run(alloc: Global, options: &RunOptions) -> Result<String, AllocErro
     let form = word_of_form(options.form);
     let live = given(options.live, " --live");
     let progress = given(options.progress, " --progress");
-    let stop_on = given_word(alloc, "--stop-on", options.stop_on)?;
+    let stop_on = words_of_rule(alloc, options.stop_on)?;
     let choice = words_of_choice(alloc, &options.choice)?;
     let explain = given(options.explains, " --explain");
     format!(in alloc; "run{form}{live}{progress}{stop_on}{choice}{explain}")
@@ -86,12 +100,15 @@ fn words_of_explore(
     alloc: Global,
     histories: bool,
     details: bool,
-    states: Option<&str>,
+    states: usize,
 ) -> Result<String, AllocError> {
     let history = given(histories, " --history");
     let details = given(details, " --details");
-    let states = given_word(alloc, "--states", states)?;
-    format!(in alloc; "explore{history}{details}{states}")
+    if states == 100_000 {
+        format!(in alloc; "explore{history}{details}")
+    } else {
+        format!(in alloc; "explore{history}{details} --states={states}")
+    }
 }
 
 /// A line that asks for the task, with each of its options in one place.
@@ -120,15 +137,19 @@ fn read(alloc: Global, line: &str) -> Result<String, AllocError> {
     let words = words(alloc, line)?;
     match read_task(alloc, words.as_slice()) {
         Ok(task) => words_of(alloc, &task),
-        Err(refusal) => format!(in alloc; "{:?}", refusal.kind()),
+        Err(Refused::Line(error)) => format!(in alloc; "{:?}", error.kind()),
+        Err(Refused::Word(fault)) => fault.text().to_string(alloc),
     }
 }
 
 /// What is told of a line that asks for no task.
 fn told(alloc: Global, line: &str) -> Result<String, Fail> {
     let words = words(alloc, line)?;
-    let refusal = read_task(alloc, words.as_slice()).err().ok_or("refused")?;
-    Ok(refusal.to_string(alloc)?)
+    match read_task(alloc, words.as_slice()) {
+        Err(Refused::Line(error)) => Ok(error.to_string(alloc)?),
+        Err(Refused::Word(fault)) => Ok(fault.text().to_string(alloc)?),
+        Ok(_) => Err(Fail::from("refused")),
+    }
 }
 
 /// The text begins so.
@@ -160,12 +181,17 @@ fn lines_and_tasks(rt: HostRuntime) -> Result<(), Fail> {
             ("ttrun run --history", "run --history"),
             ("ttrun run --stop-on fail", "run --stop-on=fail"),
             ("ttrun run --stop-on=fail", "run --stop-on=fail"),
-            ("ttrun run --stop-on=", "run --stop-on="),
-            ("ttrun run --stop-on ", "run --stop-on="),
-            ("ttrun run --stop-on -", "run --stop-on=-"),
-            ("ttrun run --stop-on=--csv", "run --stop-on=--csv"),
-            ("ttrun run --stop-on run", "run --stop-on=run"),
-            ("ttrun run --stop-on help", "run --stop-on=help"),
+            ("ttrun run --stop-on=", NO_VERDICT),
+            ("ttrun run --stop-on ", NO_VERDICT),
+            ("ttrun run --stop-on -", NO_VERDICT),
+            ("ttrun run --stop-on=--csv", NO_VERDICT),
+            ("ttrun run --stop-on run", NO_VERDICT),
+            ("ttrun run --stop-on help", NO_VERDICT),
+            ("ttrun run --stop-on Fail", NO_VERDICT),
+            ("ttrun run --stop-on fail --shard 3/2", NO_SHARD),
+            ("ttrun run --stop-on no --shard 3/2", NO_SHARD),
+            ("ttrun run --stop-on no --only 1", NO_VERDICT),
+            ("ttrun run --csv --history --stop-on no", CONFLICT),
             ("ttrun run --csv --stop-on none", "run --csv --stop-on=none"),
             ("ttrun run --stop-on none --csv", "run --csv --stop-on=none"),
             (
@@ -219,9 +245,13 @@ fn lines_that_explore(rt: HostRuntime) -> Result<(), Fail> {
             ("ttrun explore", "explore"),
             ("ttrun explore --history", "explore --history"),
             ("ttrun explore --states 7", "explore --states=7"),
+            ("ttrun explore --states=many --history", NO_STATES),
+            ("ttrun explore --states=0", NO_STATES),
+            ("ttrun explore --states=07", NO_STATES),
+            ("ttrun explore --states=1000001", NO_STATES),
             (
-                "ttrun explore --states=many --history",
-                "explore --history --states=many",
+                "ttrun explore --states=1000000 --history",
+                "explore --history --states=1000000",
             ),
             ("ttrun explore --details", "explore --details"),
             (
@@ -297,7 +327,7 @@ fn lines_with_live(rt: HostRuntime) -> Result<(), Fail> {
                 "ttrun run --stop-on fail --live --history",
                 "run --history --live --stop-on=fail",
             ),
-            ("ttrun run --stop-on=--live", "run --stop-on=--live"),
+            ("ttrun run --stop-on=--live", NO_VERDICT),
             ("ttrun run --live --live", CONFLICT),
             ("ttrun run --live --csv --history", CONFLICT),
             ("ttrun run --csv --live --history", CONFLICT),
@@ -318,7 +348,8 @@ fn lines_with_live(rt: HostRuntime) -> Result<(), Fail> {
 #[test]
 fn no_words_at_all(rt: HostRuntime) -> Result<(), Fail> {
     let alloc = rt.alloc();
-    let read = words_of(alloc, &read_task(alloc, &[])?)?;
+    let task = read_task(alloc, &[]).ok().ok_or("a task")?;
+    let read = words_of(alloc, &task)?;
     is(&rt, "no words", read.as_str(), "run");
     Ok(())
 }
@@ -331,11 +362,8 @@ fn lines_that_choose(rt: HostRuntime) -> Result<(), Fail> {
         (" --only a", " --only=a"),
         (" --only=a --only b", " --only=a --only=b"),
         (" --only b --only=a --only b", " --only=b --only=a --only=b"),
-        (" --only=", " --only="),
         (" --shard 1/2", " --shard=1/2"),
-        (" --shard=many", " --shard=many"),
         (" --shard=2/3 --only a", " --only=a --shard=2/3"),
-        (" --only a --shard= --only c", " --only=a --only=c --shard="),
     ] {
         for (options, form) in [("", ""), (" --csv --stop-on fail", " --csv --stop-on=fail")] {
             let line = format!(in alloc; "ttrun run{given}{options}")?;
@@ -354,6 +382,13 @@ fn lines_that_choose_and_are_refused(rt: HostRuntime) -> Result<(), Fail> {
     are_read(
         &rt,
         &[
+            ("ttrun run --only=", NO_NAME),
+            ("ttrun run --list --only all", NO_NAME),
+            ("ttrun run --only a --only 2b", NO_NAME),
+            ("ttrun run --shard=many", NO_SHARD),
+            ("ttrun run --list --shard 0/1", NO_SHARD),
+            ("ttrun run --shard 1/02", NO_SHARD),
+            ("ttrun run --only a --shard= --only 1", NO_SHARD),
             ("ttrun run --list --csv", CONFLICT),
             ("ttrun run --history --list", CONFLICT),
             ("ttrun run --list --junit", CONFLICT),

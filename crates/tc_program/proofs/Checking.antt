@@ -1,16 +1,14 @@
 -- Histories, checked one after the other.
-use Rattle.std.proofs.Common.{ℕ, ◌≡◌, Bool, true, false, if◌then◌else◌, Option, Some, None, IfSome, List, [], ◌∷◌, ◌++◌, ap, ◌∙◌, append_assoc}
+use Rattle.std.proofs.Common.{ℕ, ◌≡◌, Bool, true, false, List, [], ◌∷◌, ◌++◌, ap, ◌∙◌, append_assoc}
 use Rattle.std.proofs.lemmas.List.{append-nil}
 use Rattle.tc_text.specs.declared.fault.TextFault.{TextFault}
 use Rattle.tc_text.specs.declared.fault.TextFault.TheVariants as T
-use Rattle.tc_stream.specs.Output.{AppendsPrefix}
 use Rattle.tc_history.specs.declared.read.Block.{Block}
 use Rattle.tc_program.specs.declared.judge.Judgement.{Judgement}
-use Rattle.tc_history.specs.Text.{IsMadeOf, IsHistoryFault}
+use Rattle.tc_history.specs.Text.{AreHistories, IsMadeOf, IsHistoryFault}
 use Rattle.tc_program.specs.declared.check.Checking.{Checking}
-use Rattle.tc_program.specs.Output.{WritesPrefix}
-use Rattle.tc_program.specs.Check.{IsJudgement, judges_legal, judgement_line, Checks, IsCheckOf, IsChecked}
-use Rattle.tc_program.specs.Inside.{Feeds, RefusesHistory, of_text}
+use Rattle.tc_program.specs.Check.{IsJudgement, judges_legal, judgement_line, Checks, IsCheckOf, RefusesHistory}
+use Rattle.tc_program.specs.Inside.{Feeds, of_text}
 
 behind : (blocks more : List Block) (b : Block) → (blocks ++ b ∷ []) ++ more ≡ blocks ++ (b ∷ more)
 behind blocks more b = append_assoc blocks (b ∷ []) more
@@ -31,19 +29,16 @@ whole blocks out true feeds = let all : Checks (blocks ++ []) (out ++ []) true =
 whole blocks out false feeds = let all : Checks (blocks ++ []) out false = feeds [] in rw (append-nil blocks) at all
 
 -- what is printed for the histories of the text
-pub all_checked : (text : List ℕ) (c : Checking) → IsMadeOf (λ blocks (c : Checking). Feeds blocks c.out.items c.legal) text c → IsCheckOf text c.out.items c.legal
-all_checked text c so = record { blocks = so.blocks; histories = so.histories; checks = whole so.blocks c.out.items c.legal so.made }
+pub all_checked : (text : List ℕ) (c : Checking) → IsMadeOf (λ blocks (c : Checking). Feeds blocks c.out.items c.legal) text c
+    → ((all : List Block) → AreHistories text all → Feeds all c.out.items c.legal) → IsCheckOf text c.out.items c.legal
+all_checked text c so only = record {
+  blocks = so.blocks;
+  histories = so.histories;
+  checks = whole so.blocks c.out.items c.legal so.made;
+  only = λ others is. whole others c.out.items c.legal (only others is);
+}
 
 -- a fault of the text is the command's
-pub refused : (text : List ℕ) (fault : TextFault) → IsHistoryFault text fault → RefusesHistory text (of_text fault)
-refused text (T.At line kind) bad = bad
-refused text T.NoMemory bad = tt
-
--- where the output was made and not written whole: the text is read as `read`, the output as `lent`
-pub prefix_checked : (input before after : Option (List ℕ)) (text read out lent : List ℕ) (legal : Bool) (status : ℕ) →
-    IfSome input (λ xs. text ≡ xs) → read ≡ text → IsCheckOf read out legal → status ≡ (if legal then 0 else 3) → lent ≡ out →
-    AppendsPrefix before after lent → WritesPrefix IsChecked input before after
-prefix_checked None before after text read out lent legal status same read_is check is lent_is written = tt
-prefix_checked (Some xs) before after text read out lent legal status same read_is check is lent_is written =
-    let entire : read ≡ xs = read_is ∙ same in
-    (out, status, record { legal = legal; check = rw entire at check; status_is = is }, rw lent_is at written)
+pub refused : (text : List ℕ) (fault : TextFault) → IsHistoryFault text fault → ((all : List Block) → AreHistories text all → fault ≡ T.NoMemory) → RefusesHistory text (of_text fault)
+refused text (T.At line kind) bad only = (bad, λ all is. let no = only all is in absurd cc)
+refused text T.NoMemory bad only = tt

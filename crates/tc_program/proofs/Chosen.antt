@@ -1,15 +1,20 @@
 -- The chosen ones of the test cases that were made of a script are those of the chosen ones of the script.
-use Rattle.std.proofs.Common.{ℕ, ◌≡◌, ◌∙◌, ◌+◌, ◌++◌, ◌&&◌, ◌||◌, Bool, true, false, List, [], ◌∷◌, Option, Some, None, All, ap, ap₂, refl, sym, true≢false}
+use Rattle.std.proofs.Common.{ℕ, ◌≡◌, ◌∙◌, ◌+◌, ◌++◌, ◌&&◌, ◌||◌, Bool, true, false, List, [], ◌∷◌, Option, Some, None, Ok, All, ap, ap₂, refl, subst, sym, true≢false}
 use Rattle.std.proofs.lemmas.List.Elements.{All-cons, All-head, All-tail}
 use Rattle.std.specs.List.{AllZip, flat_map, list_any}
-use Rattle.std.specs.Prelude.{filter, if◌then◌else◌}
+use Rattle.std.specs.Prelude.{filter, if◌then◌else◌, option_map}
 use Rattle.std.specs.Str.{bytes_eq}
 use Rattle.tc_campaign.specs.Shard.{ShardView, has_place}
 use Rattle.tc_campaign.specs.declared.case.Case.{Case}
 use Rattle.tc_campaign.specs.Choosing.{case_name, chosen, have_names, is_asked, named, placed}
 use Rattle.tc_step.specs.Steps.{ScriptView}
-use Rattle.tc_program.specs.Choosing.{list_text, script_name}
-use Rattle.tc_program.specs.Inside.{IsCaseOf, case_line}
+use Rattle.tc_program.specs.Choosing.{RefusesChoice, RefusesScript, list_text, script_name, shard_of}
+use Rattle.tc_program.specs.declared.fault.RunFault.{RunFault}
+use Rattle.tc_program.specs.declared.fault.RunFault.TheVariants as F
+use Rattle.tc_command.specs.declared.task.Choice.{Choice}
+use Rattle.tc_script.specs.Campaign.{CampaignView, campaign}
+use Rattle.tc_script.specs.Law.{IsCase}
+use Rattle.tc_program.specs.Inside.{AreReady, IsCaseOf, RefusesNames, case_line}
 use Rattle.tc_program.specs.Scripted.{CaseView}
 
 module _ {C : Type 0} (P : C → Type 0) where
@@ -80,5 +85,30 @@ same_lines (c ∷ cs) [] each = absurd each
 same_lines (c ∷ cs) (k ∷ ks) each = ap₂ (λ (n : List ℕ) rest. (n ++ (10 ∷ [])) ++ rest) each.0.name (same_lines cs ks each.1)
 
 -- the list of test cases that were made of a script is the list of the script
-pub listed : (cs : List CaseView) (ks : List (Case ScriptView)) (text lent : List ℕ) → AreCases cs ks → text ≡ flat_map case_line ks → lent ≡ text → lent ≡ list_text cs
-listed cs ks text lent each is same = same ∙ is ∙ same_lines cs ks each
+pub listed : (cs : List CaseView) (ks : List (Case ScriptView)) (text : List ℕ) → AreCases cs ks → text ≡ flat_map case_line ks → text ≡ list_text cs
+listed cs ks text each is = is ∙ same_lines cs ks each
+
+-- the chosen ones of test cases that were made of a script are ready to be run
+pub ready : (choice : Choice) (text : List ℕ) (all : CampaignView) (made ks : List (Case ScriptView)) → campaign text ≡ Ok all → All (λ c. IsCase c.1) all → AreCases all made
+    → have_names case_name choice.only.items made ≡ true → ks ≡ chosen case_name choice.only.items (option_map shard_of choice.shard) made → AreReady choice text ks
+ready choice text all made ks spelled lawful each have are =
+    let only = choice.only.items in
+    let shard = option_map shard_of choice.shard in record {
+      cases = chosen script_name only shard all;
+      chosen = record { all = all; spelled = spelled; named = same_names only all made each ∙ have; are = refl };
+      lawful = all_chosen (λ c. IsCase c.1) script_name only shard all lawful;
+      each = subst (λ rs. AreCases (chosen script_name only shard all) rs) (sym are) (zip_chosen only shard all made each);
+    }
+
+-- a name that they do not have is one that the script does not have
+pub unready : (choice : Choice) (text : List ℕ) (all : CampaignView) (made : List (Case ScriptView)) (fault : RunFault) → campaign text ≡ Ok all → AreCases all made
+    → RefusesNames (have_names case_name choice.only.items made) fault → RefusesChoice choice text fault
+unready choice text all made F.Only spelled each have = (all, spelled, same_names choice.only.items all made each ∙ have)
+unready choice text all made F.NoMemory spelled each have = tt
+unready choice text all made fault spelled each have = absurd have
+
+-- a script that is refused has no test cases
+pub unspelled : (choice : Choice) (text : List ℕ) (fault : RunFault) → RefusesScript text fault → RefusesChoice choice text fault
+unspelled choice text (F.Script fault) refused = refused
+unspelled choice text F.NoMemory refused = tt
+unspelled choice text fault refused = absurd refused

@@ -1,6 +1,6 @@
 -- The lemmas of this crate.
+pub mod Doing
 pub mod Replaying
-pub mod Explaining
 pub mod Running
 pub mod Chosen
 pub mod Scripted

@@ -1,5 +1,5 @@
 -- A move list, played move by move.
-use Rattle.std.proofs.Common.{ℕ, ◌≡◌, Option, Some, None, IfSome, List, [], ◌∷◌, ◌++◌, map, reverse, refl, ap, subst, sym, ◌∙◌}
+use Rattle.std.proofs.Common.{ℕ, ◌≡◌, List, [], ◌∷◌, ◌++◌, map, reverse, refl, ap, subst, sym, ◌∙◌}
 use Rattle.std.proofs.lemmas.List.{append-nil, reverse-append, map-append}
 use Rattle.std.specs.List.{flat_map}
 use Rattle.std.proofs.lemmas.List.Concat.{flat_map-append}
@@ -10,16 +10,13 @@ use Rattle.tc_text.specs.declared.fault.TextFault.{TextFault}
 use Rattle.tc_text.specs.declared.fault.TextFault.TheVariants as T
 use Rattle.tc_text.specs.MoveList.{Move, IsMadeOf, IsListFault}
 use Rattle.tc_text.specs.Spelling.{reply_text}
-use Rattle.tc_stream.specs.Output.{AppendsPrefix}
 use Rattle.tc_table.specs.Standing.{StandsFor}
 use Rattle.tc_table.proofs.Standing.{legal_for}
 use Rattle.tc_table.specs.Local.{overall}
 use Rattle.tc_program.specs.declared.replay.Replaying.{Replaying}
-use Rattle.tc_program.specs.Inside.{ArePlayed, RefusesText, of_text}
-use Rattle.tc_program.specs.Output.{WritesPrefix}
-use Rattle.tc_program.specs.Replay.{move_of, reply_line, IsReplayOf, Replays}
+use Rattle.tc_program.specs.Inside.{ArePlayed, of_text}
+use Rattle.tc_program.specs.Replay.{move_of, reply_line, IsReplayOf, RefusesMoves}
 use Rattle.tc_report.specs.Report.{verdict_line}
-use Rattle.tc_report.specs.Status.{verdict_status}
 
 one_line : (h : List Entry) (e : Entry) → flat_map reply_line (h ++ e ∷ []) ≡ flat_map reply_line h ++ reply_line e
 one_line h e = flat_map-append reply_line h (e ∷ []) ∙ ap (λ l. flat_map reply_line h ++ l) (append-nil (reply_line e))
@@ -62,15 +59,6 @@ all_played text out r verdict so is more =
     }
 
 -- a fault of the list is the command's
-pub refused : (text : List ℕ) (fault : TextFault) → IsListFault text fault → RefusesText text (of_text fault)
+pub refused : (text : List ℕ) (fault : TextFault) → IsListFault text fault → RefusesMoves text (of_text fault)
 refused text (T.At line kind) bad = bad
 refused text T.NoMemory bad = tt
-
--- where the output was made and not written whole: the text is read as `read`, the output as `lent`
-pub prefix_written : (input before after : Option (List ℕ)) (text read out lent : List ℕ) (verdict : Verdict) (status : ℕ) →
-    IfSome input (λ xs. text ≡ xs) → read ≡ text → IsReplayOf read out verdict → status ≡ verdict_status verdict → lent ≡ out →
-    AppendsPrefix before after lent → WritesPrefix Replays input before after
-prefix_written None before after text read out lent verdict status same read_is replay is lent_is written = tt
-prefix_written (Some xs) before after text read out lent verdict status same read_is replay is lent_is written =
-    let whole : read ≡ xs = read_is ∙ same in
-    (out, status, record { verdict = verdict; replay = rw whole at replay; status_is = is }, rw lent_is at written)

@@ -1,9 +1,8 @@
 -- The test cases of histories, one history after the other.
-use Rattle.std.proofs.Common.{ℕ, ◌≡◌, ◌∙◌, ◌+◌, All, true, false, inl, inr, Option, Some, None, IfSome, List, [], ◌∷◌, ◌++◌, length, map, reverse, refl, ap, sym, subst}
+use Rattle.std.proofs.Common.{ℕ, ◌≡◌, ◌∙◌, ◌+◌, ◌⊎◌, All, true, false, if◌then◌else◌, inl, inr, Option, Some, None, List, [], ◌∷◌, ◌++◌, length, map, reverse, refl, ap, sym, subst}
 use Rattle.std.specs.Prelude.{is_some}
 use Rattle.std.proofs.lemmas.List.{length-map, map-append}
 use Rattle.std.proofs.lemmas.List.Elements.{All-head, All-tail}
-use Rattle.std.specs.Io.KnownBytes.{Appends, Keeps}
 use Rattle.tc_entry.specs.declared.entry.Entry.{Entry}
 use Rattle.tc_table.specs.Standing.{StandsFor}
 use Rattle.tc_history.specs.declared.read.Block.{Block}
@@ -14,23 +13,22 @@ use Rattle.tc_forms.specs.Summary.{block_summary, case_summary, summary_of}
 use Rattle.tc_forms.proofs.Agreeing.{one_same}
 use Rattle.tc_report.specs.declared.results.Finished.{Finished}
 use Rattle.tc_report.specs.declared.results.Results.{Results}
+use Rattle.tc_report.specs.Histories.{histories_text}
 use Rattle.tc_program.specs.declared.judge.Difference.{Difference}
 use Rattle.tc_program.specs.declared.judge.Judgement.{Judgement}
 use Rattle.tc_program.specs.declared.judge.Judgement.TheVariants as J
 use Rattle.tc_program.specs.declared.judge.Playing.{Playing}
-use Rattle.tc_program.specs.Check.{IsJudgement, judges_legal, judgement_line}
+use Rattle.tc_program.specs.Check.{IsChecked, IsJudgement, RefusesHistory, judges_legal, judgement_line}
 use Rattle.tc_program.specs.Inside.{IsPlayed, IsPlayedTo, HasOneEach, Summarizes}
 use Rattle.tc_program.specs.declared.fault.RunFault.{RunFault}
 use Rattle.tc_program.specs.declared.fault.RunFault.TheVariants as F
-use Rattle.tc_program.specs.declared.outcome.Outcome.{Outcome}
 use Rattle.tc_command.specs.declared.task.ReportForm.{ReportForm}
-use Rattle.tc_program.specs.Give.{LeavesUnwritten}
-use Rattle.tc_program.specs.Report.{AreAllLegal, IsFoundIllegal, IsReport, Reports, RefusesReport, form_of, illegal_line, run_report}
-use Rattle.tc_program.specs.Streams.{Streams}
-use Rattle.tc_program.specs.Tell.{IsSilent, IsTold}
-use Rattle.tc_program.specs.WrittenHistories.{IsOutside, WasRun, WereRun, block_of, blocks_of}
+use Rattle.tc_program.specs.Report.{AreAllLegal, IsFoundIllegal, IsIllegal, IsReport, form_of, illegal_line, report_of}
+use Rattle.tc_program.specs.declared.reply.Answer.{Answer}
+use Rattle.tc_program.specs.WrittenHistories.{AreFoundLegal, WasRun, WereRun, block_of, blocks_of, found_legal, legal_cases, report_of_run}
+use Rattle.tc_program.proofs.Doing.{answer_of}
 use Rattle.tc_program.proofs.Checking.{passed_more, printed_more, whole}
-use Rattle.tc_program.proofs.WrittenHistories.{IsRight, are_right, no_difference, only_legal}
+use Rattle.tc_program.proofs.WrittenHistories.{IsRight, are_right, histories_of, no_difference, only_legal, said_of_written}
 
 -- a history that is judged legal is right
 right_of_legal : (b : Block) (j : Judgement) → judges_legal j ≡ true → IsJudgement b j → IsRight b
@@ -97,19 +95,6 @@ found_illegal blocks ss j made = record {
 
 -- ---- the steps of `report`
 
--- what is made of a text, where no history is illegal
-pub report_is : (form : ReportForm) (text out : List ℕ) (blocks : List Block) (ss : List Summary) (status : ℕ) → AreHistories text blocks → Summarizes blocks ss None
-    → out ≡ form_of form ss blocks → status ≡ status_of_summaries ss → IsReport form text out status
-report_is form text out blocks ss status histories made is status_is =
-    let two = all_legal blocks ss made in
-    record {
-      blocks = blocks;
-      histories = histories;
-      legal = two.0;
-      form_is = is ∙ ap (λ l. form_of form l blocks) two.1;
-      status_is = status_is ∙ ap status_of_summaries two.1;
-    }
-
 pub made_none : (ss lent : List Summary) (o : Option Judgement) (blocks : List Block) → o ≡ None → lent ≡ ss → Summarizes blocks ss o → Summarizes blocks lent None
 made_none ss lent o blocks none same made = subst (λ l. Summarizes blocks l None) (sym same) (subst (Summarizes blocks ss) none made)
 
@@ -119,67 +104,26 @@ pub one_each : (text : List ℕ) (ss lent : List Summary) (o : Option Judgement)
 one_each text ss lent o none same made blocks histories =
     ap length (all_legal blocks lent (made_none ss lent o blocks none same (made blocks histories))).1 ∙ length-map blocks block_summary
 
--- where the output was made and not written whole
-pub unwritten : (form : ReportForm) (input before after : Option (List ℕ)) (text read : List ℕ) (blocks : List Block) (ss : List Summary) (fault : RunFault) → IfSome input (λ xs. text ≡ xs) → read ≡ text
-    → AreHistories read blocks → Summarizes blocks ss None → LeavesUnwritten before after (form_of form ss blocks) fault → RefusesReport form input before after fault
-unwritten form input before after text read blocks ss F.NoMemory same read_is histories made left = left
-unwritten form None before after text read blocks ss F.Write same read_is histories made left = tt
-unwritten form (Some xs) before after text read blocks ss F.Write same read_is histories made left =
-    let entire : read ≡ xs = read_is ∙ same in
-    let out = form_of form ss blocks in
-    (out, status_of_summaries ss, subst (λ t. IsReport form t out (status_of_summaries ss)) entire (report_is form read out blocks ss (status_of_summaries ss) histories made refl refl), left)
-unwritten form input before after text read blocks ss F.TooLong same read_is histories made left = absurd left
-unwritten form input before after text read blocks ss F.Read same read_is histories made left = absurd left
-unwritten form input before after text read blocks ss (F.Text fault) same read_is histories made left = absurd left
-unwritten form input before after text read blocks ss (F.Script fault) same read_is histories made left = absurd left
-unwritten form input before after text read blocks ss F.StopOn same read_is histories made left = absurd left
-unwritten form input before after text read blocks ss F.States same read_is histories made left = absurd left
-unwritten form input before after text read blocks ss F.Shard same read_is histories made left = absurd left
-unwritten form input before after text read blocks ss F.Only same read_is histories made left = absurd left
+-- what is made of a text, none of whose histories is illegal
+pub legal_report : (form : ReportForm) (blocks : List Block) (ss lent : List Summary) (o : Option Judgement) (a : Answer) → o ≡ None → lent ≡ ss → Summarizes blocks ss o
+    → a.out ≡ form_of form lent blocks → a.told ≡ [] → a.status ≡ status_of_summaries lent → IsReport form blocks a
+legal_report form blocks ss lent o a none same made out told status =
+    let two = all_legal blocks lent (made_none ss lent o blocks none same made) in
+    let out_is : a.out ≡ form_of form (map block_summary blocks) blocks = out ∙ ap (λ l. form_of form l blocks) two.1 in
+    let status_is : a.status ≡ status_of_summaries (map block_summary blocks) = status ∙ ap status_of_summaries two.1 in record {
+      legal = two.0;
+      answer_is = ap (λ x. answer_of x a.told a.status) out_is ∙ ap (λ x. answer_of (report_of form blocks) x a.status) told
+          ∙ ap (λ x. answer_of (report_of form blocks) [] x) status_is;
+    }
 
--- such a fault is none of the text
-pub outside : (before after : Option (List ℕ)) (text : List ℕ) (fault : RunFault) → LeavesUnwritten before after text fault → IsOutside fault
-outside before after text F.NoMemory left = tt
-outside before after text F.Write left = tt
-outside before after text F.TooLong left = absurd left
-outside before after text F.Read left = absurd left
-outside before after text (F.Text fault) left = absurd left
-outside before after text (F.Script fault) left = absurd left
-outside before after text F.StopOn left = absurd left
-outside before after text F.States left = absurd left
-outside before after text F.Shard left = absurd left
-outside before after text F.Only left = absurd left
-
--- the report of an input that is known
-pub reported : (form : ReportForm) (input : Option (List ℕ)) (s : Streams) (o : Outcome) (text read : List ℕ) (blocks : List Block) (ss : List Summary) → IfSome input (λ xs. text ≡ xs) → read ≡ text
-    → AreHistories read blocks → Summarizes blocks ss None → Appends s.before s.after (form_of form ss blocks) → IsSilent s.untold s.told o (status_of_summaries ss) → Reports form input s o
-reported form None s o text read blocks ss same read_is histories made written silent = tt
-reported form (Some xs) s o text read blocks ss same read_is histories made written silent =
-    let entire : read ≡ xs = read_is ∙ same in
-    let out = form_of form ss blocks in
-    inl (record {
-      out = out;
-      status = status_of_summaries ss;
-      report = subst (λ t. IsReport form t out (status_of_summaries ss)) entire (report_is form read out blocks ss (status_of_summaries ss) histories made refl refl);
-      written = written;
-      silent = silent;
-    })
-
--- the refusal of an input that is known
-pub refused_report : (form : ReportForm) (input : Option (List ℕ)) (s : Streams) (o : Outcome) (text read : List ℕ) (ss : List Summary) (o' : Option Judgement) (j : Judgement) (blocks : List Block) → IfSome input (λ xs. text ≡ xs) → read ≡ text
-    → o' ≡ Some j → AreHistories read blocks → Summarizes blocks ss o' → Keeps s.before s.after → IsTold s.untold s.told (illegal_line j) o.told → o.status ≡ 3 → Reports form input s o
-refused_report form None s o text read ss o' j blocks same read_is some histories made kept told status = tt
-refused_report form (Some xs) s o text read ss o' j blocks same read_is some histories made kept told status =
-    let entire : read ≡ xs = read_is ∙ same in
-    inr (record {
-      blocks = blocks;
-      histories = subst (λ t. AreHistories t blocks) entire histories;
-      judgement = j;
-      found = found_illegal blocks ss j (subst (Summarizes blocks ss) some made);
-      unwritten = kept;
-      told = told;
-      status = status;
-    })
+-- what is made of a text, one of whose histories is illegal
+pub illegal_report : (blocks : List Block) (ss : List Summary) (o : Option Judgement) (j : Judgement) (a : Answer) → o ≡ Some j → Summarizes blocks ss o
+    → a.out ≡ [] → a.told ≡ illegal_line j → a.status ≡ 3 → IsIllegal blocks a
+illegal_report blocks ss o j a some made out told status = record {
+  judgement = j;
+  found = found_illegal blocks ss j (subst (Summarizes blocks ss) some made);
+  answer_is = ap (λ x. answer_of x a.told a.status) out ∙ ap (λ x. answer_of [] x a.status) told ∙ ap (λ x. answer_of [] (illegal_line j) x) status;
+}
 
 -- ---- histories that a run writes
 
@@ -191,25 +135,38 @@ summaries_written line (f ∷ fs) all =
     let rest = summaries_written (line + length (block_lines (block_of line f))) fs (All-tail WasRun f fs all) in
     rw (first, rest) refl
 
--- what is made of them
-pub made_of_written : (r : Results) (ss : List Summary) → WereRun r → Summarizes (blocks_of 1 r.finished) ss None → ss ≡ map case_summary r.finished
-made_of_written r ss ran made = (all_legal (blocks_of 1 r.finished) ss made).1 ∙ summaries_written 1 r.finished ran.each
+-- the report of what a run wrote
+pub written_reported : (form : ReportForm) (r : Results) (a : Answer) → WereRun r → IsReport form (blocks_of 1 r.finished) a → a ≡ report_of_run form r
+written_reported form r a ran is =
+    let same = summaries_written 1 r.finished ran.each in
+    is.answer_is ∙ ap (λ ss. answer_of (form_of form ss (blocks_of 1 r.finished)) [] (status_of_summaries ss)) same
 
--- none of them is illegal
-pub none_illegal : (r : Results) (ss : List Summary) (j : Judgement) → WereRun r → Summarizes (blocks_of 1 r.finished) ss (Some j) → ⊥
-none_illegal r ss j ran made =
-    let found = found_illegal (blocks_of 1 r.finished) ss j made in
-    let is = (only_legal (blocks_of 1 r.finished) (found.lines ++ judgement_line j) false (are_right 1 r.finished ran.each) found.checks).1 in
+-- none of it is illegal
+pub none_illegal : (r : Results) (a : Answer) → WereRun r → IsIllegal (blocks_of 1 r.finished) a → ⊥
+none_illegal r a ran ill =
+    let found = ill.found in
+    let is = (only_legal (blocks_of 1 r.finished) (found.lines ++ judgement_line ill.judgement) false (are_right 1 r.finished ran.each) found.checks).1 in
     absurd cc
 
--- the form of what a run wrote
-pub written_reported : (form : ReportForm) (s : Streams) (o : Outcome) (r : Results) (ss lent : List Summary) (o' : Option Judgement) → WereRun r → o' ≡ None → lent ≡ ss
-    → Summarizes (blocks_of 1 r.finished) ss o' → Appends s.before s.after (form_of form lent (blocks_of 1 r.finished)) → IsSilent s.untold s.told o (status_of_summaries lent)
-    → Appends s.before s.after (run_report form r.finished) × IsSilent s.untold s.told o (status_of_summaries (map case_summary r.finished))
-written_reported form s o r ss lent o' ran none same made written silent =
-    let eq : lent ≡ map case_summary r.finished = same ∙ made_of_written r ss ran (subst (Summarizes (blocks_of 1 r.finished) ss) none made) in
-    (subst (λ l. Appends s.before s.after (form_of form l (blocks_of 1 r.finished))) eq written, subst (λ l. IsSilent s.untold s.told o (status_of_summaries l)) eq silent)
+checked_so : (r : Results) (a : Answer) → WereRun r → IsChecked (histories_text r) a.out a.status → a.told ≡ [] → a ≡ found_legal r
+checked_so r a ran is told =
+    let two = said_of_written r a.out is.legal ran (is.check.only (blocks_of 1 r.finished) (histories_of r ran)) in
+    let status_is : a.status ≡ 0 = is.status_is ∙ ap (λ t. if t then 0 else 3) two.1 in
+    ap (λ x. answer_of x a.told a.status) two.0 ∙ ap (λ x. answer_of (legal_cases r) x a.status) told ∙ ap (λ x. answer_of (legal_cases r) [] x) status_is
 
-pub keeps_same : (held : Option (List ℕ)) → Keeps held held
-keeps_same None = tt
-keeps_same (Some xs) = refl
+reported_so : (form : ReportForm) (r : Results) (a : Answer) → WereRun r → IsReport form (blocks_of 1 r.finished) a ⊎ IsIllegal (blocks_of 1 r.finished) a → a ≡ report_of_run form r
+reported_so form r a ran (inl is) = written_reported form r a ran is
+reported_so form r a ran (inr ill) = absurd (none_illegal r a ran ill)
+
+refused_so : (r : Results) (fault : RunFault) → WereRun r → RefusesHistory (histories_text r) fault → fault ≡ F.NoMemory
+refused_so r (F.Text fault) ran refused = absurd (refused.1 (blocks_of 1 r.finished) (histories_of r ran))
+refused_so r F.NoMemory ran refused = refl
+refused_so r fault ran refused = absurd refused
+
+-- what `check` and `report` make of it
+pub found_so : (r : Results) → WereRun r → AreFoundLegal r
+found_so r ran = record {
+  checked_so = λ explains a is. checked_so r a ran is.0 is.1;
+  reported_so = λ form explains a is. reported_so form r a ran (is.made (blocks_of 1 r.finished) (histories_of r ran));
+  refused_so = λ fault refused. refused_so r fault ran refused;
+}

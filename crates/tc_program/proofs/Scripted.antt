@@ -1,12 +1,10 @@
 -- The results of the test cases that were made of a script are those of the script.
-use Rattle.std.proofs.Common.{ℕ, zero, suc, ◌≡◌, ◌∙◌, Bool, true, false, List, [], ◌∷◌, Option, Result, Ok, Err, IfOk, IfErr, All, length, map, take, arith, refl, sym, ap, subst, inr, ◌⊎◌}
+use Rattle.std.proofs.Common.{ℕ, zero, suc, ◌≡◌, ◌∙◌, ◌-◌, Bool, true, false, List, [], ◌∷◌, Option, All, length, map, take, arith, refl, sym, ap, subst}
 use Rattle.std.proofs.lemmas.List.{length-map}
 use Rattle.std.proofs.lemmas.List.Elements.{All-nil, All-cons, All-tail}
 use Rattle.std.specs.List.{AllZip}
 use Rattle.std.specs.Vec.{vec_len}
 use Rattle.std.specs.Prelude.{slice_get}
-use Rattle.std.specs.Io.KnownBytes.{Appends}
-use Rattle.tc_stream.specs.Output.{AppendsPrefix}
 use Rattle.tc_verdict.specs.declared.verdict.Verdict.{Verdict}
 use Rattle.tc_step.specs.Steps.{ScriptView}
 use Rattle.tc_behaviour.specs.Acts.{Acts, MakesItsCalls}
@@ -20,20 +18,18 @@ use Rattle.tc_exec.specs.Case.{IsCaseReport, IsMadeOf}
 use Rattle.tc_exec.proofs.Logs.{logs_by}
 use Rattle.tc_report.specs.declared.results.Finished.{Finished}
 use Rattle.tc_report.specs.declared.results.Results.{Results}
-use Rattle.tc_report.specs.Progress.{told_text}
 use Rattle.tc_campaign.specs.declared.case.Case.{Case}
 use Rattle.tc_campaign.specs.Outline.{Outline, HasNames, outline_of}
-use Rattle.tc_campaign.specs.Campaign.{IsCalled, IsOfCase, IsReported, IsRight, IsWhy}
+use Rattle.tc_campaign.specs.Campaign.{IsCalled, IsEnding, IsOfCase, IsReported, IsWhy}
 use Rattle.tc_program.specs.Give.{is_live}
-use Rattle.tc_program.specs.declared.fault.RunFault.{RunFault}
-use Rattle.tc_command.specs.Asked.{Running}
-use Rattle.tc_program.specs.declared.run.Options.{Options}
+use Rattle.tc_command.specs.declared.task.RunOptions.{RunOptions}
+use Rattle.tc_report.specs.declared.fault.OutFault.{OutFault}
+use Rattle.tc_program.specs.Fault.{line_of, of_output}
+use Rattle.tc_program.specs.Tell.{IsRefusal}
 use Rattle.tc_program.specs.declared.outcome.Outcome.{Outcome}
-use Rattle.tc_program.specs.Limits.{HasAtMost, script_limit}
-use Rattle.tc_program.specs.Give.{text_of, LeavesUnwritten}
-use Rattle.tc_program.specs.Run.{AreFinished, AreResults, IsCutShort, IsRuleOf, IsRun, IsUnwritten, TellsRun}
+use Rattle.tc_program.specs.Run.{AreFinished, AreResults, IsCutShort, IsRun, IsUnwritten}
 use Rattle.tc_program.specs.Choosing.{AreChosen}
-use Rattle.tc_program.specs.Program.{AreUntouched, FailsRun, LeavesPart, RefusesScripted, RunsScript, options_of}
+use Rattle.tc_program.specs.Program.{IsLeft, LeavesScript, RunsScript}
 use Rattle.tc_program.specs.Streams.{Streams}
 use Rattle.tc_program.specs.Scripted.{CaseView, IsScripted, names_of, scripts_of, script_outline}
 use Rattle.tc_program.specs.Inside.{IsCaseOf}
@@ -89,62 +85,6 @@ scripted (suc n) (c ∷ cs) (k ∷ ks) [] lawful each reports called = absurd ca
 scripted (suc n) (c ∷ cs) (k ∷ ks) (f ∷ fs) lawful each reports called =
     (of_script c k f (lawful 0 c (omega arith)) each.0 reports.0 called.0, scripted n cs ks fs (All-tail (λ c. IsCase c.1) c cs lawful) each.1 reports.1 called.1)
 
--- right results of the test cases are right results of the script
-pub results : (cs : List CaseView) (ks : List (Case ScriptView)) (stop_on : Option Verdict) (r : Results) → All (λ c. IsCase c.1) cs → AllZip IsCaseOf cs ks
-    → AreResults outline_of (IsCalled Acts) ks stop_on r → AreResults script_outline IsScripted cs stop_on r
-results cs ks stop_on r lawful each are =
-    let same = outlines cs ks each in
-    let reports : AllZip IsReported (take (length r.finished) (map script_outline cs)) r.finished = subst (λ os. AllZip IsReported (take (length r.finished) os) r.finished) same are.reports in
-    record {
-      right = subst (λ os. IsRight os stop_on r) same are.right;
-      reports = reports;
-      calls = scripted (length r.finished) cs ks r.finished lawful each reports are.calls;
-      names = are.names;
-      behaviours = are.behaviours;
-      why = subst (λ os. IsWhy (slice_get os (length r.finished)) r.ending) same are.why;
-    }
-
--- a run of the test cases that were made of the script of an input is a run of that script
-pub run_done : (o : Running) (input : Option (List ℕ)) (cs : List CaseView) (ks : List (Case ScriptView)) (options : Options) (streams : Streams) (r : Result Outcome RunFault)
-    → AreChosen o.choice input cs → All (λ c. IsCase c.1) cs → HasAtMost script_limit input → IsRuleOf o.stop_on options.stop_on → options ≡ options_of o options.stop_on → AllZip IsCaseOf cs ks
-    → IfOk r (IsRun outline_of (IsCalled Acts) ks options streams) → IfOk r (RunsScript o input streams)
-run_done o input cs ks options streams (Err fault) spelled lawful fits named same each run = tt
-run_done o input cs ks options streams (Ok outcome) spelled lawful fits named same each run = record {
-  cases = cs;
-  rule = options.stop_on;
-  chosen = spelled;
-  fits = fits;
-  named = named;
-  run = record {
-    results = run.results;
-    right = results cs ks options.stop_on run.results lawful each run.right;
-    status = run.status;
-    written = subst (λ (p : Options). Appends streams.before streams.after (text_of p.form run.results)) same run.written;
-    told = subst (λ (p : Options). TellsRun p.progress run.results streams.untold streams.told outcome.told) same run.told;
-  };
-}
-
--- the words or the input were refused, or a part of the text of a run was left
-abbrev LeavesIn : Bool → Running → Option (List ℕ) → Streams → RunFault → Type 0
-LeavesIn live o input streams fault = (RefusesScripted o input fault × AreUntouched streams) ⊎ LeavesPart live o input streams fault
-
-run_refused : (o : Running) (input : Option (List ℕ)) (cs : List CaseView) (ks : List (Case ScriptView)) (options : Options) (streams : Streams) (r : Result Outcome RunFault)
-    → AreChosen o.choice input cs → All (λ c. IsCase c.1) cs → IsRuleOf o.stop_on options.stop_on → options ≡ options_of o options.stop_on → AllZip IsCaseOf cs ks
-    → IfErr r (IsUnwritten outline_of (IsCalled Acts) ks options streams) → IfErr r (LeavesIn false o input streams)
-run_refused o input cs ks options streams (Ok outcome) spelled lawful named same each run = tt
-run_refused o input cs ks options streams (Err fault) spelled lawful named same each run = inr (record {
-  cases = cs;
-  rule = options.stop_on;
-  chosen = spelled;
-  named = named;
-  run = record {
-    results = run.results;
-    right = results cs ks options.stop_on run.results lawful each run.right;
-    left = subst (λ (p : Options). LeavesUnwritten streams.before streams.after (text_of p.form run.results) fault) same run.left;
-    told = subst (λ (p : Options). AppendsPrefix streams.untold streams.told (told_text p.progress run.results.finished)) same run.told;
-  };
-})
-
 -- the finished test cases are those of the script
 finished : (cs : List CaseView) (ks : List (Case ScriptView)) (stop_on : Option Verdict) (fs : List Finished) → All (λ c. IsCase c.1) cs → AllZip IsCaseOf cs ks
     → AreFinished outline_of (IsCalled Acts) ks stop_on fs → AreFinished script_outline IsScripted cs stop_on fs
@@ -160,33 +100,63 @@ finished cs ks stop_on fs lawful each are =
       behaviours = are.behaviours;
     }
 
-run_cut : (o : Running) (input : Option (List ℕ)) (cs : List CaseView) (ks : List (Case ScriptView)) (options : Options) (streams : Streams) (r : Result Outcome RunFault)
-    → AreChosen o.choice input cs → All (λ c. IsCase c.1) cs → IsRuleOf o.stop_on options.stop_on → options ≡ options_of o options.stop_on → AllZip IsCaseOf cs ks
-    → IfErr r (IsCutShort outline_of (IsCalled Acts) ks options streams) → IfErr r (LeavesIn true o input streams)
-run_cut o input cs ks options streams (Ok outcome) spelled lawful named same each run = tt
-run_cut o input cs ks options streams (Err fault) spelled lawful named same each run = inr (record {
-  cases = cs;
-  rule = options.stop_on;
-  chosen = spelled;
-  named = named;
-  run = record {
-    results = run.results;
-    each = finished cs ks options.stop_on run.results.finished lawful each run.each;
-    left = subst (λ (p : Options). AppendsPrefix streams.before streams.after (text_of p.form run.results)) same run.left;
-    told = subst (λ (p : Options). AppendsPrefix streams.untold streams.told (told_text p.progress run.results.finished)) same run.told;
-    why = run.why;
-  };
-})
+-- right results of the test cases are right results of the script
+results : (cs : List CaseView) (ks : List (Case ScriptView)) (stop_on : Option Verdict) (r : Results) → All (λ c. IsCase c.1) cs → AllZip IsCaseOf cs ks
+    → AreResults outline_of (IsCalled Acts) ks stop_on r → AreResults script_outline IsScripted cs stop_on r
+results cs ks stop_on r lawful each are =
+    let same = outlines cs ks each in record {
+      each = finished cs ks stop_on r.finished lawful each are.each;
+      last = subst (λ os. IsEnding stop_on (slice_get r.finished (length r.finished - 1)) (slice_get os (length r.finished)) r.ending) same are.last;
+      why = subst (λ os. IsWhy (slice_get os (length r.finished)) r.ending) same are.why;
+    }
 
-pub run_fails : (o : Running) (input : Option (List ℕ)) (cs : List CaseView) (ks : List (Case ScriptView)) (options : Options) (streams : Streams) (r : Result Outcome RunFault)
-    → AreChosen o.choice input cs → All (λ c. IsCase c.1) cs → IsRuleOf o.stop_on options.stop_on → options ≡ options_of o options.stop_on → AllZip IsCaseOf cs ks
-    → (is_live options.form o.live ≡ false → IfErr r (IsUnwritten outline_of (IsCalled Acts) ks options streams))
-    → (is_live options.form o.live ≡ true → IfErr r (IsCutShort outline_of (IsCalled Acts) ks options streams)) → IfErr r (FailsRun o input streams)
-run_fails o input cs ks options streams r spelled lawful named same each whole cut =
-    subst (λ (p : Options). IfErr r (LeavesIn (is_live p.form o.live) o input streams)) same (go (is_live options.form o.live) r whole cut)
-  where
-    go : (live : Bool) (r : Result Outcome RunFault) → (live ≡ false → IfErr r (IsUnwritten outline_of (IsCalled Acts) ks options streams))
-        → (live ≡ true → IfErr r (IsCutShort outline_of (IsCalled Acts) ks options streams))
-        → IfErr r (LeavesIn live o input streams)
-    go false r whole cut = run_refused o input cs ks options streams r spelled lawful named same each (whole refl)
-    go true r whole cut = run_cut o input cs ks options streams r spelled lawful named same each (cut refl)
+module _ (o : RunOptions) (text : List ℕ) (cs : List CaseView) (ks : List (Case ScriptView)) (chosen : AreChosen o.choice text cs) (lawful : All (λ c. IsCase c.1) cs)
+    (each : AllZip IsCaseOf cs ks) where
+  -- a run of the test cases that were made of a script is a run of that script
+  pub run_done : (streams : Streams) (outcome : Outcome) → IsRun outline_of (IsCalled Acts) ks o streams outcome → RunsScript o text streams outcome
+  run_done streams outcome run = record {
+    cases = cs;
+    chosen = chosen;
+    run = record {
+      results = run.results;
+      right = results cs ks o.stop_on run.results lawful each run.right;
+      status = run.status;
+      written = run.written;
+      told = run.told;
+    };
+  }
+
+  left_whole : (streams : Streams) (fault : OutFault) → IsUnwritten outline_of (IsCalled Acts) ks o streams fault → IsLeft false cs o streams fault
+  left_whole streams fault run = record {
+    results = run.results;
+    right = results cs ks o.stop_on run.results lawful each run.right;
+    left = run.left;
+    told = run.told;
+  }
+
+  left_cut : (streams : Streams) (fault : OutFault) → IsCutShort outline_of (IsCalled Acts) ks o streams fault → IsLeft true cs o streams fault
+  left_cut streams fault run = record {
+    results = run.results;
+    each = finished cs ks o.stop_on run.results.finished lawful each run.each;
+    left = run.left;
+    told = run.told;
+  }
+
+  -- and so is one whose results were not written whole
+  pub run_left : (streams : Streams) (fault : OutFault) (told : Option (List ℕ)) (outcome : Outcome)
+      → (is_live o.form o.live ≡ false → IsUnwritten outline_of (IsCalled Acts) ks o streams fault)
+      → (is_live o.form o.live ≡ true → IsCutShort outline_of (IsCalled Acts) ks o streams fault)
+      → IsRefusal streams.told told (line_of (of_output fault)) outcome → LeavesScript o text (record streams { told = told }) outcome
+  run_left streams fault told outcome whole cut refusal = record {
+    cases = cs;
+    chosen = chosen;
+    fault = fault;
+    between = streams.told;
+    run = go (is_live o.form o.live) whole cut;
+    refusal = refusal;
+  }
+    where
+      go : (live : Bool) → (live ≡ false → IsUnwritten outline_of (IsCalled Acts) ks o streams fault)
+          → (live ≡ true → IsCutShort outline_of (IsCalled Acts) ks o streams fault) → IsLeft live cs o streams fault
+      go false whole cut = left_whole streams fault (whole refl)
+      go true whole cut = left_cut streams fault (cut refl)

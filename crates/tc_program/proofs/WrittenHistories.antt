@@ -1,7 +1,6 @@
 -- Written histories are legal.
-use Rattle.std.proofs.Common.{ℕ, ◌≡◌, ◌≢◌, ◌∙◌, ◌+◌, ◌<◌, Bool, true, false, All, Option, Some, None, IfSome, if◌then◌else◌, inr, List, [], ◌∷◌, ◌++◌, length, reverse, take, drop, get_or, refl, ap, sym, arith}
+use Rattle.std.proofs.Common.{ℕ, ◌≡◌, ◌≢◌, ◌∙◌, ◌+◌, ◌<◌, Bool, true, false, All, inr, List, [], ◌∷◌, ◌++◌, length, reverse, take, drop, get_or, refl, ap, sym, arith}
 use Rattle.std.specs.List.{AllZip, flat_map}
-use Rattle.std.specs.Io.KnownBytes.{Appends}
 use Rattle.std.proofs.lemmas.List.{reverse-append, take_more, take-append-drop}
 use Rattle.std.proofs.lemmas.List.Elements.{All-nil, All-cons, All-head, All-tail}
 use Rattle.tc_entry.specs.declared.entry.Entry.{Entry}
@@ -22,7 +21,7 @@ use Rattle.tc_campaign.specs.Campaign.{IsReported}
 use Rattle.tc_program.specs.declared.judge.Judgement.{Judgement}
 use Rattle.tc_program.specs.declared.judge.Judgement.TheVariants as J
 use Rattle.tc_program.specs.Check.{IsJudgement, Checks, judges_legal, judgement_line, legal_line}
-use Rattle.tc_program.specs.WrittenHistories.{block_of, blocks_of, WasRun, WereRun, legal_case, legal_cases, AreFoundLegal, AreReported}
+use Rattle.tc_program.specs.WrittenHistories.{block_of, blocks_of, WasRun, WereRun, legal_case, legal_cases, AreReported}
 use Rattle.tc_program.specs.Inside.{FitsItsTypes}
 
 pub blocks_text : (line : ℕ) (fs : List Finished) → text_of_blocks (blocks_of line fs) ≡ flat_map case_history fs
@@ -41,21 +40,6 @@ some_blocks (f ∷ fs) some = λ e. cc
 
 pub histories_of : (r : Results) → WereRun r → AreHistories (histories_text r) (blocks_of 1 r.finished)
 histories_of r ran = rw blocks_text at (written_histories (blocks_of 1 r.finished) (some_blocks r.finished ran.some) (are_blocks 1 r.finished ran.each))
-
-all_legal : (line : ℕ) (fs : List Finished) → All WasRun fs → Checks (blocks_of line fs) (flat_map legal_case fs) true
-all_legal line [] all = Checks.none
-all_legal line (f ∷ fs) all =
-    let this = All-head WasRun f fs all in
-    let next = line + length (block_lines (block_of line f)) in
-    Checks.goes_on (block_of line f) (blocks_of next fs) (J.Legal f.name (length f.report.history) f.report.verdict) (flat_map legal_case fs) true refl
-    (this.report.legal, this.report.verdict, refl, refl, refl) (all_legal next fs (All-tail WasRun f fs all))
-
-pub written_is_legal : (r : Results) → WereRun r → AreFoundLegal r
-written_is_legal r ran = record {
-  legal = true;
-  check = record { blocks = blocks_of 1 r.finished; histories = histories_of r ran; checks = all_legal 1 r.finished ran.each };
-  status_is = refl;
-}
 
 -- ---- a legal history is found legal, and nothing else
 
@@ -116,24 +100,10 @@ same_lines line [] = refl
 same_lines line (f ∷ fs) = ap (λ l. legal_case f ++ l) (same_lines (line + length (block_lines (block_of line f))) fs)
 
 -- what is said of these blocks
-said_of_written : (r : Results) (out : List ℕ) (legal : Bool) → WereRun r → Checks (blocks_of 1 r.finished) out legal → (out ≡ legal_cases r) × (legal ≡ true)
+pub said_of_written : (r : Results) (out : List ℕ) (legal : Bool) → WereRun r → Checks (blocks_of 1 r.finished) out legal → (out ≡ legal_cases r) × (legal ≡ true)
 said_of_written r out legal ran checks =
     let two = only_legal (blocks_of 1 r.finished) out legal (are_right 1 r.finished ran.each) checks in
     (two.0 ∙ same_lines 1 r.finished, two.1)
-
--- ---- the steps of `check`
-
-pub written_read : (input : Option (List ℕ)) (text read : List ℕ) (r : Results) → WereRun r → input ≡ Some (histories_text r) → IfSome input (λ xs. text ≡ xs) → read ≡ text → AreHistories read (blocks_of 1 r.finished)
-written_read None text read r ran is all same = absurd cc
-written_read (Some xs) text read r ran is all same =
-    let whole : xs ≡ histories_text r = cc in
-    rw (same ∙ (all ∙ whole)) (histories_of r ran)
-
-pub written_said : (before after : Option (List ℕ)) (r : Results) (out lent : List ℕ) (legal : Bool) (status : ℕ) → WereRun r → Checks (blocks_of 1 r.finished) out legal →
-    status ≡ (if legal then 0 else 3) → lent ≡ out → Appends before after lent → (status ≡ 0) × Appends before after (legal_cases r)
-written_said before after r out lent legal status ran checks is lent_is written =
-    let two = said_of_written r out legal ran checks in
-    (is ∙ ap (λ t. if t then 0 else 3) two.1, rw (lent_is ∙ two.0) at written)
 
 -- ---- what the types give
 

@@ -1,5 +1,5 @@
 -- What `check` prints for histories.
-use Rattle.std.specs.Prelude.{ℕ, ◌≡◌, ◌≢◌, ◌+◌, Bool, true, false, if◌then◌else◌, Option, List, [], ◌∷◌, ◌++◌, length, reverse, codes, slice_index_or}
+use Rattle.std.specs.Prelude.{ℕ, ◌≡◌, ◌≢◌, ◌+◌, Bool, true, false, if◌then◌else◌, List, [], ◌∷◌, ◌++◌, length, reverse, codes, slice_index_or}
 use Rattle.std.specs.Fmt.{decimal}
 use Rattle.tc_verdict.specs.declared.verdict.Verdict.{Verdict}
 use Rattle.tc_verdict.specs.Verdict.{name_of}
@@ -12,8 +12,8 @@ use Rattle.tc_table.specs.Check.{DiffersAt}
 use Rattle.tc_history.specs.declared.read.Block.{Block}
 use Rattle.tc_history.specs.Text.{AreHistories, IsHistoryFault}
 use Rattle.tc_program.specs.declared.fault.RunFault.{RunFault}
-use Rattle.tc_program.specs.Fault.{Refuses, place_text}
-use Rattle.tc_program.specs.Limits.{history_limit}
+use Rattle.tc_program.specs.declared.fault.RunFault.TheVariants as F
+use Rattle.tc_program.specs.Fault.{place_text}
 use Rattle.tc_program.specs.declared.judge.Judgement.{Judgement}
 use Rattle.tc_program.specs.declared.judge.Judgement.TheVariants as J
 
@@ -67,6 +67,8 @@ pub record IsCheckOf (text out : List ℕ) (legal : Bool) : Type 0 where
   pub blocks : List Block
   pub histories : AreHistories text blocks
   pub checks : Checks blocks out legal
+  -- it is that of no others
+  pub only : (others : List Block) → AreHistories text others → Checks others out legal
 
 -- the output is the check of the text, and the status is 0 where all histories are legal, else 3
 pub record IsChecked (text out : List ℕ) (status : ℕ) : Type 0 where
@@ -74,6 +76,8 @@ pub record IsChecked (text out : List ℕ) (status : ℕ) : Type 0 where
   pub check : IsCheckOf text out legal
   pub status_is : status ≡ (if legal then 0 else 3)
 
--- what a fault of `check` says of the input and of the output before and after
-abbrev pub RefusesCheck : Option (List ℕ) → Option (List ℕ) → Option (List ℕ) → RunFault → Type 0
-RefusesCheck = Refuses IsHistoryFault IsChecked history_limit
+-- a text is refused as one of histories, and is none of any; want of memory says nothing of it
+abbrev pub RefusesHistory : List ℕ → RunFault → Type 0
+RefusesHistory text (F.Text fault) = IsHistoryFault text fault × ((blocks : List Block) → AreHistories text blocks → ⊥)
+RefusesHistory text F.NoMemory = Unit {0}
+RefusesHistory text fault = ⊥

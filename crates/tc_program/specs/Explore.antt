@@ -1,8 +1,6 @@
 -- What `explore` writes: the overall verdicts that were found of each test case of a script, or the histories that witness them.
-use Rattle.std.specs.Prelude.{ℕ, ◌≡◌, ◌==◌, ◌≤◌, if◌then◌else◌, Bool, true, false, Option, None, Some, Ok, List, [], ◌++◌, length}
+use Rattle.std.specs.Prelude.{ℕ, ◌≡◌, ◌==◌, ◌≤◌, if◌then◌else◌, Bool, true, false, Ok, List, [], ◌++◌, length}
 use Rattle.std.specs.List.{AllZip, flat_map, list_any}
-use Rattle.std.specs.Fmt.{decimal}
-use Rattle.std.specs.Io.KnownBytes.{Keeps}
 use Rattle.tc_script.specs.Campaign.{CampaignView, campaign}
 use Rattle.tc_step.specs.Steps.{ScriptView}
 use Rattle.tc_explore.specs.declared.explored.Explored.{Explored}
@@ -12,26 +10,7 @@ use Rattle.tc_explore.specs.Laws.{AllFound}
 use Rattle.tc_explore.specs.declared.explored.Ending.TheVariants as E
 use Rattle.tc_explore.specs.Told.{explored_line, explored_status, witnesses_text}
 use Rattle.tc_program.specs.declared.explore.ExploredCase.{ExploredCase}
-use Rattle.tc_program.specs.declared.fault.RunFault.{RunFault}
-use Rattle.tc_program.specs.declared.fault.RunFault.TheVariants as F
-use Rattle.tc_program.specs.Limits.{script_limit}
-use Rattle.tc_program.specs.Output.{WritesPrefix}
-use Rattle.tc_program.specs.Script.{RefusesScript}
 use Rattle.tc_program.specs.Scripted.{CaseView, scripts_of}
-
--- a search may look at so many states at most
-abbrev pub IsStates : ℕ → Type 0
-IsStates n = (1 ≤ n) × (n ≤ 1000000)
-
--- the states that the word names; without a word a hundred thousand
-abbrev pub IsStatesOf : Option (List ℕ) → ℕ → Type 0
-IsStatesOf None n = n ≡ 100000
-IsStatesOf (Some word) n = IsStates n × (word ≡ decimal n)
-
--- there is a word, and it names no number of states
-abbrev pub IsNoStates : Option (List ℕ) → Type 0
-IsNoStates None = ⊥
-IsNoStates (Some word) = (n : ℕ) → IsStates n → word ≡ decimal n → ⊥
 
 -- the details of a test case with these scripts, where they are asked for
 abbrev pub details_if : Bool → List ScriptView → Explored → List ℕ
@@ -72,11 +51,3 @@ pub record Explores (histories details : Bool) (states : ℕ) (text out : List �
   pub each : AllZip (IsExplored details states) cases explored
   pub out_is : out ≡ flat_map (told_of histories) explored
   pub status_is : status ≡ status_of_all explored
-
--- what a fault of `explore` says: the word is refused; or it is good, and the input is refused; nothing was written then. Where
--- the writer failed a prefix of the output was written
-abbrev pub RefusesExplore : Bool → Bool → Option (List ℕ) → Option (List ℕ) → Option (List ℕ) → Option (List ℕ) → RunFault → Type 0
-RefusesExplore histories details word input before after F.States = IsNoStates word × Keeps before after
-RefusesExplore histories details word input before after F.Write =
-    (states : ℕ) × IsStatesOf word states × WritesPrefix (Explores histories details states) input before after
-RefusesExplore histories details word input before after fault = RefusesScript script_limit input fault × Keeps before after

@@ -1,18 +1,18 @@
 -- What `run` writes.
-use Rattle.std.specs.Prelude.{ℕ, Bool, ◌&&◌, List, Option, Some, None, is_some}
-use Rattle.std.specs.Io.KnownBytes.{Keeps}
-use Rattle.tc_stream.specs.Output.{AppendsPrefix}
+use Rattle.std.specs.Prelude.{ℕ, ◌≡◌, Bool, ◌&&◌, List, Option, Some, None, is_some}
 use Rattle.tc_report.specs.declared.results.Results.{Results}
 use Rattle.tc_report.specs.declared.form.Form.{Form as ReportForm}
 use Rattle.tc_report.specs.declared.form.Form.TheVariants as ReportForms
 use Rattle.tc_report.specs.Live.{form_text}
+use Rattle.tc_report.specs.Output.{LeavesPrefix}
+use Rattle.tc_report.specs.declared.fault.OutFault.{OutFault}
 use Rattle.tc_forms.specs.Junit.{junit_of}
 use Rattle.tc_forms.specs.Summary.{results_summaries}
 use Rattle.tc_command.specs.declared.command.TheConstants.{VERSION}
 use Rattle.tc_command.specs.declared.task.Form.{Form}
 use Rattle.tc_command.specs.declared.task.Form.TheVariants as Forms
 use Rattle.tc_program.specs.declared.fault.RunFault.{RunFault}
-use Rattle.tc_program.specs.declared.fault.RunFault.TheVariants as F
+use Rattle.tc_program.specs.Fault.{of_output}
 
 -- the form in which test cases are written as they finish: a JUnit report has none, since its head counts all of them
 abbrev pub live_form : Form → Option ReportForm
@@ -32,8 +32,6 @@ text_of Forms.Csv r = form_text ReportForms.Csv r
 text_of Forms.History r = form_text ReportForms.History r
 text_of Forms.Junit r = junit_of VERSION.now (results_summaries r)
 
--- without memory nothing was written, where the writer failed a prefix of the text; there is no other fault
+-- why a text was not written whole: without memory nothing was, where the writer failed a prefix; there is no other fault
 abbrev pub LeavesUnwritten : Option (List ℕ) → Option (List ℕ) → List ℕ → RunFault → Type 0
-LeavesUnwritten before after text F.NoMemory = Keeps before after
-LeavesUnwritten before after text F.Write = AppendsPrefix before after text
-LeavesUnwritten before after text fault = ⊥
+LeavesUnwritten before after text fault = (why : OutFault) × (fault ≡ of_output why) × LeavesPrefix before after text why

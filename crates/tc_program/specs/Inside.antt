@@ -1,8 +1,6 @@
 -- What the functions inside of the program say, which no public clause names.
-use Rattle.std.specs.Prelude.{ℕ, ◌≡◌, ◌+◌, Bool, true, false, Option, Some, None, Result, MatchResult, List, [], ◌∷◌, ◌++◌, length, map, reverse, MatchOption}
-use Rattle.std.specs.Global.{Vec}
-use Rattle.std.specs.List.{flat_map}
-use Rattle.clap.specs.declared.error.kind.ErrorKind.{ErrorKind}
+use Rattle.std.specs.Prelude.{ℕ, ◌≡◌, ◌+◌, All, Bool, true, false, Option, Some, None, Result, Ok, Err, MatchResult, List, [], ◌∷◌, ◌++◌, length, map, reverse}
+use Rattle.std.specs.List.{AllZip, flat_map}
 use Rattle.tc_verdict.specs.declared.verdict.Verdict.{Verdict}
 use Rattle.tc_stream.specs.declared.input.InputFault.{InputFault}
 use Rattle.tc_stream.specs.declared.input.InputFault.TheVariants as I
@@ -10,13 +8,13 @@ use Rattle.tc_entry.specs.Name.{IsName}
 use Rattle.tc_entry.specs.declared.entry.Entry.{Entry}
 use Rattle.tc_text.specs.declared.fault.TextFault.{TextFault}
 use Rattle.tc_text.specs.declared.fault.TextFault.TheVariants as T
-use Rattle.tc_text.specs.MoveList.{Move, IsListFault}
+use Rattle.tc_text.specs.MoveList.{Move}
 use Rattle.tc_step.specs.Steps.{ScriptView}
 use Rattle.tc_table.specs.Standing.{Kept, StandsFor}
 use Rattle.tc_table.specs.Legal.{IsLegal}
 use Rattle.tc_history.specs.declared.header.Header.{Header}
 use Rattle.tc_history.specs.declared.read.Block.{Block}
-use Rattle.tc_history.specs.Text.{AreEntries, AreHistories, IsHistoryFault, header_of}
+use Rattle.tc_history.specs.Text.{AreEntries, AreHistories, header_of}
 use Rattle.tc_report.specs.declared.results.Finished.{Finished}
 use Rattle.tc_campaign.specs.declared.case.Case.{Case}
 use Rattle.tc_program.specs.declared.fault.RunFault.{RunFault}
@@ -26,20 +24,25 @@ use Rattle.tc_program.specs.declared.judge.Judgement.{Judgement}
 use Rattle.tc_program.specs.declared.judge.Playing.{Playing}
 use Rattle.tc_program.specs.declared.outcome.Outcome.{Outcome}
 use Rattle.tc_program.specs.declared.replay.Replaying.{Replaying}
-use Rattle.tc_program.specs.Answer.{IsNoTask}
 use Rattle.tc_program.specs.Check.{Checks, IsJudgement, IsOtherReply, judgement_line, judges_legal}
 use Rattle.tc_program.specs.Replay.{move_of, reply_line}
 use Rattle.tc_program.specs.Scripted.{CaseView, names_of, scripts_of}
-use Rattle.tc_program.specs.Streams.{held}
-use Rattle.tc_program.specs.Tell.{IsRefusal}
-use Rattle.tc_program.specs.Explained.{IsExplained, explained}
-use Rattle.std.specs.Io.KnownBytes.{Appends}
-use Rattle.tc_command.specs.declared.task.ReportForm.{ReportForm}
+use Rattle.tc_program.specs.Streams.{Streams, held}
+use Rattle.std.specs.Io.KnownBytes.{Appends, Keeps}
+use Rattle.tc_stream.specs.Output.{AppendsPrefix}
+use Rattle.tc_command.specs.declared.read.Refused.{Refused}
+use Rattle.tc_command.specs.declared.task.Choice.{Choice}
+use Rattle.tc_command.specs.declared.task.Task.{Task}
+use Rattle.tc_script.specs.Campaign.{CampaignView}
+use Rattle.tc_script.specs.Law.{IsCase}
+use Rattle.tc_program.specs.Answer.{IsRefused}
+use Rattle.tc_program.specs.Choosing.{AreChosen}
+use Rattle.tc_program.specs.Made.{Makes, Refuses}
+use Rattle.tc_program.specs.Program.{IsDone}
+use Rattle.tc_program.specs.declared.reply.Answer.{Answer}
 use Rattle.tc_forms.specs.declared.summary.Summary.{Summary}
 use Rattle.tc_forms.specs.Summary.{block_summary}
-use Rattle.tc_program.specs.declared.report.Reporting.{Reporting}
 use Rattle.tc_program.specs.Give.{LeavesUnwritten}
-use Rattle.tc_program.specs.Report.{form_of}
 
 -- the fault for an input that could not be read whole
 abbrev pub of_input : InputFault → RunFault
@@ -51,12 +54,6 @@ of_input I.NoMemory = F.NoMemory
 abbrev pub of_text : TextFault → RunFault
 of_text (T.At line kind) = F.Text (T.At line kind)
 of_text T.NoMemory = F.NoMemory
-
--- what a fault says of a text that should be a move list; want of memory says nothing
-abbrev pub RefusesText : List ℕ → RunFault → Type 0
-RefusesText text (F.Text fault) = IsListFault text fault
-RefusesText text F.NoMemory = Unit {0}
-RefusesText text fault = ⊥
 
 -- a test case is ready to be run: it has the names of this one, and its jobs are the scripts
 pub record IsCaseOf (c : CaseView) (ready : Case ScriptView) : Type 0 where
@@ -102,50 +99,50 @@ abbrev pub Feeds : List Block → List ℕ → Bool → Type 0
 Feeds blocks out true = (more : List Block) (tail : List ℕ) (legal : Bool) → Checks more tail legal → Checks (blocks ++ more) (out ++ tail) legal
 Feeds blocks out false = (more : List Block) → Checks (blocks ++ more) out false
 
--- what a fault says of a text that should be that of histories
-abbrev pub RefusesHistory : List ℕ → RunFault → Type 0
-RefusesHistory text (F.Text fault) = IsHistoryFault text fault
-RefusesHistory text F.NoMemory = Unit {0}
-RefusesHistory text fault = ⊥
-
 -- these are the test cases of the blocks, each of which is found legal; or this is the judgement of the first that is not
 abbrev pub Summarizes : List Block → List Summary → Option Judgement → Type 0
 Summarizes blocks ss None = ((lines : List ℕ) × Feeds blocks lines true) × (ss ≡ map block_summary blocks)
 Summarizes blocks ss (Some j) = (judges_legal j ≡ false) × ((lines : List ℕ) × Feeds blocks (lines ++ judgement_line j) false)
 
--- a text of histories is refused for want of memory alone, and else this is what is printed for them, and whether all are legal
-abbrev pub ChecksText : List ℕ → Result (Vec ℕ × Bool) RunFault → Type 0
-ChecksText text result =
-    (blocks : List Block) → AreHistories text blocks → MatchResult result (λ r. Checks blocks r.0.items r.1) (λ fault. fault ≡ F.NoMemory)
-
--- what comes of words that ask for no task, by what two writers held before and after: first the output, and then standard error
-abbrev pub ShowsNoTask : {W E : Type 0} → (W → Option (List ℕ)) → W → W → (E → Option (List ℕ)) → E → E → ErrorKind → Outcome → Type 0
-ShowsNoTask contents w w' lines e e' kind outcome = IsNoTask kind (held contents w w' lines e e') (w' ≡ w) outcome
-
 -- the line of a test case in a list
 abbrev pub case_line : {B : Type 0} → Case B → List ℕ
 case_line k = k.name ++ (10 ∷ [])
-
--- the task was refused, and these bytes were kept of its input: the fault is explained by them where it is asked for and is one of a text,
--- and else its line alone is told
-abbrev pub IsRefusalBy : Bool → Bool → List ℕ → Option (List ℕ) → Option (List ℕ) → Outcome → RunFault → Type 0
-IsRefusalBy explains moves kept untold told outcome fault =
-    MatchOption (explained explains moves fault) (IsRefusal untold told outcome fault)
-    (λ what. IsExplained untold told outcome fault kept what)
 
 -- the text has as many histories as there are test cases
 abbrev pub HasOneEach : List ℕ → List Summary → Type 0
 HasOneEach text ss = (blocks : List Block) → AreHistories text blocks → length ss ≡ length blocks
 
--- by this fault their form was not written whole
-abbrev pub LeavesForm : ReportForm → List ℕ → List Summary → Option (List ℕ) → Option (List ℕ) → RunFault → Type 0
-LeavesForm form text ss before after fault = (blocks : List Block) → AreHistories text blocks → LeavesUnwritten before after (form_of form ss blocks) fault
+-- the names that are asked for are refused, where the test cases do not have them
+abbrev pub RefusesNames : Bool → RunFault → Type 0
+RefusesNames have F.Only = have ≡ false
+RefusesNames have F.NoMemory = Unit {0}
+RefusesNames have fault = ⊥
 
--- a text of histories is refused for want of memory alone, and else this is made of them
-abbrev pub ReportsText : List ℕ → Result Reporting RunFault → Type 0
-ReportsText text result =
-    (blocks : List Block) → AreHistories text blocks → MatchResult result (λ r. Summarizes blocks r.summaries.items r.illegal) (λ fault. fault ≡ F.NoMemory)
+-- these are the chosen test cases of the script that the text is, ready to be run
+pub record AreReady (choice : Choice) (text : List ℕ) (ready : List (Case ScriptView)) : Type 0 where
+  pub cases : CampaignView
+  pub chosen : AreChosen choice text cases
+  pub lawful : All (λ c. IsCase c.1) cases
+  pub each : AllZip IsCaseOf cases ready
 
--- the form of these test cases and of the histories of the text was written
-abbrev pub WritesForm : ReportForm → List ℕ → List Summary → Option (List ℕ) → Option (List ℕ) → Type 0
-WritesForm form text ss before after = (blocks : List Block) → AreHistories text blocks → Appends before after (form_of form ss blocks)
+-- this is what a task makes of the text, or it refuses the text
+abbrev pub IsMade : Task → List ℕ → Result Answer RunFault → Type 0
+IsMade task text made = MatchResult made (Makes task text) (Refuses task text)
+
+-- what is made of the text was written, whole or a prefix; or the text is refused, and nothing was
+abbrev pub WritesTo : Task → List ℕ → Option (List ℕ) → Option (List ℕ) → Result ℕ RunFault → Type 0
+WritesTo task text before after (Ok status) = (a : Answer) × Makes task text a × Appends before after a.out × (status ≡ a.status)
+WritesTo task text before after (Err F.Write) = (a : Answer) × Makes task text a × AppendsPrefix before after a.out
+WritesTo task text before after (Err fault) = Refuses task text fault × Keeps before after
+
+-- where the answer is made of the text, the task is done
+abbrev pub GivesTo : Task → List ℕ → Answer → Streams → Outcome → Type 0
+GivesTo task text a s outcome = Makes task text a → IsDone task text s outcome
+
+-- by this answer some text was written whole; without memory nothing was, where the writer failed a prefix
+abbrev pub ShowsText : Option (List ℕ) → Option (List ℕ) → Result (Unit {0}) RunFault → Type 0
+ShowsText before after answer = (text : List ℕ) × MatchResult answer (λ _. Appends before after text) (LeavesUnwritten before after text)
+
+-- what comes of words that are refused, by what two writers held before and after: first the output, and then standard error
+abbrev pub ShowsNoTask : {W E : Type 0} → (W → Option (List ℕ)) → W → W → (E → Option (List ℕ)) → E → E → Refused → Outcome → Type 0
+ShowsNoTask contents w w' lines e e' why outcome = IsRefused why (held contents w w' lines e e') (w' ≡ w) outcome

@@ -1,17 +1,17 @@
 -- The definitions that the contracts of this crate cite.
 pub mod Replay
 pub mod Fault
-pub mod Output
+pub mod Input
 pub mod Streams
 pub mod Give
 pub mod Limits
 pub mod Tell
 pub mod Explained
-pub mod Script
 pub mod Run
 pub mod Scripted
 pub mod Choosing
 pub mod Explore
+pub mod Made
 pub mod Program
 pub mod Answer
 pub mod Check

@@ -1,5 +1,5 @@
 -- What `replay` prints for a move list.
-use Rattle.std.specs.Prelude.{ℕ, ◌≡◌, Option, List, [], ◌∷◌, ◌++◌, map, reverse}
+use Rattle.std.specs.Prelude.{ℕ, ◌≡◌, List, [], ◌∷◌, ◌++◌, map, reverse}
 use Rattle.std.specs.List.{flat_map}
 use Rattle.tc_verdict.specs.declared.verdict.Verdict.{Verdict}
 use Rattle.tc_entry.specs.declared.entry.Entry.{Entry}
@@ -10,8 +10,7 @@ use Rattle.tc_table.specs.Local.{overall}
 use Rattle.tc_report.specs.Report.{verdict_line}
 use Rattle.tc_report.specs.Status.{verdict_status}
 use Rattle.tc_program.specs.declared.fault.RunFault.{RunFault}
-use Rattle.tc_program.specs.Fault.{Refuses}
-use Rattle.tc_program.specs.Limits.{move_list_limit}
+use Rattle.tc_program.specs.declared.fault.RunFault.TheVariants as F
 
 -- who called, and what
 abbrev pub move_of : Entry → Move
@@ -46,6 +45,8 @@ pub record Replays (text out : List ℕ) (status : ℕ) : Type 0 where
   pub replay : IsReplayOf text out verdict
   pub status_is : status ≡ verdict_status verdict
 
--- what a fault of `replay` says of the input and of the output before and after
-abbrev pub RefusesReplay : Option (List ℕ) → Option (List ℕ) → Option (List ℕ) → RunFault → Type 0
-RefusesReplay = Refuses IsListFault Replays move_list_limit
+-- a text is refused as a list of moves; want of memory says nothing of it
+abbrev pub RefusesMoves : List ℕ → RunFault → Type 0
+RefusesMoves text (F.Text fault) = IsListFault text fault
+RefusesMoves text F.NoMemory = Unit {0}
+RefusesMoves text fault = ⊥

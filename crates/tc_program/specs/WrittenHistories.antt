@@ -1,8 +1,7 @@
 -- What `check` says of the histories that `run` writes.
-use Rattle.std.specs.Prelude.{ℕ, ◌≡◌, ◌≢◌, List, [], ◌∷◌, ◌++◌, ◌+◌, All, Option, Some, Result, MatchResult, length, take, codes}
+use Rattle.std.specs.Prelude.{ℕ, ◌≡◌, ◌≢◌, Bool, List, [], ◌∷◌, ◌++◌, ◌+◌, All, length, map, take, codes}
 use Rattle.std.specs.List.{AllZip, flat_map}
 use Rattle.std.specs.Fmt.{decimal}
-use Rattle.std.specs.Io.KnownBytes.{Appends}
 use Rattle.tc_verdict.specs.Verdict.{name_of}
 use Rattle.tc_history.specs.declared.read.Block.{Block}
 use Rattle.tc_history.specs.Text.{IsHeader, AreEntries, block_lines}
@@ -12,7 +11,14 @@ use Rattle.tc_report.specs.declared.results.Results.{Results}
 use Rattle.tc_report.specs.Histories.{histories_text}
 use Rattle.tc_campaign.specs.Outline.{Outline}
 use Rattle.tc_campaign.specs.Campaign.{HasBehaviours, IsReported}
-use Rattle.tc_program.specs.Check.{IsChecked}
+use Rattle.tc_command.specs.declared.task.ReportForm.{ReportForm}
+use Rattle.tc_command.specs.declared.task.Task.TheVariants as T
+use Rattle.tc_forms.specs.Status.{status_of_summaries}
+use Rattle.tc_forms.specs.Summary.{case_summary}
+use Rattle.tc_program.specs.declared.reply.Answer.{Answer}
+use Rattle.tc_program.specs.Check.{RefusesHistory}
+use Rattle.tc_program.specs.Made.{Makes}
+use Rattle.tc_program.specs.Report.{form_of}
 use Rattle.tc_program.specs.declared.fault.RunFault.{RunFault}
 use Rattle.tc_program.specs.declared.fault.RunFault.TheVariants as F
 
@@ -53,21 +59,20 @@ abbrev pub blocks_of : ℕ → List Finished → List Block
 blocks_of line [] = []
 blocks_of line (f ∷ fs) = block_of line f ∷ blocks_of (line + length (block_lines (block_of line f))) fs
 
--- this is what `check` says of the histories of the results
-abbrev pub AreFoundLegal : Results → Type 0
-AreFoundLegal r = IsChecked (histories_text r) (legal_cases r) 0
+-- what `check` answers for the histories of the results: each is legal
+abbrev pub found_legal : Results → Answer
+found_legal r = record { out = legal_cases r; told = []; status = 0 }
 
--- the fault is one of the input's length, of a device or of the memory, and not of the text
-abbrev pub IsOutside : RunFault → Type 0
-IsOutside (F.Text fault) = ⊥
-IsOutside (F.Script fault) = ⊥
-IsOutside F.StopOn = ⊥
-IsOutside F.States = ⊥
-IsOutside F.Shard = ⊥
-IsOutside F.Only = ⊥
-IsOutside fault = Unit {0}
+-- the form of test cases that were run
+abbrev pub run_report : ReportForm → List Finished → List ℕ
+run_report form fs = form_of form (map case_summary fs) (blocks_of 1 fs)
 
--- where the input is what is written of test cases that were run, the status is 0 and each is found legal, or there is a fault, and not of the text
-abbrev pub FindsWrittenLegal : Option (List ℕ) → Option (List ℕ) → Option (List ℕ) → Result ℕ RunFault → Type 0
-FindsWrittenLegal input before after result =
-    (r : Results) → WereRun r → input ≡ Some (histories_text r) → MatchResult result (λ status. (status ≡ 0) × Appends before after (legal_cases r)) IsOutside
+-- what `report` answers for the histories of the results: their form, and their status
+abbrev pub report_of_run : ReportForm → Results → Answer
+report_of_run form r = record { out = run_report form r.finished; told = []; status = status_of_summaries (map case_summary r.finished) }
+
+-- the histories of the results are checked and reported so, whatever is asked for besides, and refused for want of memory alone
+pub record AreFoundLegal (r : Results) : Type 0 where
+  pub checked_so : (explains : Bool) (a : Answer) → Makes (T.Check explains) (histories_text r) a → a ≡ found_legal r
+  pub reported_so : (form : ReportForm) (explains : Bool) (a : Answer) → Makes (T.Report form explains) (histories_text r) a → a ≡ report_of_run form r
+  pub refused_so : (fault : RunFault) → RefusesHistory (histories_text r) fault → fault ≡ F.NoMemory

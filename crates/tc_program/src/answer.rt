@@ -1,18 +1,19 @@
 //! What the program does with its words.
-ghost use Rattle.std.specs.Prelude.{◌≡◌, ℕ, List, IfOk, IfErr, OnErr, map, string_bytes};
+ghost use Rattle.std.specs.Prelude.{◌≡◌, IfOk, IfErr, OnErr, List, ℕ, map, string_bytes};
 ghost use Rattle.std.specs.IoError.{error_kind};
 ghost use Rattle.clap.specs.Values.{kind_of};
 ghost use Rattle.clap.specs.declared.error.kind.ErrorKind.TheVariants.{DisplayHelp, DisplayVersion, OutOfMemory};
-ghost use Rattle.tc_program.specs.Answer.{IsAnswered, IsHelped, IsMistake, IsRefusedLine, IsUnread, ShowsText};
-ghost use Rattle.tc_program.specs.Inside.{ShowsNoTask};
-ghost use Rattle.tc_program.specs.Tell.{IsRefusal, IsTold};
+ghost use Rattle.tc_program.specs.Answer.{IsAnswered, IsHelped, IsMistake, IsRefusedLine, IsUnread};
+ghost use Rattle.tc_program.specs.Fault.{line_of};
+ghost use Rattle.tc_program.specs.Inside.{ShowsNoTask, ShowsText};
+ghost use Rattle.tc_program.specs.Tell.{IsRefusal};
 ghost use Rattle.tc_program.specs.declared.fault.RunFault.TheVariants.{NoMemory as WithoutMemory};
 ghost use Rattle.tc_program.specs.Streams.{held};
 
 use crate::carry_out::carry_out;
 use crate::fault::RunFault;
 use crate::outcome::{Outcome, REFUSED};
-use crate::tell::{refuse, tell_unmade};
+use crate::tell::{refuse, refuse_with, refuse_words, tell};
 use clap::Error;
 use clap::error::ErrorKind;
 use std::alloc::Global;
@@ -20,8 +21,9 @@ use std::io;
 use std::io::{Read, Write};
 use std::sync::Wait;
 use std::thread::Threads;
-use tc_command::{Task, read_task};
+use tc_command::{Refused, read_task};
 use tc_stream::write_whole;
+use tc_table::NoMemory;
 
 // Writes the text of a command line that asks for no task.
 fn show<W: Write>(alloc: Global, error: &Error, writer: &mut W) -> Result<(), RunFault>
@@ -32,15 +34,12 @@ fn show<W: Write>(alloc: Global, error: &Error, writer: &mut W) -> Result<(), Ru
     Ok(())
 }
 
-// Writes why a command line is refused, or, where memory is refused for that text, that it was.
-fn tell_mistake<E: Write>(alloc: Global, error: &Error, errors: &mut E) -> Result<(), RunFault>
-    ensures { (text : List ℕ) × IsTold (E.contents errors.old) (E.contents errors.new) text result }
-{
-    let Ok(text) = error.to_string(alloc) else {
-        return tell_unmade(errors);
-    };
-    write_whole(errors, text.as_bytes())?;
-    Ok(())
+// The text of a command line that is refused.
+fn mistake_text(alloc: Global, error: &Error) -> Result<Vec<u8>, NoMemory> {
+    match error.to_string(alloc) {
+        Ok(text) => Ok(text.into_bytes()),
+        Err(_) => Err(NoMemory),
+    }
 }
 
 /// The outcome of words that ask for no task: help or the version is written, and for refused words standard error says why, in clap's
@@ -53,8 +52,8 @@ pub fn answer_no_task<W: Write, E: Write>(
 ) -> Outcome
     ensures help { kind_of error.now ≡ DisplayHelp → IsHelped (held W.contents writer.old writer.new E.contents errors.old errors.new) result }
     ensures version { kind_of error.now ≡ DisplayVersion → IsHelped (held W.contents writer.old writer.new E.contents errors.old errors.new) result }
-    ensures refused { IsMistake (kind_of error.now) → IsRefusedLine (E.contents errors.old) (E.contents errors.new) result }
-    ensures memory { kind_of error.now ≡ OutOfMemory → IsRefusal (E.contents errors.old) (E.contents errors.new) result WithoutMemory }
+    ensures refused { IsMistake (kind_of error.now) → IsRefusedLine (held W.contents writer.old writer.new E.contents errors.old errors.new) result }
+    ensures memory { kind_of error.now ≡ OutOfMemory → IsRefusal (E.contents errors.old) (E.contents errors.new) (line_of WithoutMemory) result }
     ensures unwritten { IsMistake (kind_of error.now) → writer.new ≡ writer.old }
     ensures wordless { kind_of error.now ≡ OutOfMemory → writer.new ≡ writer.old }
 {
@@ -62,10 +61,7 @@ pub fn answer_no_task<W: Write, E: Write>(
         return refuse(alloc, errors, RunFault::NoMemory);
     }
     if error.use_stderr() {
-        return Outcome {
-            status: REFUSED,
-            told: tell_mistake(alloc, error, errors),
-        };
+        return refuse_with(errors, mistake_text(alloc, error));
     }
     match show(alloc, error, writer) {
         Ok(()) => Outcome {
@@ -76,16 +72,19 @@ pub fn answer_no_task<W: Write, E: Write>(
     }
 }
 
-// The outcome of words that ask for no task, as one fact.
-fn answer_error<W: Write, E: Write>(
+// The outcome of words that are refused, as one fact.
+fn answer_refused<W: Write, E: Write>(
     alloc: Global,
-    error: &Error,
+    refused: &Refused,
     writer: &mut W,
     errors: &mut E,
 ) -> Outcome
-    ensures shown { ShowsNoTask W.contents writer.old writer.new E.contents errors.old errors.new (kind_of error.now) result }
+    ensures shown { ShowsNoTask W.contents writer.old writer.new E.contents errors.old errors.new refused.now result }
 {
-    answer_no_task(alloc, error, writer, errors)
+    match refused {
+        Refused::Line(error) => answer_no_task(alloc, error, writer, errors),
+        Refused::Word(fault) => refuse_words(alloc, errors, fault.text()),
+    }
 }
 
 /// The outcome of words that could not be had; standard error says why.
@@ -95,10 +94,9 @@ pub fn answer_unread<E: Write>(alloc: Global, error: &io::Error, errors: &mut E)
     if error.kind() == io::ErrorKind::OutOfMemory {
         return refuse(alloc, errors, RunFault::NoMemory);
     }
-    let told = write_whole(errors, b"ttrun: an argument is not UTF-8\n");
     Outcome {
         status: REFUSED,
-        told: told.map_err(RunFault::from),
+        told: tell(errors, b"ttrun: an argument is not UTF-8\n"),
     }
 }
 
@@ -125,7 +123,7 @@ where
         Err(error) => return answer_unread(alloc, &error, errors),
     };
     match read_task(alloc, words.as_slice()) {
-        Ok(task) => carry_out(rt, alloc, task, reader, writer, errors),
-        Err(error) => answer_error(alloc, &error, writer, errors),
+        Ok(task) => carry_out(rt, alloc, &task, reader, writer, errors),
+        Err(refused) => answer_refused(alloc, &refused, writer, errors),
     }
 }

@@ -1,100 +1,107 @@
 //! What the program does with a task.
 ghost use Rattle.std.specs.Prelude.{◌≡◌};
-ghost use Rattle.tc_command.specs.Asked.{running_of};
-ghost use Rattle.tc_program.specs.Choosing.{IsNoShard};
-ghost use Rattle.tc_program.specs.Program.{EndsRun, HasNoRule, IsCarriedOut};
-ghost use Rattle.tc_program.specs.Run.{IsNoName};
+ghost use Rattle.tc_command.specs.declared.task.Task.TheVariants.{Run};
+ghost use Rattle.tc_program.specs.Limits.{limit_of as spec_limit};
+ghost use Rattle.tc_program.specs.Program.{IsCarriedOut, IsDone};
 ghost use Rattle.tc_program.specs.Streams.{held};
 
-use crate::check::check;
-use crate::explained::{refuse_by, settle_by};
-use crate::explore::explore_script;
-use crate::jobs::run_script;
-use crate::listing::list_script;
+use crate::check::check_text;
+use crate::explained::refuse_text;
+use crate::explore::explore_text;
+use crate::fault::RunFault;
+use crate::input::read_text;
+use crate::jobs::chosen_cases;
+use crate::listing::list_text;
+use crate::made::finish;
 use crate::outcome::Outcome;
-use crate::replay::replay;
-use crate::report::report;
-use crate::tell::settle;
+use crate::replay::replay_text;
+use crate::report::report_text;
+use crate::run::run_as;
+use crate::tell::refuse;
 use std::alloc::Global;
 use std::io::{Read, Write};
 use std::sync::Wait;
 use std::thread::Threads;
 use tc_command::{RunOptions, Task};
 
-/// Runs the campaign of a script as it is asked for; a fault is told.
-#[tactic(auto, using(crate::proofs::Explaining::told_of))]
-fn carry_out_run<R, I: Read, W: Write, E: Write>(
-    rt: &R,
-    alloc: Global,
-    options: &RunOptions<'_>,
-    reader: &mut I,
-    writer: &mut W,
-    errors: &mut E,
-) -> Outcome
-where
-    R: Threads + Wait + Copy + Send + 'static,
-    ensures done { EndsRun (running_of options.now) (I.remaining reader.old)
-        (held W.contents writer.old writer.new E.contents errors.old errors.new) result }
-    ensures unruled { IsNoName (running_of options.now).stop_on → reader.new ≡ reader.old }
-    ensures unread { IsNoShard (running_of options.now).choice.shard → reader.new ≡ reader.old }
+// How many bytes the input of the task may have.
+fn limit_of(task: &Task) -> usize
+    ensures { result ≡ spec_limit task.now }
 {
-    let mut kept = Vec::new(alloc);
-    match run_script(rt, alloc, options, &mut kept, reader, writer, errors) {
-        Ok(outcome) => outcome,
-        Err(fault) => refuse_by(
-            alloc,
-            errors,
-            options.explains,
-            false,
-            kept.as_slice(),
-            fault,
-        ),
+    match task {
+        Task::Check { .. } | Task::Report { .. } => 16_777_216,
+        Task::Replay { .. } | Task::Explore { .. } | Task::List(_) | Task::Run(_) => 1_048_576,
     }
 }
 
-/// Does what the words ask for.
-#[tactic(auto, using(crate::proofs::Explaining::refusal_told, crate::proofs::Explaining::told_of))]
-pub fn carry_out<R, I: Read, W: Write, E: Write>(
+// Runs the chosen test cases of the script that the text is, as the task, a run, asks for it.
+fn run_text<R, W: Write, E: Write>(
     rt: &R,
     alloc: Global,
-    task: Task,
-    reader: &mut I,
+    task: &Task,
+    options: &RunOptions,
+    text: &[u8],
     writer: &mut W,
     errors: &mut E,
 ) -> Outcome
 where
     R: Threads + Wait + Copy + Send + 'static,
-    ensures done { IsCarriedOut task.entry (I.remaining reader.old) (held W.contents writer.old writer.new E.contents errors.old errors.new) result }
-    ensures unread { HasNoRule task.entry → reader.new ≡ reader.old }
+    requires { task.now ≡ Run options.now }
+    ensures { IsDone task.now text.now (held W.contents writer.old writer.new E.contents errors.old errors.new) result }
 {
-    let mut kept = Vec::new(alloc);
-    match task {
-        Task::Replay { explains } => {
-            let answer = replay(alloc, &mut kept, reader, writer);
-            settle_by(alloc, errors, explains, true, kept.as_slice(), answer)
-        }
-        Task::Check { explains } => {
-            let answer = check(alloc, &mut kept, reader, writer);
-            settle_by(alloc, errors, explains, false, kept.as_slice(), answer)
-        }
+    let cases = match chosen_cases(rt, alloc, text, &options.choice) {
+        Ok(cases) => cases,
+        Err(fault) => return refuse_text(alloc, errors, task, text, fault),
+    };
+    match run_as(rt, alloc, cases, options, writer, errors) {
+        Ok(outcome) => outcome,
+        Err(fault) => refuse(alloc, errors, RunFault::from(fault)),
+    }
+}
+
+// Does what the task asks for with its text.
+fn do_text<R, W: Write, E: Write>(
+    rt: &R,
+    alloc: Global,
+    task: &Task,
+    text: &[u8],
+    writer: &mut W,
+    errors: &mut E,
+) -> Outcome
+where
+    R: Threads + Wait + Copy + Send + 'static,
+    ensures { IsDone task.now text.now (held W.contents writer.old writer.new E.contents errors.old errors.new) result }
+{
+    let made = match task {
+        Task::Replay { .. } => replay_text(alloc, text),
+        Task::Check { .. } => check_text(alloc, text),
+        Task::Report { form, .. } => report_text(alloc, *form, text),
         Task::Explore {
             histories,
             details,
             states,
-        } => {
-            let answer = explore_script(alloc, histories, details, states, reader, writer);
-            settle(alloc, errors, answer)
-        }
-        Task::Report { form, explains } => match report(
-            alloc, form, &mut kept, reader, writer, errors,
-        ) {
-            Ok(outcome) => outcome,
-            Err(fault) => refuse_by(alloc, errors, explains, false, kept.as_slice(), fault),
-        },
-        Task::List(choice) => {
-            let answer = list_script(rt, alloc, &choice, reader, writer);
-            settle(alloc, errors, answer)
-        }
-        Task::Run(options) => carry_out_run(rt, alloc, &options, reader, writer, errors),
+        } => explore_text(alloc, *histories, *details, *states, text),
+        Task::List(choice) => list_text(rt, alloc, choice, text),
+        Task::Run(options) => return run_text(rt, alloc, task, options, text, writer, errors),
+    };
+    finish(alloc, task, text, made, writer, errors)
+}
+
+/// Does what the words ask for.
+pub fn carry_out<R, I: Read, W: Write, E: Write>(
+    rt: &R,
+    alloc: Global,
+    task: &Task,
+    reader: &mut I,
+    writer: &mut W,
+    errors: &mut E,
+) -> Outcome
+where
+    R: Threads + Wait + Copy + Send + 'static,
+    ensures { IsCarriedOut task.now (I.remaining reader.old) (held W.contents writer.old writer.new E.contents errors.old errors.new) result }
+{
+    match read_text(alloc, reader, limit_of(task)) {
+        Ok(text) => do_text(rt, alloc, task, text.as_slice(), writer, errors),
+        Err(fault) => refuse(alloc, errors, fault),
     }
 }

@@ -1,20 +1,21 @@
 //! The subcommand `check`.
-ghost use Rattle.std.specs.Prelude.{IfOk, IfErr, OnOk};
-ghost use Rattle.tc_program.specs.Check.{IsCheckOf, IsChecked, RefusesCheck};
-ghost use Rattle.tc_program.specs.Explained.{KeepsText};
-ghost use Rattle.tc_program.specs.Inside.{ChecksText, Feeds, IsPlayed, RefusesHistory};
-ghost use Rattle.tc_program.specs.Output.{Writes};
-ghost use Rattle.tc_program.specs.Limits.{HasAtMost, history_limit};
-ghost use Rattle.tc_program.specs.WrittenHistories.{FindsWrittenLegal};
+ghost use Rattle.std.specs.Prelude.{◌≡◌, [], Bool, IfOk, IfErr};
+ghost use Rattle.tc_command.specs.declared.task.Task.TheVariants.{Check};
+ghost use Rattle.tc_program.specs.Check.{IsCheckOf, IsChecked, RefusesHistory};
+ghost use Rattle.tc_program.specs.Inside.{Feeds, IsPlayed};
+ghost use Rattle.tc_program.specs.Made.{Does};
 
 use crate::check_lines::append_judgement;
 use crate::fault::RunFault;
+use crate::input::read_text;
 use crate::judge::{Playing, is_legal};
+use crate::made::write_answer;
 use crate::outcome::REFUSED;
+use crate::reply::Answer;
 use std::alloc::Global;
 use std::io::{Read, Write};
+use tc_entry::Sequence;
 use tc_history::{Header, TakesHistories, read_history_into};
-use tc_stream::{read_input, write_whole};
 use tc_table::{Entry, NoMemory, Verdict};
 
 /// How many bytes a history text may have.
@@ -67,37 +68,38 @@ impl TakesHistories for Checking {
 
 // What is printed for the histories that the text spells, up to the first that is not legal, and whether all are; else
 // the text's first fault, or NoMemory. The text is read to its end also behind a history that is not legal.
-fn check_text(alloc: Global, text: &[u8]) -> Result<(Vec<u8>, bool), RunFault>
+fn check_lines(alloc: Global, text: &[u8]) -> Result<(Vec<u8>, bool), RunFault>
     ensures done { IfOk result (λ r. IsCheckOf text.now r.0.items r.1) }
     ensures refused { IfErr result (RefusesHistory text.now) }
-    ensures only { ChecksText text.now result }
 {
     let checking: Checking = read_history_into(alloc, text)?;
     Ok((checking.out, checking.legal))
 }
 
+/// What `check` makes of a text of histories: which are legal, up to the first that is not, and the status 0 where all are,
+/// else 3.
+pub(crate) fn check_text(alloc: Global, text: &[u8]) -> Result<Answer, RunFault>
+    ensures done { IfOk result (λ a. IsChecked text.now a.out a.status × (a.told ≡ [])) }
+    ensures refused { IfErr result (RefusesHistory text.now) }
+{
+    let (out, legal) = check_lines(alloc, text)?;
+    Ok(Answer {
+        out: Sequence::new(out),
+        told: Sequence::new(Vec::new(alloc)),
+        status: if legal { 0 } else { REFUSED },
+    })
+}
+
 /// Checks histories: replays each on a table of its own, writes which are legal, and answers the status: 0 where all are, else 3.
 ///
-/// What was read of the input is left in `kept`. The whole text is read, and the output made, before anything is written.
-#[tactic(auto, using(crate::proofs::Explaining::any_kept, crate::proofs::Explaining::input_kept))]
+/// The whole text is read, and the output made, before anything is written.
 pub fn check<R: Read, W: Write>(
     alloc: Global,
-    kept: &mut Vec<u8>,
     reader: &mut R,
     writer: &mut W,
 ) -> Result<u8, RunFault>
-    ensures done { IfOk result (Writes IsChecked (R.remaining reader.old) (W.contents writer.old) (W.contents writer.new)) }
-    ensures fits { OnOk result (HasAtMost history_limit (R.remaining reader.old)) }
-    ensures refused { IfErr result (RefusesCheck (R.remaining reader.old) (W.contents writer.old) (W.contents writer.new)) }
-    ensures written { FindsWrittenLegal (R.remaining reader.old) (W.contents writer.old) (W.contents writer.new) result }
-    ensures kept { IfErr result (KeepsText (R.remaining reader.old) kept.new.items) }
+    ensures { (explains : Bool) → Does (Check explains) (R.remaining reader.old) (W.contents writer.old) (W.contents writer.new) result }
 {
-    let text = read_input(alloc, reader, LIMIT)?;
-    *kept = text;
-    let (out, legal) = check_text(alloc, kept.as_slice())?;
-    let status = if legal { 0 } else { REFUSED };
-    let Ok(()) = write_whole(writer, out.as_slice()) else {
-        return Err(RunFault::Write);
-    };
-    Ok(status)
+    let text = read_text(alloc, reader, LIMIT)?;
+    write_answer(check_text(alloc, text.as_slice()), writer)
 }

@@ -1,71 +1,45 @@
 //! The test cases of a script that are chosen.
-ghost use Rattle.std.specs.Prelude.{◌≡◌, ◌⊎◌, ◌<◌, IfOk, IfErr, IfSome, IfNone, length, map, option_copied, true};
+ghost use Rattle.std.specs.Prelude.{◌≡◌, IfOk, IfErr, Some, option_map, true};
 ghost use Rattle.tc_campaign.specs.Choosing.{case_name, chosen, have_names};
-ghost use Rattle.tc_campaign.specs.Shard.{ShardView};
-ghost use Rattle.tc_program.specs.Choosing.{IsShardOf, IsShardWord, RefusesNames, RefusesShard};
+ghost use Rattle.tc_program.specs.Choosing.{shard_of as spec_shard};
+ghost use Rattle.tc_program.specs.Inside.{RefusesNames};
 
 use crate::fault::RunFault;
 use std::alloc::Global;
 use tc_campaign::{Case, Shard, choose, have_all};
-use tc_entry::Name;
-use tc_text::{read_number, take_number};
+use tc_command::{Choice, Shard as AskedShard};
 
-// The shard of a word.
-fn read_shard(word: &str) -> Option<Shard>
-    ensures some { IfSome result (IsShardWord word.now) }
-    ensures none { IfNone result ((s : ShardView) → IsShardWord word.now s → ⊥) }
+// The shard that is asked for.
+fn shard_of(shard: AskedShard) -> Option<Shard>
+    ensures { result ≡ Some (spec_shard shard) }
 {
-    let (number, rest) = take_number(word.as_bytes())?;
-    let (slash, rest) = rest.split_first()?;
-    if *slash != b'/' {
-        return None;
-    }
-    Shard::new(number, read_number(rest)?)
+    Shard::new(shard.number(), shard.shards())
 }
 
-/// The shard of the word of `--shard`, where there is one. It takes no memory.
-pub fn shard_of(word: Option<&str>) -> Result<Option<Shard>, RunFault>
-    ensures taken { IfOk result (IsShardOf (option_copied word.entry)) }
-    ensures refused { IfErr result (RefusesShard (option_copied word.entry)) }
+// The shard that is asked for, where one is.
+fn shard_in(shard: Option<AskedShard>) -> Option<Shard>
+    ensures { result ≡ option_map spec_shard shard }
 {
-    match word {
-        Some(word) => match read_shard(word) {
-            Some(shard) => Ok(Some(shard)),
-            None => Err(RunFault::Shard),
-        },
-        None => Ok(None),
+    match shard {
+        Some(shard) => shard_of(shard),
+        None => None,
     }
 }
 
-// The names that the words are.
-fn names_of(alloc: Global, words: &[&str]) -> Result<Vec<Name>, RunFault>
-    ensures names { IfOk result (λ v. v.items ≡ map (λ w. w.now) words.now) }
-    ensures refused { IfErr result (RefusesNames (map (λ w. w.now) words.now)) }
-{
-    let mut names = Vec::new(alloc);
-    for word in words {
-        let Some(name) = Name::read(word) else {
-            return Err(RunFault::Only);
-        };
-        names.push(name)?;
-    }
-    Ok(names)
-}
-
-/// The test cases of these names, in their order, and of these those of the shard. Each name has to be that of a test case.
-pub fn choose_cases<B: Drop>(
+/// The test cases of the names that are asked for, in their order, and of these those of the shard. Each name has to be that
+/// of a test case.
+pub(crate) fn choose_cases<B: Drop>(
     alloc: Global,
     cases: Vec<Case<B>>,
-    only: &[&str],
-    shard: Option<Shard>,
+    choice: &Choice,
 ) -> Result<Vec<Case<B>>, RunFault>
-    ensures chosen { IfOk result (λ r. r.items ≡ chosen case_name (map (λ w. w.now) only.now) shard cases.items) }
-    ensures named { IfOk result (λ r. have_names case_name (map (λ w. w.now) only.now) cases.items ≡ true) }
-    ensures refused { IfErr result (RefusesNames (map (λ w. w.now) only.now)) }
+    ensures chosen { IfOk result (λ r. r.items ≡ chosen case_name choice.now.only.items (option_map spec_shard choice.now.shard) cases.items) }
+    ensures named { IfOk result (λ r. have_names case_name choice.now.only.items cases.items ≡ true) }
+    ensures refused { IfErr result (RefusesNames (have_names case_name choice.now.only.items cases.items)) }
 {
-    let names = names_of(alloc, only)?;
-    if !have_all(cases.as_slice(), names.as_slice()) {
+    let only = choice.only.as_slice();
+    if !have_all(cases.as_slice(), only) {
         return Err(RunFault::Only);
     }
-    Ok(choose(alloc, cases, names.as_slice(), shard)?)
+    Ok(choose(alloc, cases, only, shard_in(choice.shard))?)
 }

@@ -1,30 +1,22 @@
 //! The subcommand `explore`.
-ghost use Rattle.std.specs.Prelude.{◌≡◌, ◌≤◌, All, Err, IfOk, IfErr, IfNone, IfSome, OnOk, ℕ, length, option_copied};
+ghost use Rattle.std.specs.Prelude.{◌≡◌, ◌≤◌, [], All, IfOk, IfErr, length};
 ghost use Rattle.std.specs.List.{AllZip, flat_map};
-ghost use Rattle.std.specs.Fmt.{decimal};
 ghost use Rattle.tc_entry.specs.declared.limits.TheConstants.{BEHAVIOURS};
 ghost use Rattle.tc_explore.specs.Details.{AreLegalOf};
 ghost use Rattle.tc_script.specs.Law.{IsCase};
-ghost use Rattle.tc_program.specs.declared.fault.RunFault.TheVariants.{States};
-ghost use Rattle.tc_program.specs.Explore.{Explores, IsExplored, details_if, IsNoStates, IsStates, IsStatesOf, RefusesExplore, has_status as status_in, status_of_all, told_of};
-ghost use Rattle.tc_program.specs.Limits.{HasAtMost, script_limit};
-ghost use Rattle.tc_program.specs.Output.{Writes};
+ghost use Rattle.tc_program.specs.Choosing.{RefusesScript};
+ghost use Rattle.tc_program.specs.Explore.{Explores, IsExplored, details_if, has_status as status_in, status_of_all, told_of};
 ghost use Rattle.tc_program.specs.Scripted.{scripts_of as scripts_in};
 
 use crate::fault::RunFault;
-use crate::script::take_script;
+use crate::reply::Answer;
+use crate::script::read_script;
 use std::alloc::Global;
-use std::io::{Read, Write};
 use tc_entry::{Name, Sequence};
 use tc_explore::{Explored, explore};
 use tc_script::{Campaign, CaseScript};
 use tc_step::Script;
-use tc_stream::write_whole;
-use tc_text::read_number;
 use tc_verdict::NoMemory;
-
-/// How many states are looked at where no word says it.
-const STATES: usize = 100_000;
 
 /// A test case that was explored.
 #[derive(Drop)]
@@ -33,19 +25,6 @@ pub(crate) struct ExploredCase {
     pub(crate) behaviours: u16,
     pub(crate) explored: Explored,
     pub(crate) details: Sequence<u8>,
-}
-
-// The number of states that a word names.
-fn read_states(word: &str) -> Option<usize>
-    ensures some { IfSome result (λ n. IsStates n × (word.now ≡ decimal n)) }
-    ensures none { IfNone result ((n : ℕ) → IsStates n → word.now ≡ decimal n → ⊥) }
-{
-    let number = read_number(word.as_bytes())?;
-    if 1 <= number && number <= 1_000_000 {
-        Some(number as usize)
-    } else {
-        None
-    }
 }
 
 // The scripts of a test case.
@@ -119,19 +98,6 @@ fn explore_cases(
     Ok(explored)
 }
 
-// The number of states that the word names, or that there is without one.
-#[tactic(auto, using(crate::proofs::Running::refused_states))]
-fn states_of(word: Option<&str>) -> Result<usize, RunFault>
-    ensures taken { IfOk result (IsStatesOf (option_copied word.entry)) }
-    ensures refused { IfErr result (λ fault. (fault ≡ States) × IsNoStates (option_copied word.entry)) }
-    ensures judged { IsNoStates (option_copied word.entry) → result ≡ Err States }
-{
-    match word {
-        None => Ok(STATES),
-        Some(word) => read_states(word).ok_or(RunFault::States),
-    }
-}
-
 // The text of the test cases, and their status.
 fn text_of(
     alloc: Global,
@@ -174,33 +140,25 @@ fn status_of(explored: &[ExploredCase]) -> u8
     }
 }
 
-/// Explores the campaign of a script, writes what was found, and answers the status: 0 where each test case has one verdict,
-/// 1 where some has more, 3 where a search did not come to its end. The word is that of `--states`. Details are told behind
-/// the line of each test case.
-///
-/// The output is made before anything is written.
-pub fn explore_script<R: Read, W: Write>(
+/// What `explore` makes of a script: what was found of each test case, and the status 0 where each test case has one
+/// verdict, 1 where some has more, 3 where a search did not come to its end. Details are told behind the line of each test
+/// case.
+pub(crate) fn explore_text(
     alloc: Global,
     histories: bool,
     details: bool,
-    word: Option<&str>,
-    reader: &mut R,
-    writer: &mut W,
-) -> Result<u8, RunFault>
-    ensures done { IfOk result (λ status. (states : ℕ) × IsStatesOf (option_copied word.entry) states
-        × Writes (Explores histories details states) (R.remaining reader.old) (W.contents writer.old) (W.contents writer.new) status) }
-    ensures fits { OnOk result (HasAtMost script_limit (R.remaining reader.old)) }
-    ensures refused { IfErr result (RefusesExplore histories details (option_copied word.entry) (R.remaining reader.old)
-        (W.contents writer.old) (W.contents writer.new)) }
-    ensures unread { IsNoStates (option_copied word.entry) → (result ≡ Err States) × (reader.new ≡ reader.old) }
+    states: usize,
+    text: &[u8],
+) -> Result<Answer, RunFault>
+    ensures done { IfOk result (λ a. Explores histories details states text.now a.out a.status × (a.told ≡ [])) }
+    ensures refused { IfErr result (RefusesScript text.now) }
 {
-    let states = states_of(word)?;
-    let mut kept = Vec::new(alloc);
-    let campaign = take_script(alloc, &mut kept, reader)?;
+    let campaign = read_script(alloc, text)?;
     let explored = explore_cases(alloc, campaign, details, states)?;
     let (out, status) = text_of(alloc, histories, explored.as_slice())?;
-    let Ok(()) = write_whole(writer, out.as_slice()) else {
-        return Err(RunFault::Write);
-    };
-    Ok(status)
+    Ok(Answer {
+        out: Sequence::new(out),
+        told: Sequence::new(Vec::new(alloc)),
+        status,
+    })
 }

@@ -1,11 +1,16 @@
 //! The faults of the program, and their lines on standard error.
-ghost use Rattle.std.specs.Prelude.{◌≡◌, ◌++◌, OnOk, OnErr, Some};
+ghost use Rattle.std.specs.Prelude.{◌≡◌, ◌++◌, IfOk, OnOk, OnErr, Some};
 ghost use Rattle.std.specs.Io.{StartsWith};
-ghost use Rattle.tc_program.specs.Fault.{fault_text, line_number, line_of, place_text, words_of};
+ghost use Rattle.tc_report.specs.Ending.{abort_text, aborted_line, is_aborted};
+ghost use Rattle.tc_program.specs.Fault.{fault_text, line_number, line_of, place_text, said, words_of};
 
-use std::alloc::{AllocError, AllocFailed};
+use std::alloc::{AllocError, AllocFailed, Global};
 use std::fmt;
-use tc_campaign::OutFault;
+use tc_campaign::{CampaignEnd, OutFault, Results};
+use tc_command::WordFault;
+use tc_entry::Name;
+use tc_exec::CaseError;
+use tc_report::append_aborted;
 use tc_script::ScriptFault;
 use tc_stream::WriteFault;
 use tc_table::{InputFault, NoMemory, TextFault};
@@ -29,11 +34,7 @@ pub enum RunFault {
     Script(ScriptFault),
     /// The word of `--stop-on` is the name of no verdict.
     StopOn,
-    /// The word of `--states` is no number of states.
-    States,
-    /// The word of `--shard` is none of a shard.
-    Shard,
-    /// A word of `--only` is the name of no test case of the script.
+    /// A name of `--only` is that of no test case of the script.
     Only,
 }
 
@@ -147,10 +148,8 @@ impl RunFault {
             RunFault::NoMemory | RunFault::Text(TextFault::NoMemory) => NoMemory.text(),
             RunFault::Text(TextFault::At { kind, .. }) => kind.text(),
             RunFault::Script(fault) => fault.kind.text(),
-            RunFault::StopOn => "--stop-on takes none, pass, inconc, fail or error",
-            RunFault::States => "--states takes a number from 1 to 1000000",
-            RunFault::Shard => "--shard takes K/N, with K from 1 to N",
-            RunFault::Only => "--only takes the name of a test case of the script",
+            RunFault::StopOn => WordFault::StopOn.text(),
+            RunFault::Only => WordFault::Only.text(),
         }
     }
 }
@@ -214,4 +213,46 @@ pub fn fault_line(fault: &RunFault, out: &mut Vec<u8>) -> Result<(), NoMemory>
             Err(error)
         }
     }
+}
+
+// Appends the line for a campaign that was aborted; where memory is refused, a part of it.
+fn append_abort(out: &mut Vec<u8>, name: &Name, why: CaseError) -> Result<(), NoMemory>
+    ensures ok { OnOk result (out.new.items ≡ out.old.items ++ aborted_line name.now why) }
+    ensures err { OnErr result (StartsWith out.new.items out.old.items) }
+{
+    append_text(out, "ttrun: ")?;
+    append_aborted(out, name, why)?;
+    out.push(b'\n')?;
+    Ok(())
+}
+
+/// Where the campaign was aborted, appends its line on standard error and answers true; else appends nothing and answers
+/// false. Where memory is refused nothing is appended.
+pub fn abort_line(results: &Results, out: &mut Vec<u8>) -> Result<bool, NoMemory>
+    ensures answer { IfOk result (λ is. is ≡ is_aborted results.now.ending) }
+    ensures ok { OnOk result (out.new.items ≡ out.old.items ++ abort_text results.now.ending) }
+    ensures err { OnErr result (out.new.items ≡ out.old.items) }
+{
+    let CampaignEnd::Aborted { name, why } = &results.ending else {
+        return Ok(false);
+    };
+    let start = out.len();
+    match append_abort(out, name, *why) {
+        Ok(()) => Ok(true),
+        Err(error) => {
+            out.truncate(start);
+            Err(error)
+        }
+    }
+}
+
+/// The line with these words.
+pub(crate) fn line_with(alloc: Global, words: &str) -> Result<Vec<u8>, NoMemory>
+    ensures { IfOk result (λ v. v.items ≡ said words.now) }
+{
+    let mut line = Vec::new(alloc);
+    append_text(&mut line, "ttrun: ")?;
+    append_text(&mut line, words)?;
+    line.push(b'\n')?;
+    Ok(line)
 }

@@ -26,7 +26,8 @@ pub(crate) fn live_form(form: Form) -> Option<ReportForm>
     }
 }
 
-fn write<W: Write>(
+/// Writes the results in this form. The text is made whole before anything is written.
+pub(crate) fn write_results<W: Write>(
     alloc: Global,
     results: &Results,
     form: Form,
@@ -54,9 +55,6 @@ pub fn give<W: Write>(
     ensures done { OnOk result (Appends (W.contents writer.old) (W.contents writer.new) (text_of form results.now)) }
     ensures refused { IfErr result (LeavesUnwritten (W.contents writer.old) (W.contents writer.new) (text_of form results.now)) }
 {
-    match write(alloc, results, form, writer) {
-        Ok(()) => Ok(status_of(results)),
-        Err(OutFault::NoMemory) => Err(RunFault::NoMemory),
-        Err(OutFault::Write) => Err(RunFault::Write),
-    }
+    write_results(alloc, results, form, writer)?;
+    Ok(status_of(results))
 }

@@ -1,22 +1,18 @@
 //! The list of the chosen test cases of a script.
-ghost use Rattle.std.specs.Prelude.{◌≡◌, Err, IfOk, IfErr};
+ghost use Rattle.std.specs.Prelude.{◌≡◌, IfOk, IfErr};
 ghost use Rattle.std.specs.List.{flat_map};
-ghost use Rattle.tc_command.specs.Asked.{chosen_of};
-ghost use Rattle.tc_program.specs.declared.fault.RunFault.TheVariants.{Shard as NoShard};
-ghost use Rattle.tc_program.specs.Choosing.{IsNoShard};
+ghost use Rattle.tc_program.specs.Choosing.{RefusesChoice};
 ghost use Rattle.tc_program.specs.Inside.{case_line};
-ghost use Rattle.tc_program.specs.Program.{FailsList, ListsScript};
+ghost use Rattle.tc_program.specs.Made.{IsListed};
 
-use crate::choosing::shard_of;
 use crate::fault::RunFault;
 use crate::jobs::chosen_cases;
-use crate::script::take_script;
+use crate::reply::Answer;
 use std::alloc::Global;
-use std::io::{Read, Write};
 use std::sync::Wait;
 use tc_campaign::Case;
 use tc_command::Choice;
-use tc_stream::write_whole;
+use tc_entry::Sequence;
 use tc_verdict::NoMemory;
 
 // The names of the test cases, each with a line feed.
@@ -31,26 +27,21 @@ fn list_of<B: Drop>(alloc: Global, cases: &[Case<B>]) -> Result<Vec<u8>, NoMemor
     Ok(text)
 }
 
-/// Reads the campaign of a script, and writes the names of the test cases of it that are chosen, one a line; nothing is run.
-/// The list is made whole before anything is written. Answers the status 0.
-pub fn list_script<R: Wait + Copy + Send + 'static, I: Read, W: Write>(
+/// What `run --list` makes of a script: the names of the test cases of it that are chosen, one a line; nothing is run.
+pub(crate) fn list_text<R: Wait + Copy + Send + 'static>(
     rt: &R,
     alloc: Global,
-    choice: &Choice<'_>,
-    reader: &mut I,
-    writer: &mut W,
-) -> Result<u8, RunFault>
-    ensures done { IfOk result (ListsScript (chosen_of choice.now) (I.remaining reader.old) (W.contents writer.old) (W.contents writer.new)) }
-    ensures refused { IfErr result (FailsList (chosen_of choice.now) (I.remaining reader.old) (W.contents writer.old) (W.contents writer.new)) }
-    ensures unread { IsNoShard (chosen_of choice.now).shard → (result ≡ Err NoShard) × (reader.new ≡ reader.old) }
+    choice: &Choice,
+    text: &[u8],
+) -> Result<Answer, RunFault>
+    ensures done { IfOk result (IsListed choice.now text.now) }
+    ensures refused { IfErr result (RefusesChoice choice.now text.now) }
 {
-    let shard = shard_of(choice.shard)?;
-    let mut kept = Vec::new(alloc);
-    let campaign = take_script(alloc, &mut kept, reader)?;
-    let cases = chosen_cases(rt, alloc, campaign, choice, shard)?;
-    let text = list_of(alloc, cases.as_slice())?;
-    let Ok(()) = write_whole(writer, text.as_slice()) else {
-        return Err(RunFault::Write);
-    };
-    Ok(0)
+    let cases = chosen_cases(rt, alloc, text, choice)?;
+    let list = list_of(alloc, cases.as_slice())?;
+    Ok(Answer {
+        out: Sequence::new(list),
+        told: Sequence::new(Vec::new(alloc)),
+        status: 0,
+    })
 }

@@ -1,18 +1,20 @@
 //! The subcommand `replay`.
-ghost use Rattle.std.specs.Prelude.{◌≡◌, ◌++◌, ◌∷◌, [], IfOk, IfErr, OnOk};
+ghost use Rattle.std.specs.Prelude.{◌≡◌, ◌++◌, ◌∷◌, [], Bool, IfOk, IfErr, OnOk};
 ghost use Rattle.tc_text.specs.Spelling.{reply_text};
-ghost use Rattle.tc_program.specs.Replay.{IsReplayOf, RefusesReplay, Replays};
-ghost use Rattle.tc_program.specs.Explained.{KeepsText};
-ghost use Rattle.tc_program.specs.Inside.{ArePlayed, RefusesText};
-ghost use Rattle.tc_program.specs.Output.{Writes};
-ghost use Rattle.tc_program.specs.Limits.{HasAtMost, move_list_limit};
+ghost use Rattle.tc_command.specs.declared.task.Task.TheVariants.{Replay};
+ghost use Rattle.tc_program.specs.Inside.{ArePlayed};
+ghost use Rattle.tc_program.specs.Made.{Does};
+ghost use Rattle.tc_program.specs.Replay.{IsReplayOf, RefusesMoves, Replays};
 
 use crate::fault::RunFault;
+use crate::input::read_text;
+use crate::made::write_answer;
+use crate::reply::Answer;
 use std::alloc::Global;
 use std::io::{Read, Write};
+use tc_entry::Sequence;
 use tc_report::{append_verdict, verdict_status};
-use tc_stream::write_whole;
-use tc_table::{CaseState, NoMemory, Op, Reply, Run, Verdict, read_input, write_reply};
+use tc_table::{CaseState, NoMemory, Op, Reply, Run, Verdict, write_reply};
 use tc_text::{TakesMoves, read_moves_into};
 
 /// How many bytes a move list may have.
@@ -52,9 +54,9 @@ impl TakesMoves for Replaying {
 }
 
 // What is printed for the moves that the text spells, and the overall verdict; else the text's first fault, or NoMemory.
-fn replay_text(alloc: Global, text: &[u8]) -> Result<(Vec<u8>, Verdict), RunFault>
+fn replay_lines(alloc: Global, text: &[u8]) -> Result<(Vec<u8>, Verdict), RunFault>
     ensures done { IfOk result (λ r. IsReplayOf text.now r.0.items r.1) }
-    ensures refused { IfErr result (RefusesText text.now) }
+    ensures refused { IfErr result (RefusesMoves text.now) }
 {
     let replaying: Replaying = read_moves_into(alloc, text)?;
     let verdict = replaying.state.overall();
@@ -63,27 +65,29 @@ fn replay_text(alloc: Global, text: &[u8]) -> Result<(Vec<u8>, Verdict), RunFaul
     Ok((out, verdict))
 }
 
+/// What `replay` makes of a move list: the reply to each move, and then the overall verdict, whose status it has.
+pub(crate) fn replay_text(alloc: Global, text: &[u8]) -> Result<Answer, RunFault>
+    ensures done { IfOk result (λ a. Replays text.now a.out a.status × (a.told ≡ [])) }
+    ensures refused { IfErr result (RefusesMoves text.now) }
+{
+    let (out, verdict) = replay_lines(alloc, text)?;
+    Ok(Answer {
+        out: Sequence::new(out),
+        told: Sequence::new(Vec::new(alloc)),
+        status: verdict_status(verdict),
+    })
+}
+
 /// Replays a move list: writes the reply to each move, and then the overall verdict, whose status it answers.
 ///
-/// What was read of the input is left in `kept`. The whole list is read, and the output made, before anything is written.
-#[tactic(auto, using(crate::proofs::Explaining::any_kept, crate::proofs::Explaining::input_kept))]
+/// The whole list is read, and the output made, before anything is written.
 pub fn replay<R: Read, W: Write>(
     alloc: Global,
-    kept: &mut Vec<u8>,
     reader: &mut R,
     writer: &mut W,
 ) -> Result<u8, RunFault>
-    ensures done { IfOk result (Writes Replays (R.remaining reader.old) (W.contents writer.old) (W.contents writer.new)) }
-    ensures fits { OnOk result (HasAtMost move_list_limit (R.remaining reader.old)) }
-    ensures refused { IfErr result (RefusesReplay (R.remaining reader.old) (W.contents writer.old) (W.contents writer.new)) }
-    ensures kept { IfErr result (KeepsText (R.remaining reader.old) kept.new.items) }
+    ensures { (explains : Bool) → Does (Replay explains) (R.remaining reader.old) (W.contents writer.old) (W.contents writer.new) result }
 {
-    let text = read_input(alloc, reader, LIMIT)?;
-    *kept = text;
-    let (out, verdict) = replay_text(alloc, kept.as_slice())?;
-    let status = verdict_status(verdict);
-    let Ok(()) = write_whole(writer, out.as_slice()) else {
-        return Err(RunFault::Write);
-    };
-    Ok(status)
+    let text = read_text(alloc, reader, LIMIT)?;
+    write_answer(replay_text(alloc, text.as_slice()), writer)
 }

@@ -1,33 +1,25 @@
 //! The subcommand `report`.
-ghost use Rattle.std.specs.Prelude.{◌≡◌, ◌++◌, List, IfOk, IfErr, OnOk, OnErr};
+ghost use Rattle.std.specs.Prelude.{◌≡◌, List, IfOk, IfErr, OnOk};
 ghost use Rattle.tc_history.specs.Text.{AreHistories, IsMadeOf};
 ghost use Rattle.tc_history.specs.declared.read.Block.{Block as AnyBlock};
 ghost use Rattle.tc_chart.specs.Chart.{chart_of};
-ghost use Rattle.tc_forms.specs.Status.{status_of_summaries};
-ghost use Rattle.tc_program.specs.Explained.{KeepsText};
-ghost use Rattle.tc_program.specs.Inside.{IsPlayed, RefusesHistory, HasOneEach, LeavesForm, ReportsText, Summarizes, WritesForm};
-ghost use Rattle.tc_program.specs.Limits.{HasAtMost, history_limit};
-ghost use Rattle.tc_program.specs.Report.{RefusesReport, Reports, ReportsRun, form_of, illegal_line};
-ghost use Rattle.tc_program.specs.Streams.{held};
-ghost use Rattle.tc_program.specs.Tell.{IsTold};
+ghost use Rattle.tc_program.specs.Check.{RefusesHistory};
+ghost use Rattle.tc_program.specs.Inside.{HasOneEach, IsPlayed, Summarizes};
+ghost use Rattle.tc_program.specs.Report.{IsReported, form_of, illegal_line};
 
 use crate::check_lines::append_judgement;
 use crate::fault::RunFault;
 use crate::judge::{Judgement, Playing, is_legal};
-use crate::outcome::{Outcome, REFUSED};
-use crate::tell::tell_unmade;
+use crate::outcome::REFUSED;
+use crate::reply::Answer;
 use std::alloc::Global;
-use std::io::{Read, Write};
 use tc_chart::chart_report;
 use tc_command::{ReportForm, VERSION};
+use tc_entry::Sequence;
 use tc_forms::{Summary, csv_report, junit_report, worst_status};
 use tc_history::{Header, TakesHistories, read_history, read_history_into};
-use tc_stream::{read_input, write_whole};
 use tc_table::{Entry, NoMemory, Verdict};
 use tc_text::append_text;
-
-/// How many bytes a history text may have.
-const LIMIT: usize = 16_777_216;
 
 /// The test cases of histories, and the judgement of the first history that is not legal, if there is one.
 #[derive(Drop)]
@@ -86,7 +78,7 @@ impl TakesHistories for Reporting {
 fn read_reported(alloc: Global, text: &[u8]) -> Result<Reporting, RunFault>
     ensures done { IfOk result (IsMadeOf (λ blocks (r : Reporting). Summarizes blocks r.summaries.items r.illegal) text.now) }
     ensures refused { IfErr result (RefusesHistory text.now) }
-    ensures only { ReportsText text.now result }
+    ensures only { OnOk result ((blocks : List AnyBlock) → AreHistories text.now blocks → IfOk result (λ r. Summarizes blocks r.summaries.items r.illegal)) }
 {
     let reporting: Reporting = read_history_into(alloc, text)?;
     Ok(reporting)
@@ -120,86 +112,37 @@ fn form_text(
     }
 }
 
-// Writes the form of the histories that the text spells, whose test cases these are, and answers their status. The output is
-// made whole before anything is written.
-fn give_report<W: Write>(
-    alloc: Global,
-    form: ReportForm,
-    text: &[u8],
-    cases: &[Summary],
-    writer: &mut W,
-) -> Result<u8, RunFault>
-    requires { HasOneEach text.now cases.now }
-    ensures status { IfOk result (λ status. status ≡ status_of_summaries cases.now) }
-    ensures done { OnOk result (WritesForm form text.now cases.now (W.contents writer.old) (W.contents writer.new)) }
-    ensures refused { IfErr result (LeavesForm form text.now cases.now (W.contents writer.old) (W.contents writer.new)) }
-{
-    let made = form_text(alloc, form, text, cases)?;
-    write_whole(writer, made.as_slice())?;
-    Ok(worst_status(cases))
-}
-
-// Appends the line of `check` for a history that is not legal; where memory is refused, a part of it.
-fn append_illegal(out: &mut Vec<u8>, judgement: &Judgement) -> Result<(), NoMemory>
-    ensures ok { OnOk result (out.new.items ≡ out.old.items ++ illegal_line judgement.now) }
-{
-    append_text(out, "ttrun: ")?;
-    append_judgement(out, judgement)
-}
-
-// Writes that line, or, where memory is refused for it, that it was.
-fn tell_illegal<E: Write>(
-    alloc: Global,
-    errors: &mut E,
-    judgement: &Judgement,
-) -> Result<(), RunFault>
-    ensures { IsTold (E.contents errors.old) (E.contents errors.new) (illegal_line judgement.now) result }
+// The line of `check` for a history that is not legal.
+fn illegal_text(alloc: Global, judgement: &Judgement) -> Result<Vec<u8>, NoMemory>
+    ensures { IfOk result (λ v. v.items ≡ illegal_line judgement.now) }
 {
     let mut line = Vec::new(alloc);
-    if append_illegal(&mut line, judgement).is_err() {
-        return tell_unmade(errors);
-    }
-    write_whole(errors, line.as_slice())?;
-    Ok(())
+    append_text(&mut line, "ttrun: ")?;
+    append_judgement(&mut line, judgement)?;
+    Ok(line)
 }
 
-/// Reports histories: replays each on a table of its own, and, where all are legal, writes them in this form. Else the line
-/// of `check` for the first that is not is written on standard error.
-///
-/// What was read of the input is left in `kept`. The whole text is read and judged, and the output made, before anything is written.
-#[tactic(auto, using(crate::proofs::Explaining::any_kept, crate::proofs::Explaining::input_kept))]
-pub fn report<R: Read, W: Write, E: Write>(
-    alloc: Global,
-    form: ReportForm,
-    kept: &mut Vec<u8>,
-    reader: &mut R,
-    writer: &mut W,
-    errors: &mut E,
-) -> Result<Outcome, RunFault>
-    ensures done { IfOk result (Reports form (R.remaining reader.old) (held W.contents writer.old writer.new E.contents errors.old errors.new)) }
-    ensures fits { OnOk result (HasAtMost history_limit (R.remaining reader.old)) }
-    ensures refused { IfErr result (RefusesReport form (R.remaining reader.old) (W.contents writer.old) (W.contents writer.new)) }
-    ensures untouched { OnErr result (errors.new ≡ errors.old) }
-    ensures written { ReportsRun form (R.remaining reader.old) (held W.contents writer.old writer.new E.contents errors.old errors.new) result }
-    ensures kept { IfErr result (KeepsText (R.remaining reader.old) kept.new.items) }
+/// What `report` makes of a text of histories: each is replayed on a table of its own, and, where all are legal, their form
+/// is written; else the line of `check` for the first that is not is told.
+pub(crate) fn report_text(alloc: Global, form: ReportForm, text: &[u8]) -> Result<Answer, RunFault>
+    ensures done { IfOk result (IsReported form text.now) }
+    ensures refused { IfErr result (RefusesHistory text.now) }
 {
-    let input = read_input(alloc, reader, LIMIT)?;
-    *kept = input;
-    let text = kept.as_slice();
     let Reporting {
         summaries,
         illegal,
         ..
     } = read_reported(alloc, text)?;
-    let Some(judgement) = illegal else {
-        let status = give_report(alloc, form, text, summaries.as_slice(), writer)?;
-        return Ok(Outcome {
-            status,
-            told: Ok(()),
-        });
-    };
-    Ok(Outcome {
-        status: REFUSED,
-        told: tell_illegal(alloc, errors, &judgement),
-    })
+    match illegal {
+        None => Ok(Answer {
+            out: Sequence::new(form_text(alloc, form, text, summaries.as_slice())?),
+            told: Sequence::new(Vec::new(alloc)),
+            status: worst_status(summaries.as_slice()),
+        }),
+        Some(judgement) => Ok(Answer {
+            out: Sequence::new(Vec::new(alloc)),
+            told: Sequence::new(illegal_text(alloc, &judgement)?),
+            status: REFUSED,
+        }),
+    }
 }

@@ -1,52 +1,52 @@
 //! The script of a campaign, and the word of `--stop-on`.
-ghost use Rattle.std.specs.Prelude.{◌≡◌, All, IfOk, IfErr, IfSome, OnOk, Ok, Some};
+ghost use Rattle.std.specs.Prelude.{◌≡◌, ◌⊎◌, All, IfOk, IfErr, Ok};
 ghost use Rattle.tc_verdict.specs.Verdict.{name_of};
 ghost use Rattle.tc_script.specs.Campaign.{campaign};
 ghost use Rattle.tc_script.specs.Law.{IsCase};
-ghost use Rattle.tc_program.specs.Explained.{IsRead, KeepsText};
-ghost use Rattle.tc_program.specs.Limits.{HasAtMost, script_limit};
-ghost use Rattle.tc_program.specs.Run.{RefusesWord};
-ghost use Rattle.tc_program.specs.Script.{RefusesScript};
+ghost use Rattle.tc_program.specs.Choosing.{RefusesScript};
+ghost use Rattle.tc_program.specs.Input.{IsRead, IsUnread};
+ghost use Rattle.tc_verdict.specs.declared.verdict.Verdict.{Verdict as AnyVerdict};
+ghost use Rattle.tc_program.specs.declared.fault.RunFault.TheVariants.{StopOn};
+ghost use Rattle.tc_program.specs.Limits.{script_limit};
 
 use crate::fault::RunFault;
+use crate::input::read_text;
 use std::alloc::Global;
 use std::io::Read;
 use tc_script::{Campaign, ReadFault, read_campaign};
-use tc_stream::read_input;
 use tc_verdict::{Verdict, read_name};
 
 /// How many bytes a script may have.
 const LIMIT: usize = 1_048_576;
 
-/// The campaign that the input spells.
-///
-/// What was read of it is left in `kept`.
-#[tactic(auto, using(crate::proofs::Explaining::any_kept, crate::proofs::Explaining::input_kept))]
-pub fn take_script<R: Read>(
-    alloc: Global,
-    kept: &mut Vec<u8>,
-    reader: &mut R,
-) -> Result<Campaign, RunFault>
-    ensures spelled { IfOk result (λ c. IfSome (R.remaining reader.old) (λ text. campaign text ≡ Ok c)) }
+/// The campaign that the text spells.
+pub(crate) fn read_script(alloc: Global, text: &[u8]) -> Result<Campaign, RunFault>
+    ensures spelled { IfOk result (λ c. campaign text.now ≡ Ok c) }
     ensures lawful { IfOk result (λ c. All (λ t. IsCase t.1) c) }
-    ensures fits { OnOk result (HasAtMost script_limit (R.remaining reader.old)) }
-    ensures refused { IfErr result (RefusesScript script_limit (R.remaining reader.old)) }
-    ensures kept { IfErr result (KeepsText (R.remaining reader.old) kept.new.items) }
-    ensures read { OnOk result (IsRead (R.remaining reader.old) kept.new.items) }
+    ensures refused { IfErr result (RefusesScript text.now) }
 {
-    let text = read_input(alloc, reader, LIMIT)?;
-    *kept = text;
-    match read_campaign(alloc, kept.as_slice()) {
+    match read_campaign(alloc, text) {
         Ok(campaign) => Ok(campaign),
         Err(ReadFault::Script(fault)) => Err(RunFault::Script(fault)),
         Err(ReadFault::NoMemory) => Err(RunFault::NoMemory),
     }
 }
 
+/// The campaign that the input spells.
+pub fn take_script<R: Read>(alloc: Global, reader: &mut R) -> Result<Campaign, RunFault>
+    ensures spelled { IfOk result (λ c. IsRead script_limit (R.remaining reader.old) (λ text. campaign text ≡ Ok c)) }
+    ensures lawful { IfOk result (λ c. All (λ t. IsCase t.1) c) }
+    ensures refused { IfErr result (λ fault. IsUnread script_limit (R.remaining reader.old) fault
+        ⊎ IsRead script_limit (R.remaining reader.old) (λ text. RefusesScript text fault)) }
+{
+    let text = read_text(alloc, reader, LIMIT)?;
+    read_script(alloc, text.as_slice())
+}
+
 /// The verdict of this name. It takes no memory.
 pub fn stop_word(word: &str) -> Result<Verdict, RunFault>
     ensures taken { IfOk result (λ v. word.now ≡ name_of v) }
-    ensures refused { IfErr result (RefusesWord (Some word.now)) }
+    ensures refused { IfErr result (λ fault. (fault ≡ StopOn) × ((v : AnyVerdict) → word.now ≡ name_of v → ⊥)) }
 {
     match read_name(word) {
         Some(verdict) => Ok(verdict),

@@ -1,95 +1,82 @@
-//! Lines on standard error, and what comes of a task that is answered.
-ghost use Rattle.std.specs.Prelude.{◌≡◌, IfOk, IfErr, OnOk, List, Result, ℕ};
+//! Lines on standard error, and the outcome of what is refused.
+ghost use Rattle.std.specs.Prelude.{◌≡◌, IfOk, List, Result, ℕ};
 ghost use Rattle.tc_report.specs.Ending.{abort_text};
-ghost use Rattle.tc_program.specs.declared.fault.RunFault.TheVariants.{NoMemory as WithoutMemory};
-ghost use Rattle.tc_program.specs.Fault.{line_of};
+ghost use Rattle.tc_program.specs.Fault.{line_of, said};
 ghost use Rattle.tc_program.specs.declared.fault.RunFault.{RunFault as AnyFault};
 ghost use Rattle.tc_program.specs.Run.{first_fault};
-ghost use Rattle.tc_program.specs.Tell.{IsRefusal, IsSilent, IsTold, IsToldAlways, memory_line};
+ghost use Rattle.tc_program.specs.Tell.{IsRefusal, IsTold};
 
-use crate::fault::{RunFault, fault_line};
+use crate::fault::{RunFault, fault_line, line_with};
 use crate::outcome::{Outcome, REFUSED};
 use std::alloc::Global;
 use std::io::Write;
 use tc_campaign::{OutFault, Results, write_abort};
 use tc_stream::write_whole;
+use tc_table::NoMemory;
 
-// Writes that memory was refused; that takes none.
-fn tell_no_memory<E: Write>(errors: &mut E) -> Result<(), RunFault>
-    ensures { IsToldAlways (E.contents errors.old) (E.contents errors.new) memory_line result }
+/// Writes the text.
+pub(crate) fn tell<E: Write>(errors: &mut E, text: &[u8]) -> Result<(), RunFault>
+    ensures { IsTold (E.contents errors.old) (E.contents errors.new) text.now result }
 {
-    write_whole(errors, b"ttrun: no memory\n")?;
+    write_whole(errors, text)?;
     Ok(())
 }
 
-/// In place of a line for which memory was refused, writes that it was, and answers so.
-pub(crate) fn tell_unmade<E: Write>(errors: &mut E) -> Result<(), RunFault>
-    ensures { (line : List ℕ) → IsTold (E.contents errors.old) (E.contents errors.new) line result }
+/// The outcome of what is refused: this text is told, or, where memory was refused for it, the line that says so.
+pub(crate) fn refuse_with<E: Write>(errors: &mut E, text: Result<Vec<u8>, NoMemory>) -> Outcome
+    ensures { (wanted : List ℕ) → IfOk text (λ v. v.items ≡ wanted) → IsRefusal (E.contents errors.old) (E.contents errors.new) wanted result }
 {
-    tell_no_memory(errors)?;
-    Err(RunFault::NoMemory)
+    Outcome {
+        status: REFUSED,
+        told: match text {
+            Ok(text) => tell(errors, text.as_slice()),
+            Err(NoMemory) => tell(errors, b"ttrun: no memory\n"),
+        },
+    }
 }
 
-// Writes the fault's line, or, where memory is refused for it, that it was.
-fn tell<E: Write>(alloc: Global, errors: &mut E, fault: RunFault) -> Result<(), RunFault>
-    ensures line { IsTold (E.contents errors.old) (E.contents errors.new) (line_of fault) result }
-    ensures memory { fault ≡ WithoutMemory → IsToldAlways (E.contents errors.old) (E.contents errors.new) memory_line result }
+// The line of the fault.
+fn line_of_fault(alloc: Global, fault: RunFault) -> Result<Vec<u8>, NoMemory>
+    ensures { IfOk result (λ v. v.items ≡ line_of fault) }
 {
-    if fault == RunFault::NoMemory {
-        return tell_no_memory(errors);
-    }
     let mut line = Vec::new(alloc);
-    if fault_line(&fault, &mut line).is_err() {
-        return tell_unmade(errors);
-    }
-    write_whole(errors, line.as_slice())?;
-    Ok(())
+    fault_line(&fault, &mut line)?;
+    Ok(line)
+}
+
+/// The outcome of what is refused for this fault: its line is told.
+pub(crate) fn refuse<E: Write>(alloc: Global, errors: &mut E, fault: RunFault) -> Outcome
+    ensures { IsRefusal (E.contents errors.old) (E.contents errors.new) (line_of fault) result }
+{
+    refuse_with(errors, line_of_fault(alloc, fault))
+}
+
+/// The outcome of what is refused: a line with these words is told.
+pub(crate) fn refuse_words<E: Write>(alloc: Global, errors: &mut E, words: &str) -> Outcome
+    ensures { IsRefusal (E.contents errors.old) (E.contents errors.new) (said words.now) result }
+{
+    refuse_with(errors, line_with(alloc, words))
 }
 
 /// Writes the line for a campaign that was aborted; that takes no memory.
-pub fn tell_abort<E: Write>(errors: &mut E, results: &Results) -> Result<(), RunFault>
-    ensures { IsToldAlways (E.contents errors.old) (E.contents errors.new) (abort_text results.now.ending) result }
+fn tell_abort<E: Write>(errors: &mut E, results: &Results) -> Result<(), RunFault>
+    ensures { IsTold (E.contents errors.old) (E.contents errors.new) (abort_text results.now.ending) result }
 {
     write_abort(results, errors)?;
     Ok(())
 }
 
 /// Writes the line for a campaign that was aborted, behind what was told of its test cases; answers the first fault of both.
-pub fn tell_end<E: Write>(
+pub(crate) fn tell_end<E: Write>(
     errors: &mut E,
     results: &Results,
     told: Result<(), OutFault>,
 ) -> Result<(), RunFault>
     ensures { (line : Result (Unit {0}) AnyFault)
-        × IsToldAlways (E.contents errors.old) (E.contents errors.new) (abort_text results.now.ending) line
+        × IsTold (E.contents errors.old) (E.contents errors.new) (abort_text results.now.ending) line
         × (result ≡ first_fault told line) }
 {
     let line = tell_abort(errors, results);
     told?;
     line
-}
-
-/// The outcome of a task that is refused: the line of the fault is written. Where it can't be, the status stays.
-pub fn refuse<E: Write>(alloc: Global, errors: &mut E, fault: RunFault) -> Outcome
-    ensures { IsRefusal (E.contents errors.old) (E.contents errors.new) result fault }
-{
-    Outcome {
-        status: REFUSED,
-        told: tell(alloc, errors, fault),
-    }
-}
-
-/// The outcome of a task that answers a status, or is refused.
-pub fn settle<E: Write>(alloc: Global, errors: &mut E, answer: Result<u8, RunFault>) -> Outcome
-    ensures done { IfOk answer (IsSilent (E.contents errors.old) (E.contents errors.new) result) }
-    ensures refused { IfErr answer (IsRefusal (E.contents errors.old) (E.contents errors.new) result) }
-    ensures untouched { OnOk answer (errors.new ≡ errors.old) }
-{
-    match answer {
-        Ok(status) => Outcome {
-            status,
-            told: Ok(()),
-        },
-        Err(fault) => refuse(alloc, errors, fault),
-    }
 }

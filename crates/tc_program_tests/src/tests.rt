@@ -15,6 +15,7 @@ use tc_program::fault::RunFault;
 use tc_program::outcome::Outcome;
 use tc_program::replay::replay;
 use tc_table::NoMemory;
+use tc_verdict::read_name;
 
 mod calls;
 mod campaigns;
@@ -87,10 +88,9 @@ enum Command {
 impl Command {
     fn answer(self, alloc: Global, input: &[u8], written: &mut Vec<u8>) -> Result<u8, RunFault> {
         let mut reader = input;
-        let mut kept = Vec::new(alloc);
         match self {
-            Command::Replay => replay(alloc, &mut kept, &mut reader, written),
-            Command::Check => check(alloc, &mut kept, &mut reader, written),
+            Command::Replay => replay(alloc, &mut reader, written),
+            Command::Check => check(alloc, &mut reader, written),
         }
     }
 
@@ -159,16 +159,14 @@ struct Wanted<'a> {
 }
 
 // A run of all test cases in this form, live or not, with this stopping rule.
-fn run_options<'a>(
-    alloc: Global,
-    form: Form,
-    live: bool,
-    stop_on: Option<&'a str>,
-) -> RunOptions<'a> {
+fn run_options(alloc: Global, form: Form, live: bool, stop_on: Option<&str>) -> RunOptions {
     RunOptions {
         form,
         live,
-        stop_on,
+        stop_on: match stop_on {
+            Some(word) => read_name(word),
+            None => None,
+        },
         choice: Choice {
             only: Vec::new(alloc),
             shard: None,
@@ -178,7 +176,7 @@ fn run_options<'a>(
     }
 }
 
-fn run_task<'a>(alloc: Global, form: Form, live: bool, stop_on: Option<&'a str>) -> Task<'a> {
+fn run_task(alloc: Global, form: Form, live: bool, stop_on: Option<&str>) -> Task {
     Task::Run(run_options(alloc, form, live, stop_on))
 }
 

@@ -5,7 +5,7 @@ use std::io;
 use std::io::{Read, Write};
 use std::sync::Wait;
 use std::thread::Threads;
-use tc_command::{ReportForm, RunOptions, Task};
+use tc_command::{Refused, Task};
 use tc_program::fault::RunFault;
 use tc_program::outcome::Outcome;
 use tc_table::NoMemory;
@@ -14,7 +14,7 @@ pub(super) fn fault_line(fault: &RunFault, out: &mut Vec<u8>) -> Result<(), NoMe
     tc_program::fault::fault_line(fault, out)
 }
 
-pub(super) fn read_task<'a>(alloc: Global, words: &'a [String]) -> Result<Task<'a>, Error> {
+pub(super) fn read_task(alloc: Global, words: &[String]) -> Result<Task, Refused> {
     tc_command::read_task(alloc, words)
 }
 
@@ -52,31 +52,5 @@ pub(super) fn carry_out<R, I: Read, W: Write, E: Write>(
 where
     R: Threads + Wait + Copy + Send + 'static,
 {
-    tc_program::carry_out::carry_out(rt, alloc, task, reader, writer, errors)
-}
-
-pub(super) fn report<I: Read, W: Write, E: Write>(
-    alloc: Global,
-    form: ReportForm,
-    reader: &mut I,
-    writer: &mut W,
-    errors: &mut E,
-) -> Result<Outcome, RunFault> {
-    let mut kept = Vec::new(alloc);
-    tc_program::report::report(alloc, form, &mut kept, reader, writer, errors)
-}
-
-pub(super) fn run_script<R, I: Read, W: Write, E: Write>(
-    rt: &R,
-    alloc: Global,
-    options: &RunOptions<'_>,
-    reader: &mut I,
-    writer: &mut W,
-    errors: &mut E,
-) -> Result<Outcome, RunFault>
-where
-    R: Threads + Wait + Copy + Send + 'static,
-{
-    let mut kept = Vec::new(alloc);
-    tc_program::jobs::run_script(rt, alloc, options, &mut kept, reader, writer, errors)
+    tc_program::carry_out::carry_out(rt, alloc, &task, reader, writer, errors)
 }

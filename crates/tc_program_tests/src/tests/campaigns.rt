@@ -205,16 +205,18 @@ fn refuses_stop_word<R: Abort + Threads + Wait + Copy + Send + 'static>(
     rt: &R,
     alloc: Global,
     word: &str,
-) {
+) -> Result<(), Fail> {
     let mut reader = SlowReader::new(CASES.as_bytes(), usize::MAX);
     let mut written = Vec::new(alloc);
     let mut told = Vec::new(alloc);
-    let task = run_task(alloc, Form::Text, false, Some(word));
-    let outcome = carry_out(rt, alloc, task, &mut reader, &mut written, &mut told);
+    let line = format!(in alloc; "ttrun run --stop-on={word}")?;
+    let words = Ok(words_of(alloc, line.as_str())?);
+    let outcome = answer(rt, alloc, words, &mut reader, &mut written, &mut told);
     compare_outcome(rt, &outcome, 3, word);
     is_lines(rt, word, told.as_slice(), NO_VERDICT);
     holds(rt, word, written.is_empty());
     is(rt, word, reader.reads, 0);
+    Ok(())
 }
 
 #[test]
@@ -225,7 +227,7 @@ fn words_of_stop_on(rt: HostRuntime) -> Result<(), Fail> {
     is(&rt, "the verdict inconc", stop_word("inconc"), inconc);
     for word in ["maybe", "Fail", ""] {
         is(&rt, word, stop_word(word), Err(RunFault::StopOn));
-        refuses_stop_word(&rt, rt.alloc(), word);
+        refuses_stop_word(&rt, rt.alloc(), word)?;
     }
     Ok(())
 }

@@ -1,8 +1,5 @@
 //! Test cases that are chosen, and lists of them.
 use super::*;
-use crate::tests::checks::is;
-use tc_campaign::Shard;
-use tc_program::choosing::shard_of;
 
 const SCRIPT: &str =
     "testcase a;behaviour main;setverdict pass;end;end;testcase b;behaviour main;setverdict fail;end;end;testcase c;behaviour main;end;end;testcase d;behaviour main;setverdict inconc;end;end";
@@ -143,20 +140,5 @@ fn choices_that_are_refused(rt: HostRuntime) -> Result<(), Fail> {
             refuses_choice(&rt, rt.alloc(), (command, options), told)?;
         }
     }
-    Ok(())
-}
-
-// Compares the shard that the word names.
-fn is_shard<R: Abort>(rt: &R, word: Option<&str>, shard: Option<Shard>) {
-    is(rt, "the shard", shard_of(word), Ok(shard));
-}
-
-#[test]
-fn words_of_shards(rt: HostRuntime) -> Result<(), Fail> {
-    let last = 4294967295u32;
-    is_shard(&rt, None, None);
-    is_shard(&rt, Some("1/1"), Shard::new(1, 1));
-    let all = Some("4294967295/4294967295");
-    is_shard(&rt, all, Shard::new(last, last));
     Ok(())
 }

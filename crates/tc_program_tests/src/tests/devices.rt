@@ -34,13 +34,13 @@ const ELEMENTS: &str =
 const ROWS: usize = 12;
 
 // The task of this number: the runs are the last, at the end and live.
-fn task_of(alloc: Global, number: usize) -> Task<'static> {
+fn task_of(alloc: Global, number: usize) -> Task {
     match number {
         0 => Task::Replay { explains: false },
         1 => Task::Check { explains: false },
         2 => report_task(ReportForm::Csv),
         3 => report_task(ReportForm::Junit),
-        4 => explore_task(None),
+        4 => explore_task(100_000),
         5 => Task::List(run_options(alloc, Form::Text, false, None).choice),
         6 | 9 => run_task(alloc, Form::Text, number >= 9, None),
         7 | 10 => run_task(alloc, Form::Csv, number >= 9, None),
@@ -77,14 +77,14 @@ fn junit_report(alloc: Global, suite: &str) -> Result<Vec<u8>, Fail> {
     Ok(lines(alloc, report.as_str())?)
 }
 
-fn report_task(form: ReportForm) -> Task<'static> {
+fn report_task(form: ReportForm) -> Task {
     Task::Report {
         form,
         explains: false,
     }
 }
 
-fn explore_task<'a>(states: Option<&'a str>) -> Task<'a> {
+fn explore_task(states: usize) -> Task {
     Task::Explore {
         histories: false,
         details: false,
@@ -204,23 +204,25 @@ fn refuses_states<R: Abort + Threads + Wait + Copy + Send + 'static>(
     rt: &R,
     alloc: Global,
     word: &str,
-) {
+) -> Result<(), Fail> {
     let mut reader = SlowReader::new(SCRIPT.as_bytes(), 0);
     let mut written = Vec::new(alloc);
     let mut told = Vec::new(alloc);
-    let task = explore_task(Some(word));
-    let outcome = carry_out(rt, alloc, task, &mut reader, &mut written, &mut told);
+    let line = format!(in alloc; "ttrun explore --states={word}")?;
+    let words = Ok(words_of(alloc, line.as_str())?);
+    let outcome = answer(rt, alloc, words, &mut reader, &mut written, &mut told);
     let line = "ttrun: --states takes a number from 1 to 1000000";
     is_lines(rt, word, told.as_slice(), line);
     is(rt, "the status", outcome.status, 3);
     holds(rt, "nothing is written", written.is_empty());
     is(rt, word, reader.reads, 0);
+    Ok(())
 }
 
 #[test]
 fn bad_states_are_refused_before_a_read(rt: HostRuntime) -> Result<(), Fail> {
     for word in ["", "0", "01", "1000001", "many"] {
-        refuses_states(&rt, rt.alloc(), word);
+        refuses_states(&rt, rt.alloc(), word)?;
     }
     Ok(())
 }

@@ -6,7 +6,7 @@ use crate::tests::checks::{holds, is};
 fn tells<R: Abort + Threads + Wait + Copy + Send + 'static>(
     rt: &R,
     alloc: Global,
-    task: Task<'_>,
+    task: Task,
     input: &[u8],
     lines: &str,
 ) {

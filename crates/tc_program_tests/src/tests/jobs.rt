@@ -1,8 +1,8 @@
 //! What the program runs: test cases and their scripts.
-ghost use Rattle.std.specs.Prelude.{IfOk};
+ghost use Rattle.std.specs.Prelude.{◌≡◌, IfOk};
+ghost use Rattle.tc_command.specs.declared.task.Form.TheVariants.{Text};
 ghost use Rattle.tc_campaign.specs.Outline.{HasNames};
 
-use super::calls::run_script;
 use super::*;
 use crate::tests::checks::{holds, is};
 use std::io::Write;
@@ -11,7 +11,7 @@ use tc_book::{Pass, open_case};
 use tc_campaign::{Case, Form as ReportForm};
 use tc_entry::Name;
 use tc_exec::{Back, Callable, Ending, Job};
-use tc_program::run::{Options, run_as, run_cases, run_cases_live};
+use tc_program::run::{run_as, run_cases, run_cases_live};
 use tc_script::{CaseScript, Script, read_campaign};
 use tc_stream::devices::{NarrowWriter, WriteFailure};
 
@@ -29,11 +29,19 @@ fn empty<B: Callable>(alloc: Global, name: Name) -> Case<B>
 }
 
 // A plain run, told of as it goes on or not.
-fn options(progress: bool) -> Options {
-    Options {
-        stop_on: None,
+fn options(alloc: Global, live: bool, progress: bool) -> RunOptions
+    ensures { result.form ≡ Text }
+{
+    RunOptions {
         form: Form::Text,
+        live,
         progress,
+        stop_on: None,
+        choice: Choice {
+            only: Vec::new(alloc),
+            shard: None,
+        },
+        explains: false,
     }
 }
 
@@ -48,9 +56,10 @@ fn run_empty<R: Threads + Wait + Copy + Send + 'static, E: Write>(
     name: Name,
     written: &mut Vec<u8>,
     errors: &mut E,
-) -> Result<Outcome, RunFault> {
+) -> Result<Outcome, Fail> {
     let cases: Vec<Case<Job>> = vec![in alloc; empty(alloc, name)]?;
-    run_cases(rt, alloc, cases, options(false), written, errors)
+    let options = options(alloc, false, false);
+    Ok(run_cases(rt, alloc, cases, &options, written, errors)?)
 }
 
 // The same, live.
@@ -60,15 +69,11 @@ fn run_empty_live<R: Threads + Wait + Copy + Send + 'static>(
     name: Name,
     written: &mut Vec<u8>,
     errors: &mut Vec<u8>,
-) -> Result<Outcome, RunFault> {
+) -> Result<Outcome, Fail> {
     let cases: Vec<Case<Job>> = vec![in alloc; empty(alloc, name)]?;
-    let options = Options {
-        stop_on: None,
-        form: Form::Text,
-        progress: false,
-    };
+    let options = options(alloc, true, false);
     let form = ReportForm::Text;
-    run_cases_live(rt, alloc, cases, options, form, written, errors)
+    Ok(run_cases_live(rt, alloc, cases, &options, form, written, errors)?)
 }
 
 // The behaviours of the only test case of the text.
@@ -128,20 +133,12 @@ fn wrong_argument_count_runs_nothing(rt: HostRuntime) -> Result<(), Fail> {
 fn runs_script<R: Abort + Threads + Wait + Copy + Send + 'static>(
     rt: &R,
     alloc: Global,
-    options: &RunOptions,
+    options: RunOptions,
     script: &str,
     wanted: Wanted,
 ) -> Result<(), Fail> {
     let text = lines(alloc, script)?;
-    let mut reader = text.as_slice();
-    let mut written = Vec::new(alloc);
-    let mut told = Vec::new(alloc);
-    let outcome = run_script(rt, alloc, options, &mut reader, &mut written, &mut told)?;
-    let came = Came {
-        written,
-        told,
-        outcome,
-    };
+    let came = came_of(rt, alloc, Task::Run(options), text.as_slice());
     came.compare(rt, wanted, script);
     Ok(())
 }
@@ -155,7 +152,7 @@ fn one_script_run(rt: HostRuntime) -> Result<(), Fail> {
         status: 1,
     };
     let script = "testcase t;behaviour main;setverdict inconc;end;end";
-    runs_script(&rt, rt.alloc(), &options, script, wanted)
+    runs_script(&rt, rt.alloc(), options, script, wanted)
 }
 
 #[test]
@@ -167,7 +164,7 @@ fn stop_of_a_case(rt: HostRuntime) -> Result<(), Fail> {
         status: 2,
     };
     let script = "testcase s;behaviour main;stopcase;setverdict pass;end;end";
-    runs_script(&rt, rt.alloc(), &options, script, wanted)
+    runs_script(&rt, rt.alloc(), options, script, wanted)
 }
 
 const ABORTED_RUN: &str =
@@ -244,7 +241,8 @@ fn run_told<R: Threads + Wait + Copy + Send + 'static, E: Write>(
 ) -> Result<Outcome, Fail> {
     let cases = vec![in alloc; passing(rt, alloc, good)?, empty(alloc, bad)]?;
     let mut written = Vec::new(alloc);
-    Ok(run_as(rt, alloc, cases, options(true), live, &mut written, errors)?)
+    let options = options(alloc, live, true);
+    Ok(run_as(rt, alloc, cases, &options, &mut written, errors)?)
 }
 
 // What is told where standard error fails at this write, which is one of the first line.

@@ -1,29 +1,30 @@
 //! Forms of histories, and histories that are refused.
-use super::calls::report;
-use super::{Came, Wanted, lines};
+use super::{Came, Wanted, came_of, lines};
 use crate::tests::checks::{holds, is};
 use std::alloc::{AllocGlobal, Global};
 use std::process::Abort;
+use std::sync::Wait;
 use std::test::Fail;
-use tc_command::ReportForm;
-use tc_program::fault::RunFault;
+use std::thread::Threads;
+use tc_command::{ReportForm, Task};
 
 // What comes of a report of the input.
-fn report_of(alloc: Global, form: ReportForm, input: &str) -> Result<Came, Fail> {
+fn report_of<R: Threads + Wait + Copy + Send + 'static>(
+    rt: &R,
+    alloc: Global,
+    form: ReportForm,
+    input: &str,
+) -> Result<Came, Fail> {
     let given = lines(alloc, input)?;
-    let mut reader = given.as_slice();
-    let mut written = Vec::new(alloc);
-    let mut told = Vec::new(alloc);
-    let outcome = report(alloc, form, &mut reader, &mut written, &mut told)?;
-    Ok(Came {
-        written,
-        told,
-        outcome,
-    })
+    let task = Task::Report {
+        form,
+        explains: false,
+    };
+    Ok(came_of(rt, alloc, task, given.as_slice()))
 }
 
 // Reports the input, and compares what is written, what is told, and the status.
-fn reports<R: Abort + AllocGlobal>(
+fn reports<R: Abort + AllocGlobal + Threads + Wait + Copy + Send + 'static>(
     rt: &R,
     form: ReportForm,
     input: &str,
@@ -36,7 +37,7 @@ fn reports<R: Abort + AllocGlobal>(
         told,
         status,
     };
-    report_of(rt.alloc(), form, input)?.compare(rt, wanted, input);
+    report_of(rt, rt.alloc(), form, input)?.compare(rt, wanted, input);
     Ok(())
 }
 
@@ -60,7 +61,7 @@ fn csv_of_two_histories(rt: HostRuntime) -> Result<(), Fail> {
 fn chart_of_a_history(rt: HostRuntime) -> Result<(), Fail> {
     let input =
         "history 2 a 1;0 create named p -> made 1;0 setverdict pass -> ok;0 finish -> ok;end pass";
-    let came = report_of(rt.alloc(), ReportForm::Chart, input)?;
+    let came = report_of(&rt, rt.alloc(), ReportForm::Chart, input)?;
     is(&rt, "the status", came.outcome.status, 0);
     holds(&rt, "nothing is told", came.told.is_empty());
     is(&rt, "the chart", came.written.as_slice(), CHART);
@@ -69,7 +70,7 @@ fn chart_of_a_history(rt: HostRuntime) -> Result<(), Fail> {
 
 #[test]
 fn junit_of_two_histories(rt: HostRuntime) -> Result<(), Fail> {
-    let came = report_of(rt.alloc(), ReportForm::Junit, TWO)?;
+    let came = report_of(&rt, rt.alloc(), ReportForm::Junit, TWO)?;
     is(&rt, "the status", came.outcome.status, 1);
     holds(&rt, "nothing is told", came.told.is_empty());
     let is_suite = came.written.as_slice().starts_with(SUITES);
@@ -102,22 +103,6 @@ fn histories_that_are_not_legal(rt: HostRuntime) -> Result<(), Fail> {
 
 #[test]
 fn text_that_is_none_of_histories(rt: HostRuntime) -> Result<(), Fail> {
-    let mut reader: &[u8] = b"history 2 a 1\n";
-    let mut out = Vec::new(rt.alloc());
-    let mut errors = Vec::new(rt.alloc());
-    let answer = report(
-        rt.alloc(),
-        ReportForm::Csv,
-        &mut reader,
-        &mut out,
-        &mut errors,
-    );
-    holds(
-        &rt,
-        "a fault of the text",
-        matches!(answer, Err(RunFault::Text(_))),
-    );
-    holds(&rt, "nothing is written", out.is_empty());
-    holds(&rt, "nothing is told", errors.is_empty());
-    Ok(())
+    let line = "ttrun: line 2: text ends too early";
+    reports(&rt, ReportForm::Csv, "history 2 a 1", "", line, 3)
 }

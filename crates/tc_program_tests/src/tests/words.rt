@@ -5,12 +5,13 @@ use crate::tests::checks::{holds, is};
 use clap::Error;
 use clap::error::ErrorKind;
 use std::{io, str};
+use tc_command::Refused;
 use tc_program::answer::answer_unread;
 use tc_stream::devices::{NarrowWriter, SlowReader, WriteFailure};
 
 // Compares the task that the words ask for.
-fn is_asked<R: Abort>(rt: &R, alloc: Global, words: &[String], task: &Task) -> Result<(), Error> {
-    let asked = read_task(alloc, words)?;
+fn is_asked<R: Abort>(rt: &R, alloc: Global, words: &[String], task: &Task) -> Result<(), Fail> {
+    let asked = read_task(alloc, words).ok().ok_or("a task")?;
     holds(rt, "the task", asked == *task);
     Ok(())
 }
@@ -18,14 +19,16 @@ fn is_asked<R: Abort>(rt: &R, alloc: Global, words: &[String], task: &Task) -> R
 // Compares the task of the command line.
 fn asks_for<R: Abort>(rt: &R, alloc: Global, line: &str, task: &Task) -> Result<(), Fail> {
     let words = words_of(alloc, line)?;
-    Ok(is_asked(rt, alloc, words.as_slice(), task)?)
+    is_asked(rt, alloc, words.as_slice(), task)
 }
 
 // Why the command line asks for no task.
 fn refusal_of(alloc: Global, line: &str) -> Result<Error, Fail> {
     let words = words_of(alloc, line)?;
-    let error = read_task(alloc, words.as_slice()).err();
-    Ok(error.ok_or("refused")?)
+    match read_task(alloc, words.as_slice()) {
+        Err(Refused::Line(error)) => Ok(error),
+        _ => Err(Fail::from("refused")),
+    }
 }
 
 // Compares the kind of why the command line asks for no task.

@@ -1,9 +1,8 @@
-use Rattle.tc_program.proofs.Replaying.{prefix_written}
+use Rattle.tc_command.specs.declared.task.Task.TheVariants.{Replay}
+use Rattle.tc_program.proofs.Doing.{lent_does, made_of}
 use Rattle.tc_program.proofs.replay.replay.Goals as goal
 
-pub returns-in_default-clause-refused : goal.returns-in_default-clause-refused
-returns-in_default-clause-refused g c =
-    prefix_written (g.R.Read.remaining c.args.reader.now) (g.W.Write.contents c.args.writer.now) (g.W.Write.contents c.write_whole.new.writer)
-    c.in_ok-text.text.items c.as_slice.result.now c.in_ok-out.out.items c.as_slice-2.result.now c.in_ok-out.verdict c.verdict_status-status.result
-    c.in_ok-text.ensures.all c.as_slice.ensures.value c.in_ok-out.ensures.done c.verdict_status-status.ensures c.as_slice-2.ensures.value
-    c.in_default.ensures.part
+pub returns : goal.returns
+returns g c explains =
+    lent_does (Replay explains) _ _ _ c.in_ok-text.text.items c.as_slice.result.now c.write_answer.result c.as_slice.ensures.value c.in_ok-text.ensures.fits c.in_ok-text.ensures.all
+    (c.write_answer.ensures (Replay explains) c.as_slice.result.now (made_of _ _ c.replay_text.result c.replay_text.ensures.done c.replay_text.ensures.refused))

@@ -1,4 +1,3 @@
-use Rattle.std.proofs.Common.{Err}
 use Rattle.tc_program.proofs.Running.{cut_up, live_done}
 use Rattle.tc_program.proofs.run.run_cases_live.Goals as goal
 
@@ -10,4 +9,4 @@ returns-in-Ok-clause-done g c =
 pub returns-in-Err-clause-refused : goal.returns-in-Err-clause-refused
 returns-in-Err-clause-refused g c =
     let ran = c.run_campaign_live_told-ended in
-    cut_up _ _ _ c.plan_of.result _ c.plan_of.ensures _ c.requires.form _ ran.result.told c.in-Err.fault _ (Err c.from.result) c.in-Err.is c.from.ensures ran.ensures
+    cut_up _ _ _ c.plan_of.result _ c.plan_of.ensures _ c.requires.form _ ran.result.told c.in-Err.fault _ c.in-Err.is ran.ensures

@@ -1,0 +1,13 @@
+use Rattle.std.proofs.Common.{◌≡◌, All, IfErr, codes, map, rules, subst}
+use Rattle.clap.specs.Words.{found_of, rows_of}
+use Rattle.tc_entry.specs.Name.{IsName}
+use Rattle.tc_command.specs.Asked.{words_of}
+use Rattle.tc_command.specs.Inside.{IsBadWord}
+use Rattle.tc_command.specs.declared.word.WordFault.TheVariants as fault
+use Rattle.tc_command.proofs.Options.{words_are}
+use Rattle.tc_command.proofs.read.names.Goals as goal
+
+pub returns-in_ok-words-in-Some-clause-refused : goal.returns-in_ok-words-in-Some-clause-refused
+returns-in_ok-words-in-Some-clause-refused c =
+    let same : map (λ w. w.now) c.as_slice.result.now ≡ words_of (codes "only") (rows_of (found_of c.args.options.now)) = search (rules, words_are) in
+    subst (λ ws. IfErr c.names.result (IsBadWord (All IsName ws → ⊥) fault.Only)) same c.names.ensures.refused

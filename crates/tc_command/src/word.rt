@@ -1,0 +1,127 @@
+//! The words behind options, and what they name.
+ghost use Rattle.std.specs.Prelude.{◌≡◌, ◌≤◌, All, IfOk, IfErr, IfSome, IfNone, map, option_copied, ℕ};
+ghost use Rattle.std.specs.Fmt.{decimal};
+ghost use Rattle.tc_entry.specs.Name.{IsName};
+ghost use Rattle.tc_command.specs.Words.{IsBad, IsRuleOf, IsShardOf, IsShardWord, IsStatesOf, ShardView, text_of};
+ghost use Rattle.tc_command.specs.Inside.{IsBadWord};
+ghost use Rattle.tc_command.specs.declared.word.WordFault.TheVariants as fault;
+
+use crate::refusal::Refusal;
+use crate::shard::Shard;
+use std::alloc::Global;
+use tc_entry::Name;
+use tc_text::{read_number, take_number};
+use tc_verdict::{Verdict, read_name};
+
+/// At how many states of a test case `explore` looks where no word says it.
+const STATES: usize = 100_000;
+
+/// The option behind which a word names nothing.
+#[derive(Clone, Copy, Debug, PartialEq, Eq)]
+pub enum WordFault {
+    /// `--stop-on`.
+    StopOn,
+    /// `--states`.
+    States,
+    /// `--shard`.
+    Shard,
+    /// `--only`.
+    Only,
+}
+
+impl WordFault {
+    /// What is said of the word.
+    pub fn text(self) -> &'static str
+        ensures { result.now ≡ text_of self }
+    {
+        match self {
+            WordFault::StopOn => "--stop-on takes none, pass, inconc, fail or error",
+            WordFault::States => "--states takes a number from 1 to 1000000",
+            WordFault::Shard => "--shard takes K/N, with K from 1 to N",
+            WordFault::Only => "--only takes the name of a test case of the script",
+        }
+    }
+}
+
+// The shard of a word.
+fn read_shard(word: &str) -> Option<Shard>
+    ensures some { IfSome result (IsShardWord word.now) }
+    ensures none { IfNone result ((s : ShardView) → IsShardWord word.now s → ⊥) }
+{
+    let (number, rest) = take_number(word.as_bytes())?;
+    let (slash, rest) = rest.split_first()?;
+    if *slash != b'/' {
+        return None;
+    }
+    Shard::new(number, read_number(rest)?)
+}
+
+/// The shard of the word of `--shard`, where there is one.
+pub(crate) fn shard(word: Option<&str>) -> Result<Option<Shard>, WordFault>
+    ensures taken { IfOk result (IsShardOf (option_copied word.entry)) }
+    ensures refused { IfErr result (λ f. (f ≡ fault.Shard) × IsBad IsShardOf (option_copied word.entry)) }
+{
+    match word {
+        Some(word) => match read_shard(word) {
+            Some(shard) => Ok(Some(shard)),
+            None => Err(WordFault::Shard),
+        },
+        None => Ok(None),
+    }
+}
+
+/// The verdict of the word of `--stop-on`, where there is one.
+pub(crate) fn stop_on(word: Option<&str>) -> Result<Option<Verdict>, WordFault>
+    ensures taken { IfOk result (IsRuleOf (option_copied word.entry)) }
+    ensures refused { IfErr result (λ f. (f ≡ fault.StopOn) × IsBad IsRuleOf (option_copied word.entry)) }
+{
+    match word {
+        Some(word) => match read_name(word) {
+            Some(verdict) => Ok(Some(verdict)),
+            None => Err(WordFault::StopOn),
+        },
+        None => Ok(None),
+    }
+}
+
+// The number of states that a word names.
+fn read_states(word: &str) -> Option<usize>
+    ensures some { IfSome result (λ n. (1 ≤ n) × (n ≤ 1000000) × (word.now ≡ decimal n)) }
+    ensures none { IfNone result ((n : ℕ) → 1 ≤ n → n ≤ 1000000 → word.now ≡ decimal n → ⊥) }
+{
+    let number = read_number(word.as_bytes())?;
+    if 1 <= number && number <= 1_000_000 {
+        Some(number as usize)
+    } else {
+        None
+    }
+}
+
+/// The number of states of the word of `--states`, or that which holds without one.
+pub(crate) fn states(word: Option<&str>) -> Result<usize, WordFault>
+    ensures taken { IfOk result (IsStatesOf (option_copied word.entry)) }
+    ensures refused { IfErr result (λ f. (f ≡ fault.States) × IsBad IsStatesOf (option_copied word.entry)) }
+{
+    match word {
+        Some(word) => match read_states(word) {
+            Some(states) => Ok(states),
+            None => Err(WordFault::States),
+        },
+        None => Ok(STATES),
+    }
+}
+
+/// The names of the words of `--only`.
+pub(crate) fn names(alloc: Global, words: &[&str]) -> Result<Vec<Name>, Refusal>
+    ensures taken { IfOk result (λ v. v.items ≡ map (λ w. w.now) words.now) }
+    ensures refused { IfErr result (IsBadWord (All IsName (map (λ w. w.now) words.now) → ⊥) fault.Only) }
+{
+    let mut names = Vec::new(alloc);
+    for word in words {
+        let Some(name) = Name::read(word) else {
+            return Err(Refusal::Word(WordFault::Only));
+        };
+        names.push(name)?;
+    }
+    Ok(names)
+}

@@ -1,0 +1,77 @@
+-- What comes of a text, and of an input.
+use Rattle.std.proofs.Common.{ℕ, ◌≡◌, ◌≤◌, List, [], Option, None, Some, IfSome, IfOk, IfErr, Result, Ok, Err, ap₂, inl, inr, length, refl, subst, sym}
+use Rattle.std.specs.Prelude.{MatchResult}
+use Rattle.std.specs.Global.{Vec}
+use Rattle.tc_program.specs.declared.reply.Answer.{Answer}
+use Rattle.std.specs.Io.KnownBytes.{Keeps}
+use Rattle.tc_command.specs.declared.task.Task.{Task}
+use Rattle.tc_command.specs.declared.task.Task.TheVariants as T
+use Rattle.tc_program.specs.declared.fault.RunFault.{RunFault}
+use Rattle.tc_program.specs.declared.fault.RunFault.TheVariants as F
+use Rattle.tc_program.specs.Input.{IsUnread}
+use Rattle.tc_program.specs.Inside.{IsMade, WritesTo}
+use Rattle.tc_program.specs.Limits.{limit_of}
+use Rattle.tc_program.specs.Made.{Does, Makes, Refuses}
+
+pub keeps_same : (held : Option (List ℕ)) → Keeps held held
+keeps_same None = tt
+keeps_same (Some xs) = refl
+
+-- an answer of these parts
+abbrev pub answer_of : List ℕ → List ℕ → ℕ → Answer
+answer_of out told status = record { out = out; told = told; status = status }
+
+-- no text is refused since a writer failed
+not_write : (task : Task) (text : List ℕ) → Refuses task text F.Write → ⊥
+not_write (T.Replay explains) text refused = refused
+not_write (T.Check explains) text refused = refused
+not_write (T.Report form explains) text refused = refused
+not_write (T.Explore histories details states) text refused = refused
+not_write (T.List choice) text refused = refused
+not_write (T.Run o) text refused = refused
+
+-- of a text that is refused nothing is written
+pub refused_writes : (task : Task) (text : List ℕ) (held : Option (List ℕ)) (fault : RunFault) → Refuses task text fault → WritesTo task text held held (Err fault)
+refused_writes task text held F.Write refused = absurd (not_write task text refused)
+refused_writes task text held fault refused = (refused, keeps_same held)
+
+-- what comes of an input that is not read
+pub unread_does : (task : Task) (input held : Option (List ℕ)) (fault : RunFault) → IsUnread (limit_of task) input fault → Does task input held held (Err fault)
+unread_does task input held F.Write unread = absurd unread
+unread_does task input held fault unread = (inl unread, keeps_same held)
+
+-- what comes of an input that is read is what comes of its text
+pub read_does : (task : Task) (input before after : Option (List ℕ)) (text : List ℕ) (r : Result ℕ RunFault) → length text ≤ limit_of task → IfSome input (λ given. text ≡ given)
+    → WritesTo task text before after r → Does task input before after r
+read_does task input before after text (Ok status) fits all does = (text, fits, all, does)
+read_does task input before after text (Err F.Write) fits all does = (text, fits, all, does)
+read_does task input before after text (Err fault) fits all does = (inr (text, fits, all, does.0), does.1)
+
+-- the same of a text that is lent
+pub lent_does : (task : Task) (input before after : Option (List ℕ)) (text lent : List ℕ) (r : Result ℕ RunFault) → lent ≡ text → length text ≤ limit_of task
+    → IfSome input (λ given. text ≡ given) → WritesTo task lent before after r → Does task input before after r
+lent_does task input before after text lent r same fits all does = read_does task input before after text r fits all (subst (λ t. WritesTo task t before after r) same does)
+
+-- what is so where there is an answer, and where there is none
+pub made_of : {A E : Type 0} (P : A → Type 0) (Q : E → Type 0) (r : Result A E) → IfOk r P → IfErr r Q → MatchResult r P Q
+made_of P Q (Ok x) done refused = done
+made_of P Q (Err e) done refused = refused
+
+pub both_ok : {A E : Type 0} (P Q S : A → Type 0) (r : Result A E) → ((x : A) → P x → Q x → S x) → IfOk r P → IfOk r Q → IfOk r S
+both_ok P Q S (Ok x) both p q = both x p q
+both_ok P Q S (Err e) both p q = tt
+
+-- some text is made, where one is
+pub some_text : {E : Type 0} (r : Result (Vec ℕ) E) → (text : List ℕ) × IfOk r (λ v. v.items ≡ text)
+some_text (Ok v) = (v.items, refl)
+some_text (Err e) = ([], tt)
+
+-- an answer of which nothing is told
+pub silent_answer : (out out' told : List ℕ) (status : ℕ) → out ≡ out' → told ≡ [] → answer_of out told status ≡ answer_of out' [] status
+silent_answer out out' told status out_is told_is = ap₂ (λ o t. answer_of o t status) out_is told_is
+
+-- what is made of a text for a task
+pub made_by : (task other : Task) (text : List ℕ) (made r : Result Answer RunFault) → task ≡ other → made ≡ r → IfOk r (Makes other text) → IfErr r (Refuses other text)
+    → IsMade task text made
+made_by task other text made r is same done refused =
+    subst (λ x. IsMade task text x) (sym same) (subst (λ t. IsMade t text r) (sym is) (made_of (Makes other text) (Refuses other text) r done refused))

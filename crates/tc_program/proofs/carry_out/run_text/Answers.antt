@@ -1,0 +1,33 @@
+use Rattle.std.proofs.Common.{inl, inr, subst, sym}
+use Rattle.tc_program.specs.Fault.{line_of}
+use Rattle.tc_program.specs.Made.{Refuses}
+use Rattle.tc_program.specs.Program.{IsDone}
+use Rattle.tc_program.specs.Streams.{held}
+use Rattle.tc_program.specs.Tell.{IsRefusal}
+use Rattle.tc_program.proofs.Doing.{keeps_same}
+use Rattle.tc_program.proofs.Scripted.{even, run_done, run_left}
+use Rattle.tc_program.proofs.carry_out.run_text.Goals as goal
+
+pub returns-in-Err : goal.returns-in-Err
+returns-in-Err g c =
+    IsDone.refused c.in-Err.fault (subst (λ task. Refuses task c.args.text.now c.in-Err.fault) (sym c.requires) c.in-Err.ensures.refused)
+    (keeps_same (g.W.Write.contents c.args.writer.now)) c.refuse_text.ensures
+
+pub run_as-requires-clause-names : goal.run_as-requires-clause-names
+run_as-requires-clause-names g c κs within = even c.in-Ok.ensures.chosen.cases c.in-Ok.cases.items c.in-Ok.ensures.chosen.each
+
+pub returns-in-Ok-run_as : goal.returns-in-Ok-run_as
+returns-in-Ok-run_as g c =
+    let are = c.in-Ok.ensures.chosen in
+    IsDone.run c.args.options.now c.requires
+    (inl (run_done c.args.options.now c.args.text.now are.cases c.in-Ok.cases.items are.chosen are.lawful are.each
+    (held g.W.Write.contents c.args.writer.now c.run_as.new.writer g.E.Write.contents c.args.errors.now c.run_as.new.errors) c.in-Ok-run_as.outcome c.in-Ok-run_as.ensures.done))
+
+pub returns-in-Err-run_as : goal.returns-in-Err-run_as
+returns-in-Err-run_as g c =
+    let are = c.in-Ok.ensures.chosen in
+    IsDone.run c.args.options.now c.requires
+    (inr (run_left c.args.options.now c.args.text.now are.cases c.in-Ok.cases.items are.chosen are.lawful are.each
+    (held g.W.Write.contents c.args.writer.now c.run_as.new.writer g.E.Write.contents c.args.errors.now c.run_as.new.errors) c.in-Err-run_as.fault
+    (g.E.Write.contents c.refuse.new.errors) c.refuse.result c.in-Err-run_as.ensures.whole c.in-Err-run_as.ensures.cut
+    (subst (λ f. IsRefusal (g.E.Write.contents c.run_as.new.errors) (g.E.Write.contents c.refuse.new.errors) (line_of f) c.refuse.result) c.from.ensures c.refuse.ensures)))

@@ -1,6 +1,0 @@
-use Rattle.std.proofs.Common.{◌≡◌, map, take}
-use Rattle.tc_program.proofs.choosing.names_of.Given as goal
-
--- the names so far are the words so far
-abbrev pub invariant-loop-word : goal.invariant-loop-word
-invariant-loop-word l = l.names.items ≡ map (λ w. w.now) (take l.word-index l.words)

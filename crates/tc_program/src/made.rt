@@ -1,0 +1,63 @@
+//! What is made of a text, and how it is given.
+ghost use Rattle.std.specs.Prelude.{List, ℕ};
+ghost use Rattle.tc_command.specs.declared.task.Task.{Task as AnyTask};
+ghost use Rattle.tc_program.specs.Inside.{GivesTo, IsMade, WritesTo};
+ghost use Rattle.tc_program.specs.Program.{IsDone};
+ghost use Rattle.tc_program.specs.Streams.{held};
+
+use crate::explained::refuse_text;
+use crate::fault::RunFault;
+use crate::outcome::Outcome;
+use crate::reply::Answer;
+use crate::tell::{refuse, tell};
+use std::alloc::Global;
+use std::io::Write;
+use tc_command::Task;
+use tc_stream::write_whole;
+
+/// Writes what is to be written of an answer, and answers its status; a fault stays.
+pub(crate) fn write_answer<W: Write>(
+    made: Result<Answer, RunFault>,
+    writer: &mut W,
+) -> Result<u8, RunFault>
+    ensures { (task : AnyTask) (text : List ℕ) → IsMade task text made → WritesTo task text (W.contents writer.old) (W.contents writer.new) result }
+{
+    let answer = made?;
+    write_whole(writer, answer.out.as_slice())?;
+    Ok(answer.status)
+}
+
+// Writes and tells an answer, and has its status; where the writer fails, that is told in its place.
+fn give_answer<W: Write, E: Write>(
+    alloc: Global,
+    answer: &Answer,
+    writer: &mut W,
+    errors: &mut E,
+) -> Outcome
+    ensures { (task : AnyTask) (text : List ℕ) → GivesTo task text answer.now (held W.contents writer.old writer.new E.contents errors.old errors.new) result }
+{
+    match write_whole(writer, answer.out.as_slice()) {
+        Ok(()) => Outcome {
+            status: answer.status,
+            told: tell(errors, answer.told.as_slice()),
+        },
+        Err(fault) => refuse(alloc, errors, RunFault::from(fault)),
+    }
+}
+
+/// The outcome of a task of whose text this was made: it is written and told, or why there is none is told.
+pub(crate) fn finish<W: Write, E: Write>(
+    alloc: Global,
+    task: &Task,
+    text: &[u8],
+    made: Result<Answer, RunFault>,
+    writer: &mut W,
+    errors: &mut E,
+) -> Outcome
+    ensures { IsMade task.now text.now made → IsDone task.now text.now (held W.contents writer.old writer.new E.contents errors.old errors.new) result }
+{
+    match made {
+        Ok(answer) => give_answer(alloc, &answer, writer, errors),
+        Err(fault) => refuse_text(alloc, errors, task, text, fault),
+    }
+}
