@@ -1,11 +1,13 @@
 //! The texts of replies.
-ghost use Rattle.std.specs.Prelude.{◌≡◌, ◌++◌, ℕ, List, codes, Some, IfSome, OnOk, OnErr};
+ghost use Rattle.std.specs.Prelude.{◌≡◌, ◌++◌, ℕ, List, codes, ◌≢◌, MatchOption, Some, IfSome, OnOk, OnErr};
 ghost use Rattle.std.specs.Io.{StartsWith};
 ghost use Rattle.tc_text.specs.Spelling.{reply_text, fault_name, IsReply};
 ghost use Rattle.tc_text.specs.Reading.{EndsReply, Takes};
 ghost use Rattle.tc_text.specs.Inside.{BeginsWithE};
 ghost use Rattle.tc_entry.specs.declared.reply.Fault.{Fault as AnyFault};
 ghost use Rattle.tc_entry.specs.declared.reply.Reply.{Reply as AnyReply};
+ghost use Rattle.tc_entry.specs.declared.reply.Reply.TheVariants.{Made};
+ghost use Rattle.tc_entry.specs.declared.comp.Comp.{Comp as AnyComp};
 
 use crate::append::{append_number, append_text};
 use crate::cursor::after;
@@ -56,6 +58,28 @@ fn take_end_or_error(text: &[u8]) -> Option<(Reply, &[u8])>
     Some((Reply::Local(Verdict::Error), after(text, b"error")?))
 }
 
+// The reply, and what stands behind the word, where the text begins with it.
+#[inline(always)]
+fn reply_after<'a>(text: &'a [u8], word: &[u8], reply: Reply) -> Option<(Reply, &'a [u8])>
+    ensures { MatchOption result ((rest : List ℕ) → text.now ≢ word.now ++ rest) (λ r. (r.0 ≡ reply) × (text.now ≡ word.now ++ r.1.now)) }
+{
+    match after(text, word) {
+        Some(rest) => Some((reply, rest)),
+        None => None,
+    }
+}
+
+// The reply to a create that the text begins with.
+#[inline(always)]
+fn take_made(text: &[u8]) -> Option<(Reply, &[u8])>
+    ensures spelled { IfSome result (λ r. text.now ≡ reply_text r.0 ++ r.1.now) }
+    ensures fits { IfSome result (λ r. IsReply r.0) }
+    ensures only { (comp : AnyComp) (rest : List ℕ) → IsReply (Made comp) → EndsReply rest → text.now ≡ reply_text (Made comp) ++ rest → Takes result (Made comp) rest }
+{
+    let (number, rest) = take_number(after(text, b"made ")?)?;
+    Some((Reply::Made(Comp(number)), rest))
+}
+
 /// The reply that the text begins with, and what stands behind it.
 #[inline(always)]
 pub fn take_reply(text: &[u8]) -> Option<(Reply, &[u8])>
@@ -64,33 +88,23 @@ pub fn take_reply(text: &[u8]) -> Option<(Reply, &[u8])>
     ensures only { (r : AnyReply) (rest : List ℕ) → IsReply r → EndsReply rest → text.now ≡ reply_text r ++ rest → Takes result r rest }
 {
     match *text.first()? {
-        b'o' => Some((Reply::Ok, after(text, b"ok")?)),
-        b't' => Some((Reply::Answer(true), after(text, b"true")?)),
+        b'o' => reply_after(text, b"ok", Reply::Ok),
+        b't' => reply_after(text, b"true", Reply::Answer(true)),
         b'e' => take_end_or_error(text),
-        b'f' => {
-            if let Some(rest) = after(text, b"false") {
-                Some((Reply::Answer(false), rest))
-            } else {
-                Some((Reply::Local(Verdict::Fail), after(text, b"fail")?))
-            }
-        }
-        b'm' => {
-            if let Some(rest) = after(text, b"matched") {
-                Some((Reply::Matched, rest))
-            } else {
-                let (number, rest) = take_number(after(text, b"made ")?)?;
-                Some((Reply::Made(Comp(number)), rest))
-            }
-        }
-        b'p' => {
-            if let Some(rest) = after(text, b"parked") {
-                Some((Reply::Parked, rest))
-            } else {
-                Some((Reply::Local(Verdict::Pass), after(text, b"pass")?))
-            }
-        }
-        b'n' => Some((Reply::Local(Verdict::None), after(text, b"none")?)),
-        b'i' => Some((Reply::Local(Verdict::Inconc), after(text, b"inconc")?)),
+        b'f' => match reply_after(text, b"false", Reply::Answer(false)) {
+            Some(found) => Some(found),
+            None => reply_after(text, b"fail", Reply::Local(Verdict::Fail)),
+        },
+        b'm' => match reply_after(text, b"matched", Reply::Matched) {
+            Some(found) => Some(found),
+            None => take_made(text),
+        },
+        b'p' => match reply_after(text, b"parked", Reply::Parked) {
+            Some(found) => Some(found),
+            None => reply_after(text, b"pass", Reply::Local(Verdict::Pass)),
+        },
+        b'n' => reply_after(text, b"none", Reply::Local(Verdict::None)),
+        b'i' => reply_after(text, b"inconc", Reply::Local(Verdict::Inconc)),
         _ => None,
     }
 }
@@ -101,8 +115,10 @@ pub fn read_reply(text: &[u8]) -> Option<Reply>
     ensures fits { IfSome result IsReply }
     ensures only { (r : AnyReply) → IsReply r → text.now ≡ reply_text r → result ≡ Some r }
 {
-    let (reply, rest) = take_reply(text)?;
-    if rest.is_empty() { Some(reply) } else { None }
+    match take_reply(text) {
+        Some((reply, rest)) => if rest.is_empty() { Some(reply) } else { None },
+        None => None,
+    }
 }
 
 /// The name of a dynamic error.
@@ -128,8 +144,10 @@ fn append_reply(out: &mut Vec<u8>, reply: &Reply) -> Result<(), NoMemory>
 {
     match *reply {
         Reply::Made(comp) => {
-            append_text(out, "made ")?;
-            append_number(out, u64::from(comp.0))
+            match append_text(out, "made ") {
+                Ok(()) => append_number(out, u64::from(comp.0)),
+                Err(error) => Err(error),
+            }
         }
         Reply::Ok => append_text(out, "ok"),
         Reply::Answer(true) => append_text(out, "true"),
@@ -139,8 +157,10 @@ fn append_reply(out: &mut Vec<u8>, reply: &Reply) -> Result<(), NoMemory>
         Reply::Parked => append_text(out, "parked"),
         Reply::Ended => append_text(out, "ended"),
         Reply::Fault(fault) => {
-            append_text(out, "error ")?;
-            append_text(out, name_of_fault(fault))
+            match append_text(out, "error ") {
+                Ok(()) => append_text(out, name_of_fault(fault)),
+                Err(error) => Err(error),
+            }
         }
     }
 }

@@ -58,23 +58,23 @@ fn take_short_operand(verb: Verb, text: &[u8]) -> Option<(ShortOp, &[u8])>
             }
         }
         Verb::Start => None,
-        Verb::Stop => {
-            let (group, rest) = take_group(text)?;
-            Some((ShortOp::Stop(group), rest))
-        }
-        Verb::Kill => {
-            let (group, rest) = take_group(text)?;
-            Some((ShortOp::Kill(group), rest))
-        }
+        Verb::Stop => match take_group(text) {
+            Some((group, rest)) => Some((ShortOp::Stop(group), rest)),
+            None => None,
+        },
+        Verb::Kill => match take_group(text) {
+            Some((group, rest)) => Some((ShortOp::Kill(group), rest)),
+            None => None,
+        },
         Verb::StopCase => Some((ShortOp::StopCase, text)),
-        Verb::Status(status) => {
-            let (target, rest) = take_target(text)?;
-            Some((ShortOp::Status(status, target), rest))
-        }
-        Verb::SetVerdict => {
-            let (setting, rest) = take_setting(text)?;
-            Some((ShortOp::SetVerdict(setting), rest))
-        }
+        Verb::Status(status) => match take_target(text) {
+            Some((target, rest)) => Some((ShortOp::Status(status, target), rest)),
+            None => None,
+        },
+        Verb::SetVerdict => match take_setting(text) {
+            Some((setting, rest)) => Some((ShortOp::SetVerdict(setting), rest)),
+            None => None,
+        },
         Verb::GetVerdict => Some((ShortOp::GetVerdict, text)),
         Verb::Finish => Some((ShortOp::Finish, text)),
     }
@@ -88,8 +88,10 @@ fn take_short_op(text: &[u8]) -> Option<(ShortOp, &[u8])>
     ensures only { (op : AnyOp) (rest : List ℕ) → IsOp op → EndsMove rest → text.now ≡ op_text op ++ rest
         → MatchOption result (IsLong op) (λ r. (op_of r.0 ≡ op) × (r.1.now ≡ rest)) }
 {
-    let (verb, rest) = take_verb(text)?;
-    take_short_operand(verb, rest)
+    match take_verb(text) {
+        Some((verb, rest)) => take_short_operand(verb, rest),
+        None => None,
+    }
 }
 
 /// The move that the text begins with, and what stands behind it; None also where its operation is a Start, or a Create with
