@@ -3,6 +3,7 @@ ghost use Rattle.std.specs.Prelude.{◌≡◌, ◌≤◌, [], ◌∷◌, ◌++�
 ghost use Rattle.tc_entry.specs.declared.limits.TheConstants.{BEHAVIOURS};
 ghost use Rattle.tc_script.specs.Inside.Building.{HaveFewArguments, AreScripts, AreCases, from_next_case};
 ghost use Rattle.tc_script.specs.Campaign.{behaviours, cases};
+ghost use Rattle.tc_script.specs.Scope.{heads as the_heads};
 
 use crate::heads::{Heads, heads_of};
 use crate::kept_lines::{First, Rest};
@@ -121,6 +122,20 @@ fn case_of<'l>(
     Ok((found, rest))
 }
 
+/// The behaviours of the test case whose lines these begin with, and the lines from the next test case on.
+fn case_from<'l>(alloc: Global, lines: &Rest<'l>) -> Result<(CaseScript, Rest<'l>), AllocError>
+    requires few_heads { length (the_heads lines.now) ≤ BEHAVIOURS }
+    requires few_arguments { HaveFewArguments lines.now }
+    requires scripts { AreScripts (the_heads lines.now) lines.now }
+    ensures case { IfOk result (λ c. c.0 ≡ behaviours (the_heads lines.now) lines.now) }
+    ensures behind { IfOk result (λ c. c.1 ≡ from_next_case lines.now) }
+{
+    let heads = heads_of(alloc, lines)?;
+    let found = case_of(alloc, &heads, lines);
+    drop(heads);
+    found
+}
+
 /// The campaign of lines without a fault.
 #[tactic(auto, using(crate::proofs::Behind::behind_rules))]
 pub fn campaign_of(alloc: Global, lines: &Rest) -> Result<Campaign, AllocError>
@@ -132,8 +147,7 @@ pub fn campaign_of(alloc: Global, lines: &Rest) -> Result<Campaign, AllocError>
     let mut rest = lines.copy();
     while let Some((first, others)) = rest.split_first() {
         if let First::Other(Line::TestCase(name)) = first {
-            let heads = heads_of(alloc, &others)?;
-            let (case, behind) = case_of(alloc, &heads, &others)?;
+            let (case, behind) = case_from(alloc, &others)?;
             found.add(name.copy(), case)?;
             rest = behind;
         } else {

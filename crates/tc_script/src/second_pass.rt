@@ -1,32 +1,64 @@
 //! The second pass over a script: the first fault of names.
-ghost use Rattle.std.specs.Prelude.{◌≡◌, [], IfOk};
+ghost use Rattle.std.specs.Prelude.{◌≡◌, [], None, IfOk, OnOk};
 ghost use Rattle.tc_script.specs.SecondPass.{misnamed};
+ghost use Rattle.tc_script.specs.Inside.Kept.{said};
+ghost use Rattle.tc_script.specs.Inside.Passing.{line_fault, scope_after};
 
 use crate::fault::ScriptFault;
 use crate::kept_lines::{First, Rest};
 use crate::scope::Scope;
 use std::alloc::{AllocError, Global};
+use tc_line::ScriptKind;
 
-/// The first line with a fault of names.
+/// The fault of the line among these names; where it has none, the names go on behind it.
+fn passed(
+    alloc: Global,
+    scope: &mut Scope,
+    first: First,
+    others: &Rest,
+) -> Result<Option<ScriptKind>, AllocError>
+    ensures fault { IfOk result (λ kind. kind ≡ line_fault scope.old (said first.entry)) }
+    ensures next { OnOk result (None ≡ line_fault scope.old (said first.entry) → scope.new ≡ scope_after scope.old (said first.entry) others.now) }
+{
+    match first {
+        First::Set(_) | First::Get => Ok(None),
+        First::Other(line) => {
+            let fault = scope.fault_of(line);
+            if fault.is_none() {
+                scope.take(alloc, line, others)?;
+            }
+            Ok(fault)
+        }
+    }
+}
+
+/// The first line with a fault of names, where the names are those before the first line.
 #[tactic(auto, using(crate::proofs::SecondPass::judging_rules))]
-pub fn first_misnamed(alloc: Global, lines: &Rest) -> Result<Option<ScriptFault>, AllocError>
+fn first_misnamed_in(
+    alloc: Global,
+    scope: &mut Scope,
+    lines: &Rest,
+) -> Result<Option<ScriptFault>, AllocError>
+    requires { scope.old ≡ record { cases = []; behaviours = []; bound = []; heads = [] } }
     ensures { IfOk result (λ fault. fault ≡ misnamed [] lines.now) }
 {
-    let mut scope = Scope::new(alloc);
     let mut rest = lines.copy();
     while let Some((first, others)) = rest.split_first() {
-        match first {
-            First::Set(_) => {}
-            First::Get => {}
-            First::Other(line) => {
-                if let Some(kind) = scope.fault_of(line) {
-                    let line = lines.len() - others.len();
-                    return Ok(Some(ScriptFault { line, kind }));
-                }
-                scope.take(alloc, line, &others)?;
-            }
+        if let Some(kind) = passed(alloc, scope, first, &others)? {
+            let line = lines.len() - others.len();
+            return Ok(Some(ScriptFault { line, kind }));
         }
         rest = others;
     }
     Ok(None)
+}
+
+/// The first line with a fault of names.
+pub fn first_misnamed(alloc: Global, lines: &Rest) -> Result<Option<ScriptFault>, AllocError>
+    ensures { IfOk result (λ fault. fault ≡ misnamed [] lines.now) }
+{
+    let mut scope = Scope::new(alloc);
+    let found = first_misnamed_in(alloc, &mut scope, lines);
+    drop(scope);
+    found
 }

@@ -1,5 +1,5 @@
 //! The steps of a behaviour, from its lines.
-ghost use Rattle.std.specs.Prelude.{◌≡◌, ◌≤◌, ◌<◌, ◌+◌, [], length, IfOk, map};
+ghost use Rattle.std.specs.Prelude.{◌≡◌, ◌≤◌, ◌<◌, ◌+◌, [], length, IfOk, OnOk, map};
 ghost use Rattle.tc_entry.specs.declared.limits.TheConstants.{ARGUMENTS, BEHAVIOURS};
 ghost use Rattle.tc_step.specs.declared.limits.TheConstants.{STEPS};
 ghost use Rattle.tc_script.specs.Campaign.{place as the_place, step_of, steps};
@@ -75,6 +75,39 @@ fn step_at(heads: &Heads, bound: &Names, call: &Call) -> Step
     }
 }
 
+/// The steps up to the end of a behaviour, whose lines these begin with, where these names are bound; and the lines from that
+/// end on.
+fn steps_into<'l>(
+    heads: &Heads,
+    bound: &mut Names,
+    found: &mut Vec<Step>,
+    lines: &Rest<'l>,
+) -> Result<Rest<'l>, AllocError>
+    requires few_heads { length heads.now ≤ BEHAVIOURS }
+    requires few_arguments { HaveFewArguments lines.now }
+    requires none { found.old.items ≡ [] }
+    requires few_bound { length bound.old ≤ ARGUMENTS + length found.old.items }
+    requires few_steps { length (steps heads.now bound.old lines.now) ≤ STEPS }
+    ensures steps { OnOk result (found.new.items ≡ steps heads.now bound.old lines.now) }
+    ensures behind { IfOk result (λ r. r ≡ behind_steps lines.now) }
+{
+    let mut rest = lines.copy();
+    while let Some((first, others)) = rest.split_first() {
+        match first {
+            First::Set(setting) => found.push(Step::SetVerdict(setting))?,
+            First::Get => found.push(Step::GetVerdict)?,
+            First::Other(Line::Skipped) => {}
+            First::Other(Line::Step(call)) => {
+                found.push(step_at(heads, bound, call))?;
+                bind(bound, call)?;
+            }
+            First::Other(_) => return Ok(rest),
+        }
+        rest = others;
+    }
+    Ok(rest)
+}
+
 /// The steps up to the end of a behaviour with these parameters, whose lines these begin with, and the lines from that
 /// end on.
 pub fn steps_of<'l>(
@@ -92,19 +125,7 @@ pub fn steps_of<'l>(
 {
     let mut bound = bound_by(alloc, parameters)?;
     let mut found = Vec::new(alloc);
-    let mut rest = lines.copy();
-    while let Some((first, others)) = rest.split_first() {
-        match first {
-            First::Set(setting) => found.push(Step::SetVerdict(setting))?,
-            First::Get => found.push(Step::GetVerdict)?,
-            First::Other(Line::Skipped) => {}
-            First::Other(Line::Step(call)) => {
-                found.push(step_at(heads, &bound, call))?;
-                bind(&mut bound, call)?;
-            }
-            First::Other(_) => return Ok((found, rest)),
-        }
-        rest = others;
-    }
-    Ok((found, rest))
+    let rest = steps_into(heads, &mut bound, &mut found, lines);
+    drop(bound);
+    Ok((found, rest?))
 }

@@ -1,6 +1,6 @@
 use Rattle.std.proofs.Common.{length}
 use Rattle.tc_script.proofs.SecondPass.{IsJudged}
-use Rattle.tc_script.proofs.second_pass.first_misnamed.Given as goal
+use Rattle.tc_script.proofs.second_pass.first_misnamed_in.Given as goal
 
 abbrev pub invariant-loop-first : goal.invariant-loop-first
 invariant-loop-first l = IsJudged l.scope l.rest l.lines
