@@ -1,7 +1,8 @@
 //! What is told of the components of a witness.
-ghost use Rattle.std.specs.Prelude.{◌≡◌, ◌≤◌, ◌++◌, OnOk, reverse};
+ghost use Rattle.std.specs.Prelude.{◌≡◌, ◌≤◌, ◌++◌, ◌∷◌, [], OnOk, codes, reverse};
 ghost use Rattle.tc_entry.specs.declared.limits.TheConstants.{BEHAVIOURS};
 ghost use Rattle.tc_table.specs.Legal.{IsLegal};
+ghost use Rattle.tc_verdict.specs.Verdict.{name_of as name_of_verdict};
 ghost use Rattle.tc_explore.specs.Components.{comma, comp_words, given_name, local_words, locals_line, locals_words, name_words};
 
 use crate::state::state_after;
@@ -96,6 +97,18 @@ fn append_locals(out: &mut Vec<u8>, history: &[Entry], locals: &[Verdict]) -> Re
     Ok(())
 }
 
+// Appends the line of a witness with these local verdicts at its end; where memory is refused, a part of it.
+fn append_line(out: &mut Vec<u8>, witness: &Witness, locals: &[Verdict]) -> Result<(), NoMemory>
+    ensures { OnOk result (out.new.items ≡ out.old.items ++ codes "  " ++ name_of_verdict witness.now.verdict ++ codes ": " ++ locals_words witness.now.history 0 locals.now ++ 10 ∷ []) }
+{
+    append_text(out, "  ")?;
+    append_text(out, name_of(witness.verdict))?;
+    append_text(out, ": ")?;
+    append_locals(out, witness.history.as_slice(), locals)?;
+    out.push(b'\n')?;
+    Ok(())
+}
+
 /// Appends the line of a witness: its verdict, and the local verdict of each component at its end. Where memory is refused,
 /// a part of it.
 #[tactic(auto, unfolding(crate::specs::Components::locals_line))]
@@ -110,13 +123,9 @@ pub(crate) fn append_locals_line(
     requires legal { IsLegal behaviours (reverse witness.now.history) }
     ensures { OnOk result (out.new.items ≡ out.old.items ++ locals_line witness.now) }
 {
-    let history = witness.history.as_slice();
-    let state = state_after(alloc, behaviours, history)?;
-    let locals = locals_of(alloc, &state)?;
-    append_text(out, "  ")?;
-    append_text(out, name_of(witness.verdict))?;
-    append_text(out, ": ")?;
-    append_locals(out, history, locals.as_slice())?;
-    out.push(b'\n')?;
-    Ok(())
+    let state = state_after(alloc, behaviours, witness.history.as_slice())?;
+    let locals = locals_of(alloc, &state);
+    drop(state);
+    let locals = locals?;
+    append_line(out, witness, locals.as_slice())
 }

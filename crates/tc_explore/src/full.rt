@@ -1,6 +1,6 @@
 //! The search that follows the calls of all runs, but for those of which nobody can tell that they were made, which it
 //! makes at once. Where it comes to its end nothing is missed.
-ghost use Rattle.std.specs.Prelude.{◌≡◌, ◌≤◌, ◌<◌, ◌∷◌, true, false, IfOk, IsTrue, OnOk, All, length};
+ghost use Rattle.std.specs.Prelude.{◌≡◌, ◌≤◌, ◌<◌, [], ◌∷◌, true, false, IfOk, IsTrue, OnOk, All, length};
 ghost use Rattle.tc_entry.specs.declared.limits.TheConstants.{BEHAVIOURS};
 ghost use Rattle.tc_table.specs.Case.{past_of};
 ghost use Rattle.tc_explore.specs.Inside.Going as going;
@@ -233,25 +233,25 @@ fn try_runs(
 fn expand_course(
     alloc: Global,
     scripts: &[Script],
-    course: Course,
+    course: &Course,
     full: &mut Full,
     found: &mut Findings,
 ) -> Result<bool, NoMemory>
     requires some { 1 ≤ length scripts.now }
     requires few { length scripts.now ≤ BEHAVIOURS }
-    requires on { IsOn scripts.now course }
+    requires on { IsOn scripts.now course.now }
     requires states { All (λ t. IsOn scripts.now t) full.old.states.items }
     requires found { IsNoted scripts.now found.old }
     ensures states { OnOk result (All (λ t. IsOn scripts.now t) full.new.states.items) }
     ensures more_states { OnOk result (IsLonger full.old.states.items full.new.states.items) }
     ensures found { OnOk result (IsNoted scripts.now found.new) }
     ensures more_found { OnOk result (IsLonger found.old.witnesses.items found.new.witnesses.items) }
-    ensures closed { IfOk result (λ is_closed. is_closed ≡ true → IsCaseClosed scripts.now full.new found.new course) }
+    ensures closed { IfOk result (λ is_closed. is_closed ≡ true → IsCaseClosed scripts.now full.new found.new course.now) }
 {
     if course.is_over() || !course.is_active(Run(0)) || course.has_left(Run(0)) {
         return Ok(false);
     }
-    let tried = try_runs(alloc, scripts, &course, full, found)?;
+    let tried = try_runs(alloc, scripts, course, full, found)?;
     if !tried.is_closed {
         return Ok(false);
     }
@@ -284,7 +284,9 @@ fn expand(
     ensures closed { IfOk result (λ is_closed. is_closed ≡ true → IsClosedAt scripts.now full.new.states.items found.new.witnesses.items at) }
 {
     let course = full.states[at].copied(alloc)?;
-    expand_course(alloc, scripts, course, full, found)
+    let is_closed = expand_course(alloc, scripts, &course, full, found);
+    drop(course);
+    is_closed
 }
 
 // Looks at all states, until none is left or one has more behind it than is seen; it answers whether none was left.
@@ -316,6 +318,39 @@ fn expand_all(
     Ok(limit >= full.states.len())
 }
 
+// Makes the calls of all runs from each state that is met, within a limit, where none was met.
+#[tactic(auto, using(crate::proofs::States::complete_by, crate::proofs::Turning::turn_rules, crate::proofs::Seeing::seeing_rules))]
+fn search_in(
+    alloc: Global,
+    scripts: &[Script],
+    full: &mut Full,
+    found: &mut Findings,
+) -> Result<Extent, NoMemory>
+    requires some { 1 ≤ length scripts.now }
+    requires few { length scripts.now ≤ BEHAVIOURS }
+    requires none { full.old.states.items ≡ [] }
+    requires found { IsNoted scripts.now found.old }
+    ensures found { OnOk result (IsNoted scripts.now found.new) }
+    ensures complete { IfOk result (λ e. e.is_whole ≡ true → AllFound scripts.now found.new.witnesses.items) }
+    ensures within { IfOk result (λ e. e.is_whole ≡ true → e.states ≤ full.old.limit) }
+{
+    let limit = full.limit;
+    let opening = Course::opening(alloc, scripts.len() as u16)?;
+    let calm = calmed(opening, scripts)?;
+    reach(&mut found.reached, scripts, &calm);
+    if !place(alloc, scripts, calm, full)? {
+        return Ok(Extent {
+            states: 0,
+            is_whole: false,
+        });
+    }
+    let is_whole = expand_all(alloc, scripts, limit, full, found)?;
+    Ok(Extent {
+        states: full.states.len(),
+        is_whole,
+    })
+}
+
 /// Makes the calls of all runs from each state that is met, within a limit. Where it comes to its end the verdict of each
 /// complete course is found.
 #[tactic(auto, using(crate::proofs::States::complete_by, crate::proofs::Turning::turn_rules, crate::proofs::Seeing::seeing_rules))]
@@ -337,18 +372,7 @@ pub(crate) fn search_all(
         keys: IndexSet::new(alloc),
         limit,
     };
-    let opening = Course::opening(alloc, scripts.len() as u16)?;
-    let calm = calmed(opening, scripts)?;
-    reach(&mut found.reached, scripts, &calm);
-    if !place(alloc, scripts, calm, &mut full)? {
-        return Ok(Extent {
-            states: 0,
-            is_whole: false,
-        });
-    }
-    let is_whole = expand_all(alloc, scripts, limit, &mut full, found)?;
-    Ok(Extent {
-        states: full.states.len(),
-        is_whole,
-    })
+    let extent = search_in(alloc, scripts, &mut full, found);
+    drop(full);
+    extent
 }

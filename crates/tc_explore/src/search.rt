@@ -244,6 +244,30 @@ fn look(
     Ok(limit)
 }
 
+// Looks for the overall verdicts that the courses of a test case give, and notes each with a complete course that gives it.
+fn search_in(
+    alloc: Global,
+    scripts: &[Script],
+    search: &mut Search,
+    found: &mut Findings,
+) -> Result<Extent, NoMemory>
+    requires some { 1 ≤ length scripts.now }
+    requires few { length scripts.now ≤ BEHAVIOURS }
+    requires found { IsNoted scripts.now found.old }
+    ensures found { OnOk result (IsNoted scripts.now found.new) }
+    ensures within { IfOk result (λ e. e.states ≤ search.old.limit) }
+    ensures cut { IfOk result (λ e. e.is_whole ≡ false → e.states ≡ search.old.limit) }
+{
+    let limit = search.limit;
+    let opening = follow(alloc, scripts, &[])?;
+    search.keep(alloc, &opening)?;
+    let states = look(alloc, scripts, limit, search, found)?;
+    Ok(Extent {
+        states,
+        is_whole: states < limit || (search.left.is_empty() && !search.is_cut),
+    })
+}
+
 /// Looks for the overall verdicts that the courses of a test case give, and notes each with a complete course that gives it.
 /// It looks at so many states at most, and keeps no more.
 pub(crate) fn search_reduced(
@@ -265,11 +289,7 @@ pub(crate) fn search_reduced(
         limit,
         is_cut: false,
     };
-    let opening = follow(alloc, scripts, &[])?;
-    search.keep(alloc, &opening)?;
-    let states = look(alloc, scripts, limit, &mut search, found)?;
-    Ok(Extent {
-        states,
-        is_whole: states < limit || (search.left.is_empty() && !search.is_cut),
-    })
+    let extent = search_in(alloc, scripts, &mut search, found);
+    drop(search);
+    extent
 }

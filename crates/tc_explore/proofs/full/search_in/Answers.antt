@@ -1,6 +1,6 @@
 use Rattle.std.proofs.Common.{rules, ◌≡◌, true}
 use Rattle.tc_explore.proofs.States.{complete_by}
-use Rattle.tc_explore.proofs.full.search_all.Goals as goal
+use Rattle.tc_explore.proofs.full.search_in.Goals as goal
 
 pub returns-clause-complete : goal.returns-clause-complete
 returns-clause-complete c h =
