@@ -1,6 +1,7 @@
 -- The answers of a hand, as an entry is added to its log.
-use Rattle.std.proofs.Common.{ℕ, ◌≡◌, ◌≢◌, false, List, [], ◌∷◌, ◌++◌, refl, ap, sym, ◌∙◌, append_assoc}
+use Rattle.std.proofs.Common.{ℕ, ◌≡◌, ◌≢◌, true, false, List, [], ◌∷◌, ◌++◌, length, All, refl, ap, sym, ◌∙◌, append_assoc}
 use Rattle.std.proofs.lemmas.List.{append-nil}
+use Rattle.std.proofs.lemmas.List.Elements.{All-nil, All-cons, All-append}
 use Rattle.tc_verdict.specs.declared.user_verdict.UserVerdict.{UserVerdict}
 use Rattle.tc_verdict.specs.declared.user_verdict.UserVerdict.TheVariants as U
 use Rattle.tc_verdict.specs.UserVerdict.{given}
@@ -8,11 +9,13 @@ use Rattle.tc_entry.specs.declared.entry.Entry.{Entry}
 use Rattle.tc_entry.specs.declared.op.Op.{Op}
 use Rattle.tc_entry.specs.declared.op.Op.TheVariants as O
 use Rattle.tc_entry.specs.declared.reply.Reply.{Reply}
+use Rattle.tc_entry.specs.declared.reply.Reply.TheVariants as R
 use Rattle.tc_merge.specs.Merge.{is_verdict_call}
 use Rattle.tc_board.specs.declared.answer.Answer.TheVariants.{Met, Found}
 use Rattle.tc_board.specs.Hand.{HandView}
-use Rattle.tc_book.specs.Hands.{found_by, answer_in, answers_in, IsHandOf}
+use Rattle.tc_book.specs.Hands.{found_by, answer_in, answers_in, IsOneAnswer, IsHandOf}
 use Rattle.tc_book.specs.Inside.{Says}
+use Rattle.tc_book.specs.Replies.{suits}
 
 answers_end : (log : List Entry) (e : Entry) → answers_in (log ++ e ∷ []) ≡ answers_in log ++ answer_in e.op e.reply
 answers_end [] e = append-nil (answer_in e.op e.reply)
@@ -23,11 +26,15 @@ no_answer (O.SetVerdict v) reply h = absurd cc
 no_answer O.GetVerdict reply h = absurd cc
 no_answer _ reply h = refl
 
+each_end : (log after : List Entry) (e : Entry) → after ≡ log ++ e ∷ [] → IsOneAnswer e → All IsOneAnswer log → All IsOneAnswer after
+each_end log after e is one each = rw is (All-append IsOneAnswer log (e ∷ []) each (All-cons IsOneAnswer e [] one (All-nil IsOneAnswer)))
+
 -- an entry of no verdict call
 pub hand_other : (hand : HandView) (run : ℕ) (log after : List Entry) (e : Entry) → is_verdict_call e.op ≡ false → after ≡ log ++ e ∷ [] → IsHandOf hand run log → IsHandOf hand run after
 hand_other hand run log after e other is h = record {
   of_run = h.of_run;
   answers = h.answers ∙ ap (λ l. Met ∷ l) (sym (ap answers_in is ∙ (answers_end log e ∙ (ap (λ l. answers_in log ++ l) (no_answer e.op e.reply other) ∙ append-nil (answers_in log)))));
+  each = each_end log after e is (λ (k : is_verdict_call e.op ≡ true). absurd cc) h.each;
 }
 
 -- an entry of a verdict call
@@ -36,6 +43,7 @@ hand_said hand hand' run log after e says is h = let x = says.0 in let said = sa
   of_run = ap (λ (k : HandView). k.run) given ∙ h.of_run;
   answers = ap (λ (k : HandView). k.answers) given ∙ (ap (λ l. l ++ x ∷ []) h.answers
       ∙ ap (λ l. Met ∷ l) (sym (ap answers_in is ∙ (answers_end log e ∙ ap (λ l. answers_in log ++ l) said))));
+  each = each_end log after e is (λ _. ap length said) h.each;
 }
 
 -- the log is as it was
@@ -47,6 +55,12 @@ found_given U.None = refl
 found_given U.Pass = refl
 found_given U.Inconc = refl
 found_given U.Fail = refl
+
+pub found_suits : (v : UserVerdict) → suits O.GetVerdict (R.Local (given v)) ≡ true
+found_suits U.None = refl
+found_suits U.Pass = refl
+found_suits U.Inconc = refl
+found_suits U.Fail = refl
 
 pub met_then : (hand : HandView) (run : ℕ) (log : List Entry) → IsHandOf hand run log → hand.answers ≢ []
 met_then hand run log h e = let q : Met ∷ answers_in log ≡ [] = sym h.answers ∙ e in absurd cc

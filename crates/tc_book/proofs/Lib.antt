@@ -6,6 +6,7 @@ pub mod Suits
 pub mod Starting
 pub mod PartOf
 pub mod ByRun
+pub mod Merging
 pub mod Numbered
 pub mod Sums
 pub mod Reporting

@@ -1,5 +1,5 @@
 -- What a report says of a case that is over.
-use Rattle.std.proofs.Common.{ℕ, zero, suc, ◌≡◌, ◌+◌, ◌<◌, ◌≤◌, ◌==◌, cond, Bool, true, false, Option, Some, None, List, [], ◌∷◌, ◌++◌, length, reverse, map, sum_by, count_by, refl, ap, sym, ◌∙◌, arith, add-one}
+use Rattle.std.proofs.Common.{ℕ, zero, suc, ◌≡◌, ◌+◌, ◌<◌, ◌≤◌, ◌==◌, cond, Bool, true, false, Option, Some, None, List, [], ◌∷◌, ◌++◌, length, reverse, map, filter, sum_by, count_by, refl, ap, sym, ◌∙◌, arith, add-one}
 use Rattle.std.specs.List.{All}
 use Rattle.std.proofs.lemmas.Bool.Decides.{nat_tests}
 use Rattle.std.proofs.lemmas.List.Sums.{sum_by-cons, sum_by-append}
@@ -12,6 +12,7 @@ use Rattle.tc_table.specs.Legal.{IsLegal, IsAllOver}
 use Rattle.tc_table.proofs.Over.{all_over}
 use Rattle.tc_book.specs.declared.closed.Closed.{Closed}
 use Rattle.tc_merge.specs.declared.run_log.RunLog.{RunLog}
+use Rattle.tc_merge.specs.Merge.{is_other, merge}
 use Rattle.tc_book.specs.Passes.{LeftState}
 use Rattle.tc_book.specs.Closing.{is_of_run, IsFitting, IsWhole}
 use Rattle.tc_book.specs.Parts.{part, log_of, log_if, logs_below, logged}
@@ -161,14 +162,15 @@ overall_is : (past : List Entry) → worst (map (local past) (comps past)) ≡ o
 unfolding overall
 overall_is past = refl
 
-pub one_history : (n : ℕ) (h : List Entry) (c : Closed) → IsLegal n (reverse h) → is_over (reverse h) ≡ true → length h ≡ logged (logs_below h n) →
+pub one_history : (n : ℕ) (h : List Entry) (c : Closed) → IsLegal n (reverse h) → is_over (reverse h) ≡ true → length h ≡ logged (logs_below h n) → h ≡ merge (filter is_other h) (logs_below h n) →
     c.behaviours ≡ n → c.history ≡ h → c.logs ≡ logs_below h n → c.locals ≡ map (local (reverse h)) (comps (reverse h)) → c.verdict ≡ overall (reverse h) → IsOneHistory c
-one_history n h c legal over as_long n_is h_is logs_is locals_is verdict_is =
+one_history n h c legal over as_long merged n_is h_is logs_is locals_is verdict_is =
     let past : List Entry = reverse h in
     record {
       legal = rw (n_is, h_is) legal;
       logs = rw (n_is, h_is) logs_is;
       as_long = rw (h_is, logs_is) as_long;
+      merged = rw (h_is, logs_is) merged;
       no_others = λ b none. rw h_is (no_others h n b as_long (rw h_is at none));
       over = rw h_is over;
       none_alive = λ later earlier split o. rw n_is (none_alive n past later earlier legal (rw h_is at split) o);

@@ -31,7 +31,7 @@ start_of_others (e ∷ past) b = by_test (is_verdict_call e.op) refl (start_of_o
     by_test true k before = before ∙ (no_more (start_of past b) ∙ ap (first_some (start_of past b)) (sym (no_start e.op e.reply b k)))
     by_test false k before = ap (λ o. first_some o (start_in e.op e.reply b)) before
 
-filter-reverse : (es : List Entry) → filter is_other (reverse es) ≡ reverse (filter is_other es)
+pub filter-reverse : (es : List Entry) → filter is_other (reverse es) ≡ reverse (filter is_other es)
 filter-reverse [] = refl
 filter-reverse (e ∷ es) =
     ap (filter is_other) (reverse-append (e ∷ []) es) ∙ (filter-append is_other (reverse es) (e ∷ [])

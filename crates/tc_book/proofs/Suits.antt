@@ -1,6 +1,5 @@
--- The component table's reply suits the operation.
-use Rattle.std.proofs.Common.{ℕ, ◌≡◌, ◌==◌, ◌&&◌, if◌then◌else◌, Bool, true, false, Option, Some, None, List, refl}
-use Rattle.tc_entry.specs.declared.comp.Comp.{Comp}
+-- The component table's reply suits an operation that is no verdict call.
+use Rattle.std.proofs.Common.{ℕ, ◌≡◌, ◌==◌, ◌&&◌, if◌then◌else◌, Bool, true, false, Option, Some, None, List, not, ap, refl}
 use Rattle.tc_entry.specs.declared.entry.Entry.{Entry}
 use Rattle.tc_entry.specs.declared.op.Op.{Op}
 use Rattle.tc_entry.specs.declared.op.Op.TheVariants as O
@@ -8,10 +7,10 @@ use Rattle.tc_entry.specs.declared.reply.Reply.{Reply}
 use Rattle.tc_entry.specs.declared.reply.Reply.TheVariants as R
 use Rattle.tc_entry.specs.declared.reply.Fault.{Fault}
 use Rattle.tc_entry.specs.declared.reply.Fault.TheVariants as F
-use Rattle.tc_table.specs.History.{comp_of}
 use Rattle.tc_table.specs.Waiting.{holds, is_stuck}
 use Rattle.tc_table.specs.Faults.{fault}
-use Rattle.tc_table.specs.Answers.{answer, answer_unless, plain_answer, is_active, local_reply}
+use Rattle.tc_table.specs.Answers.{answer, answer_unless, plain_answer, is_active}
+use Rattle.tc_merge.specs.Merge.{is_verdict_call}
 use Rattle.tc_book.specs.Replies.{suits}
 
 wait_suits : (k : Bool) (t : _) (held : Bool) → suits (O.Wait k t) (if held then R.Matched else R.Parked) ≡ true
@@ -23,31 +22,27 @@ wake_suits k t true stuck = refl
 wake_suits k t false true = refl
 wake_suits k t false false = refl
 
-local_suits : (past : List Entry) (own : Option Comp) → suits O.GetVerdict (local_reply past own) ≡ true
-local_suits past (Some c) = refl
-local_suits past None = refl
+plain_suits : (past : List Entry) (b : ℕ) (op : Op) → is_verdict_call op ≡ false → suits op (plain_answer past b op) ≡ true
+plain_suits past b (O.Wait k t) other = wait_suits k t (holds past (record { killed = k; target = t }))
+plain_suits past b (O.Wake k t) other = wake_suits k t (holds past (record { killed = k; target = t })) ((b == 0) && is_stuck past)
+plain_suits past b O.GetVerdict other = absurd cc
+plain_suits past b (O.Create alive name) other = refl
+plain_suits past b (O.Start c run args) other = refl
+plain_suits past b (O.Stop g) other = refl
+plain_suits past b (O.Kill g) other = refl
+plain_suits past b O.StopCase other = refl
+plain_suits past b (O.Running t) other = refl
+plain_suits past b (O.Alive t) other = refl
+plain_suits past b (O.Done t) other = refl
+plain_suits past b (O.Killed t) other = refl
+plain_suits past b (O.SetVerdict v) other = absurd cc
+plain_suits past b O.Finish other = refl
 
-plain_suits : (past : List Entry) (b : ℕ) (op : Op) → suits op (plain_answer past b op) ≡ true
-plain_suits past b (O.Wait k t) = wait_suits k t (holds past (record { killed = k; target = t }))
-plain_suits past b (O.Wake k t) = wake_suits k t (holds past (record { killed = k; target = t })) ((b == 0) && is_stuck past)
-plain_suits past b O.GetVerdict = local_suits past (comp_of past b)
-plain_suits past b (O.Create alive name) = refl
-plain_suits past b (O.Start c run args) = refl
-plain_suits past b (O.Stop g) = refl
-plain_suits past b (O.Kill g) = refl
-plain_suits past b O.StopCase = refl
-plain_suits past b (O.Running t) = refl
-plain_suits past b (O.Alive t) = refl
-plain_suits past b (O.Done t) = refl
-plain_suits past b (O.Killed t) = refl
-plain_suits past b (O.SetVerdict v) = refl
-plain_suits past b O.Finish = refl
+by_case : (active : Bool) (f : Option Fault) (op : Op) (plain : Reply) → is_verdict_call op ≡ false → suits op plain ≡ true → suits op (if active then answer_unless f plain else R.Ended) ≡ true
+by_case true None op plain other h = h
+by_case true (Some f) op plain other h = ap not other
+by_case false f op plain other h = refl
 
-by_case : (active : Bool) (f : Option Fault) (op : Op) (plain : Reply) → suits op plain ≡ true → suits op (if active then answer_unless f plain else R.Ended) ≡ true
-by_case true None op plain h = h
-by_case true (Some f) op plain h = refl
-by_case false f op plain h = refl
-
-pub answer_suits : (n : ℕ) (past : List Entry) (b : ℕ) (op : Op) → suits op (answer n past b op) ≡ true
+pub answer_suits : (n : ℕ) (past : List Entry) (b : ℕ) (op : Op) → is_verdict_call op ≡ false → suits op (answer n past b op) ≡ true
 unfolding answer
-answer_suits n past b op = by_case (is_active past b) (fault n past b op) op (plain_answer past b op) (plain_suits past b op)
+answer_suits n past b op other = by_case (is_active past b) (fault n past b op) op (plain_answer past b op) other (plain_suits past b op other)

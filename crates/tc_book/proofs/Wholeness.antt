@@ -54,7 +54,7 @@ own_log (l ∷ lefts) (suc k) d below one =
     by_test false there before count = before (omega (arith, one, count))
 
 -- where what came back fits a history, the log by a run's number is the run's part of it
-log_of_fits : (h : List Entry) (lefts : List LeftState) (b : ℕ) → 1 ≤ count_by (is_of_run b) lefts → All (IsFitting h) lefts → log_of (map run_log lefts) b ≡ part h b
+pub log_of_fits : (h : List Entry) (lefts : List LeftState) (b : ℕ) → 1 ≤ count_by (is_of_run b) lefts → All (IsFitting h) lefts → log_of (map run_log lefts) b ≡ part h b
 log_of_fits h [] b some fits = absurd (omega arith)
 log_of_fits h (l ∷ lefts) b some fits =
     by_test (l.run.0 == b) refl (λ more. log_of_fits h lefts b more (λ k d below. fits (suc k) d (omega arith))) (sum_by-cons (λ (m : LeftState). cond (is_of_run b m) 1 0) l lefts)

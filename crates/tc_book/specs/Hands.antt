@@ -1,5 +1,5 @@
 -- The answers that the hand of a pass had, by the verdict entries of its log.
-use Rattle.std.specs.Prelude.{ℕ, ◌≡◌, List, [], ◌∷◌, ◌++◌}
+use Rattle.std.specs.Prelude.{ℕ, ◌≡◌, true, List, [], ◌∷◌, ◌++◌, length, All}
 use Rattle.tc_verdict.specs.declared.verdict.Verdict.{Verdict}
 use Rattle.tc_verdict.specs.declared.verdict.Verdict.TheVariants as V
 use Rattle.tc_verdict.specs.declared.user_verdict.UserVerdict.TheVariants as U
@@ -11,6 +11,7 @@ use Rattle.tc_entry.specs.declared.reply.Reply.TheVariants as R
 use Rattle.tc_board.specs.declared.answer.Answer.{Answer}
 use Rattle.tc_board.specs.declared.answer.Answer.TheVariants.{Met, Taken, Found, Shut}
 use Rattle.tc_board.specs.Hand.{HandView}
+use Rattle.tc_merge.specs.Merge.{is_verdict_call}
 
 -- a verdict that was found; error is never in a word
 abbrev pub found_by : Verdict → List Answer
@@ -34,7 +35,12 @@ abbrev pub answers_in : List Entry → List Answer
 answers_in [] = []
 answers_in (e ∷ log) = answer_in e.op e.reply ++ answers_in log
 
--- a hand of this run, which met its word and then had the answers of this log's verdict entries
+-- an entry of a verdict call is exactly one answer of the hand
+abbrev pub IsOneAnswer : Entry → Type 0
+IsOneAnswer e = is_verdict_call e.op ≡ true → length (answer_in e.op e.reply) ≡ 1
+
+-- a hand of this run, which met its word and then had the answers of this log's verdict entries, one for each of them
 pub record IsHandOf (hand : HandView) (run : ℕ) (log : List Entry) : Type 0 where
   pub of_run : hand.run ≡ run
   pub answers : hand.answers ≡ Met ∷ answers_in log
+  pub each : All IsOneAnswer log

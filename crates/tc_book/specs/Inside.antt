@@ -137,3 +137,9 @@ goes_on b run (U.Wake killed target) = not (is_parked (reply_to b run (O.Wake ki
 abbrev pub wakes : OpenCase → Run → Option Until → Bool
 wakes b run (Some until) = goes_on b run until
 wakes b run None = false
+
+-- who waits for the start of run b is answered so after these entries: by its start, or by none where the case is over without
+pub record IsAwaitedIn (n : ℕ) (past : List Entry) (b : ℕ) (start : Option (Comp × List Comp)) : Type 0 where
+  pub legal : IsLegal n past
+  pub first : start ≡ start_of past b
+  pub over : start ≡ None → is_over past ≡ true

@@ -1,9 +1,11 @@
 -- Which replies an operation can get.
-use Rattle.std.specs.Prelude.{Bool, true, false}
+use Rattle.std.specs.Prelude.{Bool, true, false, not}
+use Rattle.tc_verdict.specs.declared.verdict.Verdict.TheVariants as V
 use Rattle.tc_entry.specs.declared.op.Op.{Op}
 use Rattle.tc_entry.specs.declared.op.Op.TheVariants as O
 use Rattle.tc_entry.specs.declared.reply.Reply.{Reply}
 use Rattle.tc_entry.specs.declared.reply.Reply.TheVariants as R
+use Rattle.tc_merge.specs.Merge.{is_verdict_call}
 
 -- the target of a wait does not hold yet
 abbrev pub is_parked : Reply → Bool
@@ -20,8 +22,9 @@ abbrev pub is_answer : Reply → Bool
 is_answer (R.Answer b) = true
 is_answer _ = false
 
--- a local verdict is answered
+-- a local verdict is answered that a word can have: error is never in one
 abbrev pub is_local : Reply → Bool
+is_local (R.Local V.Error) = false
 is_local (R.Local v) = true
 is_local _ = false
 
@@ -48,8 +51,8 @@ suits_plainly (O.Wake k t) r = is_of_wait r
 suits_plainly O.GetVerdict r = is_local r
 suits_plainly _ r = is_plain_ok r
 
--- the operation can get this reply
+-- the operation can get this reply; a verdict call gets no error
 abbrev pub suits : Op → Reply → Bool
 suits op R.Ended = true
-suits op (R.Fault f) = true
+suits op (R.Fault f) = not (is_verdict_call op)
 suits op r = suits_plainly op r

@@ -1,11 +1,12 @@
 -- What a closed case reports: one history of one thread.
-use Rattle.std.specs.Prelude.{ℕ, ◌≡◌, ◌++◌, [], true, None, List, length, reverse, map}
+use Rattle.std.specs.Prelude.{ℕ, ◌≡◌, ◌++◌, [], true, None, List, length, reverse, map, filter}
 use Rattle.std.specs.List.{range_with_len}
 use Rattle.tc_verdict.specs.Verdict.{worst}
 use Rattle.tc_entry.specs.declared.entry.Entry.{Entry}
 use Rattle.tc_table.specs.History.{comps, comp_of, is_over}
 use Rattle.tc_table.specs.Local.{local, overall}
 use Rattle.tc_table.specs.Legal.{IsLegal, IsAllOver}
+use Rattle.tc_merge.specs.Merge.{is_other, merge}
 use Rattle.tc_book.specs.declared.closed.Closed.{Closed}
 use Rattle.tc_book.specs.Parts.{part, logs_below, logged}
 
@@ -24,6 +25,8 @@ pub record IsOneHistory (c : Closed) : Type 0 where
   pub logs : c.logs ≡ logs_below c.history c.behaviours
   -- the history is as long as these logs together
   pub as_long : length c.history ≡ logged c.logs
+  -- each verdict entry stands in its place: the history is the merge of itself without them with the logs
+  pub merged : c.history ≡ merge (filter is_other c.history) c.logs
   -- a run that was never started made no call
   pub no_others : (b : ℕ) → comp_of (past_of_closed c) b ≡ None → part c.history b ≡ []
   -- some entry ended the case

@@ -31,7 +31,7 @@ pub use halt::Halt;
 pub use left::Left;
 pub use pass::Pass;
 pub use report::locals_of;
-pub use shared::Shared;
+pub use shared::{Look, Shared};
 pub use tc_entry::Sequence;
 pub use tc_merge::RunLog;
 pub use ticket::Ticket;

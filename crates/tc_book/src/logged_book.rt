@@ -1,17 +1,16 @@
 //! The book behind the lock. Whatever is added to its history is added to the log of its caller in the same call.
-ghost use Rattle.std.specs.Prelude.{◌≡◌, ◌≢◌, ◌≤◌, ◌+◌, true, false, IfOk, OnOk, OnErr, IfErr, IfSome, IfNone, OnSome, IsTrue, IsFalse, Some, None, is_none, replicate, set, slice_index_or};
+ghost use Rattle.std.specs.Prelude.{◌≡◌, ◌≢◌, ◌≤◌, ◌+◌, true, false, IfOk, OnOk, OnErr, IfErr, IfSome, IfNone, OnSome, IsTrue, IsFalse, Some, None, is_none, not, replicate, set, slice_index_or};
 ghost use Rattle.tc_entry.specs.declared.op.Op.TheVariants as ops;
 ghost use Rattle.tc_entry.specs.declared.reply.Reply.TheVariants as replies;
 ghost use Rattle.tc_table.specs.History as history;
 ghost use Rattle.tc_book.specs.declared.closed.CloseFault.TheVariants as faults;
 ghost use Rattle.tc_book.specs.Closing.{IsWhole, IsMerged, merged};
-ghost use Rattle.tc_book.specs.Inside.{is_closed, with_own, wakes};
+ghost use Rattle.tc_book.specs.Inside.{IsAwaitedIn, goes_on, is_closed, with_own, wakes};
 ghost use Rattle.tc_book.specs.OpenCase.{has_leave, has_wake, past_of, places_after, reply_to, with_entry, without_leave, without_wake};
 ghost use Rattle.tc_book.specs.Replies.{suits};
 ghost use Rattle.tc_book.specs.Report.{IsOneHistory};
 ghost use Rattle.tc_book.specs.Starts as starts;
 ghost use Rattle.tc_book.specs.Waking.{NobodyWakes, WouldPark};
-ghost use Rattle.tc_book.specs.declared.until.Until.TheVariants as untils;
 ghost use Rattle.tc_merge.specs.Merge.{is_verdict_call};
 ghost use Rattle.tc_board.specs.Hand.{answered};
 ghost use Rattle.tc_board.specs.declared.answer.Answer.TheVariants.{Met};
@@ -64,6 +63,20 @@ impl LoggedBook {
         }
     }
 
+    /// Whether a run waits on behind the lock; then it is noted what it waits for.
+    pub(crate) fn waits(&mut self, run: Run, until: Until) -> bool
+        ensures book { self.new.book ≡ self.old.book }
+        ensures waits { result ≡ not (goes_on self.old.book run until) }
+        ensures noted { IsTrue result → self.new.waiting.items ≡ set self.old.waiting.items run.0 (Some until) }
+        ensures goes_on { IsFalse result → self.new.waiting.items ≡ self.old.waiting.items }
+    {
+        let waits = !self.book.goes_on(run, until);
+        if waits {
+            self.note(run, Some(until));
+        }
+        waits
+    }
+
     /// Adds a call of the log's run to the history and to the log, with the places for its Wake and the Finish.
     /// Answers its reply, and whom to wake.
     pub(crate) fn call(&mut self, op: Op, log: &mut Log) -> Result<(Reply, WakeUp), NoMemory>
@@ -90,8 +103,7 @@ impl LoggedBook {
         Ok((reply, WakeUp::new(tells)))
     }
 
-    /// Adds the Wake of the parked wait of the log's run to the history and to the log, unless it would be parked again: then
-    /// the run waits for it.
+    /// Adds the Wake of the parked wait of the log's run to the history and to the log, unless it would be parked again.
     pub(crate) fn wake(
         &mut self,
         killed: bool,
@@ -101,7 +113,7 @@ impl LoggedBook {
         requires room { 1 ≤ log.old.room }
         ensures none { IfNone result (self.new.book ≡ self.old.book) }
         ensures none_logged { IfNone result (log.new ≡ log.old) }
-        ensures waits_on { IfNone result (self.new.waiting.items ≡ set self.old.waiting.items log.old.run.0 (Some (untils.Wake killed target))) }
+        ensures waits_still { IfNone result (self.new.waiting.items ≡ self.old.waiting.items) }
         ensures asleep { IfNone result (IsTrue (has_wake self.old.book log.old.run) → WouldPark self.old.book log.old.run killed target) }
         ensures waits_no_more { OnSome result (self.new.waiting.items ≡ set self.old.waiting.items log.old.run.0 None) }
         ensures behaviours { self.new.book.behaviours ≡ self.old.book.behaviours }
@@ -117,10 +129,7 @@ impl LoggedBook {
         ensures entries { IfSome result (λ r. log.new.entries ≡ with_own log.old (ops.Wake killed target) r.0) }
         ensures room { IfSome result (λ _. log.new.room + 1 ≡ log.old.room) }
     {
-        let Some((reply, tells)) = self.book.call_wake(log.run(), killed, target) else {
-            self.note(log.run(), Some(Until::Wake { killed, target }));
-            return None;
-        };
+        let (reply, tells) = self.book.call_wake(log.run(), killed, target)?;
         self.note(log.run(), None);
         log.add(Op::Wake { killed, target }, reply);
         Some((reply, WakeUp::new(tells)))
@@ -173,7 +182,7 @@ impl LoggedBook {
     }
 
     /// What one that waits for a run's start is answered: its start, once its hand has met its word, or none where the case is
-    /// over without. Nothing while it waits on for its start.
+    /// over without. Nothing before that.
     pub(crate) fn start_or_end(
         &mut self,
         run: Run,
@@ -182,10 +191,10 @@ impl LoggedBook {
         ensures book { self.new.book ≡ self.old.book }
         ensures waits { IfNone result (starts.start_of (past_of self.old.book) run.0 ≡ None → history.is_over (past_of self.old.book) ≡ false) }
         ensures unmet { IfNone result (hand.new ≡ hand.old) }
-        ensures waits_on { IfNone result (self.new.waiting.items ≡ set self.old.waiting.items run.0 (Some untils.Start)) }
+        ensures waits_still { IfNone result (self.new.waiting.items ≡ self.old.waiting.items) }
         ensures waits_no_more { OnSome result (self.new.waiting.items ≡ set self.old.waiting.items run.0 None) }
         ensures met { IfSome result (λ s. OnSome s (hand.new ≡ answered hand.old Met)) }
-        ensures answers { IfSome result (λ s. starts.IsAwaitedIn self.old.book.behaviours (past_of self.old.book) run.0 s) }
+        ensures answers { IfSome result (λ s. IsAwaitedIn self.old.book.behaviours (past_of self.old.book) run.0 s) }
     {
         let start = self.book.start_of(run);
         let goes_on = if start.is_some() {
@@ -197,7 +206,6 @@ impl LoggedBook {
             self.note(run, None);
             Some(start)
         } else {
-            self.note(run, Some(Until::Start));
             None
         }
     }

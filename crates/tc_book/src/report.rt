@@ -1,5 +1,5 @@
 //! The report of a case whose runs came back whole.
-ghost use Rattle.std.specs.Prelude.{◌≡◌, ◌<◌, ◌≤◌, ◌++◌, true, IfOk, OnOk, List, length, map, reverse};
+ghost use Rattle.std.specs.Prelude.{◌≡◌, ◌<◌, ◌≤◌, ◌++◌, true, IfOk, OnOk, List, filter, length, map, reverse};
 ghost use Rattle.tc_entry.specs.declared.limits.TheConstants.{BEHAVIOURS};
 ghost use Rattle.tc_table.specs.History.{comps, is_over};
 ghost use Rattle.tc_table.specs.Faults.{components};
@@ -7,6 +7,7 @@ ghost use Rattle.tc_table.specs.Standing.{StandsFor};
 ghost use Rattle.tc_entry.specs.declared.entry.Entry.{Entry as AnyEntry};
 ghost use Rattle.tc_table.specs.Legal.{IsLegal};
 ghost use Rattle.tc_table.specs.Local as verdicts;
+ghost use Rattle.tc_merge.specs.Merge.{is_other, merge};
 ghost use Rattle.tc_book.specs.Inside.{KnowsStarts, KnowsParts, logs_from};
 ghost use Rattle.tc_book.specs.Parts.{log_of, logs_below, logged};
 ghost use Rattle.tc_book.specs.Report.{IsOneHistory};
@@ -90,6 +91,7 @@ pub(crate) fn report(
     requires starts { KnowsStarts starts.now (reverse history.items) }
     requires parts { KnowsParts parts.items history.items }
     requires over { is_over (reverse history.items) ≡ true }
+    requires merged { history.items ≡ merge (filter is_other history.items) (logs_below history.items (length parts.items)) }
     requires as_long { length history.items ≡ logged (logs_below history.items (length parts.items)) }
     ensures behaviours { IfOk result (λ c. c.behaviours ≡ state.now.behaviours) }
     ensures history { IfOk result (λ c. c.history ≡ history.items) }

@@ -67,7 +67,7 @@ impl RunHand {
     }
 
     /// Gets the verdict in the word of the run, in one step, as a reply.
-    #[tactic(auto, using(crate::proofs::Handed::found_given))]
+    #[tactic(auto, using(crate::proofs::Handed::found_given, crate::proofs::Handed::found_suits))]
     pub(crate) fn get(&mut self) -> Reply
         requires met { self.old.answers ≢ [] }
         ensures answer { Says ops.GetVerdict result self.old self.new }

@@ -1,12 +1,13 @@
 //! The lock and the conditions of a case: each entry but those of verdict calls is added in one hold.
-ghost use Rattle.std.specs.Prelude.{◌≡◌, ◌≢◌, ◌≤◌, ◌+◌, true, false, IfOk, OnOk, OnErr, IfSome, IfNone, OnSome, is_none};
+ghost use Rattle.std.specs.Prelude.{◌≡◌, ◌≢◌, ◌≤◌, ◌+◌, true, false, IfOk, OnOk, OnErr, IfSome, IfNone, OnSome, IsTrue, is_none};
 ghost use Rattle.tc_entry.specs.declared.op.Op.TheVariants as ops;
 ghost use Rattle.tc_entry.specs.declared.reply.Reply.TheVariants as replies;
 ghost use Rattle.tc_book.specs.Replies.{suits};
 ghost use Rattle.tc_book.specs.Closing.{IsWhole};
 ghost use Rattle.tc_book.specs.Report.{IsOneHistory};
-ghost use Rattle.tc_book.specs.Inside.{is_closed, with_own};
-ghost use Rattle.tc_book.specs.Starts.{IsAwaited};
+ghost use Rattle.tc_book.specs.Inside.{goes_on, is_closed, with_own};
+ghost use Rattle.std.specs.Sync.Mutex.{mutex_guard_value};
+ghost use Rattle.tc_book.specs.OpenCase.{has_leave};
 ghost use Rattle.tc_merge.specs.Merge.{is_verdict_call};
 ghost use Rattle.tc_board.specs.Hand.{answered};
 ghost use Rattle.tc_board.specs.declared.answer.Answer.TheVariants.{Met};
@@ -18,8 +19,10 @@ use crate::left::Left;
 use crate::log::Log;
 use crate::logged_book::LoggedBook;
 use crate::run_hand::RunHand;
+use crate::until::Until;
 use std::alloc::{AllocError, Global};
-use std::sync::{Arc, Mutex, Wait};
+use std::marker::Model;
+use std::sync::{Arc, Mutex, MutexGuard, Wait};
 use tc_entry::{Args, Comp, Op, Reply, Target};
 use tc_verdict::{NoMemory, Run};
 
@@ -27,6 +30,31 @@ use tc_verdict::{NoMemory, Run};
 struct Held {
     book: Mutex<LoggedBook>,
     changed: Conditions,
+}
+
+/// A look at the book of a case, which nobody changes meanwhile. Contracts see the book.
+#[derive(Drop)]
+pub struct Look<'b> {
+    book: MutexGuard<'b, LoggedBook>,
+}
+
+impl<'b> Model for Look<'b> {
+    ghost use Rattle.std.specs.Sync.Mutex.{mutex_guard_value};
+    ghost use Rattle.tc_book.specs.OpenCase.{OpenCase};
+
+    ghost Value = { OpenCase };
+
+    ghost view = { λ l. (mutex_guard_value l.book).book };
+}
+
+impl Look<'_> {
+    /// Whether a place in the history is still kept for the leaving of a run: until its behaviour has left, or its ticket
+    /// has found the case over.
+    pub fn has_place(&self, run: Run) -> bool
+        ensures { result ≡ has_leave self.now run }
+    {
+        self.book.has_place(run)
+    }
 }
 
 /// A shared owner of a case's book.
@@ -54,6 +82,22 @@ impl Shared {
             Ok(held) => Ok(Shared { held }),
             Err(AllocError) => Err(NoMemory),
         }
+    }
+
+    /// The book, once the run goes on that waits for this.
+    fn wait<R: Wait>(&self, rt: &R, run: Run, until: Until) -> MutexGuard<'_, LoggedBook>
+        ensures { IsTrue (goes_on (mutex_guard_value result).book run until) }
+    {
+        let book = self.held.book.lock(rt);
+        let changed = self.held.changed.of(run);
+        changed.wait_while(rt, book, |book| book.waits(run, until))
+    }
+
+    /// Waits for ever: what would let go on can't come.
+    fn stay<R: Wait>(&self, rt: &R, book: MutexGuard<'_, LoggedBook>)
+        ensures { ⊥ }
+    {
+        self.held.changed.never().wait_while(rt, book, |_| true);
     }
 
     /// Records a call of the log's run in the history and in the log, and tells each run that may go on by it.
@@ -84,15 +128,13 @@ impl Shared {
         ensures entries { log.new.entries ≡ with_own log.old (ops.Wake killed target) result }
         ensures room { log.new.room + 1 ≡ log.old.room }
     {
-        let mut book = self.held.book.lock(rt);
-        for _ in rt.forever() {
-            if let Some((reply, wake_up)) = book.wake(killed, target, log) {
-                wake_up.give(&self.held.changed, &book);
-                return reply;
-            }
-            book = self.held.changed.of(log.run()).wait(rt, book);
-        }
-        unreachable!()
+        let mut book = self.wait(rt, log.run(), Until::Wake { killed, target });
+        let Some((reply, wake_up)) = book.wake(killed, target, log) else {
+            self.stay(rt, book);
+            unreachable!()
+        };
+        wake_up.give(&self.held.changed, &book);
+        reply
     }
 
     /// Gives up the place of the log's run, and records its Finish where the run has not ended.
@@ -106,24 +148,19 @@ impl Shared {
         ensures entries { IfSome result (λ r. log.new.entries ≡ with_own log.old ops.Finish r) }
     {
         let mut book = self.held.book.lock(rt);
-        for _ in rt.forever() {
-            if let Some((finish, wake_up)) = book.leave(log) {
-                wake_up.give(&self.held.changed, &book);
-                return finish;
-            }
-            book = self.held.changed.never().wait(rt, book);
-        }
-        unreachable!()
+        let Some((finish, wake_up)) = book.leave(log) else {
+            self.stay(rt, book);
+            unreachable!()
+        };
+        wake_up.give(&self.held.changed, &book);
+        finish
     }
 
     /// Gives up the place of a run that was never started.
     pub(crate) fn give_up<R: Wait>(&self, rt: &R, run: Run) {
         let mut book = self.held.book.lock(rt);
-        for _ in rt.forever() {
-            if book.give_up(run) {
-                return;
-            }
-            book = self.held.changed.never().wait(rt, book);
+        if !book.give_up(run) {
+            self.stay(rt, book);
         }
     }
 
@@ -134,23 +171,21 @@ impl Shared {
         run: Run,
         hand: &mut RunHand,
     ) -> Option<(Comp, Args)>
-        ensures start { IsAwaited run.0 result }
         ensures met { OnSome result (hand.new ≡ answered hand.old Met) }
     {
-        let mut book = self.held.book.lock(rt);
-        for _ in rt.forever() {
-            if let Some(start) = book.start_or_end(run, hand) {
-                return start;
-            }
-            book = self.held.changed.of(run).wait(rt, book);
-        }
-        unreachable!()
+        let mut book = self.wait(rt, run, Until::Start);
+        let Some(start) = book.start_or_end(run, hand) else {
+            self.stay(rt, book);
+            unreachable!()
+        };
+        start
     }
 
-    /// Whether a place in the history is still kept for the leaving of a run: until its behaviour has left, or its ticket
-    /// has found the case over. Where other threads are at work it may be given up right after the answer.
-    pub fn has_place<R: Wait>(&self, rt: &R, run: Run) -> bool {
-        self.held.book.lock(rt).has_place(run)
+    /// A look at the book, which is locked until the look is let go.
+    pub fn look<R: Wait>(&self, rt: &R) -> Look<'_> {
+        Look {
+            book: self.held.book.lock(rt),
+        }
     }
 
     /// Closes the case.

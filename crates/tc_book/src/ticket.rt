@@ -1,7 +1,6 @@
 //! The ticket of a run that is not yet started.
-ghost use Rattle.std.specs.Prelude.{◌≡◌, ◌<◌, [], Some, None, IfOk, IfErr};
+ghost use Rattle.std.specs.Prelude.{◌≡◌, ◌<◌, [], None, IfOk, IfErr};
 ghost use Rattle.std.specs.Vec.{vec_len, vec_capacity};
-ghost use Rattle.tc_book.specs.Starts.{IsAwaited};
 
 use crate::left::Left;
 use crate::log::Log;
@@ -59,12 +58,11 @@ impl Ticket {
         self.run
     }
 
-    /// The pass of the run once it was started, or what it leaves once the case is over without.
+    /// The pass of the run once it was started, or what it leaves once the case is over without. Which of them it is, and what the
+    /// pass was started with, is said of the book behind the lock alone.
     pub fn await_start<R: Wait>(self, rt: &R) -> Result<Pass, Left>
         ensures pass { IfOk result (λ p. (p.run ≡ self) × (p.log ≡ [])) }
         ensures above { IfOk result (λ p. 0 < p.run.0) }
-        ensures started { IfOk result (λ p. IsAwaited p.run.0 (Some (p.me, p.args))) }
-        ensures never_started { IfErr result (λ l. IsAwaited l.run.0 None) }
         ensures left { IfErr result (λ l. l ≡ record { run = self; log = []; started = None }) }
     {
         let Ticket {

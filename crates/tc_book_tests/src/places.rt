@@ -6,7 +6,7 @@ use tc_book::Shared;
 use tc_entry::Run;
 
 fn has_place<R: Wait>(rt: &R, shared: &Shared, run: u16) -> bool {
-    shared.has_place(rt, Run(run))
+    shared.look(rt).has_place(Run(run))
 }
 
 /// Which of the runs 0 to 4 have a place.

@@ -1,5 +1,6 @@
 -- The run of a campaign with its observer, case by case.
-use Rattle.std.proofs.Common.{ℕ, ◌≡◌, ◌++◌, ◌∷◌, [], Bool, Option, Some, None, List, map, length, refl, subst, sym, ap}
+use Rattle.std.proofs.Common.{ℕ, ◌≡◌, ◌∙◌, ◌++◌, ◌∷◌, [], Bool, Option, Some, None, List, map, length, refl, subst, sym, ap}
+use Rattle.std.specs.Prelude.{IfSome, slice_get}
 use Rattle.std.proofs.lemmas.List.Elements.{All-nil}
 use Rattle.tc_verdict.specs.declared.verdict.Verdict.{Verdict}
 use Rattle.tc_book.specs.Passes.{PassState}
@@ -12,8 +13,9 @@ use Rattle.tc_report.proofs.Observing.{taken_more}
 use Rattle.tc_campaign.specs.declared.case.Case.{Case}
 use Rattle.tc_campaign.specs.declared.step.Step.TheVariants as S
 use Rattle.tc_campaign.specs.Outline.{outline_of}
-use Rattle.tc_campaign.specs.Campaign.{HasThreads, IsCalled}
-use Rattle.tc_campaign.specs.Inside.{IsGoing, IsSoFar, IsStep, WasRun}
+use Rattle.tc_campaign.specs.Campaign.{HasThreads, IsCalled, IsRefusal, IsTorn}
+use Rattle.tc_campaign.specs.Inside.{IsGoing, IsOf, IsSoFar, IsStep, WasRun}
+use Rattle.tc_campaign.proofs.Places.{slice_get-behind}
 use Rattle.tc_campaign.proofs.Running.{done_begin, done_more, done_none, run_aborted, run_complete, run_cut, run_stopped, so_far_more, so_far_none, threads_more}
 
 module _ {B O : Type 0} (outcome : B → PassState → Back → Type 0) (takes : O → Finished → O → Bool → Type 0)
@@ -45,16 +47,27 @@ module _ {B O : Type 0} (outcome : B → PassState → Back → Type 0) (takes :
       run = run_stopped _ _ _ _ _ going.finished step.0 ending going.so (ap (map outline_of) at) step.1.is step.2;
       called = done_begin _ _ _ _ (done_more (IsCalled outcome) cases left c rest going.finished step.0 _ going.called at step.1.called refl);
       threads_are = threads_more threads going.finished step.0 _ going.threads_are step.1.threads_are refl;
+      why = rw step.2.0 tt;
+      torn = rw step.2.0 tt;
       given = taken_more takes going.finished step.0 before between after going.taken step.3;
     }
+
+    outline_next : slice_get (map outline_of cases) (length going.finished) ≡ Some (outline_of c)
+    outline_next =
+        slice_get-behind IsOf (map outline_of cases) going.so.done (map outline_of left) going.finished going.so.prefix going.so.each ∙ ap (λ l. slice_get (map outline_of l) 0) at
+
+    case_next : slice_get cases (length going.finished) ≡ Some c
+    case_next = slice_get-behind (IsCalled outcome) cases going.called.done left going.finished going.called.prefix going.called.each ∙ ap (λ l. slice_get l 0) at
 
     pub was_refused : (ending : CampaignEnd) → IsStep outcome takes stop_on threads c between after (S.Refused ending)
         → WasRun outcome takes stop_on threads cases before after (Some ending)
     was_refused ending step = record {
       finished = going.finished;
-      run = run_aborted _ _ _ _ _ going.finished ending going.so (ap (map outline_of) at) step.0;
+      run = run_aborted _ _ _ _ _ going.finished ending going.so (ap (map outline_of) at) (record { why = step.0.why; aborted = step.0.aborted });
       called = done_begin _ _ _ _ going.called;
       threads_are = going.threads_are;
+      why = rw step.0.aborted (subst (λ o. IfSome o (IsRefusal threads step.0.why)) (sym outline_next) step.0.cause);
+      torn = rw step.0.aborted (subst (λ o. IfSome o (IsTorn outcome step.0.why)) (sym case_next) step.0.torn);
       given = subst (AreTaken takes going.finished before) (sym step.1) going.taken;
     }
 
@@ -64,6 +77,8 @@ module _ {B O : Type 0} (outcome : B → PassState → Back → Type 0) (takes :
       run = run_cut _ _ _ _ _ going.finished step.0 going.so (ap (map outline_of) at) step.1.is;
       called = done_begin _ _ _ _ (done_more (IsCalled outcome) cases left c rest going.finished step.0 _ going.called at step.1.called refl);
       threads_are = threads_more threads going.finished step.0 _ going.threads_are step.1.threads_are refl;
+      why = tt;
+      torn = tt;
       given = record { others = going.finished; last = step.0; all = refl; between = between; each = going.taken; at_last = step.2 };
     }
 
@@ -74,5 +89,7 @@ module _ {B O : Type 0} (outcome : B → PassState → Back → Type 0) (takes :
     run = run_complete outline_of _ _ _ _ going.so none;
     called = done_begin _ _ _ _ going.called;
     threads_are = going.threads_are;
+    why = tt;
+    torn = tt;
     given = going.taken;
   }

@@ -1,5 +1,5 @@
 -- What an observer keeps that has room for all test cases.
-use Rattle.std.proofs.Common.{ℕ, zero, suc, ◌≡◌, ◌∙◌, ◌<◌, ◌≤◌, ◌+◌, ◌++◌, ◌∷◌, [], Bool, true, false, List, Option, Some, None, Result, length, take, arith, sym, ap, subst, append_assoc}
+use Rattle.std.proofs.Common.{ℕ, zero, suc, ◌≡◌, ◌∙◌, ◌<◌, ◌≤◌, ◌+◌, ◌++◌, ◌∷◌, [], Bool, true, false, List, Option, Some, None, Result, length, take, arith, inl, sym, ap, subst, append_assoc}
 use Rattle.std.proofs.lemmas.List.{append-nil, length-append}
 use Rattle.std.proofs.lemmas.Slice.Zip.{AllZip-long}
 use Rattle.tc_verdict.specs.declared.verdict.Verdict.{Verdict}
@@ -11,7 +11,7 @@ use Rattle.tc_report.specs.declared.results.Finished.{Finished}
 use Rattle.tc_report.specs.Observers.{AreTaken, IsEndedAt}
 use Rattle.tc_report.specs.Progress.{IsToldBy, told_text}
 use Rattle.tc_campaign.specs.declared.case.Case.{Case}
-use Rattle.tc_campaign.specs.Campaign.{AreFinished, IsCalled, IsRunTo}
+use Rattle.tc_campaign.specs.Campaign.{AreFinished, IsCalled, IsKeptRun}
 use Rattle.tc_campaign.specs.Inside.{AreGivenTo, IsKept}
 
 take_short : {A : Type 0} (n : ℕ) (xs : List A) → length (take n xs) ≤ length xs
@@ -62,8 +62,10 @@ module _ {O : Type 0} (items : O → List Finished) (room : O → ℕ) where
         sym (kept.0 ∙ ap (λ l. l ++ finished) none)
 
     pub kept_run : (finished : List Finished) (ending : CampaignEnd) → AreGivenTo outcome Takes stop_on threads cases before after finished (Some ending)
-        → IsRunTo outcome cases stop_on threads (items after) ending
-    kept_run finished ending given = subst (λ fs. IsRunTo outcome cases stop_on threads fs ending) (all_are_kept finished ending given) given.0
+        → IsKeptRun outcome cases stop_on threads (items after) ending
+    kept_run finished ending given =
+        let run = given.0 in
+        subst (λ fs. IsKeptRun outcome cases stop_on threads fs ending) (all_are_kept finished ending given) (record { each = run.each; last = run.last; why = inl run.why; torn = run.torn })
 
     -- and what is told is told of them
     pub kept_told : (finished : List Finished) (ending : CampaignEnd) → AreGivenTo outcome Takes stop_on threads cases before after finished (Some ending)

@@ -11,7 +11,7 @@ use Rattle.tc_report.specs.declared.results.Finished.{Finished}
 use Rattle.tc_campaign.specs.declared.case.Case.{Case}
 use Rattle.tc_campaign.specs.Stopping.{IsBetter, IsMet}
 use Rattle.tc_campaign.specs.Outline.{Outline, HasNames, outline_of}
-use Rattle.tc_campaign.specs.Campaign.{AreFinished, HasBehaviours, IsCutShort, IsEnding, IsNamed, IsObserved, IsOfCase, IsReported, IsRefusal, IsWhy}
+use Rattle.tc_campaign.specs.Campaign.{AreFinished, HasBehaviours, IsCutShort, IsEnding, IsNamed, IsObserved, IsOfCase, IsReported}
 use Rattle.tc_campaign.specs.Inside.{IsOf, IsSoFar, IsRun, WasRun}
 use Rattle.tc_campaign.specs.Inside.IsRun.{complete, aborted, stopped, cut}
 use Rattle.tc_campaign.proofs.Places.{AllZip-pushed, AllZip-weaker, AllZip-begin, slice_get-behind, take-front, slice_get-last, All-slice_get}
@@ -48,11 +48,6 @@ ends_so cases stop_on finished ending (aborted _ c left _ so refused) =
     rw refused.aborted (last_better cases stop_on (c ∷ left) finished so, subst (λ o. IsSomeAnd o (λ d. c.name ≡ d.name)) (next_is cases stop_on (c ∷ left) finished so) refl)
 ends_so cases stop_on _ _ (stopped finished f c left so is met) =
     subst (λ o. IsSomeAnd o (λ g. (f.name ≡ g.name) × IsMet stop_on g.report.verdict)) (sym (slice_get-last finished f)) (refl, met)
-
-why_so : (cases : List Outline) (stop_on : Option Verdict) (finished : List Finished) (ending : CampaignEnd) → IsRun cases stop_on finished (Some ending) → IsWhy (slice_get cases (length finished)) ending
-why_so cases stop_on finished _ (complete _ so) = tt
-why_so cases stop_on finished ending (aborted _ c left _ so refused) = rw refused.aborted (subst (λ o. IfSome o (IsRefusal refused.why)) (next_is cases stop_on (c ∷ left) finished so) refused.cause)
-why_so cases stop_on _ _ (stopped finished f c left so is met) = tt
 
 -- as many names as jobs
 abbrev AreEven : Outline → Type 0
@@ -106,7 +101,8 @@ module _ {B O : Type 0} (outcome : B → PassState → Back → Type 0) (takes :
     run = record {
       each = are_finished (Some ending) was;
       last = ends_so (map outline_of cases) stop_on was.finished ending was.run;
-      why = why_so (map outline_of cases) stop_on was.finished ending was.run;
+      why = was.why;
+      torn = was.torn;
     };
     taken = was.given;
   }

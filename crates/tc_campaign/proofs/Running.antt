@@ -10,7 +10,7 @@ use Rattle.tc_report.specs.declared.results.CampaignEnd.TheVariants as E
 use Rattle.tc_report.specs.declared.results.Finished.{Finished}
 use Rattle.tc_campaign.specs.Stopping.{IsBetter, IsMet}
 use Rattle.tc_campaign.specs.Outline.{Outline}
-use Rattle.tc_campaign.specs.Inside.{AreDone, IsOf, IsRefused, IsSoFar, IsRun, IsUnrun}
+use Rattle.tc_campaign.specs.Inside.{AreDone, IsAbortedAt, IsOf, IsSoFar, IsRun, IsUnrun}
 use Rattle.tc_campaign.specs.Inside.IsRun.{complete, aborted, stopped, cut}
 use Rattle.tc_campaign.proofs.Places.{AllZip-pushed, AllZip-begin}
 
@@ -50,7 +50,7 @@ so_far_more cases stop_on left c rest finished f now so at is better added = rw 
 })
 
 pub run_aborted : (cases : List Outline) (stop_on : Option Verdict) (left : List Outline) (c : Outline) (rest : List Outline) (finished : List Finished) (ending : CampaignEnd)
-    → IsSoFar cases stop_on left finished → left ≡ c ∷ rest → IsRefused c ending → IsRun cases stop_on finished (Some ending)
+    → IsSoFar cases stop_on left finished → left ≡ c ∷ rest → IsAbortedAt c ending → IsRun cases stop_on finished (Some ending)
 run_aborted cases stop_on left c rest finished ending so at refused = aborted finished c rest ending (next_up cases stop_on left c rest finished so at) refused
 
 pub run_stopped : (cases : List Outline) (stop_on : Option Verdict) (left : List Outline) (c : Outline) (rest : List Outline) (finished : List Finished) (f : Finished) (ending : CampaignEnd)
@@ -68,4 +68,4 @@ run_complete f cases stop_on (x ∷ left) finished so none = absurd (omega arith
 
 pub run_none : (cases : List Outline) (stop_on : Option Verdict) (ending : CampaignEnd) → IsUnrun cases ending → IsRun cases stop_on [] (Some ending)
 run_none [] stop_on ending is = rw is (complete [] (so_far_none [] stop_on))
-run_none (c ∷ left) stop_on ending is = aborted [] c left ending (so_far_none (c ∷ left) stop_on) (record { why = C.NoMemory; aborted = is; cause = tt })
+run_none (c ∷ left) stop_on ending is = aborted [] c left ending (so_far_none (c ∷ left) stop_on) (record { why = C.NoMemory; aborted = is })

@@ -1,5 +1,5 @@
 -- What was told of a campaign.
-use Rattle.std.proofs.Common.{ℕ, ◌≡◌, List, [], ◌∷◌, Bool, Option, Some, None, Result, refl, sym, subst, map}
+use Rattle.std.proofs.Common.{ℕ, ◌≡◌, List, [], ◌∷◌, Bool, Option, Some, None, Result, inl, inr, refl, sym, subst, map}
 use Rattle.std.specs.Borrow.{GName}
 use Rattle.tc_verdict.specs.declared.verdict.Verdict.{Verdict}
 use Rattle.tc_book.specs.Passes.{PassState}
@@ -12,7 +12,7 @@ use Rattle.tc_report.specs.Progress.{EndsTelling, state_of}
 use Rattle.tc_report.proofs.Telling.{AreSame, HasTold, Takes, all_told, ended_told, none_told, told_at_end}
 use Rattle.std.specs.Prelude.{IfNone, IfSome}
 use Rattle.tc_campaign.specs.declared.case.Case.{Case}
-use Rattle.tc_campaign.specs.Campaign.{IsCutShort, IsObserved, IsRunTo}
+use Rattle.tc_campaign.specs.Campaign.{IsCutShort, IsObserved, IsKeptRun}
 use Rattle.tc_campaign.specs.Inside.{IsUnrun, WasTold}
 use Rattle.tc_campaign.specs.Outline.{outline_of}
 use Rattle.tc_campaign.proofs.Pieces.{none_finished}
@@ -85,9 +85,9 @@ module _ {B O E : Type 0} (outcome : B → PassState → Back → Type 0) (cases
 module _ {B : Type 0} (outcome : B → PassState → Back → Type 0) (cases : List (Case B)) (stop_on : Option Verdict) (threads : ℕ) where
   -- a campaign that was not run for want of room
   pub unrun_run : (finished : List Finished) (ending : CampaignEnd) → finished ≡ [] → IsUnrun (map outline_of cases) ending
-      → IsRunTo outcome cases stop_on threads finished ending
-  unrun_run finished ending none is = subst (λ fs. IsRunTo outcome cases stop_on threads fs ending) (sym none) (go cases is)
+      → IsKeptRun outcome cases stop_on threads finished ending
+  unrun_run finished ending none is = subst (λ fs. IsKeptRun outcome cases stop_on threads fs ending) (sym none) (go cases is)
     where
-      go : (cs : List (Case B)) → IsUnrun (map outline_of cs) ending → IsRunTo outcome cs stop_on threads [] ending
-      go [] is = rw is (record { each = none_finished outcome [] stop_on threads; last = (tt, refl); why = tt })
-      go (c ∷ cs) is = rw is (record { each = none_finished outcome (c ∷ cs) stop_on threads; last = (tt, refl); why = tt })
+      go : (cs : List (Case B)) → IsUnrun (map outline_of cs) ending → IsKeptRun outcome cs stop_on threads [] ending
+      go [] is = rw is (record { each = none_finished outcome [] stop_on threads; last = (tt, refl); why = inl tt; torn = tt })
+      go (c ∷ cs) is = rw is (record { each = none_finished outcome (c ∷ cs) stop_on threads; last = (tt, refl); why = inr (refl, refl); torn = tt })

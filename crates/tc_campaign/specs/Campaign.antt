@@ -1,5 +1,5 @@
 -- Right results of a campaign.
-use Rattle.std.specs.Prelude.{ℕ, ◌≡◌, ◌<◌, ◌≤◌, ◌+◌, ◌-◌, ⊤, Bool, Option, List, All, IfSome, IsNone, IsSomeAnd, length, map, take, slice_get}
+use Rattle.std.specs.Prelude.{ℕ, ◌≡◌, ◌<◌, ◌≤◌, ◌+◌, ◌-◌, ◌⊎◌, ⊤, Bool, Option, List, [], All, IfSome, IsNone, IsSomeAnd, length, map, take, slice_get}
 use Rattle.std.specs.List.{AllZip}
 use Rattle.tc_entry.specs.Limits.{IsBehaviours}
 use Rattle.tc_entry.specs.declared.limits.TheConstants.{BEHAVIOURS}
@@ -8,7 +8,7 @@ use Rattle.tc_book.specs.Passes.{PassState}
 use Rattle.tc_exec.specs.declared.refusal.CaseError.{CaseError}
 use Rattle.tc_exec.specs.declared.refusal.CaseError.TheVariants as C
 use Rattle.tc_exec.specs.declared.job.Back.{Back}
-use Rattle.tc_exec.specs.Case.{IsCaseReport, AreCalled, IsMadeOf}
+use Rattle.tc_exec.specs.Case.{IsCaseReport, AreCalled, IsHandedBack, IsMadeOf}
 use Rattle.tc_report.specs.declared.results.CampaignEnd.{CampaignEnd}
 use Rattle.tc_report.specs.declared.results.CampaignEnd.TheVariants as E
 use Rattle.tc_report.specs.declared.results.Finished.{Finished}
@@ -60,18 +60,36 @@ pub record IsRight (cases : List Outline) (stop_on : Option Verdict) (r : Result
 abbrev pub HasThreads : ℕ → Finished → Type 0
 HasThreads threads f = f.report.behaviours ≤ threads + 1
 
--- this case can be refused so
-abbrev pub IsRefusal : CaseError → Outline → Type 0
-IsRefusal C.NoBehaviours c = c.jobs ≡ 0
-IsRefusal C.TooManyBehaviours c = BEHAVIOURS < c.jobs
-IsRefusal C.NoThread c = (1 < c.jobs) × (c.jobs ≤ BEHAVIOURS)
-IsRefusal C.Torn c = IsBehaviours c.jobs
-IsRefusal C.NoMemory c = ⊤
+-- this case may be run with so many worker threads
+abbrev pub MayRun : ℕ → Outline → Type 0
+MayRun threads c = IsBehaviours c.jobs × (c.jobs ≤ threads + 1)
 
--- where the campaign was aborted, the next case can be refused so
-abbrev pub IsWhy : Option Outline → CampaignEnd → Type 0
-IsWhy next (E.Aborted name why) = IfSome next (IsRefusal why)
-IsWhy next ending = ⊤
+-- a run of this case with so many worker threads can be refused so: where they are too few for 1 to 256 behaviours, by NoThread alone
+abbrev pub IsRefusal : ℕ → CaseError → Outline → Type 0
+IsRefusal threads C.NoBehaviours c = c.jobs ≡ 0
+IsRefusal threads C.TooManyBehaviours c = BEHAVIOURS < c.jobs
+IsRefusal threads C.NoThread c = (1 < c.jobs) × (c.jobs ≤ BEHAVIOURS)
+IsRefusal threads C.Torn c = MayRun threads c
+IsRefusal threads C.NoMemory c = MayRun threads c
+
+-- where a run of this case is refused for what its jobs handed back, each was called, was not refused memory, and handed it back
+abbrev pub IsTorn : {B : Type 0} → (B → PassState → Back → Type 0) → CaseError → Case B → Type 0
+IsTorn outcome C.Torn c = IsHandedBack outcome c.jobs.items
+IsTorn outcome why c = ⊤
+
+-- where the campaign was aborted, a run of the next case can be refused so
+abbrev pub IsWhy : ℕ → Option Outline → CampaignEnd → Type 0
+IsWhy threads next (E.Aborted name why) = IfSome next (IsRefusal threads why)
+IsWhy threads next ending = ⊤
+
+abbrev pub IsTornAt : {B : Type 0} → (B → PassState → Back → Type 0) → Option (Case B) → CampaignEnd → Type 0
+IsTornAt outcome next (E.Aborted name why) = IfSome next (IsTorn outcome why)
+IsTornAt outcome next ending = ⊤
+
+-- the campaign was aborted for want of room for its reports, and none of its cases was run
+abbrev pub IsWithoutRoom : List Finished → CampaignEnd → Type 0
+IsWithoutRoom finished (E.Aborted name why) = (finished ≡ []) × (why ≡ C.NoMemory)
+IsWithoutRoom finished ending = ⊥
 
 module _ {B : Type 0} (outcome : B → PassState → Back → Type 0) (cases : List (Case B)) (stop_on : Option Verdict) (threads : ℕ) where
   -- these test cases were finished, of a beginning of the list, and none of them but the last ended the campaign
@@ -91,7 +109,15 @@ module _ {B : Type 0} (outcome : B → PassState → Back → Type 0) (cases : L
   pub record IsRunTo (finished : List Finished) (ending : CampaignEnd) : Type 0 where
     pub each : AreFinished finished
     pub last : IsEnding stop_on (slice_get finished (length finished - 1)) (slice_get (map outline_of cases) (length finished)) ending
-    pub why : IsWhy (slice_get (map outline_of cases) (length finished)) ending
+    pub why : IsWhy threads (slice_get (map outline_of cases) (length finished)) ending
+    pub torn : IsTornAt outcome (slice_get cases (length finished)) ending
+
+  -- the same of a campaign that keeps its reports, and has made room for all of them before the first case was run
+  pub record IsKeptRun (finished : List Finished) (ending : CampaignEnd) : Type 0 where
+    pub each : AreFinished finished
+    pub last : IsEnding stop_on (slice_get finished (length finished - 1)) (slice_get (map outline_of cases) (length finished)) ending
+    pub why : IsWhy threads (slice_get (map outline_of cases) (length finished)) ending ⊎ IsWithoutRoom finished ending
+    pub torn : IsTornAt outcome (slice_get cases (length finished)) ending
 
   module _ {O : Type 0} (takes : O → Finished → O → Bool → Type 0) (before after : O) where
     -- the campaign was run to this end, and the observer was given each finished test case

@@ -1,5 +1,5 @@
 -- What the functions inside of a campaign say, which no public clause names.
-use Rattle.std.specs.Prelude.{ℕ, ◌≡◌, ◌≤◌, ◌++◌, ◌∷◌, [], Option, Some, None, Bool, true, false, Result, Ok, Err, List, All, length, map, take}
+use Rattle.std.specs.Prelude.{ℕ, ◌≡◌, ◌≤◌, ◌++◌, ◌∷◌, [], Option, Some, None, Bool, true, false, Result, Ok, Err, List, All, IfSome, length, map, take, slice_get}
 use Rattle.tc_entry.specs.declared.limits.TheConstants.{BEHAVIOURS}
 use Rattle.tc_book.specs.declared.closed.Closed.{Closed}
 use Rattle.std.specs.List.{AllZip}
@@ -20,7 +20,7 @@ use Rattle.tc_campaign.specs.declared.step.Step.{Step}
 use Rattle.tc_campaign.specs.declared.step.Step.TheVariants as S
 use Rattle.tc_campaign.specs.Outline.{Outline, outline_of}
 use Rattle.tc_campaign.specs.Stopping.{IsBetter, IsMet}
-use Rattle.tc_campaign.specs.Campaign.{AreFinished, HasThreads, IsCalled, IsOfCase, IsRefusal, IsRunTo}
+use Rattle.tc_campaign.specs.Campaign.{AreFinished, HasThreads, IsCalled, IsOfCase, IsRefusal, IsRunTo, IsTorn, IsTornAt, IsWhy}
 
 -- a case was finished so
 pub record IsOf (c : Outline) (f : Finished) : Type 0 where
@@ -28,11 +28,17 @@ pub record IsOf (c : Outline) (f : Finished) : Type 0 where
   pub report : IsCaseReport (c.jobs) f.report
   pub few : (1 ≤ c.jobs) × (c.jobs ≤ BEHAVIOURS)
 
--- a case was refused so
-pub record IsRefused (c : Outline) (ending : CampaignEnd) : Type 0 where
+-- the campaign was aborted at this case
+pub record IsAbortedAt (c : Outline) (ending : CampaignEnd) : Type 0 where
   pub why : CaseError
   pub aborted : ending ≡ E.Aborted c.name why
-  pub cause : IsRefusal why c
+
+-- a run of this case was refused so
+pub record IsRefused {B : Type 0} (outcome : B → PassState → Back → Type 0) (threads : ℕ) (c : Case B) (ending : CampaignEnd) : Type 0 where
+  pub why : CaseError
+  pub aborted : ending ≡ E.Aborted c.name why
+  pub cause : IsRefusal threads why (outline_of c)
+  pub torn : IsTorn outcome why c
 
 -- what becomes of a case by the answer to its run
 abbrev pub ended_by : List ℕ → List (List ℕ) → Result Closed CaseError → Result Finished CampaignEnd
@@ -56,7 +62,7 @@ pub record IsSoFar (cases : List Outline) (stop_on : Option Verdict) (left : Lis
 pub data IsRun (cases : List Outline) (stop_on : Option Verdict) : List Finished → Option CampaignEnd → Type 0 where
   complete : (finished : List Finished) → IsSoFar cases stop_on [] finished → IsRun cases stop_on finished (Some E.Complete)
   aborted : (finished : List Finished) (c : Outline) (left : List Outline) (ending : CampaignEnd)
-      → IsSoFar cases stop_on (c ∷ left) finished → IsRefused c ending → IsRun cases stop_on finished (Some ending)
+      → IsSoFar cases stop_on (c ∷ left) finished → IsAbortedAt c ending → IsRun cases stop_on finished (Some ending)
   stopped : (finished : List Finished) (f : Finished) (c : Outline) (left : List Outline)
       → IsSoFar cases stop_on (c ∷ left) finished → IsOf c f → IsMet stop_on f.report.verdict
       → IsRun cases stop_on (finished ++ f ∷ []) (Some (E.StoppedAfter f.name))
@@ -88,7 +94,7 @@ module _ {B O : Type 0} (outcome : B → PassState → Back → Type 0) (takes :
   IsStep c before after S.GoesOn = (f : Finished) × IsFinished outcome threads c f × IsBetter stop_on f.report.verdict × takes before f after true
   IsStep c before after (S.Stops ending) =
       (f : Finished) × IsFinished outcome threads c f × ((ending ≡ E.StoppedAfter f.name) × IsMet stop_on f.report.verdict) × takes before f after true
-  IsStep c before after (S.Refused ending) = IsRefused (outline_of c) ending × (after ≡ before)
+  IsStep c before after (S.Refused ending) = IsRefused outcome threads c ending × (after ≡ before)
   IsStep c before after S.CutShort = (f : Finished) × IsFinished outcome threads c f × takes before f after false
 
   -- so far these test cases were finished and taken, each better than stop_on, and these are left
@@ -110,6 +116,8 @@ module _ {B O : Type 0} (outcome : B → PassState → Back → Type 0) (takes :
     pub run : IsRun (map outline_of cases) stop_on finished answer
     pub called : AllZip (IsCalled outcome) (take (length finished) cases) finished
     pub threads_are : All (HasThreads threads) finished
+    pub why : IfSome answer (IsWhy threads (slice_get (map outline_of cases) (length finished)))
+    pub torn : IfSome answer (IsTornAt outcome (slice_get cases (length finished)))
     pub given : IsGiven finished before after answer
 
   -- these test cases were finished and given to the observer; the campaign ended so, or the observer has ended it at the last of them

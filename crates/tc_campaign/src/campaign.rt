@@ -1,8 +1,8 @@
 //! The run of a campaign.
-ghost use Rattle.std.specs.Prelude.{◌≡◌, [], All, IfOk, IfErr, IfSome, IfNone, length, map, take, slice_get};
+ghost use Rattle.std.specs.Prelude.{◌≡◌, ◌⊎◌, [], All, IfOk, IfErr, IfSome, IfNone, length, map, take, slice_get};
 ghost use Rattle.std.specs.List.{AllZip};
 ghost use Rattle.tc_campaign.specs.Outline.{HasNames, outline_of};
-ghost use Rattle.tc_campaign.specs.Campaign.{HasBehaviours, HasThreads, IsCalled, IsCutShort, IsNamed, IsObserved, IsReported, IsRight, IsWhy};
+ghost use Rattle.tc_campaign.specs.Campaign.{HasBehaviours, HasThreads, IsCalled, IsCutShort, IsNamed, IsObserved, IsReported, IsRight, IsTornAt, IsWhy, IsWithoutRoom};
 ghost use Rattle.tc_campaign.specs.Inside.{IsOf, IsRefused, IsStep, IsUnrun, WasRun, ended_by};
 
 use crate::case::Case;
@@ -45,7 +45,7 @@ fn finish<R: Threads + Wait + Copy + Send + 'static, B: Callable>(
     threads: u16,
 ) -> Result<Finished, CampaignEnd>
     ensures finished { IfOk result (IsOf (outline_of case)) }
-    ensures refused { IfErr result (IsRefused (outline_of case)) }
+    ensures refused { IfErr result (IsRefused B.outcome threads case) }
     ensures called { IfOk result (IsCalled B.outcome case) }
     ensures threads { IfOk result (HasThreads threads) }
 {
@@ -167,7 +167,8 @@ pub fn run_campaign<R: Threads + Wait + Copy + Send + 'static, B: Callable>(
     ensures names { All IsNamed result.finished }
     ensures threads { All (HasThreads threads) result.finished }
     ensures behaviours { All HasBehaviours result.finished }
-    ensures why { IsWhy (slice_get (map outline_of cases.items) (length result.finished)) result.ending }
+    ensures why { IsWhy threads (slice_get (map outline_of cases.items) (length result.finished)) result.ending ⊎ IsWithoutRoom result.finished result.ending }
+    ensures torn { IsTornAt B.outcome (slice_get cases.items (length result.finished)) result.ending }
 {
     let plan = Plan {
         stop_on,

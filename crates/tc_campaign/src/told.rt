@@ -3,7 +3,7 @@ ghost use Rattle.std.specs.Prelude.{◌≡◌, ◌≤◌, [], All, None};
 ghost use Rattle.std.specs.Vec.{vec_len, vec_capacity};
 ghost use Rattle.tc_report.specs.Progress.{IsToldBy, told_text};
 ghost use Rattle.tc_campaign.specs.Outline.{HasNames};
-ghost use Rattle.tc_campaign.specs.Campaign.{IsRunTo};
+ghost use Rattle.tc_campaign.specs.Campaign.{IsKeptRun};
 ghost use Rattle.tc_campaign.specs.Inside.{WasTold};
 
 use crate::campaign::{run_campaign_with, without_room};
@@ -102,7 +102,7 @@ fn tell_all<R: Threads + Wait + Copy + Send + 'static, B: Callable, E: Write>(
     requires names { All HasNames cases.items }
     requires none { finished.items ≡ [] }
     requires room { vec_len cases ≤ vec_capacity finished }
-    ensures run { IsRunTo B.outcome cases.items plan.stop_on plan.threads result.results.finished result.results.ending }
+    ensures run { IsKeptRun B.outcome cases.items plan.stop_on plan.threads result.results.finished result.results.ending }
     ensures told { IsToldBy plan.tells (E.contents errors.old) (E.contents errors.new)
         (told_text plan.tells result.results.finished) result.told }
 {
@@ -131,7 +131,7 @@ pub fn run_campaign_told<R: Threads + Wait + Copy + Send + 'static, B: Callable,
     errors: &mut E,
 ) -> Told
     requires names { All HasNames cases.items }
-    ensures run { IsRunTo B.outcome cases.items plan.stop_on plan.threads result.results.finished result.results.ending }
+    ensures run { IsKeptRun B.outcome cases.items plan.stop_on plan.threads result.results.finished result.results.ending }
     ensures told { IsToldBy plan.tells (E.contents errors.old) (E.contents errors.new)
         (told_text plan.tells result.results.finished) result.told }
 {

@@ -1,5 +1,5 @@
 -- What comes of a campaign that was run.
-use Rattle.std.proofs.Common.{ℕ, ◌≡◌, ◌-◌, subst, ap, length, List, map, Option, Some, Result, Ok, Err, IfErr, sym}
+use Rattle.std.proofs.Common.{ℕ, ◌≡◌, ◌-◌, ◌⊎◌, subst, ap, length, List, map, Option, Some, Result, Ok, Err, IfErr, inl, sym}
 use Rattle.std.specs.Prelude.{IsErrAnd, slice_get, unwrap_or}
 use Rattle.tc_program.specs.declared.fault.RunFault.{RunFault}
 use Rattle.std.specs.Io.KnownBytes.{Appends}
@@ -20,11 +20,12 @@ use Rattle.tc_report.proofs.Telling.{told_is_prefix}
 use Rattle.tc_campaign.specs.declared.case.Case.{Case}
 use Rattle.tc_campaign.specs.declared.told.Plan.{Plan}
 use Rattle.tc_campaign.specs.Outline.{outline_of}
-use Rattle.tc_campaign.specs.Campaign.{AreFinished as AreRun, IsCalled, IsEnding, IsRunTo}
+use Rattle.tc_campaign.specs.Campaign.{AreFinished as AreRun, IsCalled, IsEnding, IsKeptRun, IsRunTo, IsWhy, IsWithoutRoom}
 use Rattle.tc_campaign.specs.Live.{IsWrittenAndTold}
 use Rattle.tc_program.specs.declared.outcome.Outcome.{Outcome}
 use Rattle.tc_command.specs.declared.task.RunOptions.{RunOptions}
 use Rattle.tc_program.specs.Give.{live_form, text_of}
+use Rattle.tc_program.specs.Limits.{worker_limit}
 use Rattle.tc_command.specs.declared.task.Form.{Form}
 use Rattle.tc_command.specs.declared.task.Form.TheVariants as Forms
 use Rattle.tc_report.specs.declared.form.Form.TheVariants as ReportForms
@@ -44,8 +45,8 @@ abbrev pub EndsTold : Option (List ℕ) → Option (List ℕ) → CampaignEnd �
 EndsTold between told ending telling answer =
     (line : Result (Unit {0}) RunFault) × IsTold between told (abort_text ending) line × (answer ≡ first_fault telling line)
 
-module _ {B : Type 0} (outcome : B → PassState → Back → Type 0) (cases : List (Case B)) (options : RunOptions) (plan : Plan) (threads : ℕ)
-    (is : plan ≡ record { stop_on = options.stop_on; threads = threads; tells = options.progress }) where
+module _ {B : Type 0} (outcome : B → PassState → Back → Type 0) (cases : List (Case B)) (options : RunOptions) (plan : Plan)
+    (is : plan ≡ record { stop_on = options.stop_on; threads = worker_limit; tells = options.progress }) where
   finished_of : (fs : List Finished) → AreRun outcome cases plan.stop_on plan.threads fs → AreFinished outline_of (IsCalled outcome) cases options.stop_on fs
   finished_of fs run =
       let each = subst (λ (p : Plan). AreRun outcome cases p.stop_on p.threads fs) is run in record {
@@ -57,11 +58,15 @@ module _ {B : Type 0} (outcome : B → PassState → Back → Type 0) (cases : L
         behaviours = each.behaviours;
       }
 
-  results_of : (r : Results) → IsRunTo outcome cases plan.stop_on plan.threads r.finished r.ending → AreResults outline_of (IsCalled outcome) cases options.stop_on r
+  kept_of : (finished : List Finished) (ending : CampaignEnd) → IsRunTo outcome cases plan.stop_on plan.threads finished ending
+      → IsKeptRun outcome cases plan.stop_on plan.threads finished ending
+  kept_of finished ending run = record { each = run.each; last = run.last; why = inl run.why; torn = run.torn }
+
+  results_of : (r : Results) → IsKeptRun outcome cases plan.stop_on plan.threads r.finished r.ending → AreResults outline_of (IsCalled outcome) cases options.stop_on r
   results_of r run = record {
     each = finished_of r.finished run.each;
     last = subst (λ (p : Plan). IsEnding p.stop_on (slice_get r.finished (length r.finished - 1)) (slice_get (map outline_of cases) (length r.finished)) r.ending) is run.last;
-    why = run.why;
+    why = subst (λ (p : Plan). IsWhy p.threads (slice_get (map outline_of cases) (length r.finished)) r.ending ⊎ IsWithoutRoom r.finished r.ending) is run.why;
   }
 
   told_so : (fs : List Finished) (before after : Option (List ℕ)) (line : Result (Unit {0}) OutFault)
@@ -70,7 +75,7 @@ module _ {B : Type 0} (outcome : B → PassState → Back → Type 0) (cases : L
 
   -- the results of a run were given, and what is to be told was
   pub whole_done : (streams : Streams) (between : Option (List ℕ)) (r : Results) (telling : Result (Unit {0}) OutFault) (ended : Outcome)
-      → IsRunTo outcome cases plan.stop_on plan.threads r.finished r.ending
+      → IsKeptRun outcome cases plan.stop_on plan.threads r.finished r.ending
       → IsToldBy plan.tells streams.untold between (told_text plan.tells r.finished) telling
       → ended.status ≡ results_status r → Appends streams.before streams.after (text_of options.form r)
       → EndsTold between streams.told r.ending telling ended.told → IsRun outline_of (IsCalled outcome) cases options streams ended
@@ -91,7 +96,7 @@ module _ {B : Type 0} (outcome : B → PassState → Back → Type 0) (cases : L
 
   -- the results of a run were not written whole
   pub whole_left : (streams : Streams) (r : Results) (telling : Result (Unit {0}) OutFault) (fault : OutFault) (answer : Result Outcome OutFault)
-      → IsErrAnd answer (λ f. f ≡ fault) → IsRunTo outcome cases plan.stop_on plan.threads r.finished r.ending
+      → IsErrAnd answer (λ f. f ≡ fault) → IsKeptRun outcome cases plan.stop_on plan.threads r.finished r.ending
       → IsToldBy plan.tells streams.untold streams.told (told_text plan.tells r.finished) telling
       → LeavesPrefix streams.before streams.after (text_of options.form r) fault
       → IfErr answer (IsUnwritten outline_of (IsCalled outcome) cases options streams)
@@ -113,7 +118,7 @@ module _ {B : Type 0} (outcome : B → PassState → Back → Type 0) (cases : L
     live_done streams between telling ending ended answer ok told line =
         let was = subst (λ a. IsWrittenAndTold outcome cases plan.stop_on plan.threads form streams.before streams.after plan.tells streams.untold between a telling) ok told in
         let r : Results = record { finished = was.finished; ending = ending } in
-        whole_done streams between r telling ended was.done.run was.told_of was.done.status_is
+        whole_done streams between r telling ended (kept_of was.finished ending was.done.run) was.told_of was.done.status_is
         (subst (λ t. Appends streams.before streams.after t) (live_text options.form form r same) was.done.written) line
 
     -- a run that was not written whole left a prefix

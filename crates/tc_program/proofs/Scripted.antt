@@ -1,5 +1,5 @@
 -- The results of the test cases that were made of a script are those of the script.
-use Rattle.std.proofs.Common.{ℕ, zero, suc, ◌≡◌, ◌∙◌, ◌-◌, Bool, true, false, List, [], ◌∷◌, Option, All, length, map, take, arith, refl, sym, ap, subst}
+use Rattle.std.proofs.Common.{ℕ, zero, suc, ◌≡◌, ◌∙◌, ◌-◌, ◌⊎◌, Bool, true, false, List, [], ◌∷◌, Option, All, length, map, take, arith, refl, sym, ap, subst}
 use Rattle.std.proofs.lemmas.List.{length-map}
 use Rattle.std.proofs.lemmas.List.Elements.{All-nil, All-cons, All-tail}
 use Rattle.std.specs.List.{AllZip}
@@ -20,8 +20,9 @@ use Rattle.tc_report.specs.declared.results.Finished.{Finished}
 use Rattle.tc_report.specs.declared.results.Results.{Results}
 use Rattle.tc_campaign.specs.declared.case.Case.{Case}
 use Rattle.tc_campaign.specs.Outline.{Outline, HasNames, outline_of}
-use Rattle.tc_campaign.specs.Campaign.{IsCalled, IsEnding, IsOfCase, IsReported, IsWhy}
+use Rattle.tc_campaign.specs.Campaign.{IsCalled, IsEnding, IsOfCase, IsReported, IsWhy, IsWithoutRoom}
 use Rattle.tc_program.specs.Give.{is_live}
+use Rattle.tc_program.specs.Limits.{worker_limit}
 use Rattle.tc_command.specs.declared.task.RunOptions.{RunOptions}
 use Rattle.tc_report.specs.declared.fault.OutFault.{OutFault}
 use Rattle.tc_program.specs.Fault.{line_of, of_output}
@@ -107,7 +108,7 @@ results cs ks stop_on r lawful each are =
     let same = outlines cs ks each in record {
       each = finished cs ks stop_on r.finished lawful each are.each;
       last = subst (λ os. IsEnding stop_on (slice_get r.finished (length r.finished - 1)) (slice_get os (length r.finished)) r.ending) same are.last;
-      why = subst (λ os. IsWhy (slice_get os (length r.finished)) r.ending) same are.why;
+      why = subst (λ os. IsWhy worker_limit (slice_get os (length r.finished)) r.ending ⊎ IsWithoutRoom r.finished r.ending) same are.why;
     }
 
 module _ (o : RunOptions) (text : List ℕ) (cs : List CaseView) (ks : List (Case ScriptView)) (chosen : AreChosen o.choice text cs) (lawful : All (λ c. IsCase c.1) cs)

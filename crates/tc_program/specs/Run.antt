@@ -1,11 +1,11 @@
 -- The run of a campaign, and what is written of it.
-use Rattle.std.specs.Prelude.{ℕ, ◌≡◌, ◌-◌, Bool, List, All, Option, Result, Ok, Err, length, map, take, slice_get}
+use Rattle.std.specs.Prelude.{ℕ, ◌≡◌, ◌-◌, ◌⊎◌, Bool, List, All, Option, Result, Ok, Err, length, map, take, slice_get}
 use Rattle.std.specs.List.{AllZip}
 use Rattle.std.specs.Io.KnownBytes.{Appends}
 use Rattle.tc_stream.specs.Output.{AppendsPrefix}
 use Rattle.tc_verdict.specs.declared.verdict.Verdict.{Verdict}
 use Rattle.tc_campaign.specs.Outline.{Outline}
-use Rattle.tc_campaign.specs.Campaign.{HasBehaviours, IsEnding, IsNamed, IsOfCase, IsReported, IsWhy}
+use Rattle.tc_campaign.specs.Campaign.{HasBehaviours, IsEnding, IsNamed, IsOfCase, IsReported, IsWhy, IsWithoutRoom}
 use Rattle.tc_campaign.specs.Stopping.{IsBetter}
 use Rattle.tc_report.specs.declared.fault.OutFault.{OutFault}
 use Rattle.tc_report.specs.declared.results.Finished.{Finished}
@@ -19,6 +19,7 @@ use Rattle.tc_program.specs.declared.fault.RunFault.{RunFault}
 use Rattle.tc_program.specs.declared.outcome.Outcome.{Outcome}
 use Rattle.tc_program.specs.Fault.{of_output}
 use Rattle.tc_program.specs.Give.{text_of}
+use Rattle.tc_program.specs.Limits.{worker_limit}
 use Rattle.tc_program.specs.Streams.{Streams}
 use Rattle.tc_program.specs.Tell.{IsTold}
 
@@ -37,7 +38,8 @@ module _ {C : Type 0} (outline : C → Outline) (called : C → Finished → Typ
   pub record AreResults (cases : List C) (stop_on : Option Verdict) (r : Results) : Type 0 where
     pub each : AreFinished cases stop_on r.finished
     pub last : IsEnding stop_on (slice_get r.finished (length r.finished - 1)) (slice_get (map outline cases) (length r.finished)) r.ending
-    pub why : IsWhy (slice_get (map outline cases) (length r.finished)) r.ending
+    -- why it was aborted, where each test case may have so many workers
+    pub why : IsWhy worker_limit (slice_get (map outline cases) (length r.finished)) r.ending ⊎ IsWithoutRoom r.finished r.ending
 
 -- of the telling of test cases as they finish, and of the line behind it, the first fault
 abbrev pub first_fault : Result (Unit {0}) OutFault → Result (Unit {0}) RunFault → Result (Unit {0}) RunFault

@@ -142,3 +142,55 @@ fn choices_that_are_refused(rt: HostRuntime) -> Result<(), Fail> {
     }
     Ok(())
 }
+
+// The command is refused with this input.
+fn refuses_input<R: Abort + Threads + Wait + Copy + Send + 'static>(
+    rt: &R,
+    alloc: Global,
+    line: &str,
+    input: &[u8],
+    told: &str,
+) -> Result<(), Fail> {
+    let wanted = Wanted {
+        written: "",
+        told,
+        status: 3,
+    };
+    let came = came_of_line(rt, alloc, line, input)?;
+    came.compare(rt, wanted, line);
+    Ok(())
+}
+
+/// Of several faults the first is told: of the shard, of the stopping rule, of the text, and then of the names.
+#[test]
+fn names_are_judged_last(rt: HostRuntime) -> Result<(), Fail> {
+    let shard = "ttrun: --shard takes K/N, with K from 1 to N";
+    let rule = "ttrun: --stop-on takes none, pass, inconc, fail or error";
+    let text = "ttrun: line 1: line not understood";
+    let rows = [
+        ("ttrun run --only z --stop-on x --shard 0/2", shard),
+        ("ttrun run --only z --stop-on x", rule),
+        ("ttrun run --only z", text),
+        ("ttrun run --list --only z", text),
+    ];
+    for (line, told) in rows {
+        refuses_input(&rt, rt.alloc(), line, b"x\n", told)?;
+    }
+    Ok(())
+}
+
+/// An input past its limit is refused for its length, whatever names are asked for.
+#[test]
+fn names_of_an_input_past_its_limit(rt: HostRuntime) -> Result<(), Fail> {
+    let long = Vec::from_elem(rt.alloc(), b'\n', 1_048_577)?;
+    for line in ["ttrun run --only z", "ttrun run --list --only z"] {
+        refuses_input(
+            &rt,
+            rt.alloc(),
+            line,
+            long.as_slice(),
+            "ttrun: input too long",
+        )?;
+    }
+    Ok(())
+}

@@ -1,8 +1,6 @@
-use Rattle.std.proofs.Common.{◌≡◌, ◌∙◌, true, false, is_none, rules, arith, sym, ap}
-use Rattle.tc_table.specs.History.{first_some}
-use Rattle.tc_book.specs.Starts.{start_in}
+use Rattle.std.proofs.Common.{◌≡◌, true, false, is_none, rules, arith, sym}
 use Rattle.tc_book.specs.Inside.{start_at, comp_by}
-use Rattle.tc_book.proofs.StartedBefore.{behind_all, behind_next, behind_none, next_below, not_started}
+use Rattle.tc_book.proofs.StartedBefore.{behind_all, behind_next, behind_none, not_started}
 use Rattle.tc_book.proofs.callers.are_started.Goals as goal
 
 pub loop-entry-init : goal.loop-entry-init

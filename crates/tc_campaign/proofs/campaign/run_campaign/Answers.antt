@@ -20,3 +20,6 @@ returns-clause-behaviours g c = c.run_campaign_told.ensures.run.each.behaviours
 
 pub returns-clause-why : goal.returns-clause-why
 returns-clause-why g c = c.run_campaign_told.ensures.run.why
+
+pub returns-clause-torn : goal.returns-clause-torn
+returns-clause-torn g c = c.run_campaign_told.ensures.run.torn

@@ -4,10 +4,10 @@ use Rattle.tc_program.proofs.run.run_cases.Goals as goal
 pub returns-clause-done : goal.returns-clause-done
 returns-clause-done g c =
     let ran = c.run_campaign_told-results in
-    whole_done _ _ _ c.plan_of.result _ c.plan_of.ensures _ _ ran.result.results ran.result.told _ ran.ensures.run ran.ensures.told
+    whole_done _ _ _ c.plan_of.result c.plan_of.ensures _ _ ran.result.results ran.result.told _ ran.ensures.run ran.ensures.told
     c.status_of-status.ensures c.in_ok-write_results.ensures.done c.tell_end-told.ensures
 
 pub returns-in_err-write_results-clause-refused : goal.returns-in_err-write_results-clause-refused
 returns-in_err-write_results-clause-refused g c =
     let ran = c.run_campaign_told-results in
-    whole_left _ _ _ c.plan_of.result _ c.plan_of.ensures _ ran.result.results ran.result.told _ c.from_residual.result c.from_residual.ensures.1 ran.ensures.run ran.ensures.told c.in_err-write_results.ensures.refused
+    whole_left _ _ _ c.plan_of.result c.plan_of.ensures _ ran.result.results ran.result.told _ c.from_residual.result c.from_residual.ensures.1 ran.ensures.run ran.ensures.told c.in_err-write_results.ensures.refused

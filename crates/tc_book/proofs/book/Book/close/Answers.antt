@@ -4,6 +4,7 @@ use Rattle.tc_book.specs.Closing.{all_started, merged, IsWhole}
 use Rattle.tc_book.specs.Parts.{logged}
 use Rattle.tc_book.specs.Inside.{ArePlaced, KnowsParts, KnowsStarts}
 use Rattle.tc_book.proofs.Differing.{not_merged}
+use Rattle.tc_book.proofs.Merging.{merge_of_itself}
 use Rattle.tc_book.proofs.Reporting.{whole_logged}
 use Rattle.tc_book.proofs.Skipping.{starts_same}
 use Rattle.tc_book.proofs.Wholeness.{AtClose, AreLogs, torn_placed, within_logs, whole_by, whole_parts, whole_together}
@@ -68,6 +69,21 @@ report-requires-clause-as_long c =
     let whole : IsWhole c.len-behaviours.result c.in-Ok-merge.history.items c.args.lefts.items =
     whole_by c.len-behaviours.result c.self.inside.starts.items c.in-Ok-logs_by_run.parts.items c.in-Ok-merge.history.items c.args.lefts.items c.in-Ok.logs.items starts parts put placed over started together in
     rw c.in-Ok-logs_by_run.ensures.len (whole_logged c.len-behaviours.result c.in-Ok-merge.history.items c.args.lefts.items whole)
+
+pub report-requires-clause-merged : goal.report-requires-clause-merged
+report-requires-clause-merged c =
+    let placed : ArePlaced c.len-behaviours.result c.self.inside.starts.items c.args.lefts.items = search rules in
+    let starts : KnowsStarts c.self.inside.starts.items (reverse c.in-Ok-merge.history.items) = search (rules, starts_same, c.self.invariant.each_start) in
+    let over : is_over (reverse c.in-Ok-merge.history.items) ≡ true = search rules in
+    let together : length c.in-Ok-merge.history.items ≡ logged c.in-Ok.logs.items = search rules in
+    let put : AreLogs c.len-behaviours.result c.in-Ok-logs_by_run.parts.items c.in-Ok.logs.items c.args.lefts.items =
+    record { as_many = c.in-Ok-logs_by_run.ensures.len; are = search rules; each = c.in-Ok-logs_by_run.ensures.each } in
+    let parts : KnowsParts c.in-Ok-logs_by_run.parts.items c.in-Ok-merge.history.items = search rules in
+    let started : all_started (reverse c.in-Ok-merge.history.items) ≡ true = search rules in
+    let whole : IsWhole c.len-behaviours.result c.in-Ok-merge.history.items c.args.lefts.items =
+    whole_by c.len-behaviours.result c.self.inside.starts.items c.in-Ok-logs_by_run.parts.items c.in-Ok-merge.history.items c.args.lefts.items c.in-Ok.logs.items starts parts put placed over started together in
+    let as_long = whole_logged c.len-behaviours.result c.in-Ok-merge.history.items c.args.lefts.items whole in
+    rw c.in-Ok-logs_by_run.ensures.len (merge_of_itself c.len-behaviours.result c.self.inside.table.history c.in-Ok-merge.history.items c.args.lefts.items c.in-Ok.logs.items c.self.invariant.others (search rules) (search rules) whole as_long)
 
 pub returns-in-Ok-report-clause-whole : goal.returns-in-Ok-report-clause-whole
 returns-in-Ok-report-clause-whole c =
