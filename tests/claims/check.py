@@ -16,6 +16,7 @@ TOP = os.path.dirname(os.path.dirname(os.path.dirname(os.path.abspath(__file__))
 sys.path.append(os.path.join(TOP, "tests", "program"))
 
 import believed
+import edits
 from documents import Block, Document, named_by, read
 from script_reader import read_script
 from sources import Sources, files_below
@@ -275,7 +276,7 @@ def main() -> int:
         "all links lead somewhere": lambda: links(documents),
         "all paths begin at the top, and lead somewhere": lambda: paths(documents),
         "no line of prose is too long": lambda: broken_lines(documents),
-        "no name of an edit stands in two crates": sources.edits_in_two_crates,
+        "each edit can be made, has a name of its own, and the gate has few": lambda: edits.faults(TOP),
         "no number stands for a rule that is written elsewhere": numbers,
         "the first line of each source says what it is": nameless,
     }

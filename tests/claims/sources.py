@@ -27,7 +27,7 @@ class Sources:
         self.places: Dict[str, Set[str]] = defaultdict(set)
         self.around: Dict[str, Set[str]] = defaultdict(set)
         self.words: Set[str] = set()
-        self.edits: Dict[str, Set[str]] = defaultdict(set)
+        self.edits: Set[str] = set()
         self.read_list()
         for crate in self.crates:
             self.read_crate(crate)
@@ -46,7 +46,8 @@ class Sources:
         folder = os.path.join(self.top, "crates", crate)
         self.places[crate].add(crate)
         for part, ending, read in (("src", ".rt", self.read_code), ("specs", ".antt", self.read_definitions),
-                                   ("proofs", ".antt", self.read_definitions), ("must-fail", ".edit", self.read_edit)):
+                                   ("proofs", ".antt", self.read_definitions), ("must-fail", ".edit", self.read_edit),
+                                   (f"../../tests/lies/edits/{crate}", ".edit", self.read_edit)):
             for path in files_below(os.path.join(folder, part), ending):
                 modules = os.path.relpath(path, os.path.join(folder, part))[: -len(ending)].split(os.sep)
                 read(crate, modules, path)
@@ -85,14 +86,8 @@ class Sources:
 
     def read_edit(self, crate: str, modules: List[str], path: str) -> None:
         """The name of an edit."""
-        self.edits[modules[-1]].add(crate)
+        self.edits.add(modules[-1])
         self.add(crate, modules[-1], set())
-
-    def edits_in_two_crates(self) -> Iterator[str]:
-        """The names of edits that do not say which crate's they are."""
-        for name, crates in sorted(self.edits.items()):
-            if len(crates) > 1:
-                yield f"the edit {name} stands in {' and '.join(sorted(crates))}"
 
     def stands_in(self, name: str, crate: str) -> bool:
         """Whether the name stands in the crate, or in one that it is built on."""

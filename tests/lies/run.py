@@ -1,11 +1,13 @@
 #!/usr/bin/env python3
-"""Plants each lie into a copy of the sources, builds it without a proof, and shows that the program's tests fail on it.
+"""Plants each lie into a copy of the sources, and shows that somebody finds it out: run it before a release.
 
-usage: tests/lies/run.py [--only WORD] [--jobs N] [--rt COMMAND]
+usage: tests/lies/run.py [--by prover|tests] [--only WORD] [--jobs N] [--rt COMMAND]
 
-It is no part of the gate: it builds the program once for each lie, and once as it stands, which takes about a minute each. The
-tests are some of tests/program that need no more than a plain standard input, run by `rt try --cases`. The last line is
-'N passed, M failed'.
+It is no part of the gate. The prover is shown the lies of tests/lies/edits/CRATE, in the form of the edits of
+crates/CRATE/must-fail: each must be refused by a clause, which its line names. It takes a proof of each crate that has some,
+and 10 to 60 seconds for each lie. The tests are shown those of lies.py: the program is built without a proof once for each of
+them, and once as it stands, which takes about a minute each, and some of tests/program that need no more than a plain standard
+input are run by `rt try --cases`: at least one must fail. The last line is 'N passed, M failed'.
 """
 from __future__ import annotations
 
@@ -18,7 +20,7 @@ import subprocess
 import sys
 import tempfile
 from concurrent.futures import ThreadPoolExecutor
-from typing import List, Tuple
+from typing import Iterator, List, Tuple
 
 sys.dont_write_bytecode = True
 TOP = os.path.dirname(os.path.dirname(os.path.dirname(os.path.abspath(__file__))))
@@ -26,6 +28,7 @@ sys.path.append(os.path.join(TOP, "tests", "program"))
 
 import documents_run
 import examples
+import prover
 import rows
 import scripts
 import sizes
@@ -117,22 +120,36 @@ def tried(lie: Lie, rt: List[str], cases: List[Case], wanted: bool) -> Tuple[boo
     return bool(failed) == wanted, ("" if bool(failed) == wanted else "FAILED ") + told
 
 
+def shown_to_tests(only: str, jobs: int, rt: List[str]) -> Iterator[Tuple[bool, str]]:
+    """Tries the program as it stands, and then with each lie of the tests."""
+    cases = plain_cases()
+    chosen = [(TRUTH, False), *((it, True) for it in LIES if only in it.name)]
+    with ThreadPoolExecutor(jobs) as pool:
+        yield from pool.map(lambda it: tried(it[0], rt, cases, it[1]), chosen)
+
+
+def shown_to_the_prover(only: str, jobs: int, rt: List[str]) -> Iterator[Tuple[bool, str]]:
+    """Tries each lie of the prover, crate by crate."""
+    with ThreadPoolExecutor(jobs) as pool:
+        for answers in pool.map(lambda it: list(prover.answers(*it, rt)), prover.edits_by_crate(only).items()):
+            yield from answers
+
+
 def main() -> int:
-    """Tries the program as it stands, and then with each lie."""
-    parser = argparse.ArgumentParser(description="shows that the program's tests fail on each lie")
+    """Shows the lies to the prover, and then to the tests."""
+    parser = argparse.ArgumentParser(description="shows that the prover or the program's tests find out each lie")
+    parser.add_argument("--by", choices=("prover", "tests"), help="shows them to one of the two alone")
     parser.add_argument("--only", default="", help="the lies with this in their names")
-    parser.add_argument("--jobs", type=int, default=1, help="how many are tried at a time")
+    parser.add_argument("--jobs", type=int, default=1, help="how many builds or crates are tried at a time")
     parser.add_argument("--rt", default="rt", help="the words that start rt")
     given = parser.parse_args()
-    cases = plain_cases()
-    chosen = [(TRUTH, False), *((it, True) for it in LIES if given.only in it.name)]
-    with ThreadPoolExecutor(given.jobs) as pool:
-        answers = []
-        for answer in pool.map(lambda it: tried(it[0], shlex.split(given.rt), cases, it[1]), chosen):
-            print(answer[1], flush=True)
-            answers.append(answer[0])
-    print(f"{answers.count(True)} passed, {answers.count(False)} failed")
-    return 1 if False in answers else 0
+    passed = failed = 0
+    for by, shown in (("prover", shown_to_the_prover), ("tests", shown_to_tests)):
+        for is_found, line in shown(given.only, given.jobs, shlex.split(given.rt)) if given.by in (None, by) else ():
+            print(line, flush=True)
+            passed, failed = passed + is_found, failed + (not is_found)
+    print(f"{passed} passed, {failed} failed")
+    return 1 if failed else 0
 
 
 if __name__ == "__main__":

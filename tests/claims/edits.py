@@ -1,0 +1,84 @@
+"""The must-fail edits: those that the gate tries, in crates/, and those that are planted before a release, in tests/lies/."""
+from __future__ import annotations
+
+import os
+from collections import Counter
+from dataclasses import dataclass
+from typing import Dict, Iterator, List, Tuple
+
+from sources import files_below
+
+GATE = "crates/{crate}/must-fail"
+RELEASE = "tests/lies/edits/{crate}"
+# Each edit that the gate tries takes 10 to 60 seconds, and a crate that has some is proved once more for them.
+MOST_IN_THE_GATE = 130
+FEWEST_OF_A_CRATE = 3
+
+
+@dataclass(frozen=True)
+class Edit:
+    """An edit of a crate, by its path from the top."""
+
+    crate: str
+    path: str
+
+    @property
+    def name(self) -> str:
+        """The name of its bug."""
+        return os.path.basename(self.path)[: -len(".edit")]
+
+
+def edits_of(top: str, place: str) -> List[Edit]:
+    """The edits in one of the two places, crate by crate."""
+    crates = sorted(os.listdir(os.path.join(top, "crates")))
+    return [Edit(crate, os.path.relpath(path, top)) for crate in crates
+            for path in files_below(os.path.join(top, place.format(crate=crate)), ".edit")]
+
+
+def pairs_of(text: str) -> Iterator[Tuple[str, str, str]]:
+    """The file, the old and the new text of each change."""
+    file = old = ""
+    for line in text.split("\n"):
+        word, _, rest = line.partition(":")
+        rest = rest[1:] if rest.startswith(" ") else rest
+        if word == "file":
+            file = rest.strip()
+        elif word == "old":
+            old = rest
+        elif word == "new":
+            yield file, old, rest
+
+
+def fault_of(top: str, edit: Edit) -> str:
+    """Why an edit cannot be made: each old text stands exactly once in its file, when its turn comes."""
+    texts: Dict[str, str] = {}
+    with open(os.path.join(top, edit.path), encoding="utf-8") as file:
+        pairs = list(pairs_of(file.read()))
+    for name, old, new in pairs:
+        path = os.path.join(top, "crates", edit.crate, name)
+        if name not in texts:
+            if not os.path.isfile(path):
+                return f"there is no {name} in {edit.crate}"
+            with open(path, encoding="utf-8") as file:
+                texts[name] = file.read()
+        if old == new or texts[name].count(old) != 1:
+            return f"this text is in {name} {texts[name].count(old)} times, or is not changed: {old.strip()}"
+        texts[name] = texts[name].replace(old, new)
+    return "" if pairs else "it changes nothing"
+
+
+def faults(top: str) -> Iterator[str]:
+    """Edits that cannot be made or share a name, and a gate that has too many, or a crate with too few."""
+    gate, release = edits_of(top, GATE), edits_of(top, RELEASE)
+    for edit in [*gate, *release]:
+        fault = fault_of(top, edit)
+        if fault:
+            yield f"{edit.path}: {fault}"
+    for name, count in Counter(it.name for it in [*gate, *release]).items():
+        if count > 1:
+            yield f"{count} edits are named {name}"
+    for crate, count in Counter(it.crate for it in gate).items():
+        if count < FEWEST_OF_A_CRATE:
+            yield f"{crate} has {count} edits: none or at least {FEWEST_OF_A_CRATE} pay for the proof that they begin with"
+    if len(gate) > MOST_IN_THE_GATE:
+        yield f"the gate has {len(gate)} edits, {MOST_IN_THE_GATE} at most"
