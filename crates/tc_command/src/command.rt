@@ -1,6 +1,6 @@
 //! The program's command, with its subcommands and their options.
 ghost use Rattle.std.specs.Prelude.{◌≡◌, IfOk, codes, false};
-ghost use Rattle.clap.specs.Words.{app_of, rule_of};
+ghost use Rattle.clap.specs.Words.{app_of, rule_of, with_subcommand as and_subcommand};
 ghost use Rattle.clap.specs.declared.builder.command.Command.TheViews.{out-Command};
 ghost use Rattle.tc_command.specs.Command.{check, explore, flag_rule, replay, report, run, ttrun, word_rule, words_rule};
 ghost use Rattle.tc_command.specs.Inside.{GrowsBy, app_of_subcommand, rule_of_row, with_each, with_rows};
@@ -260,6 +260,17 @@ fn subcommand_of<'a>(alloc: Global, subcommand: Subcommand) -> Result<Command<'a
     }
 }
 
+// The program's command with this subcommand more.
+fn with_subcommand<'a>(
+    alloc: Global,
+    program: Command<'a>,
+    subcommand: Subcommand,
+) -> Result<Command<'a>, AllocError>
+    ensures { IfOk result (GrowsBy (λ app. and_subcommand app (app_of_subcommand subcommand).top) program.entry) }
+{
+    program.subcommand(subcommand_of(alloc, subcommand)?)
+}
+
 // The program's command with these subcommands more.
 fn with_subcommands<'a>(
     alloc: Global,
@@ -269,7 +280,7 @@ fn with_subcommands<'a>(
     ensures { IfOk result (GrowsBy (with_each subcommands.now) program.entry) }
 {
     for subcommand in subcommands {
-        program = program.subcommand(subcommand_of(alloc, *subcommand)?)?;
+        program = with_subcommand(alloc, program, *subcommand)?;
     }
     Ok(program)
 }
