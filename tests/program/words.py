@@ -163,10 +163,9 @@ def first_match(path: str, pattern: str) -> str:
 
 
 def version_line() -> bytes:
-    """The line of the version: that of the newest changes, and the toolchain that the README names."""
+    """The line of the version, which is that of the newest changes."""
     version = first_match("CHANGELOG.md", r"^## ([0-9]+\.[0-9]+\.[0-9]+),")
-    toolchain = first_match("README.md", r"`rt version` here: `([^`]+)`")
-    return f"ttrun {version} ({toolchain})\n".encode()
+    return f"ttrun {version}\n".encode()
 
 
 def of_explore() -> List[Case]:

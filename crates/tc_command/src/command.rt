@@ -8,8 +8,8 @@ ghost use Rattle.tc_command.specs.Inside.{GrowsBy, app_of_subcommand, rule_of_ro
 use clap::{Arg, ArgAction, Command};
 use std::alloc::{AllocError, Global};
 
-/// The version of the program, and the toolchain that it is proved and built with.
-pub const VERSION: &str = "0.11.0 (rattle-kit-13f logic dac8208d650f15bf)";
+/// The version of the program.
+pub const VERSION: &str = "0.12.0";
 
 // What the help of the program says at its end.
 const PROGRAM_HELP: &str = "\
