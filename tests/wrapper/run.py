@@ -1,5 +1,6 @@
 #!/usr/bin/env python3
-"""The wrapper's tests: calls ./ttrun in trees of their own, over a stand-in for rt that proves nothing and writes a stand-in program.
+"""The wrapper's tests: calls ./ttrun in trees of their own, over a stand-in for rt that proves nothing and takes time, and writes
+a stand-in program.
 
 usage: tests/wrapper/run.py [--only WORD] [--list]
 
@@ -8,22 +9,24 @@ The last line is 'N passed, M failed'; the status is 0 where nothing failed, els
 from __future__ import annotations
 
 import argparse
+import fcntl
 import os
+import re
 import shutil
 import signal
 import sys
 import time
 from concurrent.futures import ThreadPoolExecutor
-from typing import Callable, Dict, List
+from typing import Callable, Dict, List, Set
 
 sys.dont_write_bytecode = True
 
-from tree import SECONDS, STARTING, Ran, Tree, hold
+from tree import LARGE, SECONDS, STARTING, Ran, Tree, hold
 
 Test = Callable[[Tree], None]
 TESTS: Dict[str, Test] = {}
 # There are no fewer tests.
-FEWEST = 42
+FEWEST = 67
 # A change so many seconds ago, by its file times, came before the program was built.
 OLD = 1000
 
@@ -46,15 +49,42 @@ def hold_program(ran: Ran, status: int = 0) -> None:
     hold((ran.output, ran.errors, ran.status) == (b"<a>", b"told\n", status), f"no plain run of the program: {ran}")
 
 
+def runs_of(tree: Tree) -> List[str]:
+    """The calls that built the program; nothing may have gone wrong in a call of rt."""
+    faults = [it for it in tree.calls() if it.startswith("fault: ") or "waits for" in it]
+    hold(not faults, f"{faults}")
+    return [it for it in tree.calls() if it.startswith("run ")]
+
+
 def hold_runs(tree: Tree, count: int) -> None:
-    """Holds the calls of rt to their number, and to no input."""
-    hold(tree.calls() == ["run -- --help"] * count, f"{count} calls of rt are wanted: {tree.calls()}")
+    """Holds the calls that built the program to their number."""
+    hold(len(runs_of(tree)) == count, f"{count} builds are wanted: {tree.calls()}")
+
+
+def hold_tidy(tree: Tree) -> None:
+    """Holds the builder to no tree left behind."""
+    hold(not os.path.exists(tree.path("crates/ttrun/out/building")), "the trees of the build are left")
+
+
+def begins_of(tree: Tree) -> List[str]:
+    """The crates that were begun, in their order, each with its number of jobs."""
+    return [f"{it.split()[1]} {it.split()[3]}" for it in tree.calls() if it.startswith(("lib ", "run "))]
+
+
+def kept_of(tree: Tree, crate: str) -> str:
+    """What is kept of the work on a crate in the checkout."""
+    path = tree.path(f"crates/{crate}/out/incremental/kept")
+    if not os.path.exists(path):
+        return ""
+    with open(path, encoding="utf-8") as file:
+        return file.read().strip()
 
 
 def built(tree: Tree) -> Tree:
     """The tree with a program."""
     ran = tree.call("a")
     hold(ran.status == 0 and ran.output == b"<a>" and ran.lines()[-2].startswith("ttrun: built in "), f"not built: {ran}")
+    hold_tidy(tree)
     return tree
 
 
@@ -215,12 +245,12 @@ def a_restored_program_on_a_fresh_clone(tree: Tree) -> None:
 
 def is_built_again(tree: Tree, change: Callable[[], None]) -> bool:
     """Whether a built program is built again after a change, once."""
-    before = len(tree.calls())
+    before = len(runs_of(tree))
     change()
     first, second = tree.call("a"), tree.call("a")
     hold(first.status == 0, f"{first}")
     hold_program(second)
-    return len(tree.calls()) == before + 1
+    return len(runs_of(tree)) == before + 1
 
 
 @test
@@ -294,7 +324,7 @@ def a_build_that_was_cut_before_its_stamp(tree: Tree) -> None:
     tree.ended(started)
     tree.write("crates/tc_low/src/src of.rt", before, OLD)
     ran = tree.call("sum")
-    hold(ran.output == was and len(tree.calls()) == 3, f"the program of the other sources was run: {ran} {tree.calls()}")
+    hold(ran.output == was and len(runs_of(tree)) == 3, f"the program of the other sources was run: {ran} {tree.calls()}")
 
 
 @test
@@ -336,7 +366,8 @@ def hold_not_built(tree: Tree, ran: Ran, *words: str) -> None:
     hold("ttrun: the program was not built" in ran.lines()[-1] and log in ran.lines()[-1], f"{ran.lines()}")
     hold(all(it in ran.errors.decode() for it in words), f"{words} are not all told: {ran.errors!r}")
     with open(log, encoding="utf-8") as it:
-        hold("rt: chose --jobs 2 for tc_low" in it.read(), "the log is not whole")
+        hold("end: tc_low, status 0" in it.read(), "the log is not whole")
+    hold_tidy(tree)
 
 
 @test
@@ -348,6 +379,154 @@ def a_build_that_fails(tree: Tree) -> None:
     for _ in range(2):
         hold_not_built(tree, tree.call("a", FAKE_STATUS="1"), "error: ttrun::one is not proved")
     hold_runs(tree, 6)
+
+
+@test
+def a_library_that_fails(tree: Tree) -> None:
+    for status in ("1", "3"):
+        ran = tree.call("a", FAKE_STATUS=status, FAKE_AT="tc_high")
+        hold_not_built(tree, ran, f"error: tc_high::one is not proved in {tree.path('crates/tc_high')}\n", f"status {status}")
+    hold_runs(tree, 0)
+    built(tree)
+    hold([it for it in tree.calls() if it == "built tc_low"] == ["built tc_low"], f"what was built is built again: {tree.calls()}")
+
+
+@test
+def one_fails_beside_another(tree: Tree) -> None:
+    began = time.monotonic()
+    ran = tree.call("a", FAKE_STATUS="1", FAKE_AT="tc_aside", FAKE_PAUSE_tc_aside="0.5", FAKE_PAUSE_tc_high="50")
+    hold_not_built(tree, ran, "error: tc_aside::one is not proved")
+    hold(time.monotonic() - began < 20, "the failure is told late")
+    hold(tree.calls()[-1] == "ended tc_high" and not runs_of(tree), f"the other one goes on: {tree.calls()}")
+    hold([kept_of(tree, it) for it in ("tc_low", "tc_high")] == ["whole", "begun"], "what was done is not kept")
+    built(tree)
+    with open(f"{tree.program}.log", encoding="utf-8") as it:
+        hold("kept of tc_high before: begun\n" in it.read(), "the next call begins from nothing")
+
+
+@test
+def one_is_killed_beside_another(tree: Tree) -> None:
+    ran = tree.call("a", FAKE_FAULT="once", FAKE_AT="tc_aside", FAKE_PAUSE_tc_high="1")
+    hold(ran.status == 0 and ran.output == b"<a>", f"{ran}")
+    calls = tree.calls()
+    hold(begins_of(tree)[1:] == ["tc_high 2", "tc_aside 1", "tc_aside 1", "ttrun 2"], f"{calls}")
+    hold(calls.index("killed tc_aside") < calls.index("built tc_high") < calls.index("built tc_aside"), f"it is not alone: {calls}")
+    hold(calls.count("built tc_aside") == 1 and not [it for it in calls if it.startswith("fault")], f"{calls}")
+
+
+@test
+def a_library_that_is_killed_alone(tree: Tree) -> None:
+    hold_not_built(tree, tree.call("a", FAKE_FAULT="yes", FAKE_AT="tc_aside", FAKE_PAUSE_tc_high="1"), "status 137")
+    hold(tree.calls().count("killed tc_aside") == 2, f"{tree.calls()}")
+
+
+@test
+def two_are_built_at_once(tree: Tree) -> None:
+    ran = tree.call("a", FAKE_PAUSE="0.4")
+    hold(ran.status == 0, f"{ran}")
+    hold_runs(tree, 1)
+    wanted = ["lib tc_low --jobs 2", "built tc_low", "lib tc_high --jobs 2", "lib tc_aside --jobs 1"]
+    hold(tree.calls()[:4] == wanted, f"{tree.calls()}")
+    hold(tree.calls()[6:] == ["run ttrun --jobs 2 -- --help", "built ttrun"], f"{tree.calls()}")
+    hold([kept_of(tree, it) for it in ("tc_low", "tc_high", "tc_aside", "ttrun")] == ["whole"] * 4, "what was done is not kept")
+    hold(any("1 of 4 crates built; tc_high 0 of 12 functions, tc_aside 0 of 12 functions" in it for it in ran.lines()) or
+         any("1 of 4 crates built; tc_high, tc_aside" in it for it in ran.lines()), f"{ran.lines()}")
+
+
+@test
+def one_processor(tree: Tree) -> None:
+    ran = tree.call("a", RT_JOBS="1", FAKE_PAUSE="0.1")
+    hold(ran.status == 0 and begins_of(tree) == ["tc_low 1", "tc_high 1", "tc_aside 1", "ttrun 1"], f"{tree.calls()}")
+    hold([it.split()[0] for it in tree.calls()] == ["lib", "built"] * 3 + ["run", "built"], f"{tree.calls()}")
+
+
+@test
+def a_quota_of_processors(tree: Tree) -> None:
+    tree.write(os.path.join(tree.room, "sys/fs/cgroup/cpu.max"), "150000 100000\n")
+    hold(tree.call("a", RT_JOBS="").status == 0, "it is built")
+    hold({it.split()[1] for it in begins_of(tree)} == {"1"}, f"{tree.calls()}")
+
+
+@test
+def the_longest_chain_comes_first(tree: Tree) -> None:
+    tree.write("crates.txt", "tc_low:\ntc_high: tc_low\ntc_aside:\nttrun: tc_high tc_aside tc_low\n")
+    tree.write("crates/tc_aside/proofs/more.antt", LARGE[:len(LARGE) // 2])
+    hold(tree.call("a", FAKE_PAUSE="0.3", RT_JOBS="4").status == 0, "it is built")
+    hold(begins_of(tree) == ["tc_low 4", "tc_aside 1", "tc_high 4", "ttrun 4"], f"{tree.calls()}")
+    shutil.rmtree(tree.path("crates/tc_high/proofs"))
+    for it in ("tc_low", "tc_high", "tc_aside"):
+        shutil.rmtree(tree.path(f"crates/{it}/out"))
+    hold(tree.call("a", FAKE_PAUSE="0.3", RT_JOBS="4").status == 0, "it is built")
+    hold(begins_of(tree)[4:6] == ["tc_aside 4", "tc_low 1"], f"{tree.calls()}")
+
+
+def begins_with(tree: Tree, jobs: str) -> List[str]:
+    """What is begun with so many processors, where nothing is built."""
+    for it in ("tc_low", "tc_high", "tc_aside", "ttrun"):
+        shutil.rmtree(tree.path(f"crates/{it}/out"), ignore_errors=True)
+    before = len(tree.calls())
+    ran = tree.call("a", RT_JOBS=jobs, FAKE_PAUSE="0.2")
+    hold(ran.status == 0, f"{ran}")
+    side_by_side = "+" if tree.calls()[before + 3].startswith("lib") else "-"
+    return [*begins_of(tree)[-4:], side_by_side]
+
+
+@test
+def memory_is_short(tree: Tree) -> None:
+    for memory, in_group, wanted in (
+        (64, None, ["tc_low 4", "tc_high 4", "tc_aside 1", "ttrun 4", "+"]),
+        (8.5, None, ["tc_low 4", "tc_high 4", "tc_aside 1", "ttrun 4", "+"]),
+        (8, None, ["tc_low 4", "tc_high 4", "tc_aside 4", "ttrun 4", "-"]),
+        (4, None, ["tc_low 2", "tc_high 2", "tc_aside 2", "ttrun 2", "-"]),
+        (0.5, None, ["tc_low 1", "tc_high 1", "tc_aside 1", "ttrun 1", "-"]),
+        (64, 4, ["tc_low 2", "tc_high 2", "tc_aside 2", "ttrun 2", "-"]),
+    ):
+        tree.give_memory(memory, in_group)
+        found = begins_with(tree, "4")
+        hold(found == wanted, f"{memory} {in_group}: {found}")
+
+
+@test
+def memory_that_others_take(tree: Tree) -> None:
+    started = tree.start(["a"], FAKE_PAUSE_tc_low="1", FAKE_PAUSE_tc_high="1")
+    wait_for(lambda: bool(tree.calls()), "the first crate is begun")
+    tree.give_memory(5)
+    wait_for(lambda: "lib tc_high --jobs 2" in tree.calls(), "the second crate is begun")
+    tree.give_memory(1)
+    hold(tree.ended(started).status == 0, "it is built")
+    hold(tree.calls().index("built tc_high") < tree.calls().index("lib tc_aside --jobs 1"), f"{tree.calls()}")
+
+
+@test
+def a_file_system_without_links(tree: Tree) -> None:
+    with STARTING, open(tree.path("tools/first_build.py"), encoding="utf-8") as it:
+        text = it.read()
+    hold("os.link(" in text, "it makes no hard links")
+    tree.write("tools/first_build.py", text.replace("os.link(", "os.link('no such file' + "))
+    built(tree)
+    tree.write("crates/tc_high/src/src of.rt", "-- changed\n")
+    hold(is_built_again(tree, lambda: None), "a source was changed")
+    hold([it for it in tree.calls() if it.startswith("built tc_low")] == ["built tc_low"], f"{tree.calls()}")
+
+
+@test
+def what_is_built_is_linked(tree: Tree) -> None:
+    built(tree)
+    tree.write("crates/tc_high/src/src of.rt", "-- changed\n")
+    started = tree.start(["a"], FAKE_PAUSE_tc_high="2")
+    wait_for(lambda: begins_of(tree)[-1:] != ["ttrun 2"] and "tc_high 2" in begins_of(tree)[4:], "tc_high is built again")
+    below = tree.path("crates/ttrun/out/building/tc_high/crates/tc_low")
+    hold(os.path.samefile(f"{below}/out/rlib/stamp", tree.path("crates/tc_low/out/rlib/stamp")), "a copy of what is built")
+    hold(not os.path.samefile(f"{below}/src/src of.rt", tree.path("crates/tc_low/src/src of.rt")), "a source could change meanwhile")
+    hold(tree.ended(started).status == 0, "it is built")
+
+
+@test
+def trees_that_an_earlier_build_left(tree: Tree) -> None:
+    for name in ("tc_low/crates/tc_low/out/rlib/stamp", "tc_low/crates.txt", "gone/crates/gone/src/main.rt"):
+        tree.write(f"crates/ttrun/out/building/{name}", "left\n")
+    built(tree)
+    hold_runs(tree, 1)
 
 
 @test
@@ -373,15 +552,23 @@ def a_program_that_does_not_run_here(tree: Tree) -> None:
 def is_stopped_by(tree: Tree, number: signal.Signals) -> None:
     """Holds a call in the middle of a build to what a signal does."""
     before = len(tree.calls())
-    started = tree.start(["a"], FAKE_PAUSE="50")
-    wait_for(lambda: len(tree.calls()) > before, "rt runs")
-    time.sleep(0.3)
+    started = tree.start(["a"], FAKE_PAUSE_tc_high="50", FAKE_PAUSE_tc_aside="50")
+    wait_for(lambda: len([it for it in tree.calls()[before:] if it.startswith("lib")]) >= 2, "two crates are being built")
+    wait_for(lambda: kept_of_trees(tree) == {"tc_high", "tc_aside"}, "both are begun")
     began = time.monotonic()
     started.send_signal(number)
     ran = tree.ended(started)
     hold(ran.status == -number and time.monotonic() - began < 10, f"{number!r}: {ran}")
     hold(ran.output == b"" and ran.lines()[-1].startswith("ttrun: stopped"), f"{number!r}: {ran}")
-    wait_for(lambda: tree.calls()[-1] == "ended", f"{number!r} ends rt")
+    hold(sorted(tree.calls()[-2:]) == ["ended tc_aside", "ended tc_high"], f"{number!r} does not end rt: {tree.calls()}")
+    hold([kept_of(tree, it) for it in ("tc_low", "tc_high", "tc_aside")] == ["whole", "begun", "begun"], "what was done is not kept")
+    hold_tidy(tree)
+
+
+def kept_of_trees(tree: Tree) -> Set[str]:
+    """The crates that have begun to keep work in the trees of the build."""
+    room = tree.path("crates/ttrun/out/building")
+    return {it for it in ("tc_high", "tc_aside") if os.path.exists(f"{room}/{it}/crates/{it}/out/incremental/kept")}
 
 
 @test
@@ -389,17 +576,28 @@ def a_build_that_is_stopped(tree: Tree) -> None:
     for number in (signal.SIGINT, signal.SIGTERM, signal.SIGHUP):
         is_stopped_by(tree, number)
     built(tree)
+    hold(tree.calls().count("built tc_low") == 1, f"tc_low was built again: {tree.calls()}")
+
+
+@test
+def the_program_is_stopped_while_it_is_built(tree: Tree) -> None:
+    started = tree.start(["a"], FAKE_PAUSE_ttrun="50")
+    wait_for(lambda: len(runs_of(tree)) == 1, "the program is being built")
+    wait_for(lambda: kept_of(tree, "ttrun") == "begun", "it is begun")
+    started.terminate()
+    hold(tree.ended(started).status == -signal.SIGTERM and tree.calls()[-1] == "ended ttrun", f"{tree.calls()}")
+    hold_tidy(tree)
 
 
 @test
 def a_line_for_each_crate(tree: Tree) -> None:
     ran = tree.call("a", FAKE_PAUSE="1.5")
-    lines = [it for it in ran.lines() if it.startswith("ttrun: crate ")]
-    wanted = ["crate 1 of 3, tc_low", "crate 2 of 3, tc_high", "crate 3 of 3, ttrun"]
-    hold([it[len("ttrun: "):].split(":")[0] for it in lines] == wanted, f"{ran.lines()}")
-    hold(all(it.split(": ")[2].startswith(("0 of 12 functions", "7 of 12 functions")) for it in lines), f"{lines}")
+    lines = [it for it in ran.lines() if " crates built" in it]
+    wanted = ["0 of 4 crates built; tc_low", "1 of 4 crates built; tc_high, tc_aside", "3 of 4 crates built; ttrun"]
+    plain = [re.sub(r"^ttrun: 0 min \d+ s: | [07] of 12 functions", "", it) for it in lines]
+    hold(plain == wanted, f"{lines}")
     hold(b"\x1b" not in ran.errors and b"\r" not in ran.errors, "it writes over where there is no terminal")
-    hold(len(ran.lines()) <= len(lines) + 4, f"{ran.lines()}")
+    hold("--try" not in ran.lines()[0] and len(ran.lines()) <= len(lines) + 4, f"{ran.lines()}")
 
 
 @test
@@ -407,11 +605,12 @@ def a_line_a_minute(tree: Tree) -> None:
     started = tree.start(["a"], FAKE_PAUSE="100")
     wait_for(lambda: bool(tree.calls()), "rt runs")
     second = tree.start(["b"])
-    time.sleep(63)
+    time.sleep(64)
+    hold(len(tree.calls()) == 1 and second.poll() is None, f"the second does not wait: {tree.calls()}")
     started.send_signal(signal.SIGTERM)
     lines = [it for it in tree.ended(started).lines() if "tc_low" in it]
     hold(len(lines) == 2 and "1 min " in lines[1], f"two lines in a minute are wanted: {lines}")
-    wait_for(lambda: tree.calls().count("run -- --help") == 2, "the second builds")
+    wait_for(lambda: tree.calls().count("lib tc_low --jobs 2") == 2, "the second builds")
     second.send_signal(signal.SIGTERM)
     lines = tree.ended(second).lines()
     hold(lines[1:3] == ["ttrun: still waiting for it", lines[2]] and "proving" in lines[2], f"{lines}")
@@ -419,19 +618,54 @@ def a_line_a_minute(tree: Tree) -> None:
 
 @test
 def another_rt_works_in_the_tree(tree: Tree) -> None:
-    ran = tree.call("a", FAKE_WAITS="yes", FAKE_PAUSE="0.6")
-    hold(any("waiting for another rt, " in it for it in ran.lines()), f"{ran.lines()}")
+    other = os.open(tree.path("crates/tc_aside"), os.O_RDONLY)
+    fcntl.flock(other, fcntl.LOCK_EX)
+    started = tree.start(["a"])
+    time.sleep(2)
+    hold(not tree.calls(), f"it does not wait: {tree.calls()}")
+    os.close(other)
+    ran = tree.ended(started)
+    hold(ran.status == 0 and any("waiting for another rt" in it for it in ran.lines()), f"{ran.lines()}")
+    hold_runs(tree, 1)
+
+
+@test
+def a_wait_for_another_rt_is_stopped(tree: Tree) -> None:
+    other = os.open(tree.path("crates/tc_low"), os.O_RDONLY)
+    fcntl.flock(other, fcntl.LOCK_EX)
+    started = tree.start(["a"])
+    time.sleep(1.5)
+    started.terminate()
+    hold(tree.ended(started).status == -signal.SIGTERM and not tree.calls(), f"{tree.calls()}")
+    os.close(other)
+
+
+@test
+def another_rt_waits_for_the_build(tree: Tree) -> None:
+    started = tree.start(["a"], FAKE_PAUSE_tc_low="1")
+    wait_for(lambda: bool(tree.calls()), "rt runs")
+    for crate in ("tc_low", "tc_aside", "ttrun"):
+        other = os.open(tree.path(f"crates/{crate}"), os.O_RDONLY)
+        try:
+            fcntl.flock(other, fcntl.LOCK_EX | fcntl.LOCK_NB)
+            hold(False, f"another rt may work in {crate}")
+        except BlockingIOError:
+            pass
+        finally:
+            os.close(other)
+    hold(tree.ended(started).status == 0, "it is built")
 
 
 @test
 def a_build_at_a_terminal(tree: Tree) -> None:
     ran = tree.at_terminal("sum", FAKE_PAUSE="0.8")
     lines = ran.output.decode().split("\r\n")
-    hold(len(lines) == 4 and lines[3] == "" and lines[0].startswith("ttrun: proving"), f"{lines}")
+    hold(len(lines) == 4 and lines[3] == "" and lines[0].startswith("ttrun: proving") and "ttrun --try WORDS" in lines[0], f"{lines}")
     parts = lines[1].split("\r\x1b[K")
     hold(parts[0] == "" and parts[-1].startswith("ttrun: built in "), f"{parts}")
     hold(len(parts) > 8 and all(len(it) < 80 for it in parts), f"{parts}")
-    for it in ("crate 1 of 3, tc_low: 0 of 12 functions, ", "crate 2 of 3, tc_high: 7 of 12 functions, ", "crate 3 of 3, ttrun: 7 of 12"):
+    for it in ("0 of 4 crates built; tc_low 0 of 12 functions", "1 of 4 crates built; tc_high 7 of 12 functions, tc_aside 7",
+               "3 of 4 crates built; ttrun 7 of 12 functions"):
         hold(any(it in part for part in parts), f"{it!r} was not shown: {parts}")
     hold(lines[2].encode() + b"\n" == tree.call("sum").output, f"{lines[2]!r} is not the program's")
 
@@ -445,7 +679,7 @@ def a_narrow_terminal(tree: Tree) -> None:
 @test
 def a_terminal_that_cannot_write_over(tree: Tree) -> None:
     ran = tree.at_terminal("sum", TERM="dumb", FAKE_PAUSE="0.6")
-    hold(b"\x1b" not in ran.output and ran.output.count(b"ttrun: crate ") == 3, f"{ran}")
+    hold(b"\x1b" not in ran.output and ran.output.count(b"crates built") == 3, f"{ran}")
 
 
 @test
@@ -459,7 +693,7 @@ def a_program_at_a_terminal(tree: Tree) -> None:
 def a_build_that_fails_at_a_terminal(tree: Tree) -> None:
     ran = tree.at_terminal("a", FAKE_PAUSE="0.6", FAKE_STATUS="1")
     lines = ran.output.decode().split("\r\n")
-    hold(ran.status == 3 and lines[1].endswith("\r\x1b[Krt: chose --jobs 2 for tc_low"), f"the line of progress stays: {lines}")
+    hold(ran.status == 3 and lines[1].endswith("\r\x1b[Kkept of tc_low before: "), f"the line of progress stays: {lines}")
 
 
 @test
@@ -467,7 +701,7 @@ def a_build_that_is_stopped_by_a_key(tree: Tree) -> None:
     ran = tree.at_terminal("a", FAKE_PAUSE="50", keys="\x03")
     hold(ran.status == -signal.SIGINT, f"{ran}")
     hold(ran.output.decode().split("\r\x1b[K")[-1].startswith("ttrun: stopped"), f"{ran}")
-    wait_for(lambda: tree.calls()[-1] == "ended", "it ends rt")
+    wait_for(lambda: tree.calls()[-1] == "ended tc_low", "it ends rt")
 
 
 @test
@@ -488,8 +722,103 @@ def standard_error_that_nobody_reads(tree: Tree) -> None:
     started.stdin.close()
     started.wait(SECONDS)
     hold(started.returncode == -signal.SIGPIPE, f"status {started.returncode}")
-    wait_for(lambda: tree.calls()[-1] == "ended", "it ends rt")
+    wait_for(lambda: tree.calls()[-1] == "ended tc_low", "it ends rt")
     started.stdout.close()
+
+
+def hold_tried(ran: Ran, output: bytes, errors: bytes = b"told\n", status: int = 0) -> None:
+    """Holds a call with --try to what the program gave, behind the line that it is not proved."""
+    first, _, rest = ran.errors.partition(b"\n")
+    hold(b"nothing of this is proved" in first, f"{ran}")
+    hold((ran.output, rest, ran.status) == (output, errors, status), f"{output!r} {errors!r} {status} are wanted: {ran}")
+
+
+@test
+def a_try(tree: Tree) -> None:
+    hold_tried(tree.call("--try", "run", "a b", "", "*", "--try", given=b"given\0\xff"), b"<run><a b><><*><--try>given\0\xff")
+    hold_tried(tree.call("--try"), b"")
+    for status in (1, 2, 3, 4, 6, 77):
+        hold_tried(tree.call("--try", "a", ENDS=str(status)), b"<a>", status=status)
+    hold_tried(tree.call("--try", "a", FAKE_TRY="odd"), b"<a>", b"run=ended status=9 proved=no\nchecked: ended status=9\ntold\n")
+    hold(tree.calls()[0] == "try ttrun run a b  * --try" and not runs_of(tree), f"{tree.calls()}")
+    hold(not os.path.exists(tree.path("crates/ttrun/out")) and not os.listdir(os.path.join(tree.room, "tmp")), "files are left")
+
+
+@test
+def a_try_of_a_slow_input(tree: Tree) -> None:
+    started = tree.start(["--try", "a"])
+    for it in (b"one", b"two"):
+        started.stdin.write(it)
+        started.stdin.flush()
+        time.sleep(0.7)
+    hold(not tree.calls(), "the program is run before its input has ended")
+    hold_tried(tree.ended(started), b"<a>onetwo")
+    runs_of(tree)
+
+
+@test
+def a_try_at_a_terminal(tree: Tree) -> None:
+    lines = tree.at_terminal("--try", "a").output.decode().split("\r\n")
+    hold("nothing of this is proved" in lines[0] and "nothing is read from a terminal" in lines[1], f"{lines}")
+    hold(lines[2:] == ["told", "<a>"], f"{lines}")
+
+
+@test
+def a_try_without_an_answer(tree: Tree) -> None:
+    ran = tree.call("--try", "a", FAKE_TRY="no")
+    hold(ran.status == 3 and ran.output == b"", f"{ran}")
+    hold(ran.lines()[1:4] == ["| told", "checked: no-answer: the program did not end", "run=no-answer proved=no"], f"{ran.lines()}")
+    hold("gave no answer" in ran.lines()[4] and not os.listdir(os.path.join(tree.room, "tmp")), f"{ran.lines()}")
+
+
+@test
+def a_try_that_is_stopped(tree: Tree) -> None:
+    for number in (signal.SIGINT, signal.SIGTERM, signal.SIGHUP):
+        before = len(tree.calls())
+        started = tree.start(["--try", "a"], FAKE_TRY="slow")
+        started.stdin.close()
+        started.stdin = None
+        wait_for(lambda: len(tree.calls()) > before, "rt runs")
+        time.sleep(0.2)
+        started.send_signal(number)
+        ran = tree.ended(started, None)
+        hold(ran.status == -number and ran.lines()[-1] == "ttrun: stopped", f"{ran}")
+        hold(tree.calls()[-1] == "ended ttrun" and not os.listdir(os.path.join(tree.room, "tmp")), f"{tree.calls()}")
+    started = tree.start(["--try", "a"])
+    time.sleep(0.5)
+    started.send_signal(signal.SIGTERM)
+    hold(started.wait(SECONDS) == -signal.SIGTERM and not os.listdir(os.path.join(tree.room, "tmp")), "while it reads")
+    tree.ended(started)
+
+
+@test
+def a_try_without_tools(tree: Tree) -> None:
+    hold_refused(tree.call("--try", "a", has_rt="no"), "no rt on the path")
+    hold_refused(tree.call("--try", "a", TMPDIR="/nowhere"), "temporary", "/nowhere")
+
+
+@test
+def a_try_of_a_tree_that_cannot_be_written(tree: Tree) -> None:
+    tree.open_to_all()
+    tree.close_to_writing("a tree")
+    hold_tried(tree.call("--try", "a", drops=True), b"<a>")
+
+
+@test
+def no_python(tree: Tree) -> None:
+    tree.without_rt()
+    for name in os.listdir(tree.tools):
+        if name.startswith("python"):
+            os.remove(os.path.join(tree.tools, name))
+    with STARTING:
+        shutil.copy2(os.path.join(tree.bin, "rt"), tree.tools)
+    hold_refused(tree.call("a", PATH=tree.tools), "no python3")
+
+
+@test
+def tools_that_sort_in_another_way(tree: Tree) -> None:
+    hold_program(built(tree).call("a", OTHER_TOOLS="yes"))
+    hold_runs(tree, 1)
 
 
 def faults_in(judge: Test) -> List[str]:

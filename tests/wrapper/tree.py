@@ -19,34 +19,84 @@ TOP = os.path.dirname(os.path.dirname(os.path.dirname(os.path.abspath(__file__))
 # A call that has not ended after so many seconds is stopped, and its test has failed.
 SECONDS = 120
 NOBODY = 65534
+BUILDER = "tools/first_build.py"
 # Held while a file is written that is to be run, and while a call is started: a process that begins at that moment would
 # hold the file open for writing, and no such file runs.
 STARTING = threading.Lock()
-CRATES = "# Each crate.\ntc_low: thiserror\ntc_high: tc_low\nother: tc_low\nttrun: tc_high tc_low clap\n"
-# What rt says of each crate, and the program that it leaves. FAKE_PAUSE is how long each crate takes.
+CRATES = "# Each crate.\ntc_low: thiserror\ntc_high: tc_low\ntc_aside: tc_low\nother: tc_low\nttrun: tc_high tc_aside tc_low clap\n"
+# Behind tc_low two crates stand on nothing unbuilt, of which tc_high is the larger one.
+LARGE = "-- a line more\n" * 20
+# An rt that proves nothing. It locks the folders that an rt locks, holds each crate below to be built of its sources, and leaves
+# what an rt leaves. FAKE_PAUSE, or FAKE_PAUSE_NAME, is how long each half of a crate takes; what FAKE_STATUS, FAKE_FAULT and
+# FAKE_NOTHING say goes for the crate FAKE_AT, or the program.
 RT = r"""#!/usr/bin/env bash
-echo "$*" >> "$FAKE_FOLDER/calls"
-[ ! -t 0 ] && [ "$(head -c 1 | wc -c)" = 0 ] || echo "rt was given input" >> "$FAKE_FOLDER/calls"
-trap 'echo ended >> "$FAKE_FOLDER/calls"; exit 1' INT TERM HUP
-[ -z "${FAKE_WAITS:-}" ] || { echo "rt: waiting for another rt to finish in $PWD" >&2; sleep 1.2; }
-for it in tc_low tc_high ttrun; do
-    echo "rt: chose --jobs 2 for $it" >&2
-    echo "by-macro: thiserror::Error blocks=9"
-    echo "so far: 0 of 12 functions checked; the verdict comes last"
-    sleep "${FAKE_PAUSE:-0}" & wait $!
-    echo "so far: 7 of 12 functions checked; the verdict comes last"
-    sleep "${FAKE_PAUSE:-0}" & wait $!
-    echo "fn $it::one: proved"
+name=${PWD##*/}
+tell() { echo "$*" >> "$FAKE_FOLDER/calls"; }
+trap 'tell "ended $name"; exit 1' INT TERM HUP
+uses() { sed -n "s/^$1://p" ../../crates.txt | tr ' ' '\n' | grep '^tc_'; }
+stamp() {
+    {
+        find "../$1/src" "../$1/specs" "../$1/proofs" -type f | LC_ALL=C sort | xargs -d '\n' cat
+        uses "$1" | while read -r it; do stamp "$it"; done
+    } 2>&1 | cksum
+}
+pause=FAKE_PAUSE_$name
+pause=${!pause:-${FAKE_PAUSE:-0}}
+if [ "$1" = try ]; then
+    shift 2
+    tell "try $name $*"
+    [ -f /dev/stdin ] || tell "fault: rt try was given a pipe"
+    case ${FAKE_TRY:-} in
+        no) printf "| told\nchecked: no-answer: the program did not end\nrun=no-answer proved=no\n" >&2; exit 6 ;;
+        slow) sleep 60 & wait $! ;;
+        odd) printf "run=ended status=9 proved=no\nchecked: ended status=9\n" >&2 ;;
+    esac
+    [ $# = 0 ] || printf '<%s>' "$@"
+    cat
+    printf "told\nchecked: ended status=${ENDS:-0}\nraces: not looked for\nrun=ended status=${ENDS:-0} runners=1 races=unchecked proved=no\n" >&2
+    exit "${ENDS:-0}"
+fi
+verb=$1
+shift
+tell "$verb $name $*"
+[ ! -t 0 ] && [ "$(head -c 1 | wc -c)" = 0 ] || tell "fault: rt was given input"
+readlink /proc/$PPID/fd/* | grep -q '/ttrun.lock$' && tell "fault: what builds holds the wrapper's lock"
+for it in "$name" $(uses "$name"); do
+    exec {held}< "../$it"
+    flock -n "$held" || { echo "rt: waiting for another rt to finish in $it"; tell "$name waits for another rt"; flock "$held"; }
+    [ "$it" = "$name" ] && continue
+    [ "$(cat "../$it/out/rlib/stamp" 2> /dev/null)" = "$(stamp "$it")" ] || tell "fault: $it is not built below $name"
 done
-[ -z "${FAKE_FAULT:-}" ] || { echo "error: $it::one is not proved"; kill -9 $$; }
-[ "${FAKE_STATUS:-0}" = 0 ] || { echo "error: $it::one is not proved"; exit "$FAKE_STATUS"; }
-[ -z "${FAKE_NOTHING:-}" ] || exit 0
-mkdir -p out
-cat > out/ttrun.part <<PROGRAM
+is_here() { [ "$name" = "${FAKE_AT:-ttrun}" ]; }
+if [ "$verb" = run ] || [ "$(cat out/rlib/stamp 2> /dev/null)" != "$(stamp "$name")" ]; then
+    mkdir -p out/incremental out/rlib
+    rm -rf out/rlib/stamp
+    echo "kept of $name before: $(cat out/incremental/kept 2> /dev/null)"
+    { echo begun > out/incremental/kept.new; mv out/incremental/kept.new out/incremental/kept; }
+    echo "so far: 0 of 12 functions checked; the verdict comes last"
+    sleep "$pause" & wait $!
+    echo "so far: 7 of 12 functions checked"
+    sleep "$pause" & wait $!
+    if is_here && [ "${FAKE_FAULT:-}" ] && [ ! -e "$FAKE_FOLDER/killed" ]; then
+        [ "$FAKE_FAULT" = once ] && : > "$FAKE_FOLDER/killed"
+        tell "killed $name"
+        echo "error: $name::one is not proved in $PWD"
+        kill -9 $$
+    fi
+    is_here && [ "${FAKE_STATUS:-0}" != 0 ] && { echo "error: $name::one is not proved in $PWD"; exit "$FAKE_STATUS"; }
+    echo "fn $name::one: proved"
+    { echo whole > out/incremental/kept.new; mv out/incremental/kept.new out/incremental/kept; }
+    stamp "$name" > out/rlib/stamp
+else
+    tell "kept $name"
+    exit 0
+fi
+if [ "$verb" = run ] && [ -z "${FAKE_NOTHING:-}" ]; then
+    cat > out/ttrun.part <<PROGRAM
 #!/usr/bin/env bash
 built="$(cat ../tc_low/src/*.rt ../ttrun/src/*.rt | cksum | tr ' ' _)"
 PROGRAM
-cat >> out/ttrun.part <<'PROGRAM'
+    cat >> out/ttrun.part <<'PROGRAM'
 case ${1:-} in
     sum) echo "$built" ;;
     id) echo "$$" ;;
@@ -54,8 +104,15 @@ case ${1:-} in
     *) printf '<%s>' "$@"; cat; echo told >&2; exit "${ENDS:-0}" ;;
 esac
 PROGRAM
-chmod +x out/ttrun.part && mv out/ttrun.part out/ttrun
-[ -z "${FAKE_LATE:-}" ] || sleep 30 & wait $!
+    chmod +x out/ttrun.part && mv out/ttrun.part out/ttrun
+    [ -z "${FAKE_LATE:-}" ] || sleep 30 & wait $!
+fi
+tell "built $name"
+"""
+# In the place of a tool, one that does what it does where OTHER_TOOLS is not set.
+SORT = """#!/usr/bin/env bash
+[ "${LC_ALL:-}" = C ] || [ -z "${OTHER_TOOLS:-}" ] || exec /usr/bin/sort -r "$@"
+exec /usr/bin/sort "$@"
 """
 
 
@@ -109,16 +166,39 @@ class Tree:
         for it in (self.bin, self.tools, os.path.join(self.room, "tmp")):
             os.makedirs(it)
         os.chmod(os.path.join(self.room, "tmp"), 0o777)
-        for crate in ("tc_low", "tc_high", "other", "ttrun"):
+        for crate in ("tc_low", "tc_high", "tc_aside", "other", "ttrun"):
             for part, ending in (("src", "rt"), ("specs", "antt"), ("proofs", "antt"), ("must-fail", "edit")):
                 self.write(f"crates/{crate}/{part}/{part} of.{ending}", f"-- {crate} {part}\n")
+        self.write("crates/tc_high/proofs/more.antt", LARGE)
         self.write("crates.txt", CRATES)
-        with STARTING:
-            shutil.copy2(os.path.join(TOP, "ttrun"), self.path("ttrun"))
-            with open(os.path.join(self.bin, "rt"), "w", encoding="utf-8") as it:
-                it.write(RT)
-        os.chmod(os.path.join(self.bin, "rt"), 0o755)
         self.program = self.path("crates/ttrun/out/ttrun")
+        with STARTING:
+            self.add_programs()
+
+    def add_programs(self) -> None:
+        """Adds the wrapper, its builder, which looks for memory and processors below the room, and the stand-ins."""
+        shutil.copy2(os.path.join(TOP, "ttrun"), self.path("ttrun"))
+        os.makedirs(self.path("tools"))
+        with open(os.path.join(TOP, BUILDER), encoding="utf-8") as file:
+            text = file.read()
+        for name in ("/proc/meminfo", "/sys/fs/cgroup/"):
+            hold(name in text, f"{BUILDER} does not look at {name}")
+            text = text.replace(name, f"{self.room}{name}")
+        rt, sort = os.path.join(self.bin, "rt"), os.path.join(self.bin, "sort")
+        for path, content in ((self.path(BUILDER), text), (rt, RT), (sort, SORT)):
+            with open(path, "w", encoding="utf-8") as it:
+                it.write(content)
+            os.chmod(path, 0o755)
+        self.give_memory(64)
+
+    def give_memory(self, most: float, in_group: Optional[float] = None) -> None:
+        """Says how many gigabytes of memory are free, of the machine and of its group of processes."""
+        texts = {"proc/meminfo": f"MemTotal: 99999999 kB\nMemAvailable: {int(most * 1e6)} kB\n"}
+        if in_group is not None:
+            texts["sys/fs/cgroup/memory.max"] = f"{int(in_group * 1e9) + 5_000_000_000}\n"
+            texts["sys/fs/cgroup/memory.stat"] = "file 77\nanon 5000000000\n"
+        for name, text in texts.items():
+            self.write(os.path.join(self.room, name), text)
 
     def close(self) -> None:
         """Removes the tree; what was just stopped may still write there."""
@@ -144,7 +224,7 @@ class Tree:
             os.utime(self.path(name), (now - seconds, now - seconds))
 
     def calls(self) -> List[str]:
-        """The calls of rt, and what it saw."""
+        """The calls of rt, what it saw, and how each ended."""
         path = os.path.join(self.room, "calls")
         if not os.path.exists(path):
             return []
@@ -155,7 +235,7 @@ class Tree:
         """The environment of a call; without rt there is no other either."""
         path = f"{self.bin}:/usr/bin:/bin" if has_rt else self.without_rt()
         room = os.path.join(self.room, "tmp")
-        return {"PATH": path, "HOME": self.room, "TMPDIR": room, "FAKE_FOLDER": self.room, "TERM": "xterm", **more}
+        return {"PATH": path, "HOME": self.room, "TMPDIR": room, "FAKE_FOLDER": self.room, "TERM": "xterm", "RT_JOBS": "2", **more}
 
     def without_rt(self) -> str:
         """A folder with links to all tools but rt."""
@@ -225,7 +305,7 @@ def seen(start: Callable[[Dict[str, int]], subprocess.Popen], columns: int, keys
             parts.append(os.read(master, 65536))
             if not parts[-1]:
                 break
-            if keys and b"crate 1 of" in b"".join(parts):
+            if keys and b"tc_low 0 of" in b"".join(parts):
                 os.write(master, keys)
                 keys = b""
     except OSError:
