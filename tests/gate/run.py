@@ -1,0 +1,259 @@
+#!/usr/bin/env python3
+"""The gate's tests: runs ./gate in trees of their own, where a stand-in takes the place of each of its parts.
+
+usage: tests/gate/run.py [--only WORD]
+
+The last line is 'N passed, M failed'; the status is 0 where nothing failed, else 1. No rt is needed.
+"""
+from __future__ import annotations
+
+import argparse
+import os
+import re
+import shutil
+import signal
+import subprocess
+import sys
+import tempfile
+from concurrent.futures import ThreadPoolExecutor
+from typing import Callable, Dict, List, Tuple
+
+TOP = os.path.dirname(os.path.dirname(os.path.dirname(os.path.abspath(__file__))))
+# The parts in their order, each by the command that it runs.
+PARTS = ("tests/claims/check.py", "tests/gate/run.py", "tests/wrapper/run.py", "rt", "tests/program/run.py", "tests/hostile/run.py")
+LEFT = ("crates/ttrun/out/ttrun", "crates/ttrun/out/ttrun.sources", "crates/refused_memory/out/refused_memory")
+# What each part does where a test says nothing else, so that the whole counts 21 passed.
+PASSING = {part: f"echo '{number} passed, 0 failed'" for number, part in enumerate(PARTS, 1)}
+# A part that a gate of one second for each ends.
+ENDLESS = "echo '3 passed, 0 failed'; sleep 60"
+SECONDS = 60
+TESTS: Dict[str, Callable[[str], None]] = {}
+# There are no fewer tests.
+FEWEST = 16
+
+
+class Fault(Exception):
+    """Why a test has failed."""
+
+
+def test(judge: Callable[[str], None]) -> Callable[[str], None]:
+    """Lists a test under its name."""
+    TESTS[judge.__name__] = judge
+    return judge
+
+
+def hold(is_so: object, text: str) -> None:
+    """Fails the test unless it is so."""
+    if not is_so:
+        raise Fault(text)
+
+
+def write_program(path: str, text: str) -> None:
+    """Writes a file that is run."""
+    os.makedirs(os.path.dirname(path), exist_ok=True)
+    with open(path, "w", encoding="utf-8") as file:
+        file.write(text)
+    os.chmod(path, 0o755)
+
+
+def make_tree(room: str) -> None:
+    """A checkout with the gate and no more."""
+    shutil.copy2(os.path.join(TOP, "gate"), room)
+    subprocess.run(["git", "init", "--quiet", room], check=True)
+    for name in LEFT:
+        write_program(os.path.join(room, name), "an earlier run left it\n")
+
+
+def put_parts(room: str, parts: Dict[str, str]) -> None:
+    """Puts a stand-in in the place of each part, which notes its call, its words and RT_JOBS, and does as its text says."""
+    for part in PARTS:
+        text = f'echo "{part} $* ${{RT_JOBS:-none}}" >> "{room}/calls"\n{parts.get(part, PASSING[part])}\n'
+        if part == "rt":
+            write_program(os.path.join(room, "bin/rt"), f"#!/usr/bin/env bash\n{text}")
+        else:
+            write_program(os.path.join(room, f"{part}.sh"), text)
+            write_program(os.path.join(room, part), "import os, sys\nos.execvp('bash', ['bash', __file__ + '.sh', *sys.argv[1:]])\n")
+
+
+def run(room: str, *words: str, status: int = 0, last: str = "21 passed, 0 failed", **parts: str) -> Tuple[List[str], str]:
+    """Runs the gate over stand-ins, and holds it to a status and a last line: its lines, and its standard error."""
+    put_parts(room, {next(it for it in PARTS if name in it): text for name, text in parts.items()})
+    environment = {**os.environ, "PATH": f"{room}/bin:/usr/bin:/bin", "TMPDIR": room}
+    environment.pop("RT_JOBS", None)
+    ran = subprocess.run([f"{room}/gate", *words], cwd="/", env=environment, stdin=subprocess.DEVNULL, capture_output=True,
+                         text=True, timeout=SECONDS, check=False)
+    lines = ran.stdout.splitlines()
+    hold(ran.returncode == status, f"status {status} is wanted: {ran}")
+    hold((lines or [""])[-1] == last, f"the last line is {lines[-1:]}, and not {last!r}: {ran.stderr}")
+    return lines, ran.stderr
+
+
+def calls_of(room: str) -> List[str]:
+    """The parts that were run, in their order."""
+    with open(os.path.join(room, "calls"), encoding="utf-8") as file:
+        return file.read().splitlines()
+
+
+@test
+def all_parts_pass(room: str) -> None:
+    _, errors = run(room)
+    wanted = [f"{it} {'ci ' if it == 'rt' else ' '}none" for it in PARTS]
+    hold(calls_of(room) == wanted and errors == "", f"{calls_of(room)} {errors}")
+
+
+@test
+def a_count_that_is_not_zero(room: str) -> None:
+    for part in ("claims", "gate", "wrapper", "rt", "program", "hostile"):
+        passed = 21 - [it for it in range(6) if part in PARTS[it]][-1] - 1 + 4
+        for status in (1, 0):
+            given = {"rt" if part == "rt" else f"tests/{part}/": f"echo '4 passed, 3 failed'; exit {status}"}
+            run(room, status=1, last=f"{passed} passed, 3 failed", **given)
+
+
+@test
+def two_parts_fail_together(room: str) -> None:
+    run(room, status=1, last="20 passed, 5 failed", wrapper="echo '2 passed, 1 failed'; exit 1", hostile="echo '6 passed, 4 failed'; exit 1")
+    run(room, status=1, last="10 passed, 11 failed", **{it: "echo '1 passed, 2 failed'; exit 1" for it in ("claims", "wrapper", "rt")},
+        program="echo '3 passed, 3 failed'", hostile="echo '2 passed, 2 failed'")
+
+
+@test
+def a_part_that_ends_badly_and_counts_no_failure(room: str) -> None:
+    for status in (1, 2, 3, 137):
+        _, errors = run(room, status=1, last="21 passed, 1 failed", program=f"echo '5 passed, 0 failed'; exit {status}")
+        hold(f"ended with status {status} and counts no failure" in errors, errors)
+    run(room, status=1, last="21 passed, 1 failed", rt="echo '4 passed, 0 failed'; exit 1")
+
+
+@test
+def a_part_that_is_killed(room: str) -> None:
+    _, errors = run(room, status=1, last="17 passed, 1 failed", rt=f"echo '9 passed'; kill -{int(signal.SIGKILL)} $$")
+    hold("rt ci ended with status 137" in errors, errors)
+
+
+@test
+def a_part_that_counts_nothing(room: str) -> None:
+    for text in ("exit 0", "exit 1", "echo 'all is well'", "echo '7 passed, 0 failed'; echo behind it", "echo '7 passed, 0 failed '",
+                 "echo 'about 7 passed, 0 failed'", "echo '7 passed, no failed'", "echo '7 passed, 0 failed' >&2"):
+        _, errors = run(room, status=1, last="18 passed, 1 failed", wrapper=text)
+        hold("counts no failure" in errors, f"{text}: {errors}")
+
+
+@test
+def a_part_that_cannot_be_run(room: str) -> None:
+    run(room, status=1, last="16 passed, 1 failed", program="exec /no/such/program")
+
+
+@test
+def a_part_that_does_not_end(room: str) -> None:
+    with open(os.path.join(room, "gate"), encoding="utf-8") as file:
+        text = file.read()
+    shortened = re.sub(r"(?m)^part \d+ ", "part 1 ", text)
+    hold(len(re.findall(r"(?m)^part 1 ", shortened)) == len(PARTS), "each part has a limit of seconds")
+    write_program(os.path.join(room, "gate"), shortened)
+    _, errors = run(room, status=1, last="21 passed, 1 failed", wrapper=ENDLESS)
+    hold("was ended after 1 seconds" in errors, errors)
+
+
+@test
+def a_part_that_fails_stops_no_other(room: str) -> None:
+    run(room, status=1, last="20 passed, 1 failed", claims="echo '0 passed, 1 failed'; exit 1")
+    hold(len(calls_of(room)) == len(PARTS), f"{calls_of(room)}")
+
+
+@test
+def what_an_earlier_run_left(room: str) -> None:
+    run(room, rt=f"for it in {' '.join(LEFT)}; do [ ! -e $it ] || exit 1; done; echo '4 passed, 0 failed'")
+
+
+@test
+def what_this_run_built_is_left(room: str) -> None:
+    run(room, rt=f"for it in {' '.join(LEFT)}; do : > $it; done; echo '4 passed, 0 failed'",
+        hostile=f"for it in {' '.join(LEFT)}; do [ -e $it ] || exit 1; done; echo '6 passed, 0 failed'")
+
+
+@test
+def minutes_of_each_part(room: str) -> None:
+    busy = "bash -c 'ulimit -t 2; while :; do :; done' 2> /dev/null"
+    lines, _ = run(room, rt=f"{busy}; echo '4 passed, 0 failed'", wrapper=f"({busy}); sleep 1; echo '3 passed, 0 failed'")
+    found = [re.fullmatch(r"gate: (.*) took (\d+) seconds, and (\d+\.\d\d) processor minutes", it) for it in lines]
+    told = {it[1]: (int(it[2]), float(it[3])) for it in found if it}
+    hold(len(told) == len(PARTS) + 1 and list(told)[-1] == "the whole", f"{told}")
+    cost = {name: told[next(it for it in told if name in it)] for name in ("rt ci", "wrapper", "the whole", "hostile")}
+    hold(0.03 <= cost["rt ci"][1] <= 0.06 and 0.03 <= cost["wrapper"][1] <= 0.06 and cost["hostile"][1] <= 0.01, f"{told}")
+    hold(cost["wrapper"][0] >= 2 and cost["the whole"][0] >= 4, f"{told}")
+    every = sum(it[1] for name, it in told.items() if name != "the whole")
+    hold(abs(cost["the whole"][1] - every) < 0.07, f"the whole is not the sum of its parts: {told}")
+
+
+@test
+def output_passes_through(room: str) -> None:
+    lines, errors = run(room, claims="echo 'a line of it'; echo 'of errors' >&2; echo '1 passed, 0 failed'")
+    hold("a line of it" in lines and "1 passed, 0 failed" in lines and errors == "of errors\n", f"{lines} {errors}")
+
+
+@test
+def jobs_for_rt(room: str) -> None:
+    run(room, "--jobs", "7")
+    hold("rt ci 7" in calls_of(room), f"{calls_of(room)}")
+
+
+@test
+def words_that_it_does_not_know(room: str) -> None:
+    for words in (["--jobs"], ["--jobs", "0"], ["--jobs", "x"], ["--jobs", "100"], ["rt"], ["--help", "x"]):
+        _, errors = run(room, *words, status=3, last="")
+        hold(errors.startswith("usage: ./gate"), errors)
+    run(room, "--help", last="usage: ./gate [--jobs N]   N processors for rt ci, as RT_JOBS=N; without it, as many as there are")
+    hold(not os.path.exists(os.path.join(room, "calls")), "a part was run")
+
+
+@test
+def something_is_missing(room: str) -> None:
+    put_parts(room, {})
+    tools = os.path.join(room, "tools")
+    os.mkdir(tools)
+    for name in os.listdir("/usr/bin"):
+        if name != "rt":
+            os.symlink(f"/usr/bin/{name}", os.path.join(tools, name))
+    for gone, word in ((None, "no rt"), ("python3", "no python3"), ("git", "no git")):
+        if gone:
+            shutil.copy2(os.path.join(room, "bin/rt"), tools)
+            os.rename(f"{tools}/{gone}", f"{tools}/{gone}.gone")
+        ran = subprocess.run([f"{room}/gate"], env={"PATH": tools}, capture_output=True, text=True, timeout=SECONDS, check=False)
+        hold(ran.returncode == 3 and word in ran.stderr and not ran.stdout, f"{gone}: {ran}")
+        if gone:
+            os.rename(f"{tools}/{gone}.gone", f"{tools}/{gone}")
+    hold(not os.path.exists(os.path.join(room, "calls")), "a part was run")
+
+
+def faults_in(judge: Callable[[str], None]) -> List[str]:
+    """What is wrong, nothing where the test passes."""
+    with tempfile.TemporaryDirectory(prefix="gate-test-") as room:
+        try:
+            make_tree(room)
+            judge(room)
+            left = [it for it in os.listdir(room) if it.startswith("tmp.")]
+            return [f"temporary files are left: {left}"] if left else []
+        except Exception as error:  # a test that breaks has failed, and the others go on
+            return [f"{type(error).__name__}: {error}"]
+
+
+def main() -> int:
+    """Runs the tests, several at a time."""
+    parser = argparse.ArgumentParser(description="runs ./gate over stand-ins for its parts")
+    parser.add_argument("--only", default="", help="the tests with this in their names")
+    given = parser.parse_args()
+    if len(TESTS) < FEWEST:
+        sys.exit(f"{len(TESTS)} tests are fewer than {FEWEST}")
+    chosen = [it for it in TESTS if given.only in it]
+    with ThreadPoolExecutor(4) as pool:
+        answers = list(pool.map(lambda it: faults_in(TESTS[it]), chosen))
+    failed = [(name, faults) for name, faults in zip(chosen, answers) if faults]
+    for name, faults in failed:
+        print("\n".join([f"FAILED {name}", *(f"  {it}" for it in faults)]))
+    print(f"{len(chosen) - len(failed)} passed, {len(failed)} failed")
+    return 1 if failed or not chosen else 0
+
+
+if __name__ == "__main__":
+    sys.exit(main())
