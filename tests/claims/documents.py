@@ -6,7 +6,7 @@ import re
 from dataclasses import dataclass, field
 from typing import Iterator, List, Optional, Tuple
 
-COMMAND = re.compile(r"\./ttrun(?P<words>[^<|`\n]*)< examples/(?P<file>[\w.-]+)(?P<check> \| \./ttrun check)?")
+COMMAND = re.compile(r"\./ttrun(?: --try)?(?P<words>[^<|`\n]*)< examples/(?P<file>[\w.-]+)(?P<check> \| \./ttrun check)?")
 EXAMPLE = re.compile(r"examples/([\w-]+(?:\.[\w-]+)+)")
 LINK = re.compile(r"\[[^\]\n]*\]\(([^)\s]+)\)")
 
