@@ -24,7 +24,7 @@ from typing import Callable, Dict, List, Optional, Set
 
 # Between two looks at what runs, in seconds.
 PAUSE = 0.3
-# An rt takes no gain from more.
+# As many as rt itself gives a check at most.
 MOST_JOBS = 8
 MEMINFO = "/proc/meminfo"
 # The files of a group of processes with limits of its own: the limit, where what it takes stands, and after which word.
@@ -213,6 +213,7 @@ class Builder:
         self.uses = {it: every[it] for it in with_below(every, program)}
         self.chains = chains_of(self.uses, lambda it: bytes_of(f"{top}/crates/{it}"))
         self.room = f"{top}/crates/{program}/out/building"
+        # The memory that was free before what runs now took its part, at least.
         self.lanes, self.memory = processors(), 0
         self.told, self.has_begun = "", False
         self.running: Dict[str, Running] = {}
@@ -243,12 +244,12 @@ class Builder:
 
     def jobs_for(self, name: str, longest: int) -> int:
         """With how many jobs the crate may begin now, and 0 where it has to wait for memory."""
-        if not self.running:
-            self.memory = free_memory()
-        elif self.killed.intersection([name, *self.running]):
+        if self.running and self.killed.intersection([name, *self.running]):
             return 0
+        now = free_memory()
+        self.memory = max(now, self.memory) if self.running else now
         most = min(self.lanes, MOST_JOBS) if self.chains[name] == longest and name not in self.killed else 1
-        free = min(free_memory(), self.memory - sum(need(it.jobs) for it in self.running.values()))
+        free = min(now, self.memory - sum(need(it.jobs) for it in self.running.values()))
         fitting = [it for it in range(1, most + 1) if need(it) <= free]
         return fitting[-1] if fitting else 0 if self.running else 1
 
@@ -284,8 +285,8 @@ class Builder:
             linked(f"{one}/{part}", f"{other}/{part}")
         if os.path.exists(f"{self.top}/HANDLES"):
             shutil.copy(f"{self.top}/HANDLES", at)
-        with open(f"{self.top}/crates.txt", encoding="utf-8") as file, open(f"{at}/crates.txt", "w", encoding="utf-8") as other:
-            other.writelines(it for it in file if it.partition("#")[0].split(":")[0].strip().split(" ")[0] in names)
+        with open(f"{self.top}/crates.txt", encoding="utf-8") as every, open(f"{at}/crates.txt", "w", encoding="utf-8") as some:
+            some.writelines(it for it in every if it.partition("#")[0].split(":")[0].strip().split(" ")[0] in names)
 
     def move_back(self, name: str) -> None:
         """Moves what an rt left in the crate's out/ to the checkout, in place of what was there."""
@@ -313,8 +314,6 @@ class Builder:
             return 0
         if status == 0:
             self.built.add(it.name)
-        elif self.running:
-            self.end_all()
         say(f"{said}\nend: {it.name}, status {status}")
         return status if status >= 0 else 128 - status
 
@@ -361,9 +360,8 @@ def main(top: str, program: str) -> int:
         if signal.getsignal(number) != signal.SIG_IGN:
             signal.signal(number, lambda number, _: signals.append(number))
     builder = Builder(top, program)
+    held = builder.hold_folders()
     try:
-        held = builder.hold_folders()
-        remove(builder.room)
         status = builder.build_libraries()
         for it in held:
             os.close(it)

@@ -29,7 +29,7 @@ ENDLESS = "echo '3 passed, 0 failed'; sleep 60"
 SECONDS = 60
 TESTS: Dict[str, Callable[[str], None]] = {}
 # There are no fewer tests.
-FEWEST = 16
+FEWEST = 17
 
 
 class Fault(Exception):
@@ -180,10 +180,25 @@ def minutes_of_each_part(room: str) -> None:
     told = {it[1]: (int(it[2]), float(it[3])) for it in found if it}
     hold(len(told) == len(PARTS) + 1 and list(told)[-1] == "the whole", f"{told}")
     cost = {name: told[next(it for it in told if name in it)] for name in ("rt ci", "wrapper", "the whole", "hostile")}
-    hold(0.03 <= cost["rt ci"][1] <= 0.06 and 0.03 <= cost["wrapper"][1] <= 0.06 and cost["hostile"][1] <= 0.01, f"{told}")
+    hold(0.02 <= cost["rt ci"][1] <= 0.06 and 0.02 <= cost["wrapper"][1] <= 0.06 and cost["hostile"][1] <= 0.01, f"{told}")
     hold(cost["wrapper"][0] >= 2 and cost["the whole"][0] >= 4, f"{told}")
     every = sum(it[1] for name, it in told.items() if name != "the whole")
     hold(abs(cost["the whole"][1] - every) < 0.07, f"the whole is not the sum of its parts: {told}")
+
+
+@test
+def costs_of_hours(room: str) -> None:
+    with open(os.path.join(room, "gate"), encoding="utf-8") as file:
+        functions = re.search(r"(?ms)^ask_cpu\(\) \{.*?^\}$.*?^tell_cost\(\) [^\n]*$", file.read())
+    script = f"""spent={room}/spent
+times() {{ printf '0m1.000s 0m1.000s\\n%s %s\\n' "$1" "$2"; }}
+{functions[0]}
+cpu=17 && eval "$(declare -f ask_cpu | sed 's/times >/times $took >/')"
+for took in '445m7.080s 12m0.009s' '0m0,640s 0m0,020s'; do ask_cpu; tell_cost it 9000 "$cpu"; done
+"""
+    ran = subprocess.run(["bash", "-c", script], capture_output=True, text=True, check=False)
+    wanted = [f"gate: it took 9000 seconds, and {it} processor minutes" for it in ("457.11", "0.01")]
+    hold(ran.stdout.splitlines() == wanted, f"{ran}")
 
 
 @test

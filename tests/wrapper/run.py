@@ -493,13 +493,13 @@ def memory_is_short(tree: Tree) -> None:
 
 @test
 def memory_that_others_take(tree: Tree) -> None:
-    started = tree.start(["a"], FAKE_PAUSE_tc_low="1", FAKE_PAUSE_tc_high="1")
-    wait_for(lambda: bool(tree.calls()), "the first crate is begun")
-    tree.give_memory(5)
-    wait_for(lambda: "lib tc_high --jobs 2" in tree.calls(), "the second crate is begun")
+    tree.write("crates.txt", "tc_low:\ntc_high: tc_low\ntc_aside:\nttrun: tc_high tc_aside tc_low\n")
+    started = tree.start(["a"], FAKE_PAUSE_tc_low="1", FAKE_PAUSE_tc_aside="3")
+    wait_for(lambda: len(tree.calls()) == 2, "two crates are begun")
     tree.give_memory(1)
     hold(tree.ended(started).status == 0, "it is built")
-    hold(tree.calls().index("built tc_high") < tree.calls().index("lib tc_aside --jobs 1"), f"{tree.calls()}")
+    order = [tree.calls().index(it) for it in ("built tc_low", "built tc_aside", "lib tc_high --jobs 1")]
+    hold(order == sorted(order), f"{tree.calls()}")
 
 
 @test
@@ -637,12 +637,14 @@ def another_rt_works_in_the_tree(tree: Tree) -> None:
 
 @test
 def a_wait_for_another_rt_is_stopped(tree: Tree) -> None:
+    tree.write("crates/ttrun/out/building/tc_low/crates.txt", "of the other\n")
     other = os.open(tree.path("crates/tc_low"), os.O_RDONLY)
     fcntl.flock(other, fcntl.LOCK_EX)
     started = tree.start(["a"])
     time.sleep(1.5)
     started.terminate()
     hold(tree.ended(started).status == -signal.SIGTERM and not tree.calls(), f"{tree.calls()}")
+    hold(os.path.exists(tree.path("crates/ttrun/out/building/tc_low/crates.txt")), "it removed what another build may use")
     os.close(other)
 
 
