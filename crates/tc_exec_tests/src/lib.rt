@@ -1,5 +1,25 @@
-//! The tests of `tc_exec` by its public calls, in a crate of their own: a check of them doesn't prove the library once more.
+//! The tests of `tc_book` and `tc_exec` by their public calls, in a crate of their own: a check of them proves neither once more.
 #![tactic(auto)]
 
 #[cfg(test)]
-mod tests;
+mod behind_the_lock;
+#[cfg(test)]
+mod books;
+#[cfg(test)]
+mod calls;
+#[cfg(test)]
+mod cases;
+#[cfg(test)]
+mod checks;
+#[cfg(test)]
+mod hostile;
+#[cfg(test)]
+mod jobs;
+#[cfg(test)]
+mod orders;
+#[cfg(test)]
+mod places;
+#[cfg(test)]
+mod settings;
+#[cfg(test)]
+mod waking;

@@ -1,7 +1,9 @@
 //! What a test found, held beside what is wanted. Each check is a call: the branches of an assertion are proved once here, and
 //! not anew at each place.
+use std::alloc::Global;
 use std::fmt::Debug;
 use std::process::Abort;
+use tc_history::{Block, read_history};
 
 /// Ends the test unless what was found is what is wanted.
 pub(crate) fn is<R: Abort, T: PartialEq + Debug + Copy>(rt: &R, what: &str, found: T, wanted: T) {
@@ -11,4 +13,20 @@ pub(crate) fn is<R: Abort, T: PartialEq + Debug + Copy>(rt: &R, what: &str, foun
 /// Ends the test unless this holds.
 pub(crate) fn holds<R: Abort>(rt: &R, what: &str, fact: bool) {
     assert!(rt; fact, "{what}");
+}
+
+/// The blocks of a history text, from which a test takes the entries that it needs.
+pub(crate) fn blocks<R: Abort>(rt: &R, alloc: Global, text: &[u8]) -> Vec<Block> {
+    match read_history(alloc, text) {
+        Ok(blocks) => blocks,
+        Err(_) => panic!(rt; "a history"),
+    }
+}
+
+/// The first of these blocks.
+pub(crate) fn first<'a, R: Abort>(rt: &R, blocks: &'a [Block]) -> &'a Block {
+    match blocks.first() {
+        Some(block) => block,
+        None => panic!(rt; "a block"),
+    }
 }

@@ -12,14 +12,8 @@ mod histories;
 #[cfg(test)]
 mod merging;
 #[cfg(test)]
-mod steps;
-#[cfg(test)]
-mod streams;
-#[cfg(test)]
 mod tables;
 #[cfg(test)]
 mod texts;
-#[cfg(test)]
-mod verdicts;
 #[cfg(test)]
 mod words;

@@ -5,7 +5,7 @@ use std::alloc::Global;
 use std::process::Abort;
 use std::sync::Wait;
 use tc_book::{CloseFault, Closed, Halt, Left, Pass, Shared, Ticket, close_case, open_case};
-use tc_entry::{Args, BEHAVIOURS, Comp, Fault, Group, Name, Run, Target, UserVerdict, Verdict};
+use tc_table::{Args, Comp, Fault, Group, Name, Run, Target, UserVerdict, Verdict};
 
 /// One component.
 pub(crate) fn one(comp: u32) -> Target {
@@ -14,7 +14,7 @@ pub(crate) fn one(comp: u32) -> Target {
 
 /// Opens a case of 1 to 256 behaviours.
 pub(crate) fn open(alloc: Global, behaviours: u16) -> Result<(Shared, Pass, Vec<Ticket>), Halt> {
-    if behaviours < 1 || BEHAVIOURS < usize::from(behaviours) {
+    if behaviours < 1 || 256 < behaviours {
         return Err(Halt::Fault(Fault::NoBehaviour));
     }
     match open_case(alloc, behaviours) {

@@ -1,16 +1,16 @@
-//! The jobs of the tests, the flags that they share, and their cases. A test makes its jobs by calls where they need no runtime, so that
-//! its proof holds few values; a closure that holds the runtime is boxed in the test, since the type of a boxed closure has no
-//! parameter.
-use crate::tests::Behaviour;
-use crate::tests::checks::got;
+//! The jobs of the tests, the flags that they share, and their cases. A closure that holds the runtime is boxed in the test, since
+//! the type of a boxed closure has no parameter.
+use crate::checks::got;
 use std::alloc::{AllocError, Global};
 use std::process::Abort;
 use std::sync::atomic::{AtomicU64, Ordering};
 use std::sync::{Arc, Wait};
 use std::thread::Threads;
 use tc_book::{Halt, Pass};
-use tc_entry::{Args, Run, Target, UserVerdict};
 use tc_exec::*;
+use tc_table::{Args, Run, Target, UserVerdict};
+
+pub(crate) type Behaviour = Box<dyn FnOnce(Pass) -> Back + Send>;
 
 /// A flag that is not set, or a count of nothing.
 pub(crate) fn zero<R: Abort>(rt: &R, alloc: Global) -> Arc<AtomicU64> {
@@ -27,12 +27,18 @@ pub(crate) fn number(it: &AtomicU64) -> u64 {
     it.load(Ordering::SeqCst)
 }
 
-/// Creates a component for each other run, starts them, and waits until all are done.
-fn start_all<R: Wait>(rt: &R, pass: &mut Pass, behaviours: u16) -> Result<(), Halt> {
+/// Creates a component for each other run, and starts them.
+pub(crate) fn start_others<R: Wait>(rt: &R, pass: &mut Pass, behaviours: u16) -> Result<(), Halt> {
     for run in 1..behaviours {
         let comp = pass.create(rt, false)?;
         pass.start(rt, comp, Run(run), &Args::new())?;
     }
+    Ok(())
+}
+
+/// Starts all others, and waits until they are done.
+fn start_all<R: Wait>(rt: &R, pass: &mut Pass, behaviours: u16) -> Result<(), Halt> {
+    start_others(rt, pass, behaviours)?;
     pass.wait_done(rt, Target::All)
 }
 

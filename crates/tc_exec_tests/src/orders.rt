@@ -7,8 +7,7 @@ use std::alloc::Global;
 use std::process::Abort;
 use std::sync::Wait;
 use tc_book::{Closed, Halt, Left, Pass, Shared, Ticket};
-use tc_entry::{Entry, NoMemory, Op, Reply, Run, UserVerdict, Verdict};
-use tc_table::replay_check;
+use tc_table::{Entry, NoMemory, Op, Reply, Run, UserVerdict, Verdict, replay_check};
 
 /// A call of a small case.
 #[derive(Clone, Copy)]
@@ -320,7 +319,7 @@ fn small_cases() -> [Small; 5] {
 }
 
 /// Counts, for the run that ended the case by a StopCase, one more; for a case that ended in another way nothing.
-fn count_stop(stopped: &mut [usize; 3], history: &[Entry]) {
+fn count_stop(stopped: &mut [u64; 3], history: &[Entry]) {
     for entry in history {
         if let (Op::StopCase, Reply::Ok) = (&entry.op, entry.reply) {
             if let Some(count) = stopped.get_mut(usize::from(entry.caller.0)) {
@@ -341,7 +340,7 @@ fn play_and_replay<R: Abort + Wait>(
     alloc: Global,
     small: &Small,
     order: &mut Order,
-    stopped: &mut [usize; 3],
+    stopped: &mut [u64; 3],
 ) {
     let closed = play(rt, alloc, small, order);
     let history = closed.history.as_slice();
@@ -350,14 +349,9 @@ fn play_and_replay<R: Abort + Wait>(
 }
 
 /// Plays a small case in every order, and says how many there are.
-fn play_all<R: Abort + Wait>(
-    rt: &R,
-    alloc: Global,
-    small: &Small,
-    stopped: &mut [usize; 3],
-) -> usize {
+fn play_all<R: Abort + Wait>(rt: &R, alloc: Global, small: &Small, stopped: &mut [u64; 3]) -> u64 {
     let mut order = Order::first(alloc);
-    let mut orders = 0usize;
+    let mut orders = 0u64;
     for _ in 0..100_000u32 {
         play_and_replay(rt, alloc, small, &mut order, stopped);
         orders = orders.saturating_add(1);
@@ -372,8 +366,8 @@ fn play_all<R: Abort + Wait>(
 /// in 783 of which a StopCase ends the case.
 #[test]
 fn every_order_of_small_cases(rt: HostRuntime) {
-    let mut orders = 0usize;
-    let mut stopped = [0usize; 3];
+    let mut orders = 0u64;
+    let mut stopped = [0u64; 3];
     for small in small_cases() {
         let more = play_all(&rt, rt.alloc(), &small, &mut stopped);
         orders = orders.saturating_add(more);

@@ -12,7 +12,7 @@ use std::thread;
 use std::thread::{JoinHandle, Threads};
 use std::time::{Clock, CpuClock, Duration};
 use tc_book::{Halt, Left, Pass, Shared, Ticket};
-use tc_entry::{Args, Comp, Entry, Fault, Op, Reply, Run, Target};
+use tc_table::{Args, Comp, Entry, Fault, Op, Reply, Run, Target};
 
 const LATE: Target = Target::One(Comp(2));
 

@@ -3,7 +3,7 @@ use crate::calls::{create, enter, is_ended, leave, open, start, stop, unstarted}
 use crate::checks::{got, is};
 use std::sync::Wait;
 use tc_book::Shared;
-use tc_entry::Run;
+use tc_table::Run;
 
 fn has_place<R: Wait>(rt: &R, shared: &Shared, run: u16) -> bool {
     shared.look(rt).has_place(Run(run))

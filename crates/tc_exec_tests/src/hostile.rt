@@ -1,22 +1,19 @@
 //! Behaviours that do what they should not, and threads that are refused.
 ghost use Rattle.std.specs.Prelude.{⊤};
 
-use crate::tests::Behaviour;
-use crate::tests::checks::{at_least, got, holds, is};
-use crate::tests::jobs::*;
+use crate::checks::{at_least, got, holds, is};
+use crate::jobs::*;
 use std::alloc::{AllocError, Global};
 use std::process::Abort;
 use std::rt::Files;
 use std::sync::atomic::{AtomicU64, Ordering};
 use std::sync::{Arc, Wait};
-use std::test::Fail;
 use std::thread::Threads;
 use std::time::{Clock, Duration};
 use std::{fs, thread};
 use tc_book::{Halt, Pass, open_case};
-use tc_entry::{Args, Comp, Entry, Group, Reply, Run, UserVerdict, Verdict};
 use tc_exec::*;
-use tc_table::replay_check;
+use tc_table::{Args, Comp, Entry, Group, Reply, Run, UserVerdict, Verdict, replay_check};
 
 /// Allows no worker of one run, and keeps the runs that it was asked for.
 #[derive(Drop)]
@@ -274,11 +271,10 @@ fn that_goes_deep(alloc: Global) -> Result<Job, AllocError> {
 }
 
 #[test]
-fn a_behaviour_with_a_deep_frame(rt: HostRuntime) -> Result<(), Fail> {
-    let alloc = rt.alloc();
-    let first: Behaviour = Box::new(alloc, move |pass: Pass| starts_all(&rt, pass, 2))?;
-    let second = got(&rt, that_goes_deep(alloc));
-    let report = report_of_two(&rt, alloc, Job::new(first), second, 1);
+fn a_behaviour_with_a_deep_frame(rt: HostRuntime) -> Result<(), AllocError> {
+    let first: Behaviour = Box::new(rt.alloc(), move |pass: Pass| starts_all(&rt, pass, 2))?;
+    let second = that_goes_deep(rt.alloc())?;
+    let report = report_of_two(&rt, rt.alloc(), Job::new(first), second, 1);
     is(&rt, "overall verdict", report.verdict, Verdict::Pass);
     Ok(())
 }
@@ -309,7 +305,7 @@ fn refusal_of_one<R: Abort + Threads + Wait + Copy + Send + 'static>(
 }
 
 #[test]
-fn pass_of_another_case(rt: HostRuntime) -> Result<(), Fail> {
+fn pass_of_another_case(rt: HostRuntime) -> Result<(), AllocError> {
     for (ending, wanted) in [
         (Ending::Returned, CaseError::Torn),
         (Ending::Starved, CaseError::NoMemory),
@@ -341,7 +337,7 @@ fn is_whole<R: Abort>(rt: &R, answer: Result<CaseReport, CaseError>) {
 
 // Where each allocation of this test fails in turn, memory is what is told of: never that a whole case is torn.
 #[test]
-fn a_whole_case_is_never_torn(rt: HostRuntime) -> Result<(), Fail> {
+fn a_whole_case_is_never_torn(rt: HostRuntime) -> Result<(), AllocError> {
     let jobs = two_jobs(rt.alloc())?;
     is_whole(&rt, report_of(&rt, rt.alloc(), jobs, 1));
     Ok(())
@@ -372,7 +368,7 @@ fn kills_all<R: Wait + Clock>(rt: &R, pass: Pass, late: Option<u64>) -> Back {
     Back::after(pass, made)
 }
 
-/// Starts run 2 on the component that is the argument, so late.
+/// A behaviour that starts run 2 on the component that is its argument, so late.
 fn starts_argument<R: Wait + Clock>(rt: &R, pass: Pass, late: Option<u64>) -> Back {
     let mut pass = pass;
     pause(rt, late);
@@ -383,14 +379,16 @@ fn starts_argument<R: Wait + Clock>(rt: &R, pass: Pass, late: Option<u64>) -> Ba
     Back::after(pass, made)
 }
 
+fn fails(pass: Pass, ran: &AtomicU64) -> Back {
+    let mut pass = pass;
+    ran.store(1, Ordering::SeqCst);
+    let made = pass.set_verdict(UserVerdict::Fail);
+    Back::after(pass, made)
+}
+
 /// A job that sets the flag, and fail.
 fn that_fails(alloc: Global, ran: Arc<AtomicU64>) -> Result<Job, AllocError> {
-    let run: Behaviour = Box::new(alloc, move |pass: Pass| {
-        let mut pass = pass;
-        ran.store(1, Ordering::SeqCst);
-        let made = pass.set_verdict(UserVerdict::Fail);
-        Back::after(pass, made)
-    })?;
+    let run: Behaviour = Box::new(alloc, move |pass: Pass| fails(pass, &ran))?;
     Ok(Job::new(run))
 }
 
@@ -422,44 +420,61 @@ fn lateness(round: u32, place: u32) -> Option<u64> {
     }
 }
 
-/// Lets a Kill of all by the first job and a Start by the second run against each other, where the third sets the flag; the
+/// Lets a Kill of all by the first job and a Start by the second run against each other, where the third sets a flag; the
 /// reply to the Start, as `reply_of_start`.
 fn reply_against_kill<R: Abort + Threads + Wait + Copy + Send + 'static>(
     rt: &R,
     alloc: Global,
-    jobs: (Job, Job, Job),
-    ran: &AtomicU64,
+    first: Job,
+    second: Job,
 ) -> Option<Reply> {
-    let (first, second, third) = jobs;
+    let ran = zero(rt, alloc);
+    let third = got(rt, that_fails(alloc, shared_with(rt, &ran)));
     let report = report_of_three(rt, alloc, first, second, third);
-    reply_of_start(alloc, &report, number(ran) == 1)
+    reply_of_start(alloc, &report, number(&ran) == 1)
+}
+
+/// How many rounds there were in which the Start was first, and the Kill.
+#[derive(Clone, Copy)]
+struct Rounds {
+    starts: u64,
+    kills: u64,
+}
+
+/// Counts a round, by the reply to its Start.
+fn count(rt: &impl Abort, rounds: &mut Rounds, reply: Option<Reply>) {
+    match reply {
+        Some(Reply::Ok) => rounds.starts = rounds.starts.saturating_add(1),
+        Some(Reply::Ended) => rounds.kills = rounds.kills.saturating_add(1),
+        reply => panic!(rt; "{reply:?}"),
+    }
 }
 
 // 200 rounds, in 25 of which the Kill is late, and in 25 the Start; and more until each was first in at least 20.
 #[test]
-fn start_against_kill(rt: HostRuntime) -> Result<(), Fail> {
-    let alloc = rt.alloc();
-    let (mut starts, mut kills) = (0u64, 0u64);
+fn start_against_kill(rt: HostRuntime) -> Result<(), AllocError> {
+    let mut rounds = Rounds {
+        starts: 0,
+        kills: 0,
+    };
     for round in 0..2000u32 {
-        if round >= 200 && starts >= 20 && kills >= 20 {
+        if round >= 200 && rounds.starts >= 20 && rounds.kills >= 20 {
             break;
         }
-        let first: Behaviour = Box::new(alloc, move |pass: Pass| {
-            kills_all(&rt, pass, lateness(round, 3))
+        let (kill, start) = (lateness(round, 3), lateness(round, 7));
+        let first: Behaviour = Box::new(rt.alloc(), move |pass: Pass| kills_all(&rt, pass, kill))?;
+        let second: Behaviour = Box::new(rt.alloc(), move |pass: Pass| {
+            starts_argument(&rt, pass, start)
         })?;
-        let second: Behaviour = Box::new(alloc, move |pass: Pass| {
-            starts_argument(&rt, pass, lateness(round, 7))
-        })?;
-        let ran = zero(&rt, alloc);
-        let third = got(&rt, that_fails(alloc, shared_with(&rt, &ran)));
-        let jobs = (Job::new(first), Job::new(second), third);
-        match reply_against_kill(&rt, alloc, jobs, &ran) {
-            Some(Reply::Ok) => starts = starts.saturating_add(1),
-            Some(Reply::Ended) => kills = kills.saturating_add(1),
-            reply => panic!(rt; "round {round}: {reply:?}"),
-        }
+        let reply = reply_against_kill(&rt, rt.alloc(), Job::new(first), Job::new(second));
+        count(&rt, &mut rounds, reply);
     }
-    at_least(&rt, "rounds in which the Start was first", starts, 20);
-    at_least(&rt, "rounds in which the Kill was first", kills, 20);
+    at_least(
+        &rt,
+        "rounds in which the Start was first",
+        rounds.starts,
+        20,
+    );
+    at_least(&rt, "rounds in which the Kill was first", rounds.kills, 20);
     Ok(())
 }

@@ -7,10 +7,7 @@ use std::sync::Wait;
 use std::thread;
 use std::thread::{JoinHandle, Threads};
 use tc_book::*;
-use tc_entry::{
-    Args, Comp, Entry, Fault, Group, Name, NoMemory, Op, Reply, Run, Target, UserVerdict, Verdict,
-};
-use tc_table::{Table, replay_check};
+use tc_table::{Comp, Entry, Fault, Name, Op, Reply, Run, UserVerdict, Verdict, replay_check};
 
 /// Ends the test unless a closed case has so many entries and this overall verdict.
 fn is_told<R: Abort>(rt: &R, closed: &Closed, entries: usize, verdict: Verdict) {
@@ -86,13 +83,6 @@ fn torn_closes(rt: HostRuntime) {
     is(&rt, "logs", closed.logs.as_slice().len(), 1);
 }
 
-/// The room of a table in which room for two entries was made.
-fn room_for_two(alloc: Global) -> Result<usize, NoMemory> {
-    let mut table = Table::new(alloc, 1)?;
-    table.make_room(2)?;
-    Ok(table.room())
-}
-
 /// Whether the last of four entries is a wait that was answered at once.
 fn ends_in_a_wait(log: &[Entry]) -> bool {
     match log {
@@ -120,7 +110,6 @@ fn calls_alone<R: Abort + Wait>(rt: &R, pass: &mut Pass) {
 #[test]
 fn quiet_calls(rt: HostRuntime) {
     let alloc = rt.alloc();
-    holds(&rt, "room for two", 2 <= got(&rt, room_for_two(alloc)));
     let (_, pass, tickets) = got(&rt, open(alloc, 1));
     let mut pass = pass;
     is(&rt, "tickets", tickets.len(), 0);
@@ -169,7 +158,7 @@ fn components_with_names(rt: HostRuntime) {
 fn case_of_two<R: Abort + Wait>(rt: &R, alloc: Global) -> (Shared, Pass, Pass) {
     let (shared, pass, tickets) = got(rt, open(alloc, 2));
     let (mut main, mut tickets) = (pass, tickets);
-    got(rt, create(rt, &mut main, true));
+    is(rt, "created", create(rt, &mut main, true), Ok(Comp(1)));
     got(rt, start_with(rt, &mut main, 1, 1, 0));
     let other = enter(rt, &mut tickets);
     (shared, main, other)
@@ -249,53 +238,6 @@ fn a_fault_ends_the_pass(rt: HostRuntime) {
     is_told(&rt, &closed, 1, Verdict::Error);
 }
 
-/// A stop of the test case ends the pass.
-fn stop_the_case<R: Abort + Wait>(rt: &R, pass: &mut Pass) {
-    is(rt, "set", set(pass, UserVerdict::Pass), Ok(()));
-    is(rt, "stop", stop_case(rt, pass), Ok(()));
-    is(rt, "ended", is_ended(pass), true);
-    is(rt, "late stop", stop_case(rt, pass), Err(Halt::Ended));
-    is(rt, "late get", get(pass), Err(Halt::Ended));
-    is(rt, "entries", entries(pass), 2);
-}
-
-#[test]
-fn stop_of_a_case(rt: HostRuntime) {
-    let alloc = rt.alloc();
-    let (shared, pass, _) = got(&rt, open(alloc, 1));
-    let mut pass = pass;
-    stop_the_case(&rt, &mut pass);
-    let left = leave(&rt, pass);
-    let closed = got(&rt, close_of_one(&rt, alloc, shared, left));
-    is_told(&rt, &closed, 2, Verdict::Error);
-}
-
-/// A case in which run 1 stops the test case, after which neither it nor the main run is answered.
-fn stopped_by_the_other<R: Abort + Wait>(rt: &R, alloc: Global) -> Closed {
-    let (shared, pass, tickets) = got(rt, open(alloc, 2));
-    let (mut main, mut tickets) = (pass, tickets);
-    got(rt, create(rt, &mut main, true));
-    got(rt, start(rt, &mut main, 1, 1));
-    let mut other = enter(rt, &mut tickets);
-    got(rt, set(&mut main, UserVerdict::Pass));
-    got(rt, stop_case(rt, &mut other));
-    is(
-        rt,
-        "late",
-        set(&mut main, UserVerdict::Fail),
-        Err(Halt::Ended),
-    );
-    let (main, other) = (leave(rt, main), leave(rt, other));
-    got(rt, close_of_two(rt, alloc, shared, main, other))
-}
-
-#[test]
-fn stop_of_a_case_by_another(rt: HostRuntime) {
-    let closed = stopped_by_the_other(&rt, rt.alloc());
-    is_told(&rt, &closed, 5, Verdict::Error);
-    are_locals(&rt, &closed, Verdict::Pass, Verdict::Error);
-}
-
 /// The behaviour of run 1: it sets pass.
 fn sets_pass<R: Wait>(rt: &R, ticket: Ticket) -> Left {
     match await_start(rt, ticket) {
@@ -336,21 +278,4 @@ fn book_on_two_threads(rt: HostRuntime) {
     are_locals(&rt, &closed, Verdict::None, Verdict::Pass);
     let replayed = replay_check(alloc, 2, closed.history.as_slice());
     is(&rt, "replayed", replayed.ok(), Some(Verdict::Pass));
-}
-
-/// Starts run 1, stops it, and asks for a run that is not there.
-fn start_too_many<R: Abort + Wait>(rt: &R, pass: &mut Pass) {
-    got(rt, create(rt, pass, true));
-    got(rt, start(rt, pass, 1, 1));
-    got(rt, stop(rt, pass, 1));
-    let fault = Halt::Fault(Fault::NoBehaviour);
-    is(rt, "start", start(rt, pass, 1, 2), Err(fault));
-}
-
-/// A case has as many runs as it was opened for.
-#[test]
-fn runs_of_a_case(rt: HostRuntime) {
-    let (_, pass, _) = got(&rt, open(rt.alloc(), 2));
-    let mut pass = pass;
-    start_too_many(&rt, &mut pass);
 }
