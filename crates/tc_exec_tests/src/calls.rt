@@ -1,16 +1,11 @@
-//! The calls of the tests, without clauses: a test looks at what they answer, and its proof carries nothing of what the book
-//! promises.
-use crate::checks::got;
+//! The calls of the tests, as rows of a move and the reply to it: a test looks at what they answer, and its proof carries nothing
+//! of what the book promises.
+use crate::checks::{got, holds, is};
 use std::alloc::Global;
 use std::process::Abort;
 use std::sync::Wait;
 use tc_book::{CloseFault, Closed, Halt, Left, Pass, Shared, Ticket, close_case, open_case};
-use tc_table::{Args, Comp, Fault, Group, Name, Run, Target, UserVerdict, Verdict};
-
-/// One component.
-pub(crate) fn one(comp: u32) -> Target {
-    Target::One(Comp(comp))
-}
+use tc_table::{Comp, Fault, Name, Op, Reply, Target, Verdict, read_move, read_reply};
 
 /// Opens a case of 1 to 256 behaviours.
 pub(crate) fn open(alloc: Global, behaviours: u16) -> Result<(Shared, Pass, Vec<Ticket>), Halt> {
@@ -50,90 +45,120 @@ pub(crate) fn unstarted<R: Abort + Wait>(rt: &R, tickets: &mut Vec<Ticket>) -> L
     }
 }
 
-pub(crate) fn create<R: Wait>(rt: &R, pass: &mut Pass, alive: bool) -> Result<Comp, Halt> {
-    pass.create(rt, alive)
+/// The reply of a call that was not answered by its value; none where memory was refused.
+fn halted(halt: Halt) -> Option<Reply> {
+    match halt {
+        Halt::Ended => Some(Reply::Ended),
+        Halt::Fault(fault) => Some(Reply::Fault(fault)),
+        Halt::NoMemory => None,
+    }
 }
 
-pub(crate) fn create_named<R: Wait>(
-    rt: &R,
-    pass: &mut Pass,
-    alive: bool,
-    name: &Name,
-) -> Result<Comp, Halt> {
-    pass.create_named(rt, alive, name.copy())
+fn made(answer: Result<Comp, Halt>) -> Option<Reply> {
+    match answer {
+        Ok(comp) => Some(Reply::Made(comp)),
+        Err(halt) => halted(halt),
+    }
 }
 
-/// Starts a run without arguments.
-pub(crate) fn start<R: Wait>(rt: &R, pass: &mut Pass, comp: u32, run: u16) -> Result<(), Halt> {
-    pass.start(rt, Comp(comp), Run(run), &Args::new())
+fn told(answer: Result<bool, Halt>) -> Option<Reply> {
+    match answer {
+        Ok(holds) => Some(Reply::Answer(holds)),
+        Err(halt) => halted(halt),
+    }
 }
 
-/// Starts a run with one component as its argument.
-pub(crate) fn start_with<R: Wait>(
-    rt: &R,
-    pass: &mut Pass,
-    comp: u32,
-    run: u16,
-    arg: u32,
-) -> Result<(), Halt> {
-    let mut args = Args::new();
-    let _ = args.push(Comp(arg));
-    pass.start(rt, Comp(comp), Run(run), &args)
+fn found(answer: Result<Verdict, Halt>) -> Option<Reply> {
+    match answer {
+        Ok(verdict) => Some(Reply::Local(verdict)),
+        Err(halt) => halted(halt),
+    }
 }
 
-/// Stops one component.
-pub(crate) fn stop<R: Wait>(rt: &R, pass: &mut Pass, comp: u32) -> Result<(), Halt> {
-    pass.stop(rt, Group::One(Comp(comp)))
+fn replied(answer: Result<(), Halt>, reply: Reply) -> Option<Reply> {
+    match answer {
+        Ok(()) => Some(reply),
+        Err(halt) => halted(halt),
+    }
 }
 
-/// Kills one component.
-pub(crate) fn kill<R: Wait>(rt: &R, pass: &mut Pass, comp: u32) -> Result<(), Halt> {
-    pass.kill(rt, Group::One(Comp(comp)))
+fn create<R: Wait>(rt: &R, pass: &mut Pass, alive: bool, name: &Option<Name>) -> Option<Reply> {
+    match name {
+        Some(name) => made(pass.create_named(rt, alive, name.copy())),
+        None => made(pass.create(rt, alive)),
+    }
 }
 
-pub(crate) fn kill_all<R: Wait>(rt: &R, pass: &mut Pass) -> Result<(), Halt> {
-    pass.kill(rt, Group::All)
+/// A wait until this is done, or killed.
+fn wait<R: Wait>(rt: &R, pass: &mut Pass, killed: bool, target: Target) -> Option<Reply> {
+    if killed {
+        replied(pass.wait_killed(rt, target), Reply::Matched)
+    } else {
+        replied(pass.wait_done(rt, target), Reply::Matched)
+    }
 }
 
-pub(crate) fn stop_case<R: Wait>(rt: &R, pass: &mut Pass) -> Result<(), Halt> {
-    pass.stop_case(rt)
+/// The reply to a call that asks, or sets or gets the verdict.
+fn ask<R: Wait>(rt: &R, pass: &mut Pass, op: &Op) -> Option<Reply> {
+    match op {
+        Op::Running(target) => told(pass.running(rt, *target)),
+        Op::Alive(target) => told(pass.alive(rt, *target)),
+        Op::Done(target) => told(pass.done(rt, *target)),
+        Op::Killed(target) => told(pass.killed(rt, *target)),
+        Op::SetVerdict(verdict) => replied(pass.set_verdict(*verdict), Reply::Ok),
+        Op::GetVerdict => found(pass.get_verdict()),
+        _ => None,
+    }
 }
 
-pub(crate) fn running<R: Wait>(rt: &R, pass: &mut Pass, comp: u32) -> Result<bool, Halt> {
-    pass.running(rt, one(comp))
+/// The reply to a call.
+pub(crate) fn call<R: Wait>(rt: &R, pass: &mut Pass, op: &Op) -> Option<Reply> {
+    match op {
+        Op::Create { alive, name } => create(rt, pass, *alive, name),
+        Op::Start { comp, run, args } => replied(pass.start(rt, *comp, *run, args), Reply::Ok),
+        Op::Stop(group) => replied(pass.stop(rt, *group), Reply::Ok),
+        Op::Kill(group) => replied(pass.kill(rt, *group), Reply::Ok),
+        Op::StopCase => replied(pass.stop_case(rt), Reply::Ok),
+        Op::Wait { killed, target } => wait(rt, pass, *killed, *target),
+        op => ask(rt, pass, op),
+    }
 }
 
-pub(crate) fn alive<R: Wait>(rt: &R, pass: &mut Pass, comp: u32) -> Result<bool, Halt> {
-    pass.alive(rt, one(comp))
+/// Makes the call that a move spells, and says what is replied to it.
+pub(crate) fn reply_to<R: Abort + Wait>(rt: &R, pass: &mut Pass, text: &str) -> Option<Reply> {
+    match read_move(text.as_bytes()) {
+        Some((_, op)) => call(rt, pass, &op),
+        None => panic!(rt; "{text}"),
+    }
 }
 
-pub(crate) fn done<R: Wait>(rt: &R, pass: &mut Pass, comp: u32) -> Result<bool, Halt> {
-    pass.done(rt, one(comp))
+/// Makes the call of a row, which is replied to as the row says.
+fn call_row<R: Abort + Wait>(rt: &R, pass: &mut Pass, row: &str) {
+    match row.split_once(" => ") {
+        Some((text, reply)) => {
+            let wanted = read_reply(reply.as_bytes());
+            is(rt, row, reply_to(rt, pass, text), wanted);
+        }
+        None => holds(rt, row, false),
+    }
 }
 
-pub(crate) fn killed<R: Wait>(rt: &R, pass: &mut Pass, comp: u32) -> Result<bool, Halt> {
-    pass.killed(rt, one(comp))
+/// Makes the calls of these rows.
+pub(crate) fn calls<R: Abort + Wait>(rt: &R, pass: &mut Pass, rows: &str) {
+    for row in rows.lines() {
+        call_row(rt, pass, row);
+    }
 }
 
-pub(crate) fn set(pass: &mut Pass, verdict: UserVerdict) -> Result<(), Halt> {
-    pass.set_verdict(verdict)
-}
-
-pub(crate) fn get(pass: &mut Pass) -> Result<Verdict, Halt> {
-    pass.get_verdict()
-}
-
-pub(crate) fn wait_done<R: Wait>(rt: &R, pass: &mut Pass, target: Target) -> Result<(), Halt> {
-    pass.wait_done(rt, target)
-}
-
-pub(crate) fn wait_killed<R: Wait>(rt: &R, pass: &mut Pass, target: Target) -> Result<(), Halt> {
-    pass.wait_killed(rt, target)
-}
-
-/// How many entries a pass has logged.
-pub(crate) fn entries(pass: &Pass) -> usize {
-    pass.log().len()
+/// Makes the calls of these rows, those of run 0 on the first pass, and others on the other one.
+pub(crate) fn calls_of_two<R: Abort + Wait>(rt: &R, main: &mut Pass, other: &mut Pass, rows: &str) {
+    for row in rows.lines() {
+        if row.starts_with("0 ") {
+            call_row(rt, main, row);
+        } else {
+            call_row(rt, other, row);
+        }
+    }
 }
 
 pub(crate) fn is_ended(pass: &Pass) -> bool {

@@ -1,13 +1,13 @@
 //! Small cases of three runs, whose calls are made in every order, with verdict calls among them: each closes.
-use crate::calls::{
-    await_start, close, create, get, kill, kill_all, leave, open, set, start, stop, stop_case,
-};
+use crate::calls::{await_start, calls, close, leave, open};
 use crate::checks::{at_least, got, is};
 use std::alloc::Global;
 use std::process::Abort;
 use std::sync::Wait;
 use tc_book::{Closed, Halt, Left, Pass, Shared, Ticket};
-use tc_table::{Entry, NoMemory, Op, Reply, Run, UserVerdict, Verdict, replay_check};
+use tc_table::{
+    Args, Comp, Entry, Group, NoMemory, Op, Reply, Run, UserVerdict, Verdict, replay_check,
+};
 
 /// A call of a small case.
 #[derive(Clone, Copy)]
@@ -78,13 +78,13 @@ enum Step {
 /// Makes a call.
 fn make<R: Wait>(rt: &R, pass: &mut Pass, call: Call) -> Result<(), Halt> {
     match call {
-        Call::Set(verdict) => set(pass, verdict),
-        Call::Get => get(pass).map(|_| ()),
-        Call::Start(comp, run) => start(rt, pass, comp, run),
-        Call::Stop(comp) => stop(rt, pass, comp),
-        Call::Kill(comp) => kill(rt, pass, comp),
-        Call::KillAll => kill_all(rt, pass),
-        Call::StopCase => stop_case(rt, pass),
+        Call::Set(verdict) => pass.set_verdict(verdict),
+        Call::Get => pass.get_verdict().map(|_| ()),
+        Call::Start(comp, run) => pass.start(rt, Comp(comp), Run(run), &Args::new()),
+        Call::Stop(comp) => pass.stop(rt, Group::One(Comp(comp))),
+        Call::Kill(comp) => pass.kill(rt, Group::One(Comp(comp))),
+        Call::KillAll => pass.kill(rt, Group::All),
+        Call::StopCase => pass.stop_case(rt),
     }
 }
 
@@ -154,12 +154,10 @@ impl Player {
     }
 }
 
-/// Makes alive-type components 1 and 2 and starts run 1 on component 1.
-fn begin<R: Abort + Wait>(rt: &R, main: &mut Pass) {
-    got(rt, create(rt, main, true));
-    got(rt, create(rt, main, true));
-    got(rt, start(rt, main, 1, 1));
-}
+const BEGIN: &str = "\
+0 create alive => made 1
+0 create alive => made 2
+0 start 1 1 => ok";
 
 /// Run 0, which has begun.
 fn first_player(pass: Pass) -> Player {
@@ -192,7 +190,7 @@ fn add_players<R: Abort>(rt: &R, tickets: Vec<Ticket>, players: &mut Vec<Player>
 fn set_up<R: Abort + Wait>(rt: &R, alloc: Global) -> (Shared, Vec<Player>) {
     let (shared, pass, tickets) = got(rt, open(alloc, 3));
     let mut pass = pass;
-    begin(rt, &mut pass);
+    calls(rt, &mut pass, BEGIN);
     let mut players = got(rt, vec![in alloc; first_player(pass)]);
     add_players(rt, tickets, &mut players);
     (shared, players)

@@ -1,5 +1,5 @@
 //! The places that are kept behind the lock until each run has left: no clause sees them.
-use crate::calls::{create, enter, is_ended, leave, open, start, stop, unstarted};
+use crate::calls::{calls, enter, leave, open, unstarted};
 use crate::checks::{got, is};
 use std::sync::Wait;
 use tc_book::Shared;
@@ -25,11 +25,13 @@ fn places<R: Wait>(rt: &R, shared: &Shared) -> [bool; 5] {
 fn places_are_given_up(rt: HostRuntime) {
     let (shared, pass, tickets) = got(&rt, open(rt.alloc(), 4));
     let (mut pass, mut tickets) = (pass, tickets);
-    got(&rt, create(&rt, &mut pass, true));
-    got(&rt, start(&rt, &mut pass, 1, 1));
+    calls(
+        &rt,
+        &mut pass,
+        "0 create alive => made 1\n0 start 1 1 => ok",
+    );
     let mut started = enter(&rt, &mut tickets);
-    got(&rt, stop(&rt, &mut started, 1));
-    is(&rt, "run 1 has ended", is_ended(&started), true);
+    calls(&rt, &mut started, "1 stop 1 => ok\n1 running 1 => ended");
     leave(&rt, started);
     leave(&rt, pass);
     unstarted(&rt, &mut tickets);

@@ -1,8 +1,5 @@
 //! Who waits on a thread is woken, after each kind of entry by which it may go on, and does not spin.
-use crate::calls::{
-    await_start, close, create, enter, kill, kill_all, leave, open, start, stop, stop_case, take,
-    wait_done,
-};
+use crate::calls::{await_start, calls, close, enter, leave, open, reply_to, take};
 use crate::checks::{got, holds, is};
 use std::alloc::Global;
 use std::process::Abort;
@@ -12,7 +9,7 @@ use std::thread;
 use std::thread::{JoinHandle, Threads};
 use std::time::{Clock, CpuClock, Duration};
 use tc_book::{Halt, Left, Pass, Shared, Ticket};
-use tc_table::{Args, Comp, Entry, Fault, Op, Reply, Run, Target};
+use tc_table::{Comp, Entry, Fault, Op, Reply, Run, Target, read_reply};
 
 const LATE: Target = Target::One(Comp(2));
 
@@ -50,17 +47,11 @@ fn pause_long<R: Clock>(rt: &R) {
     thread::sleep(rt, Duration::from_millis(500));
 }
 
-/// Makes components 1 and 2.
-fn create_two<R: Abort + Wait>(rt: &R, main: &mut Pass, alive: bool) {
-    got(rt, create(rt, main, alive));
-    got(rt, create(rt, main, alive));
-}
-
 /// The behaviour of a run that waits until component 2 is done, and then sets its flag.
 fn wait_late<R: Wait>(rt: &R, ticket: Ticket, woken: &AtomicBool) -> Left {
     match await_start(rt, ticket) {
         Ok(mut pass) => {
-            let _ = wait_done(rt, &mut pass, LATE);
+            let _ = pass.wait_done(rt, LATE);
             woken.store(true, Ordering::SeqCst);
             leave(rt, pass)
         }
@@ -68,42 +59,15 @@ fn wait_late<R: Wait>(rt: &R, ticket: Ticket, woken: &AtomicBool) -> Left {
     }
 }
 
-/// A case in which run 1 waits on a thread until component 2 is done, on which run 2 runs.
-#[derive(Drop)]
-struct Waited {
-    shared: Shared,
-    main: Pass,
-    late: Pass,
-    waiter: JoinHandle<Left>,
-    woken: Arc<AtomicBool>,
-}
+/// Makes components 1 and 2.
+const CREATES: &str = "\
+0 create alive => made 1
+0 create alive => made 2";
 
-fn wait_in_a_case<R: Abort + Threads + Wait + Clock + Copy + Send + 'static>(
-    rt: &R,
-    alloc: Global,
-) -> Waited {
-    let (shared, main, tickets) = got(rt, open(alloc, 3));
-    let (mut main, mut tickets) = (main, tickets);
-    let woken = unset(rt, alloc);
-    create_two(rt, &mut main, true);
-    let waiter = spawn_waiter(rt, take(rt, &mut tickets, 0), &woken);
-    start_both(rt, &mut main);
-    let late = enter(rt, &mut tickets);
-    pause(rt);
-    Waited {
-        shared,
-        main,
-        late,
-        waiter,
-        woken,
-    }
-}
-
-/// Starts run 1 on component 1, and run 2 on component 2.
-fn start_both<R: Abort + Wait>(rt: &R, main: &mut Pass) {
-    got(rt, start(rt, main, 1, 1));
-    got(rt, start(rt, main, 2, 2));
-}
+/// Starts a run on each.
+const STARTS: &str = "\
+0 start 1 1 => ok
+0 start 2 2 => ok";
 
 fn spawn_waiter<R: Abort + Threads + Wait + Copy + Send + 'static>(
     rt: &R,
@@ -132,109 +96,92 @@ fn woken_by(left: &Left) -> Option<Reply> {
     }
 }
 
-/// What may wake a waiter.
-#[derive(Clone, Copy, PartialEq, Eq, Debug)]
-enum Cause {
-    Finish,
-    Stop,
-    Kill,
-    KillAll,
-    Fault,
-    StopCase,
-    End,
-}
+/// What may wake a run that waits until component 2 is done, on which run 2 runs: each call, which is made before the runs
+/// leave, or is the Finish of the one that leaves first; and the reply by which the waiter goes on.
+const CAUSES: &str = "\
+2 finish => matched
+0 stop 2 => matched
+0 kill 2 => matched
+0 kill all => ended
+0 stop 7 => ended
+2 stopcase => ended
+0 finish => ended";
 
-/// The call that is the cause, if it is one: of the main run, or of run 2 where that stops the test case.
-fn call<R: Wait>(rt: &R, cause: Cause, main: &mut Pass, late: &mut Pass) -> Result<(), Halt> {
-    match cause {
-        Cause::Finish | Cause::End => Ok(()),
-        Cause::Stop => stop(rt, main, 2),
-        Cause::Kill => kill(rt, main, 2),
-        Cause::KillAll => kill_all(rt, main),
-        Cause::Fault => stop(rt, main, 7),
-        Cause::StopCase => stop_case(rt, late),
+/// Makes the call of the cause, unless that is a Finish.
+fn call_cause<R: Abort + Wait>(rt: &R, cause: &str, main: &mut Pass, late: &mut Pass) {
+    if cause.ends_with(" finish") {
+        return;
     }
+    let pass = if cause.starts_with("0 ") { main } else { late };
+    let _ = reply_to(rt, pass, cause);
 }
 
-/// Lets the cause happen and nothing else, says whether the waiter was woken, and lets both passes leave.
-fn happen<R: Wait + Clock>(
+/// Lets the cause happen and nothing else, until the waiter is seen to go on, and lets both passes leave.
+fn happen<R: Abort + Wait + Clock>(
     rt: &R,
-    cause: Cause,
-    passes: (Pass, Pass),
+    cause: &str,
+    main: Pass,
+    late: Pass,
     woken: &AtomicBool,
-) -> (bool, Left, Left) {
-    let (mut main, mut late) = passes;
-    let _ = call(rt, cause, &mut main, &mut late);
-    match cause {
-        Cause::Finish => {
-            let late = leave(rt, late);
-            (is_set_soon(rt, woken), leave(rt, main), late)
-        }
-        Cause::End => {
-            let main = leave(rt, main);
-            (is_set_soon(rt, woken), main, leave(rt, late))
-        }
-        _ => (is_set_soon(rt, woken), leave(rt, main), leave(rt, late)),
+) -> (Left, Left) {
+    let (mut main, mut late) = (main, late);
+    call_cause(rt, cause, &mut main, &mut late);
+    if cause == "2 finish" {
+        let late = leave(rt, late);
+        holds(rt, cause, is_set_soon(rt, woken));
+        (leave(rt, main), late)
+    } else if cause == "0 finish" {
+        let main = leave(rt, main);
+        holds(rt, cause, is_set_soon(rt, woken));
+        (main, leave(rt, late))
+    } else {
+        holds(rt, cause, is_set_soon(rt, woken));
+        (leave(rt, main), leave(rt, late))
     }
 }
 
-/// What is wrong with the end of a case whose waiter was woken, if anything is.
-fn complaint_of_end<R: Abort + Threads + Wait>(
+/// The waiter goes on by this reply, and the case is closed.
+fn is_woken_by<R: Abort + Wait>(
     rt: &R,
     alloc: Global,
     shared: Shared,
-    waiter: JoinHandle<Left>,
-    others: (Left, Left),
-    reply: Reply,
-) -> Option<&'static str> {
-    let left = waiter.join(rt);
-    let found = woken_by(&left);
-    let (main, late) = others;
-    let lefts = got(rt, vec![in alloc; main, left, late]);
-    match close(rt, alloc, shared, lefts) {
-        _ if found != Some(reply) => Some("it wakes with another reply"),
-        Ok(_) => None,
-        Err(_) => Some("the case is not closed"),
-    }
+    lefts: (Left, Left, Left),
+    reply: &str,
+) {
+    let (main, waiter, late) = lefts;
+    is(rt, reply, woken_by(&waiter), read_reply(reply.as_bytes()));
+    let lefts = got(rt, vec![in alloc; main, waiter, late]);
+    let _ = got(rt, close(rt, alloc, shared, lefts));
 }
 
-/// What is wrong with the waking by a cause, if anything is.
-fn complaint<R: Abort + Threads + Wait + Clock + Copy + Send + 'static>(
+/// One case, in which run 1 waits on a thread until this cause happens.
+fn is_woken<R: Abort + Threads + Wait + Clock + Copy + Send + 'static>(
     rt: &R,
     alloc: Global,
-    cause: Cause,
-    reply: Reply,
-) -> Option<&'static str> {
-    let Waited {
-        shared,
-        main,
-        late,
-        waiter,
-        woken,
-    } = wait_in_a_case(rt, alloc);
-    let early = is_set(&woken);
-    let (seen, main, late) = happen(rt, cause, (main, late), &woken);
-    match (early, seen) {
-        (true, _) => Some("nothing has happened yet"),
-        (_, false) => Some("it wakes nobody"),
-        _ => complaint_of_end(rt, alloc, shared, waiter, (main, late), reply),
-    }
+    cause: &str,
+    reply: &str,
+) {
+    let (shared, main, tickets) = got(rt, open(alloc, 3));
+    let (mut main, mut tickets) = (main, tickets);
+    calls(rt, &mut main, CREATES);
+    let woken = unset(rt, alloc);
+    let waiter = spawn_waiter(rt, take(rt, &mut tickets, 0), &woken);
+    calls(rt, &mut main, STARTS);
+    let late = enter(rt, &mut tickets);
+    pause(rt);
+    holds(rt, "nothing has happened yet", !is_set(&woken));
+    let (main, late) = happen(rt, cause, main, late, &woken);
+    is_woken_by(rt, alloc, shared, (main, waiter.join(rt), late), reply);
 }
 
 /// One case for each of seven causes, after which nothing is called until the waiter is seen to go on.
 #[test]
 fn a_waiter_is_woken(rt: HostRuntime) {
-    let causes = [
-        (Cause::Finish, Reply::Matched),
-        (Cause::Stop, Reply::Matched),
-        (Cause::Kill, Reply::Matched),
-        (Cause::KillAll, Reply::Ended),
-        (Cause::Fault, Reply::Ended),
-        (Cause::StopCase, Reply::Ended),
-        (Cause::End, Reply::Ended),
-    ];
-    for (cause, reply) in causes {
-        assert_eq!(rt; complaint(&rt, rt.alloc(), cause, reply), None, "{cause:?}");
+    for row in CAUSES.lines() {
+        match row.split_once(" => ") {
+            Some((cause, reply)) => is_woken(&rt, rt.alloc(), cause, reply),
+            None => holds(&rt, row, false),
+        }
     }
 }
 
@@ -244,8 +191,8 @@ fn a_stuck_main_is_woken(rt: HostRuntime) {
     let alloc = rt.alloc();
     let (_, main, tickets) = got(&rt, open(alloc, 2));
     let (mut main, mut tickets) = (main, tickets);
-    create_two(&rt, &mut main, false);
-    got(&rt, start(&rt, &mut main, 1, 1));
+    calls(&rt, &mut main, CREATES);
+    calls(&rt, &mut main, "0 start 1 1 => ok");
     let waiter = spawn_main(&rt, main);
     pause(&rt);
     let woken = unset(&rt, alloc);
@@ -264,7 +211,7 @@ fn spawn_main<R: Abort + Threads + Wait + Copy + Send + 'static>(
 ) -> JoinHandle<Result<(), Halt>> {
     let rt = *rt;
     let mut main = main;
-    let wait = move || wait_done(&rt, &mut main, Target::One(Comp(1)));
+    let wait = move || main.wait_done(&rt, Target::One(Comp(1)));
     got(&rt, thread::spawn(&rt, wait))
 }
 
@@ -300,13 +247,6 @@ fn spawn_started_with<R: Abort + Threads + Wait + Copy + Send + 'static>(
     )
 }
 
-/// Starts run 255 on component 2 with component 1 as its argument.
-fn start_last<R: Abort + Wait>(rt: &R, main: &mut Pass) {
-    let mut args = Args::new();
-    holds(rt, "room for an argument", args.push(Comp(1)));
-    got(rt, main.start(rt, Comp(2), Run(255), &args));
-}
-
 /// The last of 256 runs waits for its start, is woken by it, and has its component and its argument.
 #[test]
 fn the_last_run_waits_for_its_start(rt: HostRuntime) {
@@ -315,10 +255,10 @@ fn the_last_run_waits_for_its_start(rt: HostRuntime) {
     let (mut main, mut tickets) = (main, tickets);
     let woken = unset(&rt, alloc);
     let waiter = spawn_started_with(&rt, take(&rt, &mut tickets, 254), &woken);
-    create_two(&rt, &mut main, false);
+    calls(&rt, &mut main, CREATES);
     pause(&rt);
     holds(&rt, "it is not yet started", !is_set(&woken));
-    start_last(&rt, &mut main);
+    calls(&rt, &mut main, "0 start 2 255 1 => ok");
     holds(&rt, "the start wakes it", is_set_soon(&rt, &woken));
     let wanted = Some((Run(255), Comp(2), Comp(1)));
     is(&rt, "its start", waiter.join(&rt), wanted);
@@ -370,7 +310,7 @@ fn spawn_unstarted<R: Abort + Threads + Wait + Copy + Send + 'static>(
 /// Whether a run is started, and then waits until component 2 is done.
 fn waits_twice<R: Wait>(rt: &R, ticket: Ticket) -> bool {
     match await_start(rt, ticket) {
-        Ok(mut pass) => wait_done(rt, &mut pass, LATE).is_ok(),
+        Ok(mut pass) => pass.wait_done(rt, LATE).is_ok(),
         Err(_) => false,
     }
 }
@@ -396,11 +336,11 @@ fn spawn_timed<R: Abort + Threads + Wait + CpuClock + Copy + Send + 'static>(
 
 /// Starts run 1 after half a second, and kills component 2 after another.
 fn start_and_kill_late<R: Abort + Wait + Clock>(rt: &R, main: &mut Pass) {
-    create_two(rt, main, false);
+    calls(rt, main, CREATES);
     pause_long(rt);
-    got(rt, start(rt, main, 1, 1));
+    calls(rt, main, "0 start 1 1 => ok");
     pause_long(rt);
-    got(rt, kill(rt, main, 2));
+    calls(rt, main, "0 kill 2 => ok");
 }
 
 /// Two waits of half a second each take less than a tenth of a second of processor time.

@@ -15,6 +15,14 @@ pub(crate) fn holds<R: Abort>(rt: &R, what: &str, fact: bool) {
     assert!(rt; fact, "{what}");
 }
 
+/// What a call answered; an error ends the test.
+pub(crate) fn got<R: Abort, T, E: Debug + Drop>(rt: &R, answer: Result<T, E>) -> T {
+    match answer {
+        Ok(value) => value,
+        Err(why) => panic!(rt; "{why:?}"),
+    }
+}
+
 /// The blocks of a history text, from which a test takes the entries that it needs.
 pub(crate) fn blocks<R: Abort>(rt: &R, alloc: Global, text: &[u8]) -> Vec<Block> {
     match read_history(alloc, text) {

@@ -12,6 +12,8 @@ mod histories;
 #[cfg(test)]
 mod merging;
 #[cfg(test)]
+mod streams;
+#[cfg(test)]
 mod tables;
 #[cfg(test)]
 mod texts;

@@ -1,6 +1,6 @@
 //! Calls on a table and on a state of the same test case, and lists of entries. The calls of the library stand in small
 //! functions without clauses, so that the proof of a test carries none of the library's.
-use crate::checks::{blocks, first, holds, is};
+use crate::checks::{blocks, first, got, holds, is};
 use std::alloc::Global;
 use std::process::Abort;
 use tc_history::Block;
@@ -151,6 +151,14 @@ const UP_TO_THE_END: &str = "\
 0 finish => ok
 0 finish => ended";
 
+/// Copies of both, which end the test case.
+fn end(rt: &impl Abort, table: &mut Table, state: &mut CaseState) -> Result<(), NoMemory> {
+    are_seen(rt, table, state, STOPPED);
+    play_all(rt, table, state, UP_TO_THE_END)?;
+    are_seen(rt, table, state, OVER);
+    Ok(())
+}
+
 /// The copies of both go on by themselves.
 fn copies_go_on(
     rt: &impl Abort,
@@ -158,11 +166,9 @@ fn copies_go_on(
     table: &Table,
     state: &CaseState,
 ) -> Result<(), NoMemory> {
-    let (mut table, mut state) = (table.copied(alloc)?, state.copied(alloc)?);
-    are_seen(rt, &table, &state, STOPPED);
-    play_all(rt, &mut table, &mut state, UP_TO_THE_END)?;
-    are_seen(rt, &table, &state, OVER);
-    Ok(())
+    let mut table = got(rt, table.copied(alloc));
+    let mut state = got(rt, state.copied(alloc));
+    end(rt, &mut table, &mut state)
 }
 
 /// A copy of the table's entries has as many.
