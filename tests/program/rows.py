@@ -103,6 +103,18 @@ REFUSED_LISTS: List[Tuple[str, bytes, int, str]] = [
     ("a_create_of_two_names", text("behaviours 1;0 create named pump named valve"), 2, "bad move"),
     ("a_create_of_a_name_too_long", text(f"behaviours 1;0 create named {'a' * 33}"), 2, "bad move"),
     ("a_stop_of_a_case_with_a_word_too_many", text("behaviours 1;0 stopcase all"), 2, "bad move"),
+    ("a_caller_with_a_zero_in_front", text("behaviours 1;00 finish"), 2, "bad move"),
+    ("a_space_before_a_move", text("behaviours 1; 0 finish"), 2, "bad move"),
+    ("a_space_behind_a_move", text("behaviours 1;0 finish "), 2, "bad move"),
+    ("a_caller_alone", text("behaviours 1;0"), 2, "bad move"),
+    ("a_start_without_a_run", text("behaviours 1;0 start 1"), 2, "bad move"),
+    ("a_wait_without_a_status", text("behaviours 1;0 wait all"), 2, "bad move"),
+    ("two_spaces_before_alive", text("behaviours 1;0 create  alive"), 2, "bad move"),
+    ("two_spaces_before_a_name", text("behaviours 1;0 create named  pump"), 2, "bad move"),
+    ("a_space_behind_a_name", text("behaviours 1;0 create named pump "), 2, "bad move"),
+    ("a_create_named_by_a_digit", text("behaviours 1;0 create named 1"), 2, "bad move"),
+    ("a_create_named_by_a_line", text("behaviours 1;0 create named _a"), 2, "bad move"),
+    ("a_create_named_with_a_dash", text("behaviours 1;0 create named a-b"), 2, "bad move"),
 ]
 
 INACTIVE = "history 1 t 1;0 create -> made 1;0 stop 1 -> ok;0 alive 1 -> true;"
@@ -178,6 +190,14 @@ REFUSED_HISTORIES: List[Tuple[str, bytes, int, str]] = [
     ("an_empty_line_in_a_history", text("history 1 t 1;;end none"), 2, "bad entry"),
     ("an_empty_line_behind_a_history", text("history 1 t 1;end none;"), 3, "bad first line"),
     ("a_list_for_a_history", text("behaviours 1;0 create"), 1, "bad first line"),
+    ("a_header_with_a_zero_in_front", text("history 1 t 01;end none"), 1, "bad first line"),
+    ("a_header_with_two_spaces", text("history 1 t  1;end none"), 1, "bad first line"),
+    ("a_header_without_a_number", text("history 1 t;end none"), 1, "bad first line"),
+    ("an_empty_line_before_a_history", text(";history 1 t 1;end none"), 1, "bad first line"),
+    ("a_header_alone", text("history 1 t 1"), 2, "text ends too early"),
+    ("a_space_behind_an_end", text("history 1 t 1;end none "), 2, "bad entry"),
+    ("a_space_behind_a_reply", text("history 1 t 1;0 create -> made 1 ;end none"), 2, "bad entry"),
+    ("an_alive_behind_a_name_in_a_history", text("history 2 t 1;0 create named p alive -> made 1;end none"), 2, "bad entry"),
 ]
 
 SOLO = "testcase solo;behaviour main;create p;setverdict pass;wait done p;end;end"
