@@ -141,19 +141,10 @@ fn is_late_case(report: &CaseReport) -> bool {
         && report.verdict == Verdict::Pass
 }
 
-/// Of a case whose second job sets late so many calls come too late, and only the third job counts.
-fn come_late<R: Abort + Threads + Wait + Copy + Send + 'static>(
-    rt: &R,
-    alloc: Global,
-    first: Job,
-    second: Job,
-    ended: &AtomicU64,
-    calls: u64,
-) {
-    let third = got(rt, that_sets_pass(alloc));
-    let report = report_of_three(rt, alloc, first, second, third);
+/// So many calls of run 1 come too late, and only the pass of run 2 counts.
+fn come_late(rt: &impl Abort, report: &CaseReport, ended: &AtomicU64, calls: u64) {
     is(rt, "calls answered Ended", number(ended), calls);
-    holds(rt, "only the pass of run 2 counts", is_late_case(&report));
+    holds(rt, "only the pass of run 2 counts", is_late_case(report));
 }
 
 #[test]
@@ -164,14 +155,9 @@ fn late_setting_does_not_count(rt: HostRuntime) -> Result<(), AllocError> {
     let second: Behaviour = Box::new(rt.alloc(), move |pass: Pass| {
         sets_late(&rt, pass, &seen, 0, &counted)
     })?;
-    come_late(
-        &rt,
-        rt.alloc(),
-        Job::new(first),
-        Job::new(second),
-        &ended,
-        1,
-    );
+    let third = got(&rt, that_sets_pass(rt.alloc()));
+    let report = report_of_three(&rt, rt.alloc(), Job::new(first), Job::new(second), third);
+    come_late(&rt, &report, &ended, 1);
     Ok(())
 }
 
@@ -184,14 +170,9 @@ fn calls_after_the_end(rt: HostRuntime) -> Result<(), AllocError> {
     let second: Behaviour = Box::new(rt.alloc(), move |pass: Pass| {
         sets_late(&rt, pass, &seen, 500, &counted)
     })?;
-    come_late(
-        &rt,
-        rt.alloc(),
-        Job::new(first),
-        Job::new(second),
-        &ended,
-        1001,
-    );
+    let third = got(&rt, that_sets_pass(rt.alloc()));
+    let report = report_of_three(&rt, rt.alloc(), Job::new(first), Job::new(second), third);
+    come_late(&rt, &report, &ended, 1001);
     Ok(())
 }
 

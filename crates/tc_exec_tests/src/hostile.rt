@@ -420,18 +420,17 @@ fn lateness(round: u32, place: u32) -> Option<u64> {
     }
 }
 
-/// Lets a Kill of all by the first job and a Start by the second run against each other, where the third sets a flag; the
+/// Lets a Kill of all by the first job and a Start by the second run against each other, where the third sets the flag; the
 /// reply to the Start, as `reply_of_start`.
 fn reply_against_kill<R: Abort + Threads + Wait + Copy + Send + 'static>(
     rt: &R,
     alloc: Global,
-    first: Job,
-    second: Job,
+    jobs: (Job, Job, Job),
+    ran: &AtomicU64,
 ) -> Option<Reply> {
-    let ran = zero(rt, alloc);
-    let third = got(rt, that_fails(alloc, shared_with(rt, &ran)));
+    let (first, second, third) = jobs;
     let report = report_of_three(rt, alloc, first, second, third);
-    reply_of_start(alloc, &report, number(&ran) == 1)
+    reply_of_start(alloc, &report, number(ran) == 1)
 }
 
 /// How many rounds there were in which the Start was first, and the Kill.
@@ -466,7 +465,10 @@ fn start_against_kill(rt: HostRuntime) -> Result<(), AllocError> {
         let second: Behaviour = Box::new(rt.alloc(), move |pass: Pass| {
             starts_argument(&rt, pass, start)
         })?;
-        let reply = reply_against_kill(&rt, rt.alloc(), Job::new(first), Job::new(second));
+        let ran = zero(&rt, rt.alloc());
+        let third = got(&rt, that_fails(rt.alloc(), shared_with(&rt, &ran)));
+        let jobs = (Job::new(first), Job::new(second), third);
+        let reply = reply_against_kill(&rt, rt.alloc(), jobs, &ran);
         count(&rt, &mut rounds, reply);
     }
     at_least(
