@@ -11,7 +11,7 @@ from typing import List, Tuple
 import examples
 from case import SECONDS, Case, Ran, first_difference, run
 from judged import Judgement
-from rows import of_verdicts
+from rows import CSV_HEADER, counts_of, of_verdicts
 
 FORMS: Tuple[Tuple[str, ...], ...] = ((), ("--csv",), ("--history",))
 # A campaign that takes some time: each test case starts and awaits 40 components.
@@ -123,6 +123,13 @@ def devices() -> List[Case]:
     return found
 
 
+def without_a_test_case() -> List[Case]:
+    """Runs of a shard that has no test case."""
+    wanted = {(): counts_of() + "complete\n", ("--csv",): CSV_HEADER, ("--history",): ""}
+    return [Case("_".join(["no_test_case_at_all", *(it.strip("-") for it in (*live, *form))]), ("run", *live, *form, "--shard", "2/2"),
+                 of_verdicts("fail"), text.encode()) for form, text in wanted.items() for live in ((), ("--live",))]
+
+
 def cases() -> List[object]:
     """All of them."""
     scripts = ("restart", "nightly", "stations", "supervisor", "verdicts", "workers")
@@ -135,4 +142,4 @@ def cases() -> List[object]:
     found += [same("of_no_test_case", b"", options) for options in FORMS]
     found += [ended_by_a_signal(options, ending) for options in FORMS for ending in (signal.SIGTERM, signal.SIGKILL)]
     found.append(Judgement("nothing_is_out_before_the_end_without_live", "ttrun run < (a long campaign), and then SIGKILL", nothing_without_live))
-    return found + list(devices())
+    return found + without_a_test_case() + devices()

@@ -11,6 +11,7 @@ import charts
 import examples
 from case import Case, Ran, difference, run
 from judged import Judgement
+from rows import text
 from table import VERDICTS, Op, Table
 from texts import Block, Entry, check, read_history, status_of
 
@@ -284,6 +285,19 @@ def judgements(seed: int) -> List[Judgement]:
     return [Judgement("report_of_random_histories", f"ttrun report, seed {seed}", judge)]
 
 
+# Histories whose forms are made here too: creates with and without a name, starts with arguments, waits and stops; kills and
+# stops of one and of all, a verdict that came too late, a dynamic error, a stop of the test case, a test case that is not over.
+DRAWN = {
+    "one_test_case": text(
+        "history 2 t_supervised 3;0 create named link -> made 1;0 create alive -> made 2;0 start 2 1 1 -> ok;1 wait done 1 -> parked;"
+        "0 start 1 2 2 1 -> ok;2 alive 0 -> true;0 wait done 1 -> parked;2 stop 2 -> ok;1 wake done 1 -> ended;"
+        "2 setverdict inconc -> ok;2 finish -> ok;0 wake done 1 -> matched;0 done 2 -> true;0 finish -> ok;end inconc"),
+    "three_test_cases": text(
+        "history 2 a 2;0 create -> made 1;0 start 1 1 -> ok;0 kill 1 -> ok;1 setverdict fail -> ended;0 stop all -> ok;"
+        "0 kill all -> ok;0 wait killed all -> matched;0 wait done 1 -> matched;0 start 7 1 -> error no-component;end error;"
+        "history 2 b 1;0 setverdict pass -> ok;0 stopcase -> ok;end error;history 2 c 2;0 create -> made 1;0 create -> made 2;"
+        "0 start 1 1 -> ok;0 wait done any -> parked;1 wait killed 2 -> parked;end none"),
+}
 UNFINISHED = b"history 2 t 1\n0 create -> made 1\n0 setverdict pass -> ok\nend pass\n"
 
 
@@ -295,6 +309,9 @@ def cases() -> List[Union[Case, Judgement]]:
     found: List[Union[Case, Judgement]] = [of_one_run(it) for it in stems] + [as_run(it) for it in fixed]
     found += [of_a_history(it) for it in histories_of_examples()]
     found += [refused_as_by_check("verdicts.history", 15), refused_as_by_check("restart.history", 10)]
+    found += [Judgement(f"report_of_{name}_{form}", f"ttrun report --{form}",
+                        lambda program, form=form, given=given: faults_of_report(program, form, given))
+              for name, given in DRAWN.items() for form in FORMS]
     unfinished = b"testcase,components,none,pass,inconc,fail,error,verdict\nt,2,1,1,0,0,0,unfinished\n"
     full = b"ttrun: write fault\n"
     found.append(Case("report_of_an_unfinished_history", ("report", "--csv"), UNFINISHED, unfinished, status=2))

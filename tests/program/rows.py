@@ -150,6 +150,14 @@ CHECKED: List[Tuple[str, str, str, int]] = [
      "history 1 t 2;0 create -> made 1;0 start 1 1 -> ok;0 kill 1 -> ok;1 setverdict fail -> ok;end fail",
      "line 5: ok, table gives ended", 3),
     ("a_dropped_setting", "history 1 t 1;0 finish -> ok;end fail", "line 3: fail, table gives none", 3),
+    ("histories_of_the_stored_run",
+     "history 1 t_pass 2;0 create -> made 1;0 start 1 1 0 -> ok;0 wait done 1 -> parked;1 alive 0 -> true;1 setverdict pass -> ok;"
+     "1 finish -> ok;0 wake done 1 -> matched;0 getverdict -> none;0 finish -> ok;end pass;history 1 t_again 3;"
+     "0 create alive -> made 1;0 start 1 1 -> ok;1 setverdict pass -> ok;1 finish -> ok;0 wait done 1 -> matched;0 start 1 2 1 -> ok;"
+     "2 getverdict -> pass;2 setverdict none -> ok;2 running 1 -> true;2 finish -> ok;0 wait done 1 -> matched;0 kill all -> ok;"
+     "0 killed all -> true;0 finish -> ok;end pass", "legal t_pass 9 pass;legal t_again 14 pass", 0),
+    ("the_first_of_two_false_replies", "history 1 t 1;0 getverdict -> pass;0 setverdict pass -> ended;0 finish -> ok;end fail",
+     "line 2: pass, table gives none", 3),
     ("histories_of_two_cases", "history 1 first 1;0 setverdict pass -> ok;end pass;history 1 second 1;0 finish -> ok;end none",
      "legal first 1 pass;legal second 1 none", 0),
 ]
@@ -392,6 +400,9 @@ def run_cases() -> Iterator[Case]:
                (CSV_HEADER + "a,1,0,1,0,0,0,pass\nb,1,0,0,0,1,0,fail\nc,1,0,1,0,0,0,pass\n").encode(), status=1)
     yield Case("not_met_by_a_better_verdict", ("run", "--csv", "--stop-on", "error"), three,
                (CSV_HEADER + "a,1,0,1,0,0,0,pass\nb,1,0,0,0,1,0,fail\nc,1,0,1,0,0,0,pass\n").encode(), status=1)
+    yield Case("worse_than_the_rule", ("run", "--stop-on", "fail"), of_verdicts("inconc", "error", "fail"),
+               (case_of_verdict("a", "inconc") + case_of_verdict("b", "error") + counts_of("inconc", "error") + "stopped after b\n").encode(),
+               status=2)
     solo = text("history 2 solo 1;0 create -> made 1;0 setverdict pass -> ok;0 wait done 1 -> parked;"
                 "0 wake done 1 -> error stuck;end error")
     yield Case("history_of_a_stuck_case", ("run", "--history"), text(SOLO), solo, status=2)

@@ -142,6 +142,14 @@ NAMED_CREATES: List[Tuple[str, str, str]] = [
 # Names of components that are those of others, or bound.
 SHARED_NAMES = text("testcase t;behaviour main;create p named q;create q alive named q;create r named t;kill q;end;end")
 
+# A worker names itself, the main component, its parameters and a component of its own.
+WORKER = text("testcase t;behaviour main;create p;create q alive;start q w p self;wait done q;end;"
+              "behaviour w a b;alive self;running mtc;killed a;create c;alive c;kill a;alive b;stop self;end;end")
+WORKED = text("testcase t;run 0 main on 0;  create -> made 1;  create alive -> made 2;  start 2 1 1 0 -> ok;  wait done 2 -> matched;"
+              "  finish -> ok;run 1 w on 2;  alive 2 -> true;  running 0 -> true;  killed 1 -> false;  create -> made 3;  alive 3 -> true;"
+              "  kill 1 -> ok;  alive 0 -> true;  stop 2 -> ok;local 0 none;local 1 none;local 2 none;local 3 none;verdict none;"
+              "cases 1 none 1 pass 0 inconc 0 fail 0 error 0;complete")
+
 
 def cases() -> List[Case]:
     """All of them. A refused script is refused alike in each form."""
@@ -159,4 +167,5 @@ def cases() -> List[Case]:
         found.append(Case(name, ("run",), text(FRAME.format(line)), output))
     found.append(Case("names_of_components_are_not_distinct", ("run", "--csv"), SHARED_NAMES,
                       (CSV_HEADER + "t,4,4,0,0,0,0,none\n").encode()))
+    found.append(Case("places_of_a_worker", ("run",), WORKER, WORKED))
     return found

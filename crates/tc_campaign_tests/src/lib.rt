@@ -1,5 +1,27 @@
-//! The tests of campaigns and of scripted behaviours (`tc_campaign`, `tc_behaviour`), in a crate of their own: a check of them proves no library once more.
+//! The tests of reports and their forms (`tc_report`, `tc_forms`), of campaigns and of scripted behaviours (`tc_campaign`,
+//! `tc_behaviour`), in a crate of their own: a check of them proves no library once more. What the built program shows stands
+//! in `tests/program`.
 #![tactic(auto)]
 
 #[cfg(test)]
-mod tests;
+mod campaigns;
+#[cfg(test)]
+mod cases;
+#[cfg(test)]
+mod checks;
+#[cfg(test)]
+mod devices;
+#[cfg(test)]
+mod forms;
+#[cfg(test)]
+mod live;
+#[cfg(test)]
+mod observers;
+#[cfg(test)]
+mod progress;
+#[cfg(test)]
+mod refusals;
+#[cfg(test)]
+mod results;
+#[cfg(test)]
+mod scripts;

@@ -1,10 +1,39 @@
-//! Writers that fail.
-use super::*;
-use crate::tests::checks::{holds, is};
+//! Reports to writers that fail.
+use crate::checks::{holds, is};
+use crate::results::results;
+use std::alloc::Global;
+use std::io::Write;
 use std::process::Abort;
+use std::test::Fail;
+use tc_campaign::{
+    CampaignEnd, Form, OutFault, Results, status_of, write_csv, write_history, write_text,
+};
 use tc_stream::devices::{NarrowWriter, WriteFailure};
 
-const FAILURES: [WriteFailure; 2] = [WriteFailure::Broken, WriteFailure::Full];
+pub(crate) const FORMS: [Form; 3] = [Form::Text, Form::Csv, Form::History];
+
+pub(crate) const FAILURES: [WriteFailure; 2] = [WriteFailure::Broken, WriteFailure::Full];
+
+/// Writes the text of the results in this form.
+fn give<W: Write>(
+    alloc: Global,
+    form: Form,
+    results: &Results,
+    writer: &mut W,
+) -> Result<(), OutFault> {
+    match form {
+        Form::Text => write_text(alloc, results, writer),
+        Form::Csv => write_csv(alloc, results, writer),
+        Form::History => write_history(alloc, results, writer),
+    }
+}
+
+/// The text of the results in this form.
+pub(crate) fn text_of(alloc: Global, form: Form, results: &Results) -> Result<Vec<u8>, OutFault> {
+    let mut out = Vec::new(alloc);
+    give(alloc, form, results, &mut out)?;
+    Ok(out)
+}
 
 /// Writes the results to a writer that fails behind this part of their text, which is so long.
 fn fail_behind<R: Abort>(
@@ -80,25 +109,11 @@ fn all_writes_fail<R: Abort>(rt: &R, alloc: Global, results: &Results) -> Result
     Ok(failures)
 }
 
-// Each byte of the three texts is once the one that the writer fails at, in each way: over 800 writers.
 #[test]
 fn each_write_fails_in_turn(rt: HostRuntime) -> Result<(), Fail> {
-    let results = results_of_one(rt.alloc(), stuck_case(rt.alloc())?)?;
+    let results = results(rt.alloc(), CampaignEnd::Complete)?;
+    is(&rt, "the status", status_of(&results), 1);
     let failures = all_writes_fail(&rt, rt.alloc(), &results)?;
     holds(&rt, "there are over 800 writers", failures > 800);
     Ok(())
-}
-
-/// Checks the text of a fault.
-fn has_text<R: Abort>(rt: &R, alloc: Global, fault: OutFault, wanted: &str) -> Result<(), Fail> {
-    is(rt, "the text of a fault", fault.text(), wanted);
-    let shown = fault.to_string(alloc)?;
-    is(rt, "a fault as it is shown", shown.as_str(), wanted);
-    Ok(())
-}
-
-#[test]
-fn texts_of_the_faults(rt: HostRuntime) -> Result<(), Fail> {
-    has_text(&rt, rt.alloc(), OutFault::NoMemory, "no memory")?;
-    has_text(&rt, rt.alloc(), OutFault::Write, "write fault")
 }

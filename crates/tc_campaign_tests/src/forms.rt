@@ -1,0 +1,115 @@
+//! What only results that no program meets have: the forms of an aborted campaign, and the words of each refusal.
+use crate::checks::is;
+use crate::results::{aborted, results};
+use std::alloc::Global;
+use std::process::Abort;
+use std::test::Fail;
+use tc_campaign::{OutFault, Results, write_abort};
+use tc_exec::CaseError;
+use tc_forms::{
+    Summary, csv_report, junit_report, summaries_of_results, worst_status, write_junit,
+};
+
+const TABLE: &str = "testcase,components,none,pass,inconc,fail,error,verdict
+a,1,0,1,0,0,0,pass
+b,1,0,0,0,1,0,fail
+c,1,0,0,1,0,0,inconc
+d,0,0,0,0,0,0,aborted
+";
+
+const SUITE: &str = "<?xml version=\"1.0\" encoding=\"UTF-8\"?>
+<testsuites tests=\"4\" failures=\"2\" errors=\"1\" skipped=\"0\">
+<testsuite name=\"ttrun\" tests=\"4\" failures=\"2\" errors=\"1\" skipped=\"0\">
+<properties>
+<property name=\"version\" value=\"7\"/>
+</properties>
+<testcase name=\"a\" classname=\"ttrun\">
+<system-out>
+local 0 pass
+</system-out>
+</testcase>
+<testcase name=\"b\" classname=\"ttrun\">
+<failure type=\"fail\" message=\"verdict fail\"/>
+<system-out>
+local 0 fail
+</system-out>
+</testcase>
+<testcase name=\"c\" classname=\"ttrun\">
+<failure type=\"inconc\" message=\"verdict inconc\"/>
+<system-out>
+local 0 inconc
+</system-out>
+</testcase>
+<testcase name=\"d\" classname=\"ttrun\">
+<error type=\"aborted\" message=\"torn\"/>
+<system-out>
+</system-out>
+</testcase>
+</testsuite>
+</testsuites>
+";
+
+/// Checks the forms of summaries.
+fn have_forms<R: Abort>(rt: &R, alloc: Global, cases: &[Summary]) -> Result<(), Fail> {
+    let table = csv_report(alloc, cases)?;
+    is(rt, "the table", table.as_slice(), TABLE.as_bytes());
+    let suite = junit_report(alloc, "7", cases)?;
+    is(rt, "the suite", suite.as_slice(), SUITE.as_bytes());
+    is(rt, "the status", worst_status(cases), 2);
+    Ok(())
+}
+
+/// Checks the suite that is written of results.
+fn has_suite<R: Abort>(rt: &R, alloc: Global, results: &Results) -> Result<(), Fail> {
+    let mut suite = Vec::new(alloc);
+    write_junit(alloc, "7", results, &mut suite)?;
+    is(rt, "the suite", suite.as_slice(), SUITE.as_bytes());
+    Ok(())
+}
+
+#[test]
+fn forms_of_an_aborted_campaign(rt: HostRuntime) -> Result<(), Fail> {
+    let results = results(rt.alloc(), aborted("d", CaseError::Torn)?)?;
+    let summaries = summaries_of_results(rt.alloc(), &results)?;
+    have_forms(&rt, rt.alloc(), summaries.as_slice())?;
+    has_suite(&rt, rt.alloc(), &results)
+}
+
+/// Checks the line of an abort at the test case d.
+fn is_told<R: Abort>(rt: &R, alloc: Global, why: CaseError, words: &str) -> Result<(), Fail> {
+    let results = results(alloc, aborted("d", why)?)?;
+    let mut line = Vec::new(alloc);
+    let answer = write_abort(&results, &mut line);
+    is(rt, "whether an abort is told of", answer, Ok(true));
+    let wanted = format!(in alloc; "ttrun: aborted at d: {words}\n")?;
+    is(rt, words, line.as_slice(), wanted.as_bytes());
+    Ok(())
+}
+
+#[test]
+fn words_of_refusals(rt: HostRuntime) -> Result<(), Fail> {
+    for (why, words) in [
+        (CaseError::NoBehaviours, "no behaviours"),
+        (CaseError::TooManyBehaviours, "too many behaviours"),
+        (CaseError::NoMemory, "no memory"),
+        (CaseError::NoThread, "no thread"),
+        (CaseError::Torn, "torn"),
+    ] {
+        is(&rt, words, why.text(), words);
+        is(&rt, words, why.to_string(rt.alloc())?.as_str(), words);
+        is_told(&rt, rt.alloc(), why, words)?;
+    }
+    Ok(())
+}
+
+#[test]
+fn texts_of_the_faults(rt: HostRuntime) -> Result<(), Fail> {
+    for (fault, words) in [
+        (OutFault::NoMemory, "no memory"),
+        (OutFault::Write, "write fault"),
+    ] {
+        is(&rt, words, fault.text(), words);
+        is(&rt, words, fault.to_string(rt.alloc())?.as_str(), words);
+    }
+    Ok(())
+}
