@@ -27,9 +27,10 @@ os.execv(sys.argv[1], [os.fsencode(it) for it in sys.argv[1:]])
 
 @dataclass(frozen=True)
 class SomeText:
-    """A text that is not fixed: not empty, with each of these words in it."""
+    """A text that is not fixed: not empty, with each of these words in it, and none of those that it is to lack."""
 
     words: Tuple[str, ...] = ()
+    lacking: Tuple[str, ...] = ()
 
 
 Word = Union[str, bytes]
@@ -131,6 +132,9 @@ def difference(name: str, wanted: Wanted, given: bytes) -> List[str]:
     lacking = [it for it in wanted.words if it.encode() not in given]
     if lacking:
         return [f"{name} does not name {', '.join(lacking)}: {given[:300]!r}"]
+    unwanted = [it for it in wanted.lacking if it.encode() in given]
+    if unwanted:
+        return [f"{name} names {', '.join(unwanted)}: {given[:300]!r}"]
     return [] if given else [f"{name} is empty, and some text is wanted"]
 
 

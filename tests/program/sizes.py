@@ -46,6 +46,9 @@ def longest() -> Iterator[Case]:
     yield Case("a_history_one_byte_longer", ("check",), history + b"\n", errors=TOO_LONG, status=3)
     yield Case("longest_script", ("run", "--csv"), padded_script(MOST_BYTES_OF_A_SCRIPT), PASSED)
     yield Case("a_script_one_byte_longer", ("run", "--csv"), padded_script(MOST_BYTES_OF_A_SCRIPT + 1), errors=TOO_LONG, status=3)
+    for words in ((), ("--list",)):
+        yield Case("_".join(["a_script_too_long_for_names", *(it.strip("-") for it in words)]), ("run", *words, "--only", "z"),
+                   b"\n" * (MOST_BYTES_OF_A_SCRIPT + 1), errors=TOO_LONG, status=3)
     for name, words, most in (("list", ("replay",), MOST_BYTES_OF_A_LIST), ("history", ("check",), MOST_BYTES_OF_A_HISTORY),
                               ("script", ("run",), MOST_BYTES_OF_A_SCRIPT)):
         yield Case(f"a_{name}_that_never_ends", words, b"\n" * (most + 1), errors=TOO_LONG, status=3, stays_open=True)

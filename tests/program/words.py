@@ -41,86 +41,179 @@ HELP: List[Tuple[Tuple[str, ...], Tuple[str, ...]]] = [
     (("--help",), COMMANDS), (("-h",), COMMANDS), (("help",), COMMANDS),
     (("help", "run"), ALL_OPTIONS), (("run", "--help"), ALL_OPTIONS), (("run", "-h"), ALL_OPTIONS),
     (("run", "--csv", "--help"), ALL_OPTIONS), (("run", "--stop-on", "fail", "-h"), ALL_OPTIONS),
+    (("run", "--csv", "--history", "--help"), ALL_OPTIONS), (("--help", "check"), COMMANDS), (("help", "help"), ()),
     (("help", "check"), CHECK), (("check", "--help"), CHECK), (("check", "-h"), CHECK),
     (("help", "explore"), EXPLORE), (("explore", "-h"), EXPLORE),
     (("help", "report"), REPORT), (("report", "--help"), REPORT),
     (("help", "replay"), REPLAY), (("replay", "--help"), REPLAY), (("replay", "-h"), REPLAY),
 ]
 
+# Lines that ask for no task, and what the first line of the refusal says.
+MISTAKES = """\
+explore --states => a value is required for '--states <N>' but none was supplied
+run --only => a value is required for '--only <NAME>' but none was supplied
+run --only --list => a value is required for '--only <NAME>' but none was supplied
+run --shard => a value is required for '--shard <K/N>' but none was supplied
+run --stop-on => a value is required for '--stop-on <VERDICT>' but none was supplied
+run --stop-on --csv => a value is required for '--stop-on <VERDICT>' but none was supplied
+run --stop-on --live => a value is required for '--stop-on <VERDICT>' but none was supplied
+report => one of the arguments '--csv', '--junit' and '--chart' is needed
+report -- => one of the arguments '--csv', '--junit' and '--chart' is needed
+report --explain => one of the arguments '--csv', '--junit' and '--chart' is needed
+check --explain --explain => the argument '--explain' cannot be used multiple times
+explore --details --details => the argument '--details' cannot be used multiple times
+explore --details --history => the argument '--history' cannot be used with '--details'
+explore --history --history => the argument '--history' cannot be used multiple times
+explore --history --states=1 --details => the argument '--history' cannot be used with '--details'
+explore --states 1 --states 1 => the argument '--states <N>' cannot be used multiple times
+report --chart --chart => the argument '--chart' cannot be used multiple times
+report --chart --csv => the argument '--csv' cannot be used with '--chart'
+report --chart --junit => the argument '--junit' cannot be used with '--chart'
+report --csv --csv => the argument '--csv' cannot be used multiple times
+report --csv --junit => the argument '--csv' cannot be used with '--junit'
+report --explain --csv --junit => the argument '--csv' cannot be used with '--junit'
+report --junit --chart => the argument '--junit' cannot be used with '--chart'
+report --junit --csv => the argument '--csv' cannot be used with '--junit'
+report --junit --junit => the argument '--junit' cannot be used multiple times
+run --csv --csv => the argument '--csv' cannot be used multiple times
+run --csv --history => the argument '--csv' cannot be used with '--history'
+run --csv --history --junit => the argument '--csv' cannot be used with '--history'
+run --csv --history --stop-on no => the argument '--csv' cannot be used with '--history'
+run --csv --list --only a => the argument '--list' cannot be used with '--csv'
+run --csv --live --history => the argument '--csv' cannot be used with '--history'
+run --explain --list => the argument '--list' cannot be used with '--explain'
+run --history --csv => the argument '--csv' cannot be used with '--history'
+run --history --history => the argument '--history' cannot be used multiple times
+run --history --junit => the argument '--history' cannot be used with '--junit'
+run --history --list => the argument '--list' cannot be used with '--history'
+run --history --stop-on pass --csv => the argument '--csv' cannot be used with '--history'
+run --junit --csv => the argument '--csv' cannot be used with '--junit'
+run --junit --history => the argument '--history' cannot be used with '--junit'
+run --junit --junit => the argument '--junit' cannot be used multiple times
+run --junit --live => the argument '--junit' cannot be used with '--live'
+run --list --csv => the argument '--list' cannot be used with '--csv'
+run --list --history => the argument '--list' cannot be used with '--history'
+run --list --junit => the argument '--list' cannot be used with '--junit'
+run --list --list => the argument '--list' cannot be used multiple times
+run --list --live => the argument '--list' cannot be used with '--live'
+run --list --progress => the argument '--list' cannot be used with '--progress'
+run --list --stop-on fail => the argument '--list' cannot be used with '--stop-on'
+run --live --csv --history => the argument '--csv' cannot be used with '--history'
+run --live --junit => the argument '--junit' cannot be used with '--live'
+run --live --list => the argument '--list' cannot be used with '--live'
+run --live --live => the argument '--live' cannot be used multiple times
+run --progress --junit --live => the argument '--junit' cannot be used with '--live'
+run --progress --list => the argument '--list' cannot be used with '--progress'
+run --progress --progress => the argument '--progress' cannot be used multiple times
+run --shard 1/2 --shard 1/2 => the argument '--shard <K/N>' cannot be used multiple times
+run --stop-on pass --stop-on pass => the argument '--stop-on <VERDICT>' cannot be used multiple times
+-- run => unexpected argument 'run' found
+--csv => unexpected argument '--csv' found
+--csv run => unexpected argument '--csv' found
+--explain => unexpected argument '--explain' found
+--frobnicate => unexpected argument '--frobnicate' found
+--junit => unexpected argument '--junit' found
+--list => unexpected argument '--list' found
+--live => unexpected argument '--live' found
+--live run => unexpected argument '--live' found
+--progress => unexpected argument '--progress' found
+--stop-on fail => unexpected argument '--stop-on' found
+-x => unexpected argument '-x' found
+check --csv => unexpected argument '--csv' found
+check --junit => unexpected argument '--junit' found
+check --live => unexpected argument '--live' found
+check --only a => unexpected argument '--only' found
+check --progress => unexpected argument '--progress' found
+check more => unexpected argument 'more' found
+explore --csv => unexpected argument '--csv' found
+explore --explain => unexpected argument '--explain' found
+explore --progress => unexpected argument '--progress' found
+explore --shard 1/2 => unexpected argument '--shard' found
+explore --stop-on fail => unexpected argument '--stop-on' found
+explore more => unexpected argument 'more' found
+replay --list => unexpected argument '--list' found
+replay --live => unexpected argument '--live' found
+replay --stop-on fail => unexpected argument '--stop-on' found
+replay more => unexpected argument 'more' found
+report --history => unexpected argument '--history' found
+report --live => unexpected argument '--live' found
+report more => unexpected argument 'more' found
+run  => unexpected argument '' found
+run - => unexpected argument '-' found
+run -- --csv => unexpected argument '--csv' found
+run -- --live => unexpected argument '--live' found
+run --chart => unexpected argument '--chart' found
+run --cs => unexpected argument '--cs' found
+run --csv check => unexpected argument 'check' found
+run --details => unexpected argument '--details' found
+run --liv => unexpected argument '--liv' found
+run --live more => unexpected argument 'more' found
+run --only a b => unexpected argument 'b' found
+run --states 7 => unexpected argument '--states' found
+run --version => unexpected argument '--version' found
+run -V => unexpected argument '-V' found
+run -c => unexpected argument '-c' found
+run -csv => unexpected argument '-c' found
+run campaign.txt => unexpected argument 'campaign.txt' found
+run check => unexpected argument 'check' found
+run help => unexpected argument 'help' found
+run more => unexpected argument 'more' found
+run --csv=yes => unexpected value 'yes' for '--csv' found; no more were expected
+run --junit=yes => unexpected value 'yes' for '--junit' found; no more were expected
+run --list=yes => unexpected value 'yes' for '--list' found; no more were expected
+run --live=yes => unexpected value 'yes' for '--live' found; no more were expected
+run --progress=yes => unexpected value 'yes' for '--progress' found; no more were expected
+ => unrecognized subcommand ''
+Run => unrecognized subcommand 'Run'
+chec => unrecognized subcommand 'chec'
+frobnicate => unrecognized subcommand 'frobnicate'
+help a.script => unrecognized subcommand 'a.script'
+help more => unrecognized subcommand 'more'
+help run check => unrecognized subcommand 'check'
+list => unrecognized subcommand 'list'
+repla => unrecognized subcommand 'repla'
+version => unrecognized subcommand 'version'
+"""
+
 REFUSED: List[Tuple[str, Tuple[Word, ...]]] = [
-    ("an_unknown_word", ("frobnicate",)),
-    ("an_empty_word", ("",)),
     ("a_command_in_capitals", ("RUN",)),
-    ("a_command_cut", ("repla",)),
-    ("an_unknown_option", ("--frobnicate",)),
-    ("an_unknown_letter", ("-x",)),
-    ("the_version_behind_run", ("run", "--version")),
-    ("csv_without_run", ("--csv",)),
     ("history_without_run", ("--history",)),
-    ("live_without_run", ("--live",)),
-    ("live_before_run", ("--live", "run")),
-    ("live_with_a_value", ("run", "--live=yes")),
-    ("live_twice", ("run", "--live", "--live")),
-    ("live_behind_check", ("check", "--live")),
-    ("live_behind_replay", ("replay", "--live")),
-    ("progress_without_run", ("--progress",)),
-    ("progress_twice", ("run", "--progress", "--progress")),
-    ("progress_with_a_value", ("run", "--progress=yes")),
-    ("progress_behind_explore", ("explore", "--progress")),
-    ("progress_of_a_list", ("run", "--progress", "--list")),
-    ("both_forms_live", ("run", "--csv", "--live", "--history")),
-    ("stop_on_without_a_word_before_live", ("run", "--stop-on", "--live")),
-    ("stop_on_without_run", ("--stop-on", "fail")),
-    ("csv_before_run", ("--csv", "run")),
     ("an_unknown_option_of_run", ("run", "--frobnicate")),
     ("an_option_of_run_cut", ("run", "--hist")),
-    ("an_option_with_one_dash", ("run", "-csv")),
-    ("csv_with_a_value", ("run", "--csv=yes")),
     ("history_with_a_value", ("run", "--history=")),
-    ("both_forms", ("run", "--csv", "--history")),
-    ("both_forms_in_the_other_order", ("run", "--history", "--csv")),
     ("both_forms_and_a_rule", ("run", "--history", "--stop-on", "fail", "--csv")),
     ("both_forms_and_a_word_that_is_no_verdict", ("run", "--csv", "--history", "--stop-on", "maybe")),
-    ("stop_on_without_a_word", ("run", "--stop-on")),
     ("stop_on_without_a_word_behind_csv", ("run", "--csv", "--stop-on")),
     ("stop_on_twice", ("run", "--stop-on", "fail", "--stop-on", "fail")),
-    ("csv_twice", ("run", "--csv", "--csv")),
-    ("history_twice", ("run", "--history", "--history")),
-    ("a_word_behind_run", ("run", "more")),
     ("a_verdict_behind_run", ("run", "fail")),
     ("a_file_behind_run", ("run", "examples/workers.script")),
-    ("a_word_behind_check", ("check", "more")),
-    ("an_option_behind_check", ("check", "--csv")),
-    ("a_word_behind_replay", ("replay", "more")),
-    ("an_option_behind_replay", ("replay", "--stop-on", "fail")),
-    ("junit_and_csv", ("run", "--junit", "--csv")),
-    ("junit_and_history", ("run", "--history", "--junit")),
-    ("junit_live", ("run", "--junit", "--live")),
-    ("list_and_csv", ("run", "--list", "--csv")),
-    ("list_and_history", ("run", "--history", "--list")),
-    ("list_and_junit", ("run", "--list", "--junit")),
-    ("list_live", ("run", "--live", "--list")),
-    ("list_and_a_rule", ("run", "--list", "--stop-on", "fail")),
-    ("list_twice", ("run", "--list", "--list")),
-    ("shard_twice", ("run", "--shard", "1/2", "--shard", "1/2")),
-    ("only_without_a_name", ("run", "--only")),
-    ("shard_without_a_word", ("run", "--shard")),
-    ("list_without_run", ("--list",)),
-    ("only_behind_check", ("check", "--only", "a")),
-    ("shard_behind_explore", ("explore", "--shard", "1/2")),
-    ("report_without_a_form", ("report",)),
-    ("report_as_csv_and_junit", ("report", "--csv", "--junit")),
-    ("report_as_a_history", ("report", "--history")),
-    ("states_without_a_word", ("explore", "--states")),
-    ("details_and_history", ("explore", "--details", "--history")),
-    ("details_behind_run", ("run", "--details")),
-    ("states_twice", ("explore", "--states", "1", "--states", "1")),
-    ("csv_behind_explore", ("explore", "--csv")),
-    ("two_commands", ("run", "check")),
     ("help_of_an_unknown_word", ("help", "frobnicate")),
-    ("help_of_two", ("help", "run", "check")),
-    ("help_behind_run", ("run", "help")),
 ]
+
+# Of several faults the first is told: of the shard, of the stopping rule, of the text, and then of the names.
+ORDERED: List[Tuple[str, bytes, bytes]] = [
+    ("run --only z --stop-on x --shard 0/2", b"x\n", b"ttrun: --shard takes K/N, with K from 1 to N\n"),
+    ("run --only z --stop-on x", b"x\n", b"ttrun: --stop-on takes none, pass, inconc, fail or error\n"),
+    ("run --only z", b"x\n", b"ttrun: line 1: line not understood\n"),
+    ("run --list --only z", b"x\n", b"ttrun: line 1: line not understood\n"),
+]
+
+# Words behind options that name nothing.
+NAMELESS: List[Tuple[str, bytes]] = [
+    (line, b"ttrun: --" + told.encode() + b"\n") for told, lines in (
+        ("stop-on takes none, pass, inconc, fail or error",
+         ("run --stop-on ", "run --stop-on -", "run --stop-on=--csv", "run --stop-on=--live", "run --stop-on run", "run --stop-on help",
+          "run --stop-on no --only 1")),
+        ("shard takes K/N, with K from 1 to N",
+         ("run --list --shard 0/1", "run --shard 1/02", "run --shard=many", "run --only a --shard= --only 1",
+          "run --stop-on fail --shard 3/2", "run --stop-on no --shard 3/2")),
+        ("only takes the name of a test case of the script",
+         ("run --only=", "run --list --only all", "run --only a --only 2b")),
+    ) for line in lines
+]
+
+# What is said where no file's name was given in place of a subcommand.
+NO_TIP = SomeText(lacking=("tip: ttrun run <",))
 
 # A file's name in place of a subcommand.
 FILES = ("examples/workers.script", "campaign.txt", "./run", "../script", "run/")
@@ -190,7 +283,13 @@ def cases() -> List[Case]:
     """All of them. Standard input is a pipe that stays open: a program that reads it does not end."""
     found = [Case("help_" + "_".join(words), words, output=SomeText(("Usage", *named)), stays_open=True)
              for words, named in HELP]
-    found += [Case(f"refused_{name}", words, errors=SomeText(), status=3, stays_open=True) for name, words in REFUSED]
+    found += [Case(f"refused_{name}", words, errors=NO_TIP, status=3, stays_open=True) for name, words in REFUSED]
+    for mistake in MISTAKES.splitlines():
+        line, _, said = mistake.partition(" => ")
+        found.append(Case(f"refused: {line}", tuple(line.split(" ")), errors=SomeText((f"error: {said}\n",), NO_TIP.lacking), status=3,
+                          stays_open=True))
+    found += [Case(f"unread: {line}", tuple(line.split(" ")), errors=told, status=3, stays_open=True) for line, told in NAMELESS]
+    found += [Case(f"names_are_judged_last: {line}", tuple(line.split(" ")), given, errors=told, status=3) for line, given, told in ORDERED]
     found += [Case("_".join(["refused_file", word, *more]), (word, *more), status=3, stays_open=True,
                    errors=SomeText((f"unrecognized subcommand '{word}'", f"\n  tip: ttrun run < {word}\n")))
               for word in FILES for more in ((), ("more",))]

@@ -1,5 +1,20 @@
-//! The tests of the program's library by its public calls, in a crate of their own: a check of them doesn't prove the library once more.
+//! The tests of the command line (`tc_command`) and of the program's library (`tc_program`), in a crate of their own: a check of
+//! them proves no library once more. What the built program shows stands in `tests/program`.
 #![tactic(auto)]
 
 #[cfg(test)]
-mod tests;
+mod aborts;
+#[cfg(test)]
+mod calls;
+#[cfg(test)]
+mod checks;
+#[cfg(test)]
+mod devices;
+#[cfg(test)]
+mod runs;
+#[cfg(test)]
+mod terminal;
+#[cfg(test)]
+mod words;
+#[cfg(test)]
+mod worked;

@@ -1,5 +1,0 @@
-//! The tests of `tc_command` by its public calls, in a crate of their own: a check of them doesn't prove the library once more.
-#![tactic(auto)]
-
-#[cfg(test)]
-mod tests;

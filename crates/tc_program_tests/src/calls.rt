@@ -1,0 +1,82 @@
+//! The calls of the library that many tests make, without its clauses, and the texts that they are given.
+use std::alloc::{AllocError, Global};
+use std::io;
+use std::io::{Read, Write};
+use std::sync::Wait;
+use std::test::Fail;
+use std::thread::Threads;
+use tc_command::{Refused, Task};
+use tc_program::fault::RunFault;
+use tc_program::outcome::Outcome;
+
+/// The bytes of a text, with a line feed for each `;`.
+pub(crate) fn in_lines(alloc: Global, text: &str) -> Result<Vec<u8>, AllocError> {
+    let mut bytes = Vec::new(alloc);
+    for byte in text.as_bytes() {
+        bytes.push(if *byte == b';' { b'\n' } else { *byte })?;
+    }
+    Ok(bytes)
+}
+
+fn push_word(alloc: Global, words: &mut Vec<String>, word: &str) -> Result<(), AllocError> {
+    Ok(words.push(word.to_string(alloc)?)?)
+}
+
+/// The words of a command line, which has a space between each two; an empty line has none.
+pub(crate) fn words_of(alloc: Global, line: &str) -> Result<Vec<String>, AllocError> {
+    let mut words = Vec::new(alloc);
+    if line.is_empty() {
+        return Ok(words);
+    }
+    for word in line.split(' ') {
+        push_word(alloc, &mut words, word)?;
+    }
+    Ok(words)
+}
+
+fn read_words(alloc: Global, words: &[String]) -> Result<Task, Refused> {
+    tc_command::read_task(alloc, words)
+}
+
+/// The task that a command line asks for.
+pub(crate) fn task_of(alloc: Global, line: &str) -> Result<Task, Fail> {
+    let words = words_of(alloc, line)?;
+    Ok(read_words(alloc, words.as_slice()).ok().ok_or("a task")?)
+}
+
+pub(crate) fn replay<W: Write>(
+    alloc: Global,
+    input: &[u8],
+    writer: &mut W,
+) -> Result<u8, RunFault> {
+    let mut reader = input;
+    tc_program::replay::replay(alloc, &mut reader, writer)
+}
+
+pub(crate) fn answer<R, I: Read, W: Write, E: Write>(
+    rt: &R,
+    alloc: Global,
+    words: io::Result<Vec<String>>,
+    reader: &mut I,
+    writer: &mut W,
+    errors: &mut E,
+) -> Outcome
+where
+    R: Threads + Wait + Copy + Send + 'static,
+{
+    tc_program::answer::answer(rt, alloc, words, reader, writer, errors)
+}
+
+pub(crate) fn carry_out<R, I: Read, W: Write, E: Write>(
+    rt: &R,
+    alloc: Global,
+    task: &Task,
+    reader: &mut I,
+    writer: &mut W,
+    errors: &mut E,
+) -> Outcome
+where
+    R: Threads + Wait + Copy + Send + 'static,
+{
+    tc_program::carry_out::carry_out(rt, alloc, task, reader, writer, errors)
+}
