@@ -1,7 +1,7 @@
 """Scripts that are refused, line by line and kind by kind, and lines that are accepted."""
 from __future__ import annotations
 
-from typing import List, Tuple
+from typing import Dict, Iterator, List, Tuple
 
 from case import Case
 from rows import CSV_HEADER, text
@@ -65,6 +65,27 @@ THIRD_LINES: List[Tuple[str, str, str]] = [
     ("reference_before_arguments", "start x w", "unbound reference"),
 ]
 
+# Further lines in the place of line 3, by their fault.
+MORE_LINES: Dict[str, Tuple[str, ...]] = {
+    "byte not allowed": ("\tend", "end \u00e9"),
+    "line not understood": (
+        "End", "end end", "testcase", "testcase a b", "behaviour", "create p dead", "create 1 dead", "create named named",
+        "create p alive alive", "create p called l", "create p named named l", "create p dead named l", "create p alive named l m",
+        "create 1 called mtc", "start p", "wait running p", "getverdict p", "finish"),
+    "bad name": (
+        "testcase all", "behaviour b mtc", "create mtc named l", "create p named 1", "create 1 alive named l", "start all b",
+        "start p mtc", "start p b any", "done 1"),
+}
+
+# The places of a name in a line, and the fault where the name has 32 letters; with 33 it is a bad name.
+PLACES: List[Tuple[str, str]] = [
+    ("testcase {}", "not allowed here"), ("behaviour {}", "not allowed here"), ("behaviour b p {} q", "not allowed here"),
+    ("create {}", ""), ("create {} alive", ""), ("create {} named l", ""), ("create p named {}", ""),
+    ("create {} alive named l", ""), ("create p alive named {}", ""),
+    ("start {} w", "unbound reference"), ("start mtc {}", "unknown behaviour"), ("start mtc w {} mtc", "unbound reference"),
+    *((f"{it} {{}}", "unbound reference") for it in ("stop", "kill", "running", "alive", "done", "killed", "wait done", "wait killed")),
+]
+
 # Name, line 3 of the frame, what it calls and its reply, verdict, status.
 ACCEPTED_LINES: List[Tuple[str, str, str, str, int]] = [
     ("a_comment_with_a_tab", "#\t", "finish -> ok", "none", 0),
@@ -122,6 +143,10 @@ REFUSED: List[Tuple[str, bytes, int, str]] = [
     ("five_parameters", text("testcase t;behaviour main;end;behaviour w a b c d e;end;end"), 4, "too many"),
     ("grammar_before_names", text("testcase t;behaviour main;kill p;end;end;testcase t;behaviour main;end"), 9,
      "text ends too early"),
+    ("place_before_names", text("testcase t;behaviour m;stop p;end;end;;end"), 7, "not allowed here"),
+    ("a_cut_before_names", text("testcase t;behaviour m;stop p;end"), 5, "text ends too early"),
+    ("twice_before_a_parameter_of_the_main", text("testcase t;behaviour m p p;end;end"), 2, "name already used"),
+    ("a_test_case_behind_a_first_line", text("testcase t;testcase u"), 2, "not allowed here"),
     ("the_first_of_two_faults", text("testcase t;behaviour main;create 1x;foo;end;end"), 3, "bad name"),
     ("a_byte_above_127_in_a_script", b"testcase t\nbehaviour main\nsetverdict p\xc3\xa4ss\nend\nend\n", 3, "byte not allowed"),
     ("a_byte_zero_in_a_script", b"testcase t\0\n", 1, "byte not allowed"),
@@ -136,6 +161,9 @@ NAMED_CREATES: List[Tuple[str, str, str]] = [
     ("a_create_with_the_name_of_its_component", "create named named named", "create named named"),
     ("a_create_with_the_name_alive", "create p named alive", "create named alive"),
     ("an_alive_create_with_the_name_alive", "create p alive named alive", "create alive named alive"),
+    ("an_alive_create_of_alive", "create alive alive named named", "create alive named named"),
+    ("spaces_in_a_create", "create  p   alive", "create alive"),
+    ("spaces_in_a_named_create", "create  p  named  all_pumps ", "create named all_pumps"),
     ("a_create_with_a_name_of_32_bytes", "create p named " + "l" * 32, "create named " + "l" * 32),
 ]
 
@@ -150,10 +178,31 @@ WORKED = text("testcase t;run 0 main on 0;  create -> made 1;  create alive -> m
               "  kill 1 -> ok;  alive 0 -> true;  stop 2 -> ok;local 0 none;local 1 none;local 2 none;local 3 none;verdict none;"
               "cases 1 none 1 pass 0 inconc 0 fail 0 error 0;complete")
 
+# Scripts whose names are bound: a component behind the line of its create, a parameter in its whole behaviour.
+BOUND = (
+    ("a_component_bound_lines_before", text("testcase t;behaviour m;create p;# p;;stop p;end;end")),
+    ("parameters_in_their_whole_behaviour",
+     text("testcase t;behaviour m;end;behaviour w a b;stop a;create c;stop b;kill a;end;end")),
+)
+
+
+def of_places() -> Iterator[Case]:
+    """Names of 32 and of 33 letters in each place of a name."""
+    for line, fault in PLACES:
+        longest, too_long = text(FRAME.format(line.format("n" * 32))), text(FRAME.format(line.format("n" * 33)))
+        name = line.replace("{}", "_").replace(" ", "_")
+        if fault:
+            yield Case(f"longest_name_in_{name}", ("run",), longest, errors=f"ttrun: line 3: {fault}\n".encode(), status=3)
+        else:
+            yield Case(f"longest_name_in_{name}", ("run", "--list"), longest, b"t\n")
+        yield Case(f"too_long_a_name_in_{name}", ("run",), too_long, errors=b"ttrun: line 3: bad name\n", status=3)
+
 
 def cases() -> List[Case]:
     """All of them. A refused script is refused alike in each form."""
     thirds = [(name, text(FRAME.format(line)), 3, fault) for name, line, fault in THIRD_LINES]
+    thirds += [(f"{fault.replace(' ', '_')}_{line!r}", text(FRAME.format(line)), 3, fault)
+               for fault, lines in MORE_LINES.items() for line in lines]
     forms: Tuple[Tuple[str, ...], ...] = (("run",), ("run", "--csv"), ("run", "--history"), ("run", "--stop-on", "fail"), ())
     found = [Case(name, forms[at % len(forms)], given, errors=f"ttrun: line {line}: {fault}\n".encode(), status=3)
              for at, (name, given, line, fault) in enumerate(thirds + REFUSED)]
@@ -168,4 +217,5 @@ def cases() -> List[Case]:
     found.append(Case("names_of_components_are_not_distinct", ("run", "--csv"), SHARED_NAMES,
                       (CSV_HEADER + "t,4,4,0,0,0,0,none\n").encode()))
     found.append(Case("places_of_a_worker", ("run",), WORKER, WORKED))
-    return found
+    found += [Case(name, ("run", "--list"), given, b"t\n") for name, given in BOUND]
+    return [*found, *of_places()]

@@ -6,6 +6,4 @@ mod checks;
 #[cfg(test)]
 mod explanations;
 #[cfg(test)]
-mod lines;
-#[cfg(test)]
 mod scripts;
