@@ -1,6 +1,8 @@
 //! A line is read as its form, or by its first fault.
-ghost use Rattle.std.specs.Prelude.{◌≡◌, map};
+ghost use Rattle.std.specs.Prelude.{◌≡◌, if◌then◌else◌, true, codes, map, Err};
 ghost use Rattle.tc_line.specs.Line.{named, reference, group, target, create, create_named, form, line_of, printable, is_comment as comment, each, Gives};
+ghost use Rattle.tc_line.specs.Words.{is_text};
+ghost use Rattle.tc_line.specs.declared.kind.ScriptKind.TheVariants.{BadLine};
 ghost use Rattle.tc_line.specs.declared.line.Keyword.TheVariants as K;
 
 use crate::kind::{LineFault, ScriptKind};
@@ -104,6 +106,26 @@ fn read_named_create(word: &[u8], alive: bool, given: &[u8]) -> Result<Line, Lin
     }))
 }
 
+// The create that binds the word, where what stands behind it says that the component is alive-type.
+fn read_alive_create(word: &[u8], says: &[u8]) -> Result<Line, LineFault>
+    ensures { Gives result (if is_text says.now (codes "alive") then create word.now true else Err BadLine) }
+{
+    if !is_word(says, b"alive") {
+        return Err(LineFault::Kind(ScriptKind::BadLine));
+    }
+    read_unnamed_create(word, true)
+}
+
+// The create that binds the word, where what stands in front of the given name says that it is one.
+fn read_given_create(word: &[u8], alive: bool, says: &[u8], given: &[u8]) -> Result<Line, LineFault>
+    ensures { Gives result (if is_text says.now (codes "named") then create_named word.now alive given.now else Err BadLine) }
+{
+    if !is_word(says, b"named") {
+        return Err(LineFault::Kind(ScriptKind::BadLine));
+    }
+    read_named_create(word, alive, given)
+}
+
 #[tactic(auto, unfolding(crate::specs::Line::form))]
 #[inline(never)]
 fn read_create(words: &[&[u8]]) -> Result<Line, LineFault>
@@ -111,26 +133,13 @@ fn read_create(words: &[&[u8]]) -> Result<Line, LineFault>
 {
     match words {
         [word] => read_unnamed_create(word, false),
-        [word, second] => {
-            if !is_word(second, b"alive") {
-                return Err(LineFault::Kind(ScriptKind::BadLine));
-            }
-            read_unnamed_create(word, true)
-        }
-        [word, second, given] => {
-            if !is_word(second, b"named") {
-                return Err(LineFault::Kind(ScriptKind::BadLine));
-            }
-            read_named_create(word, false, given)
-        }
+        [word, second] => read_alive_create(word, second),
+        [word, second, given] => read_given_create(word, false, second, given),
         [word, second, third, given] => {
             if !is_word(second, b"alive") {
                 return Err(LineFault::Kind(ScriptKind::BadLine));
             }
-            if !is_word(third, b"named") {
-                return Err(LineFault::Kind(ScriptKind::BadLine));
-            }
-            read_named_create(word, true, given)
+            read_given_create(word, true, third, given)
         }
         _ => Err(LineFault::Kind(ScriptKind::BadLine)),
     }
