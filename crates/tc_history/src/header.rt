@@ -1,8 +1,10 @@
 //! The first line of a block.
 ghost use Rattle.std.specs.Prelude.{◌≡◌, ◌<◌, ◌↔◌, ◌++◌, ◌∷◌, ℕ, List, length, IfSome, IsTrue};
+ghost use Rattle.std.specs.Fmt.{decimal};
+ghost use Rattle.tc_entry.specs.Limits.{IsBehaviours};
 ghost use Rattle.tc_text.specs.Lines.{lines_of};
 ghost use Rattle.tc_text.specs.Inside.{TakesLine};
-ghost use Rattle.tc_text.specs.Reading.{Takes};
+ghost use Rattle.tc_text.specs.Reading.{EndsLine, Takes};
 ghost use Rattle.tc_history.specs.declared.header.Header.{Header as AnyHeader};
 ghost use Rattle.tc_history.specs.Block.{format_text, header_text};
 ghost use Rattle.tc_history.specs.Inside.{IsSomeFormat};
@@ -47,6 +49,25 @@ fn take_format(text: &[u8]) -> Option<(u16, &[u8])>
     }
 }
 
+// The number of behaviours behind the name, where a block of this format may have so many, and what stands behind the line,
+// which it ends.
+fn take_behaviours(format: u16, text: &[u8]) -> Option<(u16, &[u8])>
+    ensures spelled { IfSome result (λ r. (rest : List ℕ) × (text.now ≡ 32 ∷ (decimal r.0 ++ rest)) × EndsLine rest r.1.now) }
+    ensures fits { IfSome result (λ r. IsBehaviours r.0 × IsFormat format r.0) }
+    ensures less { IfSome result (λ r. length r.1.now < length text.now) }
+    ensures only { (n : ℕ) (rest behind : List ℕ) → IsBehaviours n → IsFormat format n → EndsLine rest behind
+        → text.now ≡ 32 ∷ (decimal n ++ rest) → Takes result n behind }
+{
+    let rest = after(text, b" ")?;
+    let (number, rest) = take_number(rest)?;
+    let rest = take_line_end(rest)?;
+    let behaviours = as_behaviours(number)?;
+    if !is_format(format, behaviours) {
+        return None;
+    }
+    Some((behaviours, rest))
+}
+
 /// What the first line says, where it is the first one of a block, and what stands behind that line.
 pub(crate) fn take_header_line(text: &[u8]) -> Option<(Header, &[u8])>
     ensures spelled { IfSome result (λ r. lines_of text.now ≡ header_text r.0 ∷ lines_of r.1.now) }
@@ -57,17 +78,15 @@ pub(crate) fn take_header_line(text: &[u8]) -> Option<(Header, &[u8])>
 {
     let (format, rest) = take_format(text)?;
     let (name, rest) = take_name(rest)?;
-    let rest = after(rest, b" ")?;
-    let (number, rest) = take_number(rest)?;
-    let rest = take_line_end(rest)?;
-    let behaviours = as_behaviours(number)?;
-    if !is_format(format, behaviours) {
-        return None;
+    match take_behaviours(format, rest) {
+        Some((behaviours, rest)) => {
+            let header = Header {
+                format,
+                name,
+                behaviours,
+            };
+            Some((header, rest))
+        }
+        None => None,
     }
-    let header = Header {
-        format,
-        name,
-        behaviours,
-    };
-    Some((header, rest))
 }
