@@ -1,4 +1,4 @@
-use Rattle.std.proofs.Common.{◌∙◌, [], sym, arith}
+use Rattle.std.proofs.Common.{◌∙◌, [], sym, arith, rules}
 use Rattle.std.proofs.lemmas.List.{append-nil}
 use Rattle.std.proofs.lemmas.Grind.{common_steps}
 use Rattle.tc_text.proofs.Operands.{ends_nothing}
@@ -11,3 +11,6 @@ pub returns-else-is_empty-clause-only : goal.returns-else-is_empty-clause-only
 returns-else-is_empty-clause-only c run op low fits e =
     let two = c.in_ok-one.ensures.only run op [] low fits ends_nothing (e ∙ sym (append-nil _)) in
     absurd (grind (arith, common_steps, two.1))
+
+pub returns-else-is_empty-clause-spelled : goal.returns-else-is_empty-clause-spelled
+returns-else-is_empty-clause-spelled c = search rules

@@ -1,4 +1,4 @@
-use Rattle.std.proofs.Common.{◌∙◌, [], sym, inl, refl, arith}
+use Rattle.std.proofs.Common.{◌∙◌, [], sym, inl, refl, arith, rules}
 use Rattle.std.proofs.lemmas.List.{append-nil}
 use Rattle.std.proofs.lemmas.Grind.{common_steps}
 use Rattle.tc_text.proofs.MoveLines.{ends_reply}
@@ -11,3 +11,6 @@ pub returns-else-is_empty-clause-only : goal.returns-else-is_empty-clause-only
 returns-else-is_empty-clause-only c r fits e =
     let two = c.in-Some.ensures.only r [] fits (ends_reply [] [] (inl (refl, refl))) (e ∙ sym (append-nil _)) in
     absurd (grind (arith, common_steps, two.1))
+
+pub returns-else-is_empty-clause-spelled : goal.returns-else-is_empty-clause-spelled
+returns-else-is_empty-clause-spelled c = search rules
