@@ -1,8 +1,9 @@
-use Rattle.std.proofs.Common.{◌≢◌, ◌<◌, List, [], sym, ap, subst, ◌∙◌}
+use Rattle.std.proofs.Common.{rules, ◌≢◌, ◌<◌, List, [], sym, ap, subst, ◌∙◌}
 use Rattle.atomic_table.specs.Seated.{TableId}
 use Rattle.tc_board.specs.declared.answer.Answer.{Answer}
 use Rattle.tc_board.specs.Hand.{HandView}
 use Rattle.tc_board.proofs.HandSteps.{gets_at}
+use Rattle.tc_board.proofs.Numbers.{read_answer}
 use Rattle.tc_board.proofs.hand.Hand.get.Goals as goal
 
 pub load-requires : goal.load-requires
@@ -10,3 +11,6 @@ load-requires c =
     let at = ap (λ (h : HandView). h.board) c.self.view_is ∙ c.requires.board ∙ sym c.board.view_is in
     let met = subst (λ (l : List Answer). l ≢ []) (ap (λ (h : HandView). h.answers) (sym c.self.view_is)) c.requires.met in
     (at, subst (λ (z : TableId). c.self.inside.run.0 < z.words) at c.self.invariant.1, gets_at _ _ _ _ _ c.self.invariant.0 met)
+
+pub returns : goal.returns
+returns c = search (rules, read_answer)

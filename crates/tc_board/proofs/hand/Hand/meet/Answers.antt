@@ -1,4 +1,4 @@
-use Rattle.std.proofs.Common.{◌<◌, sym, ap, subst, ◌∙◌}
+use Rattle.std.proofs.Common.{rules, ◌<◌, sym, ap, subst, ◌∙◌}
 use Rattle.atomic_table.specs.Seated.{TableId}
 use Rattle.tc_board.specs.Hand.{HandView}
 use Rattle.tc_board.proofs.HandSteps.{meets_at}
@@ -8,3 +8,6 @@ pub load-requires : goal.load-requires
 load-requires c =
     let at = ap (λ (h : HandView). h.board) c.self.view_is ∙ c.requires ∙ sym c.board.view_is in
     (at, subst (λ (z : TableId). c.self.inside.run.0 < z.words) at c.self.invariant.1, meets_at _ _ _ _ _ c.self.invariant.0)
+
+pub returns-clause-answer : goal.returns-clause-answer
+returns-clause-answer c = search rules
