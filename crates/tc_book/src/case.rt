@@ -3,7 +3,7 @@ ghost use Rattle.std.specs.Prelude.{◌≡◌, ◌<◌, ◌≤◌, ◌+◌, ◌-
 ghost use Rattle.std.specs.Vec.{vec_len, vec_capacity};
 ghost use Rattle.std.specs.Arc.{arc_value};
 ghost use Rattle.tc_entry.specs.declared.limits.TheConstants.{BEHAVIOURS};
-ghost use Rattle.tc_board.specs.Board.{new_hands};
+ghost use Rattle.tc_board.specs.Board.{new_hand, new_hands, new_keeper};
 ghost use Rattle.tc_verdict.specs.declared.run.Run.{Run};
 ghost use Rattle.tc_book.specs.Closing.{IsWhole};
 ghost use Rattle.tc_book.specs.Report.{IsOneHistory};
@@ -18,7 +18,7 @@ use crate::shared::Shared;
 use crate::ticket::Ticket;
 use std::alloc::{AllocError, Global};
 use std::sync::{Arc, Wait};
-use tc_board::{Board, Hand};
+use tc_board::{Board, Hand, Keeper};
 use tc_entry::{Args, Comp, Entry};
 use tc_verdict::{NoMemory, Run};
 
@@ -39,12 +39,19 @@ fn another(board: &Arc<Board>) -> Result<Arc<Board>, NoMemory>
     }
 }
 
-fn ticket_of(alloc: Global, shared: &Shared, run: Run, hand: RunHand) -> Result<Ticket, NoMemory>
+/// The ticket of a run above 0, whose hand has met nothing yet.
+fn ticket_of(
+    alloc: Global,
+    shared: &Shared,
+    board: &Arc<Board>,
+    run: Run,
+    hand: Hand,
+) -> Result<Ticket, NoMemory>
     requires above { 0 < run.0 }
-    requires run { hand.run ≡ run.0 }
-    requires answers { hand.answers ≡ [] }
+    requires hand { hand ≡ record { board = arc_value board.now; run = run.0; answers = [] } }
     ensures { IfOk result (λ t. t ≡ run) }
 {
+    let hand = RunHand::new(another(board)?, hand);
     let log = place(alloc)?;
     Ok(Ticket::new(shared.another()?, run, log, hand))
 }
@@ -54,21 +61,73 @@ fn tickets_of(
     alloc: Global,
     shared: &Shared,
     board: &Arc<Board>,
-    mut hands: Vec<Hand>,
+    hands: &mut Vec<Hand>,
     behaviours: u16,
 ) -> Result<Vec<Ticket>, NoMemory>
     requires some { 1 ≤ behaviours }
-    requires hands { hands.items ≡ new_hands (arc_value board.now) 1 (behaviours - 1) }
+    requires hands { hands.old.items ≡ new_hands (arc_value board.now) 1 (behaviours - 1) }
     ensures count { IfOk result (λ v. length v.items + 1 ≡ behaviours) }
     ensures tickets { IfOk result (λ v. (k : ℕ) (d : Run) → k + 1 < behaviours → (slice_index_or v.items k d).0 ≡ k + 1) }
 {
     let mut tickets = Vec::new(alloc);
     for k in 1..behaviours {
         let hand = hands.remove(0);
-        let hand = RunHand::new(another(board)?, hand);
-        tickets.push(ticket_of(alloc, shared, Run(k), hand)?)?;
+        tickets.push(ticket_of(alloc, shared, board, Run(k), hand)?)?;
     }
     Ok(tickets)
+}
+
+/// The pass of run 0, whose hand has met its word.
+fn main_pass(
+    alloc: Global,
+    shared: &Shared,
+    board: &Arc<Board>,
+    hand: Hand,
+) -> Result<Pass, NoMemory>
+    requires hand { hand ≡ new_hand (arc_value board.now) 0 }
+    ensures { IfOk result (λ p. p ≡ record { run = record { 0 = 0 }; me = record { 0 = 0 }; args = []; log = [] }) }
+{
+    let hand = RunHand::new(another(board)?, hand);
+    let log = Log::new(Run(0), Comp(0), place(alloc)?, hand);
+    Ok(Pass::new(shared.another()?, log, Args::new()))
+}
+
+/// The shared book of a case at its opening.
+fn shared_book(
+    alloc: Global,
+    behaviours: u16,
+    keeper: Keeper,
+    board: &Arc<Board>,
+) -> Result<Shared, NoMemory>
+    requires some { 1 ≤ behaviours }
+    requires few { behaviours ≤ BEHAVIOURS }
+    requires keeper { keeper ≡ new_keeper (arc_value board.now) behaviours }
+{
+    let book = Book::new(alloc, behaviours, keeper, another(board)?)?;
+    Shared::new(alloc, book, behaviours)
+}
+
+/// Opens a case with the hands of a new board.
+fn open_with(
+    alloc: Global,
+    behaviours: u16,
+    keeper: Keeper,
+    board: &Arc<Board>,
+    hands: &mut Vec<Hand>,
+) -> Result<(Shared, Pass, Vec<Ticket>), NoMemory>
+    requires some { 1 ≤ behaviours }
+    requires few { behaviours ≤ BEHAVIOURS }
+    requires keeper { keeper ≡ new_keeper (arc_value board.now) behaviours }
+    requires hands { hands.old.items ≡ new_hands (arc_value board.now) 0 behaviours }
+    ensures pass { IfOk result (λ r. r.1 ≡ record { run = record { 0 = 0 }; me = record { 0 = 0 }; args = []; log = [] }) }
+    ensures count { IfOk result (λ r. length r.2.items + 1 ≡ behaviours) }
+    ensures tickets { IfOk result (λ r. (k : ℕ) (d : Run) → k + 1 < behaviours → (slice_index_or r.2.items k d).0 ≡ k + 1) }
+{
+    let shared = shared_book(alloc, behaviours, keeper, board)?;
+    let hand = hands.remove(0);
+    let pass = main_pass(alloc, &shared, board, hand)?;
+    let tickets = tickets_of(alloc, &shared, board, hands, behaviours)?;
+    Ok((shared, pass, tickets))
 }
 
 /// Opens a case of so many behaviours: its shared book, the pass of run 0, and the tickets of the other runs.
@@ -83,14 +142,10 @@ pub fn open_case(alloc: Global, behaviours: u16) -> Result<(Shared, Pass, Vec<Ti
     let Ok(board) = Arc::new(alloc, board) else {
         return Err(NoMemory);
     };
-    let book = Book::new(alloc, behaviours, keeper, another(&board)?)?;
-    let shared = Shared::new(alloc, book, behaviours)?;
-    let hand = hands.remove(0);
-    let hand = RunHand::new(another(&board)?, hand);
-    let log = Log::new(Run(0), Comp(0), place(alloc)?, hand);
-    let pass = Pass::new(shared.another()?, log, Args::new());
-    let tickets = tickets_of(alloc, &shared, &board, hands, behaviours)?;
-    Ok((shared, pass, tickets))
+    let opened = open_with(alloc, behaviours, keeper, &board, &mut hands);
+    drop(hands);
+    drop(board);
+    opened
 }
 
 /// Closes a case in one hold of its lock: its report, where each run's pass came back whole.

@@ -131,6 +131,20 @@ fn run_made<R: Threads + Wait, B: Callable>(
     close(rt, alloc, shared, gathered)
 }
 
+/// Room for the workers of so many runs, and for what they leave.
+fn room_for<B: Callable>(
+    alloc: Global,
+    runs: usize,
+) -> Result<(Vec<PromisedHandle<Handed, Task<B>>>, Gathered), tc_verdict::NoMemory>
+    ensures workers { IfOk result (λ r. r.0.items ≡ []) }
+    ensures lefts { IfOk result (λ r. r.1.lefts.items ≡ []) }
+    ensures room_of_workers { IfOk result (λ r. runs ≤ vec_capacity r.0) }
+    ensures room_of_lefts { IfOk result (λ r. vec_capacity r.1.lefts ≡ runs) }
+{
+    let workers = Vec::with_capacity(alloc, runs)?;
+    Ok((workers, Gathered::new(alloc, runs)?))
+}
+
 /// Runs the behaviours of a case, behaviour k as that of run k.
 fn run_jobs<R: Threads + Wait + Copy + Send + 'static, B: Callable, G: Gate>(
     rt: &R,
@@ -155,8 +169,7 @@ fn run_jobs<R: Threads + Wait + Copy + Send + 'static, B: Callable, G: Gate>(
 {
     let count = usize::from(behaviours);
     let (shared, pass, tickets) = open_case(alloc, behaviours)?;
-    let mut workers = Vec::with_capacity(alloc, count)?;
-    let gathered = Gathered::new(alloc, count)?;
+    let (mut workers, gathered) = room_for(alloc, count)?;
     let mut jobs = jobs;
     let first = jobs.remove(0);
     if !make_workers(rt, gate, tickets, jobs, &mut workers) {

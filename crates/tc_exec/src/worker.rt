@@ -1,5 +1,5 @@
 //! The threads of a case.
-ghost use Rattle.std.specs.Prelude.{◌≡◌, ◌≤◌, ◌+◌, [], IsTrue, IsFalse};
+ghost use Rattle.std.specs.Prelude.{◌≡◌, ◌≤◌, ◌+◌, [], IsTrue, IsFalse, IfSome};
 ghost use Rattle.std.specs.Vec.{vec_len, vec_capacity};
 ghost use Rattle.tc_exec.specs.Workers.{IsWorked};
 ghost use Rattle.tc_exec.specs.Gates.{AreAllowed, IsAskedUpTo};
@@ -29,6 +29,27 @@ impl<B: Callable> Promise<Handed> for Task<B> {
     ghost kept_by = { λ t h. IsWorked t.run (B.outcome t.behaviour.value) h };
 }
 
+/// The worker of a ticket; none where its thread could not be made.
+fn worker_of<R: Threads + Wait + Copy + Send + 'static, B: Callable>(
+    rt: &R,
+    ticket: Ticket,
+    behaviour: B,
+) -> Option<PromisedHandle<Handed, Task<B>>>
+    ensures run { IfSome result (λ w. w.promise.run ≡ ticket) }
+    ensures behaviour { IfSome result (λ w. w.promise.behaviour.value ≡ behaviour) }
+{
+    let rt = *rt;
+    let task = Task {
+        run: ticket.run(),
+        behaviour: Snapshot::of(&behaviour),
+    };
+    let builder = Builder::new().stack_size(WORKER_STACK);
+    match builder.spawn_with(&rt, task, move || work(&rt, behaviour, ticket)) {
+        Ok(worker) => Some(worker),
+        Err(_) => None,
+    }
+}
+
 /// Makes the worker of each ticket, in their order, and says whether all were made.
 pub(crate) fn make_workers<R: Threads + Wait + Copy + Send + 'static, B: Callable, G: Gate>(
     rt: &R,
@@ -48,7 +69,6 @@ pub(crate) fn make_workers<R: Threads + Wait + Copy + Send + 'static, B: Callabl
     ensures asked { IsTrue result → AreAllowed G.asks tickets.items gate.old gate.new }
     ensures stopped { IsFalse result → IsAskedUpTo G.asks tickets.items gate.old gate.new }
 {
-    let rt = *rt;
     let mut tickets = tickets.into_iter();
     for behaviour in behaviours {
         let Some(ticket) = tickets.next() else {
@@ -57,12 +77,7 @@ pub(crate) fn make_workers<R: Threads + Wait + Copy + Send + 'static, B: Callabl
         if !gate.allow(ticket.run()) {
             return false;
         }
-        let task = Task {
-            run: ticket.run(),
-            behaviour: Snapshot::of(&behaviour),
-        };
-        let builder = Builder::new().stack_size(WORKER_STACK);
-        let Ok(worker) = builder.spawn_with(&rt, task, move || work(&rt, behaviour, ticket)) else {
+        let Some(worker) = worker_of(rt, ticket, behaviour) else {
             return false;
         };
         workers.push_reserved(worker);

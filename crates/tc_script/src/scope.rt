@@ -1,8 +1,8 @@
 //! The names that a line may not use again, and those that it may refer to.
 ghost use Rattle.std.specs.Prelude.{◌≡◌, [], ◌∷◌, length, IfOk, OnOk};
 ghost use Rattle.tc_step.specs.Steps.{of_group, of_target};
-ghost use Rattle.tc_script.specs.Names.{all_of, has_twice};
-ghost use Rattle.tc_script.specs.Scope.{with_bound, parameters_of};
+ghost use Rattle.tc_script.specs.Names.{add, all_of, has_twice};
+ghost use Rattle.tc_script.specs.Scope.{heads, with_bound, parameters_of};
 ghost use Rattle.tc_script.specs.SecondPass.{is_unbound};
 ghost use Rattle.tc_script.specs.Inside.Passing.{scope_after, line_fault, call_fault, start_fault, behaviour_fault, any_unbound, fault_where as the_fault_where};
 
@@ -186,23 +186,39 @@ impl Scope {
         }
     }
 
+    fn take_case(&mut self, alloc: Global, name: &Name, rest: &Rest) -> Result<(), AllocError>
+        ensures { OnOk result (self.new ≡ record { cases = add name.now self.old.cases; behaviours = []; bound = self.old.bound; heads = heads rest.now }) }
+    {
+        self.cases.add(name.copy())?;
+        self.behaviours = Names::new(alloc);
+        self.heads = heads_of(alloc, rest)?;
+        Ok(())
+    }
+
+    fn take_behaviour(
+        &mut self,
+        alloc: Global,
+        name: &Name,
+        parameters: &[Name],
+    ) -> Result<(), AllocError>
+        ensures { OnOk result (self.new ≡ record { cases = self.old.cases; behaviours = add name.now self.old.behaviours; bound = all_of [] parameters.now; heads = self.old.heads }) }
+    {
+        self.behaviours.add(name.copy())?;
+        self.bound = bound_by(alloc, parameters)?;
+        Ok(())
+    }
+
     /// Goes on behind a line, with the lines after it.
     pub fn take(&mut self, alloc: Global, line: &Line, rest: &Rest) -> Result<(), AllocError>
         ensures { OnOk result (self.new ≡ scope_after self.old line.now rest.now) }
     {
         match line {
-            Line::TestCase(name) => {
-                self.cases.add(name.copy())?;
-                self.behaviours = Names::new(alloc);
-                self.heads = heads_of(alloc, rest)?;
-            }
+            Line::TestCase(name) => self.take_case(alloc, name, rest),
             Line::Behaviour(name, parameters) => {
-                self.behaviours.add(name.copy())?;
-                self.bound = bound_by(alloc, parameters.as_slice())?;
+                self.take_behaviour(alloc, name, parameters.as_slice())
             }
-            Line::Step(call) => bind(&mut self.bound, call)?,
-            _ => {}
+            Line::Step(call) => bind(&mut self.bound, call),
+            Line::Skipped | Line::End => Ok(()),
         }
-        Ok(())
     }
 }

@@ -1,24 +1,14 @@
-use Rattle.std.proofs.Common.{rules, ◌-◌, ◌∙◌, ap, length, arith}
+use Rattle.std.proofs.Common.{rules, ◌-◌, ap, length, arith}
 use Rattle.std.specs.Arc.{arc_value}
-use Rattle.tc_board.specs.Hand.{HandView}
 use Rattle.tc_book.proofs.Dealing.{length_hands, later_hand, without_next}
 use Rattle.tc_book.proofs.case.tickets_of.Goals as goal
 
 pub remove-hand-requires : goal.remove-hand-requires
 remove-hand-requires c = omega (arith, ap length c.loop-k.invariant.2, length_hands (arc_value c.args.board.now) c.loop-k.k (c.args.behaviours - c.loop-k.k), c.loop-k-test.true, c.loop-k.auto.k-end)
 
-pub new-hand-requires : goal.new-hand-requires
-new-hand-requires c = record {
-  board = ap (λ (h : HandView). h.board) (later_hand (arc_value c.args.board.now) c.loop-k.k (c.args.behaviours - c.loop-k.k) c.loop-k.hands.items _ (omega (arith, c.loop-k.invariant.0)) c.loop-k.invariant.2 (omega (arith, c.loop-k-test.true)) c.remove-hand.ensures.value) ∙ (search rules);
-}
-
-pub ticket_of-requires-clause-run : goal.ticket_of-requires-clause-run
-ticket_of-requires-clause-run c =
-    ap (λ (h : HandView). h.run) (c.new-hand.ensures ∙ later_hand (arc_value c.args.board.now) c.loop-k.k (c.args.behaviours - c.loop-k.k) c.loop-k.hands.items _ (omega (arith, c.loop-k.invariant.0)) c.loop-k.invariant.2 (omega (arith, c.loop-k-test.true)) c.remove-hand.ensures.value)
-
-pub ticket_of-requires-clause-answers : goal.ticket_of-requires-clause-answers
-ticket_of-requires-clause-answers c =
-    ap (λ (h : HandView). h.answers) (c.new-hand.ensures ∙ later_hand (arc_value c.args.board.now) c.loop-k.k (c.args.behaviours - c.loop-k.k) c.loop-k.hands.items _ (omega (arith, c.loop-k.invariant.0)) c.loop-k.invariant.2 (omega (arith, c.loop-k-test.true)) c.remove-hand.ensures.value)
+pub ticket_of-requires-clause-hand : goal.ticket_of-requires-clause-hand
+ticket_of-requires-clause-hand c =
+    later_hand (arc_value c.args.board.now) c.loop-k.k (c.args.behaviours - c.loop-k.k) c.loop-k.hands.items _ (omega (arith, c.loop-k.invariant.0)) c.loop-k.invariant.2 (omega (arith, c.loop-k-test.true)) c.remove-hand.ensures.value
 
 pub loop-k-preserved : goal.loop-k-preserved
 loop-k-preserved c = (

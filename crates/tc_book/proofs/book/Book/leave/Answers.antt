@@ -1,4 +1,4 @@
-use Rattle.std.proofs.Common.{refl}
+use Rattle.std.proofs.Common.{rules, refl}
 use Rattle.tc_entry.specs.declared.op.Op.TheVariants as ops
 use Rattle.tc_verdict.specs.declared.user_verdict.UserVerdict.TheVariants as U
 use Rattle.tc_book.proofs.Keeping.{told_before, carried_before}
@@ -11,3 +11,9 @@ follow-requires-clause-told c =
 pub follow-requires-clause-carried : goal.follow-requires-clause-carried
 follow-requires-clause-carried c =
     carried_before c.self.inside.table c.play.new.self c.self.inside.words c.args.run ops.Finish c.in-Ok.reply U.None c.in-Ok.ensures.added refl
+
+pub returns-clause-reply : goal.returns-clause-reply
+returns-clause-reply c = search rules
+
+pub returns-clause-history : goal.returns-clause-history
+returns-clause-history c = search rules

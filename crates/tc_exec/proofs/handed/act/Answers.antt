@@ -1,0 +1,5 @@
+use Rattle.std.proofs.Common.{rules}
+use Rattle.tc_exec.proofs.handed.act.Goals as goal
+
+pub returns : goal.returns
+returns g c = search rules
