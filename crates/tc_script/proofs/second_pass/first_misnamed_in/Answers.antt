@@ -1,4 +1,4 @@
-use Rattle.std.proofs.Common.{rules, refl}
+use Rattle.std.proofs.Common.{rules}
 use Rattle.tc_script.specs.Inside.Kept.{said}
 use Rattle.tc_script.proofs.SecondPass.{judged_faulty_at, judged_first, judged_more}
 use Rattle.tc_script.proofs.second_pass.first_misnamed_in.Goals as goal

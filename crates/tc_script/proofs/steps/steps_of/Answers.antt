@@ -1,4 +1,3 @@
-use Rattle.std.proofs.Common.{rules}
 use Rattle.tc_entry.specs.declared.limits.TheConstants.{ARGUMENTS}
 use Rattle.tc_script.proofs.Few.{few_first}
 use Rattle.tc_script.proofs.steps.steps_of.Goals as goal
