@@ -2,16 +2,15 @@
 ghost use Rattle.std.specs.Prelude.{◌≤◌};
 ghost use Rattle.tc_entry.specs.declared.limits.TheConstants.{BEHAVIOURS};
 
+use crate::like::{Like, answered_as, are_like, judged};
 use crate::outcome::{Outcome, refused_if, right_if};
 use crate::refusal::Refusal;
-use crate::tables::{are_same, behaviours_in};
+use crate::tables::behaviours_in;
 use std::alloc::Global;
 use std::sync::Wait;
 use tc_board::Board;
 use tc_book::laws::merge;
-use tc_book::{
-    CloseFault, Closed, Halt, Left, Pass, RunLog, Shared, Ticket, close_case, open_case,
-};
+use tc_book::{CloseFault, Closed, Halt, Left, Pass, Shared, Ticket, close_case, open_case};
 use tc_entry::{Args, BEHAVIOURS, Comp, Entry, Name, NoMemory, Op, Run, Target};
 use tc_text::{MoveList, read_moves};
 
@@ -51,38 +50,25 @@ const CALLS: &str = "behaviours 2
 0 create
 ";
 
-/// Adds what a run leaves. Whether there was memory for it.
-fn add_left<R: Wait>(rt: &R, pass: Pass, lefts: &mut Vec<Left>) -> bool {
-    lefts.push(pass.leave(rt)).is_ok()
-}
-
-/// Adds what the run of this ticket leaves. Whether there was memory for it.
-fn add_unstarted<R: Wait>(rt: &R, ticket: Ticket, lefts: &mut Vec<Left>) -> bool {
+/// What the run of this ticket leaves.
+fn left_unstarted<R: Wait>(rt: &R, ticket: Ticket) -> Left {
     match ticket.await_start(rt) {
-        Ok(pass) => add_left(rt, pass, lefts),
-        Err(left) => lefts.push(left).is_ok(),
+        Ok(pass) => pass.leave(rt),
+        Err(left) => left,
     }
 }
 
-/// Adds what the runs leave that were never started. Whether there was memory for all.
-fn add_all_unstarted<R: Wait>(rt: &R, tickets: Vec<Ticket>, lefts: &mut Vec<Left>) -> bool {
-    let mut are_added = true;
+/// Adds what the runs leave that were never started.
+fn add_all_unstarted<R: Wait>(rt: &R, tickets: Vec<Ticket>, lefts: &mut Vec<Left>) {
     for ticket in tickets {
-        let is_added = add_unstarted(rt, ticket, lefts);
-        are_added = are_added && is_added;
+        let _ = lefts.push(left_unstarted(rt, ticket));
     }
-    are_added
 }
 
-/// Adds what runs leave that have passes. Whether there was memory for both.
-fn add_passes<R: Wait>(rt: &R, main: Pass, other: Option<Pass>, lefts: &mut Vec<Left>) -> bool {
-    let is_added = add_left(rt, main, lefts);
-    match other {
-        Some(pass) => {
-            let is_other_added = add_left(rt, pass, lefts);
-            is_added && is_other_added
-        }
-        None => is_added,
+/// Adds what a run leaves, if it has a pass.
+fn add_left<R: Wait>(rt: &R, pass: Option<Pass>, lefts: &mut Vec<Left>) {
+    if let Some(pass) = pass {
+        let _ = lefts.push(pass.leave(rt));
     }
 }
 
@@ -210,18 +196,22 @@ impl Opened {
         }
     }
 
-    /// Whether both have the same passes.
-    fn is_like(&self, other: &Opened) -> bool {
-        is_like_pass(&self.main, &other.main)
-            && match (&self.other, &other.other) {
-                (Some(one), Some(two)) => is_like_pass(one, two),
-                (None, None) => true,
-                _ => false,
-            }
+    /// The case, closed behind a call that was made and these calls.
+    fn closed_behind<R: Wait>(
+        self,
+        rt: &R,
+        alloc: Global,
+        op: &Op,
+        moves: &[(Run, Op)],
+    ) -> Result<Closed, CloseFault> {
+        let mut opened = self;
+        opened.meet(rt, op);
+        opened.call_all(rt, moves);
+        opened.closed(rt, alloc)
     }
 
     /// What all runs leave.
-    fn left<R: Wait>(self, rt: &R, alloc: Global) -> Option<(Shared, Vec<Left>)> {
+    fn left<R: Wait>(self, rt: &R, alloc: Global) -> (Shared, Vec<Left>) {
         let Opened {
             shared,
             main,
@@ -229,19 +219,32 @@ impl Opened {
             other,
         } = self;
         let mut lefts = Vec::new(alloc);
-        let are_left = add_passes(rt, main, other, &mut lefts);
-        let are_unstarted = add_all_unstarted(rt, tickets, &mut lefts);
-        if are_left && are_unstarted {
-            Some((shared, lefts))
-        } else {
-            None
-        }
+        add_left(rt, Some(main), &mut lefts);
+        add_left(rt, other, &mut lefts);
+        add_all_unstarted(rt, tickets, &mut lefts);
+        (shared, lefts)
     }
 
     /// The closed case.
-    fn closed<R: Wait>(self, rt: &R, alloc: Global) -> Option<Closed> {
-        let (shared, lefts) = self.left(rt, alloc)?;
-        close_case(rt, alloc, shared, lefts).ok()
+    fn closed<R: Wait>(self, rt: &R, alloc: Global) -> Result<Closed, CloseFault> {
+        let (shared, lefts) = self.left(rt, alloc);
+        close_case(rt, alloc, shared, lefts)
+    }
+}
+
+impl Like for Pass {
+    fn is_like(&self, other: &Pass) -> bool {
+        self.run() == other.run()
+            && self.me() == other.me()
+            && self.args() == other.args()
+            && self.is_ended() == other.is_ended()
+            && are_like(self.log(), other.log())
+    }
+}
+
+impl Like for Opened {
+    fn is_like(&self, other: &Opened) -> bool {
+        self.main.is_like(&other.main) && self.other.is_like(&other.other)
     }
 }
 
@@ -250,33 +253,6 @@ fn opened_behind<R: Wait>(rt: &R, alloc: Global, moves: &[(Run, Op)]) -> Option<
     let mut opened = Opened::new(alloc)?;
     opened.call_all(rt, moves);
     Some(opened)
-}
-
-fn is_like_pass(left: &Pass, right: &Pass) -> bool {
-    left.run() == right.run()
-        && left.me() == right.me()
-        && left.args() == right.args()
-        && left.is_ended() == right.is_ended()
-        && are_same(left.log(), right.log())
-}
-
-fn is_like_log(left: &RunLog, right: &RunLog) -> bool {
-    left.run == right.run
-        && left.comp == right.comp
-        && are_same(left.entries.as_slice(), right.entries.as_slice())
-}
-
-pub(crate) fn is_like_report(left: &Closed, right: &Closed) -> bool {
-    let (logs, others) = (left.logs.as_slice(), right.logs.as_slice());
-    left.behaviours == right.behaviours
-        && left.verdict == right.verdict
-        && left.locals.as_slice() == right.locals.as_slice()
-        && are_same(left.history.as_slice(), right.history.as_slice())
-        && logs.len() == others.len()
-        && logs
-            .iter()
-            .zip(others)
-            .all(|(one, two)| is_like_log(one, two))
 }
 
 /// How many hands a new board has; none where memory is refused.
@@ -333,66 +309,64 @@ fn calls(alloc: Global) -> Option<MoveList> {
     read_moves(alloc, CALLS.as_bytes()).ok()
 }
 
-/// Two cases in which the same calls are made.
-#[derive(Drop)]
-struct Both {
+/// Makes a call in two cases, in one of them with a growth refused, and then again.
+fn call_beside<R: Wait>(
+    rt: &R,
+    opened: &mut Opened,
+    other: &mut Opened,
+    run: Run,
+    op: &Op,
+    refusal: &mut Refusal,
+) -> Outcome {
+    refusal.begin();
+    let answer = opened.call(rt, run, op);
+    refusal.end();
+    if answer != Err(Halt::NoMemory) {
+        let is_right = answer == other.call(rt, run, op) && opened.is_like(other);
+        return right_if(is_right, "a call is answered otherwise");
+    }
+    if !opened.is_like(other) {
+        return Outcome::Wrong("a refused call changes its pass");
+    }
+    let is_once = opened.call(rt, run, op) == other.call(rt, run, op);
+    refused_if(
+        is_once && opened.is_like(other),
+        "a refused call made again is answered otherwise",
+    )
+}
+
+/// Whether two cases close alike, behind a call that was made and these calls.
+fn close_alike<R: Wait>(
+    rt: &R,
+    alloc: Global,
     opened: Opened,
     other: Opened,
+    op: &Op,
+    moves: &[(Run, Op)],
+) -> bool {
+    let closed = opened.closed_behind(rt, alloc, op, moves);
+    let wanted = other.closed_behind(rt, alloc, op, moves);
+    matches!(judged(closed, wanted, ""), Outcome::Right)
 }
 
-impl Both {
-    /// Behind these calls.
-    fn behind<R: Wait>(rt: &R, alloc: Global, moves: &[(Run, Op)]) -> Option<Both> {
-        let opened = opened_behind(rt, alloc, moves)?;
-        let other = opened_behind(rt, alloc, moves)?;
-        Some(Both { opened, other })
-    }
-
-    fn are_like(&self) -> bool {
-        self.opened.is_like(&self.other)
-    }
-
-    /// Makes a call in both, in one of them with a growth refused, and then again.
-    fn call<R: Wait>(&mut self, rt: &R, run: Run, op: &Op, refusal: &mut Refusal) -> Outcome {
-        refusal.begin();
-        let mut answer = self.opened.call(rt, run, op);
-        refusal.end();
-        let is_refused = answer == Err(Halt::NoMemory);
-        if is_refused {
-            if !self.are_like() {
-                return Outcome::Wrong("a refused call changes its pass");
-            }
-            answer = self.opened.call(rt, run, op);
-        }
-        let is_right = answer == self.other.call(rt, run, op) && self.are_like();
-        if is_refused {
-            refused_if(is_right, "a refused call made again is answered otherwise")
-        } else {
-            right_if(is_right, "a call is answered otherwise")
-        }
-    }
-
-    /// Makes these calls in both, behind a call that was made.
-    fn go_on<R: Wait>(&mut self, rt: &R, op: &Op, moves: &[(Run, Op)]) {
-        self.opened.meet(rt, op);
-        self.opened.call_all(rt, moves);
-        self.other.meet(rt, op);
-        self.other.call_all(rt, moves);
-    }
-
-    /// Whether both close alike.
-    fn close_alike<R: Wait>(self, rt: &R, alloc: Global) -> bool {
-        let Both { opened, other } = self;
-        let closed = opened.closed(rt, alloc);
-        let wanted = other.closed(rt, alloc);
-        are_closed_alike(&closed, &wanted)
-    }
-}
-
-fn are_closed_alike(left: &Option<Closed>, right: &Option<Closed>) -> bool {
-    match (left, right) {
-        (Some(left), Some(right)) => is_like_report(left, right),
-        _ => false,
+/// The call in two cases, before the calls behind it.
+fn call_in_both<R: Wait>(
+    rt: &R,
+    alloc: Global,
+    opened: Opened,
+    other: Opened,
+    first: &(Run, Op),
+    behind: &[(Run, Op)],
+    refusal: &mut Refusal,
+) -> Outcome {
+    let (mut opened, mut other) = (opened, other);
+    let (run, op) = first;
+    let outcome = call_beside(rt, &mut opened, &mut other, *run, op, refusal);
+    let is_alike = close_alike(rt, alloc, opened, other, op, behind);
+    if is_alike || matches!(outcome, Outcome::Wrong(_)) {
+        outcome
+    } else {
+        Outcome::Wrong("a call changes its case")
     }
 }
 
@@ -404,19 +378,11 @@ fn call_in<R: Wait>(
     place: usize,
     refusal: &mut Refusal,
 ) -> Option<Outcome> {
-    let (run, op) = moves.get(place)?;
-    let behind = moves.get(place.saturating_add(1)..)?;
-    let mut both = Both::behind(rt, alloc, moves.get(..place)?)?;
-    let outcome = both.call(rt, *run, op, refusal);
-    let is_wrong = matches!(outcome, Outcome::Wrong(_));
-    if !is_wrong {
-        both.go_on(rt, op, behind);
-    }
-    if both.close_alike(rt, alloc) || is_wrong {
-        Some(outcome)
-    } else {
-        Some(Outcome::Wrong("a call changes its case"))
-    }
+    let (first, behind) = moves.get(place..)?.split_first()?;
+    let before = moves.get(..place)?;
+    let opened = opened_behind(rt, alloc, before);
+    let (opened, other) = opened.zip(opened_behind(rt, alloc, before))?;
+    Some(call_in_both(rt, alloc, opened, other, first, behind, refusal))
 }
 
 /// Each of the calls, behind those before it and before those behind it, in a case beside one that is refused nothing.
@@ -430,30 +396,31 @@ pub(crate) fn call<R: Wait>(
     call_in(rt, alloc, list.moves.as_slice(), place, refusal)
 }
 
-/// The history without its verdict entries.
-fn locked(alloc: Global, history: &[Entry]) -> Option<Vec<Entry>> {
-    let mut kept = Vec::new(alloc);
+/// Adds the entries that are none of verdicts. Whether there was memory for them.
+fn add_locked(history: &[Entry], kept: &mut Vec<Entry>) -> bool {
     for entry in history {
-        if !matches!(entry.op, Op::SetVerdict(_) | Op::GetVerdict) {
-            kept.push(entry.copy()).ok()?;
+        if !matches!(entry.op, Op::SetVerdict(_) | Op::GetVerdict)
+            && kept.push(entry.copy()).is_err()
+        {
+            return false;
         }
     }
-    Some(kept)
+    true
 }
 
-fn merged(alloc: Global, closed: &Closed, refusal: &mut Refusal) -> Option<Outcome> {
-    let kept = locked(alloc, closed.history.as_slice())?;
+/// The merge of the logs of a case with its history, which here has no verdict entries.
+fn merge_logs(alloc: Global, kept: &[Entry], closed: &Closed, refusal: &mut Refusal) -> Outcome {
     refusal.begin();
-    let made = merge(alloc, kept.as_slice(), closed.logs.as_slice());
+    let answer = merge(alloc, kept, closed.logs.as_slice());
     refusal.end();
-    let wanted = merge(alloc, kept.as_slice(), closed.logs.as_slice()).ok()?;
-    Some(match made {
-        Ok(all) => right_if(
-            are_same(all.as_slice(), wanted.as_slice()),
-            "a merge is another",
-        ),
-        Err(NoMemory) => Outcome::Refused,
-    })
+    let ample = merge(alloc, kept, closed.logs.as_slice());
+    judged(answer, ample, "a merge is another")
+}
+
+fn merged(alloc: Global, closed: &Closed, refusal: &mut Refusal) -> Outcome {
+    let mut kept = Vec::new(alloc);
+    add_locked(closed.history.as_slice(), &mut kept);
+    merge_logs(alloc, kept.as_slice(), closed, refusal)
 }
 
 /// A case behind all calls.
@@ -464,15 +431,7 @@ fn opened_behind_all<R: Wait>(rt: &R, alloc: Global) -> Option<Opened> {
 
 /// The close of a case behind all calls.
 fn closed_behind_all<R: Wait>(rt: &R, alloc: Global) -> Option<Closed> {
-    opened_behind_all(rt, alloc)?.closed(rt, alloc)
-}
-
-/// What came of the close of a case, which is to be this one.
-fn closed_as(answer: &Result<Closed, CloseFault>, wanted: &Closed) -> Outcome {
-    match answer {
-        Ok(closed) => right_if(is_like_report(closed, wanted), "a case is closed otherwise"),
-        Err(fault) => refused_if(*fault == CloseFault::NoMemory, "a whole case is torn"),
-    }
+    opened_behind_all(rt, alloc)?.closed(rt, alloc).ok()
 }
 
 /// The close of a case, which is to be this one.
@@ -482,11 +441,11 @@ fn close_one<R: Wait>(
     wanted: &Closed,
     refusal: &mut Refusal,
 ) -> Option<Outcome> {
-    let (shared, lefts) = opened_behind_all(rt, alloc)?.left(rt, alloc)?;
+    let (shared, lefts) = opened_behind_all(rt, alloc)?.left(rt, alloc);
     refusal.begin();
     let answer = close_case(rt, alloc, shared, lefts);
     refusal.end();
-    Some(closed_as(&answer, wanted))
+    Some(answered_as(&answer, wanted, "a case is closed otherwise"))
 }
 
 /// The close of a case behind all calls, and the merge of its logs.
@@ -499,14 +458,9 @@ pub(crate) fn close<R: Wait>(
     let wanted = closed_behind_all(rt, alloc)?;
     match place {
         0 => close_one(rt, alloc, &wanted, refusal),
-        1 => merged(alloc, &wanted, refusal),
+        1 => Some(merged(alloc, &wanted, refusal)),
         _ => None,
     }
-}
-
-/// What the main run leaves.
-fn left_by_main<R: Wait>(rt: &R, opened: Opened) -> Left {
-    opened.main.leave(rt)
 }
 
 /// A case behind the first calls.
@@ -515,11 +469,15 @@ fn opened_behind_first<R: Wait>(rt: &R, alloc: Global) -> Option<Opened> {
     opened_behind(rt, alloc, list.moves.get(..10)?)
 }
 
-/// What the main run leaves with no growth given.
-fn left_unfed<R: Wait>(rt: &R, opened: Opened, refusal: &mut Refusal) -> Left {
-    refusal.begin_each();
-    let left = left_by_main(rt, opened);
-    refusal.end();
+/// What the main run leaves, with no growth given where that is asked for.
+fn left_by_main<R: Wait>(rt: &R, opened: Opened, refuses: bool, refusal: &mut Refusal) -> Left {
+    if refuses {
+        refusal.begin_each();
+    }
+    let left = opened.main.leave(rt);
+    if refuses {
+        refusal.end();
+    }
     left
 }
 
@@ -530,31 +488,25 @@ fn left_as(left: &Left, wanted: &Left) -> Outcome {
         .last()
         .is_some_and(|last| last.op.same(&Op::Finish));
     right_if(
-        is_finished && are_same(left.log(), wanted.log()),
+        is_finished && are_like(left.log(), wanted.log()),
         "a pass leaves otherwise",
     )
 }
 
 /// The leave of a pass behind the first calls.
 pub(crate) fn leave<R: Wait>(rt: &R, alloc: Global, refusal: &mut Refusal) -> Option<Outcome> {
-    let wanted = left_by_main(rt, opened_behind_first(rt, alloc)?);
-    let left = left_unfed(rt, opened_behind_first(rt, alloc)?, refusal);
+    let opened = opened_behind_first(rt, alloc);
+    let (opened, other) = opened.zip(opened_behind_first(rt, alloc))?;
+    let wanted = left_by_main(rt, other, false, refusal);
+    let left = left_by_main(rt, opened, true, refusal);
     Some(left_as(&left, &wanted))
-}
-
-/// Stops the case. Whether that was done.
-fn stops<R: Wait>(rt: &R, pass: &mut Pass) -> bool {
-    pass.stop_case(rt).is_ok()
 }
 
 /// A case that was stopped.
 fn stopped<R: Wait>(rt: &R, alloc: Global) -> Option<Opened> {
     let mut opened = Opened::new(alloc)?;
-    if stops(rt, &mut opened.main) {
-        Some(opened)
-    } else {
-        None
-    }
+    let _ = opened.main.stop_case(rt);
+    Some(opened)
 }
 
 /// The leave of a pass that has ended.
@@ -563,7 +515,7 @@ pub(crate) fn leave_ended<R: Wait>(
     alloc: Global,
     refusal: &mut Refusal,
 ) -> Option<Outcome> {
-    let left = left_unfed(rt, stopped(rt, alloc)?, refusal);
+    let left = left_by_main(rt, stopped(rt, alloc)?, true, refusal);
     Some(right_if(
         left.log().len() == 1,
         "a pass that has ended leaves otherwise",
@@ -585,26 +537,31 @@ fn start_on_another<R: Wait>(rt: &R, main: &mut Pass, run: Run) -> Option<Comp> 
     Some(comp)
 }
 
+/// Whether what a ticket gave is the pass of this component.
+fn is_pass_of(given: &Result<Pass, Left>, comp: Option<Comp>) -> bool {
+    match given {
+        Ok(pass) => Some(pass.me()) == comp,
+        Err(_) => false,
+    }
+}
+
 /// Whether the ticket of a run that is started gives its pass.
 fn gives_pass<R: Wait>(rt: &R, main: &mut Pass, ticket: Ticket, refusal: &mut Refusal) -> bool {
-    let Some(comp) = start_on_another(rt, main, ticket.run()) else {
-        return false;
-    };
-    match &given_unfed(rt, ticket, refusal) {
-        Ok(pass) => pass.me() == comp,
-        Err(_) => false,
+    let comp = start_on_another(rt, main, ticket.run());
+    is_pass_of(&given_unfed(rt, ticket, refusal), comp)
+}
+
+/// Whether what a ticket gave is what a run leaves that was never started.
+fn is_unstarted(given: &Result<Pass, Left>) -> bool {
+    match given {
+        Ok(_) => false,
+        Err(left) => left.log().is_empty(),
     }
 }
 
 /// Whether the ticket of a run that is not started gives what it leaves, once the case is stopped.
 fn gives_left<R: Wait>(rt: &R, main: &mut Pass, ticket: Ticket, refusal: &mut Refusal) -> bool {
-    if !stops(rt, main) {
-        return false;
-    }
-    match &given_unfed(rt, ticket, refusal) {
-        Ok(_) => false,
-        Err(left) => left.log().is_empty(),
-    }
+    main.stop_case(rt).is_ok() && is_unstarted(&given_unfed(rt, ticket, refusal))
 }
 
 /// Whether two tickets give what they are to give.
@@ -614,10 +571,10 @@ fn give_all<R: Wait>(
     tickets: &mut Vec<Ticket>,
     refusal: &mut Refusal,
 ) -> Option<bool> {
-    let (last, first) = (tickets.pop()?, tickets.pop()?);
-    let is_started = gives_pass(rt, main, first, refusal);
-    let is_unstarted = gives_left(rt, main, last, refusal);
-    Some(is_started && is_unstarted)
+    let (last, first) = tickets.pop().zip(tickets.pop())?;
+    let is_pass = gives_pass(rt, main, first, refusal);
+    let is_left = gives_left(rt, main, last, refusal);
+    Some(is_pass && is_left)
 }
 
 /// What tickets give: the pass of a run that was started, and what one leaves that was not.
@@ -627,8 +584,8 @@ pub(crate) fn await_starts<R: Wait>(
     refusal: &mut Refusal,
 ) -> Option<Outcome> {
     let (_shared, mut main, mut tickets) = open_case(alloc, 3).ok()?;
-    let are_given = give_all(rt, &mut main, &mut tickets, refusal)?;
-    Some(right_if(are_given, "a ticket gives something else"))
+    let are_given = give_all(rt, &mut main, &mut tickets, refusal);
+    Some(right_if(are_given == Some(true), "a ticket gives something else"))
 }
 
 /// Whether a pass answers each of these calls that it has ended.

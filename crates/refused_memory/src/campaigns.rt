@@ -2,7 +2,7 @@
 ghost use Rattle.std.specs.Prelude.{All, IfOk, IfSome};
 ghost use Rattle.tc_campaign.specs.Outline.{HasNames};
 
-use crate::books::is_like_report;
+use crate::like::{Like, answered_as};
 use crate::outcome::{Outcome, refused_if, right_if};
 use crate::refusal::Refusal;
 use std::alloc::Global;
@@ -13,7 +13,7 @@ use tc_book::{Halt, Pass};
 use tc_campaign::{Case, Shard, choose, run_campaign, run_campaign_live};
 use tc_entry::{Name, NoMemory, UserVerdict};
 use tc_exec::{Back, CaseError, CaseReport, Job, run_case};
-use tc_report::{CampaignEnd, Finished, Form, OutFault, Results};
+use tc_report::{CampaignEnd, Form, OutFault, Results};
 use tc_script::{Campaign, read_campaign};
 use tc_step::Script;
 
@@ -73,14 +73,25 @@ fn next_case<R: Wait + Copy + Send + 'static>(
     case_of(rt, alloc, name, behaviour, script).ok()
 }
 
+/// The next two test cases.
+fn next_cases<R: Wait + Copy + Send + 'static>(
+    rt: &R,
+    alloc: Global,
+    campaign: &mut Campaign,
+) -> Option<Vec<Case<ScriptJob<R>>>>
+    ensures { IfSome result (λ v. All HasNames v.items) }
+{
+    let first = next_case(rt, alloc, campaign);
+    let (first, second) = first.zip(next_case(rt, alloc, campaign))?;
+    vec![in alloc; first, second].ok()
+}
+
 /// The two test cases.
 fn cases<R: Wait + Copy + Send + 'static>(rt: &R, alloc: Global) -> Option<Vec<Case<ScriptJob<R>>>>
     ensures { IfSome result (λ v. All HasNames v.items) }
 {
     let mut campaign = read_campaign(alloc, SCRIPT.as_bytes()).ok()?;
-    let first = next_case(rt, alloc, &mut campaign)?;
-    let second = next_case(rt, alloc, &mut campaign)?;
-    vec![in alloc; first, second].ok()
+    next_cases(rt, alloc, &mut campaign)
 }
 
 /// What a behaviour calls.
@@ -121,18 +132,15 @@ fn answer_of_one<R: Threads + Wait + Copy + Send + 'static>(
     Some(answer)
 }
 
-/// What came of the run of a test case, of which this report is wanted.
-fn report_as(answer: &Result<CaseReport, CaseError>, wanted: &CaseReport) -> Outcome {
-    match answer {
-        Ok(report) => right_if(
-            is_like_report(report, wanted),
-            "a test case is run otherwise",
-        ),
-        Err(why) => refused_if(
-            *why == CaseError::NoMemory,
-            "a refused test case has no report for another reason",
-        ),
-    }
+/// The run of a test case of one behaviour, of which this report is wanted.
+fn run_one_as<R: Threads + Wait + Copy + Send + 'static>(
+    rt: &R,
+    alloc: Global,
+    wanted: &CaseReport,
+    refusal: &mut Refusal,
+) -> Option<Outcome> {
+    let answer = answer_of_one(rt, alloc, refusal, true)?;
+    Some(answered_as(&answer, wanted, "a test case is run otherwise"))
 }
 
 /// The run of a test case of one behaviour.
@@ -142,16 +150,7 @@ fn run_one<R: Threads + Wait + Copy + Send + 'static>(
     refusal: &mut Refusal,
 ) -> Option<Outcome> {
     let wanted = answer_of_one(rt, alloc, refusal, false)?.ok()?;
-    let answer = answer_of_one(rt, alloc, refusal, true)?;
-    Some(report_as(&answer, &wanted))
-}
-
-/// Whether these are the first of those.
-fn are_first(finished: &[Finished], wanted: &[Finished]) -> bool {
-    finished.len() <= wanted.len()
-        && finished.iter().zip(wanted).all(|(one, other)| {
-            one.name.same(&other.name) && is_like_report(&one.report, &other.report)
-        })
+    run_one_as(rt, alloc, &wanted, refusal)
 }
 
 /// Whether a campaign was aborted at this test case for want of memory.
@@ -165,7 +164,12 @@ fn is_aborted_at(ending: &CampaignEnd, wanted: &Name) -> bool {
 /// What came of a campaign of which these results are wanted.
 fn judged(results: &Results, wanted: &Results) -> Outcome {
     let (finished, others) = (results.finished.as_slice(), wanted.finished.as_slice());
-    if !are_first(finished, others) {
+    if finished.len() > others.len()
+        || !finished
+            .iter()
+            .zip(others)
+            .all(|(one, other)| one.is_like(other))
+    {
         return Outcome::Wrong("a test case of a campaign is run otherwise");
     }
     match others.get(finished.len()) {
@@ -180,22 +184,21 @@ fn judged(results: &Results, wanted: &Results) -> Outcome {
     }
 }
 
-/// The results of the two test cases.
-fn results<R: Threads + Wait + Copy + Send + 'static>(rt: &R, alloc: Global) -> Option<Results> {
-    let cases = cases(rt, alloc)?;
-    Some(run_campaign(rt, alloc, cases, None, 0))
-}
-
-/// The results of the two test cases with a growth refused.
-fn refused_results<R: Threads + Wait + Copy + Send + 'static>(
+/// The results of the two test cases, with a growth refused where that is asked for.
+fn results_of_two<R: Threads + Wait + Copy + Send + 'static>(
     rt: &R,
     alloc: Global,
     refusal: &mut Refusal,
+    refuses: bool,
 ) -> Option<Results> {
     let cases = cases(rt, alloc)?;
-    refusal.begin();
+    if refuses {
+        refusal.begin();
+    }
     let results = run_campaign(rt, alloc, cases, None, 0);
-    refusal.end();
+    if refuses {
+        refusal.end();
+    }
     Some(results)
 }
 
@@ -205,34 +208,29 @@ fn run_kept<R: Threads + Wait + Copy + Send + 'static>(
     alloc: Global,
     refusal: &mut Refusal,
 ) -> Option<Outcome> {
-    let wanted = results(rt, alloc)?;
-    let results = refused_results(rt, alloc, refusal)?;
+    let wanted = results_of_two(rt, alloc, refusal, false);
+    let (wanted, results) = wanted.zip(results_of_two(rt, alloc, refusal, true))?;
     Some(judged(&results, &wanted))
 }
 
 type LiveAnswer = Result<(CampaignEnd, u8), OutFault>;
 
-/// The answer to a campaign that is written to this.
+/// The answer to a campaign that is written to this, with a growth refused where that is asked for.
 fn live_answer<R: Threads + Wait + Copy + Send + 'static>(
     rt: &R,
     alloc: Global,
     out: &mut Vec<u8>,
-) -> Option<LiveAnswer> {
-    let cases = cases(rt, alloc)?;
-    Some(run_campaign_live(rt, alloc, cases, None, 0, Form::Csv, out))
-}
-
-/// The answer to a campaign that is written to this, with a growth refused.
-fn refused_live_answer<R: Threads + Wait + Copy + Send + 'static>(
-    rt: &R,
-    alloc: Global,
-    out: &mut Vec<u8>,
     refusal: &mut Refusal,
+    refuses: bool,
 ) -> Option<LiveAnswer> {
     let cases = cases(rt, alloc)?;
-    refusal.begin();
+    if refuses {
+        refusal.begin();
+    }
     let answer = run_campaign_live(rt, alloc, cases, None, 0, Form::Csv, out);
-    refusal.end();
+    if refuses {
+        refusal.end();
+    }
     Some(answer)
 }
 
@@ -261,33 +259,34 @@ fn live_status<R: Threads + Wait + Copy + Send + 'static>(
     rt: &R,
     alloc: Global,
     out: &mut Vec<u8>,
+    refusal: &mut Refusal,
 ) -> Option<u8> {
-    let (_, status) = live_answer(rt, alloc, out)?.ok()?;
+    let (_, status) = live_answer(rt, alloc, out, refusal, false)?.ok()?;
     Some(status)
 }
 
-/// The run of a campaign that is written as its test cases finish, of which this is wanted; there is room for what is written.
-fn run_live_as<R: Threads + Wait + Copy + Send + 'static>(
+/// The run of a campaign that is written to this as its test cases finish, beside one that is refused nothing.
+fn run_live_beside<R: Threads + Wait + Copy + Send + 'static>(
     rt: &R,
     alloc: Global,
-    status: u8,
-    wanted: &[u8],
+    out: &mut Vec<u8>,
+    wanted: &mut Vec<u8>,
     refusal: &mut Refusal,
 ) -> Option<Outcome> {
-    let mut out = Vec::with_capacity(alloc, 10_000).ok()?;
-    let answer = refused_live_answer(rt, alloc, &mut out, refusal)?;
-    Some(live_as(&answer, out.as_slice(), status, wanted))
+    let status = live_status(rt, alloc, wanted, refusal)?;
+    let answer = live_answer(rt, alloc, out, refusal, true)?;
+    Some(live_as(&answer, out.as_slice(), status, wanted.as_slice()))
 }
 
-/// The run of a campaign that is written as its test cases finish.
+/// The run of a campaign that is written as its test cases finish; there is room for what is written.
 fn run_live<R: Threads + Wait + Copy + Send + 'static>(
     rt: &R,
     alloc: Global,
     refusal: &mut Refusal,
 ) -> Option<Outcome> {
-    let mut wanted = Vec::with_capacity(alloc, 10_000).ok()?;
-    let status = live_status(rt, alloc, &mut wanted)?;
-    run_live_as(rt, alloc, status, wanted.as_slice(), refusal)
+    let out = Vec::with_capacity(alloc, 10_000).ok();
+    let (mut out, mut wanted) = out.zip(Vec::with_capacity(alloc, 10_000).ok())?;
+    run_live_beside(rt, alloc, &mut out, &mut wanted, refusal)
 }
 
 /// Whether the one that was chosen has this name.
@@ -298,25 +297,32 @@ fn are_chosen<R: Wait + Copy + Send + 'static>(
     chosen.len() == 1 && chosen.iter().all(|case| case.name.same(wanted))
 }
 
+/// What came of the choice of a shard, which has the test case of this name alone.
+fn chosen_as<R: Wait + Copy + Send + 'static>(
+    answer: &Result<Vec<Case<ScriptJob<R>>>, NoMemory>,
+    wanted: &Name,
+) -> Outcome {
+    match answer {
+        Ok(chosen) => right_if(
+            are_chosen(chosen.as_slice(), wanted),
+            "other test cases are chosen",
+        ),
+        Err(NoMemory) => Outcome::Refused,
+    }
+}
+
 /// The choice of a shard.
 fn choose_shard<R: Threads + Wait + Copy + Send + 'static>(
     rt: &R,
     alloc: Global,
     refusal: &mut Refusal,
 ) -> Option<Outcome> {
-    let shard = Shard::new(2, 2)?;
+    let (shard, wanted) = Shard::new(2, 2).zip(Name::read("second"))?;
     let cases = cases(rt, alloc)?;
-    let wanted = Name::read("second")?;
     refusal.begin();
     let answer = choose(alloc, cases, &[], Some(shard));
     refusal.end();
-    Some(match &answer {
-        Ok(chosen) => right_if(
-            are_chosen(chosen.as_slice(), &wanted),
-            "other test cases are chosen",
-        ),
-        Err(NoMemory) => Outcome::Refused,
-    })
+    Some(chosen_as(&answer, &wanted))
 }
 
 /// The run of a test case and of a campaign, one that is written live, and the choice of a shard.

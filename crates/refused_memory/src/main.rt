@@ -6,15 +6,14 @@
 mod books;
 mod campaigns;
 mod forms;
+mod like;
 mod live;
 mod outcome;
-mod parts;
 mod quiet;
 mod refusal;
 mod results;
 mod runs;
 mod searches;
-mod states;
 mod tables;
 mod texts;
 
@@ -25,9 +24,10 @@ use std::io;
 use std::process::ExitCode;
 use std::sync::Wait;
 use std::thread::Threads;
+use tc_table::{CaseState, Table};
 
 /// A kind of call, of which there are several, by their place.
-#[derive(Clone, Copy, PartialEq, Eq, Debug)]
+#[derive(Clone, Copy)]
 enum Kind {
     NewTable,
     Play,
@@ -84,16 +84,16 @@ fn make<R: Threads + Wait + Copy + Send + 'static>(
     refusal: &mut Refusal,
 ) -> Option<Outcome> {
     match kind {
-        Kind::NewTable => tables::open(alloc, place, refusal),
-        Kind::Play => tables::play(alloc, place, refusal),
+        Kind::NewTable => tables::open::<Table>(alloc, place, refusal),
+        Kind::Play => tables::play::<Table>(alloc, place, refusal),
         Kind::MakeRoom => tables::make_room(alloc, place, refusal),
-        Kind::Replay => tables::replay(alloc, place, refusal),
-        Kind::State => states::make(alloc, place, refusal),
-        Kind::PlayState => states::play(alloc, place, refusal),
-        Kind::Copy => states::copy(alloc, place, refusal),
+        Kind::Replay => tables::judge(alloc, place, false, refusal),
+        Kind::State => tables::make_state(alloc, place, refusal),
+        Kind::PlayState => tables::play::<CaseState>(alloc, place, refusal),
+        Kind::Copy => tables::copy_in(alloc, place, refusal),
         Kind::Read => texts::read(alloc, place, refusal),
         Kind::Write => texts::write(alloc, place, refusal),
-        Kind::WritePart => parts::write(alloc, place, refusal),
+        Kind::WritePart => texts::write_part(alloc, place, refusal),
         Kind::Form => forms::make(alloc, place, refusal),
         Kind::Live => live::make(alloc, place, refusal),
         Kind::Search => searches::make(alloc, place, refusal),

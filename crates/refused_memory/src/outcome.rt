@@ -1,7 +1,7 @@
 //! What comes of a call with a growth refused.
 
 /// What comes of a call.
-#[derive(Clone, Copy, PartialEq, Eq, Debug)]
+#[derive(Clone, Copy)]
 pub enum Outcome {
     /// It answers as with ample memory.
     Right,

@@ -1,16 +1,19 @@
 //! Calls that take no memory, each made with every growth refused.
+ghost use Rattle.std.specs.Prelude.{◌≡◌};
+ghost use Rattle.tc_board.specs.Board.{new_hands, new_keeper};
+
 use crate::outcome::{Outcome, right_if};
 use crate::refusal::Refusal;
 use crate::{books, runs, tables, texts};
 use std::alloc::Global;
 use std::sync::{Arc, Wait};
 use std::thread::Threads;
-use tc_board::{Board, Said};
+use tc_board::{Board, Hand, Keeper, Said};
 use tc_book::laws::Book;
 use tc_entry::{Args, Comp, Op, Reply, Run, Target, UserVerdict};
 
 /// The call in a place.
-pub(crate) fn call<R: Threads + Wait + Copy + Send + 'static>(
+fn call<R: Threads + Wait + Copy + Send + 'static>(
     rt: &R,
     alloc: Global,
     place: usize,
@@ -21,16 +24,14 @@ pub(crate) fn call<R: Threads + Wait + Copy + Send + 'static>(
         1 => books::leave_ended(rt, alloc, refusal),
         2 => books::call_ended(rt, alloc, refusal),
         3 => books::await_starts(rt, alloc, refusal),
-        4 => wake_stuck(alloc, refusal),
-        5 => wake_matched(alloc, refusal),
-        6 => hands(alloc, refusal),
-        7 => shut_hands(alloc, refusal),
+        4 => wake(alloc, false, refusal),
+        5 => wake(alloc, true, refusal),
+        6 => hands(alloc, false, refusal),
+        7 => hands(alloc, true, refusal),
         8 => tables::play_in_room(alloc, refusal),
         9 => texts::take_all(alloc, refusal),
-        10 => runs::run_no_job(rt, alloc, refusal),
-        11 => runs::run_too_many_jobs(rt, alloc, refusal),
-        12 => runs::run_without_workers(rt, alloc, refusal),
-        13 => runs::run_no_case(rt, alloc, refusal),
+        10..=12 => runs::run_refused(rt, alloc, place - 10, refusal),
+        13 => Some(runs::run_no_case(rt, alloc, refusal)),
         _ => None,
     }
 }
@@ -66,50 +67,40 @@ const WAIT: Op = Op::Wait {
 
 fn new_book(alloc: Global) -> Option<Book> {
     let (board, keeper, _) = Board::new(alloc, 2).ok()?;
-    let board = Arc::new(alloc, board).ok()?;
-    Book::new(alloc, 2, keeper, board).ok()
+    match Arc::new(alloc, board) {
+        Ok(board) => Book::new(alloc, 2, keeper, board).ok(),
+        Err(_) => None,
+    }
 }
 
-/// What comes of the wake of a wait that is stuck, which was parked, and of the leave of its run.
-fn wake_stuck_in(book: &mut Book, parked: Reply, refusal: &mut Refusal) -> Outcome {
+/// Creates a component, starts run 1 on it where that is asked for, and waits for it. The answer to the wait.
+fn create_and_wait(book: &mut Book, starts: bool) -> Option<Reply> {
+    book.record(Run(0), CREATE).ok()?;
+    if starts {
+        let start = Op::Start {
+            comp: Comp(1),
+            run: Run(1),
+            args: Args::new(),
+        };
+        book.record(Run(0), start).ok()?;
+    }
+    book.record(Run(0), WAIT).ok()
+}
+
+/// What comes of the wake of a wait that is stuck, and of the leave of its run.
+fn wake_stuck(book: &mut Book, refusal: &mut Refusal) -> Outcome {
     refusal.begin_each();
     let woken = book.wake(Run(0), false, FIRST);
     let left = book.leave(Run(0), true);
     refusal.end();
-    let is_right = matches!(
-        (parked, woken, left),
-        (Reply::Parked, Some(Reply::Fault(_)), Some(None))
-    );
-    right_if(is_right, "a wake is answered otherwise")
-}
-
-/// Creates a component and waits for it. The answer to the wait.
-fn create_and_wait(book: &mut Book) -> Option<Reply> {
-    book.record(Run(0), CREATE).ok()?;
-    book.record(Run(0), WAIT).ok()
-}
-
-/// The wake of a wait that is stuck, and the leave of its run.
-fn wake_stuck(alloc: Global, refusal: &mut Refusal) -> Option<Outcome> {
-    let mut book = new_book(alloc)?;
-    let parked = create_and_wait(&mut book)?;
-    Some(wake_stuck_in(&mut book, parked, refusal))
-}
-
-/// Creates a component, starts run 1 on it and waits for it. The answer to the wait.
-fn start_and_wait(book: &mut Book) -> Option<Reply> {
-    book.record(Run(0), CREATE).ok()?;
-    let start = Op::Start {
-        comp: Comp(1),
-        run: Run(1),
-        args: Args::new(),
-    };
-    book.record(Run(0), start).ok()?;
-    book.record(Run(0), WAIT).ok()
+    right_if(
+        matches!((woken, left), (Some(Reply::Fault(_)), Some(None))),
+        "a wake is answered otherwise",
+    )
 }
 
 /// What comes of the wakes of a wait that goes on waiting, and then is matched, and of the leave of the run that it waited for.
-fn wake_matched_in(book: &mut Book, refusal: &mut Refusal) -> Outcome {
+fn wake_matched(book: &mut Book, refusal: &mut Refusal) -> Outcome {
     refusal.begin_each();
     let asleep = book.wake(Run(0), false, FIRST);
     let left = book.leave(Run(1), false);
@@ -122,51 +113,102 @@ fn wake_matched_in(book: &mut Book, refusal: &mut Refusal) -> Outcome {
     right_if(is_right, "a matched wait is woken otherwise")
 }
 
-/// The wake of a wait that goes on waiting, and then is matched; the leave of the run that it waited for.
-fn wake_matched(alloc: Global, refusal: &mut Refusal) -> Option<Outcome> {
+/// The wake of a wait that was parked, which is stuck or is to be matched.
+fn wake_in(book: &mut Book, starts: bool, refusal: &mut Refusal) -> Option<Outcome> {
+    let parked = create_and_wait(book, starts)?;
+    if !matches!(parked, Reply::Parked) {
+        return Some(Outcome::Wrong("a wait is not parked"));
+    }
+    Some(if starts {
+        wake_matched(book, refusal)
+    } else {
+        wake_stuck(book, refusal)
+    })
+}
+
+/// The wake of a wait that is stuck; or the wakes of one that goes on waiting, and then is matched.
+fn wake(alloc: Global, starts: bool, refusal: &mut Refusal) -> Option<Outcome> {
     let mut book = new_book(alloc)?;
-    start_and_wait(&mut book)?;
-    Some(wake_matched_in(&mut book, refusal))
+    wake_in(&mut book, starts, refusal)
 }
 
 /// The calls of a hand.
-fn hands(alloc: Global, refusal: &mut Refusal) -> Option<Outcome> {
-    let (board, mut keeper, mut hands) = Board::new(alloc, 2).ok()?;
-    let (mut one, mut zero) = (hands.pop()?, hands.pop()?);
+fn set_and_get(
+    board: &Board,
+    keeper: &mut Keeper,
+    one: &mut Hand,
+    zero: &mut Hand,
+    refusal: &mut Refusal,
+) -> Outcome
+    requires keeper { keeper.old ≡ new_keeper board.now 2 }
+    requires one { one.old.board ≡ board.now }
+    requires zero { zero.old.board ≡ board.now }
+{
     refusal.begin_each();
-    let is_early = one.meet(&board);
-    keeper.begin(&board, Run(1), UserVerdict::None);
-    let is_met = one.meet(&board) && zero.meet(&board);
-    let said = if is_met {
-        Some(one.set(&board, UserVerdict::Inconc))
-    } else {
-        None
-    };
-    let got = if is_met { one.get(&board) } else { None };
-    let closed = keeper.close(&board, Run(1));
+    let is_early = one.meet(board);
+    keeper.begin(board, Run(1), UserVerdict::None);
+    let is_heard = one.meet(board)
+        && zero.meet(board)
+        && one.set(board, UserVerdict::Inconc) == Said::Taken
+        && one.get(board) == Some(UserVerdict::Inconc);
+    let closed = keeper.close(board, Run(1));
     refusal.end();
-    let is_right = !is_early && said == Some(Said::Taken) && got == Some(UserVerdict::Inconc);
-    Some(right_if(
-        is_right && closed == UserVerdict::Inconc,
+    right_if(
+        !is_early && is_heard && closed == UserVerdict::Inconc,
         "a hand is answered otherwise",
-    ))
+    )
 }
 
-/// The calls of a hand whose word is closed, and how the keeper takes it back.
-fn shut_hands(alloc: Global, refusal: &mut Refusal) -> Option<Outcome> {
-    let (board, mut keeper, mut hands) = Board::new(alloc, 2).ok()?;
-    let (mut one, zero) = (hands.pop()?, hands.pop()?);
+/// The calls of a hand whose word is closed, and how the keeper takes both back.
+fn set_late(
+    board: &Board,
+    keeper: &mut Keeper,
+    one: Hand,
+    zero: Hand,
+    refusal: &mut Refusal,
+) -> Outcome
+    requires keeper { keeper.old ≡ new_keeper board.now 2 }
+    requires one { one.board ≡ board.now }
+    requires zero { zero.board ≡ board.now }
+{
+    let mut one = one;
     refusal.begin_each();
-    keeper.begin(&board, Run(1), UserVerdict::Fail);
-    let closed = keeper.close(&board, Run(1));
-    let late = if one.meet(&board) {
-        Some((one.set(&board, UserVerdict::Pass), one.get(&board)))
-    } else {
-        None
-    };
-    keeper.gather(&board, one);
-    keeper.gather(&board, zero);
+    keeper.begin(board, Run(1), UserVerdict::Fail);
+    let closed = keeper.close(board, Run(1));
+    let is_late = one.meet(board)
+        && one.set(board, UserVerdict::Pass) == Said::Closed
+        && one.get(board).is_none();
+    keeper.gather(board, one);
+    keeper.gather(board, zero);
     refusal.end();
-    let is_right = closed == UserVerdict::Fail && late == Some((Said::Closed, None));
-    Some(right_if(is_right, "a shut hand is answered otherwise"))
+    right_if(
+        closed == UserVerdict::Fail && is_late,
+        "a shut hand is answered otherwise",
+    )
+}
+
+/// The calls of these hands, of which one is shut where that is asked for.
+fn call_hands(
+    board: &Board,
+    keeper: &mut Keeper,
+    hands: &mut Vec<Hand>,
+    shuts: bool,
+    refusal: &mut Refusal,
+) -> Option<Outcome>
+    requires keeper { keeper.old ≡ new_keeper board.now 2 }
+    requires hands { hands.old.items ≡ new_hands board.now 0 2 }
+{
+    let mut one = hands.pop()?;
+    let mut zero = hands.pop()?;
+    Some(if shuts {
+        set_late(board, keeper, one, zero, refusal)
+    } else {
+        set_and_get(board, keeper, &mut one, &mut zero, refusal)
+    })
+}
+
+/// The calls of a hand; or those of one whose word is closed, and how the keeper takes it back.
+fn hands(alloc: Global, shuts: bool, refusal: &mut Refusal) -> Option<Outcome> {
+    let (board, mut keeper, mut hands) = Board::new(alloc, 2).ok()?;
+    call_hands(&board, &mut keeper, &mut hands, shuts, refusal)
 }

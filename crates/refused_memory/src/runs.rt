@@ -10,6 +10,13 @@ use tc_entry::BEHAVIOURS;
 use tc_exec::{Back, CaseError, CaseReport, Job, run_case};
 use tc_report::{CampaignEnd, Results};
 
+/// So many jobs with so many workers are refused for this reason.
+const REFUSED: [(usize, u16, CaseError); 3] = [
+    (0, 1, CaseError::NoBehaviours),
+    (BEHAVIOURS + 1, 1, CaseError::TooManyBehaviours),
+    (3, 1, CaseError::NoThread),
+];
+
 /// What came of a test case that is to be refused for this reason.
 fn refused_as(answer: &Result<CaseReport, CaseError>, wanted: CaseError) -> Outcome {
     match answer {
@@ -42,51 +49,21 @@ fn answer_of_idle<R: Threads + Wait + Copy + Send + 'static>(
     Some(answer)
 }
 
-/// The run of so many jobs that do nothing, with so many workers, which is to be refused for this reason.
-fn run_refused<R: Threads + Wait + Copy + Send + 'static>(
+/// The run of no job, of one job more than a test case may have, and of three jobs with one worker.
+pub(crate) fn run_refused<R: Threads + Wait + Copy + Send + 'static>(
     rt: &R,
     alloc: Global,
-    count: usize,
-    workers: u16,
-    wanted: CaseError,
+    place: usize,
     refusal: &mut Refusal,
 ) -> Option<Outcome> {
+    let (count, workers, wanted) = *REFUSED.get(place)?;
     let answer = answer_of_idle(rt, alloc, count, workers, refusal)?;
     Some(refused_as(&answer, wanted))
 }
 
-/// The run of no job.
-pub(crate) fn run_no_job<R: Threads + Wait + Copy + Send + 'static>(
-    rt: &R,
-    alloc: Global,
-    refusal: &mut Refusal,
-) -> Option<Outcome> {
-    run_refused(rt, alloc, 0, 1, CaseError::NoBehaviours, refusal)
-}
-
-/// The run of one job more than a test case may have.
-pub(crate) fn run_too_many_jobs<R: Threads + Wait + Copy + Send + 'static>(
-    rt: &R,
-    alloc: Global,
-    refusal: &mut Refusal,
-) -> Option<Outcome> {
-    run_refused(
-        rt,
-        alloc,
-        BEHAVIOURS + 1,
-        1,
-        CaseError::TooManyBehaviours,
-        refusal,
-    )
-}
-
-/// The run of three jobs with one worker.
-pub(crate) fn run_without_workers<R: Threads + Wait + Copy + Send + 'static>(
-    rt: &R,
-    alloc: Global,
-    refusal: &mut Refusal,
-) -> Option<Outcome> {
-    run_refused(rt, alloc, 3, 1, CaseError::NoThread, refusal)
+/// Whether a campaign of no test case is complete.
+fn is_empty(results: &Results) -> bool {
+    results.finished.as_slice().is_empty() && matches!(results.ending, CampaignEnd::Complete)
 }
 
 /// The run of a campaign of no test case.
@@ -94,18 +71,13 @@ pub(crate) fn run_no_case<R: Threads + Wait + Copy + Send + 'static>(
     rt: &R,
     alloc: Global,
     refusal: &mut Refusal,
-) -> Option<Outcome> {
+) -> Outcome {
     let cases: Vec<Case> = Vec::new(alloc);
     refusal.begin_each();
     let results = run_campaign(rt, alloc, cases, None, 1);
     refusal.end();
-    Some(right_if(
+    right_if(
         is_empty(&results),
         "a campaign of no test case is not complete",
-    ))
-}
-
-/// Whether a campaign of no test case is complete.
-fn is_empty(results: &Results) -> bool {
-    results.finished.as_slice().is_empty() && matches!(results.ending, CampaignEnd::Complete)
+    )
 }

@@ -3,14 +3,13 @@ ghost use Rattle.std.specs.Prelude.{◌≤◌, length};
 ghost use Rattle.tc_entry.specs.declared.limits.TheConstants.{BEHAVIOURS};
 ghost use Rattle.tc_explore.specs.Details.{AreLegalOf};
 
-use crate::outcome::{Outcome, right_if};
-use crate::parts::appended;
+use crate::like::answered_as;
+use crate::outcome::Outcome;
 use crate::refusal::Refusal;
-use crate::tables::are_same;
-use crate::texts::HEAD;
+use crate::texts::{HEAD, appended};
 use std::alloc::Global;
 use tc_entry::{BEHAVIOURS, Name, NoMemory};
-use tc_explore::{Explored, Witness, explore};
+use tc_explore::{Explored, explore};
 use tc_script::{CaseScript, read_campaign};
 use tc_step::Script;
 
@@ -64,45 +63,6 @@ fn add_scripts(case: &mut CaseScript, scripts: &mut Vec<Script>) -> bool {
     true
 }
 
-/// The scripts of that test case.
-fn scripts(alloc: Global) -> Option<Vec<Script>> {
-    let mut case = race(alloc)?;
-    let mut scripts = Vec::new(alloc);
-    if add_scripts(&mut case, &mut scripts) {
-        Some(scripts)
-    } else {
-        None
-    }
-}
-
-fn is_like_witness(left: &Witness, right: &Witness) -> bool {
-    left.verdict == right.verdict && are_same(left.history.as_slice(), right.history.as_slice())
-}
-
-fn are_like_witnesses(left: &[Witness], right: &[Witness]) -> bool {
-    left.len() == right.len()
-        && left
-            .iter()
-            .zip(right)
-            .all(|(one, other)| is_like_witness(one, other))
-}
-
-/// Whether two searches found the same.
-fn is_like(left: &Explored, right: &Explored) -> bool {
-    left.states == right.states
-        && left.ending == right.ending
-        && left.reached.as_slice() == right.reached.as_slice()
-        && are_like_witnesses(left.found.as_slice(), right.found.as_slice())
-}
-
-/// What came of a search, which is to find this.
-fn found_as(answer: &Result<Explored, NoMemory>, wanted: &Explored) -> Outcome {
-    match answer {
-        Ok(explored) => right_if(is_like(explored, wanted), "a search finds something else"),
-        Err(NoMemory) => Outcome::Refused,
-    }
-}
-
 /// The search, which is to find this.
 fn search(alloc: Global, scripts: &[Script], wanted: &Explored, refusal: &mut Refusal) -> Outcome
     requires { length scripts.now ≤ BEHAVIOURS }
@@ -110,7 +70,7 @@ fn search(alloc: Global, scripts: &[Script], wanted: &Explored, refusal: &mut Re
     refusal.begin();
     let answer = explore(alloc, scripts, STATES);
     refusal.end();
-    found_as(&answer, wanted)
+    answered_as(&answer, wanted, "a search finds something else")
 }
 
 /// What is told of a search.
@@ -142,8 +102,28 @@ fn append(
     }
 }
 
-/// What is told, behind what stands there.
+/// What is told, with a growth refused, behind what stands there, beside the same with none.
 fn tell(
+    alloc: Global,
+    told: Told,
+    scripts: &[Script],
+    explored: &Explored,
+    out: &mut Vec<u8>,
+    wanted: &mut Vec<u8>,
+    refusal: &mut Refusal,
+) -> Outcome
+    requires few { length scripts.now ≤ BEHAVIOURS }
+    requires legal { AreLegalOf (length scripts.now) explored.now.found }
+{
+    let _ = append(alloc, wanted, told, scripts, explored);
+    refusal.begin();
+    let answer = append(alloc, out, told, scripts, explored);
+    refusal.end();
+    appended(answer, out.as_slice(), wanted.as_slice())
+}
+
+/// What is told of this search.
+fn tell_of(
     alloc: Global,
     told: Told,
     scripts: &[Script],
@@ -153,13 +133,36 @@ fn tell(
     requires few { length scripts.now ≤ BEHAVIOURS }
     requires legal { AreLegalOf (length scripts.now) explored.now.found }
 {
-    let mut wanted = HEAD.to_vec(alloc).ok()?;
-    append(alloc, &mut wanted, told, scripts, explored).ok()?;
-    let mut out = HEAD.to_vec(alloc).ok()?;
-    refusal.begin();
-    let answer = append(alloc, &mut out, told, scripts, explored);
-    refusal.end();
-    Some(appended(answer, out.as_slice(), wanted.as_slice()))
+    let (mut out, mut wanted) = HEAD.to_vec(alloc).ok().zip(HEAD.to_vec(alloc).ok())?;
+    Some(tell(
+        alloc,
+        told,
+        scripts,
+        explored,
+        &mut out,
+        &mut wanted,
+        refusal,
+    ))
+}
+
+/// The call in a place, on these scripts and what is found of them.
+fn make_of(
+    alloc: Global,
+    scripts: &[Script],
+    explored: &Explored,
+    place: usize,
+    refusal: &mut Refusal,
+) -> Option<Outcome>
+    requires few { length scripts.now ≤ BEHAVIOURS }
+    requires legal { AreLegalOf (length scripts.now) explored.now.found }
+{
+    match place {
+        0 => Some(search(alloc, scripts, explored, refusal)),
+        1 => tell_of(alloc, Told::Line, scripts, explored, refusal),
+        2 => tell_of(alloc, Told::Witnesses, scripts, explored, refusal),
+        3 => tell_of(alloc, Told::Details, scripts, explored, refusal),
+        _ => None,
+    }
 }
 
 /// The call in a place, on these scripts.
@@ -173,17 +176,27 @@ fn make_on(
         return None;
     }
     let explored = explore(alloc, scripts, STATES).ok()?;
-    match place {
-        0 => Some(search(alloc, scripts, &explored, refusal)),
-        1 => tell(alloc, Told::Line, scripts, &explored, refusal),
-        2 => tell(alloc, Told::Witnesses, scripts, &explored, refusal),
-        3 => tell(alloc, Told::Details, scripts, &explored, refusal),
-        _ => None,
+    make_of(alloc, scripts, &explored, place, refusal)
+}
+
+/// The call in a place, on the scripts of this test case.
+fn make_in(
+    alloc: Global,
+    case: &mut CaseScript,
+    scripts: &mut Vec<Script>,
+    place: usize,
+    refusal: &mut Refusal,
+) -> Option<Outcome> {
+    if add_scripts(case, scripts) {
+        make_on(alloc, scripts.as_slice(), place, refusal)
+    } else {
+        None
     }
 }
 
 /// The search, and its line, its witnesses and its details.
 pub(crate) fn make(alloc: Global, place: usize, refusal: &mut Refusal) -> Option<Outcome> {
-    let scripts = scripts(alloc)?;
-    make_on(alloc, scripts.as_slice(), place, refusal)
+    let mut case = race(alloc)?;
+    let mut scripts = Vec::new(alloc);
+    make_in(alloc, &mut case, &mut scripts, place, refusal)
 }

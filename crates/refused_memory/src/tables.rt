@@ -1,12 +1,14 @@
-//! Calls on a table.
-ghost use Rattle.std.specs.Prelude.{◌≤◌, IfSome};
-ghost use Rattle.tc_entry.specs.declared.limits.TheConstants.{BEHAVIOURS};
+//! Calls on a table, on the state of a case, and on histories.
+ghost use Rattle.std.specs.Prelude.{IfSome};
+ghost use Rattle.tc_entry.specs.Limits.{IsBehaviours};
 
+use crate::like::{Like, answered_as, are_like, judged};
 use crate::outcome::{Outcome, refused_if, right_if};
 use crate::refusal::Refusal;
 use std::alloc::Global;
-use tc_entry::{BEHAVIOURS, Comp, Entry, NoMemory, Op, Reply, Run};
-use tc_table::{CheckFault, MoveList, Table, read_moves, replay_check};
+use tc_entry::{BEHAVIOURS, Entry, NoMemory, Op, Reply, Run, Sequence};
+use tc_table::{CaseState, Table, copied_entries, replay, replay_check};
+use tc_text::{MoveList, read_moves};
 
 /// Moves of all kinds, so many that each list of a table grows more than once.
 pub const MOVES: &str = "behaviours 8
@@ -50,58 +52,92 @@ pub const MOVES: &str = "behaviours 8
 0 create
 ";
 
-/// Plays a move on a table.
-fn play_on(table: &mut Table, run: Run, op: &Op) -> Result<Reply, NoMemory> {
-    table.play(run, op.copy())
+/// What moves are played on.
+pub(crate) trait Plays: Like + Sized {
+    /// That of a new case.
+    fn begin(alloc: Global, behaviours: u16) -> Result<Self, NoMemory>
+        requires { IsBehaviours behaviours };
+
+    /// A copy.
+    fn copied(&self, alloc: Global) -> Result<Self, NoMemory>;
+
+    /// Plays a move.
+    fn play(&mut self, run: Run, op: &Op) -> Result<Reply, NoMemory>;
+
+    /// The reply to a move.
+    fn would(&self, run: Run, op: &Op) -> Reply;
 }
 
-/// The table of these moves.
-pub(crate) fn played(alloc: Global, moves: &[(Run, Op)]) -> Option<Table> {
-    let mut table = Table::new(alloc, BEHAVIOURS as u16).ok()?;
-    if play_all(&mut table, moves) {
-        Some(table)
-    } else {
-        None
+impl Plays for Table {
+    fn begin(alloc: Global, behaviours: u16) -> Result<Table, NoMemory> {
+        Table::new(alloc, behaviours)
+    }
+
+    fn copied(&self, alloc: Global) -> Result<Table, NoMemory> {
+        Table::copied(self, alloc)
+    }
+
+    fn play(&mut self, run: Run, op: &Op) -> Result<Reply, NoMemory> {
+        Table::play(self, run, op.copy())
+    }
+
+    fn would(&self, run: Run, op: &Op) -> Reply {
+        Table::would(self, run, op)
     }
 }
 
-/// Plays these moves on a table, up to one that is refused. Whether none was.
-fn play_all(table: &mut Table, moves: &[(Run, Op)]) -> bool {
+impl Plays for CaseState {
+    fn begin(alloc: Global, behaviours: u16) -> Result<CaseState, NoMemory> {
+        CaseState::new(alloc, behaviours)
+    }
+
+    fn copied(&self, alloc: Global) -> Result<CaseState, NoMemory> {
+        CaseState::copied(self, alloc)
+    }
+
+    fn play(&mut self, run: Run, op: &Op) -> Result<Reply, NoMemory> {
+        CaseState::play(self, run, op.copy())
+    }
+
+    fn would(&self, run: Run, op: &Op) -> Reply {
+        CaseState::would(self, run, op)
+    }
+}
+
+/// Plays these moves, up to one that is refused. Whether none was.
+fn play_all<T: Plays>(on: &mut T, moves: &[(Run, Op)]) -> bool {
     for (run, op) in moves {
-        if play_on(table, *run, op).is_err() {
+        if on.play(*run, op).is_err() {
             return false;
         }
     }
     true
 }
 
-/// Whether two lists have the same entries.
-pub(crate) fn are_same(left: &[Entry], right: &[Entry]) -> bool {
-    left.len() == right.len() && left.iter().zip(right).all(|(one, other)| one.same(other))
+/// That of a new case, behind these moves.
+fn played<T: Plays + Drop>(alloc: Global, moves: &[(Run, Op)]) -> Option<T> {
+    let mut on = T::begin(alloc, BEHAVIOURS as u16).ok()?;
+    if play_all(&mut on, moves) {
+        Some(on)
+    } else {
+        None
+    }
 }
 
-/// Whether two tables tell the same of each component and of the test case.
-pub(crate) fn is_like(left: &Table, right: &Table) -> bool {
-    for comp in 0..left.components().saturating_add(2) {
-        let comp = Comp(comp);
-        if left.phase_of(comp) != right.phase_of(comp)
-            || left.local(comp) != right.local(comp)
-            || left.last_run(comp) != right.last_run(comp)
-        {
-            return false;
-        }
-    }
-    left.components() == right.components()
-        && left.overall() == right.overall()
-        && left.is_over() == right.is_over()
-        && left.behaviours() == right.behaviours()
-        && are_same(left.history(), right.history())
+/// The moves.
+pub(crate) fn moves(alloc: Global) -> Option<MoveList> {
+    read_moves(alloc, MOVES.as_bytes()).ok()
+}
+
+/// That of a new case, behind all moves.
+pub(crate) fn played_all<T: Plays + Drop>(alloc: Global) -> Option<T> {
+    let list = moves(alloc)?;
+    played(alloc, list.moves.as_slice())
 }
 
 /// How many behaviours there are in a place.
 pub(crate) fn behaviours_in(place: usize) -> Option<u16>
-    ensures some { IfSome result (λ n. 1 ≤ n) }
-    ensures few { IfSome result (λ n. n ≤ BEHAVIOURS) }
+    ensures { IfSome result IsBehaviours }
 {
     match place {
         0 => Some(1),
@@ -111,61 +147,45 @@ pub(crate) fn behaviours_in(place: usize) -> Option<u16>
     }
 }
 
-/// What came of a table that was to be made, which is to be like this one.
-fn made(table: &Result<Table, NoMemory>, other: &Table, behaviours: u16) -> Outcome {
-    match table {
-        Ok(table) => right_if(
-            table.behaviours() == behaviours && is_like(table, other),
-            "a new table is not at its opening",
-        ),
-        Err(NoMemory) => Outcome::Refused,
-    }
-}
-
-/// A table for one, some or the most behaviours.
-pub(crate) fn open(alloc: Global, place: usize, refusal: &mut Refusal) -> Option<Outcome> {
+/// That of a new case of one, some or the most behaviours.
+pub(crate) fn open<T: Plays + Drop>(
+    alloc: Global,
+    place: usize,
+    refusal: &mut Refusal,
+) -> Option<Outcome> {
     let behaviours = behaviours_in(place)?;
     refusal.begin();
-    let table = Table::new(alloc, behaviours);
+    let answer = T::begin(alloc, behaviours);
     refusal.end();
-    let other = Table::new(alloc, behaviours).ok()?;
-    Some(made(&table, &other, behaviours))
+    Some(judged(answer, T::begin(alloc, behaviours), "a new case is another"))
 }
 
-/// The moves.
-pub(crate) fn moves(alloc: Global) -> Option<MoveList> {
-    read_moves(alloc, MOVES.as_bytes()).ok()
-}
-
-/// Plays a move on a table with a growth refused, and then again, beside one that is refused nothing.
-fn play_beside(
-    table: &mut Table,
-    other: &mut Table,
+/// Plays a move with a growth refused, and then again, beside one that is refused nothing.
+fn play_beside<T: Plays>(
+    on: &mut T,
+    other: &mut T,
     run: Run,
     op: &Op,
     refusal: &mut Refusal,
 ) -> Outcome {
-    let wanted = other.would(run, op);
+    let wanted = Ok(other.would(run, op));
     refusal.begin();
-    let reply = play_on(table, run, op);
+    let reply = on.play(run, op);
     refusal.end();
     if reply.is_ok() {
-        let is_right = reply == Ok(wanted) && play_on(other, run, op) == Ok(wanted);
-        return right_if(
-            is_right && is_like(table, other),
-            "a move is played otherwise",
-        );
+        let is_right = reply == wanted && other.play(run, op) == wanted;
+        return right_if(is_right && on.is_like(other), "a move is played otherwise");
     }
-    let is_unchanged = is_like(table, other);
-    let is_once = play_on(table, run, op) == play_on(other, run, op);
+    let is_unchanged = on.is_like(other);
+    let is_once = on.play(run, op) == other.play(run, op);
     refused_if(
-        is_unchanged && is_once && is_like(table, other),
+        is_unchanged && is_once && on.is_like(other),
         "a refused move leaves something",
     )
 }
 
 /// The move in a place, behind those before it.
-fn play_in(
+fn play_in<T: Plays + Drop>(
     alloc: Global,
     moves: &[(Run, Op)],
     place: usize,
@@ -173,15 +193,32 @@ fn play_in(
 ) -> Option<Outcome> {
     let (run, op) = moves.get(place)?;
     let before = moves.get(..place)?;
-    let mut table = played(alloc, before)?;
-    let mut other = played(alloc, before)?;
-    Some(play_beside(&mut table, &mut other, *run, op, refusal))
+    let (mut on, mut other) = played::<T>(alloc, before).zip(played(alloc, before))?;
+    Some(play_beside(&mut on, &mut other, *run, op, refusal))
 }
 
 /// Each of the moves, behind those before it.
-pub(crate) fn play(alloc: Global, place: usize, refusal: &mut Refusal) -> Option<Outcome> {
+pub(crate) fn play<T: Plays + Drop>(
+    alloc: Global,
+    place: usize,
+    refusal: &mut Refusal,
+) -> Option<Outcome> {
     let list = moves(alloc)?;
-    play_in(alloc, list.moves.as_slice(), place, refusal)
+    play_in::<T>(alloc, list.moves.as_slice(), place, refusal)
+}
+
+/// A copy.
+fn copy_one<T: Plays + Drop>(alloc: Global, one: &T, refusal: &mut Refusal) -> Outcome {
+    refusal.begin();
+    let answer = one.copied(alloc);
+    refusal.end();
+    answered_as(&answer, one, "a copy is another")
+}
+
+/// A copy, behind all moves.
+fn copy<T: Plays + Drop>(alloc: Global, refusal: &mut Refusal) -> Option<Outcome> {
+    let one: T = played_all(alloc)?;
+    Some(copy_one(alloc, &one, refusal))
 }
 
 /// Makes room for so many moves on a table, beside one that stays as it is.
@@ -194,46 +231,26 @@ fn make_room_beside(
     refusal.begin();
     let made = table.make_room(more);
     refusal.end();
-    let is_kept = is_like(table, other) && table.room() >= other.room();
+    let is_kept = table.is_like(other) && table.room() >= other.room();
     if made.is_ok() {
         return right_if(is_kept && table.room() >= more, "the room was not made");
     }
     let is_made = table.make_room(more).is_ok() && table.room() >= more;
     refused_if(
-        is_kept && is_made && is_like(table, other),
+        is_kept && is_made && table.is_like(other),
         "refused room changes the table",
     )
-}
-
-/// The table behind all moves.
-pub(crate) fn played_all(alloc: Global) -> Option<Table> {
-    let list = moves(alloc)?;
-    played(alloc, list.moves.as_slice())
 }
 
 /// Room for one, some and many moves, on a table with moves.
 pub(crate) fn make_room(alloc: Global, place: usize, refusal: &mut Refusal) -> Option<Outcome> {
     let more = [1usize, 40, 5000].get(place).copied()?;
-    let mut table = played_all(alloc)?;
-    let other = played_all(alloc)?;
+    let (mut table, other) = played_all(alloc).zip(played_all(alloc))?;
     Some(make_room_beside(&mut table, &other, more, refusal))
 }
 
-/// The check of a history, which is legal or not.
-fn check(alloc: Global, checked: &[Entry], is_legal: bool, refusal: &mut Refusal) -> Outcome {
-    refusal.begin();
-    let answer = replay_check(alloc, BEHAVIOURS as u16, checked);
-    refusal.end();
-    let wanted = replay_check(alloc, BEHAVIOURS as u16, checked);
-    if answer == wanted {
-        return right_if(wanted.is_ok() == is_legal, "a history is judged otherwise");
-    }
-    let is_refused = matches!(answer, Err(CheckFault::NoMemory));
-    refused_if(is_refused, "a refused check says something else")
-}
-
-/// A history, and one whose last reply is another's.
-pub(crate) fn history_in(entries: &[Entry], place: usize) -> Option<&[Entry]> {
+/// A history, and one that lacks its first entry.
+fn history_in(entries: &[Entry], place: usize) -> Option<&[Entry]> {
     match place {
         0 => Some(entries),
         1 => entries.get(1..),
@@ -241,37 +258,140 @@ pub(crate) fn history_in(entries: &[Entry], place: usize) -> Option<&[Entry]> {
     }
 }
 
-/// The check of the whole history of the moves, and of one whose last reply is another's.
-pub(crate) fn replay(alloc: Global, place: usize, refusal: &mut Refusal) -> Option<Outcome> {
-    let table = played_all(alloc)?;
-    let checked = history_in(table.history(), place)?;
-    Some(check(alloc, checked, place == 0, refusal))
-}
-
-/// Plays a move with no growth given, for which there is room. Whether the answer is right, and there is room then too.
-fn play_with_room(
-    table: &mut Table,
-    run: Run,
-    op: &Op,
-    wanted: Reply,
-    refusal: &mut Refusal,
-) -> bool {
-    refusal.begin_each();
-    let reply = play_on(table, run, op);
-    let is_made = table.make_room(0).is_ok();
+/// The check of a history.
+fn check_one(alloc: Global, checked: &[Entry], refusal: &mut Refusal) -> Outcome {
+    refusal.begin();
+    let answer = replay_check(alloc, BEHAVIOURS as u16, checked);
     refusal.end();
-    is_made && reply == Ok(wanted)
+    let ample = replay_check(alloc, BEHAVIOURS as u16, checked);
+    judged(answer, ample, "a history is judged otherwise")
 }
 
-/// Plays a move, but a create, where there is room for it. Whether the answer is right; none where memory is refused.
+/// The replay of a history.
+fn replay_one(alloc: Global, checked: &[Entry], refusal: &mut Refusal) -> Outcome {
+    refusal.begin();
+    let answer = replay(alloc, BEHAVIOURS as u16, checked);
+    refusal.end();
+    let ample = replay(alloc, BEHAVIOURS as u16, checked);
+    judged(answer, ample, "a history leaves another state")
+}
+
+/// The check or the replay of the history in a place, of which the first alone is legal.
+fn judge_in(
+    alloc: Global,
+    history: &[Entry],
+    place: usize,
+    replays: bool,
+    refusal: &mut Refusal,
+) -> Option<Outcome> {
+    let checked = history_in(history, place)?;
+    if replay_check(alloc, BEHAVIOURS as u16, checked).is_ok() != (place == 0) {
+        return Some(Outcome::Wrong("a history is legal that is not, or is not"));
+    }
+    Some(if replays {
+        replay_one(alloc, checked, refusal)
+    } else {
+        check_one(alloc, checked, refusal)
+    })
+}
+
+/// The check or the replay of the whole history of the moves, and of one that lacks its first entry.
+pub(crate) fn judge(
+    alloc: Global,
+    place: usize,
+    replays: bool,
+    refusal: &mut Refusal,
+) -> Option<Outcome> {
+    let table: Table = played_all(alloc)?;
+    judge_in(alloc, table.history(), place, replays, refusal)
+}
+
+/// A copy of these entries.
+fn copy_entries(alloc: Global, entries: &[Entry], refusal: &mut Refusal) -> Outcome {
+    refusal.begin();
+    let answer = copied_entries(alloc, entries);
+    refusal.end();
+    judged(
+        answer,
+        copied_entries(alloc, entries),
+        "a copy is another history",
+    )
+}
+
+/// Pushes the last of a history behind the entries before it.
+fn push_last(
+    entries: &mut Sequence<Entry>,
+    history: &[Entry],
+    before: &[Entry],
+    last: &Entry,
+    refusal: &mut Refusal,
+) -> Outcome {
+    refusal.begin();
+    let answer = entries.push(last.copy());
+    refusal.end();
+    if answer.is_ok() {
+        return right_if(
+            are_like(entries.as_slice(), history),
+            "an entry is pushed otherwise",
+        );
+    }
+    let is_kept = are_like(entries.as_slice(), before);
+    let is_pushed = entries.push(last.copy()).is_ok();
+    refused_if(
+        is_kept && is_pushed && are_like(entries.as_slice(), history),
+        "a refused push changes its list",
+    )
+}
+
+/// The last entry of a history behind a list of those before it.
+fn push_on(alloc: Global, history: &[Entry], refusal: &mut Refusal) -> Option<Outcome> {
+    let (last, before) = history.split_last()?;
+    let mut entries: Sequence<Entry> = Sequence::new(copied_entries(alloc, before).ok()?);
+    Some(push_last(&mut entries, history, before, last, refusal))
+}
+
+/// A copy of the history of the moves, or its last entry behind those before it.
+fn copy_history(alloc: Global, pushes: bool, refusal: &mut Refusal) -> Option<Outcome> {
+    let table: Table = played_all(alloc)?;
+    if pushes {
+        push_on(alloc, table.history(), refusal)
+    } else {
+        Some(copy_entries(alloc, table.history(), refusal))
+    }
+}
+
+/// The state of a new case, a copy of one, and the replay of a history.
+pub(crate) fn make_state(alloc: Global, place: usize, refusal: &mut Refusal) -> Option<Outcome> {
+    match place {
+        0..=2 => open::<CaseState>(alloc, place, refusal),
+        3 => copy::<CaseState>(alloc, refusal),
+        _ => judge(alloc, place.checked_sub(4)?, true, refusal),
+    }
+}
+
+/// A copy of a table and of a history, and an entry behind those of a list.
+pub(crate) fn copy_in(alloc: Global, place: usize, refusal: &mut Refusal) -> Option<Outcome> {
+    match place {
+        0 => copy::<Table>(alloc, refusal),
+        1 => copy_history(alloc, false, refusal),
+        2 => copy_history(alloc, true, refusal),
+        _ => None,
+    }
+}
+
+/// Plays a move, with no growth given but to a create, where there is room for it. Whether the answer is right, and there is
+/// room then too; none where memory is refused.
 fn play_one_in_room(table: &mut Table, run: Run, op: &Op, refusal: &mut Refusal) -> Option<bool> {
-    let wanted = table.would(run, op);
+    let wanted = Ok(table.would(run, op));
     if matches!(op, Op::Create { .. }) {
-        play_on(table, run, op).ok()?;
-        return Some(true);
+        return Some(table.play(run, op.copy()) == wanted);
     }
     table.make_room(1).ok()?;
-    Some(play_with_room(table, run, op, wanted, refusal))
+    refusal.begin_each();
+    let reply = table.play(run, op.copy());
+    let is_made = table.make_room(0).is_ok();
+    refusal.end();
+    Some(is_made && reply == wanted)
 }
 
 /// Plays each of the moves. Whether all answers are right; none where memory is refused.
@@ -286,9 +406,9 @@ fn play_all_in_room(table: &mut Table, moves: &[(Run, Op)], refusal: &mut Refusa
 
 /// What came of a table that is to be that of these moves.
 fn played_as(alloc: Global, table: &Table, moves: &[(Run, Op)], is_right: bool) -> Option<Outcome> {
-    let whole = played(alloc, moves)?;
+    let whole: Table = played(alloc, moves)?;
     Some(right_if(
-        is_right && is_like(table, &whole),
+        is_right && table.is_like(&whole),
         "a move with room is played otherwise",
     ))
 }

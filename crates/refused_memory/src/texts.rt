@@ -1,17 +1,18 @@
 //! Readers and writers of texts.
+use crate::like::judged;
 use crate::outcome::{Outcome, refused_if, right_if};
 use crate::refusal::Refusal;
-use crate::tables::{MOVES, are_same, moves};
+use crate::tables::{MOVES, moves};
 use std::alloc::Global;
 use tc_entry::{Entry, Fault, Name, NoMemory, Op, Reply, Run, Verdict};
+use tc_exec::CaseError;
 use tc_explain::{Refusal as Refused, explain};
-use tc_history::{Block, read_history, write_block};
+use tc_history::{read_history, write_block};
+use tc_report::{append_aborted, append_locals, append_verdict};
 use tc_script::{Campaign, CaseScript, ReadFault, ScriptKind, read_campaign};
 use tc_step::Script;
 use tc_stream::{InputFault, read_input};
-use tc_text::{
-    MoveList, TextFault, append_number, append_text, read_moves, write_move, write_op, write_reply,
-};
+use tc_text::{append_number, append_text, read_moves, write_move, write_op, write_reply};
 
 /// Histories of both formats.
 pub(crate) const HISTORIES: &str = "history 1 first 2
@@ -60,34 +61,6 @@ stopcase
 end
 end
 ";
-
-/// Whether two lists are of as many, and each pair is alike.
-fn are_like_moves(left: &MoveList, right: &MoveList) -> bool {
-    left.behaviours == right.behaviours
-        && left.moves.len() == right.moves.len()
-        && left
-            .moves
-            .as_slice()
-            .iter()
-            .zip(right.moves.as_slice())
-            .all(|(one, other)| one.0 == other.0 && one.1.same(&other.1))
-}
-
-fn is_like_block(left: &Block, right: &Block) -> bool {
-    left.format == right.format
-        && left.name.same(&right.name)
-        && left.behaviours == right.behaviours
-        && left.verdict == right.verdict
-        && are_same(left.entries.as_slice(), right.entries.as_slice())
-}
-
-fn are_like_blocks(left: &[Block], right: &[Block]) -> bool {
-    left.len() == right.len()
-        && left
-            .iter()
-            .zip(right)
-            .all(|(one, other)| is_like_block(one, other))
-}
 
 /// Whether two behaviours that were taken out are the last, and whether they differ; none where they are the same.
 fn compared_behaviours(
@@ -159,43 +132,18 @@ fn are_like_campaigns(left: &mut Campaign, right: &mut Campaign) -> bool {
 
 const READ: &str = "a text is read otherwise";
 
-const REFUSED_READER: &str = "a refused reader says something else";
-
-fn list_as(answer: &Result<MoveList, TextFault>, wanted: &MoveList) -> Outcome {
-    match answer {
-        Ok(list) => right_if(are_like_moves(list, wanted), READ),
-        Err(fault) => refused_if(matches!(fault, TextFault::NoMemory), REFUSED_READER),
-    }
-}
-
-fn read_list(alloc: Global, refusal: &mut Refusal) -> Option<Outcome> {
+fn read_list(alloc: Global, refusal: &mut Refusal) -> Outcome {
     refusal.begin();
     let answer = read_moves(alloc, MOVES.as_bytes());
     refusal.end();
-    let wanted = moves(alloc)?;
-    Some(list_as(&answer, &wanted))
+    judged(answer, read_moves(alloc, MOVES.as_bytes()), READ)
 }
 
-fn blocks_as(answer: &Result<Vec<Block>, TextFault>, wanted: &[Block]) -> Outcome {
-    match answer {
-        Ok(blocks) => right_if(are_like_blocks(blocks.as_slice(), wanted), READ),
-        Err(fault) => refused_if(matches!(fault, TextFault::NoMemory), REFUSED_READER),
-    }
-}
-
-fn read_blocks(alloc: Global, refusal: &mut Refusal) -> Option<Outcome> {
+fn read_blocks(alloc: Global, refusal: &mut Refusal) -> Outcome {
     refusal.begin();
     let answer = read_history(alloc, HISTORIES.as_bytes());
     refusal.end();
-    let wanted = read_history(alloc, HISTORIES.as_bytes()).ok()?;
-    Some(blocks_as(&answer, wanted.as_slice()))
-}
-
-fn notes_as(answer: &Result<Vec<u8>, NoMemory>, wanted: &[u8]) -> Outcome {
-    match answer {
-        Ok(notes) => right_if(notes.as_slice() == wanted, "a text is explained otherwise"),
-        Err(NoMemory) => Outcome::Refused,
-    }
+    judged(answer, read_history(alloc, HISTORIES.as_bytes()), READ)
 }
 
 /// The explanation of the misspelt script.
@@ -208,12 +156,11 @@ fn explained(alloc: Global) -> Result<Vec<u8>, NoMemory> {
     )
 }
 
-fn explain_script(alloc: Global, refusal: &mut Refusal) -> Option<Outcome> {
+fn explain_script(alloc: Global, refusal: &mut Refusal) -> Outcome {
     refusal.begin();
     let answer = explained(alloc);
     refusal.end();
-    let wanted = explained(alloc).ok()?;
-    Some(notes_as(&answer, wanted.as_slice()))
+    judged(answer, explained(alloc), "a text is explained otherwise")
 }
 
 /// The campaign of the script.
@@ -224,41 +171,41 @@ fn campaign(alloc: Global) -> Result<Campaign, ReadFault> {
 fn campaign_as(answer: &mut Result<Campaign, ReadFault>, wanted: &mut Campaign) -> Outcome {
     match answer {
         Ok(campaign) => right_if(are_like_campaigns(campaign, wanted), READ),
-        Err(fault) => refused_if(matches!(fault, ReadFault::NoMemory), REFUSED_READER),
+        Err(fault) => refused_if(
+            matches!(fault, ReadFault::NoMemory),
+            "a refused reader says something else",
+        ),
     }
 }
 
 fn read_script(alloc: Global, refusal: &mut Refusal) -> Option<Outcome> {
+    let mut wanted = campaign(alloc).ok()?;
     refusal.begin();
     let mut answer = campaign(alloc);
     refusal.end();
-    let mut wanted = campaign(alloc).ok()?;
     Some(campaign_as(&mut answer, &mut wanted))
 }
 
-fn bytes_as(answer: &Result<Vec<u8>, InputFault>) -> Outcome {
-    match answer {
-        Ok(bytes) => right_if(bytes.as_slice() == MOVES.as_bytes(), READ),
-        Err(fault) => refused_if(matches!(fault, InputFault::NoMemory), REFUSED_READER),
-    }
+/// All that the reader of the moves gives.
+fn bytes(alloc: Global) -> Result<Vec<u8>, InputFault> {
+    read_input(alloc, &mut MOVES.as_bytes(), 10_000)
 }
 
 fn read_bytes(alloc: Global, refusal: &mut Refusal) -> Outcome {
-    let mut reader = MOVES.as_bytes();
     refusal.begin();
-    let answer = read_input(alloc, &mut reader, 10_000);
+    let answer = bytes(alloc);
     refusal.end();
-    bytes_as(&answer)
+    judged(answer, bytes(alloc), READ)
 }
 
 /// The readers of moves, of histories, of a script and of an input, and the explanation of a script.
 pub(crate) fn read(alloc: Global, place: usize, refusal: &mut Refusal) -> Option<Outcome> {
     match place {
-        0 => read_list(alloc, refusal),
-        1 => read_blocks(alloc, refusal),
+        0 => Some(read_list(alloc, refusal)),
+        1 => Some(read_blocks(alloc, refusal)),
         2 => read_script(alloc, refusal),
         3 => Some(read_bytes(alloc, refusal)),
-        4 => explain_script(alloc, refusal),
+        4 => Some(explain_script(alloc, refusal)),
         _ => None,
     }
 }
@@ -272,9 +219,12 @@ enum Text<'a> {
     Block(&'a [Entry]),
     Words(&'a str),
     Number(u64),
+    Locals(&'a [Verdict]),
+    Verdict(Verdict),
+    Aborted(CaseError),
 }
 
-/// Appends the text, the block under this name.
+/// Appends the text, under this name where it has one.
 fn append(out: &mut Vec<u8>, text: &Text, name: &Name) -> Result<(), NoMemory> {
     match text {
         Text::Move(run, op) => write_move(out, *run, op),
@@ -283,6 +233,9 @@ fn append(out: &mut Vec<u8>, text: &Text, name: &Name) -> Result<(), NoMemory> {
         Text::Block(entries) => write_block(out, name, 8, entries, Verdict::Error),
         Text::Words(words) => append_text(out, words),
         Text::Number(number) => append_number(out, *number),
+        Text::Locals(locals) => append_locals(out, locals),
+        Text::Verdict(verdict) => append_verdict(out, *verdict),
+        Text::Aborted(why) => append_aborted(out, name, *why),
     }
 }
 
@@ -318,19 +271,53 @@ fn append_as(
     refused_if(is_kept && is_written, "a refused writer leaves a part")
 }
 
-/// Appends a text behind what stands there.
-fn append_one(alloc: Global, text: &Text, refusal: &mut Refusal) -> Option<Outcome> {
-    let name = Name::read("t")?;
+/// What came of a writer that was to leave this behind what stood there, or where memory is refused a part of it.
+pub(crate) fn appended(answer: Result<(), NoMemory>, out: &[u8], wanted: &[u8]) -> Outcome {
+    match answer {
+        Ok(()) => right_if(out == wanted, "a text is written otherwise"),
+        Err(NoMemory) => refused_if(
+            out.starts_with(HEAD) && wanted.starts_with(out),
+            "a refused writer leaves something else than a part",
+        ),
+    }
+}
+
+/// Appends a text of which a part may be left, with a growth refused.
+fn append_part_as(
+    out: &mut Vec<u8>,
+    wanted: &[u8],
+    text: &Text,
+    name: &Name,
+    refusal: &mut Refusal,
+) -> Outcome {
+    refusal.begin();
+    let answer = append(out, text, name);
+    refusal.end();
+    appended(answer, out.as_slice(), wanted)
+}
+
+/// Appends a text behind what stands there, of which a part may be left or nothing.
+fn append_one(
+    alloc: Global,
+    text: &Text,
+    leaves_part: bool,
+    refusal: &mut Refusal,
+) -> Option<Outcome> {
+    let name = Name::read("a_long_name_of_a_test_case")?;
     let wanted = written(alloc, text, &name)?;
     let mut out = HEAD.to_vec(alloc).ok()?;
-    Some(append_as(&mut out, wanted.as_slice(), text, &name, refusal))
+    Some(if leaves_part {
+        append_part_as(&mut out, wanted.as_slice(), text, &name, refusal)
+    } else {
+        append_as(&mut out, wanted.as_slice(), text, &name, refusal)
+    })
 }
 
 /// Appends the first of the histories.
 fn append_block(alloc: Global, refusal: &mut Refusal) -> Option<Outcome> {
     let blocks = read_history(alloc, HISTORIES.as_bytes()).ok()?;
     let entries = blocks.first()?.entries.as_slice();
-    append_one(alloc, &Text::Block(entries), refusal)
+    append_one(alloc, &Text::Block(entries), false, refusal)
 }
 
 /// The writer in a place behind those of moves.
@@ -348,7 +335,7 @@ fn append_other(
         4 => Text::Number(u64::MAX),
         _ => return None,
     };
-    append_one(alloc, &text, refusal)
+    append_one(alloc, &text, false, refusal)
 }
 
 /// The writers of each of the moves, of a history, of a reply, of a move without its caller, of words and of a number.
@@ -356,9 +343,22 @@ pub(crate) fn write(alloc: Global, place: usize, refusal: &mut Refusal) -> Optio
     let list = moves(alloc)?;
     let moves = list.moves.as_slice();
     match moves.get(place) {
-        Some((run, op)) => append_one(alloc, &Text::Move(*run, op), refusal),
+        Some((run, op)) => append_one(alloc, &Text::Move(*run, op), false, refusal),
         None => append_other(alloc, moves, place.checked_sub(moves.len())?, refusal),
     }
+}
+
+const LOCALS: [Verdict; 3] = [Verdict::None, Verdict::Inconc, Verdict::Error];
+
+/// The lines of local verdicts, the line of an overall verdict, and which test case was refused: writers that leave a part.
+pub(crate) fn write_part(alloc: Global, place: usize, refusal: &mut Refusal) -> Option<Outcome> {
+    let text = match place {
+        0 => Text::Locals(&LOCALS),
+        1 => Text::Verdict(Verdict::Inconc),
+        2 => Text::Aborted(CaseError::TooManyBehaviours),
+        _ => return None,
+    };
+    append_one(alloc, &text, true, refusal)
 }
 
 /// The behaviours of a test case, taken out one by one, as many as are wanted.
