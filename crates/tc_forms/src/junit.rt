@@ -220,17 +220,32 @@ fn append_cases(out: &mut Vec<u8>, cases: &[Summary]) -> Result<(), NoMemory>
     Ok(())
 }
 
+// Appends the report.
+fn append_report(out: &mut Vec<u8>, version: &str, cases: &[Summary]) -> Result<(), NoMemory>
+    ensures { OnOk result (out.new.items ≡ out.old.items ++ spec.junit_of version.now cases.now) }
+{
+    append_head(out, cases)?;
+    append_version(out, version)?;
+    append_cases(out, cases)?;
+    append_piece(out, Piece::End)
+}
+
 /// The JUnit report of these test cases, by a program of this version: one suite with its counts, and an element for each
 /// test case.
 pub fn junit_report(alloc: Global, version: &str, cases: &[Summary]) -> Result<Vec<u8>, NoMemory>
     ensures { IfOk result (λ v. v.items ≡ spec.junit_of version.now cases.now) }
 {
     let mut out = Vec::new(alloc);
-    append_head(&mut out, cases)?;
-    append_version(&mut out, version)?;
-    append_cases(&mut out, cases)?;
-    append_piece(&mut out, Piece::End)?;
+    append_report(&mut out, version, cases)?;
     Ok(out)
+}
+
+// The JUnit report of the results of a campaign.
+fn report_of_results(alloc: Global, version: &str, results: &Results) -> Result<Vec<u8>, NoMemory>
+    ensures { IfOk result (λ v. v.items ≡ spec.junit_of_results version.now results.now) }
+{
+    let cases = summaries_of_results(alloc, results)?;
+    junit_report(alloc, version, cases.as_slice())
 }
 
 /// Writes the JUnit report of the results of a campaign: each finished test case, and the one that has no report. The text is
@@ -244,8 +259,7 @@ pub fn write_junit<W: Write>(
     ensures all { OnOk result (Appends (W.contents writer.old) (W.contents writer.new) (spec.junit_of_results version.now results.now)) }
     ensures part { IfErr result (LeavesPrefix (W.contents writer.old) (W.contents writer.new) (spec.junit_of_results version.now results.now)) }
 {
-    let cases = summaries_of_results(alloc, results)?;
-    let text = junit_report(alloc, version, cases.as_slice())?;
+    let text = report_of_results(alloc, version, results)?;
     write_whole(writer, text.as_slice())?;
     Ok(())
 }

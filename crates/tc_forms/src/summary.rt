@@ -75,14 +75,37 @@ fn add_aborted(
     Ok(())
 }
 
+// Adds the summary of each of these test cases.
+fn add_finished(
+    alloc: Global,
+    summaries: &mut Vec<Summary>,
+    cases: &[Finished],
+) -> Result<(), NoMemory>
+    ensures { OnOk result (summaries.new.items ≡ summaries.old.items ++ map case_summary cases.now) }
+{
+    for case in cases {
+        summaries.push(summary_of_case(alloc, case)?)?;
+    }
+    Ok(())
+}
+
+// Adds the summaries of the results.
+fn add_results(
+    alloc: Global,
+    summaries: &mut Vec<Summary>,
+    results: &Results,
+) -> Result<(), NoMemory>
+    ensures { OnOk result (summaries.new.items ≡ summaries.old.items ++ results_summaries results.now) }
+{
+    add_finished(alloc, summaries, results.finished.as_slice())?;
+    add_aborted(alloc, summaries, &results.ending)
+}
+
 /// The summaries of the results of a campaign: of each finished test case, and of the one that has no report.
 pub fn summaries_of_results(alloc: Global, results: &Results) -> Result<Vec<Summary>, NoMemory>
     ensures { IfOk result (λ v. v.items ≡ results_summaries results.now) }
 {
     let mut summaries = Vec::new(alloc);
-    for case in results.finished.as_slice() {
-        summaries.push(summary_of_case(alloc, case)?)?;
-    }
-    add_aborted(alloc, &mut summaries, &results.ending)?;
+    add_results(alloc, &mut summaries, results)?;
     Ok(summaries)
 }

@@ -1,6 +1,0 @@
-use Rattle.std.proofs.Common.{◌≡◌, map, take}
-use Rattle.tc_forms.specs.Summary.{case_summary}
-use Rattle.tc_forms.proofs.summary.summaries_of_results.Given as goal
-
-abbrev pub invariant-loop-case : goal.invariant-loop-case
-invariant-loop-case l = l.summaries.items ≡ map case_summary (take l.case-index l.results.finished)
