@@ -1,5 +1,5 @@
 //! Which test cases of a campaign are chosen.
-ghost use Rattle.std.specs.Prelude.{◌≡◌, IfOk};
+ghost use Rattle.std.specs.Prelude.{◌≡◌, ◌++◌, IfOk, OnOk};
 ghost use Rattle.std.specs.List.{list_any};
 ghost use Rattle.std.specs.Str.{bytes_eq};
 ghost use Rattle.tc_campaign.specs.Choosing.{case_name, chosen, have_names, is_asked as spec_asked, named as spec_named, placed};
@@ -31,6 +31,24 @@ fn named<B: Drop>(cases: Vec<Case<B>>, only: &[Name]) -> Vec<Case<B>>
     cases
 }
 
+// Takes those of the shard.
+fn take_sharded<B: Drop>(
+    cases: Vec<Case<B>>,
+    shard: Shard,
+    taken: &mut Vec<Case<B>>,
+) -> Result<(), NoMemory>
+    ensures { OnOk result (taken.new.items ≡ taken.old.items ++ placed shard 0 cases.items) }
+{
+    let mut place: usize = 0;
+    for case in cases {
+        if shard.has(place) {
+            taken.push(case)?;
+        }
+        place = place.checked_add(1).ok_or(NoMemory)?;
+    }
+    Ok(())
+}
+
 // Those of the shard.
 fn sharded<B: Drop>(
     alloc: Global,
@@ -40,13 +58,7 @@ fn sharded<B: Drop>(
     ensures { IfOk result (λ r. r.items ≡ placed shard 0 cases.items) }
 {
     let mut taken = Vec::new(alloc);
-    let mut place: usize = 0;
-    for case in cases {
-        if shard.has(place) {
-            taken.push(case)?;
-        }
-        place = place.checked_add(1).ok_or(NoMemory)?;
-    }
+    take_sharded(cases, shard, &mut taken)?;
     Ok(taken)
 }
 
