@@ -43,8 +43,6 @@ KILLED = (-signal.SIGKILL, 128 + signal.SIGKILL, 256 - signal.SIGKILL)
 FUNCTIONS = re.compile(r"(?:so far:|checked .*,) (\d+ of \d+)(?: functions|$)")
 WAITING = "waiting for another rt"
 Uses = Dict[str, List[str]]
-
-
 # The signals that came and are to end the build.
 signals: List[int] = []
 
@@ -115,7 +113,7 @@ def with_below(uses: Uses, name: str) -> Set[str]:
     """The crate and all that it stands on."""
     found, left = {name}, [name]
     while left:
-        new = found.symmetric_difference(found.union(uses[left.pop()]))
+        new = set(uses[left.pop()]) - found
         found |= new
         left += new
     return found
