@@ -1,5 +1,5 @@
 -- The lines that are kept, as one more is added and as the first is passed.
-use Rattle.std.proofs.Common.{suc, ◌≡◌, ◌∙◌, List, [], ◌∷◌, ◌++◌, length, refl, sym, ap}
+use Rattle.std.proofs.Common.{suc, ◌≡◌, ◌≢◌, ◌∙◌, List, [], ◌∷◌, ◌++◌, length, refl, sym, ap}
 use Rattle.std.proofs.lemmas.List.{append-nil}
 use Rattle.tc_verdict.specs.declared.user_verdict.UserVerdict.{UserVerdict}
 use Rattle.tc_line.specs.declared.line.Call.TheVariants as C
@@ -69,22 +69,33 @@ marked : (ms : List Mark) (ls : List Line) (m : Mark) (l : Line) → Fits ms ls 
 marked ms ls m l fits is =
     ap (unpacked (ms ++ m ∷ [])) (sym (append-nil ls)) ∙ joined ms (m ∷ []) ls [] fits ∙ ap (λ xs. unpacked ms ls ++ xs) is
 
-pub set_added : (ms : List Mark) (ls : List Line) (v : UserVerdict) (l : Line) → Fits ms ls → mark_of l ≡ M.Set v → unpacked (ms ++ M.Set v ∷ []) ls ≡ unpacked ms ls ++ l ∷ []
+set_added : (ms : List Mark) (ls : List Line) (v : UserVerdict) (l : Line) → Fits ms ls → mark_of l ≡ M.Set v → unpacked (ms ++ M.Set v ∷ []) ls ≡ unpacked ms ls ++ l ∷ []
 set_added ms ls v l fits is = marked ms ls (M.Set v) l fits (ap (λ k. k ∷ []) (sym (set_is l v is)))
 
-pub get_added : (ms : List Mark) (ls : List Line) (l : Line) → Fits ms ls → mark_of l ≡ M.Get → unpacked (ms ++ M.Get ∷ []) ls ≡ unpacked ms ls ++ l ∷ []
+get_added : (ms : List Mark) (ls : List Line) (l : Line) → Fits ms ls → mark_of l ≡ M.Get → unpacked (ms ++ M.Get ∷ []) ls ≡ unpacked ms ls ++ l ∷ []
 get_added ms ls l fits is = marked ms ls M.Get l fits (ap (λ k. k ∷ []) (sym (get_is l is)))
 
 pub apart_added : (ms : List Mark) (ls : List Line) (l : Line) → Fits ms ls → unpacked (ms ++ M.Apart ∷ []) (ls ++ l ∷ []) ≡ unpacked ms ls ++ l ∷ []
 apart_added ms ls l fits = joined ms (M.Apart ∷ []) ls (l ∷ []) fits
 
-pub set_fits : (ms : List Mark) (ls : List Line) (v : UserVerdict) → Fits ms ls → Fits (ms ++ M.Set v ∷ []) ls
+set_fits : (ms : List Mark) (ls : List Line) (v : UserVerdict) → Fits ms ls → Fits (ms ++ M.Set v ∷ []) ls
 set_fits ms ls v fits = rw (← append-nil ls) (both_fit ms (M.Set v ∷ []) ls [] fits tt)
 
-pub get_fits : (ms : List Mark) (ls : List Line) → Fits ms ls → Fits (ms ++ M.Get ∷ []) ls
+get_fits : (ms : List Mark) (ls : List Line) → Fits ms ls → Fits (ms ++ M.Get ∷ []) ls
 get_fits ms ls fits = rw (← append-nil ls) (both_fit ms (M.Get ∷ []) ls [] fits tt)
 
 pub apart_fits : (ms : List Mark) (ls : List Line) (l : Line) → Fits ms ls → Fits (ms ++ M.Apart ∷ []) (ls ++ l ∷ [])
 apart_fits ms ls l fits = both_fit ms (M.Apart ∷ []) ls (l ∷ []) fits tt
 
-pub ruleset kept_rules = (as_many, set_added, get_added, apart_added, set_fits, get_fits, apart_fits)
+-- the mark of a line that does not stand apart
+pub marked_added : (ms : List Mark) (ls : List Line) (m : Mark) (l : Line) → Fits ms ls → m ≢ M.Apart → mark_of l ≡ m → unpacked (ms ++ m ∷ []) ls ≡ unpacked ms ls ++ l ∷ []
+marked_added ms ls (M.Set v) l fits whole is = set_added ms ls v l fits is
+marked_added ms ls M.Get l fits whole is = get_added ms ls l fits is
+marked_added ms ls M.Apart l fits whole is = absurd (whole refl)
+
+pub marked_fits : (ms : List Mark) (ls : List Line) (m : Mark) → Fits ms ls → m ≢ M.Apart → Fits (ms ++ m ∷ []) ls
+marked_fits ms ls (M.Set v) fits whole = set_fits ms ls v fits
+marked_fits ms ls M.Get fits whole = get_fits ms ls fits
+marked_fits ms ls M.Apart fits whole = absurd (whole refl)
+
+pub ruleset kept_rules = (as_many, apart_added, apart_fits, marked_added, marked_fits)

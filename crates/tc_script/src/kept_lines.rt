@@ -1,5 +1,7 @@
 //! The lines of a script, as they are kept between the passes.
-ghost use Rattle.std.specs.Prelude.{◌≡◌, ◌<◌, ◌^◌, [], ◌∷◌, ◌++◌, length, OnOk, OnErr, MatchOption};
+ghost use Rattle.std.specs.Prelude.{◌≡◌, ◌≢◌, ◌<◌, ◌^◌, [], ◌∷◌, ◌++◌, length, OnOk, OnErr, MatchOption};
+ghost use Rattle.tc_line.specs.declared.line.Line.{Line};
+ghost use Rattle.tc_script.specs.declared.kept_lines.Mark.TheVariants as marks;
 ghost use Rattle.tc_script.specs.Inside.Kept.{mark_of as the_mark, said};
 
 use std::alloc::{AllocError, Global};
@@ -91,21 +93,42 @@ impl KeptLines {
         self.marks.len()
     }
 
+    /// Adds a line of which the mark says all.
+    fn push_marked(&mut self, mark: Mark) -> Result<(), AllocError>
+        requires marked { mark ≢ marks.Apart }
+        ensures pushed { OnOk result ((l : Line) → the_mark l ≡ mark → self.new ≡ self.old ++ l ∷ []) }
+        ensures same { OnErr result (self.new ≡ self.old) }
+    {
+        self.marks.reserve(1)?;
+        self.marks.push_reserved(mark);
+        Ok(())
+    }
+
+    /// Adds a line that stands apart.
+    fn push_apart(&mut self, line: Line) -> Result<(), AllocError>
+        ensures pushed { OnOk result (self.new ≡ self.old ++ line ∷ []) }
+        ensures same { OnErr result (self.new ≡ self.old) }
+    {
+        self.marks.reserve(1)?;
+        self.apart.push(line)?;
+        self.marks.push_reserved(Mark::Apart);
+        Ok(())
+    }
+
     /// Adds a line behind the others.
     pub fn push(&mut self, line: Line) -> Result<(), AllocError>
         ensures pushed { OnOk result (self.new ≡ self.old ++ line ∷ []) }
         ensures same { OnErr result (self.new ≡ self.old) }
     {
-        self.marks.reserve(1)?;
-        match mark_of(&line) {
-            Mark::Set(setting) => self.marks.push_reserved(Mark::Set(setting)),
-            Mark::Get => self.marks.push_reserved(Mark::Get),
-            Mark::Apart => {
-                self.apart.push(line)?;
-                self.marks.push_reserved(Mark::Apart);
+        let mark = mark_of(&line);
+        match mark {
+            Mark::Apart => self.push_apart(line),
+            Mark::Set(_) | Mark::Get => {
+                let pushed = self.push_marked(mark);
+                drop(line);
+                pushed
             }
         }
-        Ok(())
     }
 
     /// All of them.
