@@ -1,7 +1,7 @@
 //! Counting verdicts.
 ghost use Rattle.std.specs.Prelude.{◌≡◌, ◌+◌, IfSome};
 ghost use Rattle.tc_report.specs.Live.{one_if, tally_with};
-ghost use Rattle.tc_report.specs.Tally.{cases_of as spec_cases, count_of as spec_count, no_cases as spec_none, tally_of};
+ghost use Rattle.tc_report.specs.Tally.{cases_of as spec_cases, count_of as spec_count, no_cases as spec_none, tally_of, tally_of_cases};
 
 use crate::results::{Finished, Results, Tally};
 use tc_entry::Verdict;
@@ -62,12 +62,10 @@ pub(crate) fn with_case(tally: &Tally, verdict: Verdict) -> Option<Tally>
     })
 }
 
-/// Counts the finished test cases by their overall verdicts. It takes no memory.
-pub fn tally(results: &Results) -> Tally
-    ensures counts { result ≡ tally_of results.now }
-    ensures all { result.none + result.pass + result.inconc + result.fail + result.error ≡ result.cases }
+// The tally of these test cases.
+fn tally_cases(cases: &[Finished]) -> Tally
+    ensures { result ≡ tally_of_cases cases.now }
 {
-    let cases = results.finished.as_slice();
     Tally {
         cases: cases.len(),
         none: cases_of(cases, Verdict::None),
@@ -76,4 +74,12 @@ pub fn tally(results: &Results) -> Tally
         fail: cases_of(cases, Verdict::Fail),
         error: cases_of(cases, Verdict::Error),
     }
+}
+
+/// Counts the finished test cases by their overall verdicts. It takes no memory.
+pub fn tally(results: &Results) -> Tally
+    ensures counts { result ≡ tally_of results.now }
+    ensures all { result.none + result.pass + result.inconc + result.fail + result.error ≡ result.cases }
+{
+    tally_cases(results.finished.as_slice())
 }

@@ -114,6 +114,20 @@ impl<'a, W: Write> LiveWriter<'a, W> {
         write_flushed(self.writer, text.as_slice())
     }
 
+    // Writes the test case.
+    fn write_part(&mut self, case: &Finished) -> Result<(), OutFault>
+        ensures all { OnOk result (HasWritten W.contents self.old self.new (spec_part self.old.form case.now)) }
+        ensures part { IfErr result (HasWrittenPart W.contents self.old self.new (spec_part self.old.form case.now)) }
+        ensures form { self.new.form ≡ self.old.form }
+        ensures tally { self.new.tally ≡ self.old.tally }
+        ensures worst { self.new.worst ≡ self.old.worst }
+        ensures fault { self.new.fault ≡ self.old.fault }
+        ensures same { self.new.writer.ghost_name ≡ self.old.writer.ghost_name }
+    {
+        let text = part_text(self.alloc, self.form, case)?;
+        write_flushed(self.writer, text.as_slice())
+    }
+
     // Writes the test case, and counts it.
     fn write_case(&mut self, case: &Finished) -> Result<(), OutFault>
         ensures all { OnOk result (HasWritten W.contents self.old self.new (spec_part self.old.form case.now)) }
@@ -128,8 +142,7 @@ impl<'a, W: Write> LiveWriter<'a, W> {
     {
         let verdict = case.report.verdict;
         let tally = with_case(&self.tally, verdict).ok_or(NoMemory)?;
-        let text = part_text(self.alloc, self.form, case)?;
-        write_flushed(self.writer, text.as_slice())?;
+        self.write_part(case)?;
         self.tally = tally;
         self.worst = worse_of(self.worst, verdict);
         Ok(())

@@ -13,8 +13,10 @@ pub(crate) fn write_made<W: Write>(writer: &mut W, text: &[u8]) -> Result<(), Ou
     ensures all { OnOk result (Appends (W.contents writer.old) (W.contents writer.new) text.now) }
     ensures part { IfErr result (λ fault. LeavesPrefix (W.contents writer.old) (W.contents writer.new) text.now fault) }
 {
-    write_whole(writer, text)?;
-    Ok(())
+    match write_whole(writer, text) {
+        Ok(()) => Ok(()),
+        Err(fault) => Err(fault.into()),
+    }
 }
 
 /// Writes the text, and flushes the writer.

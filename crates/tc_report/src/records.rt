@@ -1,5 +1,6 @@
 //! The CSV report.
 ghost use Rattle.std.specs.Prelude.{◌≡◌, ◌++◌, ◌∷◌, [], OnOk, IfOk, IfErr, All};
+ghost use Rattle.std.specs.List.{flat_map};
 ghost use Rattle.std.specs.Fmt.{IsBoundedDecimal, decimal};
 ghost use Rattle.std.specs.Io.KnownBytes.{Appends};
 ghost use Rattle.csv.specs.Records.{fields_of, partial_of};
@@ -94,8 +95,13 @@ fn write_record(
     ensures written { OnOk result (written_by writer.new ≡ written_by writer.old ++ record_line case.now) }
 {
     let report = &case.report;
-    let ending = CaseEnd::Over(report.verdict);
-    write_row(alloc, writer, &case.name, report.locals.as_slice(), ending)
+    write_row(
+        alloc,
+        writer,
+        &case.name,
+        report.locals.as_slice(),
+        CaseEnd::Over(report.verdict),
+    )
 }
 
 // A writer that has written nothing.
@@ -137,14 +143,27 @@ fn started(alloc: Global) -> Result<Writer<Vec<u8>>, NoMemory>
     }
 }
 
+// Writes the record of each finished test case.
+fn write_records(
+    alloc: Global,
+    writer: &mut Writer<Vec<u8>>,
+    cases: &[Finished],
+) -> Result<(), NoMemory>
+    requires { IsBetweenRecords writer.old }
+    ensures { OnOk result (written_by writer.new ≡ written_by writer.old ++ flat_map record_line cases.now) }
+{
+    for case in cases {
+        write_record(alloc, writer, case)?;
+    }
+    Ok(())
+}
+
 // The CSV report.
 fn records(alloc: Global, results: &Results) -> Result<Vec<u8>, NoMemory>
     ensures { IfOk result (λ v. v.items ≡ csv_text results.now) }
 {
     let mut writer = started(alloc)?;
-    for case in results.finished.as_slice() {
-        write_record(alloc, &mut writer, case)?;
-    }
+    write_records(alloc, &mut writer, results.finished.as_slice())?;
     whole(writer)
 }
 
