@@ -90,6 +90,17 @@ pub(crate) fn run_told<
     )
 }
 
+/// The results of a campaign that kept these reports, and ended so.
+fn results_of(finished: Vec<Finished>, ending: CampaignEnd) -> Results
+    ensures finished { result.finished ≡ finished.items }
+    ensures ending { result.ending ≡ ending }
+{
+    Results {
+        finished: Sequence::new(finished),
+        ending,
+    }
+}
+
 /// Runs the test cases of a campaign, keeps the report of each, for which there is room, and tells of it.
 fn tell_all<R: Threads + Wait + Copy + Send + 'static, B: Callable, E: Write>(
     rt: &R,
@@ -110,10 +121,7 @@ fn tell_all<R: Threads + Wait + Copy + Send + 'static, B: Callable, E: Write>(
     let (ending, told) = run_told(rt, alloc, cases, plan, &mut kept, errors);
     match ending {
         Some(ending) => Told {
-            results: Results {
-                finished: Sequence::new(kept.finished),
-                ending,
-            },
+            results: results_of(kept.finished, ending),
             told,
         },
         None => unreachable!(),

@@ -19,7 +19,7 @@ returns-clause-run g c =
     let was = c.run_told-ending.ensures in
     let given = subst (AreGivenTo g.B.Callable.outcome (Takes (λ (k : Kept). k.finished.items) (λ (k : Kept). vec_capacity k.finished))
     c.args.plan.stop_on c.args.plan.threads c.args.cases.items _ _ was.finished) c.in-Some.is was.given in
-    rw c.new.ensures (kept_run (λ (k : Kept). k.finished.items) (λ (k : Kept). vec_capacity k.finished) _ _ _ _ _ _ c.requires.none fits _ _ given)
+    rw (c.results_of.ensures.finished, c.results_of.ensures.ending) (kept_run (λ (k : Kept). k.finished.items) (λ (k : Kept). vec_capacity k.finished) _ _ _ _ _ _ c.requires.none fits _ _ given)
 
 pub returns-clause-told : goal.returns-clause-told
 returns-clause-told g c =
@@ -27,4 +27,4 @@ returns-clause-told g c =
     let was = c.run_told-ending.ensures in
     let given = subst (AreGivenTo g.B.Callable.outcome (Takes (λ (k : Kept). k.finished.items) (λ (k : Kept). vec_capacity k.finished))
     c.args.plan.stop_on c.args.plan.threads c.args.cases.items _ _ was.finished) c.in-Some.is was.given in
-    rw c.new.ensures (kept_told (λ (k : Kept). k.finished.items) (λ (k : Kept). vec_capacity k.finished) _ _ _ _ _ _ c.requires.none fits _ _ given _ _ _ _ was.told_of)
+    rw c.results_of.ensures.finished (kept_told (λ (k : Kept). k.finished.items) (λ (k : Kept). vec_capacity k.finished) _ _ _ _ _ _ c.requires.none fits _ _ given _ _ _ _ was.told_of)
