@@ -21,8 +21,25 @@ use tc_entry::BEHAVIOURS;
 /// How many workers each test case may have: enough for every one.
 const WORKERS: u16 = BEHAVIOURS as u16;
 
-/// Runs the campaign and writes its report, each test case as it finishes; names those that did not pass. Answers the exit
-/// status.
+/// Runs the campaign on this bench and writes its report, each test case as it finishes; names those that did not pass.
+/// Answers the exit status.
+fn run_on<R: Threads + Wait + Copy + Send + 'static, W: Write, E: Write>(
+    rt: &R,
+    alloc: Global,
+    bench: &mut Bench<'_, W>,
+    errors: &mut E,
+) -> Result<u8, OutFault> {
+    bench.live.begin()?;
+    let cases = cases(*rt, alloc)?;
+    let Some(ending) = run_campaign_with(rt, alloc, cases, None, WORKERS, bench) else {
+        return Err(bench.live.fault.unwrap_or(OutFault::NoMemory));
+    };
+    let status = bench.live.end(&ending)?;
+    name_failed(bench.failed.as_slice(), errors).map_err(|_| OutFault::Write)?;
+    Ok(status)
+}
+
+/// Judges the windows. Answers the exit status.
 fn run<R: Threads + Wait + Copy + Send + 'static, W: Write, E: Write>(
     rt: &R,
     alloc: Global,
@@ -33,14 +50,7 @@ fn run<R: Threads + Wait + Copy + Send + 'static, W: Write, E: Write>(
         live: LiveWriter::new(alloc, Form::Text, writer),
         failed: Vec::new(alloc),
     };
-    bench.live.begin()?;
-    let cases = cases(*rt, alloc)?;
-    let Some(ending) = run_campaign_with(rt, alloc, cases, None, WORKERS, &mut bench) else {
-        return Err(bench.live.fault.unwrap_or(OutFault::NoMemory));
-    };
-    let status = bench.live.end(&ending)?;
-    name_failed(bench.failed.as_slice(), errors).map_err(|_| OutFault::Write)?;
-    Ok(status)
+    run_on(rt, alloc, &mut bench, errors)
 }
 
 fn main(rt: HostRuntime) -> ExitCode {
