@@ -9,7 +9,7 @@ use std::alloc::Global;
 use std::sync::Wait;
 use std::thread;
 use std::thread::{JoinHandle, Threads};
-use tc_book::{CloseFault, Closed, Left, Ticket, close_case, open_case};
+use tc_book::{CloseFault, Closed, Left, Pass, Ticket, close_case, open_case};
 use tc_entry::NoMemory;
 
 /// The behaviour of a run other than run 0.
@@ -44,6 +44,40 @@ fn start_workers<R: Threads + Wait + Copy + Send + 'static>(
     Ok(handles)
 }
 
+/// Adds what the workers leave. Whether there was memory for all.
+fn join_all<R: Threads + Wait>(
+    rt: &R,
+    handles: Vec<JoinHandle<Left>>,
+    lefts: &mut Vec<Left>,
+) -> bool {
+    let mut are_added = true;
+    for handle in handles {
+        let is_added = lefts.push(handle.join(rt)).is_ok();
+        are_added = are_added && is_added;
+    }
+    are_added
+}
+
+/// Runs the behaviours of a case, and adds what they leave. Whether there was memory for all.
+fn run_all<R: Threads + Wait + Copy + Send + 'static>(
+    rt: &R,
+    alloc: Global,
+    random: &mut Random,
+    behaviours: u16,
+    pass: Pass,
+    tickets: Vec<Ticket>,
+    lefts: &mut Vec<Left>,
+) -> bool {
+    let mut pass = pass;
+    let Ok(handles) = start_workers(rt, alloc, tickets, random, behaviours) else {
+        return false;
+    };
+    let _ = lead(rt, &mut pass, random, behaviours);
+    let is_added = lefts.push(pass.leave(rt)).is_ok();
+    let are_added = join_all(rt, handles, lefts);
+    is_added && are_added
+}
+
 /// One case of random calls, with its report.
 pub(crate) fn run_case<R: Threads + Wait + Copy + Send + 'static>(
     rt: &R,
@@ -57,19 +91,10 @@ pub(crate) fn run_case<R: Threads + Wait + Copy + Send + 'static>(
     let Ok((shared, pass, tickets)) = open_case(alloc, behaviours) else {
         return Err(CloseFault::NoMemory);
     };
-    let mut pass = pass;
-    let Ok(handles) = start_workers(rt, alloc, tickets, random, behaviours) else {
-        return Err(CloseFault::NoMemory);
-    };
-    let _ = lead(rt, &mut pass, random, behaviours);
     let mut lefts = Vec::new(alloc);
-    if lefts.push(pass.leave(rt)).is_err() {
-        return Err(CloseFault::NoMemory);
+    if run_all(rt, alloc, random, behaviours, pass, tickets, &mut lefts) {
+        close_case(rt, alloc, shared, lefts)
+    } else {
+        Err(CloseFault::NoMemory)
     }
-    for handle in handles {
-        if lefts.push(handle.join(rt)).is_err() {
-            return Err(CloseFault::NoMemory);
-        }
-    }
-    close_case(rt, alloc, shared, lefts)
 }
