@@ -1,5 +1,5 @@
 -- What a CSV writer over memory has written, which no public clause names.
-use Rattle.std.specs.Prelude.{ℕ, ◌≡◌, false, List, ◌++◌, ◌+◌}
+use Rattle.std.specs.Prelude.{ℕ, ◌≡◌, false, List, ◌++◌}
 use Rattle.std.specs.Global.{Vec}
 use Rattle.csv.specs.declared.writer.Writer.{Writer}
 use Rattle.csv.specs.Writing.{default_writer, writer_setup, fields_written, has_written, writer_under, writer_pending}
