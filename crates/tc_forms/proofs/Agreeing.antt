@@ -1,5 +1,5 @@
 -- The forms of results and those of their histories are the same.
-use Rattle.std.proofs.Common.{ℕ, ◌≡◌, ◌∙◌, true, false, All, List, [], ◌∷◌, ◌++◌, map, reverse, refl, ap, sym}
+use Rattle.std.proofs.Common.{◌≡◌, ◌∙◌, false, All, List, [], ◌∷◌, ◌++◌, map, reverse, refl, ap, sym}
 use Rattle.std.specs.List.{AllZip, flat_map}
 use Rattle.std.proofs.lemmas.List.{append-nil}
 use Rattle.std.proofs.lemmas.List.Elements.{All-head, All-tail}
@@ -11,12 +11,12 @@ use Rattle.tc_report.specs.declared.results.CampaignEnd.TheVariants as E
 use Rattle.tc_report.specs.declared.results.CaseEnd.TheVariants as C
 use Rattle.tc_report.specs.declared.results.Finished.{Finished}
 use Rattle.tc_report.specs.declared.results.Results.{Results}
-use Rattle.tc_report.specs.Csv.{csv_text, header_text, record_line}
+use Rattle.tc_report.specs.Csv.{header_text, record_line}
 use Rattle.tc_report.specs.Ending.{is_aborted}
 use Rattle.tc_report.specs.Status.{ending_status, overall_of, verdict_status}
 use Rattle.tc_forms.specs.Csv.{csv_of, summary_line}
 use Rattle.tc_forms.specs.Junit.{junit_of}
-use Rattle.tc_forms.specs.Laws.{AreBlocksOf, FormsOfHistories, HasOneHistory, HasTheForms, IsBlockOf}
+use Rattle.tc_forms.specs.Laws.{FormsOfHistories, HasOneHistory, IsBlockOf}
 use Rattle.tc_forms.specs.Status.{counted, status_of_summaries}
 use Rattle.tc_forms.specs.Summary.{aborted_summary, block_summary, case_summary, end_of, results_summaries}
 

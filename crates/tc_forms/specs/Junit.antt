@@ -1,6 +1,6 @@
 -- The JUnit report: XML, as servers of continuous integration read it. No text in it needs an escape: names have letters,
 -- digits and `_` alone.
-use Rattle.std.specs.Prelude.{ℕ, Bool, true, false, List, [], ◌∷◌, ◌++◌, length, filter, codes}
+use Rattle.std.specs.Prelude.{ℕ, Bool, true, false, List, [], ◌++◌, length, filter, codes}
 use Rattle.std.specs.List.{flat_map}
 use Rattle.std.specs.Fmt.{decimal}
 use Rattle.tc_exec.specs.Refusals.{refusal_text}
