@@ -195,8 +195,11 @@ fn is_finish_alone(report: &CaseReport) -> bool {
 #[test]
 fn unstarted_job_is_dropped(rt: HostRuntime) {
     let called = zero(&rt, rt.alloc());
-    let first = got(&rt, that_returns(rt.alloc()));
-    let second = got(&rt, that_marks(rt.alloc(), shared_with(&rt, &called)));
+    let first = got(&rt, that_ends(rt.alloc(), Ok(())));
+    let second = got(
+        &rt,
+        that_marks(rt.alloc(), shared_with(&rt, &called), UserVerdict::None),
+    );
     let report = report_of_two(&rt, rt.alloc(), first, second, 64);
     is(&rt, "calls of run 1", number(&called), 0);
     is(
@@ -227,7 +230,7 @@ fn refusal_of_starved<R: Abort + Threads + Wait + Copy + Send + 'static>(
     rt: &R,
     alloc: Global,
 ) -> Option<CaseError> {
-    let starved = got(rt, that_starves(alloc));
+    let starved = got(rt, that_ends(alloc, Err(Halt::NoMemory)));
     refusal(rt, alloc, got(rt, vec![in alloc; starved]), 64)
 }
 

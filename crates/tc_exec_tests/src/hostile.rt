@@ -81,9 +81,9 @@ fn that_lingers(alloc: Global, gone: Arc<AtomicU64>) -> Result<Job, AllocError> 
 
 /// Three jobs, of which the second lingers.
 fn lingering_jobs<R: Abort>(rt: &R, alloc: Global, gone: &Arc<AtomicU64>) -> Vec<Job> {
-    let first = got(rt, that_returns(alloc));
+    let first = got(rt, that_ends(alloc, Ok(())));
     let second = got(rt, that_lingers(alloc, shared_with(rt, gone)));
-    let third = got(rt, that_returns(alloc));
+    let third = got(rt, that_ends(alloc, Ok(())));
     got(rt, vec![in alloc; first, second, third])
 }
 
@@ -102,7 +102,7 @@ fn workers_end_before_a_refusal(rt: HostRuntime) {
 fn workers_end_before_want_of_memory(rt: HostRuntime) {
     let alloc = rt.alloc();
     let gone = zero(&rt, alloc);
-    let first = got(&rt, that_starves(alloc));
+    let first = got(&rt, that_ends(alloc, Err(Halt::NoMemory)));
     let second = got(&rt, that_lingers(alloc, shared_with(&rt, &gone)));
     let jobs = got(&rt, vec![in alloc; first, second]);
     let refused = refusal(&rt, alloc, jobs, 1);
@@ -138,52 +138,6 @@ fn are_threads<R: Files + Alloc>(rt: &R, wanted: u64) -> bool {
     false
 }
 
-/// Allows every worker, and keeps how many questions found one thread for each worker that was allowed before, and no more.
-#[derive(Drop)]
-struct Counts<R: Files + Alloc> {
-    rt: R,
-    asked: u64,
-    found: u64,
-}
-
-impl<R: Files + Alloc> Gate for Counts<R> {
-    ghost asks = { λ _ _ _ _. ⊤ };
-
-    fn allow(&mut self, _run: Run) -> bool {
-        self.asked = self.asked.saturating_add(1);
-        if are_threads(&self.rt, self.asked) {
-            self.found = self.found.saturating_add(1);
-        }
-        true
-    }
-}
-
-/// A gate that has not been asked yet.
-fn counting<R: Files + Alloc + Copy>(rt: &R) -> Counts<R> {
-    Counts {
-        rt: *rt,
-        asked: 0,
-        found: 0,
-    }
-}
-
-// Seven questions: when a worker is asked about, the threads of all before it are there, and its own is not.
-#[test]
-fn a_thread_lives_before_the_next_question(rt: HostRuntime) {
-    let jobs = that_return(&rt, rt.alloc(), 8);
-    holds(&rt, "one thread before the case", are_threads(&rt, 1));
-    let mut gate = counting(&rt);
-    let answer = report_at(&rt, rt.alloc(), jobs, 7, &mut gate);
-    is(&rt, "logs", count_logs(&rt, answer), 1);
-    is(&rt, "questions", gate.asked, 7);
-    is(&rt, "questions with one thread each", gate.found, 7);
-}
-
-/// How many runs a case has logged.
-fn count_logs<R: Abort>(rt: &R, answer: Result<CaseReport, CaseError>) -> usize {
-    got(rt, answer).logs.as_slice().len()
-}
-
 /// The bytes of a mapping of the program's memory, by its line, as `7f0000000000-7f0000200000 rw-p ..`.
 fn mapped(line: &str) -> Option<u64> {
     let (from, rest) = line.split_once('-')?;
@@ -212,17 +166,24 @@ fn stacks_now<R: Files + Alloc>(rt: &R) -> u64 {
     }
 }
 
-/// Allows every worker, and keeps how many stacks there were when the last was asked about.
+/// Allows every worker, and keeps how many questions found one thread for each worker that was allowed before, and no more; and
+/// how many stacks there were when the last was asked about.
 #[derive(Drop)]
-struct SeesStacks<R: Files + Alloc> {
+struct Counts<R: Files + Alloc> {
     rt: R,
+    asked: u64,
+    found: u64,
     stacks: u64,
 }
 
-impl<R: Files + Alloc> Gate for SeesStacks<R> {
+impl<R: Files + Alloc> Gate for Counts<R> {
     ghost asks = { λ _ _ _ _. ⊤ };
 
     fn allow(&mut self, run: Run) -> bool {
+        self.asked = self.asked.saturating_add(1);
+        if are_threads(&self.rt, self.asked) {
+            self.found = self.found.saturating_add(1);
+        }
         if run == Run(255) {
             self.stacks = stacks_now(&self.rt);
         }
@@ -230,14 +191,35 @@ impl<R: Files + Alloc> Gate for SeesStacks<R> {
     }
 }
 
+/// A gate that has not been asked yet.
+fn counting<R: Files + Alloc + Copy>(rt: &R) -> Counts<R> {
+    Counts {
+        rt: *rt,
+        asked: 0,
+        found: 0,
+        stacks: 0,
+    }
+}
+
+// Seven questions: when a worker is asked about, the threads of all before it are there, and its own is not.
+#[test]
+fn a_thread_lives_before_the_next_question(rt: HostRuntime) {
+    let jobs = that_return(&rt, rt.alloc(), 8);
+    holds(&rt, "one thread before the case", are_threads(&rt, 1));
+    let mut gate = counting(&rt);
+    let report = got(&rt, report_at(&rt, rt.alloc(), jobs, 7, &mut gate));
+    is(&rt, "logs", report.logs.as_slice().len(), 1);
+    is(&rt, "questions", gate.asked, 7);
+    is(&rt, "questions with one thread each", gate.found, 7);
+}
+
 // 254 workers are there at the last question. A stack that lies beside other memory of the program may be told as one with it.
 #[test]
 fn stacks_of_workers(rt: HostRuntime) {
-    let alloc = rt.alloc();
     is(&rt, "bytes of a stack", WORKER_STACK, 2_097_152);
-    let jobs = that_return(&rt, alloc, 256);
-    let mut gate = SeesStacks { rt, stacks: 0 };
-    got(&rt, report_at(&rt, alloc, jobs, 255, &mut gate));
+    let jobs = that_return(&rt, rt.alloc(), 256);
+    let mut gate = counting(&rt);
+    got(&rt, report_at(&rt, rt.alloc(), jobs, 255, &mut gate));
     at_least(&rt, "stacks", gate.stacks, 240);
 }
 
@@ -323,7 +305,7 @@ fn pass_of_another_case(rt: HostRuntime) -> Result<(), AllocError> {
 /// Two jobs, the first of which sets pass.
 fn two_jobs(alloc: Global) -> Result<Vec<Job>, AllocError> {
     let first = that_sets_pass(alloc)?;
-    let second = that_returns(alloc)?;
+    let second = that_ends(alloc, Ok(()))?;
     Ok(vec![in alloc; first, second]?)
 }
 
@@ -377,19 +359,6 @@ fn starts_argument<R: Wait + Clock>(rt: &R, pass: Pass, late: Option<u64>) -> Ba
         None => Ok(()),
     };
     Back::after(pass, made)
-}
-
-fn fails(pass: Pass, ran: &AtomicU64) -> Back {
-    let mut pass = pass;
-    ran.store(1, Ordering::SeqCst);
-    let made = pass.set_verdict(UserVerdict::Fail);
-    Back::after(pass, made)
-}
-
-/// A job that sets the flag, and fail.
-fn that_fails(alloc: Global, ran: Arc<AtomicU64>) -> Result<Job, AllocError> {
-    let run: Behaviour = Box::new(alloc, move |pass: Pass| fails(pass, &ran))?;
-    Ok(Job::new(run))
 }
 
 /// Whether a history of three runs is legal, and has this verdict.
@@ -466,7 +435,10 @@ fn start_against_kill(rt: HostRuntime) -> Result<(), AllocError> {
             starts_argument(&rt, pass, start)
         })?;
         let ran = zero(&rt, rt.alloc());
-        let third = got(&rt, that_fails(rt.alloc(), shared_with(&rt, &ran)));
+        let third = got(
+            &rt,
+            that_marks(rt.alloc(), shared_with(&rt, &ran), UserVerdict::Fail),
+        );
         let jobs = (Job::new(first), Job::new(second), third);
         let reply = reply_against_kill(&rt, rt.alloc(), jobs, &ran);
         count(&rt, &mut rounds, reply);

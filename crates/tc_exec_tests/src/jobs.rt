@@ -49,16 +49,9 @@ pub(crate) fn starts_all<R: Wait>(rt: &R, pass: Pass, behaviours: u16) -> Back {
     Back::after(pass, made)
 }
 
-/// A job that calls nothing.
-pub(crate) fn that_returns(alloc: Global) -> Result<Job, AllocError> {
-    let run: Behaviour = Box::new(alloc, move |pass: Pass| Back::after(pass, Ok(())))?;
-    Ok(Job::new(run))
-}
-
-/// A job that comes back for want of memory.
-pub(crate) fn that_starves(alloc: Global) -> Result<Job, AllocError> {
-    let starved = Err(Halt::NoMemory);
-    let run: Behaviour = Box::new(alloc, move |pass: Pass| Back::after(pass, starved))?;
+/// A job that comes back as one does whose calls were answered so.
+pub(crate) fn that_ends(alloc: Global, made: Result<(), Halt>) -> Result<Job, AllocError> {
+    let run: Behaviour = Box::new(alloc, move |pass: Pass| Back::after(pass, made))?;
     Ok(Job::new(run))
 }
 
@@ -74,12 +67,20 @@ pub(crate) fn that_sets_pass(alloc: Global) -> Result<Job, AllocError> {
     Ok(Job::new(run))
 }
 
-/// A job that sets a flag.
-pub(crate) fn that_marks(alloc: Global, flag: Arc<AtomicU64>) -> Result<Job, AllocError> {
-    let run: Behaviour = Box::new(alloc, move |pass: Pass| {
-        flag.store(1, Ordering::SeqCst);
-        Back::after(pass, Ok(()))
-    })?;
+fn marks(pass: Pass, flag: &AtomicU64, verdict: UserVerdict) -> Back {
+    let mut pass = pass;
+    flag.store(1, Ordering::SeqCst);
+    let made = pass.set_verdict(verdict);
+    Back::after(pass, made)
+}
+
+/// A job that sets a flag, and a verdict.
+pub(crate) fn that_marks(
+    alloc: Global,
+    flag: Arc<AtomicU64>,
+    verdict: UserVerdict,
+) -> Result<Job, AllocError> {
+    let run: Behaviour = Box::new(alloc, move |pass: Pass| marks(pass, &flag, verdict))?;
     Ok(Job::new(run))
 }
 
@@ -92,7 +93,10 @@ pub(crate) fn that_mark<R: Abort>(
 ) -> Vec<Job> {
     let mut jobs = Vec::new(alloc);
     for _ in 0..count {
-        let job = got(rt, that_marks(alloc, shared_with(rt, flag)));
+        let job = got(
+            rt,
+            that_marks(alloc, shared_with(rt, flag), UserVerdict::None),
+        );
         got(rt, jobs.push(job));
     }
     jobs
@@ -102,7 +106,7 @@ pub(crate) fn that_mark<R: Abort>(
 pub(crate) fn that_return<R: Abort>(rt: &R, alloc: Global, count: u16) -> Vec<Job> {
     let mut jobs = Vec::new(alloc);
     for _ in 0..count {
-        let job = got(rt, that_returns(alloc));
+        let job = got(rt, that_ends(alloc, Ok(())));
         got(rt, jobs.push(job));
     }
     jobs

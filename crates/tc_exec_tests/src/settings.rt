@@ -32,33 +32,33 @@ fn local_of(run: u16) -> Verdict {
     }
 }
 
-/// Sets a thousand verdicts, the worst of them once, at a place that the run's number determines.
-fn set_all(pass: &mut Pass) -> Result<(), Halt> {
+/// Sets so many verdicts, the worst of them once, at a place that the run's number determines.
+fn set_all(pass: &mut Pass, settings: u32) -> Result<(), Halt> {
     let run = pass.run().0;
     let (worst, other) = verdicts_of(run);
     let place = u32::from(run).wrapping_mul(15) % SETTINGS;
-    for k in 0..SETTINGS {
+    for k in 0..settings {
         pass.set_verdict(if k == place { worst } else { other })?;
     }
     Ok(())
 }
 
-/// A behaviour that sets its verdicts.
-fn sets_all(pass: Pass) -> Back {
+/// A behaviour that sets so many verdicts.
+fn sets_all(pass: Pass, settings: u32) -> Back {
     let mut pass = pass;
-    let made = set_all(&mut pass);
+    let made = set_all(&mut pass, settings);
     Back::after(pass, made)
 }
 
-fn that_sets_all(alloc: Global) -> Result<Job, AllocError> {
-    let run: Behaviour = Box::new(alloc, move |pass: Pass| sets_all(pass))?;
+fn that_sets_all(alloc: Global, settings: u32) -> Result<Job, AllocError> {
+    let run: Behaviour = Box::new(alloc, move |pass: Pass| sets_all(pass, settings))?;
     Ok(Job::new(run))
 }
 
 /// Starts all others, sets its verdicts, and waits until the others are done.
 fn start_and_set<R: Wait>(rt: &R, pass: &mut Pass) -> Result<(), Halt> {
     start_others(rt, pass, SETTERS)?;
-    set_all(pass)?;
+    set_all(pass, SETTINGS)?;
     pass.wait_done(rt, Target::All)
 }
 
@@ -73,7 +73,7 @@ fn starts_and_sets<R: Wait>(rt: &R, pass: Pass) -> Back {
 fn with_setters(alloc: Global, first: Job) -> Result<Vec<Job>, AllocError> {
     let mut jobs = vec![in alloc; first]?;
     for _ in 1..SETTERS {
-        jobs.push(that_sets_all(alloc)?)?;
+        jobs.push(that_sets_all(alloc, SETTINGS)?)?;
     }
     Ok(jobs)
 }
@@ -118,4 +118,13 @@ fn undisturbed_settings_count(rt: HostRuntime) -> Result<(), AllocError> {
     let report = got(&rt, report_of(&rt, rt.alloc(), jobs, SETTERS - 1));
     are_counted(&rt, &report);
     Ok(())
+}
+
+/// A log of more entries than 16 bits count is closed as others are.
+#[test]
+fn a_long_log_is_closed(rt: HostRuntime) {
+    let job = got(&rt, that_sets_all(rt.alloc(), 70_000));
+    let jobs = got(&rt, vec![in rt.alloc(); job]);
+    let report = got(&rt, report_of(&rt, rt.alloc(), jobs, 0));
+    is(&rt, "entries", report.history.as_slice().len(), 70_001);
 }

@@ -11,8 +11,6 @@ use std::time::{Clock, CpuClock, Duration};
 use tc_book::{Halt, Left, Pass, Shared, Ticket};
 use tc_table::{Comp, Entry, Fault, Op, Reply, Run, Target, read_reply};
 
-const LATE: Target = Target::One(Comp(2));
-
 /// A flag that is not set yet.
 fn unset<R: Abort>(rt: &R, alloc: Global) -> Arc<AtomicBool> {
     got(rt, Arc::new(alloc, AtomicBool::new(false)))
@@ -47,17 +45,59 @@ fn pause_long<R: Clock>(rt: &R) {
     thread::sleep(rt, Duration::from_millis(500));
 }
 
-/// The behaviour of a run that waits until component 2 is done, and then sets its flag.
-fn wait_late<R: Wait>(rt: &R, ticket: Ticket, woken: &AtomicBool) -> Left {
+/// Makes the calls of these rows, whatever is replied.
+fn make<R: Abort + Wait>(rt: &R, pass: &mut Pass, rows: &str) {
+    for row in rows.lines() {
+        let _ = reply_to(rt, pass, row);
+    }
+}
+
+/// What a run leaves that makes these calls once it is started.
+fn left_after<R: Abort + Wait>(rt: &R, ticket: Ticket, rows: &str) -> Left {
     match await_start(rt, ticket) {
         Ok(mut pass) => {
-            let _ = pass.wait_done(rt, LATE);
-            woken.store(true, Ordering::SeqCst);
+            make(rt, &mut pass, rows);
             leave(rt, pass)
         }
         Err(left) => left,
     }
 }
+
+/// What a run has left, and the processor time that it took, where a clock tells.
+type Done = (Left, Option<Duration>);
+
+/// Lets a run make these calls once it is started, and then sets its flag.
+fn done_after<R: Abort + Wait + CpuClock>(
+    rt: &R,
+    ticket: Ticket,
+    rows: &str,
+    woken: &AtomicBool,
+) -> Done {
+    let before = rt.thread_cpu_time();
+    let left = left_after(rt, ticket, rows);
+    let after = rt.thread_cpu_time();
+    woken.store(true, Ordering::SeqCst);
+    match (before, after) {
+        (Ok(before), Ok(after)) => (left, after.checked_sub(before)),
+        _ => (left, None),
+    }
+}
+
+/// A thread for a run that makes these calls once it is started, and then sets its flag.
+fn spawn<R: Abort + Threads + Wait + CpuClock + Copy + Send + 'static>(
+    rt: &R,
+    ticket: Ticket,
+    rows: &'static str,
+    woken: &Arc<AtomicBool>,
+) -> JoinHandle<Done> {
+    let rt = *rt;
+    let flag = shared_with(&rt, woken);
+    let run = move || done_after(&rt, ticket, rows, &flag);
+    got(&rt, thread::spawn(&rt, run))
+}
+
+/// The wait of a run until component 2 is done.
+const WAIT: &str = "1 wait done 2";
 
 /// Makes components 1 and 2.
 const CREATES: &str = "\
@@ -68,19 +108,6 @@ const CREATES: &str = "\
 const STARTS: &str = "\
 0 start 1 1 => ok
 0 start 2 2 => ok";
-
-fn spawn_waiter<R: Abort + Threads + Wait + Copy + Send + 'static>(
-    rt: &R,
-    ticket: Ticket,
-    woken: &Arc<AtomicBool>,
-) -> JoinHandle<Left> {
-    let rt = *rt;
-    let flag = shared_with(&rt, woken);
-    got(
-        &rt,
-        thread::spawn(&rt, move || wait_late(&rt, ticket, &flag)),
-    )
-}
 
 /// The reply by which the waiter went on.
 fn woken_by(left: &Left) -> Option<Reply> {
@@ -155,7 +182,7 @@ fn is_woken_by<R: Abort + Wait>(
 }
 
 /// One case, in which run 1 waits on a thread until this cause happens.
-fn is_woken<R: Abort + Threads + Wait + Clock + Copy + Send + 'static>(
+fn is_woken<R: Abort + Threads + Wait + Clock + CpuClock + Copy + Send + 'static>(
     rt: &R,
     alloc: Global,
     cause: &str,
@@ -165,13 +192,14 @@ fn is_woken<R: Abort + Threads + Wait + Clock + Copy + Send + 'static>(
     let (mut main, mut tickets) = (main, tickets);
     calls(rt, &mut main, CREATES);
     let woken = unset(rt, alloc);
-    let waiter = spawn_waiter(rt, take(rt, &mut tickets, 0), &woken);
+    let waiter = spawn(rt, take(rt, &mut tickets, 0), WAIT, &woken);
     calls(rt, &mut main, STARTS);
     let late = enter(rt, &mut tickets);
     pause(rt);
     holds(rt, "nothing has happened yet", !is_set(&woken));
     let (main, late) = happen(rt, cause, main, late, &woken);
-    is_woken_by(rt, alloc, shared, (main, waiter.join(rt), late), reply);
+    let (waiter, _) = waiter.join(rt);
+    is_woken_by(rt, alloc, shared, (main, waiter, late), reply);
 }
 
 /// One case for each of seven causes, after which nothing is called until the waiter is seen to go on.
@@ -185,25 +213,6 @@ fn a_waiter_is_woken(rt: HostRuntime) {
     }
 }
 
-/// A wait that is parked while all others wait is a dynamic error of the main run, which wakes by it.
-#[test]
-fn a_stuck_main_is_woken(rt: HostRuntime) {
-    let alloc = rt.alloc();
-    let (_, main, tickets) = got(&rt, open(alloc, 2));
-    let (mut main, mut tickets) = (main, tickets);
-    calls(&rt, &mut main, CREATES);
-    calls(&rt, &mut main, "0 start 1 1 => ok");
-    let waiter = spawn_main(&rt, main);
-    pause(&rt);
-    let woken = unset(&rt, alloc);
-    let other = spawn_waiter(&rt, take(&rt, &mut tickets, 0), &woken);
-    holds(&rt, "the parked wait wakes", is_set_soon(&rt, &woken));
-    let stuck = Err(Halt::Fault(Fault::Stuck));
-    is(&rt, "the wait of run 0", waiter.join(&rt), stuck);
-    let reply = woken_by(&other.join(&rt));
-    is(&rt, "the wait of run 1", reply, Some(Reply::Ended));
-}
-
 /// The main run, which waits on a thread until component 1 is done.
 fn spawn_main<R: Abort + Threads + Wait + Copy + Send + 'static>(
     rt: &R,
@@ -215,67 +224,51 @@ fn spawn_main<R: Abort + Threads + Wait + Copy + Send + 'static>(
     got(&rt, thread::spawn(&rt, wait))
 }
 
-/// A run, its component, and its one argument.
-fn start_of(pass: &Pass) -> Option<(Run, Comp, Comp)> {
-    match pass.args() {
-        [arg] => Some((pass.run(), pass.me(), *arg)),
-        _ => None,
-    }
-}
-
-/// What a run was started with, and that its flag is set by then.
-fn started_with<R: Wait>(rt: &R, ticket: Ticket, woken: &AtomicBool) -> Option<(Run, Comp, Comp)> {
-    match await_start(rt, ticket) {
-        Ok(pass) => {
-            woken.store(true, Ordering::SeqCst);
-            start_of(&pass)
-        }
-        Err(_) => None,
-    }
-}
-
-fn spawn_started_with<R: Abort + Threads + Wait + Copy + Send + 'static>(
-    rt: &R,
-    ticket: Ticket,
-    woken: &Arc<AtomicBool>,
-) -> JoinHandle<Option<(Run, Comp, Comp)>> {
-    let rt = *rt;
-    let flag = shared_with(&rt, woken);
-    got(
+/// A wait that is parked while all others wait is a dynamic error of the main run, which wakes by it.
+#[test]
+fn a_stuck_main_is_woken(rt: HostRuntime) {
+    let (_, main, tickets) = got(&rt, open(rt.alloc(), 2));
+    let (mut main, mut tickets) = (main, tickets);
+    calls(&rt, &mut main, CREATES);
+    calls(&rt, &mut main, "0 start 1 1 => ok");
+    let waiter = spawn_main(&rt, main);
+    pause(&rt);
+    let woken = unset(&rt, rt.alloc());
+    let other = spawn(&rt, take(&rt, &mut tickets, 0), WAIT, &woken);
+    holds(&rt, "the parked wait wakes", is_set_soon(&rt, &woken));
+    let stuck = Err(Halt::Fault(Fault::Stuck));
+    is(&rt, "the wait of run 0", waiter.join(&rt), stuck);
+    let (other, _) = other.join(&rt);
+    is(
         &rt,
-        thread::spawn(&rt, move || started_with(&rt, ticket, &flag)),
-    )
+        "the wait of run 1",
+        woken_by(&other),
+        Some(Reply::Ended),
+    );
+}
+
+/// Whether run 255 was started on component 2, with component 1 as its argument.
+fn is_last(left: &Left) -> bool {
+    let Some((comp, args)) = left.started() else {
+        return false;
+    };
+    left.run() == Run(255) && comp == Comp(2) && args == [Comp(1)].as_slice()
 }
 
 /// The last of 256 runs waits for its start, is woken by it, and has its component and its argument.
 #[test]
 fn the_last_run_waits_for_its_start(rt: HostRuntime) {
-    let alloc = rt.alloc();
-    let (_, main, tickets) = got(&rt, open(alloc, 256));
+    let (_, main, tickets) = got(&rt, open(rt.alloc(), 256));
     let (mut main, mut tickets) = (main, tickets);
-    let woken = unset(&rt, alloc);
-    let waiter = spawn_started_with(&rt, take(&rt, &mut tickets, 254), &woken);
+    let woken = unset(&rt, rt.alloc());
+    let waiter = spawn(&rt, take(&rt, &mut tickets, 254), "", &woken);
     calls(&rt, &mut main, CREATES);
     pause(&rt);
     holds(&rt, "it is not yet started", !is_set(&woken));
     calls(&rt, &mut main, "0 start 2 255 1 => ok");
     holds(&rt, "the start wakes it", is_set_soon(&rt, &woken));
-    let wanted = Some((Run(255), Comp(2), Comp(1)));
-    is(&rt, "its start", waiter.join(&rt), wanted);
-}
-
-/// All who wait for a start wake by the end of the case too.
-#[test]
-fn the_end_wakes_the_unstarted(rt: HostRuntime) {
-    let alloc = rt.alloc();
-    let (_, main, tickets) = got(&rt, open(alloc, 3));
-    let mut tickets = tickets;
-    let (first_woken, last_woken) = (unset(&rt, alloc), unset(&rt, alloc));
-    let first = spawn_unstarted(&rt, take(&rt, &mut tickets, 0), &first_woken);
-    let last = spawn_unstarted(&rt, take(&rt, &mut tickets, 0), &last_woken);
-    end_wakes(&rt, main, &first_woken, &last_woken);
-    holds(&rt, "the first was never started", first.join(&rt));
-    holds(&rt, "the last was never started", last.join(&rt));
+    let (left, _) = waiter.join(&rt);
+    holds(&rt, "its start", is_last(&left));
 }
 
 /// Lets the main run leave, by which two runs wake that wait for their start.
@@ -287,51 +280,22 @@ fn end_wakes<R: Abort + Wait + Clock>(rt: &R, main: Pass, first: &AtomicBool, la
     holds(rt, "the end wakes the last", is_set_soon(rt, last));
 }
 
-/// Whether a run was never started, and that its flag is set once that is known.
-fn ends_unstarted<R: Wait>(rt: &R, ticket: Ticket, woken: &AtomicBool) -> bool {
-    let unstarted = await_start(rt, ticket).is_err();
-    woken.store(true, Ordering::SeqCst);
-    unstarted
+fn is_unstarted<R: Abort + Threads>(rt: &R, waiter: JoinHandle<Done>) {
+    let (left, _) = waiter.join(rt);
+    holds(rt, "never started", left.started().is_none());
 }
 
-fn spawn_unstarted<R: Abort + Threads + Wait + Copy + Send + 'static>(
-    rt: &R,
-    ticket: Ticket,
-    woken: &Arc<AtomicBool>,
-) -> JoinHandle<bool> {
-    let rt = *rt;
-    let flag = shared_with(&rt, woken);
-    got(
-        &rt,
-        thread::spawn(&rt, move || ends_unstarted(&rt, ticket, &flag)),
-    )
-}
-
-/// Whether a run is started, and then waits until component 2 is done.
-fn waits_twice<R: Wait>(rt: &R, ticket: Ticket) -> bool {
-    match await_start(rt, ticket) {
-        Ok(mut pass) => pass.wait_done(rt, LATE).is_ok(),
-        Err(_) => false,
-    }
-}
-
-/// The processor time that a thread takes to wait for its start, and then until component 2 is done.
-fn time_of_waits<R: Wait + CpuClock>(rt: &R, ticket: Ticket) -> Option<Duration> {
-    let before = rt.thread_cpu_time();
-    let waited = waits_twice(rt, ticket);
-    let after = rt.thread_cpu_time();
-    match (waited, before, after) {
-        (true, Ok(before), Ok(after)) => after.checked_sub(before),
-        _ => None,
-    }
-}
-
-fn spawn_timed<R: Abort + Threads + Wait + CpuClock + Copy + Send + 'static>(
-    rt: &R,
-    ticket: Ticket,
-) -> JoinHandle<Option<Duration>> {
-    let rt = *rt;
-    got(&rt, thread::spawn(&rt, move || time_of_waits(&rt, ticket)))
+/// All who wait for a start wake by the end of the case too.
+#[test]
+fn the_end_wakes_the_unstarted(rt: HostRuntime) {
+    let (_, main, tickets) = got(&rt, open(rt.alloc(), 3));
+    let mut tickets = tickets;
+    let (first_woken, last_woken) = (unset(&rt, rt.alloc()), unset(&rt, rt.alloc()));
+    let first = spawn(&rt, take(&rt, &mut tickets, 0), WAIT, &first_woken);
+    let last = spawn(&rt, take(&rt, &mut tickets, 0), WAIT, &last_woken);
+    end_wakes(&rt, main, &first_woken, &last_woken);
+    is_unstarted(&rt, first);
+    is_unstarted(&rt, last);
 }
 
 /// Starts run 1 after half a second, and kills component 2 after another.
@@ -343,19 +307,27 @@ fn start_and_kill_late<R: Abort + Wait + Clock>(rt: &R, main: &mut Pass) {
     calls(rt, main, "0 kill 2 => ok");
 }
 
-/// Two waits of half a second each take less than a tenth of a second of processor time.
+/// A run waited until component 2 was done, in less than a tenth of a second of processor time.
+fn has_waited(rt: &impl Abort, left: &Left, time: Option<Duration>) {
+    is(rt, "its wait", woken_by(left), Some(Reply::Matched));
+    let Some(time) = time else {
+        panic!(rt; "no clock")
+    };
+    assert!(rt;
+        time < Duration::from_millis(100),
+        "{} ms",
+        time.as_millis()
+    );
+}
+
+/// A wait for a start and one until a component is done, of half a second each.
 #[test]
 fn waits_do_not_spin(rt: HostRuntime) {
     let (_, main, tickets) = got(&rt, open(rt.alloc(), 2));
     let (mut main, mut tickets) = (main, tickets);
-    let waiter = spawn_timed(&rt, take(&rt, &mut tickets, 0));
+    let woken = unset(&rt, rt.alloc());
+    let waiter = spawn(&rt, take(&rt, &mut tickets, 0), WAIT, &woken);
     start_and_kill_late(&rt, &mut main);
-    let Some(taken) = waiter.join(&rt) else {
-        panic!(rt; "the waits were answered otherwise, or no clock")
-    };
-    assert!(rt;
-        taken < Duration::from_millis(100),
-        "{} ms",
-        taken.as_millis()
-    );
+    let (left, time) = waiter.join(&rt);
+    has_waited(&rt, &left, time);
 }
