@@ -12,7 +12,7 @@ import time
 
 SIZES = ((4, 10, 40), (8, 10, 40), (16, 10, 40), (32, 8, 20), (64, 8, 10))
 LONGEST = 60
-ENDINGS = ("complete", "looked at", "undecided")
+ENDINGS = ("complete", "undecided")
 
 
 def behaviour(chance, at, steps, racing):

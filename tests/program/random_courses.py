@@ -20,7 +20,7 @@ BATCHES = 10
 CASES = 250
 # A test case with more states than so many in the plain search is left out, and counted.
 MOST = 1500
-LINE = re.compile(r"(?P<name>\w+)(?P<verdicts>(?: (?:none|pass|inconc|fail|error))*) (?P<ending>complete|looked at \d+ states)")
+LINE = re.compile(r"(?P<name>\w+)(?P<verdicts>(?: (?:none|pass|inconc|fail|error))*) (?P<ending>complete|undecided after \d+ states)")
 
 
 class Told(NamedTuple):

@@ -231,7 +231,7 @@ TOP = os.path.dirname(os.path.dirname(os.path.dirname(os.path.abspath(__file__))
 RACE = (b"testcase t\nbehaviour main\ncreate p\nstart p w\nkill p\nend\n"
         b"behaviour w\nsetverdict fail\nend\nend\n")
 
-# Another, whose search that misses none needs one state more than that with reductions.
+# Another, whose search needs four states.
 LOOSE = b"testcase t\nbehaviour main\ncreate p\nstart p w\nend\nbehaviour w\nsetverdict fail\nend\nend\n"
 
 # Its worker waits for its own end, and nobody comes behind that.
@@ -267,10 +267,12 @@ def of_explore() -> List[Case]:
                   errors=STATES)
              for word in ("0", "x", "", "01", "1000001") for form in ((), ("--history",), ("--details",))]
     found.append(Case("one_state_decides_nothing", ("explore", "--states", "1"), RACE, SomeText(("t undecided",)), status=3))
-    found.append(Case("three_states_are_not_complete", ("explore", "--states", "3"), LOOSE, b"t none fail looked at 3 states\n", status=1))
+    found.append(Case("three_states_are_not_complete", ("explore", "--states", "3"), LOOSE, b"t none undecided after 3 states\n", status=3))
     found.append(Case("a_race_is_told_complete", ("explore",), RACE, b"t none fail complete\n", status=1))
     found.append(Case("steps_behind_a_wait_are_dead", ("explore", "--details"), DEAD, DEAD_TOLD))
     found.append(Case("no_step_is_dead", ("explore", "--details"), PLAIN, b"t pass complete\n  pass: mtc none, 1 pass\n"))
+    found.append(Case("no_step_is_told_dead_by_half_a_search", ("explore", "--details", "--states", "1"), DEAD,
+                      b"t undecided after 1 states\n", status=3))
     for form in ((), ("--history",), ("--details",)):
         name = "_".join(it.strip("-") for it in ("explore", *form))
         for device, redirect in (("full", ">/dev/full"), ("closed", ">&-")):

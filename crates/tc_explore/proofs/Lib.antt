@@ -19,7 +19,8 @@ pub mod Closed
 pub mod States
 pub mod Logging
 pub mod Reports
-pub mod Telling
+pub mod Numbers
+pub mod Showing
 pub mod Prefixes
 pub mod Taking
 pub mod Late

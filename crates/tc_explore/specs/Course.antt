@@ -156,7 +156,7 @@ abbrev pub IsCourse : List ScriptView → List Entry → Type 0
 IsCourse scripts [] = Unit {0}
 IsCourse scripts (e ∷ past) = IsTurn scripts past e × IsCourse scripts past
 
--- what a state counts for in the search by the calls of all runs: one more than the steps of the scripts together
+-- what there is room for in a state: one more than the steps of the scripts together
 abbrev pub room_of : List ScriptView → ℕ
 room_of [] = 1
 room_of (script ∷ scripts) = room_of scripts + length script.steps

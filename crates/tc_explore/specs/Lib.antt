@@ -5,9 +5,8 @@ pub mod Told
 pub mod Inside
 pub mod Laws
 pub mod Reports
-pub mod Components
+pub mod Shown
 pub mod Race
 pub mod Waits
-pub mod Steps
 pub mod Unseen
 pub mod Details

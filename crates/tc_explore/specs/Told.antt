@@ -31,7 +31,6 @@ count_status count = if count == 1 then 0 else if nat_lt 1 count then 1 else 3
 -- the status by the ending too: 3 where the search met its limit
 abbrev pub ending_status : Ending → ℕ → ℕ
 ending_status E.Complete count = count_status count
-ending_status E.Reduced count = count_status count
 ending_status E.Undecided count = 3
 
 -- the status of a test case
@@ -47,15 +46,14 @@ abbrev pub verdict_words : List Witness → List ℕ
 verdict_words found =
     verdict_word found V.None ++ (verdict_word found V.Pass ++ (verdict_word found V.Inconc ++ (verdict_word found V.Fail ++ verdict_word found V.Error)))
 
--- how many states were looked at, behind these words
-abbrev pub states_words : List ℕ → ℕ → List ℕ
-states_words words states = words ++ (decimal states ++ codes " states")
+-- after how many states the search ended
+abbrev pub states_words : ℕ → List ℕ
+states_words states = codes " undecided after " ++ (decimal states ++ codes " states")
 
 -- how the search ended, and where something may be missed how many states it looked at
 abbrev pub ending_words : Ending → ℕ → List ℕ
 ending_words E.Complete states = codes " complete"
-ending_words E.Reduced states = states_words (codes " looked at ") states
-ending_words E.Undecided states = states_words (codes " undecided after ") states
+ending_words E.Undecided states = states_words states
 
 -- the line of a test case of this name
 abbrev pub explored_line : List ℕ → Explored → List ℕ

@@ -293,24 +293,6 @@ impl Course {
         }
     }
 
-    /// The next call of a run that goes on, behind its quiet ones.
-    pub(crate) fn loud_turn(&self, scripts: &[Script], run: Run) -> Option<Op> {
-        let _comp = self.comp_of(run)?;
-        let at = usize::from(run.0);
-        if at >= self.standings.len() {
-            return None;
-        }
-        self.standings[at].loud_turn(steps_of(scripts, run), run.0)
-    }
-
-    /// Whether a run goes on, and sets a verdict of this rank in one of its quiet calls to come.
-    pub(crate) fn may_set(&self, scripts: &[Script], run: Run, value: u64) -> bool {
-        let at = usize::from(run.0);
-        at < self.standings.len()
-            && self.comp_of(run).is_some()
-            && self.standings[at].may_set(steps_of(scripts, run), run.0, value)
-    }
-
     /// All that what can still come depends on, as numbers.
     pub(crate) fn key(&self, alloc: Global) -> Result<Vec<u16>, NoMemory> {
         let mut key = Vec::new(alloc);
@@ -326,15 +308,6 @@ impl Course {
             key.push(u16::from(self.is_alive_type(comp)))?;
         }
         Ok(key)
-    }
-
-    /// Who called, one after the other.
-    pub(crate) fn schedule(&self, alloc: Global) -> Result<Vec<u16>, NoMemory> {
-        let mut schedule = Vec::with_capacity(alloc, self.history().len())?;
-        for entry in self.history() {
-            schedule.push(entry.caller.0)?;
-        }
-        Ok(schedule)
     }
 
     /// The overall verdict.

@@ -1,13 +1,13 @@
 //! What the details say of a test case that was explored.
-ghost use Rattle.std.specs.Prelude.{◌≡◌, ◌≤◌, ◌++◌, OnOk, length};
+ghost use Rattle.std.specs.Prelude.{◌≤◌, OnOk, length};
 ghost use Rattle.std.specs.List.{flat_map};
 ghost use Rattle.tc_entry.specs.declared.limits.TheConstants.{BEHAVIOURS};
-ghost use Rattle.tc_explore.specs.Components.{locals_line};
-ghost use Rattle.tc_explore.specs.Details.{AreLegalOf, details_text, witnesses_text};
-ghost use Rattle.tc_explore.specs.Waits.{waits_text};
+ghost use Rattle.tc_explore.specs.Details.{AreLegalOf, details, locals, of_witnesses};
+ghost use Rattle.tc_explore.specs.Shown.{Shows};
+ghost use Rattle.tc_explore.specs.Waits.{waits};
 
 use crate::components::append_locals_line;
-use crate::explored::Explored;
+use crate::explored::{Ending, Explored};
 use crate::race::append_races;
 use crate::unseen::append_unseen;
 use crate::waits::append_waits;
@@ -17,6 +17,7 @@ use tc_step::Script;
 use tc_verdict::NoMemory;
 
 // Appends the line of each witness; where memory is refused, a part of them.
+#[tactic(auto, using(crate::proofs::Showing::show_rules))]
 fn append_locals_lines(
     alloc: Global,
     out: &mut Vec<u8>,
@@ -26,7 +27,7 @@ fn append_locals_lines(
     requires some { 1 ≤ behaviours }
     requires few { behaviours ≤ BEHAVIOURS }
     requires legal { AreLegalOf behaviours found.now }
-    ensures { OnOk result (out.new.items ≡ out.old.items ++ flat_map locals_line found.now) }
+    ensures { OnOk result (Shows (flat_map locals found.now) out.old.items out.new.items) }
 {
     for witness in found {
         append_locals_line(alloc, out, behaviours, witness)?;
@@ -35,6 +36,7 @@ fn append_locals_lines(
 }
 
 // Appends who waits for whom in each witness; where memory is refused, a part of it.
+#[tactic(auto, using(crate::proofs::Showing::show_rules))]
 fn append_all_waits(
     alloc: Global,
     out: &mut Vec<u8>,
@@ -44,7 +46,7 @@ fn append_all_waits(
     requires some { 1 ≤ behaviours }
     requires few { behaviours ≤ BEHAVIOURS }
     requires legal { AreLegalOf behaviours found.now }
-    ensures { OnOk result (out.new.items ≡ out.old.items ++ flat_map (waits_text behaviours) found.now) }
+    ensures { OnOk result (Shows (flat_map (waits behaviours) found.now) out.old.items out.new.items) }
 {
     for witness in found {
         append_waits(alloc, out, behaviours, witness)?;
@@ -53,7 +55,7 @@ fn append_all_waits(
 }
 
 // Appends what the witnesses show; where memory is refused, a part of it.
-#[tactic(auto, unfolding(crate::specs::Details::witnesses_text))]
+#[tactic(auto, unfolding(crate::specs::Details::of_witnesses), using(crate::proofs::Showing::show_rules))]
 fn append_witnesses(
     alloc: Global,
     out: &mut Vec<u8>,
@@ -63,7 +65,7 @@ fn append_witnesses(
     requires some { 1 ≤ behaviours }
     requires few { behaviours ≤ BEHAVIOURS }
     requires legal { AreLegalOf behaviours found.now }
-    ensures { OnOk result (out.new.items ≡ out.old.items ++ witnesses_text behaviours found.now) }
+    ensures { OnOk result (Shows (of_witnesses behaviours found.now) out.old.items out.new.items) }
 {
     append_locals_lines(alloc, out, behaviours, found)?;
     append_races(alloc, out, found)?;
@@ -72,9 +74,10 @@ fn append_witnesses(
 
 impl Explored {
     /// Appends what the search for the verdicts of these scripts shows: the local verdict of each component, the first witness
-    /// beside each other one from where they part, who waits for whom where no run can go on, and which steps no course that
-    /// was looked at carries out. Of a test case without behaviours nothing is told. Where memory is refused, a part of it.
-    #[tactic(auto, unfolding(crate::specs::Details::details_text))]
+    /// beside each other one from where they part, who waits for whom where no run can go on, and, where the search came to
+    /// its end, which steps no course that it looked at carries out. Of a test case without behaviours nothing is told. Where
+    /// memory is refused, a part of it.
+    #[tactic(auto, unfolding(crate::specs::Details::details), using(crate::proofs::Showing::show_rules))]
     pub fn append_details(
         &self,
         alloc: Global,
@@ -83,12 +86,15 @@ impl Explored {
     ) -> Result<(), NoMemory>
         requires few { length scripts.now ≤ BEHAVIOURS }
         requires legal { AreLegalOf (length scripts.now) self.now.found }
-        ensures { OnOk result (out.new.items ≡ out.old.items ++ details_text scripts.now self.now) }
+        ensures { OnOk result (Shows (details scripts.now self.now) out.old.items out.new.items) }
     {
         if scripts.is_empty() {
             return Ok(());
         }
         append_witnesses(alloc, out, scripts.len() as u16, self.found.as_slice())?;
-        append_unseen(out, scripts, self.reached.as_slice())
+        match self.ending {
+            Ending::Complete => append_unseen(alloc, out, scripts, self.reached.as_slice()),
+            Ending::Undecided => Ok(()),
+        }
     }
 }

@@ -3,13 +3,11 @@ ghost use Rattle.std.specs.Prelude.{◌≡◌, ◌≤◌, ◌*◌, ◌/◌, [], 
 ghost use Rattle.tc_entry.specs.declared.limits.TheConstants.{BEHAVIOURS};
 ghost use Rattle.tc_explore.specs.Found.{AreWitnesses, AreLegal, AreReached, IsOnce};
 ghost use Rattle.tc_explore.specs.Course.{room_of, weight_of};
-ghost use Rattle.tc_explore.specs.Inside.Seen.{IsNoted};
 ghost use Rattle.tc_explore.specs.Laws.{AllFound};
 ghost use Rattle.tc_explore.specs.declared.explored.Ending.TheVariants.{Complete, Undecided};
 
-use crate::findings::{Findings, no_findings};
-use crate::full::search_all;
-use crate::search::{Extent, search_reduced};
+use crate::findings::no_findings;
+use crate::search::search_all;
 use crate::witness::Witness;
 use std::alloc::Global;
 use tc_entry::Sequence;
@@ -21,8 +19,6 @@ use tc_verdict::NoMemory;
 pub enum Ending {
     /// No verdict is missed: each complete course of the test case ends with one that was found.
     Complete,
-    /// The search came to its end, and it is not proved that none is missed.
-    Reduced,
     /// The search met its limit.
     Undecided,
 }
@@ -35,19 +31,12 @@ pub struct Explored {
     /// For each run how many calls it carries out at most in the courses that were looked at: its steps, and behind them the
     /// end of its behaviour.
     pub reached: Sequence<usize>,
-    /// How many states the last search looked at.
+    /// How many states the search looked at.
     pub states: usize,
     pub ending: Ending,
 }
 
-// How many states were looked at, and how the search ended.
-#[derive(Clone, Copy)]
-struct Reach {
-    states: usize,
-    ending: Ending,
-}
-
-// How many entries the states of the search by the calls of all runs may have together: each keeps those of a course.
+// How many entries the states of a search may have together: each keeps those of a course.
 const KEPT: usize = 2_000_000;
 
 // One more than the steps of the scripts together, if a number can hold it.
@@ -75,9 +64,9 @@ fn weight_for(scripts: &[Script]) -> Option<usize>
     (size / SIZE_OF_ONE_MORE).checked_add(1)
 }
 
-// How many states that search looks at: no more than the other, and fewer where the scripts have many steps.
+// How many states a search looks at: no more than the limit, and fewer where the scripts have many steps.
 #[tactic(auto, using(crate::proofs::Room::room_rules))]
-fn full_limit(scripts: &[Script], limit: usize) -> usize
+fn most_states(scripts: &[Script], limit: usize) -> usize
     ensures within { result ≤ limit }
     ensures kept { result * room_of scripts.now ≤ 2000000 }
 {
@@ -88,42 +77,10 @@ fn full_limit(scripts: &[Script], limit: usize) -> usize
     if limit < most { limit } else { most }
 }
 
-// Makes the search by the calls of all runs, and that with reductions only where the first did not come to its end.
-fn search_both(
-    alloc: Global,
-    scripts: &[Script],
-    limit: usize,
-    found: &mut Findings,
-) -> Result<Reach, NoMemory>
-    requires some { 1 ≤ length scripts.now }
-    requires few { length scripts.now ≤ BEHAVIOURS }
-    requires found { IsNoted scripts.now found.old }
-    ensures found { OnOk result (IsNoted scripts.now found.new) }
-    ensures complete { IfOk result (λ r. r.ending ≡ Complete → AllFound scripts.now found.new.witnesses.items) }
-    ensures within { IfOk result (λ r. r.states ≤ limit) }
-    ensures undecided { IfOk result (λ r. r.ending ≡ Undecided → r.states ≡ limit) }
-{
-    let full = search_all(alloc, scripts, full_limit(scripts, limit), found)?;
-    if full.is_whole {
-        let states = full.states;
-        let ending = Ending::Complete;
-        return Ok(Reach { states, ending });
-    }
-    let reduced = search_reduced(alloc, scripts, limit, found)?;
-    let states = reduced.states;
-    let ending = if reduced.is_whole {
-        Ending::Reduced
-    } else {
-        Ending::Undecided
-    };
-    Ok(Reach { states, ending })
-}
-
-/// Looks for the overall verdicts that the courses of a test case give, each with a complete course that gives it. A search by
-/// the calls of all runs keeps so many states at most, each counted for its weight, and fewer of a test case with many steps.
-/// Where it comes to its end, the verdict of each complete course is found. Else a search with reductions follows, which
-/// looks at so many states at most, each counted for its weight. Each number of calls that is reached has a course too. A
-/// test case without behaviours is left undecided.
+/// Looks for the overall verdicts that the courses of a test case give, each with a complete course that gives it. The search
+/// keeps so many states at most, each counted for its weight, and fewer of a test case with many steps. Where it comes to its
+/// end, the verdict of each complete course is found. Each number of calls that is reached has a course too. A test case
+/// without behaviours is left undecided.
 #[tactic(auto, using(crate::proofs::Legality::legal_rules, crate::proofs::Noting::noting_rules, crate::proofs::Room::weight_rules))]
 pub fn explore(alloc: Global, scripts: &[Script], limit: usize) -> Result<Explored, NoMemory>
     requires few { length scripts.now ≤ BEHAVIOURS }
@@ -133,8 +90,8 @@ pub fn explore(alloc: Global, scripts: &[Script], limit: usize) -> Result<Explor
     ensures complete { IfOk result (λ e. e.ending ≡ Complete → AllFound scripts.now e.found) }
     ensures within { IfOk result (λ e. e.states ≤ limit) }
     ensures counted { IfOk result (λ e. e.states * weight_of scripts.now ≤ limit) }
+    ensures kept { IfOk result (λ e. e.states * room_of scripts.now ≤ 2000000) }
     ensures once { IfOk result (λ e. IsOnce e.found) }
-    ensures undecided { IfOk result (λ e. e.ending ≡ Undecided → 1 ≤ length scripts.now → e.states ≡ limit / weight_of scripts.now) }
     ensures nothing { IfOk result (λ e. scripts.now ≡ [] → (e.ending ≡ Undecided) × (e.found ≡ []) × (e.states ≡ 0)) }
 {
     let mut found = no_findings(alloc, scripts)?;
@@ -147,11 +104,16 @@ pub fn explore(alloc: Global, scripts: &[Script], limit: usize) -> Result<Explor
         });
     }
     let weight = weight_for(scripts).ok_or(NoMemory)?;
-    let reach = search_both(alloc, scripts, limit / weight, &mut found)?;
+    let most = most_states(scripts, limit / weight);
+    let extent = search_all(alloc, scripts, most, &mut found)?;
     Ok(Explored {
         found: Sequence::new(found.witnesses),
         reached: Sequence::new(found.reached),
-        states: reach.states,
-        ending: reach.ending,
+        states: extent.states,
+        ending: if extent.is_whole {
+            Ending::Complete
+        } else {
+            Ending::Undecided
+        },
     })
 }

@@ -1,18 +1,19 @@
 //! Two witnesses side by side, from where they part.
-ghost use Rattle.std.specs.Prelude.{◌≡◌, ◌≤◌, ◌-◌, ◌++◌, IfOk, OnOk, ℕ, List, bytes_eq, length, replicate, slice_get};
+ghost use Rattle.std.specs.Prelude.{◌≡◌, ◌≤◌, ◌++◌, [], ◌∷◌, IfOk, OnOk, bytes_eq, drop, length};
 ghost use Rattle.std.specs.List.{flat_map, range_with_len};
 ghost use Rattle.tc_history.specs.Block.{entry_text};
-ghost use Rattle.tc_verdict.specs.Verdict.{name_of};
-ghost use Rattle.tc_explore.specs.Race.{alike_count as count_alike, alike_line, more_line, padded, pair_words, parting_text, race_text, races_text, row, row_at, rows, text_if_any};
+ghost use Rattle.tc_explore.specs.Race.{alike_count as count_alike, more_row, parting, race, races, row_at, rows};
+ghost use Rattle.tc_explore.specs.Shown.{AddsLine, Alike, Heads, Shows};
 
+use crate::line::append_line;
 use crate::witness::Witness;
 use std::alloc::Global;
 use tc_entry::Entry;
 use tc_text::{append_number, append_text, write_move, write_reply};
-use tc_verdict::{NoMemory, Verdict, name as name_of_verdict};
+use tc_verdict::{NoMemory, name as name_of};
 
 /// The width of the left one of two columns.
-pub const COLUMN: usize = 36;
+const COLUMN: usize = 36;
 
 /// How many lines of entries are shown.
 pub const ROWS: usize = 12;
@@ -60,46 +61,22 @@ fn alike_count(alloc: Global, left: &[Entry], right: &[Entry]) -> Result<usize, 
     Ok(count)
 }
 
-// Appends spaces behind so many bytes, up to the width of a column; where memory is refused, some of them.
-#[tactic(auto, using(crate::proofs::Telling::spaces_more))]
-fn append_spaces(out: &mut Vec<u8>, width: usize) -> Result<(), NoMemory>
-    ensures { OnOk result (out.new.items ≡ out.old.items ++ replicate (COLUMN - width) 32) }
-{
-    if width >= COLUMN {
-        return Ok(());
-    }
-    for _ in width..COLUMN {
-        out.push(b' ')?;
-    }
-    Ok(())
-}
-
-// Appends a text with spaces behind it up to the width of a column; where memory is refused, a part of it.
-#[tactic(auto, unfolding(crate::specs::Race::padded))]
-fn append_padded(out: &mut Vec<u8>, text: &[u8]) -> Result<(), NoMemory>
-    ensures { OnOk result (out.new.items ≡ out.old.items ++ padded text.now) }
-{
-    out.extend_from_slice(text)?;
-    append_spaces(out, text.len())
-}
-
 // Appends a line of two columns; where memory is refused, a part of it.
-#[tactic(auto, unfolding(crate::specs::Race::row))]
-fn append_row(out: &mut Vec<u8>, left: &[u8], right: &[u8]) -> Result<(), NoMemory>
-    ensures { OnOk result (out.new.items ≡ out.old.items ++ row left.now right.now) }
+fn append_row(alloc: Global, out: &mut Vec<u8>, left: &[u8], right: &[u8]) -> Result<(), NoMemory>
+    ensures { OnOk result (AddsLine out.old.items out.new.items) }
 {
-    append_text(out, "  ")?;
-    append_padded(out, left)?;
-    append_text(out, " | ")?;
-    out.extend_from_slice(right)?;
-    out.push(b'\n')?;
-    Ok(())
+    let mut words = Vec::new(alloc);
+    words.extend_from_slice(left)?;
+    for _ in left.len()..COLUMN {
+        words.push(b' ')?;
+    }
+    append_text(&mut words, " | ")?;
+    words.extend_from_slice(right)?;
+    append_line(out, words.as_slice())
 }
 
 // The text of the entry at a place, if there is one.
-fn text_at(alloc: Global, history: &[Entry], at: usize) -> Result<Vec<u8>, NoMemory>
-    ensures { IfOk result (λ text. text.items ≡ text_if_any (slice_get history.now at)) }
-{
+fn text_at(alloc: Global, history: &[Entry], at: usize) -> Result<Vec<u8>, NoMemory> {
     let mut text = Vec::new(alloc);
     if let Some(entry) = history.get(at) {
         append_entry(&mut text, entry)?;
@@ -108,7 +85,7 @@ fn text_at(alloc: Global, history: &[Entry], at: usize) -> Result<Vec<u8>, NoMem
 }
 
 // Appends the line of the entries at a place, if one of both has an entry there; where memory is refused, a part of it.
-#[tactic(auto, unfolding(crate::specs::Race::row_at))]
+#[tactic(auto, unfolding(crate::specs::Race::row_at), using(crate::proofs::Showing::show_rules))]
 fn append_row_at(
     alloc: Global,
     out: &mut Vec<u8>,
@@ -116,25 +93,25 @@ fn append_row_at(
     right: &[Entry],
     at: usize,
 ) -> Result<(), NoMemory>
-    ensures { OnOk result (out.new.items ≡ out.old.items ++ row_at left.now right.now at) }
+    ensures { OnOk result (Shows (row_at left.now right.now at) out.old.items out.new.items) }
 {
     if at >= left.len() && at >= right.len() {
         return Ok(());
     }
     let text = text_at(alloc, left, at)?;
     let other = text_at(alloc, right, at)?;
-    append_row(out, text.as_slice(), other.as_slice())
+    append_row(alloc, out, text.as_slice(), other.as_slice())
 }
 
 // Appends the first entries of both in two columns; where memory is refused, a part of them.
-#[tactic(auto, using(crate::proofs::Telling::numbers_more))]
+#[tactic(auto, using(crate::proofs::Showing::show_rules))]
 fn append_first_rows(
     alloc: Global,
     out: &mut Vec<u8>,
     left: &[Entry],
     right: &[Entry],
 ) -> Result<(), NoMemory>
-    ensures { OnOk result (out.new.items ≡ out.old.items ++ flat_map (row_at left.now right.now) (range_with_len 0 ROWS)) }
+    ensures { OnOk result (Shows (flat_map (row_at left.now right.now) (range_with_len 0 ROWS)) out.old.items out.new.items) }
 {
     for at in 0..ROWS {
         append_row_at(alloc, out, left, right, at)?;
@@ -142,63 +119,77 @@ fn append_first_rows(
     Ok(())
 }
 
+// Appends whether there are more entries than are shown; where memory is refused, a part of it.
+#[tactic(auto, unfolding(crate::specs::Race::more_row), using(crate::proofs::Showing::show_rules))]
+fn append_more(out: &mut Vec<u8>, left: &[Entry], right: &[Entry]) -> Result<(), NoMemory>
+    ensures { OnOk result (Shows (more_row left.now right.now) out.old.items out.new.items) }
+{
+    if left.len() <= ROWS && right.len() <= ROWS {
+        return Ok(());
+    }
+    append_line(out, b"..")
+}
+
 // Appends the first entries of both in two columns, and whether there are more; where memory is refused, a part of it.
-#[tactic(auto, unfolding(crate::specs::Race::rows, crate::specs::Race::more_line))]
+#[tactic(auto, unfolding(crate::specs::Race::rows), using(crate::proofs::Showing::show_rules))]
 fn append_rows(
     alloc: Global,
     out: &mut Vec<u8>,
     left: &[Entry],
     right: &[Entry],
 ) -> Result<(), NoMemory>
-    ensures { OnOk result (out.new.items ≡ out.old.items ++ rows left.now right.now) }
+    ensures { OnOk result (Shows (rows left.now right.now) out.old.items out.new.items) }
 {
     append_first_rows(alloc, out, left, right)?;
-    if left.len() > ROWS || right.len() > ROWS {
-        return append_text(out, "  ..\n");
-    }
-    Ok(())
-}
-
-// Appends the names of two verdicts; where memory is refused, a part of them.
-#[tactic(auto, unfolding(crate::specs::Race::pair_words))]
-fn append_pair(out: &mut Vec<u8>, left: Verdict, right: Verdict) -> Result<(), NoMemory>
-    ensures { OnOk result (out.new.items ≡ out.old.items ++ pair_words left right) }
-{
-    append_text(out, "  ")?;
-    append_text(out, name_of_verdict(left))?;
-    append_text(out, " and ")?;
-    append_text(out, name_of_verdict(right))
+    append_more(out, left, right)
 }
 
 // Appends how far two witnesses go alike; where memory is refused, a part of it.
-#[tactic(auto, unfolding(crate::specs::Race::alike_line))]
+#[tactic(auto, using(crate::proofs::Showing::show_rules))]
 fn append_alike(
+    alloc: Global,
     out: &mut Vec<u8>,
     witness: &Witness,
     other: &Witness,
     count: usize,
 ) -> Result<(), NoMemory>
-    ensures { OnOk result (out.new.items ≡ out.old.items ++ alike_line witness.now other.now count) }
+    ensures { OnOk result (Shows (Alike witness.now other.now count ∷ []) out.old.items out.new.items) }
 {
-    append_pair(out, witness.verdict, other.verdict)?;
-    append_text(out, ": alike for ")?;
-    append_number(out, count as u64)?;
-    append_text(out, " entries\n")?;
-    Ok(())
+    let mut words = Vec::new(alloc);
+    append_text(&mut words, name_of(witness.verdict))?;
+    append_text(&mut words, " and ")?;
+    append_text(&mut words, name_of(other.verdict))?;
+    append_text(&mut words, ": alike for ")?;
+    append_number(&mut words, count as u64)?;
+    append_text(&mut words, " entries")?;
+    append_line(out, words.as_slice())
 }
 
 // Appends the names of two verdicts in two columns; where memory is refused, a part of it.
-fn append_heads(out: &mut Vec<u8>, left: Verdict, right: Verdict) -> Result<(), NoMemory>
-    ensures { OnOk result (out.new.items ≡ out.old.items ++ row (name_of left) (name_of right)) }
+#[tactic(auto, using(crate::proofs::Showing::show_rules))]
+fn append_heads(
+    alloc: Global,
+    out: &mut Vec<u8>,
+    witness: &Witness,
+    other: &Witness,
+) -> Result<(), NoMemory>
+    ensures { OnOk result (Shows (Heads witness.now other.now ∷ []) out.old.items out.new.items) }
 {
-    append_row(
-        out,
-        name_of_verdict(left).as_bytes(),
-        name_of_verdict(right).as_bytes(),
-    )
+    let left = name_of(witness.verdict);
+    let right = name_of(other.verdict);
+    append_row(alloc, out, left.as_bytes(), right.as_bytes())
+}
+
+// The entries behind so many.
+fn behind(history: &[Entry], count: usize) -> &[Entry]
+    requires { count ≤ length history.now }
+    ensures { result.now ≡ drop count history.now }
+{
+    &history[count..]
 }
 
 // Appends two witnesses side by side behind so many entries; where memory is refused, a part of it.
+#[tactic(auto, using(crate::proofs::Showing::show_rules))]
 fn append_parting(
     alloc: Global,
     out: &mut Vec<u8>,
@@ -208,24 +199,24 @@ fn append_parting(
 ) -> Result<(), NoMemory>
     requires within { count ≤ length witness.now.history }
     requires within_other { count ≤ length other.now.history }
-    ensures { OnOk result (out.new.items ≡ out.old.items ++ parting_text witness.now other.now count) }
+    ensures { OnOk result (Shows (parting witness.now other.now count) out.old.items out.new.items) }
 {
-    let left = &witness.history.as_slice()[count..];
-    let right = &other.history.as_slice()[count..];
-    append_alike(out, witness, other, count)?;
-    append_heads(out, witness.verdict, other.verdict)?;
+    let left = behind(witness.history.as_slice(), count);
+    let right = behind(other.history.as_slice(), count);
+    append_alike(alloc, out, witness, other, count)?;
+    append_heads(alloc, out, witness, other)?;
     append_rows(alloc, out, left, right)
 }
 
 // Appends two witnesses side by side from where they part; where memory is refused, a part of it.
-#[tactic(auto, unfolding(crate::specs::Race::race_text))]
+#[tactic(auto, unfolding(crate::specs::Race::race))]
 fn append_race(
     alloc: Global,
     out: &mut Vec<u8>,
     witness: &Witness,
     other: &Witness,
 ) -> Result<(), NoMemory>
-    ensures { OnOk result (out.new.items ≡ out.old.items ++ race_text witness.now other.now) }
+    ensures { OnOk result (Shows (race witness.now other.now) out.old.items out.new.items) }
 {
     let left = witness.history.as_slice();
     let right = other.history.as_slice();
@@ -234,12 +225,13 @@ fn append_race(
 }
 
 /// Appends the first witness beside each other one, from where they part. Where memory is refused, a part of it.
+#[tactic(auto, using(crate::proofs::Showing::show_rules))]
 pub(crate) fn append_races(
     alloc: Global,
     out: &mut Vec<u8>,
     found: &[Witness],
 ) -> Result<(), NoMemory>
-    ensures { OnOk result (out.new.items ≡ out.old.items ++ races_text found.now) }
+    ensures { OnOk result (Shows (races found.now) out.old.items out.new.items) }
 {
     let Some((witness, others)) = found.split_first() else {
         return Ok(());

@@ -1,276 +1,361 @@
-//! The search with reductions: fast, and what it finds is sound; nothing is proved of what it may miss.
-ghost use Rattle.std.specs.Prelude.{◌≡◌, ◌≤◌, false, IfOk, IfSome, OnOk, length};
+//! The search. It follows the calls of all runs, but for those of which nobody can tell that they were made, which it makes
+//! at once. Where it comes to its end nothing is missed.
+ghost use Rattle.std.specs.Prelude.{◌≡◌, ◌≤◌, ◌<◌, [], ◌∷◌, true, false, IfOk, IsTrue, OnOk, All, length};
 ghost use Rattle.tc_entry.specs.declared.limits.TheConstants.{BEHAVIOURS};
-ghost use Rattle.tc_explore.specs.Found.{IsWitness};
-ghost use Rattle.tc_explore.specs.Inside.Going.{IsOn, AreNoted};
-ghost use Rattle.tc_explore.specs.Inside.Seen.{IsLonger, IsNoted};
+ghost use Rattle.tc_table.specs.Case.{past_of};
+ghost use Rattle.tc_explore.specs.Inside.Going as going;
+ghost use Rattle.tc_explore.specs.Inside.Going.{IsOn, IsNext};
+ghost use Rattle.tc_explore.specs.Inside.Simulation as moves;
+ghost use Rattle.tc_explore.specs.Laws.{IsClosedAt, AreClosed, AllFound};
+ghost use Rattle.tc_explore.specs.Inside.Seen.{IsSeen, IsLonger, IsNoted, IsCallClosed, IsRunOfClosed, AreRunsClosed, IsCaseClosed};
 
+use crate::calm::{calmed, is_spent};
 use crate::course::Course;
+use crate::entries::has_gone_on;
 use crate::findings::{Findings, reach};
-use crate::moves::{
-    Before, Move, WORST, moves_of, with_before, with_next, with_quiet, with_victims,
-};
+use crate::noted::{note, with_stuck};
+use crate::same::is_same;
 use crate::told::is_found;
-use crate::turns::{follow, is_complete, next_call, step, step_all};
-use crate::witness::Witness;
+use crate::turns::next_call;
 use indexmap::IndexSet;
 use std::alloc::Global;
-use tc_entry::{Reply, Sequence};
+use tc_entry::Op;
 use tc_step::Script;
-use tc_table::copied_entries;
-use tc_verdict::{NoMemory, Run};
+use tc_verdict::{NoMemory, Run, Verdict};
 
-/// How far a search came: how many states it looked at, and whether it came to its end within its limit.
+/// The states that were met, by a course each, at most so many.
+#[derive(Drop)]
+pub(crate) struct Met {
+    pub(crate) states: Vec<Course>,
+    pub(crate) keys: IndexSet<Vec<u16>>,
+    pub(crate) limit: usize,
+}
+
+/// How many states a search looked at, and whether it came to its end within its limit.
 #[derive(Clone, Copy)]
 pub(crate) struct Extent {
     pub(crate) states: usize,
     pub(crate) is_whole: bool,
 }
 
-// The states that were met, at most so many, and for those that are still to be looked at who called, one after the other.
-#[derive(Drop)]
-struct Search {
-    seen: IndexSet<Vec<u16>>,
-    left: Vec<Vec<u16>>,
-    limit: usize,
-    is_cut: bool,
-}
-
-// The witness that a course is, if no run has a call left.
-fn witness_of(
-    alloc: Global,
-    scripts: &[Script],
-    course: &Course,
-) -> Result<Option<Witness>, NoMemory>
+// Whether the state at this place is that of the course.
+#[tactic(auto, using(crate::proofs::Seeing::seeing_rules))]
+fn is_at(states: &[Course], at: usize, course: &Course, scripts: &[Script]) -> bool
+    requires some { 1 ≤ length scripts.now }
     requires few { length scripts.now ≤ BEHAVIOURS }
     requires on { IsOn scripts.now course.now }
-    ensures { IfOk result (λ witness. IfSome witness (λ w. IsWitness scripts.now w.history w.verdict)) }
+    requires states { All (λ t. IsOn scripts.now t) states.now }
+    ensures { IsTrue result → IsSeen states.now (past_of course.now) }
 {
-    if !is_complete(course, scripts) {
-        return Ok(None);
+    if at >= states.len() {
+        return false;
     }
-    let verdict = course.verdict();
-    let history = Sequence::new(copied_entries(alloc, course.history())?);
-    Ok(Some(Witness { verdict, history }))
+    is_same(course, &states[at], scripts)
 }
 
-// Adds a witness, if its verdict is new.
-#[tactic(auto, using(crate::proofs::Seeing::seeing_rules, crate::proofs::Noting::noting_rules))]
-fn add_new(scripts: &[Script], witness: Witness, found: &mut Vec<Witness>) -> Result<(), NoMemory>
-    requires witness { IsWitness scripts.now witness.history witness.verdict }
-    requires found { AreNoted scripts.now found.old.items }
-    ensures found { AreNoted scripts.now found.new.items }
-    ensures more_found { IsLonger found.old.items found.new.items }
-{
-    if is_found(found, witness.verdict) {
-        return Ok(());
-    }
-    found.push(witness)?;
-    Ok(())
-}
-
-/// Notes the verdict of a case that is over, if it is new; each run makes its last call first, which is answered Ended.
+// Takes in the state of a course, and answers whether it is among those that are seen.
 #[tactic(auto, using(crate::proofs::Seeing::seeing_rules))]
-pub(crate) fn note(
-    alloc: Global,
-    scripts: &[Script],
-    course: Course,
-    found: &mut Findings,
-) -> Result<(), NoMemory>
+fn place(alloc: Global, scripts: &[Script], course: Course, met: &mut Met) -> Result<bool, NoMemory>
+    requires some { 1 ≤ length scripts.now }
     requires few { length scripts.now ≤ BEHAVIOURS }
     requires on { IsOn scripts.now course }
-    requires found { IsNoted scripts.now found.old }
-    ensures found { IsNoted scripts.now found.new }
-    ensures more_found { IsLonger found.old.witnesses.items found.new.witnesses.items }
+    requires states { All (λ t. IsOn scripts.now t) met.old.states.items }
+    ensures states { OnOk result (All (λ t. IsOn scripts.now t) met.new.states.items) }
+    ensures longer { OnOk result (IsLonger met.old.states.items met.new.states.items) }
+    ensures limit { met.new.limit ≡ met.old.limit }
+    ensures within { length met.old.states.items ≤ met.old.limit → length met.new.states.items ≤ met.old.limit }
+    ensures seen { IfOk result (λ is_seen. is_seen ≡ true → IsSeen met.new.states.items (past_of course)) }
 {
-    reach(&mut found.reached, scripts, &course);
-    if is_found(&found.witnesses, course.verdict()) {
-        return Ok(());
+    let key = course.key(alloc)?;
+    if let Some(at) = met.keys.get_index_of(&key) {
+        return Ok(is_at(&met.states, at, &course, scripts));
     }
-    let course = step_all(course, scripts)?;
-    match witness_of(alloc, scripts, &course)? {
-        None => Ok(()),
-        Some(witness) => add_new(scripts, witness, &mut found.witnesses),
-    }
-}
-
-impl Search {
-    // Keeps the state of a course for later, if it is new; behind the limit it is left out.
-    fn keep(&mut self, alloc: Global, course: &Course) -> Result<(), NoMemory> {
-        let key = course.key(alloc)?;
-        if self.seen.contains(&key) {
-            return Ok(());
-        }
-        if self.seen.len() >= self.limit {
-            self.is_cut = true;
-            return Ok(());
-        }
-        let schedule = course.schedule(alloc)?;
-        self.seen.insert(key)?;
-        self.left.push(schedule)?;
-        Ok(())
-    }
-}
-
-// Takes a course that was reached: notes its verdict where the case is over, else keeps its state.
-fn offer(
-    alloc: Global,
-    scripts: &[Script],
-    course: Course,
-    search: &mut Search,
-    found: &mut Findings,
-) -> Result<(), NoMemory>
-    requires few { length scripts.now ≤ BEHAVIOURS }
-    requires on { IsOn scripts.now course }
-    requires found { IsNoted scripts.now found.old }
-    ensures { IsNoted scripts.now found.new }
-{
-    if course.is_over() {
-        return note(alloc, scripts, course, found);
-    }
-    reach(&mut found.reached, scripts, &course);
-    search.keep(alloc, &course)
-}
-
-// Makes a move, and answers whether it could be made: a wait is not made while its target does not hold.
-fn go(
-    alloc: Global,
-    scripts: &[Script],
-    course: Course,
-    way: Move,
-    search: &mut Search,
-    found: &mut Findings,
-) -> Result<bool, NoMemory>
-    requires few { length scripts.now ≤ BEHAVIOURS }
-    requires on { IsOn scripts.now course }
-    requires found { IsNoted scripts.now found.old }
-    ensures { IsNoted scripts.now found.new }
-{
-    let course = with_before(course, scripts, way.before)?;
-    let course = with_quiet(course, scripts, way.run, WORST)?;
-    let Some(op) = next_call(&course, scripts, way.run) else {
-        return Ok(false);
-    };
-    if matches!(course.would(way.run, &op), Reply::Parked) {
+    if met.states.len() >= met.limit || !is_same(&course, &course, scripts) {
         return Ok(false);
     }
-    let course = with_victims(course, scripts, way.run, way.most)?;
-    let course = step(course, scripts, way.run)?;
-    offer(alloc, scripts, course, search, found)?;
+    met.keys.insert(key)?;
+    met.states.push(course)?;
     Ok(true)
 }
 
-// Makes these moves from a course, and answers whether one could be made.
-fn go_all(
+// The course with one more call; the course itself is kept.
+#[tactic(auto, using(crate::proofs::Closed::closed_rules, crate::proofs::Turning::turn_rules))]
+fn with_call(
     alloc: Global,
     scripts: &[Script],
     course: &Course,
-    moves: &[Move],
-    search: &mut Search,
+    run: Run,
+    op: Op,
+) -> Result<Course, NoMemory>
+    requires on { IsOn scripts.now course.now }
+    requires turn { IsNext scripts.now course.now run op }
+    ensures on { IfOk result (λ c. IsOn scripts.now c) }
+    ensures added { IfOk result (λ c. past_of c ≡ going.taken course.now.behaviours (past_of course.now) run op ∷ past_of course.now) }
+{
+    course.copied(alloc)?.with(run, op)
+}
+
+// Makes a call, and answers whether what it leads to is seen, or its verdict is found.
+#[tactic(auto, using(crate::proofs::Closed::closed_rules, crate::proofs::Seeing::seeing_rules))]
+fn after_call(
+    alloc: Global,
+    scripts: &[Script],
+    course: &Course,
+    run: Run,
+    op: Op,
+    met: &mut Met,
     found: &mut Findings,
 ) -> Result<bool, NoMemory>
+    requires some { 1 ≤ length scripts.now }
     requires few { length scripts.now ≤ BEHAVIOURS }
     requires on { IsOn scripts.now course.now }
+    requires turn { IsNext scripts.now course.now run op }
+    requires states { All (λ t. IsOn scripts.now t) met.old.states.items }
     requires found { IsNoted scripts.now found.old }
-    ensures { IsNoted scripts.now found.new }
-{
-    let mut any = false;
-    for way in moves {
-        let next = course.copied(alloc)?;
-        if go(alloc, scripts, next, *way, search, found)? {
-            any = true;
-        }
-    }
-    Ok(any)
-}
-
-/// The end of a case in which no run can go on: all wait, and the main component's Wake is a dynamic error.
-pub(crate) fn with_stuck(course: Course, scripts: &[Script]) -> Result<Course, NoMemory>
-    requires few { length scripts.now ≤ BEHAVIOURS }
-    requires on { IsOn scripts.now course }
-    ensures { IfOk result (IsOn scripts.now) }
-{
-    let mut course = with_before(course, scripts, Before::All)?;
-    for run in 0..scripts.len() as u16 {
-        if course.comp_of(Run(run)).is_some() {
-            course = with_next(course, scripts, Run(run))?;
-        }
-    }
-    step(course, scripts, Run(0))
-}
-
-// Looks at a state: makes each of its moves, or ends the case where there is none.
-fn expand(
-    alloc: Global,
-    scripts: &[Script],
-    schedule: &[u16],
-    search: &mut Search,
-    found: &mut Findings,
-) -> Result<(), NoMemory>
-    requires some { 1 ≤ length scripts.now }
-    requires few { length scripts.now ≤ BEHAVIOURS }
-    requires found { IsNoted scripts.now found.old }
-    ensures { IsNoted scripts.now found.new }
-{
-    let course = follow(alloc, scripts, schedule)?;
-    let moves = moves_of(alloc, &course, scripts)?;
-    if go_all(alloc, scripts, &course, &moves, search, found)? {
-        return Ok(());
-    }
-    let course = with_stuck(course, scripts)?;
-    note(alloc, scripts, course, found)
-}
-
-// Looks at states until none is left, or so many were looked at; it answers how many were.
-fn look(
-    alloc: Global,
-    scripts: &[Script],
-    limit: usize,
-    search: &mut Search,
-    found: &mut Findings,
-) -> Result<usize, NoMemory>
-    requires some { 1 ≤ length scripts.now }
-    requires few { length scripts.now ≤ BEHAVIOURS }
-    requires found { IsNoted scripts.now found.old }
-    ensures found { IsNoted scripts.now found.new }
-    ensures within { IfOk result (λ states. states ≤ limit) }
-{
-    for states in 0..limit {
-        let Some(schedule) = search.left.pop() else {
-            return Ok(states);
-        };
-        expand(alloc, scripts, &schedule, search, found)?;
-    }
-    Ok(limit)
-}
-
-// Looks for the overall verdicts that the courses of a test case give, and notes each with a complete course that gives it.
-fn search_in(
-    alloc: Global,
-    scripts: &[Script],
-    search: &mut Search,
-    found: &mut Findings,
-) -> Result<Extent, NoMemory>
-    requires some { 1 ≤ length scripts.now }
-    requires few { length scripts.now ≤ BEHAVIOURS }
-    requires found { IsNoted scripts.now found.old }
+    ensures states { OnOk result (All (λ t. IsOn scripts.now t) met.new.states.items) }
+    ensures more_states { OnOk result (IsLonger met.old.states.items met.new.states.items) }
     ensures found { OnOk result (IsNoted scripts.now found.new) }
-    ensures within { IfOk result (λ e. e.states ≤ search.old.limit) }
-    ensures cut { IfOk result (λ e. e.is_whole ≡ false → e.states ≡ search.old.limit) }
+    ensures more_found { OnOk result (IsLonger found.old.witnesses.items found.new.witnesses.items) }
+    ensures closed { IfOk result (λ is_closed. is_closed ≡ true → IsCallClosed scripts.now met.new found.new course.now run op) }
 {
-    let limit = search.limit;
-    let opening = follow(alloc, scripts, &[])?;
-    search.keep(alloc, &opening)?;
-    let states = look(alloc, scripts, limit, search, found)?;
-    Ok(Extent {
-        states,
-        is_whole: states < limit || (search.left.is_empty() && !search.is_cut),
+    let next = with_call(alloc, scripts, course, run, op)?;
+    if next.is_over() {
+        let verdict = next.verdict();
+        note(alloc, scripts, next, found)?;
+        return Ok(is_found(&found.witnesses, verdict));
+    }
+    let calm = calmed(next, scripts)?;
+    reach(&mut found.reached, scripts, &calm);
+    let is_seen = place(alloc, scripts, calm, met)?;
+    Ok(is_seen)
+}
+
+// Whether a call is an error, or changes something.
+fn is_loud(course: &Course, run: Run, op: &Op) -> bool
+    ensures { IsTrue result → moves.IsLoud course.now.behaviours (past_of course.now) run.0 op.now }
+{
+    if course.would(run, op).is_fault() {
+        return true;
+    }
+    !is_spent(course, op)
+}
+
+// What is known of the calls of a run, or of all: what they lead to is seen, and one that is no error goes on.
+#[derive(Clone, Copy)]
+struct Tried {
+    is_closed: bool,
+    goes_on: bool,
+}
+
+// Makes the next call of a run.
+#[tactic(auto, using(crate::proofs::Closed::run_rules, crate::proofs::Seeing::seeing_rules))]
+fn try_run(
+    alloc: Global,
+    scripts: &[Script],
+    course: &Course,
+    run: Run,
+    met: &mut Met,
+    found: &mut Findings,
+) -> Result<Tried, NoMemory>
+    requires few { length scripts.now ≤ BEHAVIOURS }
+    requires within { run.0 < length scripts.now }
+    requires on { IsOn scripts.now course.now }
+    requires states { All (λ t. IsOn scripts.now t) met.old.states.items }
+    requires found { IsNoted scripts.now found.old }
+    ensures states { OnOk result (All (λ t. IsOn scripts.now t) met.new.states.items) }
+    ensures more_states { OnOk result (IsLonger met.old.states.items met.new.states.items) }
+    ensures found { OnOk result (IsNoted scripts.now found.new) }
+    ensures more_found { OnOk result (IsLonger found.old.witnesses.items found.new.witnesses.items) }
+    ensures closed { IfOk result (λ t. t.is_closed ≡ true → IsRunOfClosed scripts.now met.new found.new course.now run.0) }
+    ensures goes_on { IfOk result (λ t. t.goes_on ≡ true → moves.GoesOn scripts.now (past_of course.now)) }
+{
+    let Some(op) = next_call(course, scripts, run) else {
+        return Ok(Tried {
+            is_closed: true,
+            goes_on: false,
+        });
+    };
+    let reply = course.would(run, &op);
+    if !has_gone_on(reply) {
+        return Ok(Tried {
+            is_closed: true,
+            goes_on: false,
+        });
+    }
+    if !is_loud(course, run, &op) {
+        return Ok(Tried {
+            is_closed: false,
+            goes_on: false,
+        });
+    }
+    let is_closed = after_call(alloc, scripts, course, run, op, met, found)?;
+    Ok(Tried {
+        is_closed,
+        goes_on: !reply.is_fault(),
     })
 }
 
-/// Looks for the overall verdicts that the courses of a test case give, and notes each with a complete course that gives it.
-/// It looks at so many states at most, and keeps no more.
-pub(crate) fn search_reduced(
+// Makes the next call of each run.
+#[tactic(auto, using(crate::proofs::Closed::runs_rules, crate::proofs::Seeing::seeing_rules))]
+fn try_runs(
+    alloc: Global,
+    scripts: &[Script],
+    course: &Course,
+    met: &mut Met,
+    found: &mut Findings,
+) -> Result<Tried, NoMemory>
+    requires few { length scripts.now ≤ BEHAVIOURS }
+    requires on { IsOn scripts.now course.now }
+    requires states { All (λ t. IsOn scripts.now t) met.old.states.items }
+    requires found { IsNoted scripts.now found.old }
+    ensures states { OnOk result (All (λ t. IsOn scripts.now t) met.new.states.items) }
+    ensures more_states { OnOk result (IsLonger met.old.states.items met.new.states.items) }
+    ensures found { OnOk result (IsNoted scripts.now found.new) }
+    ensures more_found { OnOk result (IsLonger found.old.witnesses.items found.new.witnesses.items) }
+    ensures closed { IfOk result (λ t. t.is_closed ≡ true → AreRunsClosed scripts.now met.new found.new course.now (length scripts.now)) }
+    ensures goes_on { IfOk result (λ t. t.goes_on ≡ true → moves.GoesOn scripts.now (past_of course.now)) }
+{
+    let mut is_closed = true;
+    let mut goes_on = false;
+    for run in 0..scripts.len() as u16 {
+        let tried = try_run(alloc, scripts, course, Run(run), met, found)?;
+        is_closed = is_closed && tried.is_closed;
+        goes_on = goes_on || tried.goes_on;
+    }
+    Ok(Tried { is_closed, goes_on })
+}
+
+// Looks at the state of a course: makes the next call of each run, or ends the case where none goes on. It answers whether
+// what comes after the state is seen, or found.
+#[tactic(auto, using(crate::proofs::States::state_rules, crate::proofs::Closed::runs_rules, crate::proofs::Seeing::seeing_rules))]
+fn expand_course(
+    alloc: Global,
+    scripts: &[Script],
+    course: &Course,
+    met: &mut Met,
+    found: &mut Findings,
+) -> Result<bool, NoMemory>
+    requires some { 1 ≤ length scripts.now }
+    requires few { length scripts.now ≤ BEHAVIOURS }
+    requires on { IsOn scripts.now course.now }
+    requires states { All (λ t. IsOn scripts.now t) met.old.states.items }
+    requires found { IsNoted scripts.now found.old }
+    ensures states { OnOk result (All (λ t. IsOn scripts.now t) met.new.states.items) }
+    ensures more_states { OnOk result (IsLonger met.old.states.items met.new.states.items) }
+    ensures found { OnOk result (IsNoted scripts.now found.new) }
+    ensures more_found { OnOk result (IsLonger found.old.witnesses.items found.new.witnesses.items) }
+    ensures closed { IfOk result (λ is_closed. is_closed ≡ true → IsCaseClosed scripts.now met.new found.new course.now) }
+{
+    if course.is_over() || !course.is_active(Run(0)) || course.has_left(Run(0)) {
+        return Ok(false);
+    }
+    let tried = try_runs(alloc, scripts, course, met, found)?;
+    if !tried.is_closed {
+        return Ok(false);
+    }
+    if tried.goes_on {
+        return Ok(true);
+    }
+    let stuck = with_stuck(course.copied(alloc)?, scripts)?;
+    note(alloc, scripts, stuck, found)?;
+    Ok(is_found(&found.witnesses, Verdict::Error))
+}
+
+// Looks at the state at this place.
+#[tactic(auto, using(crate::proofs::States::place_rules, crate::proofs::Seeing::seeing_rules))]
+fn expand(
+    alloc: Global,
+    scripts: &[Script],
+    at: usize,
+    met: &mut Met,
+    found: &mut Findings,
+) -> Result<bool, NoMemory>
+    requires some { 1 ≤ length scripts.now }
+    requires few { length scripts.now ≤ BEHAVIOURS }
+    requires within { at < length met.old.states.items }
+    requires states { All (λ t. IsOn scripts.now t) met.old.states.items }
+    requires found { IsNoted scripts.now found.old }
+    ensures states { OnOk result (All (λ t. IsOn scripts.now t) met.new.states.items) }
+    ensures more_states { OnOk result (IsLonger met.old.states.items met.new.states.items) }
+    ensures found { OnOk result (IsNoted scripts.now found.new) }
+    ensures more_found { OnOk result (IsLonger found.old.witnesses.items found.new.witnesses.items) }
+    ensures closed { IfOk result (λ is_closed. is_closed ≡ true → IsClosedAt scripts.now met.new.states.items found.new.witnesses.items at) }
+{
+    let course = met.states[at].copied(alloc)?;
+    let is_closed = expand_course(alloc, scripts, &course, met, found);
+    drop(course);
+    is_closed
+}
+
+// Looks at all states, at most so many.
+#[tactic(auto, using(crate::proofs::States::loop_rules, crate::proofs::Closed::longer_then, crate::proofs::Seeing::seeing_rules))]
+fn expand_all(
+    alloc: Global,
+    scripts: &[Script],
+    limit: usize,
+    met: &mut Met,
+    found: &mut Findings,
+) -> Result<Extent, NoMemory>
+    requires some { 1 ≤ length scripts.now }
+    requires few { length scripts.now ≤ BEHAVIOURS }
+    requires states { All (λ t. IsOn scripts.now t) met.old.states.items }
+    requires found { IsNoted scripts.now found.old }
+    ensures more_states { OnOk result (IsLonger met.old.states.items met.new.states.items) }
+    ensures found { OnOk result (IsNoted scripts.now found.new) }
+    ensures closed { IfOk result (λ e. e.is_whole ≡ true → AreClosed scripts.now met.new.states.items found.new.witnesses.items) }
+    ensures within { IfOk result (λ e. e.states ≤ limit) }
+{
+    let mut is_closed = true;
+    for at in 0..limit {
+        if at >= met.states.len() {
+            return Ok(Extent {
+                states: at,
+                is_whole: is_closed,
+            });
+        }
+        let is_one_closed = expand(alloc, scripts, at, met, found)?;
+        is_closed = is_closed && is_one_closed;
+    }
+    Ok(Extent {
+        states: limit,
+        is_whole: is_closed && limit >= met.states.len(),
+    })
+}
+
+// Makes the calls of all runs from each state that is met, within a limit, where none was met.
+#[tactic(auto, using(crate::proofs::States::complete_by, crate::proofs::Turning::turn_rules, crate::proofs::Seeing::seeing_rules))]
+fn search_in(
+    alloc: Global,
+    scripts: &[Script],
+    met: &mut Met,
+    found: &mut Findings,
+) -> Result<Extent, NoMemory>
+    requires some { 1 ≤ length scripts.now }
+    requires few { length scripts.now ≤ BEHAVIOURS }
+    requires none { met.old.states.items ≡ [] }
+    requires found { IsNoted scripts.now found.old }
+    ensures found { OnOk result (IsNoted scripts.now found.new) }
+    ensures complete { IfOk result (λ e. e.is_whole ≡ true → AllFound scripts.now found.new.witnesses.items) }
+    ensures within { IfOk result (λ e. e.states ≤ met.old.limit) }
+{
+    let limit = met.limit;
+    let opening = Course::opening(alloc, scripts.len() as u16)?;
+    let calm = calmed(opening, scripts)?;
+    reach(&mut found.reached, scripts, &calm);
+    if !place(alloc, scripts, calm, met)? {
+        return Ok(Extent {
+            states: 0,
+            is_whole: false,
+        });
+    }
+    let extent = expand_all(alloc, scripts, limit, met, found)?;
+    Ok(extent)
+}
+
+/// Makes the calls of all runs from each state that is met, within a limit. Where it comes to its end the verdict of each
+/// complete course is found.
+#[tactic(auto, using(crate::proofs::States::complete_by, crate::proofs::Turning::turn_rules, crate::proofs::Seeing::seeing_rules))]
+pub(crate) fn search_all(
     alloc: Global,
     scripts: &[Script],
     limit: usize,
@@ -280,16 +365,15 @@ pub(crate) fn search_reduced(
     requires few { length scripts.now ≤ BEHAVIOURS }
     requires found { IsNoted scripts.now found.old }
     ensures found { OnOk result (IsNoted scripts.now found.new) }
+    ensures complete { IfOk result (λ e. e.is_whole ≡ true → AllFound scripts.now found.new.witnesses.items) }
     ensures within { IfOk result (λ e. e.states ≤ limit) }
-    ensures cut { IfOk result (λ e. e.is_whole ≡ false → e.states ≡ limit) }
 {
-    let mut search = Search {
-        seen: IndexSet::new(alloc),
-        left: Vec::new(alloc),
+    let mut met = Met {
+        states: Vec::new(alloc),
+        keys: IndexSet::new(alloc),
         limit,
-        is_cut: false,
     };
-    let extent = search_in(alloc, scripts, &mut search, found);
-    drop(search);
+    let extent = search_in(alloc, scripts, &mut met, found);
+    drop(met);
     extent
 }

@@ -5,14 +5,13 @@ ghost use Rattle.tc_explore.specs.Waits.{awaited_by};
 
 use crate::call::call_at;
 use crate::entries::{arguments, ends, is_wake, wake_after};
-use crate::quiet::is_quiet;
 use crate::same::{are_same, comp_number};
 use std::alloc::Global;
 use std::marker::Model;
 use tc_entry::{Comp, Entry, Op};
 use tc_step::Step;
 use tc_table::{Awaited, created, started_on};
-use tc_verdict::{NoMemory, rank};
+use tc_verdict::NoMemory;
 
 /// What is known of a run by the entries so far.
 #[derive(Drop)]
@@ -168,41 +167,6 @@ impl Standing {
         if self.left { None } else { self.comp }
     }
 
-    /// The next call that is not quiet.
-    pub(crate) fn loud_turn(&self, steps: &[Step], run: u16) -> Option<Op> {
-        let me = self.comp()?;
-        if let Some(wake) = &self.wake {
-            return Some(wake.copy());
-        }
-        for at in self.called..steps.len() {
-            let op = call_at(me, &self.bound, steps, at);
-            if !is_quiet(&op, run) {
-                return Some(op);
-            }
-        }
-        Some(Op::Finish)
-    }
-
-    /// Whether a setting of this rank stands among the quiet calls before the next other one.
-    pub(crate) fn may_set(&self, steps: &[Step], run: u16, value: u64) -> bool {
-        let Some(me) = self.comp() else {
-            return false;
-        };
-        if self.wake.is_some() {
-            return false;
-        }
-        for at in self.called..steps.len() {
-            let op = call_at(me, &self.bound, steps, at);
-            if !is_quiet(&op, run) {
-                return false;
-            }
-            if is_setting(&op, value) {
-                return true;
-            }
-        }
-        false
-    }
-
     /// All that what the run can still call depends on, as numbers; of one that is halted its component.
     pub(crate) fn add_key(&self, key: &mut Vec<u16>, goes_on: bool) -> Result<(), NoMemory> {
         let Some(comp) = self.comp else {
@@ -235,11 +199,3 @@ const NOT_STARTED: u16 = 65_535;
 const HALTED: u16 = 65_534;
 
 const END_OF_BOUND: u16 = 65_533;
-
-// Whether the call sets a verdict of this rank.
-fn is_setting(op: &Op, value: u64) -> bool {
-    match op {
-        Op::SetVerdict(setting) => rank(*setting) == value,
-        _ => false,
-    }
-}

@@ -1,17 +1,11 @@
-//! The text of a step.
-ghost use Rattle.std.specs.Prelude.{◌≡◌, ◌++◌, OnOk};
-ghost use Rattle.std.specs.List.{flat_map};
-ghost use Rattle.tc_explore.specs.Steps as words;
-
+//! The words of a step: as a script spells it, but that components go by their place, and behaviours by their run.
 use tc_entry::Name;
 use tc_step::{GroupPlace, Place, Status, Step, TargetPlace};
 use tc_text::{append_number, append_text};
 use tc_verdict::{NoMemory, Run, from_user, name as name_of};
 
 // Appends a component behind a space; where memory is refused, a part of it.
-fn append_place(out: &mut Vec<u8>, place: Place) -> Result<(), NoMemory>
-    ensures { OnOk result (out.new.items ≡ out.old.items ++ words.place_words place) }
-{
+fn append_place(out: &mut Vec<u8>, place: Place) -> Result<(), NoMemory> {
     match place {
         Place::Main => append_text(out, " mtc"),
         Place::Own => append_text(out, " self"),
@@ -23,9 +17,7 @@ fn append_place(out: &mut Vec<u8>, place: Place) -> Result<(), NoMemory>
 }
 
 // Appends components, each behind a space; where memory is refused, a part of them.
-fn append_places(out: &mut Vec<u8>, places: &[Place]) -> Result<(), NoMemory>
-    ensures { OnOk result (out.new.items ≡ out.old.items ++ flat_map words.place_words places.now) }
-{
+fn append_places(out: &mut Vec<u8>, places: &[Place]) -> Result<(), NoMemory> {
     for place in places {
         append_place(out, *place)?;
     }
@@ -33,9 +25,7 @@ fn append_places(out: &mut Vec<u8>, places: &[Place]) -> Result<(), NoMemory>
 }
 
 // Appends which components are stopped or killed; where memory is refused, a part of it.
-fn append_group(out: &mut Vec<u8>, group: GroupPlace) -> Result<(), NoMemory>
-    ensures { OnOk result (out.new.items ≡ out.old.items ++ words.group_words group) }
-{
+fn append_group(out: &mut Vec<u8>, group: GroupPlace) -> Result<(), NoMemory> {
     match group {
         GroupPlace::One(place) => append_place(out, place),
         GroupPlace::All => append_text(out, " all"),
@@ -43,9 +33,7 @@ fn append_group(out: &mut Vec<u8>, group: GroupPlace) -> Result<(), NoMemory>
 }
 
 // Appends which components are asked about or waited for; where memory is refused, a part of it.
-fn append_target(out: &mut Vec<u8>, target: TargetPlace) -> Result<(), NoMemory>
-    ensures { OnOk result (out.new.items ≡ out.old.items ++ words.target_words target) }
-{
+fn append_target(out: &mut Vec<u8>, target: TargetPlace) -> Result<(), NoMemory> {
     match target {
         TargetPlace::One(place) => append_place(out, place),
         TargetPlace::Any => append_text(out, " any"),
@@ -54,9 +42,7 @@ fn append_target(out: &mut Vec<u8>, target: TargetPlace) -> Result<(), NoMemory>
 }
 
 // The word that asks for a status.
-fn status_word(status: Status) -> &'static str
-    ensures { result.now ≡ words.status_words status }
-{
+fn status_word(status: Status) -> &'static str {
     match status {
         Status::Running => "running",
         Status::Alive => "alive",
@@ -66,23 +52,17 @@ fn status_word(status: Status) -> &'static str
 }
 
 // The words that wait.
-fn wait_words(killed: bool) -> &'static str
-    ensures { result.now ≡ words.wait_words killed }
-{
+fn wait_words(killed: bool) -> &'static str {
     if killed { "wait killed" } else { "wait done" }
 }
 
 // The word of an alive-type component.
-fn alive_word(alive: bool) -> &'static str
-    ensures { result.now ≡ words.alive_words alive }
-{
+fn alive_word(alive: bool) -> &'static str {
     if alive { " alive" } else { "" }
 }
 
 // Appends the name of a component in the report, if there is one; where memory is refused, a part of it.
-fn append_named(out: &mut Vec<u8>, name: &Option<Name>) -> Result<(), NoMemory>
-    ensures { OnOk result (out.new.items ≡ out.old.items ++ words.named_words name.now) }
-{
+fn append_named(out: &mut Vec<u8>, name: &Option<Name>) -> Result<(), NoMemory> {
     if let Some(name) = name {
         append_text(out, " named ")?;
         out.extend_from_slice(name.bytes())?;
@@ -91,10 +71,7 @@ fn append_named(out: &mut Vec<u8>, name: &Option<Name>) -> Result<(), NoMemory>
 }
 
 // Appends a start; where memory is refused, a part of it.
-#[tactic(auto, unfolding(crate::specs::Steps::start_words))]
-fn append_start(out: &mut Vec<u8>, on: Place, run: Run, args: &[Place]) -> Result<(), NoMemory>
-    ensures { OnOk result (out.new.items ≡ out.old.items ++ words.start_words on run.0 args.now) }
-{
+fn append_start(out: &mut Vec<u8>, on: Place, run: Run, args: &[Place]) -> Result<(), NoMemory> {
     append_text(out, "start")?;
     append_place(out, on)?;
     append_text(out, " run ")?;
@@ -103,9 +80,7 @@ fn append_start(out: &mut Vec<u8>, on: Place, run: Run, args: &[Place]) -> Resul
 }
 
 /// Appends a step. Where memory is refused, a part of it.
-pub(crate) fn append_step(out: &mut Vec<u8>, step: &Step) -> Result<(), NoMemory>
-    ensures { OnOk result (out.new.items ≡ out.old.items ++ words.step_words step.now) }
-{
+pub(crate) fn append_step(out: &mut Vec<u8>, step: &Step) -> Result<(), NoMemory> {
     match step {
         Step::Create { alive, name } => {
             append_text(out, "create")?;

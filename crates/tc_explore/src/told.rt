@@ -74,11 +74,11 @@ fn append_verdicts(out: &mut Vec<u8>, found: &[Witness]) -> Result<(), NoMemory>
     append_verdict(out, found, Verdict::Error)
 }
 
-// Appends a number of states behind these words; where memory is refused, a part of it.
-fn append_states(out: &mut Vec<u8>, words: &str, states: usize) -> Result<(), NoMemory>
-    ensures { OnOk result (out.new.items ≡ out.old.items ++ told.states_words words.now states) }
+// Appends after how many states the search ended; where memory is refused, a part of it.
+fn append_states(out: &mut Vec<u8>, states: usize) -> Result<(), NoMemory>
+    ensures { OnOk result (out.new.items ≡ out.old.items ++ told.states_words states) }
 {
-    append_text(out, words)?;
+    append_text(out, " undecided after ")?;
     append_number(out, states as u64)?;
     append_text(out, " states")
 }
@@ -89,8 +89,7 @@ fn append_ending(out: &mut Vec<u8>, ending: Ending, states: usize) -> Result<(),
 {
     match ending {
         Ending::Complete => append_text(out, " complete"),
-        Ending::Reduced => append_states(out, " looked at ", states),
-        Ending::Undecided => append_states(out, " undecided after ", states),
+        Ending::Undecided => append_states(out, states),
     }
 }
 
@@ -113,9 +112,7 @@ impl Explored {
         ensures { result ≡ told.explored_status self.now }
     {
         match self.ending {
-            Ending::Complete | Ending::Reduced => count_status(verdict_count(
-                self.found.as_slice(),
-            )),
+            Ending::Complete => count_status(verdict_count(self.found.as_slice())),
             Ending::Undecided => 3,
         }
     }

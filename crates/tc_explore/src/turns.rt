@@ -8,7 +8,6 @@ ghost use Rattle.tc_explore.specs.Inside.Going.{IsOn, IsNext, CannotGo};
 
 use crate::course::Course;
 use crate::entries::is_wake;
-use std::alloc::Global;
 use tc_entry::{Op, Reply};
 use tc_step::Script;
 use tc_verdict::{NoMemory, Run};
@@ -54,23 +53,6 @@ pub(crate) fn step(course: Course, scripts: &[Script], run: Run) -> Result<Cours
         None => Ok(course),
         Some(op) => course.with(run, op),
     }
-}
-
-/// The course of a schedule: who calls, one after the other. Who cannot go on is passed over.
-pub(crate) fn follow(
-    alloc: Global,
-    scripts: &[Script],
-    schedule: &[u16],
-) -> Result<Course, NoMemory>
-    requires some { 1 ≤ length scripts.now }
-    requires few { length scripts.now ≤ BEHAVIOURS }
-    ensures { IfOk result (IsOn scripts.now) }
-{
-    let mut course = Course::opening(alloc, scripts.len() as u16)?;
-    for run in schedule {
-        course = step(course, scripts, Run(*run))?;
-    }
-    Ok(course)
 }
 
 /// Each run makes one more call, in the order of their numbers, if it can go on.

@@ -1,10 +1,13 @@
 //! The steps that no course which was looked at carries out.
-ghost use Rattle.std.specs.Prelude.{◌≡◌, ◌<◌, ◌≤◌, ◌++◌, OnOk, length, slice_index_or};
+ghost use Rattle.std.specs.Prelude.{◌≡◌, ◌≤◌, OnOk, length, slice_index_or};
 ghost use Rattle.tc_entry.specs.declared.limits.TheConstants.{BEHAVIOURS};
-ghost use Rattle.tc_explore.specs.Unseen.{number_words, run_words, unseen_among, unseen_line, unseen_of, unseen_text};
+ghost use Rattle.tc_explore.specs.Shown.{Shows};
+ghost use Rattle.tc_explore.specs.Unseen.{unseen, unseen_among};
 
 use crate::course::steps_of;
+use crate::line::append_line;
 use crate::steps::append_step;
+use std::alloc::Global;
 use tc_step::{Script, Step};
 use tc_text::{append_number, append_text};
 use tc_verdict::{NoMemory, Run};
@@ -17,74 +20,58 @@ fn reached_by(reached: &[usize], run: u16) -> usize
     if at < reached.len() { reached[at] } else { 0 }
 }
 
-// Appends which run has steps that are not carried out; where memory is refused, a part of it.
-#[tactic(auto, unfolding(crate::specs::Unseen::run_words))]
-fn append_run(out: &mut Vec<u8>, run: u16) -> Result<(), NoMemory>
-    ensures { OnOk result (out.new.items ≡ out.old.items ++ run_words run) }
-{
-    append_text(out, "  not seen: run ")?;
-    append_number(out, u64::from(run))?;
-    Ok(())
-}
-
-// Appends the number of a step behind so many others; where memory is refused, a part of it.
-#[tactic(auto, unfolding(crate::specs::Unseen::number_words))]
-fn append_number_of(out: &mut Vec<u8>, before: u64, steps: u64) -> Result<(), NoMemory>
-    requires { before < steps }
-    ensures { OnOk result (out.new.items ≡ out.old.items ++ number_words before steps) }
-{
-    append_text(out, " from step ")?;
-    append_number(out, before + 1)?;
-    append_text(out, " of ")?;
-    append_number(out, steps)?;
-    Ok(())
-}
-
-// Appends the line of a run whose first step that is not carried out is this; where memory is refused, a part of it.
-#[tactic(auto, unfolding(crate::specs::Unseen::unseen_line))]
-fn append_unseen_line(
+// Appends the number of a step behind so many others, and the step; where memory is refused, a part of it.
+fn append_words(
     out: &mut Vec<u8>,
     run: u16,
-    before: u64,
-    steps: u64,
+    before: usize,
+    steps: usize,
     step: &Step,
-) -> Result<(), NoMemory>
-    requires { before < steps }
-    ensures { OnOk result (out.new.items ≡ out.old.items ++ unseen_line run before steps step.now) }
-{
-    append_run(out, run)?;
-    append_number_of(out, before, steps)?;
+) -> Result<(), NoMemory> {
+    append_text(out, "not seen: run ")?;
+    append_number(out, u64::from(run))?;
+    append_text(out, " from step ")?;
+    append_number(out, (before as u64).saturating_add(1))?;
+    append_text(out, " of ")?;
+    append_number(out, steps as u64)?;
     append_text(out, " on: ")?;
-    append_step(out, step)?;
-    out.push(b'\n')?;
-    Ok(())
+    append_step(out, step)
 }
 
 // Appends the line of a run, if one of its steps is not carried out; where memory is refused, a part of it.
-#[tactic(auto, unfolding(crate::specs::Unseen::unseen_among))]
-fn append_among(out: &mut Vec<u8>, run: u16, before: usize, steps: &[Step]) -> Result<(), NoMemory>
-    ensures { OnOk result (out.new.items ≡ out.old.items ++ unseen_among run before steps.now) }
+#[tactic(auto, unfolding(crate::specs::Unseen::unseen_among), using(crate::proofs::Showing::show_rules))]
+fn append_among(
+    alloc: Global,
+    out: &mut Vec<u8>,
+    run: u16,
+    before: usize,
+    steps: &[Step],
+) -> Result<(), NoMemory>
+    ensures { OnOk result (Shows (unseen_among run before steps.now) out.old.items out.new.items) }
 {
     if before >= steps.len() {
         return Ok(());
     }
-    append_unseen_line(out, run, before as u64, steps.len() as u64, &steps[before])
+    let mut words = Vec::new(alloc);
+    append_words(&mut words, run, before, steps.len(), &steps[before])?;
+    append_line(out, words.as_slice())
 }
 
 /// Appends the lines of the runs of which some steps are carried out in no course that was looked at. Where memory is refused,
 /// a part of them.
-#[tactic(auto, unfolding(crate::specs::Unseen::unseen_text), using(crate::proofs::Telling::numbers_more))]
+#[tactic(auto, unfolding(crate::specs::Unseen::unseen), using(crate::proofs::Showing::show_rules))]
 pub(crate) fn append_unseen(
+    alloc: Global,
     out: &mut Vec<u8>,
     scripts: &[Script],
     reached: &[usize],
 ) -> Result<(), NoMemory>
     requires few { length scripts.now ≤ BEHAVIOURS }
-    ensures { OnOk result (out.new.items ≡ out.old.items ++ unseen_text scripts.now reached.now) }
+    ensures { OnOk result (Shows (unseen scripts.now reached.now) out.old.items out.new.items) }
 {
     for run in 0..scripts.len() as u16 {
         let before = reached_by(reached, run);
-        append_among(out, run, before, steps_of(scripts, Run(run)))?;
+        append_among(alloc, out, run, before, steps_of(scripts, Run(run)))?;
     }
     Ok(())
 }

@@ -365,7 +365,7 @@ fn a_search_ends_at_its_limit(rt: HostRuntime) -> Result<(), Fail> {
         (0, Ending::Undecided, Some(0)),
         (1, Ending::Undecided, Some(1)),
         (2, Ending::Undecided, Some(2)),
-        (3, Ending::Reduced, None),
+        (3, Ending::Undecided, Some(3)),
     ];
     end_within(&rt, rt.alloc(), scripts.as_slice(), rows.as_slice())
 }
@@ -390,7 +390,7 @@ fn a_large_test_case_has_fewer_states(rt: HostRuntime) -> Result<(), Fail> {
         (24, Ending::Undecided, Some(0)),
         (25, Ending::Undecided, Some(1)),
         (74, Ending::Undecided, Some(2)),
-        (75, Ending::Reduced, None),
+        (75, Ending::Undecided, Some(3)),
     ];
     end_within(&rt, rt.alloc(), scripts.as_slice(), rows.as_slice())
 }
@@ -505,7 +505,7 @@ fn race_is_told<R: Abort>(rt: &R, alloc: Global) -> Result<(), Fail> {
     let race = race(rt, alloc)?;
     let rows = [
         (MANY, "t none fail complete\n", 1),
-        (3, "t none fail looked at 3 states\n", 1),
+        (3, "t none undecided after 3 states\n", 3),
         (0, "t undecided after 0 states\n", 3),
     ];
     for (limit, line, status) in rows {

@@ -4,7 +4,8 @@ use Rattle.std.specs.List.{AllZip, flat_map, list_any}
 use Rattle.tc_script.specs.Campaign.{CampaignView, campaign}
 use Rattle.tc_step.specs.Steps.{ScriptView}
 use Rattle.tc_explore.specs.declared.explored.Explored.{Explored}
-use Rattle.tc_explore.specs.Details.{details_text}
+use Rattle.tc_explore.specs.Details.{details as of_details}
+use Rattle.tc_explore.specs.Shown.{Shown, Shows}
 use Rattle.tc_explore.specs.Found.{AreWitnesses, AreLegal, AreReached}
 use Rattle.tc_explore.specs.Laws.{AllFound}
 use Rattle.tc_explore.specs.declared.explored.Ending.TheVariants as E
@@ -13,8 +14,8 @@ use Rattle.tc_program.specs.declared.explore.ExploredCase.{ExploredCase}
 use Rattle.tc_program.specs.Scripted.{CaseView, scripts_of}
 
 -- the details of a test case with these scripts, where they are asked for
-abbrev pub details_if : Bool → List ScriptView → Explored → List ℕ
-details_if true scripts e = details_text scripts e
+abbrev pub details_if : Bool → List ScriptView → Explored → List Shown
+details_if true scripts e = of_details scripts e
 details_if false scripts e = []
 
 -- a test case was explored, and each verdict that was found has a witness: a complete course of its scripts, which is legal;
@@ -28,7 +29,7 @@ pub record IsExplored (details : Bool) (states : ℕ) (c : CaseView) (e : Explor
   pub complete : e.explored.ending ≡ E.Complete → AllFound (scripts_of c.1) e.explored.found
   pub reached : AreReached (scripts_of c.1) e.explored.reached
   pub within : e.explored.states ≤ states
-  pub details_are : e.details ≡ details_if details (scripts_of c.1) e.explored
+  pub details_are : Shows (details_if details (scripts_of c.1) e.explored) [] e.details
 
 -- what is written of a test case: its line and its details, or the histories of its witnesses
 abbrev pub told_of : Bool → ExploredCase → List ℕ

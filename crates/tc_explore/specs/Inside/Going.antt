@@ -1,5 +1,5 @@
 -- What only the code of the search needs: no public clause rests on a word of this file.
-use Rattle.std.specs.Prelude.{ℕ, ◌==◌, List, ◌≡◌, ◌<◌, length, slice_index_or, ◌++◌, Result, OnOk, if◌then◌else◌}
+use Rattle.std.specs.Prelude.{ℕ, ◌==◌, List, ◌≡◌, ◌<◌, length, slice_index_or, if◌then◌else◌}
 use Rattle.tc_verdict.specs.declared.run.Run.{Run}
 use Rattle.tc_entry.specs.declared.entry.Entry.{Entry}
 use Rattle.tc_entry.specs.declared.op.Op.{Op}
@@ -9,7 +9,6 @@ use Rattle.tc_step.specs.Steps.{ScriptView}
 use Rattle.tc_table.specs.Case.{Case, past_of}
 use Rattle.tc_explore.specs.declared.witness.Witness.{Witness}
 use Rattle.tc_explore.specs.Found.{AreWitnesses, IsOnce}
-use Rattle.tc_table.specs.Standing.{Kept, StandsFor}
 
 -- what is known of run b after one more entry where it is run r, and else what was known of it
 abbrev pub next_for : ℕ → Entry → ℕ → Stand → Stand
@@ -61,7 +60,3 @@ CountsOn e before after =
 pub record AreNoted (scripts : List ScriptView) (found : List Witness) : Type 0 where
   pub sound : AreWitnesses scripts found
   pub once : IsOnce found
-
--- where the state stands for past entries, their text is appended
-abbrev pub AppendsBy : {A E : Type 0} → Result A E → Kept → (List ℕ) → (List ℕ) → (List Entry → List ℕ) → Type 0
-AppendsBy result state before after text = (past : List Entry) → StandsFor state past → OnOk result (after ≡ before ++ text past)

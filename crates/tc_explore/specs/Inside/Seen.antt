@@ -15,7 +15,7 @@ use Rattle.tc_table.specs.Faults.{components}
 use Rattle.tc_table.specs.Answers.{is_active}
 use Rattle.tc_explore.specs.declared.witness.Witness.{Witness}
 use Rattle.tc_explore.specs.declared.findings.Findings.{Findings}
-use Rattle.tc_explore.specs.declared.full.Full.{Full}
+use Rattle.tc_explore.specs.declared.search.Met.{Met}
 use Rattle.tc_explore.specs.Found.{AreReached}
 use Rattle.tc_explore.specs.Told.{is_found}
 use Rattle.tc_explore.specs.Course.{stand, goes_on, IsTurn, IsCourse}
@@ -96,18 +96,18 @@ abbrev pub IsRunClosed : List ScriptView → List Case → List Witness → List
 IsRunClosed scripts states found q b = (e : Entry) → e.caller.0 ≡ b → IsTurn scripts q e → goes_on e.reply ≡ true → IsClosedFor scripts (IsSeen states) found q e
 
 -- after this call the verdict is found, or the state is seen
-abbrev pub IsCallClosed : List ScriptView → Full → Findings → Case → Run → Op → Type 0
-IsCallClosed scripts full found t run op =
-    IsAfter scripts full.states.items found.witnesses.items (past_of t) (taken t.behaviours (past_of t) run op)
+abbrev pub IsCallClosed : List ScriptView → Met → Findings → Case → Run → Op → Type 0
+IsCallClosed scripts met found t run op =
+    IsAfter scripts met.states.items found.witnesses.items (past_of t) (taken t.behaviours (past_of t) run op)
 
 -- so it is after each call of run b of a case
-abbrev pub IsRunOfClosed : List ScriptView → Full → Findings → Case → ℕ → Type 0
-IsRunOfClosed scripts full found t b = IsRunClosed scripts full.states.items found.witnesses.items (past_of t) b
+abbrev pub IsRunOfClosed : List ScriptView → Met → Findings → Case → ℕ → Type 0
+IsRunOfClosed scripts met found t b = IsRunClosed scripts met.states.items found.witnesses.items (past_of t) b
 
 -- so it is of each of n runs
-abbrev pub AreRunsClosed : List ScriptView → Full → Findings → Case → ℕ → Type 0
-AreRunsClosed scripts full found t n = (b : ℕ) → b < n → IsRunOfClosed scripts full found t b
+abbrev pub AreRunsClosed : List ScriptView → Met → Findings → Case → ℕ → Type 0
+AreRunsClosed scripts met found t n = (b : ℕ) → b < n → IsRunOfClosed scripts met found t b
 
 -- whatever comes after a case is seen, or its verdict is found
-abbrev pub IsCaseClosed : List ScriptView → Full → Findings → Case → Type 0
-IsCaseClosed scripts full found t = IsClosed scripts (IsSeen full.states.items) found.witnesses.items (past_of t)
+abbrev pub IsCaseClosed : List ScriptView → Met → Findings → Case → Type 0
+IsCaseClosed scripts met found t = IsClosed scripts (IsSeen met.states.items) found.witnesses.items (past_of t)

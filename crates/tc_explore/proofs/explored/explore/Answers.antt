@@ -3,13 +3,13 @@ use Rattle.tc_explore.proofs.Legality.{witnesses_legal}
 use Rattle.tc_explore.proofs.explored.explore.Goals as goal
 
 pub returns-clause-legal : goal.returns-clause-legal
-returns-clause-legal c = rw c.new-2.ensures (witnesses_legal c.args.scripts.now c.search_both.new.found.witnesses.items c.in_ok-reach.ensures.found.0.sound)
+returns-clause-legal c = rw c.new-2.ensures (witnesses_legal c.args.scripts.now c.search_all.new.found.witnesses.items c.in_ok-extent.ensures.found.0.sound)
 
 pub returns-clause-sound : goal.returns-clause-sound
-returns-clause-sound c = rw c.new-2.ensures c.in_ok-reach.ensures.found.0.sound
+returns-clause-sound c = rw c.new-2.ensures c.in_ok-extent.ensures.found.0.sound
 
 pub returns-clause-once : goal.returns-clause-once
-returns-clause-once c = rw c.new-2.ensures c.in_ok-reach.ensures.found.0.once
+returns-clause-once c = rw c.new-2.ensures c.in_ok-extent.ensures.found.0.once
 
 pub returns-then-is_empty-clause-legal : goal.returns-then-is_empty-clause-legal
 returns-then-is_empty-clause-legal c = rw c.new.ensures (witnesses_legal c.args.scripts.now c.in_ok-found.found.witnesses.items c.in_ok-found.ensures.noted.0.sound)

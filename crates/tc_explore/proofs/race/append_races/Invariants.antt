@@ -1,7 +1,8 @@
-use Rattle.std.proofs.Common.{◌≡◌, ◌++◌, take}
+use Rattle.std.proofs.Common.{take}
 use Rattle.std.specs.List.{flat_map}
-use Rattle.tc_explore.specs.Race.{race_text}
+use Rattle.tc_explore.specs.Race.{race}
+use Rattle.tc_explore.specs.Shown.{Shows}
 use Rattle.tc_explore.proofs.race.append_races.Given as goal
 
 abbrev pub invariant-loop-other : goal.invariant-loop-other
-invariant-loop-other l = l.out.items ≡ l.fn.out.items ++ flat_map (race_text l.witness) (take l.other-index l.others)
+invariant-loop-other l = Shows (flat_map (race l.witness) (take l.other-index l.others)) l.fn.out.items l.out.items

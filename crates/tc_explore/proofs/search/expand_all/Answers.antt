@@ -1,0 +1,32 @@
+use Rattle.std.proofs.Common.{rules, ◌≡◌, ◌+◌, ◌<◌, ◌≤◌, ℕ, true, length}
+use Rattle.tc_explore.specs.Laws.{IsClosedAt}
+use Rattle.tc_explore.proofs.Closed.{longer_then}
+use Rattle.tc_explore.proofs.States.{closed_ats_more, closed_ats_all}
+use Rattle.tc_explore.proofs.search.expand_all.Goals as goal
+use Rattle.tc_explore.proofs.search.expand_all.Goals.{then-is_closed, else-is_closed}
+
+pub loop-at-preserved : goal.loop-at-preserved
+loop-at-preserved c =
+    let was = c.loop-at.invariant in
+    let is = c.in_ok-is_one_closed.ensures in
+    let within : c.loop-at.at < length c.loop-at.met.states.items = search rules in
+    let closed : c.if-is_closed.is_closed ≡ true → (i : ℕ) → i < c.loop-at.at + 1 → IsClosedAt c.args.scripts.now c.expand.new.met.states.items c.expand.new.found.witnesses.items i =
+    elim c.if-is_closed.branch [
+      | then-is_closed w ↦ λ h.
+          let before : c.loop-at.is_closed ≡ true = search rules in
+          let now : c.in_ok-is_one_closed.is_one_closed ≡ true = search rules in
+          closed_ats_more c.args.scripts.now c.loop-at.met.states.items c.expand.new.met.states.items c.loop-at.found.witnesses.items c.expand.new.found.witnesses.items c.loop-at.at is.more_states is.more_found within (was.4 before) (is.closed now)
+      | else-is_closed w ↦ λ h. absurd cc
+    ] in (
+      is.states,
+      longer_then c.args.met.now.states.items c.loop-at.met.states.items c.expand.new.met.states.items was.1 is.more_states,
+      is.found,
+      longer_then c.args.found.now.witnesses.items c.loop-at.found.witnesses.items c.expand.new.found.witnesses.items was.3 is.more_found,
+      closed,
+    )
+
+pub returns-then-is_closed-2-clause-closed : goal.returns-then-is_closed-2-clause-closed
+returns-then-is_closed-2-clause-closed c h =
+    let whole : length c.loop-at.met.states.items ≤ c.loop-at.at = search rules in
+    let closed : c.loop-at.is_closed ≡ true = search rules in
+    closed_ats_all c.args.scripts.now c.loop-at.met.states.items c.loop-at.found.witnesses.items c.loop-at.at whole (c.loop-at.invariant.4 closed)

@@ -1,0 +1,28 @@
+use Rattle.std.proofs.Common.{rules, ◌≡◌, ◌+◌, ◌<◌, ℕ, true}
+use Rattle.tc_table.specs.Case.{past_of}
+use Rattle.tc_explore.specs.Inside.Seen.{IsRunClosed}
+use Rattle.tc_explore.specs.Inside.Simulation.{GoesOn}
+use Rattle.tc_explore.proofs.Closed.{runs_more, longer_then}
+use Rattle.tc_explore.proofs.search.try_runs.Goals as goal
+use Rattle.tc_explore.proofs.search.try_runs.Goals.{then-goes_on, else-goes_on, then-is_closed, else-is_closed}
+
+pub loop-run-preserved : goal.loop-run-preserved
+loop-run-preserved c =
+    let was = c.loop-run.invariant in
+    let is = c.in_ok-tried.ensures in
+    let closed : c.if-is_closed.is_closed ≡ true → (b : ℕ) → b < c.loop-run.run + 1 → IsRunClosed c.args.scripts.now c.try_run.new.met.states.items c.try_run.new.found.witnesses.items (past_of c.args.course.now) b =
+    elim c.if-is_closed.branch [
+      | then-is_closed w ↦ λ h.
+          let before : c.loop-run.is_closed ≡ true = search rules in
+          let now : c.in_ok-tried.tried.is_closed ≡ true = search rules in
+          runs_more c.args.scripts.now c.loop-run.met.states.items c.try_run.new.met.states.items c.loop-run.found.witnesses.items c.try_run.new.found.witnesses.items (past_of c.args.course.now) c.loop-run.run is.more_states is.more_found (was.4 before) (is.closed now)
+      | else-is_closed w ↦ λ h. absurd cc
+    ] in
+    let goes : c.if-goes_on.goes_on ≡ true → GoesOn c.args.scripts.now (past_of c.args.course.now) = elim c.if-goes_on.branch [ then-goes_on w ↦ search rules | else-goes_on w ↦ search rules ] in (
+      is.states,
+      longer_then c.args.met.now.states.items c.loop-run.met.states.items c.try_run.new.met.states.items was.1 is.more_states,
+      is.found,
+      longer_then c.args.found.now.witnesses.items c.loop-run.found.witnesses.items c.try_run.new.found.witnesses.items was.3 is.more_found,
+      closed,
+      goes,
+    )
