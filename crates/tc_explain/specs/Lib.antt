@@ -1,5 +1,5 @@
 -- The definitions that the contracts of this crate cite.
-pub mod Quote
+pub mod Notes
 pub mod Scan
 pub mod Slots
 pub mod Replies

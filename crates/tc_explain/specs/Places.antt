@@ -1,7 +1,7 @@
 -- Places in a line.
-use Rattle.std.specs.Prelude.{ℕ, suc, ◌==◌, ◌-◌, ◌&&◌, ◌||◌, not, Bool, true, false, if◌then◌else◌, Option, Some, None, List, [], ◌∷◌, length, codes, ◌++◌, slice_index}
+use Rattle.std.specs.Prelude.{ℕ, suc, ◌==◌, ◌-◌, ◌&&◌, ◌||◌, not, Bool, true, false, if◌then◌else◌, List, [], ◌∷◌, length}
 use Rattle.tc_line.specs.Text.{is_space}
-use Rattle.tc_explain.specs.Quote.{is_plain, hex_text}
+use Rattle.tc_explain.specs.Notes.{is_plain}
 
 -- how many bytes stand before the word at this place among the words, or before the end where there is none; whether a word has begun is told
 unfoldable pub starts : ℕ → Bool → List ℕ → ℕ
@@ -20,23 +20,3 @@ spaced after (b ∷ bs) = if is_space b && (after || (length bs == 0)) then 0 el
 -- a byte that no line may have
 abbrev pub is_odd : ℕ → Bool
 is_odd b = not (is_plain b)
-
--- the name of an odd byte, by the two bytes behind it too, where it has one
-abbrev pub odd_name : ℕ → ℕ → ℕ → Option (List ℕ)
-odd_name first second third =
-    if first == 13 then Some (codes "a carriage return; a line ends with a line feed alone")
-    else if first == 9 then Some (codes "a tab")
-    else if first == 0 then Some (codes "a zero byte, as UTF-16 has them")
-    else if (first == 239) && (second == 187) && (third == 191) then Some (codes "a byte order mark")
-    else if (first == 255) && (second == 254) then Some (codes "a byte order mark of UTF-16")
-    else if (first == 254) && (second == 255) then Some (codes "a byte order mark of UTF-16")
-    else None
-
--- an odd byte by its name, or else by its number
-abbrev pub named_byte : Option (List ℕ) → ℕ → List ℕ
-named_byte (Some name) byte = name
-named_byte None byte = codes "the byte " ++ hex_text byte
-
--- what begins with a byte that no line may have
-abbrev pub odd_text : List ℕ → List ℕ
-odd_text bytes = named_byte (odd_name (slice_index bytes 0) (slice_index bytes 1) (slice_index bytes 2)) (slice_index bytes 0)

@@ -106,31 +106,3 @@ abbrev pub walk : Bool → Slot → ℕ → List (List ℕ) → Stop
 walk moves slot place [] = record { place = place; slot = slot }
 walk moves slot place (w ∷ ws) =
     elim (next moves slot w) [ None ↦ record { place = place; slot = slot } | Some s ↦ walk moves s (suc place) ws ]
-
--- what may stand at a place
-abbrev pub slot_text : Slot → List ℕ
-slot_text S.Keyword = codes "a keyword"
-slot_text S.Run = codes "the number of a run"
-slot_text S.Verb = codes "an operation"
-slot_text S.TestCase = codes "the name of a test case"
-slot_text S.Behaviour = codes "the name of a behaviour"
-slot_text S.Parameters = codes "a parameter, or the end of the line"
-slot_text S.Created = codes "the name of a component"
-slot_text S.Kind = codes "alive, named, or the end of the call"
-slot_text S.Naming = codes "named, or the end of the call"
-slot_text S.GivenName = codes "a name"
-slot_text S.On = codes "a component"
-slot_text S.Started = codes "the behaviour that is started"
-slot_text S.Arguments = codes "a component, or the end of the call"
-slot_text S.Group = codes "all or a component"
-slot_text S.Target = codes "any, all or a component"
-slot_text S.Status = codes "done or killed"
-slot_text S.Verdict = codes "none, pass, inconc or fail"
-slot_text S.End = codes "the end of the call"
-slot_text S.Entry = codes "the number of a run, or end"
-slot_text S.Arrow = codes "-> and a reply"
-slot_text S.Reply = codes "a reply"
-slot_text S.Made = codes "the number of a component"
-slot_text S.Error = codes "the name of a dynamic error, or the end of the line"
-slot_text S.Overall = codes "none, pass, inconc, fail or error"
-slot_text S.LineEnd = codes "the end of the line"

@@ -1,68 +1,88 @@
 //! The lines of an explanation.
-ghost use Rattle.std.specs.Prelude.{◌≡◌, ◌<◌, ◌+◌, ◌^◌, ◌++◌, OnOk, map, option_copied};
-ghost use Rattle.std.specs.List.{flat_map};
-ghost use Rattle.tc_explain.specs.Explanation.{began, begun, column_text, last_number, list_note, listed, near_note, nearest_note, note, open_list_note, stopped_at, wanted_note};
+ghost use Rattle.std.specs.Prelude.{◌≡◌, [], ◌∷◌, OnOk, map, option_copied, true};
+ghost use Rattle.tc_explain.specs.Notes.{AddsLine, Listed, Tells, is_plain as plain};
+ghost use Rattle.tc_explain.specs.Explanation.{begun, near_note, nearest_note};
 
 use crate::nearest::near_word;
-use crate::quote::append_quoted;
+use crate::quote::{append_quoted, is_plain};
 use std::alloc::Global;
 use tc_text::{append_number, append_text};
 use tc_verdict::NoMemory;
 
-/// Appends a number at the end of a line.
-pub(crate) fn append_last_number(out: &mut Vec<u8>, number: usize) -> Result<(), NoMemory>
-    ensures { OnOk result (out.new.items ≡ out.old.items ++ last_number number) }
+// The byte, or a question mark for one that is not printable.
+fn printable(byte: u8) -> u8
+    ensures { plain result ≡ true }
 {
-    append_number(out, number as u64)?;
+    if is_plain(byte) { byte } else { b'?' }
+}
+
+/// Appends a line with these words.
+#[tactic(auto, using(crate::proofs::Showing::line_rules))]
+pub(crate) fn append_line(out: &mut Vec<u8>, words: &[u8]) -> Result<(), NoMemory>
+    ensures { OnOk result (AddsLine out.old.items out.new.items) }
+{
+    out.extend_from_slice(b"  ")?;
+    for byte in words {
+        out.push(printable(*byte))?;
+    }
     out.push(b'\n')?;
     Ok(())
 }
 
 /// Appends a line with this text.
 pub(crate) fn append_note(out: &mut Vec<u8>, text: &str) -> Result<(), NoMemory>
-    ensures { OnOk result (out.new.items ≡ out.old.items ++ note text.now) }
+    ensures { OnOk result (AddsLine out.old.items out.new.items) }
 {
-    append_text(out, "  ")?;
-    append_text(out, text)?;
-    out.push(b'\n')?;
-    Ok(())
+    append_line(out, text.as_bytes())
+}
+
+/// Appends a line with this text behind others.
+pub(crate) fn append_behind(
+    alloc: Global,
+    out: &mut Vec<u8>,
+    head: &str,
+    text: &str,
+) -> Result<(), NoMemory>
+    ensures { OnOk result (AddsLine out.old.items out.new.items) }
+{
+    let mut line = Vec::new(alloc);
+    append_text(&mut line, head)?;
+    append_text(&mut line, text)?;
+    append_line(out, line.as_slice())
+}
+
+/// Appends a line with this number behind a text.
+pub(crate) fn append_numbered(
+    alloc: Global,
+    out: &mut Vec<u8>,
+    head: &str,
+    number: usize,
+) -> Result<(), NoMemory>
+    ensures { OnOk result (AddsLine out.old.items out.new.items) }
+{
+    let mut line = Vec::new(alloc);
+    append_text(&mut line, head)?;
+    append_number(&mut line, number as u64)?;
+    append_line(out, line.as_slice())
 }
 
 /// Appends the column that stands behind so many bytes, before what stands there.
-#[tactic(auto, unfolding(crate::specs::Explanation::column_text))]
-pub(crate) fn append_column(out: &mut Vec<u8>, start: usize) -> Result<(), NoMemory>
-    requires { start < 2 ^ 63 }
-    ensures { OnOk result (out.new.items ≡ out.old.items ++ column_text (start + 1)) }
-{
-    append_text(out, "  column ")?;
-    append_number(out, start as u64 + 1)?;
+pub(crate) fn append_column(out: &mut Vec<u8>, start: usize) -> Result<(), NoMemory> {
+    append_text(out, "column ")?;
+    append_number(out, (start as u64).saturating_add(1))?;
     append_text(out, ": ")
 }
 
 /// Appends what stands where a line stops.
-pub(crate) fn append_stopped(out: &mut Vec<u8>, word: Option<&[u8]>) -> Result<(), NoMemory>
-    ensures { OnOk result (out.new.items ≡ out.old.items ++ stopped_at (option_copied word.entry)) }
-{
+pub(crate) fn append_stopped(out: &mut Vec<u8>, word: Option<&[u8]>) -> Result<(), NoMemory> {
     match word {
         Some(word) => append_quoted(out, word),
         None => append_text(out, "the end of the line"),
     }
 }
 
-/// Appends what would be understood.
-pub(crate) fn append_wanted(out: &mut Vec<u8>, what: &str) -> Result<(), NoMemory>
-    ensures { OnOk result (out.new.items ≡ out.old.items ++ wanted_note what.now) }
-{
-    append_text(out, "  understood there: ")?;
-    append_text(out, what)?;
-    out.push(b'\n')?;
-    Ok(())
-}
-
 // Appends the words, each with a space in front.
-fn append_words(out: &mut Vec<u8>, words: &[&str]) -> Result<(), NoMemory>
-    ensures { OnOk result (out.new.items ≡ out.old.items ++ flat_map listed (map (λ w. w.now) words.now)) }
-{
+fn append_words(out: &mut Vec<u8>, words: &[&str]) -> Result<(), NoMemory> {
     for word in words {
         append_text(out, " ")?;
         append_text(out, word)?;
@@ -70,78 +90,63 @@ fn append_words(out: &mut Vec<u8>, words: &[&str]) -> Result<(), NoMemory>
     Ok(())
 }
 
-/// Appends the words that would be understood.
-pub(crate) fn append_list(out: &mut Vec<u8>, words: &[&str]) -> Result<(), NoMemory>
-    ensures { OnOk result (out.new.items ≡ out.old.items ++ list_note (map (λ w. w.now) words.now)) }
+/// Appends the words that would be understood, and what else would.
+#[tactic(auto, using(crate::proofs::Showing::tell_rules))]
+pub(crate) fn append_list(
+    alloc: Global,
+    out: &mut Vec<u8>,
+    words: &[&str],
+    other: &str,
+) -> Result<(), NoMemory>
+    ensures { OnOk result (Tells (Listed (map (λ w. w.now) words.now) ∷ []) out.old.items out.new.items) }
 {
-    append_text(out, "  understood there:")?;
-    append_words(out, words)?;
-    out.push(b'\n')?;
-    Ok(())
-}
-
-/// The same, where the line may end there too.
-#[tactic(auto, unfolding(crate::specs::Explanation::open_list_note))]
-pub(crate) fn append_open_list(out: &mut Vec<u8>, words: &[&str]) -> Result<(), NoMemory>
-    ensures { OnOk result (out.new.items ≡ out.old.items ++ open_list_note (map (λ w. w.now) words.now)) }
-{
-    append_text(out, "  understood there:")?;
-    append_words(out, words)?;
-    append_text(out, ", or the end of the line")?;
-    out.push(b'\n')?;
-    Ok(())
+    let mut line = Vec::new(alloc);
+    append_text(&mut line, "understood there:")?;
+    append_words(&mut line, words)?;
+    append_text(&mut line, other)?;
+    append_line(out, line.as_slice())
 }
 
 // Appends the nearest word, where there is one.
-fn append_near(out: &mut Vec<u8>, near: Option<&str>) -> Result<(), NoMemory>
-    ensures { OnOk result (out.new.items ≡ out.old.items ++ near_note (option_copied near.entry)) }
+#[tactic(auto, using(crate::proofs::Showing::tell_rules))]
+fn append_near(alloc: Global, out: &mut Vec<u8>, near: Option<&str>) -> Result<(), NoMemory>
+    ensures { OnOk result (Tells (near_note (option_copied near.entry)) out.old.items out.new.items) }
 {
-    let Some(near) = near else {
-        return Ok(());
-    };
-    append_text(out, "  nearest: ")?;
-    append_text(out, near)?;
-    out.push(b'\n')?;
-    Ok(())
+    match near {
+        Some(near) => append_behind(alloc, out, "nearest: ", near),
+        None => Ok(()),
+    }
 }
 
 /// Appends the word of the table that is the nearest to a word.
+#[tactic(auto, using(crate::proofs::Showing::tell_rules))]
 pub(crate) fn append_nearest(
     alloc: Global,
     out: &mut Vec<u8>,
     word: Option<&[u8]>,
     table: &[&str],
 ) -> Result<(), NoMemory>
-    ensures { OnOk result (out.new.items ≡ out.old.items ++ nearest_note (option_copied word.entry) (map (λ w. w.now) table.now)) }
+    ensures { OnOk result (Tells (nearest_note (option_copied word.entry) (map (λ w. w.now) table.now)) out.old.items out.new.items) }
 {
     let Some(word) = word else {
         return Ok(());
     };
     let near = near_word(alloc, word, table)?;
-    append_near(out, near)
-}
-
-// Appends where it began.
-#[tactic(auto, unfolding(crate::specs::Explanation::began))]
-fn append_began(out: &mut Vec<u8>, line: usize) -> Result<(), NoMemory>
-    ensures { OnOk result (out.new.items ≡ out.old.items ++ began line) }
-{
-    append_text(out, " began in line ")?;
-    append_last_number(out, line)
+    append_near(alloc, out, near)
 }
 
 /// Appends what began in a line, where it is open.
+#[tactic(auto, using(crate::proofs::Showing::tell_rules))]
 pub(crate) fn append_begun(
+    alloc: Global,
     out: &mut Vec<u8>,
     what: &str,
     line: Option<usize>,
 ) -> Result<(), NoMemory>
-    ensures { OnOk result (out.new.items ≡ out.old.items ++ begun what.now line) }
+    ensures { OnOk result (Tells (begun line) out.old.items out.new.items) }
 {
-    let Some(line) = line else {
-        return Ok(());
-    };
-    append_text(out, "  ")?;
-    append_text(out, what)?;
-    append_began(out, line)
+    match line {
+        Some(line) => append_numbered(alloc, out, what, line),
+        None => Ok(()),
+    }
 }

@@ -1,7 +1,7 @@
 //! Bytes that no line may have.
-ghost use Rattle.std.specs.Prelude.{◌≡◌, ◌<◌, ◌++◌, OnOk, IfSome, length, option_copied, slice_index};
+ghost use Rattle.std.specs.Prelude.{◌≡◌, ◌<◌, IfSome, length};
 ghost use Rattle.std.specs.List.{position};
-ghost use Rattle.tc_explain.specs.Places.{is_odd, named_byte, odd_name, odd_text};
+ghost use Rattle.tc_explain.specs.Places.{is_odd};
 
 use crate::quote::{append_hex, is_plain};
 use tc_text::append_text;
@@ -15,58 +15,26 @@ pub(crate) fn odd_place(line: &[u8]) -> Option<usize>
     line.iter().position(|byte| !is_plain(*byte))
 }
 
-// The byte at a place, or 0 behind the end.
-fn byte_at(bytes: &[u8], place: usize) -> u8
-    ensures { result ≡ slice_index bytes.now place }
-{
-    match bytes.get(place) {
-        Some(byte) => *byte,
-        None => 0,
+// The name of what begins with an odd byte, where it has one.
+fn name_of(bytes: &[u8]) -> Option<&'static str> {
+    match bytes {
+        [13, ..] => Some("a carriage return; a line ends with a line feed alone"),
+        [9, ..] => Some("a tab"),
+        [0, ..] => Some("a zero byte, as UTF-16 has them"),
+        [239, 187, 191, ..] => Some("a byte order mark"),
+        [255, 254, ..] | [254, 255, ..] => Some("a byte order mark of UTF-16"),
+        _ => None,
     }
 }
 
-// The name of an odd byte, by the two bytes behind it too.
-fn name_of(first: u8, second: u8, third: u8) -> Option<&'static str>
-    ensures { option_copied result ≡ odd_name first second third }
-{
-    if first == 13 {
-        Some("a carriage return; a line ends with a line feed alone")
-    } else if first == 9 {
-        Some("a tab")
-    } else if first == 0 {
-        Some("a zero byte, as UTF-16 has them")
-    } else if first == 239 && second == 187 && third == 191 {
-        Some("a byte order mark")
-    } else if first == 255 && second == 254 {
-        Some("a byte order mark of UTF-16")
-    } else if first == 254 && second == 255 {
-        Some("a byte order mark of UTF-16")
-    } else {
-        None
-    }
-}
-
-// Appends the name of an odd byte, or else its number.
-fn append_named(out: &mut Vec<u8>, name: Option<&str>, byte: u8) -> Result<(), NoMemory>
-    ensures { OnOk result (out.new.items ≡ out.old.items ++ named_byte (option_copied name.entry) byte) }
-{
-    match name {
-        Some(name) => append_text(out, name),
-        None => {
+/// Appends the name of what begins with an odd byte, or else the number of that byte.
+pub(crate) fn append_odd(out: &mut Vec<u8>, bytes: &[u8]) -> Result<(), NoMemory> {
+    match (name_of(bytes), bytes.first()) {
+        (Some(name), _) => append_text(out, name),
+        (None, Some(byte)) => {
             append_text(out, "the byte ")?;
-            append_hex(out, byte)
+            append_hex(out, *byte)
         }
+        (None, None) => Ok(()),
     }
-}
-
-/// Appends the name of what begins with an odd byte.
-pub(crate) fn append_odd(out: &mut Vec<u8>, bytes: &[u8]) -> Result<(), NoMemory>
-    ensures { OnOk result (out.new.items ≡ out.old.items ++ odd_text bytes.now) }
-{
-    let first = byte_at(bytes, 0);
-    append_named(
-        out,
-        name_of(first, byte_at(bytes, 1), byte_at(bytes, 2)),
-        first,
-    )
 }

@@ -3,7 +3,7 @@ ghost use Rattle.std.specs.Prelude.{◌≡◌, ◌&&◌, nat_le};
 ghost use Rattle.std.specs.List.{list_all};
 ghost use Rattle.tc_line.specs.declared.line.Keyword.TheVariants as K;
 ghost use Rattle.tc_line.specs.Words.{is_name as name_test, is_text, keyword_text};
-ghost use Rattle.tc_explain.specs.Slots.{behind_keyword as keyword_slot, behind_verb as verb_slot, behind_word as word_slot, is_behaviour as behaviour, is_component as component, is_digits as digits, may_end, next, slot_if, slot_text};
+ghost use Rattle.tc_explain.specs.Slots.{behind_keyword as keyword_slot, behind_verb as verb_slot, behind_word as word_slot, is_behaviour as behaviour, is_component as component, is_digits as digits, may_end, next, slot_if};
 
 use tc_line::{Keyword, Status, is_word, read_keyword, read_name, read_reference, read_verdict};
 
@@ -215,9 +215,7 @@ impl Slot {
     }
 
     /// The words for it.
-    pub(crate) fn text(self) -> &'static str
-        ensures { result.now ≡ slot_text self }
-    {
+    pub(crate) fn text(self) -> &'static str {
         match self {
             Slot::Keyword => "a keyword",
             Slot::Run => "the number of a run",

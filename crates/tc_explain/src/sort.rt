@@ -4,7 +4,7 @@ ghost use Rattle.std.specs.List.{list_any};
 ghost use Rattle.tc_line.specs.Text.{lines};
 ghost use Rattle.tc_explain.specs.Scan.{begins, seems, seems_by};
 ghost use Rattle.tc_explain.specs.declared.sort.Sort.{Sort as AnySort};
-ghost use Rattle.tc_explain.specs.Explanation.{sort_of, sort_text};
+ghost use Rattle.tc_explain.specs.Explanation.{sort_of};
 
 use std::alloc::Global;
 use tc_line::{Keyword, Lines, ScriptKind, is_comment, is_word, read_words};
@@ -53,9 +53,7 @@ impl Refusal {
 
 impl Sort {
     /// The words for a text that seems to be of this sort.
-    pub(crate) fn text(self) -> &'static str
-        ensures { result.now ≡ sort_text self }
-    {
+    pub(crate) fn text(self) -> &'static str {
         match self {
             Sort::Script => "the text looks like a script, which ttrun run reads",
             Sort::Histories => {

@@ -1,7 +1,7 @@
 //! Where a line stops to be understood.
-ghost use Rattle.std.specs.Prelude.{◌≡◌, false, map, true};
+ghost use Rattle.std.specs.Prelude.{◌≡◌, ◌&&◌, false, length, map, nat_le, true};
 ghost use Rattle.tc_explain.specs.declared.slot.Slot.TheVariants as S;
-ghost use Rattle.tc_explain.specs.Slots.{walk};
+ghost use Rattle.tc_explain.specs.Slots.{may_end, walk};
 ghost use Rattle.tc_explain.specs.Replies.{entry_stop as entry_end, is_whole as whole};
 
 use crate::reply::{arrow_at, entry_ends, entry_next};
@@ -64,9 +64,16 @@ pub(crate) fn entry_stop(words: &[&[u8]]) -> Stop
     }
 }
 
-/// Whether each word of a line of a history, of so many, may stand where it stands.
-pub(crate) fn is_whole(stop: Stop, count: usize) -> bool
-    ensures { result ≡ whole stop count }
+/// Whether each of the words of a move may stand where it stands.
+pub(crate) fn is_move(stop: Stop, words: &[&[u8]]) -> bool
+    ensures { result ≡ (may_end stop.slot && nat_le (length (map (λ w. w.now) words.now)) stop.place) }
 {
-    entry_ends(stop.slot) && count <= stop.place
+    stop.slot.may_end() && words.len() <= stop.place
+}
+
+/// Whether each of the words of a line of a history may stand where it stands.
+pub(crate) fn is_whole(stop: Stop, words: &[&[u8]]) -> bool
+    ensures { result ≡ whole stop (length (map (λ w. w.now) words.now)) }
+{
+    entry_ends(stop.slot) && words.len() <= stop.place
 }

@@ -1,16 +1,18 @@
 //! What is told of a refused text.
-ghost use Rattle.std.specs.Prelude.{◌≡◌, ◌++◌, IfOk, OnOk, map, option_copied, slice_get, true};
+ghost use Rattle.std.specs.Prelude.{◌≡◌, ◌<◌, ◌++◌, [], ◌∷◌, IfOk, OnOk, length, map, option_copied, slice_get, true};
 ghost use Rattle.std.specs.List.{position};
 ghost use Rattle.tc_line.specs.Text.{lines, words as words_of};
 ghost use Rattle.tc_explain.specs.declared.slot.Slot.TheVariants as S;
 ghost use Rattle.tc_explain.specs.Places.{is_odd};
 ghost use Rattle.tc_explain.specs.Slots.{walk};
 ghost use Rattle.tc_explain.specs.Replies.{entry_stop as entry_end};
-ghost use Rattle.tc_explain.specs.Explanation.{byte_note, ended_note, entry_note, explanation, kind_note, line_note, move_note, open_note, place_note, rule_text, script_note, shown_line, sort_note, spaced_note, stop_note, text_note, wanted};
+ghost use Rattle.tc_explain.specs.Nearest.{all_words as words_of_scripts, script_words as words_at};
+ghost use Rattle.tc_explain.specs.Notes.{AddsLine, Listed, Tells};
+ghost use Rattle.tc_explain.specs.Explanation.{byte_note, entry_note, explanation, kind_note, line_note, move_note, nearest_note, open_note, place_note, script_note, sort_note, spaced_note, stop_note, text_note, wanted};
 
 use crate::append::{
-    append_begun, append_column, append_last_number, append_list, append_nearest, append_note,
-    append_open_list, append_stopped, append_wanted,
+    append_begun, append_behind, append_column, append_line as append_words, append_list,
+    append_nearest, append_note, append_numbered, append_stopped,
 };
 use crate::nearest::{all_words, move_words, script_words};
 use crate::odd::{append_odd, odd_place};
@@ -20,15 +22,19 @@ use crate::reply::{fault_table, reply_table};
 use crate::scan::{Opened, find_line};
 use crate::slot::Slot;
 use crate::sort::{Refusal, Sort, seen_sort};
-use crate::stop::{Stop, entry_stop, is_whole, move_stop, script_stop};
+use crate::stop::{Stop, entry_stop, is_move, is_whole, move_stop, script_stop};
 use std::alloc::Global;
 use tc_line::{ScriptKind, read_words};
 use tc_text::{TextKind, append_text};
 use tc_verdict::NoMemory;
 
+/// What stands before what would be understood.
+const UNDERSTOOD: &str = "understood there: ";
+
 // Appends what the text seems to be, where it should be something else.
+#[tactic(auto, using(crate::proofs::Showing::tell_rules))]
 fn append_sort(out: &mut Vec<u8>, sort: Sort, seen: Option<Sort>) -> Result<(), NoMemory>
-    ensures { OnOk result (out.new.items ≡ out.old.items ++ sort_note sort seen) }
+    ensures { OnOk result (Tells (sort_note sort seen) out.old.items out.new.items) }
 {
     match (sort, seen) {
         (_, None)
@@ -47,23 +53,54 @@ fn word_at<'t>(words: &[&'t [u8]], place: usize) -> Option<&'t [u8]>
 }
 
 // Appends the word at a place of the line, with its column.
-#[tactic(auto, unfolding(crate::specs::Explanation::place_note))]
+#[tactic(auto, unfolding(crate::specs::Explanation::place_note), using(crate::proofs::Showing::tell_rules))]
 fn append_place(
+    alloc: Global,
     out: &mut Vec<u8>,
     line: &[u8],
     words: &[&[u8]],
     place: usize,
 ) -> Result<(), NoMemory>
     requires { map (λ w. w.now) words.now ≡ words_of line.now }
-    ensures { OnOk result (out.new.items ≡ out.old.items ++ place_note line.now place) }
+    ensures { OnOk result (Tells (place_note line.now place) out.old.items out.new.items) }
 {
-    append_column(out, start_of(line, place))?;
-    append_stopped(out, word_at(words, place))?;
-    out.push(b'\n')?;
-    Ok(())
+    let mut text = Vec::new(alloc);
+    append_column(&mut text, start_of(line, place))?;
+    append_stopped(&mut text, word_at(words, place))?;
+    append_words(out, text.as_slice())
+}
+
+// Appends these words, which would be understood, and the nearest to the word.
+#[tactic(auto, using(crate::proofs::Showing::tell_rules))]
+fn append_table(
+    alloc: Global,
+    out: &mut Vec<u8>,
+    table: &[&str],
+    other: &str,
+    word: Option<&[u8]>,
+) -> Result<(), NoMemory>
+    ensures { OnOk result (Tells ((Listed (map (λ w. w.now) table.now) ∷ []) ++ nearest_note (option_copied word.entry) (map (λ w. w.now) table.now)) out.old.items out.new.items) }
+{
+    append_list(alloc, out, table, other)?;
+    append_nearest(alloc, out, word, table)
+}
+
+// Appends the keywords of a script that would be understood, and the nearest to the word of all.
+#[tactic(auto, using(crate::proofs::Showing::tell_rules))]
+fn append_keywords(
+    alloc: Global,
+    out: &mut Vec<u8>,
+    opened: Opened,
+    word: Option<&[u8]>,
+) -> Result<(), NoMemory>
+    ensures { OnOk result (Tells ((Listed (words_at opened) ∷ []) ++ nearest_note (option_copied word.entry) words_of_scripts) out.old.items out.new.items) }
+{
+    append_list(alloc, out, script_words(alloc, opened)?.as_slice(), "")?;
+    append_nearest(alloc, out, word, all_words(alloc)?.as_slice())
 }
 
 // Appends what would be understood in place of the word.
+#[tactic(auto, using(crate::proofs::Showing::tell_rules))]
 fn append_slot(
     alloc: Global,
     out: &mut Vec<u8>,
@@ -71,32 +108,19 @@ fn append_slot(
     slot: Slot,
     word: Option<&[u8]>,
 ) -> Result<(), NoMemory>
-    ensures { OnOk result (out.new.items ≡ out.old.items ++ wanted opened slot (option_copied word.entry)) }
+    ensures { OnOk result (Tells (wanted opened slot (option_copied word.entry)) out.old.items out.new.items) }
 {
     match slot {
-        Slot::Keyword => {
-            append_list(out, script_words(alloc, opened)?.as_slice())?;
-            append_nearest(alloc, out, word, all_words(alloc)?.as_slice())
-        }
-        Slot::Verb => {
-            let table = move_words(alloc)?;
-            append_list(out, table.as_slice())?;
-            append_nearest(alloc, out, word, table.as_slice())
-        }
-        Slot::Reply => {
-            append_list(out, reply_table())?;
-            append_nearest(alloc, out, word, reply_table())
-        }
-        Slot::Error => {
-            append_open_list(out, fault_table())?;
-            append_nearest(alloc, out, word, fault_table())
-        }
-        _ => append_wanted(out, slot.text()),
+        Slot::Keyword => append_keywords(alloc, out, opened, word),
+        Slot::Verb => append_table(alloc, out, move_words(alloc)?.as_slice(), "", word),
+        Slot::Reply => append_table(alloc, out, reply_table(), "", word),
+        Slot::Error => { append_table(alloc, out, fault_table(), ", or the end of the line", word) }
+        _ => append_behind(alloc, out, UNDERSTOOD, slot.text()),
     }
 }
 
 // Appends where the line stops, and what would be understood there.
-#[tactic(auto, unfolding(crate::specs::Explanation::stop_note))]
+#[tactic(auto, unfolding(crate::specs::Explanation::stop_note), using(crate::proofs::Showing::tell_rules))]
 fn append_stop(
     alloc: Global,
     out: &mut Vec<u8>,
@@ -106,16 +130,14 @@ fn append_stop(
     stop: Stop,
 ) -> Result<(), NoMemory>
     requires { map (λ w. w.now) words.now ≡ words_of line.now }
-    ensures { OnOk result (out.new.items ≡ out.old.items ++ stop_note opened line.now stop) }
+    ensures { OnOk result (Tells (stop_note opened line.now stop) out.old.items out.new.items) }
 {
-    append_place(out, line, words, stop.place)?;
+    append_place(alloc, out, line, words, stop.place)?;
     append_slot(alloc, out, opened, stop.slot, word_at(words, stop.place))
 }
 
 // The rule that a line of a script breaks.
-fn rule(kind: ScriptKind) -> &'static str
-    ensures { result.now ≡ rule_text kind }
-{
+fn rule(kind: ScriptKind) -> &'static str {
     match kind {
         ScriptKind::TooMany => "one more than there may be",
         ScriptKind::Twice => {
@@ -132,6 +154,7 @@ fn rule(kind: ScriptKind) -> &'static str
 }
 
 // Appends what is wrong with a line of a script.
+#[tactic(auto, using(crate::proofs::Showing::tell_rules))]
 fn append_script(
     alloc: Global,
     out: &mut Vec<u8>,
@@ -141,21 +164,22 @@ fn append_script(
     words: &[&[u8]],
 ) -> Result<(), NoMemory>
     requires { map (λ w. w.now) words.now ≡ words_of line.now }
-    ensures { OnOk result (out.new.items ≡ out.old.items ++ script_note kind opened line.now) }
+    ensures { OnOk result (Tells (script_note kind opened line.now) out.old.items out.new.items) }
 {
     match kind {
         ScriptKind::BadLine | ScriptKind::BadName => {
             append_stop(alloc, out, opened, line, words, script_stop(words))
         }
         ScriptKind::BadPlace => {
-            append_place(out, line, words, 0)?;
-            append_list(out, script_words(alloc, opened)?.as_slice())
+            append_place(alloc, out, line, words, 0)?;
+            append_list(alloc, out, script_words(alloc, opened)?.as_slice(), "")
         }
         _ => append_note(out, rule(kind)),
     }
 }
 
 // Appends what is wrong with a move.
+#[tactic(auto, using(crate::proofs::Showing::tell_rules))]
 fn append_move(
     alloc: Global,
     out: &mut Vec<u8>,
@@ -164,10 +188,10 @@ fn append_move(
     words: &[&[u8]],
 ) -> Result<(), NoMemory>
     requires { map (λ w. w.now) words.now ≡ words_of line.now }
-    ensures { OnOk result (out.new.items ≡ out.old.items ++ move_note opened line.now (walk true S.Run 0 (words_of line.now))) }
+    ensures { OnOk result (Tells (move_note opened line.now (walk true S.Run 0 (words_of line.now))) out.old.items out.new.items) }
 {
     let stop = move_stop(words);
-    if stop.slot.may_end() && words.len() <= stop.place {
+    if is_move(stop, words) {
         return append_note(
             out,
             "a number is too large or begins with 0, or there are more than 4 arguments",
@@ -177,6 +201,7 @@ fn append_move(
 }
 
 // Appends what is wrong with a line of histories.
+#[tactic(auto, using(crate::proofs::Showing::tell_rules))]
 fn append_entry(
     alloc: Global,
     out: &mut Vec<u8>,
@@ -185,10 +210,10 @@ fn append_entry(
     words: &[&[u8]],
 ) -> Result<(), NoMemory>
     requires { map (λ w. w.now) words.now ≡ words_of line.now }
-    ensures { OnOk result (out.new.items ≡ out.old.items ++ entry_note opened line.now (entry_end (words_of line.now))) }
+    ensures { OnOk result (Tells (entry_note opened line.now (entry_end (words_of line.now))) out.old.items out.new.items) }
 {
     let stop = entry_stop(words);
-    if is_whole(stop, words.len()) {
+    if is_whole(stop, words) {
         return append_note(
             out,
             "a number is too large or begins with 0, there are more than 4 arguments, or a history of format 1 names a component",
@@ -197,7 +222,17 @@ fn append_entry(
     append_stop(alloc, out, opened, line, words, stop)
 }
 
+// The form of the first line of moves, or of histories.
+fn first_line(moves: bool) -> &'static str {
+    if moves {
+        "behaviours N, with N from 1 to 256"
+    } else {
+        "history F NAME N, with F 1 or 2, and N from 1 to 64 or to 256"
+    }
+}
+
 // Appends what is wrong with a line of moves or of histories.
+#[tactic(auto, using(crate::proofs::Showing::tell_rules))]
 fn append_text_note(
     alloc: Global,
     out: &mut Vec<u8>,
@@ -208,21 +243,28 @@ fn append_text_note(
     words: &[&[u8]],
 ) -> Result<(), NoMemory>
     requires { map (λ w. w.now) words.now ≡ words_of line.now }
-    ensures { OnOk result (out.new.items ≡ out.old.items ++ text_note moves kind opened line.now) }
+    ensures { OnOk result (Tells (text_note moves kind opened line.now) out.old.items out.new.items) }
 {
     match kind {
         TextKind::Move => append_move(alloc, out, opened, line, words),
         TextKind::Entry => append_entry(alloc, out, opened, line, words),
-        TextKind::FirstLine if moves => append_wanted(out, "behaviours N, with N from 1 to 256"),
-        TextKind::FirstLine => append_wanted(
-            out,
-            "history F NAME N, with F 1 or 2, and N from 1 to 64 or to 256",
-        ),
+        TextKind::FirstLine => append_behind(alloc, out, UNDERSTOOD, first_line(moves)),
         TextKind::Early => Ok(()),
     }
 }
 
+// Appends what stands at a column of the line, behind so many bytes.
+fn append_at(alloc: Global, out: &mut Vec<u8>, start: usize, what: &str) -> Result<(), NoMemory>
+    ensures { OnOk result (AddsLine out.old.items out.new.items) }
+{
+    let mut text = Vec::new(alloc);
+    append_column(&mut text, start)?;
+    append_text(&mut text, what)?;
+    append_words(out, text.as_slice())
+}
+
 // Appends what is wrong with a line of moves or of histories, first of all a space too many.
+#[tactic(auto, using(crate::proofs::Showing::tell_rules))]
 fn append_spaced(
     alloc: Global,
     out: &mut Vec<u8>,
@@ -233,19 +275,17 @@ fn append_spaced(
     words: &[&[u8]],
 ) -> Result<(), NoMemory>
     requires { map (λ w. w.now) words.now ≡ words_of line.now }
-    ensures { OnOk result (out.new.items ≡ out.old.items ++ spaced_note line.now (text_note moves kind opened line.now)) }
+    ensures { OnOk result (Tells (spaced_note line.now (text_note moves kind opened line.now)) out.old.items out.new.items) }
 {
     let space = space_of(line);
     if space < line.len() {
-        append_column(out, space)?;
-        append_text(out, "a space too many")?;
-        out.push(b'\n')?;
-        return Ok(());
+        return append_at(alloc, out, space, "a space too many");
     }
     append_text_note(alloc, out, moves, kind, opened, line, words)
 }
 
 // Appends what is wrong with a line without odd bytes.
+#[tactic(auto, using(crate::proofs::Showing::tell_rules))]
 fn append_kind(
     alloc: Global,
     out: &mut Vec<u8>,
@@ -253,7 +293,7 @@ fn append_kind(
     opened: Opened,
     line: &[u8],
 ) -> Result<(), NoMemory>
-    ensures { OnOk result (out.new.items ≡ out.old.items ++ kind_note refusal opened line.now) }
+    ensures { OnOk result (Tells (kind_note refusal opened line.now) out.old.items out.new.items) }
 {
     let mut list = Vec::new(alloc);
     read_words(line, &mut list)?;
@@ -265,7 +305,19 @@ fn append_kind(
     }
 }
 
+// Appends the odd byte behind so many.
+fn append_odd_at(alloc: Global, out: &mut Vec<u8>, line: &[u8], at: usize) -> Result<(), NoMemory>
+    requires { at < length line.now }
+    ensures { OnOk result (AddsLine out.old.items out.new.items) }
+{
+    let mut text = Vec::new(alloc);
+    append_column(&mut text, at)?;
+    append_odd(&mut text, &line[at..])?;
+    append_words(out, text.as_slice())
+}
+
 // Appends what is wrong with a line, first of all an odd byte.
+#[tactic(auto, using(crate::proofs::Showing::tell_rules))]
 fn append_wrong(
     alloc: Global,
     out: &mut Vec<u8>,
@@ -273,40 +325,36 @@ fn append_wrong(
     opened: Opened,
     line: &[u8],
 ) -> Result<(), NoMemory>
-    ensures { OnOk result (out.new.items ≡ out.old.items ++ byte_note refusal opened line.now (position is_odd line.now)) }
+    ensures { OnOk result (Tells (byte_note refusal opened line.now (position is_odd line.now)) out.old.items out.new.items) }
 {
-    let Some(at) = odd_place(line) else {
-        return append_kind(alloc, out, refusal, opened, line);
-    };
-    append_column(out, at)?;
-    append_odd(out, &line[at..])?;
-    out.push(b'\n')?;
-    Ok(())
+    match odd_place(line) {
+        Some(at) => append_odd_at(alloc, out, line, at),
+        None => append_kind(alloc, out, refusal, opened, line),
+    }
 }
 
 // Appends that the text ends before the line with this number.
-fn append_ended(out: &mut Vec<u8>, number: usize) -> Result<(), NoMemory>
-    ensures { OnOk result (out.new.items ≡ out.old.items ++ ended_note number) }
+fn append_ended(alloc: Global, out: &mut Vec<u8>, number: usize) -> Result<(), NoMemory>
+    ensures { OnOk result (AddsLine out.old.items out.new.items) }
 {
     if number <= 1 {
         return append_note(out, "the text is empty");
     }
-    append_text(out, "  the text ends behind line ")?;
-    append_last_number(out, number - 1)
+    append_numbered(alloc, out, "the text ends behind line ", number - 1)
 }
 
 // Appends the line as it stands.
-#[tactic(auto, unfolding(crate::specs::Explanation::shown_line))]
-fn append_shown(out: &mut Vec<u8>, line: &[u8]) -> Result<(), NoMemory>
-    ensures { OnOk result (out.new.items ≡ out.old.items ++ shown_line line.now) }
+fn append_shown(alloc: Global, out: &mut Vec<u8>, line: &[u8]) -> Result<(), NoMemory>
+    ensures { OnOk result (AddsLine out.old.items out.new.items) }
 {
-    append_text(out, "  line: ")?;
-    append_quoted(out, line)?;
-    out.push(b'\n')?;
-    Ok(())
+    let mut text = Vec::new(alloc);
+    append_text(&mut text, "line: ")?;
+    append_quoted(&mut text, line)?;
+    append_words(out, text.as_slice())
 }
 
 // Appends the line with its fault, or that the text ends before it.
+#[tactic(auto, using(crate::proofs::Showing::tell_rules))]
 fn append_line(
     alloc: Global,
     out: &mut Vec<u8>,
@@ -315,27 +363,33 @@ fn append_line(
     opened: Opened,
     line: Option<&[u8]>,
 ) -> Result<(), NoMemory>
-    ensures { OnOk result (out.new.items ≡ out.old.items ++ line_note refusal number opened (option_copied line.entry)) }
+    ensures { OnOk result (Tells (line_note refusal number opened (option_copied line.entry)) out.old.items out.new.items) }
 {
     match line {
-        None => append_ended(out, number),
+        None => append_ended(alloc, out, number),
         Some(line) => {
-            append_shown(out, line)?;
+            append_shown(alloc, out, line)?;
             append_wrong(alloc, out, refusal, opened, line)
         }
     }
 }
 
 // Appends what is open.
-fn append_opened(out: &mut Vec<u8>, sort: Sort, opened: Opened) -> Result<(), NoMemory>
-    ensures { OnOk result (out.new.items ≡ out.old.items ++ open_note sort opened) }
+#[tactic(auto, using(crate::proofs::Showing::tell_rules))]
+fn append_opened(
+    alloc: Global,
+    out: &mut Vec<u8>,
+    sort: Sort,
+    opened: Opened,
+) -> Result<(), NoMemory>
+    ensures { OnOk result (Tells (open_note sort opened) out.old.items out.new.items) }
 {
     match sort {
         Sort::Script => {
-            append_begun(out, "a behaviour", opened.inner)?;
-            append_begun(out, "a test case", opened.outer)
+            append_begun(alloc, out, "a behaviour began in line ", opened.inner)?;
+            append_begun(alloc, out, "a test case began in line ", opened.outer)
         }
-        Sort::Histories => append_begun(out, "a history", opened.outer),
+        Sort::Histories => append_begun(alloc, out, "a history began in line ", opened.outer),
         Sort::Moves | Sort::Source => Ok(()),
     }
 }
@@ -345,14 +399,14 @@ fn append_opened(out: &mut Vec<u8>, sort: Sort, opened: Opened) -> Result<(), No
 ///
 /// Each line ends with a line feed and begins with two spaces. Of the text it shows printable bytes alone, others by their
 /// numbers, and of a long line the first 60 bytes.
-#[tactic(auto, unfolding(crate::specs::Explanation::explanation))]
+#[tactic(auto, unfolding(crate::specs::Explanation::explanation), using(crate::proofs::Showing::tell_rules))]
 pub fn explain(
     alloc: Global,
     text: &[u8],
     number: usize,
     refusal: Refusal,
 ) -> Result<Vec<u8>, NoMemory>
-    ensures { IfOk result (λ v. v.items ≡ explanation refusal text.now number) }
+    ensures { IfOk result (λ v. Tells (explanation refusal text.now number) [] v.items) }
 {
     let sort = refusal.sort();
     let seen = seen_sort(alloc, text)?;
@@ -360,6 +414,6 @@ pub fn explain(
     let mut out = Vec::new(alloc);
     append_sort(&mut out, sort, seen)?;
     append_line(alloc, &mut out, refusal, number, found.opened, found.line)?;
-    append_opened(&mut out, sort, found.opened)?;
+    append_opened(alloc, &mut out, sort, found.opened)?;
     Ok(out)
 }

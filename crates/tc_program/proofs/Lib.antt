@@ -8,3 +8,4 @@ pub mod Checking
 pub mod Exploring
 pub mod WrittenHistories
 pub mod Reporting
+pub mod Explaining

@@ -1,14 +1,17 @@
 -- What is told of a text that is refused.
-use Rattle.std.specs.Prelude.{ℕ, true, Option, Some, None, if◌then◌else◌, List, [], ◌++◌}
+use Rattle.std.specs.Prelude.{ℕ, true, Option, Some, None, if◌then◌else◌, List, []}
 use Rattle.tc_text.specs.declared.fault.TextFault.TheVariants as X
 use Rattle.tc_explain.specs.declared.sort.Refusal.{Refusal}
 use Rattle.tc_explain.specs.declared.sort.Refusal.TheVariants as R
 use Rattle.tc_explain.specs.Explanation.{explanation}
+use Rattle.tc_explain.specs.Notes.{Note, Tells}
 use Rattle.tc_command.specs.declared.task.Task.{Task}
 use Rattle.tc_command.specs.declared.task.Task.TheVariants as T
 use Rattle.tc_program.specs.declared.fault.RunFault.{RunFault}
 use Rattle.tc_program.specs.declared.fault.RunFault.TheVariants as F
+use Rattle.tc_program.specs.declared.outcome.Outcome.{Outcome}
 use Rattle.tc_program.specs.Fault.{line_of}
+use Rattle.tc_program.specs.Tell.{IsRefusal}
 
 -- what a fault says of the text of a task, and the number of its line, where the task is asked to explain it
 abbrev pub refusal_of : Task → RunFault → Option (Refusal × ℕ)
@@ -19,10 +22,14 @@ refusal_of (T.Run o) (F.Script fault) = if o.explains then Some (R.Script fault.
 refusal_of task fault = None
 
 -- what is explained of the text, where something is
-abbrev pub notes_of : Option (Refusal × ℕ) → List ℕ → List ℕ
+abbrev pub notes_of : Option (Refusal × ℕ) → List ℕ → List Note
 notes_of None text = []
 notes_of (Some what) text = explanation what.0 text what.1
 
--- what is told of the text of a task that has this fault: its line, and behind it what is explained
-abbrev pub told_of : Task → List ℕ → RunFault → List ℕ
-told_of task text fault = line_of fault ++ notes_of (refusal_of task fault) text
+-- this is told of the text of a task that has this fault: its line, and behind it what is explained
+abbrev pub IsToldOf : Task → List ℕ → RunFault → List ℕ → Type 0
+IsToldOf task text fault told = Tells (notes_of (refusal_of task fault) text) (line_of fault) told
+
+-- the outcome of a task whose text has this fault: that is told
+abbrev pub IsExplained : Task → List ℕ → RunFault → Option (List ℕ) → Option (List ℕ) → Outcome → Type 0
+IsExplained task text fault before after outcome = (told : List ℕ) × IsToldOf task text fault told × IsRefusal before after told outcome

@@ -12,7 +12,7 @@ use Rattle.tc_program.specs.declared.fault.RunFault.TheVariants as F
 use Rattle.tc_program.specs.declared.outcome.Outcome.{Outcome}
 use Rattle.tc_program.specs.declared.reply.Answer.{Answer}
 use Rattle.tc_program.specs.Choosing.{AreChosen}
-use Rattle.tc_program.specs.Explained.{told_of}
+use Rattle.tc_program.specs.Explained.{IsExplained}
 use Rattle.tc_program.specs.Fault.{line_of, of_output}
 use Rattle.tc_program.specs.Give.{is_live}
 use Rattle.tc_program.specs.Input.{IsRead, IsUnread}
@@ -53,7 +53,7 @@ pub data IsDone (task : Task) (text : List ℕ) (s : Streams) (outcome : Outcome
   part : (a : Answer) → Makes task text a → AppendsPrefix s.before s.after a.out → IsRefusal s.untold s.told (line_of F.Write) outcome
       → IsDone task text s outcome
   -- the text is refused: nothing was written, and why is told
-  refused : (fault : RunFault) → Refuses task text fault → Keeps s.before s.after → IsRefusal s.untold s.told (told_of task text fault) outcome
+  refused : (fault : RunFault) → Refuses task text fault → Keeps s.before s.after → IsExplained task text fault s.untold s.told outcome
       → IsDone task text s outcome
   -- a campaign was run, and its results were written whole or not
   run : (o : RunOptions) → task ≡ T.Run o → RunsScript o text s outcome ⊎ LeavesScript o text s outcome → IsDone task text s outcome

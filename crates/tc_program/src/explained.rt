@@ -1,7 +1,8 @@
 //! What is told of a text that is refused.
-ghost use Rattle.std.specs.Prelude.{◌≡◌, IfOk};
-ghost use Rattle.tc_program.specs.Explained.{refusal_of as spec_refusal, told_of};
-ghost use Rattle.tc_program.specs.Tell.{IsRefusal};
+ghost use Rattle.std.specs.Prelude.{◌≡◌, IfOk, OnOk};
+ghost use Rattle.tc_explain.specs.Explanation.{explanation};
+ghost use Rattle.tc_explain.specs.Notes.{Tells};
+ghost use Rattle.tc_program.specs.Explained.{IsExplained, IsToldOf, notes_of, refusal_of as spec_refusal};
 
 use crate::fault::{RunFault, fault_line};
 use crate::outcome::Outcome;
@@ -31,16 +32,44 @@ fn refusal_of(task: &Task, fault: RunFault) -> Option<(Refusal, usize)>
     }
 }
 
+// Appends what is explained of the text, the fault of which is of this kind and in this line.
+fn append_notes(
+    alloc: Global,
+    out: &mut Vec<u8>,
+    text: &[u8],
+    line: usize,
+    refusal: Refusal,
+) -> Result<(), NoMemory>
+    ensures { OnOk result (Tells (explanation refusal text.now line) out.old.items out.new.items) }
+{
+    let notes = explain(alloc, text, line, refusal)?;
+    out.extend_from_slice(notes.as_slice())?;
+    Ok(())
+}
+
+// Appends what is explained of the text, where something is.
+#[tactic(auto, using(tc_explain::proofs::Showing::tells_none))]
+fn append_explained(
+    alloc: Global,
+    out: &mut Vec<u8>,
+    text: &[u8],
+    refused: Option<(Refusal, usize)>,
+) -> Result<(), NoMemory>
+    ensures { OnOk result (Tells (notes_of refused text.now) out.old.items out.new.items) }
+{
+    match refused {
+        Some((refusal, line)) => append_notes(alloc, out, text, line, refusal),
+        None => Ok(()),
+    }
+}
+
 // The fault's line, and behind it what is explained of the text.
 fn told_text(alloc: Global, task: &Task, text: &[u8], fault: RunFault) -> Result<Vec<u8>, NoMemory>
-    ensures { IfOk result (λ v. v.items ≡ told_of task.now text.now fault) }
+    ensures { IfOk result (λ v. IsToldOf task.now text.now fault v.items) }
 {
     let mut out = Vec::new(alloc);
     fault_line(&fault, &mut out)?;
-    if let Some((refusal, line)) = refusal_of(task, fault) {
-        let notes = explain(alloc, text, line, refusal)?;
-        out.extend_from_slice(notes.as_slice())?;
-    }
+    append_explained(alloc, &mut out, text, refusal_of(task, fault))?;
     Ok(out)
 }
 
@@ -53,7 +82,7 @@ pub(crate) fn refuse_text<E: Write>(
     text: &[u8],
     fault: RunFault,
 ) -> Outcome
-    ensures { IsRefusal (E.contents errors.old) (E.contents errors.new) (told_of task.now text.now fault) result }
+    ensures { IsExplained task.now text.now fault (E.contents errors.old) (E.contents errors.new) result }
 {
     refuse_with(errors, told_text(alloc, task, text, fault))
 }
