@@ -1,5 +1,5 @@
 -- Lists of moves as texts, and what is wrong with other texts.
-use Rattle.std.specs.Prelude.{ℕ, ◌≡◌, ◌<◌, ◌≤◌, ◌+◌, ◌^◌, List, [], ◌∷◌, ◌++◌, length, map, codes}
+use Rattle.std.specs.Prelude.{ℕ, ◌≡◌, ◌<◌, ◌+◌, ◌^◌, List, [], ◌∷◌, ◌++◌, length, map, codes}
 use Rattle.std.specs.Fmt.{decimal}
 use Rattle.tc_entry.specs.Limits.{IsBehaviours}
 use Rattle.tc_verdict.specs.declared.run.Run.{Run}
