@@ -1,6 +1,6 @@
 //! The program's command, with its subcommands and their options.
 ghost use Rattle.std.specs.Prelude.{◌≡◌, IfOk, codes, false};
-ghost use Rattle.clap.specs.Words.{app_of, rule_of, with_subcommand as and_subcommand};
+ghost use Rattle.clap.specs.Words.{app_of, new_app, rule_of, with_subcommand as and_subcommand};
 ghost use Rattle.clap.specs.declared.builder.command.Command.TheViews.{out-Command};
 ghost use Rattle.tc_command.specs.Command.{check, explore, flag_rule, replay, report, run, ttrun, word_rule, words_rule};
 ghost use Rattle.tc_command.specs.Inside.{GrowsBy, app_of_subcommand, rule_of_row, with_each, with_rows};
@@ -181,21 +181,33 @@ fn with_options<'a>(
     Ok(command)
 }
 
+// A command of this name, with what the help says of it.
+fn described<'a>(alloc: Global, name: &'a str, about: &'a str) -> Command<'a>
+    ensures app { app_of result ≡ new_app name.entry.now }
+    ensures local { (out-Command result).has_globals ≡ false }
+{
+    Command::new(alloc, name).about(about)
+}
+
 fn run_command<'a>(alloc: Global) -> Result<Command<'a>, AllocError>
     ensures options { IfOk result (λ c. app_of c ≡ run) }
     ensures local { IfOk result (λ c. (out-Command c).has_globals ≡ false) }
 {
-    let command = Command::new(alloc, "run")
-        .about("runs the campaign of a script, and writes its report")
-        .after_help(RUN_HELP);
-    with_options(alloc, command, &RUN_OPTIONS)
+    let command = described(
+        alloc,
+        "run",
+        "runs the campaign of a script, and writes its report",
+    );
+    with_options(alloc, command.after_help(RUN_HELP), &RUN_OPTIONS)
 }
 
 fn explore_command<'a>(alloc: Global) -> Result<Command<'a>, AllocError>
     ensures options { IfOk result (λ c. app_of c ≡ explore) }
     ensures local { IfOk result (λ c. (out-Command c).has_globals ≡ false) }
 {
-    let command = Command::new(alloc, "explore").about(
+    let command = described(
+        alloc,
+        "explore",
         "looks for every overall verdict that a schedule of a test case can give",
     );
     with_options(alloc, command, &EXPLORE_OPTIONS)
@@ -205,7 +217,9 @@ fn report_command<'a>(alloc: Global) -> Result<Command<'a>, AllocError>
     ensures options { IfOk result (λ c. app_of c ≡ report) }
     ensures local { IfOk result (λ c. (out-Command c).has_globals ≡ false) }
 {
-    let command = Command::new(alloc, "report").about(
+    let command = described(
+        alloc,
+        "report",
         "reads histories, and writes them in one of these forms",
     );
     with_options(alloc, command, &REPORT_OPTIONS)
@@ -215,7 +229,11 @@ fn check_command<'a>(alloc: Global) -> Result<Command<'a>, AllocError>
     ensures options { IfOk result (λ c. app_of c ≡ check) }
     ensures local { IfOk result (λ c. (out-Command c).has_globals ≡ false) }
 {
-    let command = Command::new(alloc, "check").about("replays histories, and says which are legal");
+    let command = described(
+        alloc,
+        "check",
+        "replays histories, and says which are legal",
+    );
     with_options(alloc, command, &[EXPLAIN])
 }
 
@@ -223,7 +241,9 @@ fn replay_command<'a>(alloc: Global) -> Result<Command<'a>, AllocError>
     ensures options { IfOk result (λ c. app_of c ≡ replay) }
     ensures local { IfOk result (λ c. (out-Command c).has_globals ≡ false) }
 {
-    let command = Command::new(alloc, "replay").about(
+    let command = described(
+        alloc,
+        "replay",
         "replays a list of moves, and prints each reply and the overall verdict",
     );
     with_options(alloc, command, &[EXPLAIN])
