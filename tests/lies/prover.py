@@ -16,10 +16,11 @@ SAID = re.compile(r"must-fail (\w+)/(\w+)\.edit: (.*)")
 
 
 def edits_by_crate(only: str) -> Dict[str, List[str]]:
-    """The edits with this in their names, by the crate that they change."""
+    """The edits with this in CRATE/NAME, by the crate that they change."""
     found: Dict[str, List[str]] = defaultdict(list)
     for at, _, names in os.walk(EDITS):
-        found[os.path.basename(at)] += sorted(it for it in names if it.endswith(".edit") and only in it)
+        crate = os.path.basename(at)
+        found[crate] += sorted(it for it in names if it.endswith(".edit") and only in f"{crate}/{it[:-5]}")
     return {crate: names for crate, names in sorted(found.items()) if names}
 
 

@@ -139,7 +139,7 @@ def main() -> int:
     """Shows the lies to the prover, and then to the tests."""
     parser = argparse.ArgumentParser(description="shows that the prover or the program's tests find out each lie")
     parser.add_argument("--by", choices=("prover", "tests"), help="shows them to one of the two alone")
-    parser.add_argument("--only", default="", help="the lies with this in their names")
+    parser.add_argument("--only", default="", help="the lies with this in their names, or in CRATE/NAME for those of the prover")
     parser.add_argument("--jobs", type=int, default=1, help="how many builds or crates are tried at a time")
     parser.add_argument("--rt", default="rt", help="the words that start rt")
     given = parser.parse_args()
