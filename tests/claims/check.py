@@ -13,7 +13,7 @@ from typing import Callable, Dict, Iterator, List, Tuple
 
 sys.dont_write_bytecode = True
 TOP = os.path.dirname(os.path.dirname(os.path.dirname(os.path.abspath(__file__))))
-sys.path.append(os.path.join(TOP, "tests", "program"))
+sys.path += [os.path.join(TOP, "tests", it) for it in ("program", "lies")]
 
 import believed
 import edits
@@ -276,7 +276,7 @@ def main() -> int:
         "all links lead somewhere": lambda: links(documents),
         "all paths begin at the top, and lead somewhere": lambda: paths(documents),
         "no line of prose is too long": lambda: broken_lines(documents),
-        "each edit can be made, has a name of its own, and the gate has few": lambda: edits.faults(TOP),
+        "each bug can be planted, has a name of its own, and the gate has few": lambda: edits.faults(TOP),
         "no number stands for a rule that is written elsewhere": numbers,
         "the first line of each source says what it is": nameless,
     }

@@ -1,4 +1,4 @@
-"""The must-fail edits: those that the gate tries, in crates/, and those that are planted before a release, in tests/lies/."""
+"""The planted bugs: the edits that the gate tries, in crates/, and those of tests/lies/, which are planted before a release."""
 from __future__ import annotations
 
 import os
@@ -6,6 +6,7 @@ from collections import Counter
 from dataclasses import dataclass
 from typing import Dict, Iterator, List, Tuple
 
+from lies import LIES
 from sources import files_below
 
 GATE = "crates/{crate}/must-fail"
@@ -67,8 +68,23 @@ def fault_of(top: str, edit: Edit) -> str:
     return "" if pairs else "it changes nothing"
 
 
+def faults_of_lies(top: str) -> Iterator[str]:
+    """Lies that the program's tests are shown which cannot be planted: each text stands exactly once in the code of all crates."""
+    texts = []
+    for path in files_below(os.path.join(top, "crates"), ".rt"):
+        if "_tests/" not in path and "/out/" not in path:
+            with open(path, encoding="utf-8") as file:
+                texts.append(file.read())
+    for lie in LIES:
+        for old, _ in lie.changes:
+            count = sum(text.count(old) for text in texts)
+            if count != 1:
+                yield f"the lie {lie.name}: this text is in the code {count} times: {old.strip()}"
+
+
 def faults(top: str) -> Iterator[str]:
     """Edits that cannot be made or share a name, and a gate that has too many, or a crate with too few."""
+    yield from faults_of_lies(top)
     gate, release = edits_of(top, GATE), edits_of(top, RELEASE)
     for edit in [*gate, *release]:
         fault = fault_of(top, edit)

@@ -17,26 +17,19 @@ LIES = (
     Lie("a_refused_input_ends_with_0", (
         ("""\
         status: REFUSED,
-        told: tell(alloc, errors, fault),
+        told: match text {
 """, """\
         status: 0,
-        told: tell(alloc, errors, fault),
+        told: match text {
 """),
     )),
     Lie("check_and_replay_are_exchanged", (
         ("""\
-        Task::Replay { explains } => {
-            let answer = replay(alloc, &mut kept, reader, writer);
+        Task::Replay { .. } => replay_text(alloc, text),
+        Task::Check { .. } => check_text(alloc, text),
 """, """\
-        Task::Replay { explains } => {
-            let answer = check(alloc, &mut kept, reader, writer);
-"""),
-        ("""\
-        Task::Check { explains } => {
-            let answer = check(alloc, &mut kept, reader, writer);
-""", """\
-        Task::Check { explains } => {
-            let answer = replay(alloc, &mut kept, reader, writer);
+        Task::Replay { .. } => check_text(alloc, text),
+        Task::Check { .. } => replay_text(alloc, text),
 """),
     )),
     Lie("csv_is_ignored", (
@@ -69,8 +62,8 @@ LIES = (
 """),
     )),
     Lie("fault_lines_are_never_told", (
-        ("""        told: tell(alloc, errors, fault),
-""", """        told: Ok(()),
+        ("""            Ok(text) => tell(errors, text.as_slice()),
+""", """            Ok(_) => Ok(()),
 """),
     )),
     Lie("steps_of_long_behaviours_are_dropped", (
