@@ -16,7 +16,8 @@ use Rattle.tc_step.specs.declared.place.TargetPlace.{TargetPlace}
 use Rattle.tc_step.specs.declared.step.Step.{Step}
 use Rattle.tc_step.specs.declared.step.Step.TheVariants as S
 use Rattle.tc_step.specs.Steps.{count_after}
-use Rattle.tc_book.specs.Passes.{PassState, ends_pass, has_ended, entry_of, added, By, IsCall, IsWait, Waits}
+use Rattle.tc_book.specs.Passes.{PassState, has_ended, entry_of, added, By, IsCall, IsWait, Waits}
+use Rattle.tc_table.specs.History.{ends_pass}
 use Rattle.tc_book.specs.Replies.{is_parked}
 use Rattle.tc_book.specs.declared.halt.Halt.{Halt}
 use Rattle.tc_book.specs.declared.halt.Halt.TheVariants as H

@@ -22,11 +22,11 @@ use Rattle.tc_step.specs.Steps.{ScriptView}
 use Rattle.tc_script.specs.Names.{Word}
 use Rattle.tc_script.specs.Scope.{Head}
 use Rattle.tc_script.specs.Law.{signatures, StartsOne, IsCase}
-use Rattle.tc_book.specs.declared.closed.Closed.{Closed}
+use Rattle.tc_case.specs.declared.closed.Closed.{Closed}
 use Rattle.tc_book.specs.Closing.{IsFitting}
-use Rattle.tc_book.specs.Parts.{part}
+use Rattle.tc_case.specs.Parts.{part}
 use Rattle.tc_book.specs.Passes.{PassState, LeftState}
-use Rattle.tc_book.specs.Report.{IsOneHistory}
+use Rattle.tc_case.specs.Report.{IsOneHistory}
 use Rattle.tc_book.specs.Starts.{start_of, start_in}
 use Rattle.tc_book.proofs.PartOf.{comp_is}
 use Rattle.tc_book.proofs.Starting.{starts_below}

@@ -10,7 +10,7 @@ use Rattle.tc_entry.specs.declared.op.Op.{Op}
 use Rattle.tc_entry.specs.declared.op.Op.TheVariants as O
 use Rattle.tc_entry.specs.declared.reply.Reply.{Reply}
 use Rattle.tc_entry.specs.declared.reply.Reply.TheVariants as R
-use Rattle.tc_merge.specs.Merge.{is_verdict_call}
+use Rattle.tc_case.specs.Merge.{is_verdict_call}
 use Rattle.tc_board.specs.declared.answer.Answer.TheVariants.{Met, Found}
 use Rattle.tc_board.specs.Hand.{HandView}
 use Rattle.tc_book.specs.Hands.{found_by, answer_in, answers_in, IsOneAnswer, IsHandOf}

@@ -7,12 +7,10 @@ pub mod Starting
 pub mod PartOf
 pub mod ByRun
 pub mod Merging
-pub mod Numbered
 pub mod Sums
 pub mod Reporting
 pub mod Handed
 pub mod Dealing
 pub mod Wholeness
 pub mod Skipping
-pub mod Differing
 pub mod StartedBefore

@@ -7,14 +7,13 @@ use Rattle.tc_entry.specs.declared.comp.Comp.{Comp}
 use Rattle.tc_entry.specs.declared.entry.Entry.{Entry}
 use Rattle.tc_verdict.specs.declared.run.Run.{Run}
 use Rattle.tc_table.specs.History.{comp_of}
-use Rattle.tc_merge.specs.declared.run_log.RunLog.{RunLog}
-use Rattle.tc_merge.specs.Merge.{is_other, is_verdict_call, head, head_at_start, after_others, count_of, started, in_place, late, end_of, merge}
-use Rattle.tc_merge.specs.Merge.{log_of as log_by}
+use Rattle.tc_case.specs.declared.run_log.RunLog.{RunLog}
+use Rattle.tc_case.specs.Merge.{is_other, is_verdict_call, head, head_at_start, after_others, count_of, started, in_place, late, end_of, merge, log_of as log_by, logged}
 use Rattle.tc_merge.proofs.Kept.{others-merge}
 use Rattle.tc_merge.proofs.Table.{log_or, log_or-none, log_or-last, log_of-beyond}
 use Rattle.tc_book.specs.Closing.{IsWhole, run_log}
 use Rattle.tc_book.specs.OpenCase.{AreOthers}
-use Rattle.tc_book.specs.Parts.{part, log_if, logs_below, logged}
+use Rattle.tc_case.specs.Parts.{part, log_if, logs_below}
 use Rattle.tc_book.specs.Passes.{LeftState}
 use Rattle.tc_book.proofs.Reporting.{no_others}
 use Rattle.tc_book.proofs.Skipping.{filter-reverse}

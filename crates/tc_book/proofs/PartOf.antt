@@ -7,9 +7,8 @@ use Rattle.tc_entry.specs.declared.op.Op.TheVariants as O
 use Rattle.tc_entry.specs.Reply.{is_ok}
 use Rattle.tc_table.specs.History.{comp_of, first_some, starts_run}
 use Rattle.tc_book.specs.Starts.{starts_with, start_of}
-use Rattle.tc_book.specs.Inside.{comp_by}
-use Rattle.tc_book.specs.Parts.{part, is_by}
-use Rattle.tc_book.specs.Inside.{start_at, KnowsStarts}
+use Rattle.tc_book.specs.Inside.{comp_by, start_at, KnowsStarts}
+use Rattle.tc_case.specs.Parts.{part, is_by}
 
 with_comp : (op : Op) (b : ℕ) → starts_run op b ≡ option_map (λ s. s.0) (starts_with op b)
 with_comp (O.Start c run args) b = by_test (run.0 == b)

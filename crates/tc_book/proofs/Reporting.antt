@@ -10,18 +10,18 @@ use Rattle.tc_table.specs.History.{comps, comp_of, is_over}
 use Rattle.tc_table.specs.Local.{local, overall}
 use Rattle.tc_table.specs.Legal.{IsLegal, IsAllOver}
 use Rattle.tc_table.proofs.Over.{all_over}
-use Rattle.tc_book.specs.declared.closed.Closed.{Closed}
-use Rattle.tc_merge.specs.declared.run_log.RunLog.{RunLog}
-use Rattle.tc_merge.specs.Merge.{is_other, merge}
+use Rattle.tc_case.specs.declared.closed.Closed.{Closed}
+use Rattle.tc_case.specs.declared.run_log.RunLog.{RunLog}
+use Rattle.tc_case.specs.Merge.{is_other, merge, logged}
 use Rattle.tc_book.specs.Passes.{LeftState}
 use Rattle.tc_book.specs.Closing.{is_of_run, IsFitting, IsWhole}
-use Rattle.tc_book.specs.Parts.{part, log_of, log_if, logs_below, logged}
+use Rattle.tc_case.specs.Parts.{part, log_of, log_if, logs_below}
 use Rattle.tc_book.specs.Inside.{start_at, comp_by, logs_from, KnowsStarts, KnowsParts}
 use Rattle.tc_book.proofs.PartOf.{comp_known}
-use Rattle.tc_book.specs.Report.{IsOneHistory}
+use Rattle.tc_case.specs.Report.{IsOneHistory}
 use Rattle.std.proofs.lemmas.List.{length-map, get_or_append_left}
 use Rattle.std.proofs.Math.Seq.{get_or-append_seam}
-use Rattle.tc_book.proofs.Numbered.{numbered}
+use Rattle.tc_table.proofs.Numbered.{numbered}
 use Rattle.tc_book.proofs.Sums.{sum_below, only, sum_below-same, sum_below-add, sum_below-zero, sum_below-only, sum_below-at_most}
 
 -- one list of runs, summed by run

@@ -9,7 +9,7 @@ use Rattle.tc_entry.specs.declared.op.Op.TheVariants as O
 use Rattle.tc_entry.specs.declared.reply.Reply.{Reply}
 use Rattle.tc_entry.specs.Reply.{is_ok}
 use Rattle.tc_table.specs.History.{first_some}
-use Rattle.tc_merge.specs.Merge.{is_other, is_verdict_call}
+use Rattle.tc_case.specs.Merge.{is_other, is_verdict_call}
 use Rattle.tc_book.specs.Starts.{start_of, start_in}
 use Rattle.tc_book.specs.Inside.{KnowsStarts}
 use Rattle.tc_book.proofs.Starting.{no_more}

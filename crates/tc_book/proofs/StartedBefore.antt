@@ -9,7 +9,7 @@ use Rattle.tc_table.specs.Legal.{IsLegal}
 use Rattle.tc_book.specs.Closing.{all_started}
 use Rattle.tc_book.specs.Starts.{start_in}
 use Rattle.tc_book.specs.Inside.{StartsBelow, KnowsStarts, start_at, comp_by}
-use Rattle.tc_book.proofs.Differing.{later_legal, parted}
+use Rattle.tc_table.proofs.Differing.{later_legal, parted}
 use Rattle.tc_book.proofs.PartOf.{comp_known}
 use Rattle.tc_book.proofs.Starting.{starts_below}
 

@@ -10,7 +10,7 @@ use Rattle.tc_entry.specs.declared.reply.Fault.TheVariants as F
 use Rattle.tc_table.specs.Waiting.{holds, is_stuck}
 use Rattle.tc_table.specs.Faults.{fault}
 use Rattle.tc_table.specs.Answers.{answer, answer_unless, plain_answer, is_active}
-use Rattle.tc_merge.specs.Merge.{is_verdict_call}
+use Rattle.tc_case.specs.Merge.{is_verdict_call}
 use Rattle.tc_book.specs.Replies.{suits}
 
 wait_suits : (k : Bool) (t : _) (held : Bool) → suits (O.Wait k t) (if held then R.Matched else R.Parked) ≡ true

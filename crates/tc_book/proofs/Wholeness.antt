@@ -7,14 +7,14 @@ use Rattle.std.proofs.lemmas.List.Sums.{sum_by-cons}
 use Rattle.tc_entry.specs.declared.comp.Comp.{Comp}
 use Rattle.tc_entry.specs.declared.entry.Entry.{Entry}
 use Rattle.tc_table.specs.History.{is_over}
-use Rattle.tc_merge.specs.declared.run_log.RunLog.{RunLog}
+use Rattle.tc_case.specs.declared.run_log.RunLog.{RunLog}
 use Rattle.tc_book.specs.OpenCase.{OpenCase}
 use Rattle.tc_book.specs.Passes.{LeftState}
-use Rattle.tc_merge.specs.Merge.{log_of}
+use Rattle.tc_case.specs.Merge.{log_of, logged}
 use Rattle.tc_merge.proofs.Kept.{others-merge}
 use Rattle.tc_book.specs.Closing.{all_started, is_of_run, IsFitting, IsWhole, IsMerged, run_log, merged}
 use Rattle.tc_book.proofs.Skipping.{starts_same}
-use Rattle.tc_book.specs.Parts.{part, logged}
+use Rattle.tc_case.specs.Parts.{part}
 use Rattle.tc_book.specs.Inside.{ArePlaced, KnowsStarts, KnowsParts}
 use Rattle.tc_book.proofs.PartOf.{comp_known}
 

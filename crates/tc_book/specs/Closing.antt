@@ -5,14 +5,14 @@ use Rattle.tc_board.specs.declared.record.Record.TheVariants.{Unbegun}
 use Rattle.tc_entry.specs.declared.entry.Entry.{Entry}
 use Rattle.tc_table.specs.History.{comp_of, is_over}
 use Rattle.tc_table.specs.Legal.{IsLegal}
-use Rattle.tc_merge.specs.declared.run_log.RunLog.{RunLog}
-use Rattle.tc_merge.specs.Merge.{merge}
+use Rattle.tc_case.specs.declared.run_log.RunLog.{RunLog}
+use Rattle.tc_case.specs.Merge.{merge}
 use Rattle.tc_words.specs.Words.{record_at}
 use Rattle.tc_words.specs.Counting.{Counts}
 use Rattle.tc_book.specs.OpenCase.{OpenCase}
 use Rattle.tc_book.specs.Passes.{LeftState}
 use Rattle.tc_book.specs.Starts.{start_of}
-use Rattle.tc_book.specs.Parts.{part}
+use Rattle.tc_case.specs.Parts.{part}
 
 -- this was left of run b
 abbrev pub is_of_run : ℕ → LeftState → Bool

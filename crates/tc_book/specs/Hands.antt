@@ -11,7 +11,7 @@ use Rattle.tc_entry.specs.declared.reply.Reply.TheVariants as R
 use Rattle.tc_board.specs.declared.answer.Answer.{Answer}
 use Rattle.tc_board.specs.declared.answer.Answer.TheVariants.{Met, Taken, Found, Shut}
 use Rattle.tc_board.specs.Hand.{HandView}
-use Rattle.tc_merge.specs.Merge.{is_verdict_call}
+use Rattle.tc_case.specs.Merge.{is_verdict_call}
 
 -- a verdict that was found; error is never in a word
 abbrev pub found_by : Verdict → List Answer

@@ -8,10 +8,10 @@ use Rattle.tc_entry.specs.declared.op.Op.{Op}
 use Rattle.tc_entry.specs.declared.op.Op.TheVariants as O
 use Rattle.tc_entry.specs.declared.reply.Reply.{Reply}
 use Rattle.tc_entry.specs.declared.reply.Reply.TheVariants as R
-use Rattle.tc_merge.specs.declared.run_log.RunLog.{RunLog}
+use Rattle.tc_case.specs.declared.run_log.RunLog.{RunLog}
 use Rattle.tc_book.specs.declared.places.Places.{Places}
 use Rattle.tc_table.specs.Legal.{IsLegal}
-use Rattle.tc_book.specs.Parts.{part, log_of, is_by}
+use Rattle.tc_case.specs.Parts.{part, log_of, is_by}
 use Rattle.tc_book.specs.Closing.{IsOneEach}
 use Rattle.tc_book.specs.OpenCase.{AreOthers, OpenCase, past_of, reply_to}
 use Rattle.tc_words.specs.Words.{AreTold}

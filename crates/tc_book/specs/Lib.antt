@@ -5,8 +5,6 @@ pub mod OpenCase
 pub mod Waking
 pub mod Passes
 pub mod Hands
-pub mod Parts
-pub mod Report
 pub mod Closing
 pub mod Fault
 pub mod Inside

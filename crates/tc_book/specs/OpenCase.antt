@@ -4,7 +4,7 @@ use Rattle.tc_verdict.specs.declared.run.Run.{Run}
 use Rattle.tc_entry.specs.declared.entry.Entry.{Entry}
 use Rattle.tc_entry.specs.declared.op.Op.{Op}
 use Rattle.tc_entry.specs.declared.reply.Reply.{Reply}
-use Rattle.tc_merge.specs.Merge.{is_verdict_call}
+use Rattle.tc_case.specs.Merge.{is_verdict_call}
 use Rattle.tc_board.specs.declared.record.Record.{Record}
 use Rattle.tc_book.specs.declared.places.Places.{Places}
 use Rattle.tc_book.specs.Replies.{is_parked}

@@ -1,5 +1,5 @@
 -- What contracts see of a pass and of what it leaves, and what its calls add to its log.
-use Rattle.std.specs.Prelude.{◌≡◌, ◌||◌, ◌++◌, ◌∷◌, [], ◌⊎◌, Bool, true, false, Option, Some, List, Result, Ok, Err}
+use Rattle.std.specs.Prelude.{◌≡◌, ◌++◌, ◌∷◌, [], ◌⊎◌, Bool, true, false, Option, List, Result, Ok, Err}
 use Rattle.std.specs.List.{list_any}
 use Rattle.tc_verdict.specs.declared.run.Run.{Run}
 use Rattle.tc_entry.specs.declared.comp.Comp.{Comp}
@@ -9,8 +9,7 @@ use Rattle.tc_entry.specs.declared.op.Op.TheVariants as O
 use Rattle.tc_entry.specs.declared.op.Target.{Target}
 use Rattle.tc_entry.specs.declared.reply.Reply.{Reply}
 use Rattle.tc_entry.specs.declared.reply.Reply.TheVariants as R
-use Rattle.tc_entry.specs.Reply.{is_ended}
-use Rattle.tc_table.specs.History.{halts}
+use Rattle.tc_table.specs.History.{ends_pass}
 use Rattle.tc_book.specs.declared.halt.Halt.{Halt}
 use Rattle.tc_book.specs.declared.halt.Halt.TheVariants as H
 
@@ -26,10 +25,6 @@ pub record LeftState : Type 0 where
   pub run : Run
   pub log : List Entry
   pub started : Option (Comp × List Comp)
-
--- the entry ends the pass of its caller, on component own: it is replied Ended, or halts that component
-unfoldable pub ends_pass : Comp → Entry → Bool
-ends_pass own e = is_ended e.reply || halts (Some own) e own.0
 
 -- some entry of this log did
 abbrev pub ended_by : Comp → List Entry → Bool

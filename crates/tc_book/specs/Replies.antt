@@ -5,7 +5,7 @@ use Rattle.tc_entry.specs.declared.op.Op.{Op}
 use Rattle.tc_entry.specs.declared.op.Op.TheVariants as O
 use Rattle.tc_entry.specs.declared.reply.Reply.{Reply}
 use Rattle.tc_entry.specs.declared.reply.Reply.TheVariants as R
-use Rattle.tc_merge.specs.Merge.{is_verdict_call}
+use Rattle.tc_case.specs.Merge.{is_verdict_call}
 
 -- the target of a wait does not hold yet
 abbrev pub is_parked : Reply → Bool

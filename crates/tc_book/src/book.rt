@@ -10,7 +10,7 @@ ghost use Rattle.tc_book.specs.Replies.{suits};
 ghost use Rattle.tc_book.specs.Starts as starts;
 ghost use Rattle.tc_book.specs.Waking.{WouldPark};
 ghost use Rattle.tc_words.specs.Words.{record_at, AreTold};
-ghost use Rattle.tc_merge.specs.Merge.{is_verdict_call};
+ghost use Rattle.tc_case.specs.Merge.{is_verdict_call};
 ghost use Rattle.tc_board.specs.Board.{new_keeper};
 ghost use Rattle.std.specs.Arc.{arc_value};
 

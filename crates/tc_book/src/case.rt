@@ -6,10 +6,9 @@ ghost use Rattle.tc_entry.specs.declared.limits.TheConstants.{BEHAVIOURS};
 ghost use Rattle.tc_board.specs.Board.{new_hand, new_hands, new_keeper};
 ghost use Rattle.tc_verdict.specs.declared.run.Run.{Run};
 ghost use Rattle.tc_book.specs.Closing.{IsWhole};
-ghost use Rattle.tc_book.specs.Report.{IsOneHistory};
+ghost use Rattle.tc_case.specs.Report.{IsOneHistory};
 
 use crate::book::Book;
-use crate::closed::{CloseFault, Closed};
 use crate::left::Left;
 use crate::log::Log;
 use crate::pass::Pass;
@@ -19,6 +18,7 @@ use crate::ticket::Ticket;
 use std::alloc::{AllocError, Global};
 use std::sync::{Arc, Wait};
 use tc_board::{Board, Hand, Keeper};
+use tc_case::{CloseFault, Closed};
 use tc_entry::{Args, Comp, Entry};
 use tc_verdict::{NoMemory, Run};
 

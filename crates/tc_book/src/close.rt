@@ -2,13 +2,13 @@
 ghost use Rattle.std.specs.Prelude.{◌≡◌, ◌↔◌, ℕ, ◌<◌, [], None, All, IsTrue, count_by};
 ghost use Rattle.tc_book.specs.Inside.{IsPlaced, ArePlaced};
 ghost use Rattle.tc_book.specs.Closing.{is_of_run, IsOneEach, Agrees, IsAgreed};
-ghost use Rattle.tc_book.specs.Parts.{logged};
+ghost use Rattle.tc_case.specs.Merge.{logged};
 
 use crate::left::Left;
 use crate::starts::{comp_of, start_of};
 use tc_board::Record;
+use tc_case::RunLog;
 use tc_entry::{Args, Comp, Entry};
-use tc_merge::RunLog;
 use tc_words::{Words, counts};
 
 fn count_of(lefts: &[Left], run: u16) -> usize

@@ -3,8 +3,7 @@ ghost use Rattle.std.specs.Prelude.{Some};
 ghost use Rattle.tc_book.specs.Fault.{halt_text};
 
 use std::fmt;
-use tc_entry::Fault;
-use tc_text::name_of_fault;
+use tc_entry::{Fault, name_of_fault};
 use tc_verdict::NoMemory;
 use thiserror::Error;
 

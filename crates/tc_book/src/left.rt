@@ -3,8 +3,8 @@ ghost use Rattle.std.specs.Prelude.{◌≡◌, ◌↔◌, IsTrue, MatchOption, S
 ghost use Rattle.tc_book.specs.Closing.{run_log};
 
 use std::marker::Model;
+use tc_case::RunLog;
 use tc_entry::{Args, Comp, Entry, Sequence};
-use tc_merge::RunLog;
 use tc_verdict::Run;
 
 /// What a run leaves: its log, and what it was started with.

@@ -3,26 +3,26 @@ ghost use Rattle.std.specs.Prelude.{◌≡◌, ◌≢◌, ◌≤◌, ◌+◌, tr
 ghost use Rattle.tc_entry.specs.declared.op.Op.TheVariants as ops;
 ghost use Rattle.tc_entry.specs.declared.reply.Reply.TheVariants as replies;
 ghost use Rattle.tc_table.specs.History as history;
-ghost use Rattle.tc_book.specs.declared.closed.CloseFault.TheVariants as faults;
+ghost use Rattle.tc_case.specs.declared.closed.CloseFault.TheVariants as faults;
 ghost use Rattle.tc_book.specs.Closing.{IsWhole, IsMerged, merged};
 ghost use Rattle.tc_book.specs.Inside.{IsAwaitedIn, goes_on, is_closed, with_own, wakes};
 ghost use Rattle.tc_book.specs.OpenCase.{has_leave, has_wake, past_of, places_after, reply_to, with_entry, without_leave, without_wake};
 ghost use Rattle.tc_book.specs.Replies.{suits};
-ghost use Rattle.tc_book.specs.Report.{IsOneHistory};
+ghost use Rattle.tc_case.specs.Report.{IsOneHistory};
 ghost use Rattle.tc_book.specs.Starts as starts;
 ghost use Rattle.tc_book.specs.Waking.{NobodyWakes, WouldPark};
-ghost use Rattle.tc_merge.specs.Merge.{is_verdict_call};
+ghost use Rattle.tc_case.specs.Merge.{is_verdict_call};
 ghost use Rattle.tc_board.specs.Hand.{answered};
 ghost use Rattle.tc_board.specs.declared.answer.Answer.TheVariants.{Met};
 
 use crate::book::Book;
-use crate::closed::{CloseFault, Closed};
 use crate::left::Left;
 use crate::log::Log;
 use crate::run_hand::RunHand;
 use crate::until::Until;
 use crate::wake_up::WakeUp;
 use std::alloc::Global;
+use tc_case::{CloseFault, Closed};
 use tc_entry::{Args, Comp, Op, Reply, Target};
 use tc_verdict::{NoMemory, Run};
 

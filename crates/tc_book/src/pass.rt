@@ -7,7 +7,7 @@ ghost use Rattle.tc_book.specs.Hands.{IsHandOf};
 ghost use Rattle.tc_book.specs.Passes.{has_ended, added, By, IsCall, IsWait};
 ghost use Rattle.tc_book.specs.Replies.{suits};
 ghost use Rattle.tc_book.specs.Inside.{is_halt};
-ghost use Rattle.tc_merge.specs.Merge.{is_verdict_call};
+ghost use Rattle.tc_case.specs.Merge.{is_verdict_call};
 
 use crate::halt::Halt;
 use crate::left::Left;

@@ -1,23 +1,19 @@
 //! The report of a case whose runs came back whole.
-ghost use Rattle.std.specs.Prelude.{◌≡◌, ◌<◌, ◌≤◌, ◌++◌, true, IfOk, OnOk, List, filter, length, map, reverse};
+ghost use Rattle.std.specs.Prelude.{◌≡◌, ◌≤◌, ◌++◌, true, IfOk, OnOk, filter, length, reverse};
 ghost use Rattle.tc_entry.specs.declared.limits.TheConstants.{BEHAVIOURS};
-ghost use Rattle.tc_table.specs.History.{comps, is_over};
-ghost use Rattle.tc_table.specs.Faults.{components};
+ghost use Rattle.tc_table.specs.History.{is_over};
 ghost use Rattle.tc_table.specs.Standing.{StandsFor};
-ghost use Rattle.tc_entry.specs.declared.entry.Entry.{Entry as AnyEntry};
 ghost use Rattle.tc_table.specs.Legal.{IsLegal};
-ghost use Rattle.tc_table.specs.Local as verdicts;
-ghost use Rattle.tc_merge.specs.Merge.{is_other, merge};
+ghost use Rattle.tc_case.specs.Merge.{is_other, merge, logged};
 ghost use Rattle.tc_book.specs.Inside.{KnowsStarts, KnowsParts, logs_from};
-ghost use Rattle.tc_book.specs.Parts.{log_of, logs_below, logged};
-ghost use Rattle.tc_book.specs.Report.{IsOneHistory};
+ghost use Rattle.tc_case.specs.Parts.{log_of, logs_below};
+ghost use Rattle.tc_case.specs.Report.{IsOneHistory};
 
-use crate::closed::Closed;
 use crate::starts::comp_of;
 use std::alloc::Global;
-use tc_entry::{Args, Comp, Entry, Sequence, Verdict};
-use tc_merge::RunLog;
-use tc_table::CaseState;
+use tc_case::{Closed, RunLog};
+use tc_entry::{Args, Comp, Entry, Sequence};
+use tc_table::{CaseState, locals_of};
 use tc_verdict::{NoMemory, Run};
 
 /// Adds the log of a run, if it was started.
@@ -52,27 +48,6 @@ fn logs_of(
         run.0 += 1;
     }
     Ok(logs)
-}
-
-/// The local verdict of a component; none where there is no such component.
-fn local_of(state: &CaseState, comp: u32) -> Verdict
-    ensures { (past : List AnyEntry) → StandsFor state.now past → comp < components past → result ≡ verdicts.local past comp }
-{
-    match state.local(Comp(comp)) {
-        Some(local) => local,
-        None => Verdict::None,
-    }
-}
-
-/// The local verdict of each component of a case of which this state is kept.
-pub fn locals_of(alloc: Global, state: &CaseState) -> Result<Vec<Verdict>, NoMemory>
-    ensures { (past : List AnyEntry) → StandsFor state.now past → IfOk result (λ v. v.items ≡ map (verdicts.local past) (comps past)) }
-{
-    let mut locals = Vec::new(alloc);
-    for comp in 0..state.components() {
-        locals.push(local_of(state, comp))?;
-    }
-    Ok(locals)
 }
 
 /// The report of a case that is over, by its history and what is kept after it, where its logs have all its entries.

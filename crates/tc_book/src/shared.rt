@@ -4,16 +4,15 @@ ghost use Rattle.tc_entry.specs.declared.op.Op.TheVariants as ops;
 ghost use Rattle.tc_entry.specs.declared.reply.Reply.TheVariants as replies;
 ghost use Rattle.tc_book.specs.Replies.{suits};
 ghost use Rattle.tc_book.specs.Closing.{IsWhole};
-ghost use Rattle.tc_book.specs.Report.{IsOneHistory};
+ghost use Rattle.tc_case.specs.Report.{IsOneHistory};
 ghost use Rattle.tc_book.specs.Inside.{goes_on, is_closed, with_own};
 ghost use Rattle.std.specs.Sync.Mutex.{mutex_guard_value};
 ghost use Rattle.tc_book.specs.OpenCase.{has_leave};
-ghost use Rattle.tc_merge.specs.Merge.{is_verdict_call};
+ghost use Rattle.tc_case.specs.Merge.{is_verdict_call};
 ghost use Rattle.tc_board.specs.Hand.{answered};
 ghost use Rattle.tc_board.specs.declared.answer.Answer.TheVariants.{Met};
 
 use crate::book::Book;
-use crate::closed::{CloseFault, Closed};
 use crate::conditions::Conditions;
 use crate::left::Left;
 use crate::log::Log;
@@ -23,6 +22,7 @@ use crate::until::Until;
 use std::alloc::{AllocError, Global};
 use std::marker::Model;
 use std::sync::{Arc, Mutex, MutexGuard, Wait};
+use tc_case::{CloseFault, Closed};
 use tc_entry::{Args, Comp, Op, Reply, Target};
 use tc_verdict::{NoMemory, Run};
 

@@ -4,7 +4,7 @@ use Rattle.std.specs.List.{AllZip}
 use Rattle.std.proofs.lemmas.List.Elements.{All-nil, All-push}
 use Rattle.tc_campaign.specs.Campaign.{HasThreads}
 use Rattle.tc_verdict.specs.declared.verdict.Verdict.{Verdict}
-use Rattle.tc_exec.specs.declared.refusal.CaseError.TheVariants as C
+use Rattle.tc_case.specs.declared.refusal.CaseError.TheVariants as C
 use Rattle.tc_report.specs.declared.results.CampaignEnd.{CampaignEnd}
 use Rattle.tc_report.specs.declared.results.CampaignEnd.TheVariants as E
 use Rattle.tc_report.specs.declared.results.Finished.{Finished}

@@ -5,8 +5,8 @@ use Rattle.tc_entry.specs.Limits.{IsBehaviours}
 use Rattle.tc_entry.specs.declared.limits.TheConstants.{BEHAVIOURS}
 use Rattle.tc_verdict.specs.declared.verdict.Verdict.{Verdict}
 use Rattle.tc_book.specs.Passes.{PassState}
-use Rattle.tc_exec.specs.declared.refusal.CaseError.{CaseError}
-use Rattle.tc_exec.specs.declared.refusal.CaseError.TheVariants as C
+use Rattle.tc_case.specs.declared.refusal.CaseError.{CaseError}
+use Rattle.tc_case.specs.declared.refusal.CaseError.TheVariants as C
 use Rattle.tc_exec.specs.declared.job.Back.{Back}
 use Rattle.tc_exec.specs.Case.{IsCaseReport, AreCalled, IsHandedBack, IsMadeOf}
 use Rattle.tc_report.specs.declared.results.CampaignEnd.{CampaignEnd}

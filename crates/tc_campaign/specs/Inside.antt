@@ -1,11 +1,11 @@
 -- What the functions inside of a campaign say, which no public clause names.
 use Rattle.std.specs.Prelude.{ℕ, ◌≡◌, ◌≤◌, ◌++◌, ◌∷◌, [], Option, Some, None, Bool, true, false, Result, Ok, Err, List, All, IfSome, length, map, take, slice_get}
 use Rattle.tc_entry.specs.declared.limits.TheConstants.{BEHAVIOURS}
-use Rattle.tc_book.specs.declared.closed.Closed.{Closed}
+use Rattle.tc_case.specs.declared.closed.Closed.{Closed}
 use Rattle.std.specs.List.{AllZip}
 use Rattle.tc_verdict.specs.declared.verdict.Verdict.{Verdict}
-use Rattle.tc_exec.specs.declared.refusal.CaseError.{CaseError}
-use Rattle.tc_exec.specs.declared.refusal.CaseError.TheVariants as C
+use Rattle.tc_case.specs.declared.refusal.CaseError.{CaseError}
+use Rattle.tc_case.specs.declared.refusal.CaseError.TheVariants as C
 use Rattle.tc_exec.specs.Case.{IsCaseReport}
 use Rattle.tc_exec.specs.declared.job.Back.{Back}
 use Rattle.tc_book.specs.Passes.{PassState}

@@ -18,6 +18,6 @@ pub use limits::{ARGUMENTS, BEHAVIOURS, COMPONENTS, NAME_BYTES, is_behaviours, m
 pub use name::Name;
 pub use op::{Group, Op, Target};
 pub use phase::Phase;
-pub use reply::{Fault, Reply};
+pub use reply::{Fault, Reply, name_of_fault};
 pub use sequence::Sequence;
 pub use tc_verdict::{NoMemory, Run, UserVerdict, Verdict};

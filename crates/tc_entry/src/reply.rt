@@ -1,6 +1,7 @@
 //! The replies, and the dynamic errors among them.
 ghost use Rattle.std.specs.Prelude.{◌≡◌, IsTrue, ◌↔◌};
 ghost use Rattle.tc_entry.specs.Reply as reply;
+ghost use Rattle.tc_entry.specs.Reply.{fault_name};
 
 use crate::comp::Comp;
 use tc_verdict::Verdict;
@@ -24,6 +25,22 @@ pub enum Fault {
     TooMany,
     /// The main component waits for what can no longer come.
     Stuck,
+}
+
+/// The name of a dynamic error.
+pub fn name_of_fault(fault: Fault) -> &'static str
+    ensures { result.now ≡ fault_name fault }
+{
+    match fault {
+        Fault::NoComponent => "no-component",
+        Fault::NotMain => "not-main",
+        Fault::StartMain => "start-main",
+        Fault::AlreadyRunning => "already-running",
+        Fault::NotStartable => "not-startable",
+        Fault::NoBehaviour => "no-behaviour",
+        Fault::TooMany => "too-many",
+        Fault::Stuck => "stuck",
+    }
 }
 
 /// The reply to a call.

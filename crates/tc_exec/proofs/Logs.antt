@@ -5,12 +5,12 @@ use Rattle.tc_verdict.specs.declared.run.Run.{Run}
 use Rattle.tc_entry.specs.declared.comp.Comp.{Comp}
 use Rattle.tc_entry.specs.declared.entry.Entry.{Entry}
 use Rattle.tc_table.specs.History.{comp_of}
-use Rattle.tc_book.specs.declared.closed.Closed.{Closed}
+use Rattle.tc_case.specs.declared.closed.Closed.{Closed}
 use Rattle.tc_book.specs.Closing.{IsFitting}
-use Rattle.tc_book.specs.Parts.{part, log_if, logs_below}
+use Rattle.tc_case.specs.Parts.{part, log_if, logs_below}
 use Rattle.tc_book.specs.Passes.{PassState, LeftState}
 use Rattle.tc_book.specs.Starts.{start_of}
-use Rattle.tc_book.specs.Report.{IsOneHistory}
+use Rattle.tc_case.specs.Report.{IsOneHistory}
 use Rattle.tc_book.proofs.PartOf.{comp_is}
 use Rattle.tc_exec.specs.declared.job.Back.{Back}
 use Rattle.tc_exec.specs.Workers.{IsLeftBy}

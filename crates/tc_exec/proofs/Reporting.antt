@@ -5,11 +5,11 @@ use Rattle.std.proofs.lemmas.List.Elements.{All-append, All-cons, All-nil}
 use Rattle.tc_entry.specs.declared.comp.Comp.{Comp}
 use Rattle.tc_entry.specs.declared.entry.Entry.{Entry}
 use Rattle.tc_table.specs.History.{comp_of}
-use Rattle.tc_book.specs.declared.closed.Closed.{Closed}
+use Rattle.tc_case.specs.declared.closed.Closed.{Closed}
 use Rattle.tc_book.specs.Inside.{comp_by}
 use Rattle.tc_book.specs.Starts.{start_of}
-use Rattle.tc_book.specs.Parts.{part, log_if, logs_below}
-use Rattle.tc_book.specs.Report.{IsOneHistory}
+use Rattle.tc_case.specs.Parts.{part, log_if, logs_below}
+use Rattle.tc_case.specs.Report.{IsOneHistory}
 use Rattle.tc_book.proofs.PartOf.{comp_is}
 use Rattle.tc_exec.specs.Case.{WasStartedIn, IsCaseReport}
 

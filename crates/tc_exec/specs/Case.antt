@@ -2,13 +2,13 @@
 use Rattle.std.specs.Prelude.{ℕ, ◌≡◌, ◌≢◌, ◌<◌, Some, None, List, length, reverse, All, slice_index_or}
 use Rattle.tc_entry.specs.declared.comp.Comp.{Comp}
 use Rattle.tc_entry.specs.declared.entry.Entry.{Entry}
-use Rattle.tc_book.specs.declared.closed.Closed.{Closed}
-use Rattle.tc_merge.specs.declared.run_log.RunLog.{RunLog}
+use Rattle.tc_case.specs.declared.closed.Closed.{Closed}
+use Rattle.tc_case.specs.declared.run_log.RunLog.{RunLog}
 use Rattle.tc_table.specs.History.{comp_of}
 use Rattle.tc_verdict.specs.declared.run.Run.{Run}
 use Rattle.tc_book.specs.Closing.{IsWhole}
 use Rattle.tc_book.specs.Passes.{PassState, LeftState}
-use Rattle.tc_book.specs.Report.{IsOneHistory}
+use Rattle.tc_case.specs.Report.{IsOneHistory}
 use Rattle.tc_exec.specs.declared.job.Back.{Back}
 use Rattle.tc_exec.specs.Workers.{WasCalledFor, AreLeftBy}
 use Rattle.tc_book.specs.Starts.{start_of}

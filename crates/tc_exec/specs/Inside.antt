@@ -2,17 +2,17 @@
 use Rattle.std.specs.Prelude.{ℕ, ◌≡◌, ◌≢◌, ◌<◌, ◌+◌, ◌++◌, Bool, true, false, None, List, Result, Ok, Err, length, map, slice_index_or}
 use Rattle.std.specs.declared.thread.PromisedHandle.{PromisedHandle}
 use Rattle.tc_verdict.specs.declared.run.Run.{Run}
-use Rattle.tc_book.specs.declared.closed.Closed.{Closed}
-use Rattle.tc_book.specs.declared.closed.CloseFault.{CloseFault}
+use Rattle.tc_case.specs.declared.closed.Closed.{Closed}
+use Rattle.tc_case.specs.declared.closed.CloseFault.{CloseFault}
 use Rattle.tc_book.specs.Passes.{PassState, LeftState}
-use Rattle.tc_exec.specs.declared.refusal.CaseError.{CaseError}
+use Rattle.tc_case.specs.declared.refusal.CaseError.{CaseError}
 use Rattle.tc_exec.specs.declared.job.Back.{Back}
 use Rattle.tc_exec.specs.declared.job.Ending.{Ending}
 use Rattle.tc_exec.specs.declared.job.Ending.TheVariants as E
 use Rattle.tc_exec.specs.declared.gathered.Gathered.{Gathered}
 use Rattle.tc_exec.specs.declared.handed.Handed.{Handed}
 use Rattle.tc_exec.specs.declared.worker.Task.{Task}
-use Rattle.tc_exec.specs.Refusals.{of_close}
+use Rattle.tc_case.specs.Refusals.{of_close}
 use Rattle.tc_exec.specs.Workers.{AreLeftBy}
 
 -- what the close of a case is answered by: the report as it is, or the refusal

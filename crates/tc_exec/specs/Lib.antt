@@ -1,6 +1,5 @@
 -- The definitions that the contracts of this crate cite.
 pub mod Ending
-pub mod Refusals
 pub mod Gates
 pub mod Workers
 pub mod Case

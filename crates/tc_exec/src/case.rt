@@ -7,19 +7,19 @@ ghost use Rattle.tc_exec.specs.Inside.{AreAbove, Gathers, IsFirstStarted, handed
 ghost use Rattle.tc_exec.specs.Workers.{WasCalledFor, opening};
 ghost use Rattle.tc_exec.specs.Gates.{IsPassed, IsStopped};
 ghost use Rattle.tc_exec.specs.Case.{IsCaseReport, AreCalled, IsHandedBack, IsMadeOf};
-ghost use Rattle.tc_exec.specs.declared.refusal.CaseError.TheVariants.{NoBehaviours, TooManyBehaviours, NoMemory, NoThread, Torn};
+ghost use Rattle.tc_case.specs.declared.refusal.CaseError.TheVariants.{NoBehaviours, TooManyBehaviours, NoMemory, NoThread, Torn};
 
 use crate::callable::Callable;
 use crate::gate::{Everyone, Gate};
 use crate::gathered::Gathered;
 use crate::handed::{Handed, act};
 use crate::job::Job;
-use crate::refusal::CaseError;
 use crate::worker::{Task, join_workers, make_workers};
 use std::alloc::Global;
 use std::sync::Wait;
 use std::thread::{PromisedHandle, Threads};
-use tc_book::{CloseFault, Closed, Pass, Shared, close_case, open_case};
+use tc_book::{Pass, Shared, close_case, open_case};
+use tc_case::{CaseError, CloseFault, Closed};
 use tc_entry::BEHAVIOURS;
 
 /// The number of behaviours, where so many jobs can be run on so many threads.

@@ -7,13 +7,11 @@ mod gate;
 mod gathered;
 mod handed;
 mod job;
-mod refusal;
 mod worker;
 
 pub use callable::Callable;
 pub use case::{run_case, run_case_with};
 pub use gate::{Everyone, Gate};
 pub use job::{Back, Ending, Job};
-pub use refusal::CaseError;
-pub use tc_book::Closed as CaseReport;
+pub use tc_case::{CaseError, Closed as CaseReport};
 pub use worker::WORKER_STACK;

@@ -5,7 +5,8 @@ use std::process::Abort;
 use std::sync::Arc;
 use tc_board::Board;
 use tc_book::laws::Book;
-use tc_table::{NoMemory, Op, Reply, Run, read_move, read_reply};
+use tc_table::{NoMemory, Op, Reply, Run};
+use tc_text::{read_move, read_reply};
 
 /// Each call, its reply, and whether somebody who waits may go on by it. A wake that goes on waiting has none.
 const CALLS: &str = "\

@@ -7,7 +7,8 @@ use std::sync::Wait;
 use std::thread;
 use std::thread::{JoinHandle, Threads};
 use tc_book::*;
-use tc_table::{Comp, Entry, Op, Reply, Run, UserVerdict, Verdict, read_move, replay_check};
+use tc_table::{Comp, Entry, Op, Reply, Run, UserVerdict, Verdict, replay_check};
+use tc_text::read_move;
 
 /// A closed case has so many entries and this overall verdict.
 fn is_told(rt: &impl Abort, closed: &Closed, entries: usize, verdict: Verdict) {

@@ -9,7 +9,8 @@ use std::thread;
 use std::thread::{JoinHandle, Threads};
 use std::time::{Clock, CpuClock, Duration};
 use tc_book::{Halt, Left, Pass, Shared, Ticket};
-use tc_table::{Comp, Entry, Fault, Op, Reply, Run, Target, read_reply};
+use tc_table::{Comp, Entry, Fault, Op, Reply, Run, Target};
+use tc_text::read_reply;
 
 /// A flag that is not set yet.
 fn unset<R: Abort>(rt: &R, alloc: Global) -> Arc<AtomicBool> {

@@ -7,7 +7,8 @@ use Rattle.tc_verdict.specs.Verdict.{name_of}
 use Rattle.tc_verdict.specs.declared.verdict.Verdict.TheVariants as V
 use Rattle.tc_entry.specs.declared.reply.Fault.TheVariants as F
 use Rattle.tc_entry.specs.declared.reply.Reply.TheVariants as R
-use Rattle.tc_text.specs.Spelling.{fault_name, reply_text}
+use Rattle.tc_text.specs.Spelling.{reply_text}
+use Rattle.tc_entry.specs.Reply.{fault_name}
 use Rattle.tc_explain.specs.declared.slot.Slot.{Slot}
 use Rattle.tc_explain.specs.declared.slot.Slot.TheVariants as S
 use Rattle.tc_explain.specs.declared.stop.Stop.{Stop}

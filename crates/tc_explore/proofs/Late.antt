@@ -13,7 +13,7 @@ use Rattle.tc_entry.specs.declared.reply.Reply.TheVariants as R
 use Rattle.tc_entry.specs.Reply.{is_ended, is_ok}
 use Rattle.tc_step.specs.Steps.{ScriptView}
 use Rattle.tc_table.specs.declared.component_state.ComponentState.{ComponentState}
-use Rattle.tc_table.specs.History.{comps, comp_of, exists, is_alive_type, created, started_on, starts_on, first_some, add_new, halts, kills, ends_case}
+use Rattle.tc_table.specs.History.{comps, comp_of, exists, is_alive_type, created, started_on, starts_on, first_some, add_new, halts, kills, ends_case, ends_pass}
 use Rattle.tc_table.specs.Phases.{phase, phase_if_any, start_in}
 use Rattle.tc_table.specs.Status.{is_killed, done, killed}
 use Rattle.tc_table.specs.Waiting.{holds}
@@ -25,7 +25,6 @@ use Rattle.tc_table.specs.Inside.Step.{next_phase, next_local}
 use Rattle.tc_table.proofs.Deciding.{self_equal, equal_if, ok_is}
 use Rattle.tc_table.proofs.Sound.{IsPlain, plain_if, no_special, startable}
 use Rattle.tc_table.proofs.Over.{stays}
-use Rattle.tc_book.specs.Passes.{ends_pass}
 use Rattle.tc_explore.specs.Course.{stand, ends, is_wake, wake_if, IsCourse}
 use Rattle.tc_explore.specs.Inside.Alike.{IsAlike}
 use Rattle.tc_explore.specs.Inside.Simulation.{is_gone, is_late, is_met, IsLeaving, IsEnding, IsAhead}

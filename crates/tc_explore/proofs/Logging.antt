@@ -17,9 +17,9 @@ use Rattle.tc_step.specs.declared.step.Step.TheVariants as S
 use Rattle.tc_step.specs.declared.place.Place.{Place}
 use Rattle.tc_step.specs.declared.place.TargetPlace.{TargetPlace}
 use Rattle.tc_step.specs.Steps.{ScriptView}
-use Rattle.tc_table.specs.History.{created}
+use Rattle.tc_table.specs.History.{created, ends_pass}
 use Rattle.tc_table.proofs.Deciding.{self_equal}
-use Rattle.tc_book.specs.Passes.{PassState, LeftState, ends_pass, has_ended, added, entry_of}
+use Rattle.tc_book.specs.Passes.{PassState, LeftState, has_ended, added, entry_of}
 use Rattle.tc_book.specs.Replies.{is_parked, suits}
 use Rattle.tc_exec.specs.declared.job.Back.{Back}
 use Rattle.tc_exec.specs.declared.job.Ending.TheVariants as E

@@ -15,8 +15,7 @@ use Rattle.tc_entry.specs.declared.reply.Fault.{Fault}
 use Rattle.tc_entry.specs.declared.reply.Fault.TheVariants as F
 use Rattle.tc_entry.specs.Reply.{is_ended}
 use Rattle.tc_step.specs.Steps.{ScriptView}
-use Rattle.tc_book.specs.Passes.{ends_pass}
-use Rattle.tc_table.specs.History.{comp_of, created, halts, exists}
+use Rattle.tc_table.specs.History.{ends_pass, comp_of, created, halts, exists}
 use Rattle.tc_table.specs.Local.{overall, gives}
 use Rattle.tc_table.specs.Faults.{fault, all_exist, names, asks_many, special_fault}
 use Rattle.tc_table.specs.Legal.{IsLegal}

@@ -15,12 +15,12 @@ use Rattle.tc_step.specs.Steps.{ScriptView}
 use Rattle.tc_table.specs.History.{comp_of, first_some, starts_run}
 use Rattle.tc_table.specs.Legal.{IsLegal}
 use Rattle.tc_table.proofs.Deciding.{self_equal, equal_if}
-use Rattle.tc_book.specs.declared.closed.Closed.{Closed}
+use Rattle.tc_case.specs.declared.closed.Closed.{Closed}
 use Rattle.tc_book.specs.Closing.{all_started}
-use Rattle.tc_book.specs.Parts.{part, is_by}
+use Rattle.tc_case.specs.Parts.{part, is_by}
 use Rattle.tc_book.specs.Passes.{PassState, LeftState}
 use Rattle.tc_book.specs.Starts.{start_in, start_of, starts_with}
-use Rattle.tc_book.proofs.Differing.{later_legal}
+use Rattle.tc_table.proofs.Differing.{later_legal}
 use Rattle.tc_book.proofs.PartOf.{comp_is, part_end}
 use Rattle.tc_exec.specs.declared.job.Back.{Back}
 use Rattle.tc_exec.specs.Case.{IsCaseReport, IsMadeOf}

@@ -9,10 +9,9 @@ use Rattle.tc_entry.specs.declared.reply.Reply.{Reply}
 use Rattle.tc_entry.specs.declared.reply.Reply.TheVariants as R
 use Rattle.tc_step.specs.declared.step.Step.{Step}
 use Rattle.tc_step.specs.Steps.{ScriptView}
-use Rattle.tc_table.specs.History.{created, started_on}
+use Rattle.tc_table.specs.History.{created, started_on, ends_pass}
 use Rattle.tc_table.specs.Answers.{answer}
 use Rattle.tc_behaviour.specs.Calls.{operation}
-use Rattle.tc_book.specs.Passes.{ends_pass}
 
 -- ---- what is known of one run
 

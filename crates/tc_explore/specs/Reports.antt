@@ -1,7 +1,7 @@
 -- What the report of a test case says of the courses of its scripts.
 use Rattle.std.specs.Prelude.{◌≡◌, true, List, length}
 use Rattle.tc_step.specs.Steps.{ScriptView}
-use Rattle.tc_book.specs.declared.closed.Closed.{Closed}
+use Rattle.tc_case.specs.declared.closed.Closed.{Closed}
 use Rattle.tc_exec.specs.Case.{IsCaseReport, IsMadeOf}
 use Rattle.tc_behaviour.specs.Acts.{MakesItsCalls}
 use Rattle.tc_explore.specs.declared.witness.Witness.{Witness}

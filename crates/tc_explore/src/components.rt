@@ -9,9 +9,8 @@ use crate::line::append_line;
 use crate::state::state_after;
 use crate::witness::Witness;
 use std::alloc::Global;
-use tc_book::locals_of;
 use tc_entry::{Comp, Entry, Op};
-use tc_table::{created, is_comp};
+use tc_table::{created, is_comp, locals_of};
 use tc_text::{append_number, append_text};
 use tc_verdict::{NoMemory, Verdict, name as name_of};
 

@@ -2,8 +2,8 @@
 ghost use Rattle.std.specs.Prelude.{◌≡◌};
 ghost use Rattle.tc_explore.specs.Course as courses;
 
-use tc_book::ends_pass;
 use tc_entry::{Comp, Entry, Op, Reply};
+use tc_table::ends_pass;
 
 /// Whether an entry by a run on this component ends its pass.
 pub(crate) fn ends(own: Option<Comp>, entry: &Entry) -> bool

@@ -1,7 +1,7 @@
 -- The forms of results and those of their histories are the same.
 use Rattle.std.specs.Prelude.{ℕ, ◌≡◌, false, All, List, map}
 use Rattle.std.specs.List.{AllZip}
-use Rattle.tc_book.specs.Report.{IsOneHistory}
+use Rattle.tc_case.specs.Report.{IsOneHistory}
 use Rattle.tc_history.specs.declared.read.Block.{Block}
 use Rattle.tc_report.specs.declared.results.Finished.{Finished}
 use Rattle.tc_report.specs.declared.results.Results.{Results}

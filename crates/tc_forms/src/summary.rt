@@ -5,10 +5,9 @@ ghost use Rattle.tc_table.specs.Standing.{StandsFor};
 ghost use Rattle.tc_forms.specs.Summary.{aborted_summary, case_summary, end_of, results_summaries, summary_of};
 
 use std::alloc::Global;
-use tc_book::locals_of;
 use tc_entry::{Name, NoMemory, Sequence, Verdict};
 use tc_report::{CampaignEnd, CaseEnd, Finished, Results};
-use tc_table::CaseState;
+use tc_table::{CaseState, locals_of};
 
 /// What the forms say of a test case.
 #[derive(Drop)]

@@ -2,7 +2,7 @@
 use Rattle.std.proofs.Common.{◌≡◌, ℕ, ◌+◌, List, ◌++◌, filter, refl, add-one, append_assoc}
 use Rattle.std.proofs.lemmas.List.{append-nil}
 use Rattle.tc_entry.specs.declared.entry.Entry.{Entry}
-use Rattle.tc_merge.specs.Merge.{late, is_late}
+use Rattle.tc_case.specs.Merge.{late, is_late}
 
 pub late_none : (log : ℕ → List Entry) (xs : List Entry) → xs ≡ xs ++ late log 0
 unfolding late

@@ -3,9 +3,9 @@ use Rattle.std.proofs.Common.{ℕ, ◌≡◌, ◌≢◌, ◌+◌, ◌≤◌, ◌
 use Rattle.std.proofs.lemmas.Bool.{ne_eqb, cases_eq}
 use Rattle.std.proofs.lemmas.List.Sums.{sum_by-cons}
 use Rattle.tc_entry.specs.declared.entry.Entry.{Entry}
-use Rattle.tc_merge.specs.declared.run_log.RunLog.{RunLog}
-use Rattle.tc_merge.specs.Merge.{log_of, logged, merge}
-use Rattle.tc_merge.specs.Parts.{is_by, part}
+use Rattle.tc_case.specs.declared.run_log.RunLog.{RunLog}
+use Rattle.tc_case.specs.Merge.{log_of, logged, merge}
+use Rattle.tc_case.specs.Parts.{is_by, part}
 use Rattle.tc_merge.specs.OneCase.{is_of_run, AreOfOneCase, IsOneEach}
 use Rattle.tc_merge.proofs.PartOfMerge.{entries_by, part_same, part_miss, part-merge}
 

@@ -11,9 +11,9 @@ use Rattle.tc_entry.specs.declared.op.Op.{Op}
 use Rattle.tc_entry.specs.declared.op.Op.TheVariants as O
 use Rattle.tc_entry.specs.Reply.{is_ended, is_ok}
 use Rattle.tc_table.specs.History.{comp_of, first_some, starts_run}
-use Rattle.tc_merge.specs.declared.run_log.RunLog.{RunLog}
-use Rattle.tc_merge.specs.Merge.{is_other, is_late, is_verdict_call, head, after_other, after_others, count_of, follows, started, run_of, head_at_start, in_place, late, log_of, end_of, merge}
-use Rattle.tc_merge.specs.Parts.{is_by, part}
+use Rattle.tc_case.specs.declared.run_log.RunLog.{RunLog}
+use Rattle.tc_case.specs.Merge.{is_other, is_late, is_verdict_call, head, after_other, after_others, count_of, follows, started, run_of, head_at_start, in_place, late, log_of, end_of, merge}
+use Rattle.tc_case.specs.Parts.{is_by, part}
 use Rattle.tc_merge.specs.OneCase.{AreByStarted, AreStartedOnce, AreOfOneCase, stops_when_late}
 use Rattle.tc_merge.proofs.InPlace.{follows_same, follows_more}
 use Rattle.tc_merge.proofs.Table.{log_of-beyond}

@@ -4,8 +4,8 @@ use Rattle.std.specs.Borrow.{Bor}
 use Rattle.std.proofs.lemmas.Bool.{ne_eqb, cases_eq, cases_lt}
 use Rattle.std.proofs.lemmas.List.{get_or-set_same, get_or-set_other, get_or-replicate, length-set, length-replicate}
 use Rattle.tc_entry.specs.declared.entry.Entry.{Entry}
-use Rattle.tc_merge.specs.declared.run_log.RunLog.{RunLog}
-use Rattle.tc_merge.specs.Merge.{log_of, end_of}
+use Rattle.tc_case.specs.declared.run_log.RunLog.{RunLog}
+use Rattle.tc_case.specs.Merge.{log_of, end_of}
 use Rattle.tc_merge.specs.Inside.{Has}
 
 -- the log of run b, else other entries

@@ -21,9 +21,9 @@ use Rattle.tc_table.specs.Faults.{all_exist, start_fault, components, fault}
 use Rattle.tc_table.specs.Answers.{is_active, answer}
 use Rattle.tc_table.specs.Legal.{IsLegal}
 use Rattle.tc_table.specs.Local.{local, overall}
-use Rattle.tc_merge.specs.declared.run_log.RunLog.{RunLog}
-use Rattle.tc_merge.specs.Merge.{is_other, log_of, merge, late}
-use Rattle.tc_merge.specs.Parts.{part}
+use Rattle.tc_case.specs.declared.run_log.RunLog.{RunLog}
+use Rattle.tc_case.specs.Merge.{is_other, log_of, merge, late}
+use Rattle.tc_case.specs.Parts.{part}
 use Rattle.tc_merge.specs.OneCase.{AreOfOneCase, stops_when_late}
 
 abbrev entry : ℕ → Op → Reply → Entry

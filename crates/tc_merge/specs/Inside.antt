@@ -2,7 +2,7 @@
 use Rattle.std.specs.Prelude.{ℕ, ◌≡◌, ◌<◌, ◌≤◌, List, [], length, reverse, slice_index_or}
 use Rattle.std.specs.Borrow.{Bor}
 use Rattle.tc_entry.specs.declared.entry.Entry.{Entry}
-use Rattle.tc_merge.specs.Merge.{after_other, in_place}
+use Rattle.tc_case.specs.Merge.{after_other, in_place}
 
 -- what the table has of run b, and this where it has no such run
 abbrev pub entries_of : List (Bor (List Entry)) → ℕ → Bor (List Entry) → List Entry

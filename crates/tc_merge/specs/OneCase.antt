@@ -3,9 +3,9 @@ use Rattle.std.specs.Prelude.{ℕ, ◌≡◌, ◌≢◌, ◌≤◌, ◌==◌, if
 use Rattle.tc_verdict.specs.declared.run.Run.{Run}
 use Rattle.tc_entry.specs.declared.entry.Entry.{Entry}
 use Rattle.tc_table.specs.History.{comp_of}
-use Rattle.tc_merge.specs.declared.run_log.RunLog.{RunLog}
-use Rattle.tc_merge.specs.Merge.{is_other, is_late, log_of, started}
-use Rattle.tc_merge.specs.Parts.{part}
+use Rattle.tc_case.specs.declared.run_log.RunLog.{RunLog}
+use Rattle.tc_case.specs.Merge.{is_other, is_late, log_of, started}
+use Rattle.tc_case.specs.Parts.{part}
 
 -- each entry is by a run that was started before it: run 0 is from the opening
 abbrev pub AreByStarted : List Entry → Type 0

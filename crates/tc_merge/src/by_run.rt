@@ -1,11 +1,11 @@
 //! The logs by the number of their run.
 ghost use Rattle.std.specs.Prelude.{◌≡◌, ◌≢◌, ◌≤◌, ◌<◌, ℕ, [], IfOk, IfSome, length, slice_index_or};
-ghost use Rattle.tc_merge.specs.Merge as rules;
+ghost use Rattle.tc_case.specs.Merge as rules;
 ghost use Rattle.tc_merge.specs.Inside.{Has, IsMovedOn, entries_of};
 
 use crate::heads::after_other;
-use crate::run_log::RunLog;
 use std::alloc::Global;
+use tc_case::RunLog;
 use tc_entry::{Entry, Run};
 use tc_verdict::NoMemory;
 

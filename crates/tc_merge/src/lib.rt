@@ -5,7 +5,6 @@ mod by_run;
 mod entries;
 mod heads;
 mod merging;
-mod run_log;
 
 pub use merging::merge;
-pub use run_log::RunLog;
+pub use tc_case::RunLog;

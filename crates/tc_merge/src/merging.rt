@@ -1,15 +1,15 @@
 //! The merge of a history with the logs of its runs.
 ghost use Rattle.std.specs.Prelude.{◌≡◌, ◌++◌, ℕ, IfOk, OnOk, filter, length};
-ghost use Rattle.tc_merge.specs.Merge as rules;
+ghost use Rattle.tc_case.specs.Merge as rules;
 ghost use Rattle.tc_merge.specs.Inside.{Has, placed};
 ghost use Rattle.tc_merge.specs.OneCase.{AreOfOneCase, IsOneEach};
-ghost use Rattle.tc_merge.specs.Parts.{part};
+ghost use Rattle.tc_case.specs.Parts.{part};
 
 use crate::by_run::{at_run, entry_count, logs_by_run, move_on};
 use crate::entries::started;
 use crate::heads::{add_head, add_late};
-use crate::run_log::RunLog;
 use std::alloc::Global;
+use tc_case::RunLog;
 use tc_entry::{Entry, Run};
 use tc_verdict::NoMemory;
 

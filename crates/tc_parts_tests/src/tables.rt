@@ -6,8 +6,9 @@ use std::process::Abort;
 use tc_history::Block;
 use tc_table::{
     CaseState, CheckFault, Comp, NoMemory, Op, Phase, Reply, Run, Table, Verdict, copied_entries,
-    read_move, read_reply, replay_check,
+    replay_check,
 };
+use tc_text::{read_move, read_reply};
 
 /// What is seen of a test case and of its component 1, by the verdict, the phase, the last run, and whether it is of
 /// alive-type; and whether run 1 is active.

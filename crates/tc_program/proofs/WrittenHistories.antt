@@ -12,7 +12,7 @@ use Rattle.tc_history.specs.declared.read.Block.{Block}
 use Rattle.tc_history.specs.Text.{AreBlocks, AreHistories, block_lines}
 use Rattle.tc_history.specs.Written.{text_of_blocks}
 use Rattle.tc_history.proofs.WrittenBlocks.{written_histories}
-use Rattle.tc_book.specs.Report.{IsOneHistory}
+use Rattle.tc_case.specs.Report.{IsOneHistory}
 use Rattle.tc_report.specs.declared.results.Finished.{Finished}
 use Rattle.tc_report.specs.declared.results.Results.{Results}
 use Rattle.tc_report.specs.Histories.{case_history, histories_text}

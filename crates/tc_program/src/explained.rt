@@ -10,8 +10,9 @@ use crate::tell::refuse_with;
 use std::alloc::Global;
 use std::io::Write;
 use tc_command::Task;
+use tc_entry::NoMemory;
 use tc_explain::{Refusal, explain};
-use tc_table::{NoMemory, TextFault};
+use tc_text::TextFault;
 
 // What the fault says of the text of the task, and the number of its line, where the task is asked to explain it.
 fn refusal_of(task: &Task, fault: RunFault) -> Option<(Refusal, usize)>

@@ -7,14 +7,13 @@ ghost use Rattle.tc_program.specs.Fault.{fault_text, line_number, line_of, place
 use std::alloc::{AllocError, AllocFailed, Global};
 use std::fmt;
 use tc_campaign::{CampaignEnd, OutFault, Results};
+use tc_case::CaseError;
 use tc_command::WordFault;
-use tc_entry::Name;
-use tc_exec::CaseError;
+use tc_entry::{Name, NoMemory};
 use tc_report::append_aborted;
 use tc_script::ScriptFault;
-use tc_stream::WriteFault;
-use tc_table::{InputFault, NoMemory, TextFault};
-use tc_text::{append_number, append_text};
+use tc_stream::{InputFault, WriteFault};
+use tc_text::{TextFault, append_number, append_text};
 use thiserror::Error;
 
 /// Why a command was not carried out.

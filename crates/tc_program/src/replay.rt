@@ -14,8 +14,8 @@ use std::alloc::Global;
 use std::io::{Read, Write};
 use tc_entry::Sequence;
 use tc_report::{append_verdict, verdict_status};
-use tc_table::{CaseState, NoMemory, Op, Reply, Run, Verdict, write_reply};
-use tc_text::{TakesMoves, read_moves_into};
+use tc_table::{CaseState, NoMemory, Op, Reply, Run, Verdict};
+use tc_text::{TakesMoves, read_moves_into, write_reply};
 
 /// How many bytes a move list may have.
 const LIMIT: usize = 1_048_576;

@@ -2,8 +2,8 @@
 use Rattle.std.proofs.Common.{ℕ, ◌≡◌, ◌∙◌, List, ◌++◌, Option, Result, Ok, Err, OnErr, codes, sym, ap, subst, append_assoc}
 use Rattle.std.specs.Io.KnownBytes.{Appends}
 use Rattle.tc_stream.specs.Output.{AppendsPrefix}
-use Rattle.tc_exec.specs.declared.refusal.CaseError.{CaseError}
-use Rattle.tc_exec.specs.Refusals.{refusal_text}
+use Rattle.tc_case.specs.declared.refusal.CaseError.{CaseError}
+use Rattle.tc_case.specs.Refusals.{refusal_text}
 use Rattle.tc_report.specs.Ending.{aborted_line}
 use Rattle.tc_report.proofs.Writing.{appends_both, prefix_behind, prefix_longer}
 

@@ -12,7 +12,7 @@ use Rattle.tc_entry.specs.declared.op.Target.TheVariants as T
 use Rattle.tc_entry.specs.declared.reply.Reply.{Reply}
 use Rattle.tc_entry.specs.declared.reply.Reply.TheVariants as R
 use Rattle.tc_entry.specs.declared.reply.Fault.TheVariants as F
-use Rattle.tc_exec.specs.declared.refusal.CaseError.TheVariants as C
+use Rattle.tc_case.specs.declared.refusal.CaseError.TheVariants as C
 use Rattle.tc_report.specs.declared.results.CampaignEnd.{CampaignEnd}
 use Rattle.tc_report.specs.declared.results.CampaignEnd.TheVariants as E
 use Rattle.tc_report.specs.declared.results.Finished.{Finished}

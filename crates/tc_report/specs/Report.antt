@@ -10,7 +10,7 @@ use Rattle.tc_entry.specs.declared.op.Op.TheVariants as O
 use Rattle.tc_entry.specs.declared.reply.Reply.{Reply}
 use Rattle.tc_entry.specs.declared.reply.Reply.TheVariants as R
 use Rattle.tc_text.specs.Spelling.{op_text, reply_text}
-use Rattle.tc_merge.specs.declared.run_log.RunLog.{RunLog}
+use Rattle.tc_case.specs.declared.run_log.RunLog.{RunLog}
 use Rattle.tc_report.specs.declared.results.Results.{Results}
 use Rattle.tc_report.specs.declared.results.Finished.{Finished}
 use Rattle.tc_report.specs.Tally.{tally_of, tally_line}

@@ -8,8 +8,8 @@ ghost use Rattle.tc_report.specs.Ending.{abort_text, aborted_line, aborted_text,
 use crate::output::write_both;
 use crate::results::{CampaignEnd, Results};
 use std::io::Write;
+use tc_case::CaseError;
 use tc_entry::{Name, NoMemory};
-use tc_exec::CaseError;
 use tc_stream::{WriteFault, write_whole};
 use tc_text::append_text;
 

@@ -18,7 +18,7 @@ use crate::output::write_made;
 use crate::results::{Finished, Results, Tally};
 use std::alloc::Global;
 use std::io::Write;
-use tc_book::RunLog;
+use tc_case::RunLog;
 use tc_entry::{Entry, Name, NoMemory, Op, Reply, Run, Verdict};
 use tc_text::{append_number, append_text, write_op, write_reply};
 use tc_verdict::{UserVerdict, name as name_of};

@@ -1,7 +1,6 @@
 //! What a campaign hands back.
-use tc_book::Sequence;
-use tc_entry::{Name, Verdict};
-use tc_exec::{CaseError, CaseReport};
+use tc_case::{CaseError, Closed};
+use tc_entry::{Name, Sequence, Verdict};
 
 /// A test case that was run to its end.
 #[derive(Drop)]
@@ -11,7 +10,7 @@ pub struct Finished {
     /// The names of its behaviours, that of run 0 first.
     pub names: Sequence<Name>,
     /// Its report.
-    pub report: CaseReport,
+    pub report: Closed,
 }
 
 /// How a test case ended, as far as its history says.

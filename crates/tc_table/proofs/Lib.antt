@@ -24,3 +24,5 @@ pub mod LawsOfHistories
 pub mod Quiet
 pub mod Going
 pub mod Standing
+pub mod Numbered
+pub mod Differing

@@ -117,6 +117,10 @@ halts own e c =
     ends_case e
     || (not (is_ended e.reply) && ((is_finish e.op && is_comp own c) || is_stop_of e.op c || is_kill_of e.op c))
 
+-- the entry ends the pass of its caller, on component own: it is replied Ended, or halts that component
+unfoldable pub ends_pass : Comp → Entry → Bool
+ends_pass own e = is_ended e.reply || halts (Some own) e own.0
+
 -- the entry kills component c
 abbrev pub kills : Entry → ℕ → Bool
 kills e c = ends_case e || (not (is_ended e.reply) && is_kill_of e.op c)

@@ -5,8 +5,10 @@ mod awaited;
 mod check;
 mod component_state;
 mod component_states;
+mod ending;
 mod entries;
 pub mod laws;
+mod locals;
 mod run_state;
 mod state;
 mod step;
@@ -14,14 +16,12 @@ mod table;
 
 pub use awaited::Awaited;
 pub use check::{CheckFault, replay, replay_check};
+pub use ending::ends_pass;
 pub use entries::{created, ends_case, is_alive_create, is_comp, started_on};
+pub use locals::locals_of;
 pub use state::CaseState;
 pub use table::{Table, copied_entries};
 pub use tc_entry::{
     Args, Comp, Entry, Fault, Group, Name, NoMemory, Op, Phase, Reply, Run, Target, UserVerdict,
     Verdict,
-};
-pub use tc_stream::{InputFault, read_input};
-pub use tc_text::{
-    MoveList, TextFault, TextKind, read_move, read_moves, read_reply, write_move, write_reply,
 };

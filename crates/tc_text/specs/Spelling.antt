@@ -3,6 +3,7 @@ use Rattle.std.specs.Prelude.{ℕ, ◌<◌, ◌≤◌, ◌^◌, Bool, true, fals
 use Rattle.std.specs.Fmt.{decimal}
 use Rattle.tc_entry.specs.declared.limits.TheConstants.{ARGUMENTS}
 use Rattle.tc_entry.specs.Name.{IsName}
+use Rattle.tc_entry.specs.Reply.{fault_name}
 use Rattle.tc_verdict.specs.UserVerdict.{given}
 use Rattle.tc_verdict.specs.Verdict.{name_of}
 use Rattle.tc_verdict.specs.declared.run.Run.{Run}
@@ -13,8 +14,6 @@ use Rattle.tc_entry.specs.declared.op.Target.{Target}
 use Rattle.tc_entry.specs.declared.op.Target.TheVariants as T
 use Rattle.tc_entry.specs.declared.op.Op.{Op}
 use Rattle.tc_entry.specs.declared.op.Op.TheVariants as O
-use Rattle.tc_entry.specs.declared.reply.Fault.{Fault}
-use Rattle.tc_entry.specs.declared.reply.Fault.TheVariants as F
 use Rattle.tc_entry.specs.declared.reply.Reply.{Reply}
 use Rattle.tc_entry.specs.declared.reply.Reply.TheVariants as R
 use Rattle.tc_text.specs.declared.verb.Verb.{Verb}
@@ -124,17 +123,6 @@ op_text op = verb_text (verb_of op) ++ operand_text op
 -- a move: the number of the caller's run, a space, and the operation
 abbrev pub move_text : ℕ → Op → List ℕ
 move_text run op = decimal run ++ (codes " " ++ op_text op)
-
--- the name of a dynamic error
-abbrev pub fault_name : Fault → List ℕ
-fault_name F.NoComponent = codes "no-component"
-fault_name F.NotMain = codes "not-main"
-fault_name F.StartMain = codes "start-main"
-fault_name F.AlreadyRunning = codes "already-running"
-fault_name F.NotStartable = codes "not-startable"
-fault_name F.NoBehaviour = codes "no-behaviour"
-fault_name F.TooMany = codes "too-many"
-fault_name F.Stuck = codes "stuck"
 
 -- a reply
 abbrev pub reply_text : Reply → List ℕ

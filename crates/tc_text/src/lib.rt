@@ -22,7 +22,8 @@ pub use move_list::{MoveList, TakesMoves, as_behaviours, read_moves, read_moves_
 pub use moves::{read_move, take_long_move, take_move};
 pub use name::take_name;
 pub use number::{read_number, take_number};
-pub use reply::{name_of_fault, read_reply, take_reply, write_reply};
+pub use reply::{read_reply, take_reply, write_reply};
 pub use short::{ShortOp, take_short_move};
+pub use tc_entry::name_of_fault;
 pub use verdict::take_verdict;
 pub use writing::{write_move, write_op};

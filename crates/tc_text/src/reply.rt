@@ -1,7 +1,8 @@
 //! The texts of replies.
-ghost use Rattle.std.specs.Prelude.{◌≡◌, ◌++◌, ℕ, List, codes, ◌≢◌, MatchOption, Some, IfSome, OnOk, OnErr};
+ghost use Rattle.std.specs.Prelude.{◌≡◌, ◌++◌, ℕ, List, ◌≢◌, MatchOption, Some, IfSome, OnOk, OnErr};
 ghost use Rattle.std.specs.Io.{StartsWith};
-ghost use Rattle.tc_text.specs.Spelling.{reply_text, fault_name, IsReply};
+ghost use Rattle.tc_text.specs.Spelling.{reply_text, IsReply};
+ghost use Rattle.tc_entry.specs.Reply.{fault_name};
 ghost use Rattle.tc_text.specs.Reading.{EndsReply, Takes};
 ghost use Rattle.tc_text.specs.Inside.{BeginsWithE};
 ghost use Rattle.tc_entry.specs.declared.reply.Fault.{Fault as AnyFault};
@@ -12,7 +13,7 @@ ghost use Rattle.tc_entry.specs.declared.comp.Comp.{Comp as AnyComp};
 use crate::append::{append_number, append_text};
 use crate::cursor::after;
 use crate::number::take_number;
-use tc_entry::{Comp, Fault, NoMemory, Reply, Verdict};
+use tc_entry::{Comp, Fault, NoMemory, Reply, Verdict, name_of_fault};
 use tc_verdict::name;
 
 // The name of a dynamic error that the text begins with, and what stands behind it.
@@ -118,22 +119,6 @@ pub fn read_reply(text: &[u8]) -> Option<Reply>
     match take_reply(text) {
         Some((reply, rest)) => if rest.is_empty() { Some(reply) } else { None },
         None => None,
-    }
-}
-
-/// The name of a dynamic error.
-pub fn name_of_fault(fault: Fault) -> &'static str
-    ensures { result.now ≡ fault_name fault }
-{
-    match fault {
-        Fault::NoComponent => "no-component",
-        Fault::NotMain => "not-main",
-        Fault::StartMain => "start-main",
-        Fault::AlreadyRunning => "already-running",
-        Fault::NotStartable => "not-startable",
-        Fault::NoBehaviour => "no-behaviour",
-        Fault::TooMany => "too-many",
-        Fault::Stuck => "stuck",
     }
 }
 

@@ -1,19 +1,19 @@
 //! The close of a case, on the value behind the lock.
 ghost use Rattle.std.specs.Prelude.{◌≡◌, IfOk, IfErr, map};
-ghost use Rattle.tc_book.specs.declared.closed.CloseFault.TheVariants as faults;
+ghost use Rattle.tc_case.specs.declared.closed.CloseFault.TheVariants as faults;
 ghost use Rattle.tc_book.specs.Closing.{run_log, merged, IsMerged};
-ghost use Rattle.tc_book.specs.Report.{IsOneHistory};
+ghost use Rattle.tc_case.specs.Report.{IsOneHistory};
 
 use crate::book::Book;
 use crate::callers::are_calls;
 use crate::close::{all_agreed, are_placed, have_together};
-use crate::closed::{CloseFault, Closed};
 use crate::left::Left;
 use crate::parts::logs_by_run;
 use crate::report::report;
 use std::alloc::Global;
+use tc_case::{CloseFault, Closed, RunLog};
 use tc_entry::Entry;
-use tc_merge::{RunLog, merge};
+use tc_merge::merge;
 use tc_table::{CheckFault, replay};
 use tc_verdict::NoMemory;
 

@@ -7,7 +7,7 @@ ghost use Rattle.tc_book.specs.OpenCase.{has_wake, places_after, reply_to, with_
 ghost use Rattle.tc_book.specs.Replies.{suits};
 ghost use Rattle.tc_book.specs.Waking.{NobodyWakes, WouldPark};
 ghost use Rattle.tc_book.specs.Inside.{goes_on};
-ghost use Rattle.tc_merge.specs.Merge.{is_verdict_call};
+ghost use Rattle.tc_case.specs.Merge.{is_verdict_call};
 
 use crate::book::Book;
 use crate::until::Until;

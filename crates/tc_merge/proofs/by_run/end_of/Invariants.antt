@@ -1,5 +1,5 @@
 use Rattle.std.proofs.Common.{◌≡◌, max, length}
-use Rattle.tc_merge.specs.Merge.{end_of}
+use Rattle.tc_case.specs.Merge.{end_of}
 use Rattle.tc_merge.proofs.by_run.end_of.Given as goal
 
 abbrev pub invariant-loop-log : goal.invariant-loop-log

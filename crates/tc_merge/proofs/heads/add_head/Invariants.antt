@@ -1,5 +1,5 @@
 use Rattle.std.proofs.Common.{◌≡◌, ◌++◌, length}
-use Rattle.tc_merge.specs.Merge.{head}
+use Rattle.tc_case.specs.Merge.{head}
 use Rattle.tc_merge.proofs.heads.add_head.Given as goal
 
 abbrev pub invariant-loop-entry : goal.invariant-loop-entry

@@ -1,5 +1,5 @@
 use Rattle.std.proofs.Common.{◌≡◌, length}
-use Rattle.tc_merge.specs.Merge.{after_other}
+use Rattle.tc_case.specs.Merge.{after_other}
 use Rattle.tc_merge.proofs.heads.after_other.Given as goal
 
 abbrev pub invariant-loop-entry : goal.invariant-loop-entry

@@ -1,6 +1,6 @@
 use Rattle.std.proofs.Common.{◌≡◌, ◌∷◌, [], ◌++◌, List, take, reverse, ◌+◌}
 use Rattle.tc_entry.specs.declared.entry.Entry.{Entry}
-use Rattle.tc_merge.specs.Merge.{follows, head}
+use Rattle.tc_case.specs.Merge.{follows, head}
 use Rattle.tc_merge.proofs.InPlace.{past_more, has_more, follows_in, in_place_more}
 use Rattle.tc_merge.proofs.merging.add_history.Goals as goal
 

@@ -1,6 +1,6 @@
 use Rattle.std.proofs.Common.{◌≡◌, ◌++◌, ℕ, List, take, reverse}
 use Rattle.tc_entry.specs.declared.entry.Entry.{Entry}
-use Rattle.tc_merge.specs.Merge.{in_place, follows}
+use Rattle.tc_case.specs.Merge.{in_place, follows}
 use Rattle.tc_merge.specs.Inside.{Has}
 use Rattle.tc_merge.proofs.merging.add_history.Given as goal
 

@@ -1,8 +1,8 @@
 use Rattle.std.proofs.Common.{◌≡◌, ◌++◌, ◌∙◌, ap, sym, filter, reverse, length, List, ℕ}
 use Rattle.tc_entry.specs.declared.entry.Entry.{Entry}
 use Rattle.tc_merge.specs.Inside.{Has}
-use Rattle.tc_merge.specs.Merge.{is_other, in_place, late, log_of, end_of}
-use Rattle.tc_merge.specs.Parts.{part}
+use Rattle.tc_case.specs.Merge.{is_other, in_place, late, log_of, end_of}
+use Rattle.tc_case.specs.Parts.{part}
 use Rattle.tc_merge.proofs.PartOfMerge.{merge-is, part-merge}
 use Rattle.tc_merge.proofs.Kept.{others-merge}
 use Rattle.tc_merge.proofs.Length.{length-merge}

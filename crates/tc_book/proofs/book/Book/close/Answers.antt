@@ -1,9 +1,9 @@
 use Rattle.std.proofs.Common.{rules, ◌≡◌, ◌∙◌, false, true, IsTrue, length, reverse}
 use Rattle.tc_table.specs.History.{is_over}
 use Rattle.tc_book.specs.Closing.{all_started, merged, IsWhole}
-use Rattle.tc_book.specs.Parts.{logged}
+use Rattle.tc_case.specs.Merge.{logged}
 use Rattle.tc_book.specs.Inside.{ArePlaced, KnowsParts, KnowsStarts}
-use Rattle.tc_book.proofs.Differing.{not_merged}
+use Rattle.tc_table.proofs.Differing.{not_merged}
 use Rattle.tc_book.proofs.Merging.{merge_of_itself}
 use Rattle.tc_book.proofs.Reporting.{whole_logged}
 use Rattle.tc_book.proofs.Skipping.{starts_same}

@@ -6,9 +6,9 @@ use Rattle.tc_entry.specs.declared.entry.Entry.{Entry}
 use Rattle.tc_table.specs.History.{comps, comp_of, is_over}
 use Rattle.tc_table.specs.Local.{local, overall}
 use Rattle.tc_table.specs.Legal.{IsLegal, IsAllOver}
-use Rattle.tc_merge.specs.Merge.{is_other, merge}
-use Rattle.tc_book.specs.declared.closed.Closed.{Closed}
-use Rattle.tc_book.specs.Parts.{part, logs_below, logged}
+use Rattle.tc_case.specs.Merge.{is_other, merge, logged}
+use Rattle.tc_case.specs.declared.closed.Closed.{Closed}
+use Rattle.tc_case.specs.Parts.{part, logs_below}
 
 -- the entries of a closed case, the newest first
 abbrev pub past_of_closed : Closed → List Entry

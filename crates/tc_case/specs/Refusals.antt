@@ -1,11 +1,15 @@
--- Why a case has no report.
+-- Why a case was not closed, and why it has no report.
 use Rattle.std.specs.Prelude.{ℕ, List, codes}
 use Rattle.tc_verdict.specs.Words.{memory_text}
-use Rattle.tc_book.specs.Fault.{close_text}
-use Rattle.tc_book.specs.declared.closed.CloseFault.{CloseFault}
-use Rattle.tc_book.specs.declared.closed.CloseFault.TheVariants as F
-use Rattle.tc_exec.specs.declared.refusal.CaseError.{CaseError}
-use Rattle.tc_exec.specs.declared.refusal.CaseError.TheVariants as E
+use Rattle.tc_case.specs.declared.closed.CloseFault.{CloseFault}
+use Rattle.tc_case.specs.declared.closed.CloseFault.TheVariants as F
+use Rattle.tc_case.specs.declared.refusal.CaseError.{CaseError}
+use Rattle.tc_case.specs.declared.refusal.CaseError.TheVariants as E
+
+-- why a case was not closed
+abbrev pub close_text : CloseFault → List ℕ
+close_text F.Torn = codes "torn"
+close_text F.NoMemory = memory_text
 
 -- why a case has no report, in words
 abbrev pub refusal_text : CaseError → List ℕ

@@ -1,5 +1,5 @@
 use Rattle.std.proofs.Common.{rules}
-use Rattle.tc_exec.proofs.refusal.CaseErrorFromCloseFault.from.Goals as goal
+use Rattle.tc_case.proofs.refusal.CaseErrorFromCloseFault.from.Goals as goal
 
 pub returns-in-Torn : goal.returns-in-Torn
 returns-in-Torn c = search rules

@@ -1,10 +1,10 @@
 //! The report of a closed case.
 ghost use Rattle.std.specs.Prelude.{◌≡◌, Some};
-ghost use Rattle.tc_book.specs.Fault.{close_text};
+ghost use Rattle.tc_case.specs.Refusals.{close_text};
 
+use crate::run_log::RunLog;
 use std::fmt;
 use tc_entry::{Entry, Sequence, Verdict};
-use tc_merge::RunLog;
 use tc_verdict::NoMemory;
 use thiserror::Error;
 

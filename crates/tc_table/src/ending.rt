@@ -1,7 +1,6 @@
 //! Which entries end a pass.
 ghost use Rattle.std.specs.Prelude.{◌≡◌, ◌||◌};
 ghost use Rattle.tc_table.specs.History as history;
-ghost use Rattle.tc_book.specs.Passes as passes;
 
 use tc_entry::{Comp, Entry, Op, Reply};
 
@@ -16,9 +15,9 @@ fn is_end_of(op: &Op, comp: u32) -> bool
 }
 
 /// Whether an entry by a run on component own ends its pass.
-#[tactic(auto, unfolding(crate::specs::Passes::ends_pass))]
+#[tactic(auto, unfolding(crate::specs::History::ends_pass))]
 pub fn ends_pass(own: Comp, entry: &Entry) -> bool
-    ensures { result ≡ passes.ends_pass own entry.now }
+    ensures { result ≡ history.ends_pass own entry.now }
 {
     match entry.reply {
         Reply::Ended | Reply::Fault(_) => true,

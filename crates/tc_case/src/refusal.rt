@@ -1,11 +1,11 @@
 //! Why a case has no report.
 ghost use Rattle.std.specs.Prelude.{◌≡◌, Some};
-ghost use Rattle.tc_exec.specs.declared.refusal.CaseError.TheVariants as refusals;
-ghost use Rattle.tc_exec.specs.Refusals.{of_close, refusal_text};
+ghost use Rattle.tc_case.specs.declared.refusal.CaseError.TheVariants as refusals;
+ghost use Rattle.tc_case.specs.Refusals.{of_close, refusal_text};
 
+use crate::closed::CloseFault;
 use std::alloc::AllocError;
 use std::fmt;
-use tc_book::CloseFault;
 use tc_verdict::NoMemory;
 use thiserror::Error;
 

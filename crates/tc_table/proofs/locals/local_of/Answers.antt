@@ -1,8 +1,8 @@
 use Rattle.std.proofs.Common.{◌≡◌, ◌∙◌, Some}
 use Rattle.tc_table.specs.Local.{local}
 use Rattle.tc_table.proofs.Standing.{stands_legal}
-use Rattle.tc_book.proofs.Numbered.{local_there}
-use Rattle.tc_book.proofs.report.local_of.Goals as goal
+use Rattle.tc_table.proofs.Numbered.{local_there}
+use Rattle.tc_table.proofs.locals.local_of.Goals as goal
 
 pub returns-in-Some : goal.returns-in-Some
 returns-in-Some c = λ past stands below.

@@ -1,13 +1,17 @@
 -- The part of a history by one run, and the logs of all runs.
-use Rattle.std.specs.Prelude.{ℕ, zero, suc, ◌++◌, ◌∷◌, [], Option, Some, None, List, reverse}
+use Rattle.std.specs.Prelude.{ℕ, zero, suc, ◌==◌, ◌++◌, ◌∷◌, [], Bool, Option, Some, None, List, filter, reverse}
 use Rattle.tc_entry.specs.declared.comp.Comp.{Comp}
 use Rattle.tc_entry.specs.declared.entry.Entry.{Entry}
 use Rattle.tc_table.specs.History.{comp_of}
-use Rattle.tc_merge.specs.declared.run_log.RunLog.{RunLog}
-pub use Rattle.tc_merge.specs.Merge.{logged}
--- the part of a history by one run, which the merge defines
-unfoldable pub use Rattle.tc_merge.specs.Parts.{part}
-pub use Rattle.tc_merge.specs.Parts.{is_by}
+use Rattle.tc_case.specs.declared.run_log.RunLog.{RunLog}
+
+-- the entry is one of run b
+abbrev pub is_by : ℕ → Entry → Bool
+is_by b e = e.caller.0 == b
+
+-- the part of a history by run b: its entries, in their order
+unfoldable pub part : List Entry → ℕ → List Entry
+part history b = filter (is_by b) history
 
 -- the log of run b with these entries, if it is on a component
 abbrev pub log_of : Option Comp → ℕ → List Entry → List RunLog
