@@ -17,6 +17,7 @@ sys.path += [os.path.join(TOP, "tests", it) for it in ("program", "lies")]
 
 import believed
 import edits
+import graph
 from documents import Block, Document, named_by, read
 from script_reader import read_script
 from sources import Sources, files_below
@@ -270,6 +271,8 @@ def main() -> int:
         "what the tables of names name stands in the sources": lambda: all_table_claims(sources),
         "the lines that must be believed are as many as the table says": believed_lines,
         "public clauses rest on each definition of specs/ outside of Inside": believed.unused,
+        "each line of crates.txt lists what its crate names, and no more": graph.edges,
+        "the drawing of the crates is that of crates.txt": graph.undrawn,
         "what the documents quote of examples/ stands there": lambda: quotations(documents),
         "the code that the documents quote stands in its crate": lambda: quoted_code(documents),
         "the commands that name an example name one, with words that there are": lambda: commands(documents),
