@@ -1,0 +1,231 @@
+"""The command ttrun-titan: its words, and what it prints."""
+from __future__ import annotations
+
+import argparse
+import os
+import sys
+from collections import Counter, defaultdict
+from typing import Dict, Iterator, List, NamedTuple, NoReturn, Optional, Sequence, Tuple
+
+from . import audit as audits
+from . import flaky as luck
+from . import junit
+from .cases import TestCase, cases_of
+from .limits import MOST_STATES, STATES
+from .lines import Refused
+from .program import found_program, page_of
+from .reading import read_case
+from .scripts import script_of
+from .sessions import read_sessions
+from .table import VERDICTS
+
+ABOUT = "Reads the logs of Eclipse Titan, and says which verdicts depended on luck."
+STATUSES = "status: 0 nothing was found, 1 something was found, 3 refused, undecided or not judged"
+
+
+class Parser(argparse.ArgumentParser):
+    """Refuses wrong words with status 3."""
+
+    def error(self, message: str) -> NoReturn:
+        raise Refused(f"{message}; ttrun-titan --help says what there is")
+
+
+class Found(NamedTuple):
+    """What was read: the test cases, the session of each, and remarks on the logs."""
+
+    cases: List[TestCase]
+    sessions: List[str]
+    remarks: List[str]
+
+
+def states_of(word: str) -> int:
+    """A number of states."""
+    if not word.isdigit() or not 1 <= int(word) <= MOST_STATES:
+        raise argparse.ArgumentTypeError(f"a number from 1 to {MOST_STATES} is wanted")
+    return int(word)
+
+
+def parser() -> Parser:
+    """The words that the command takes."""
+    made = Parser(prog="ttrun-titan", description=ABOUT, epilog=STATUSES, allow_abbrev=False)
+    commands = made.add_subparsers(dest="command", metavar="COMMAND", parser_class=Parser)
+    texts = (("flaky", "which verdicts depended on who came first"), ("audit", "one legal order of all calls that the logs show"),
+             ("script", "what the logs show as a script, for ttrun explore"))
+    for name, text in texts:
+        command = commands.add_parser(name, help=text, description=text, epilog=STATUSES, allow_abbrev=False)
+        command.add_argument("logs", nargs="+", metavar="LOGS", help="a folder of logs, a log, or a file of ttcn3_logmerge")
+        command.add_argument("--only", action="append", default=[], metavar="NAME", help="this test case, or NAME#2 for its second execution")
+        if name == "script":
+            continue
+        command.add_argument("--states", type=states_of, default=STATES, metavar="N", help=f"how many states a search may look at ({STATES})")
+        command.add_argument("--program", metavar="FILE", help="the program ttrun, where it is not found by itself")
+        command.add_argument("--history", metavar="FILE", help="writes the orders that were found as histories")
+        command.add_argument("--html", metavar="FILE", help="writes them as a page, which shows two of them side by side")
+        command.add_argument("--junit", metavar="FILE", help="writes a JUnit report")
+    return made
+
+
+def is_chosen(case: TestCase, only: Sequence[str]) -> bool:
+    """Whether the test case is one of those that were asked for."""
+    return not only or case.name in only or case.title in only
+
+
+def read(given: argparse.Namespace) -> Found:
+    """Reads the logs, and the calls of the chosen test cases."""
+    found = Found([], [], [])
+    seen: Counter = Counter()
+    for session in read_sessions(given.logs):
+        for case in cases_of(session):
+            seen[case.name] += 1
+            case.execution = seen[case.name]
+            if is_chosen(case, given.only):
+                if not session.is_matching:
+                    case.remarks.append("waits for any or all components are in no log: what is named may be excluded by one")
+                found.cases.append(read_case(case))
+                found.sessions.append(os.path.basename(session.name))
+        found.remarks.extend(f"{session.name}: {it}" for it in session.remarks)
+    if not found.cases:
+        raise Refused("no test case is in the logs" if not given.only else f"no test case {' or '.join(given.only)} is in the logs")
+    return found
+
+
+def write(path: Optional[str], text: str) -> None:
+    """Writes a file that was asked for."""
+    if path is None:
+        return
+    try:
+        with open(path, "w", encoding="utf-8") as file:
+            file.write(text)
+    except OSError as error:
+        raise Refused(f"{path}: {error.strerror}") from error
+
+
+def keep(given: argparse.Namespace, program: str, blocks: Sequence[str]) -> None:
+    """Writes the histories and the page."""
+    text = "".join(blocks)
+    write(given.history, text)
+    if given.html is not None:
+        write(given.html, page_of(program, text))
+
+
+def told(found: Found) -> Iterator[str]:
+    """The remarks on the logs."""
+    yield from (f"note: {it}" for it in found.remarks)
+
+
+def table(rows: Sequence[Tuple[str, ...]]) -> Iterator[str]:
+    """Rows in columns."""
+    widths = [max(len(row[at]) for row in rows) for at in range(len(rows[0]))]
+    yield from ("  ".join(f"{cell:<{width}}" for cell, width in zip(row, widths)).rstrip() for row in rows)
+
+
+def tally(outcomes: Sequence[str], order: Sequence[str]) -> str:
+    """The last line: how many test cases have each outcome."""
+    counts = Counter(outcomes)
+    return f"{len(outcomes)} test case{'s' * (len(outcomes) != 1)}: " + ", ".join(f"{counts[it]} {it}" for it in order if counts[it])
+
+
+def worst(statuses: Sequence[int]) -> int:
+    """The status of all: a finding stands, whatever else was not judged."""
+    return 1 if 1 in statuses else max(statuses)
+
+
+def seen_verdicts(cases: Sequence[TestCase]) -> Iterator[str]:
+    """Test cases that had several verdicts in these logs."""
+    verdicts: Dict[str, Counter] = defaultdict(Counter)
+    for case in cases:
+        if case.verdict is not None:
+            verdicts[case.name][case.verdict] += 1
+    for name, counts in verdicts.items():
+        if len(counts) > 1:
+            yield f"seen: {name} had " + ", ".join(f"{it} {counts[it]} time{'s' * (counts[it] > 1)}" for it in VERDICTS if counts[it])
+
+
+def head_of(one: luck.Luck) -> str:
+    """The first line of a test case."""
+    log = one.case.verdict or "no end"
+    if one.outcome == luck.LUCK:
+        return f"{one.case.title}: {log} in the log, {' or '.join(one.others)} in another order of the same calls"
+    return f"{one.case.title}: {log} in the log, {one.outcome}"
+
+
+def link_of(given: argparse.Namespace, one: luck.Luck, first: int) -> Iterator[str]:
+    """Where the page compares two schedules."""
+    if given.html is not None and one.outcome == luck.LUCK:
+        yield from (f"compare {one.case.verdict} and {it}: {given.html}#/{first}/{first + at}" for at, it in enumerate(one.others, 1))
+
+
+def run_flaky(given: argparse.Namespace) -> int:
+    """Says which verdicts depended on luck."""
+    program, found = found_program(given.program), read(given)
+    results = luck.flaky(found.cases, given.states, program)
+    lines, rows, cases = list(told(found)), [("test case", "log", "also", "search", "cut off")], []
+    blocks: List[str] = []
+    for one, session in zip(results, found.sessions):
+        details = [*luck.parting(one), *link_of(given, one, len(blocks)), *one.remarks]
+        blocks += one.blocks.values()
+        if details:
+            lines += [head_of(one), *(f"  {it}" for it in details), ""]
+        cut = sum(it.is_cut for it in one.case.runs)
+        rows.append((one.case.title, one.case.verdict or "no end", " ".join(one.others) if one.outcome == luck.LUCK else "-",
+                     f"{one.found.states} states" if one.outcome in (luck.LUCK, luck.STEADY) else one.outcome, str(cut or "-")))
+        kind = {luck.LUCK: "failure", luck.STEADY: ""}.get(one.outcome, "error")
+        cases.append(junit.Row(one.case.title, session, kind, head_of(one), details))
+    keep(given, program, blocks)
+    write(given.junit, junit.report_of("ttrun-titan flaky", cases))
+    lines += [*table(rows), *seen_verdicts(found.cases), tally([luck.COUNTED[it.outcome] for it in results], tuple(luck.COUNTED.values()))]
+    print("\n".join(lines))
+    return worst([it.status for it in results])
+
+
+def run_audit(given: argparse.Namespace) -> int:
+    """Looks for one legal order of all calls of each test case."""
+    program, found = found_program(given.program), read(given)
+    results = audits.audit(found.cases, given.states, program)
+    lines, rows, cases = list(told(found)), [("test case", "log", "outcome", "calls", "states")], []
+    for one, session in zip(results, found.sessions):
+        head = f"{one.case.title}: {one.outcome}"
+        if one.remarks:
+            lines += [head, *(f"  {it}" for it in one.remarks), ""]
+        rows.append((one.case.title, one.case.verdict or "no end", one.outcome, str(one.case.total), str(one.answer.states)))
+        kind = {0: "", 1: "failure"}.get(one.status, "error")
+        cases.append(junit.Row(one.case.title, session, kind, head, one.remarks))
+    keep(given, program, [it.block for it in results if it.block])
+    write(given.junit, junit.report_of("ttrun-titan audit", cases))
+    print("\n".join([*lines, *table(rows), tally([it.outcome for it in results], tuple(audits.STATUS))]))
+    return worst([it.status for it in results])
+
+
+def run_script(given: argparse.Namespace) -> int:
+    """Writes the test cases as a script."""
+    found = read(given)
+    scripts = [script_of(it) for it in found.cases]
+    for case, (_, why) in zip(found.cases, scripts):
+        if why:
+            print(f"ttrun-titan: {case.title}: no script holds it: {why}", file=sys.stderr)
+    texts = [text for text, _ in scripts if text is not None]
+    sys.stdout.write("".join(texts))
+    return 0 if len(texts) == len(scripts) else 3
+
+
+RUNS = {"flaky": run_flaky, "audit": run_audit, "script": run_script}
+
+
+def main(words: Optional[Sequence[str]] = None) -> int:
+    """Runs the command: its status."""
+    try:
+        given = parser().parse_args(words)
+        if given.command is None:
+            raise Refused("a command is missing; ttrun-titan --help says what there is")
+        status = RUNS[given.command](given)
+        sys.stdout.flush()
+        return status
+    except Refused as refusal:
+        print(f"ttrun-titan: {refusal}", file=sys.stderr)
+        return 3
+    except BrokenPipeError:
+        os.dup2(os.open(os.devnull, os.O_WRONLY), 1)
+        return 3
+    except OSError as error:
+        print(f"ttrun-titan: {error}", file=sys.stderr)
+        return 3

@@ -1,0 +1,121 @@
+"""Finds test cases whose verdict depended on luck: another order of the same calls gives another verdict."""
+from __future__ import annotations
+
+import re
+from dataclasses import dataclass, field
+from typing import Dict, Iterator, List, Sequence, Set
+
+from .cases import Run, TestCase
+from .histories import block_of, side_by_side, why_none
+from .limits import MOST_REMARKS
+from .orders import Verdicts, verdicts_of
+from .playing import Entry
+from .program import checked
+from .table import VERDICTS
+
+LUCK, STEADY, OPEN, UNEXPLAINED = "luck", "one verdict", "undecided", "not judged"
+# What the last line counts.
+COUNTED = {LUCK: "with luck", STEADY: "without", OPEN: OPEN, UNEXPLAINED: UNEXPLAINED}
+STATUS = {LUCK: 1, STEADY: 0, OPEN: 3, UNEXPLAINED: 3}
+
+
+@dataclass
+class Luck:
+    """What was found of one test case. `blocks` are its histories, the log's verdict first."""
+
+    case: TestCase
+    found: Verdicts
+    outcome: str
+    others: List[str] = field(default_factory=list)
+    blocks: Dict[str, str] = field(default_factory=dict)
+    remarks: List[str] = field(default_factory=list)
+
+    @property
+    def status(self) -> int:
+        """The exit status by this test case alone."""
+        return STATUS[self.outcome]
+
+    def orders(self) -> Iterator[str]:
+        """The verdicts with a history, the log's first."""
+        yield from (it for it in (self.case.verdict or "", *self.others) if it in self.found.witnesses)
+
+
+def about(case: TestCase, run: Run) -> str:
+    """A run, for whoever knows the test and its logs: its function, its component, and Titan's reference of it."""
+    if run.component == 0:
+        return f"run {run.number}, the main component's behaviour,"
+    reference = next((it for it, number in case.numbers.items() if number == run.component), 0)
+    return f"run {run.number}, {run.function[:60]} on component {run.component}, which Titan calls {reference},"
+
+
+def cut_off(case: TestCase) -> Iterator[str]:
+    """The behaviours that others halted, or the end of the test case: what they would have called is in no log."""
+    cut = [it for it in case.runs if it.is_cut]
+    for run in cut[:MOST_REMARKS]:
+        calls = sum(not it.seen for it in run.calls)
+        yield f"{about(case, run)} was cut off after {calls} call{'s' * (calls != 1)}: what it would have called is in no log"
+    if len(cut) > MOST_REMARKS:
+        yield f"{len(cut) - MOST_REMARKS} more behaviours were cut off"
+
+
+def outcome_of(case: TestCase, found: Verdicts, others: Sequence[str]) -> str:
+    """What is to be said of a test case: another verdict that was found stands, however the search ended."""
+    if case.faults or case.is_shot or case.verdict is None or case.verdict not in found.witnesses:
+        return OPEN if not found.is_complete else UNEXPLAINED
+    if others:
+        return LUCK
+    return STEADY if found.is_complete else OPEN
+
+
+def remarks_on(case: TestCase, found: Verdicts, others: Sequence[str]) -> Iterator[str]:
+    """What is to be said behind the outcome."""
+    if case.faults:
+        yield f"the logs disagree, ttrun-titan audit says how: {case.faults[0]}"
+    yield from case.missing[:MOST_REMARKS]
+    if case.verdict is not None and case.verdict not in found.witnesses and found.is_complete:
+        yield f"no order that was found gives {case.verdict}, as the log says: ttrun-titan audit says more"
+    if not found.is_complete:
+        yield f"the search met its limit after {found.states} states: other verdicts may exist"
+    yield from case.remarks if others else ()
+    yield from cut_off(case)
+
+
+def looked_at(case: TestCase, states: int) -> Luck:
+    """What the orders of one test case give, not yet shown to `ttrun check`."""
+    found = verdicts_of(case, states)
+    others = sorted(set(found.witnesses) - {case.verdict}, key=VERDICTS.index)
+    one = Luck(case, found, outcome_of(case, found, others), others)
+    one.remarks += remarks_on(case, found, others)
+    why = why_none(case)
+    if others and why:
+        one.remarks.append(f"its orders are not shown to ttrun check: {why}")
+    if not why:
+        one.blocks = {it: block_of(case, found.witnesses[it]) for it in one.orders()}
+    return one
+
+
+def parting(one: Luck) -> Iterator[str]:
+    """The schedule of the log's verdict beside that of each other one."""
+    witnesses: Dict[str, List[Entry]] = one.found.witnesses
+    mine = one.case.verdict
+    if one.outcome != LUCK or mine is None:
+        return
+    shown: Set[int] = set()
+    for other in one.others:
+        alike, *rows = side_by_side(witnesses[mine], witnesses[other], (mine, other))
+        yield f"{mine} and {other}: {alike}"
+        yield from rows
+        shown |= {int(it) for row in rows[1:] for it in re.findall(r"(?:^|\| )(\d+) ", row)}
+    for run in [it for it in sorted(shown - {0}) if not one.case.runs[it].is_cut][:MOST_REMARKS]:
+        yield about(one.case, one.case.runs[run])[:-1]
+
+
+def flaky(cases: Sequence[TestCase], states: int, program: str) -> List[Luck]:
+    """What was found of all test cases; each order was shown to `ttrun check`."""
+    found = [looked_at(it, states) for it in cases]
+    shown = [(one, verdict) for one in found for verdict in one.blocks]
+    for (one, verdict), said in zip(shown, checked(program, [one.blocks[verdict] for one, verdict in shown])):
+        if said:
+            one.outcome = UNEXPLAINED
+            one.remarks.insert(0, f"ttrun check says of the order for {verdict}: {said}")
+    return found

@@ -1,0 +1,57 @@
+"""Writes orders as histories of format 2, and two of them side by side."""
+from __future__ import annotations
+
+import re
+from itertools import takewhile
+from typing import List, Sequence
+
+from .cases import TestCase
+from .limits import MOST_BEHAVIOURS, MOST_BYTES_OF_A_NAME, MOST_ROWS
+from .playing import Entry
+from .table import MOST_COMPONENTS, Table
+
+COLUMN = 40
+NO_NAMES = ("all", "any", "mtc", "self")
+
+
+def name_of(case: TestCase) -> str:
+    """A name that a history may have: that of the test case, and which execution it is."""
+    end = "" if case.execution == 1 else f"_{case.execution}"
+    plain = re.sub(r"[^A-Za-z0-9_]", "_", case.name)[: MOST_BYTES_OF_A_NAME - len(end)]
+    if not re.match(r"[A-Za-z]", plain) or plain in NO_NAMES:
+        plain = f"t_{plain}"[: MOST_BYTES_OF_A_NAME - len(end)]
+    return plain + end
+
+
+def why_none(case: TestCase) -> str:
+    """Why no history can hold the test case, nothing where one can."""
+    if len(case.runs) > MOST_BEHAVIOURS:
+        return f"{len(case.runs) - 1} starts, and a history holds {MOST_BEHAVIOURS - 1}"
+    if len(case.numbers) >= MOST_COMPONENTS:
+        return f"{len(case.numbers) + 1} components, and the component table holds {MOST_COMPONENTS}"
+    return ""
+
+
+def verdict_of(case: TestCase, entries: Sequence[Entry]) -> str:
+    """The overall verdict that the table gives behind these entries."""
+    table = Table(len(case.runs))
+    for entry in entries:
+        table.play(entry.run, entry.op)
+    return table.overall()
+
+
+def block_of(case: TestCase, entries: Sequence[Entry]) -> str:
+    """The history of an order."""
+    lines = [f"history 2 {name_of(case)} {len(case.runs)}", *(it.text() for it in entries), f"end {verdict_of(case, entries)}"]
+    return "".join(f"{it}\n" for it in lines)
+
+
+def side_by_side(one: Sequence[Entry], other: Sequence[Entry], heads: Sequence[str]) -> List[str]:
+    """Two orders from where they part: the lines of a table with two columns."""
+    left, right = [it.text() for it in one], [it.text() for it in other]
+    alike = len(list(takewhile(lambda both: both[0] == both[1], zip(left, right))))
+    left, right = left[alike:], right[alike:]
+    most = max(len(left), len(right))
+    rows = [(heads[0], heads[1])]
+    rows += [(left[at] if at < len(left) else "", right[at] if at < len(right) else "") for at in range(min(MOST_ROWS, most))]
+    return [f"alike for {alike} entries", *(f"{a:<{COLUMN}} | {b}".rstrip() for a, b in rows), *[".."] * (most > MOST_ROWS)]

@@ -1,0 +1,180 @@
+"""One call of a log on the component table: the entries that it is in a history, or why it cannot be next."""
+from __future__ import annotations
+
+from bisect import bisect_left, insort
+from dataclasses import dataclass, field
+from typing import Dict, List, NamedTuple, Optional, Tuple, Union
+
+from .cases import Call, Channel, TestCase
+from .table import Component, Op, Table
+
+
+class Entry(NamedTuple):
+    """An entry of a history."""
+
+    run: int
+    op: Op
+    reply: str
+
+    def text(self) -> str:
+        """The line of the entry."""
+        return f"{self.run} {self.op.text()} -> {self.reply}"
+
+
+# Why a call cannot be next.
+Reason = str
+
+
+@dataclass
+class Step:
+    """A call that was taken, and its entries: none where it is a message, or had no effect."""
+
+    call: Call
+    entries: List[Entry] = field(default_factory=list)
+
+
+def copy_of(table: Table) -> Table:
+    """A table of its own with the same state."""
+    made = Table(table.behaviours)
+    made.components = [Component(it.alive_type, it.phase, it.run, it.was_started, it.is_excused, it.verdict) for it in table.components]
+    made.component_of_run = dict(table.component_of_run)
+    return made
+
+
+def state_of(table: Table) -> Tuple[Tuple[object, ...], ...]:
+    """All that later replies depend on."""
+    return tuple((it.phase, it.run, it.is_excused, it.verdict) for it in table.components)
+
+
+def is_over(table: Table) -> bool:
+    """Whether the main component has ended."""
+    return table.components[0].phase != "running"
+
+
+def is_destroyed_by_stop(table: Table, op: Op) -> bool:
+    """Whether Titan destroys the component by this stop: an ordinary one that was never started."""
+    if op.verb != "stop" or not isinstance(op.target, int) or op.target >= len(table.components):
+        return False
+    return table.components[op.target].phase == "inactive" and not table.components[op.target].alive_type
+
+
+def as_played(table: Table, op: Op) -> Op:
+    """The operation of the table that does what Titan's does."""
+    return Op("kill", target=op.target) if is_destroyed_by_stop(table, op) else op
+
+
+def in_vain(table: Table, call: Call) -> Union[List[Entry], Reason]:
+    """The call of a run that is not going on."""
+    if call.reply in (None, "ended"):
+        return [Entry(call.run, call.op, "ended")]
+    return "table gives ended"
+
+
+def try_error(table: Table, call: Call) -> Union[List[Entry], Reason]:
+    """A parallel component's dynamic error, which ends it alone."""
+    if call.fault and call.faulty is not None:
+        fault = table.fault(call.run, call.faulty)
+        if fault != call.fault:
+            return f"table gives {'error ' + fault if fault else 'no error'}"
+    return [Entry(call.run, call.op, "ok")]
+
+
+def try_call(table: Table, call: Call) -> Union[List[Entry], Reason]:
+    """The entries of a call that is next, or why it cannot be; the table stays as it is."""
+    if call.channel is not None:
+        return [] if table.is_going_on(call.run) else "table gives ended"
+    if not table.is_going_on(call.run):
+        return in_vain(table, call)
+    if call.reply == "ended":
+        return "its behaviour is still running"
+    if call.is_error:
+        return try_error(table, call)
+    op = as_played(table, call.op)
+    reply = table.would(call.run, op)
+    if call.reply is None and not reply.startswith("error ") or reply == call.reply:
+        return [Entry(call.run, op, reply)]
+    return f"table gives {reply}"
+
+
+def play(table: Table, entries: List[Entry]) -> None:
+    """Carries entries out that the table was asked about before."""
+    for entry in entries:
+        table.play(entry.run, entry.op)
+
+
+class Trail:
+    """The calls that were taken so far, with the table behind them; the last ones can be taken back.
+
+    The table is kept at some places alone, and played anew from the last of them: in a large test case most calls are never
+    taken back, and to copy a thousand components at each call would take minutes."""
+
+    def __init__(self, case: TestCase, calls: List[List[Call]]) -> None:
+        self.calls = calls
+        self.table = Table(len(case.runs))
+        self.steps: List[Step] = []
+        self.places = [0] * len(calls)
+        self.sent: Dict[Channel, int] = {}
+        self.every = max(16, sum(map(len, calls)) // 64)
+        self.kept: List[Tuple[int, Table]] = [(0, copy_of(self.table))]
+        # The runs that have a call left, by the guess at its time.
+        self.heads: List[Tuple[int, int]] = sorted((it[0].guess, run) for run, it in enumerate(calls) if it)
+
+    def head(self, run: int) -> Optional[Call]:
+        """The next call of a run."""
+        at = self.places[run]
+        return self.calls[run][at] if at < len(self.calls[run]) else None
+
+    def move(self, run: int, by: int) -> None:
+        """Goes on, or back, in a run."""
+        old = self.head(run)
+        if old is not None:
+            del self.heads[bisect_left(self.heads, (old.guess, run))]
+        self.places[run] += by
+        new = self.head(run)
+        if new is not None:
+            insort(self.heads, (new.guess, run))
+
+    def attempt(self, call: Call) -> Union[List[Entry], Reason]:
+        """The entries of a call that is next, or why it cannot be: a message is received behind its sending."""
+        if call.channel is not None and not call.is_sent and self.sent.get(call.channel, call.place) < call.place:
+            return "its message is not sent yet"
+        return try_call(self.table, call)
+
+    def expect(self, channels: Dict[Channel, int]) -> None:
+        """Says of which channels the sendings are in the logs; a message on another may come at any time."""
+        self.sent = dict.fromkeys(channels, 0)
+
+    def take(self, call: Call, entries: List[Entry]) -> None:
+        """Takes a call."""
+        play(self.table, entries)
+        if call.is_sent and call.channel is not None and call.channel in self.sent:
+            self.sent[call.channel] += 1
+        self.steps.append(Step(call, entries))
+        self.move(call.run, 1)
+        if len(self.steps) % self.every == 0:
+            self.kept.append((len(self.steps), copy_of(self.table)))
+
+    def back_to(self, length: int) -> None:
+        """Takes back all calls but the first ones."""
+        if length == len(self.steps):
+            return
+        for step in reversed(self.steps[length:]):
+            if step.call.is_sent and step.call.channel is not None and step.call.channel in self.sent:
+                self.sent[step.call.channel] -= 1
+            self.move(step.call.run, -1)
+        del self.steps[length:]
+        while self.kept[-1][0] > length:
+            self.kept.pop()
+        begin, table = self.kept[-1]
+        self.table = copy_of(table)
+        for step in self.steps[begin:]:
+            play(self.table, step.entries)
+
+    def state(self) -> Tuple[object, ...]:
+        """All that the rest depends on."""
+        return tuple(self.places), state_of(self.table)
+
+    def entries(self) -> List[Entry]:
+        """The entries so far."""
+        return [entry for step in self.steps for entry in step.entries]
+
