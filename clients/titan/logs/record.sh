@@ -1,0 +1,23 @@
+#!/bin/sh
+# Records the logs of this folder again, on Eclipse Titan: they were made by this on Titan 8.2.0 (Debian 12, package 8.2.0-1).
+set -eu
+here=$(cd "$(dirname "$0")" && pwd)
+room=$(mktemp -d)
+trap 'rm -rf "$room"' EXIT
+record() { "$here/../record.py" "$@" > /dev/null; }
+keep() { rm -rf "${here:?}/$2"; mkdir "$here/$2"; cp "$room/$1"/*.log "$here/$2/"; rm -f "$here/$2"/*-hc*.log; }
+merge() { ttcn3_logmerge -o "$here/$2" "$room/$1"/*.log 2> /dev/null; }
+# The executable of a module is built once.
+again() { mkdir -p "$room/$2"; cp -p "$room/$1/$3" "$room/$2/"; }
+
+record Pumps "$room/full" --logging full; merge full pumps-full.merged
+again full default Pumps; record Pumps "$room/default" --logging default; merge default pumps-default.merged
+record Crowd "$room/crowd" --logging rotated --set tsp_parts=4 --set tsp_rounds=2; keep crowd crowd-rotated
+again crowd twice Crowd
+record Crowd "$room/twice" --logging appended --set tsp_parts=2 --set tsp_rounds=1
+record Crowd "$room/twice" --logging appended --set tsp_parts=2 --set tsp_rounds=1; keep twice crowd-twice
+record Crash "$room/crash" --logging default; merge crash crash.merged
+record Shot "$room/shot" --logging default; keep shot shot
+record Mimic "$room/mimic" --logging default; keep mimic mimic-default
+again mimic typed Mimic; record Mimic "$room/typed" --logging typed; keep typed mimic-typed
+record Quarrel "$room/quarrel" --logging full --shim --set tsp_parts=6 --set tsp_times=3; merge quarrel quarrel-shim.merged
