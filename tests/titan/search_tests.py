@@ -1,0 +1,165 @@
+"""Tests of the two searches: random courses, plain searches without any reduction, damages, large campaigns."""
+from __future__ import annotations
+
+import os
+import random
+import time
+from typing import List
+
+import made
+import plain
+from kit import CLIENT, Place, hold, log, same, test
+from reading_tests import read
+from table import VERDICTS, Op, Table
+
+from titan_logs import audit, cases, flaky, histories, orders, playing, program, search
+
+STATES = 100_000
+COURSES = 120
+
+
+def calls_of(case: cases.TestCase, is_visible: bool) -> List[List[plain.Plain]]:
+    """The calls as the plain searches need them."""
+    return [[(it.op, it.reply) for it in run.calls if it.channel is None and not (is_visible and it.seen)] for run in case.runs]
+
+
+@test
+def every_true_log_has_an_order(place: Place) -> None:
+    blocks, calls = [], 0
+    for seed in range(COURSES):
+        it = made.course(seed, most=20 + seed % 40, components=2 + seed % 6)
+        case, = read(made.put(it, os.path.join(place.room, str(seed))))
+        one = audit.audited(case, STATES)
+        same((one.outcome, one.overall, case.faults), (audit.LEGAL, it.verdict, []), f"seed {seed}: {one.remarks}")
+        logged = [entry for entry in it.entries if entry[2] not in ("ended", "parked")]
+        shown = [entry for entry in one.answer.entries if entry.reply != "ended"]
+        for verb in ("create", "start", "stop", "kill", "wait", "finish", "running", "alive", "setverdict"):
+            same(sum(entry.op.verb == verb for entry in shown), sum(entry[1].verb == verb for entry in logged), f"seed {seed} {verb}")
+        blocks.append(one.block)
+        calls += case.total
+    hold(calls > 2500, calls)
+    same(program.checked(place.program, blocks), [""] * COURSES)
+
+
+@test
+def no_verdict_is_missed_and_none_made_up(place: Place) -> None:
+    several = looked = 0
+    blocks: List[str] = []
+    for seed in range(COURSES * 2):
+        it = made.course(seed + 1000, most=16 + seed % 16, components=3)
+        case, = read(made.put(it, os.path.join(place.room, str(seed))))
+        found = orders.verdicts_of(case, STATES)
+        hold(found.is_complete and case.verdict in found.witnesses, f"seed {seed}: {found}")
+        try:
+            wanted = plain.verdicts(calls_of(case, is_visible=True), 20_000)
+        except plain.TooMany:
+            continue
+        same(set(found.witnesses), wanted, f"seed {seed}")
+        looked += 1
+        several += len(wanted) > 1
+        for verdict, entries in found.witnesses.items():
+            same(histories.verdict_of(case, entries), verdict, f"seed {seed}")
+            blocks.append(histories.block_of(case, entries))
+    hold(looked > COURSES and several > 10, (looked, several))
+    same(set(program.checked(place.program, blocks)), {""})
+
+
+@test
+def a_witness_keeps_each_runs_order(place: Place) -> None:
+    for seed in range(40):
+        it = made.course(seed + 2000, most=14, components=3)
+        case, = read(made.put(it, os.path.join(place.room, str(seed))))
+        for entries in orders.verdicts_of(case, STATES).witnesses.values():
+            for run in case.runs:
+                mine = [entry.op.text() for entry in entries if entry.run == run.number]
+                same(mine, [call.op.text() for call in run.calls if not call.seen][:len(mine)], f"seed {seed} run {run.number}")
+
+
+def damaged(case: cases.TestCase, rng: random.Random) -> None:
+    """Changes the answer of a question, or exchanges two calls of a run."""
+    run = rng.choice([it for it in case.runs if len(it.calls) > 1])
+    at = rng.randrange(len(run.calls) - 1)
+    call = run.calls[at]
+    if call.reply in ("true", "false"):
+        call.reply = "false" if call.reply == "true" else "true"
+    elif call.reply in VERDICTS:
+        call.reply = rng.choice(VERDICTS[:4])
+    else:
+        run.calls[at], run.calls[at + 1] = run.calls[at + 1], call
+
+
+@test
+def no_order_is_found_where_there_is_none(place: Place) -> None:
+    rng, outcomes = random.Random(5), [0, 0]
+    for seed in range(COURSES * 2):
+        it = made.course(seed + 3000, most=12 + seed % 14, components=3)
+        case, = read(made.put(it, os.path.join(place.room, str(seed))))
+        damaged(case, rng)
+        answer = search.search(case, STATES)
+        try:
+            wanted = plain.has_order(calls_of(case, is_visible=False), 20_000)
+        except plain.TooMany:
+            continue
+        same(answer.outcome == search.FOUND, wanted, f"seed {seed}")
+        outcomes[wanted] += 1
+        hold(wanted or answer.stuck, "it is not said what could not be next")
+    hold(min(outcomes) > 30, outcomes)
+
+
+@test
+def a_large_campaign_takes_seconds(place: Place) -> None:
+    folder = made.put(made.crowd(900, 3), os.path.join(place.room, "logs"))
+    begun = time.time()
+    case, = read(folder)
+    hold(len(case.runs) == 2701 and case.total > 12_000, (len(case.runs), case.total))
+    one, other = audit.audited(case, STATES), flaky.looked_at(case, STATES)
+    took = time.time() - begun
+    same((one.outcome, other.outcome, one.block, other.blocks), (audit.LEGAL, flaky.STEADY, "", {}))
+    hold("2700 starts, and a history holds 255" in "\n".join(one.remarks), one.remarks)
+    hold(took < 60, f"it took {took:.1f} seconds")
+
+
+@test
+def a_search_ends_at_its_limit(place: Place) -> None:
+    case, = (it for it in read(log("pumps-default.merged")) if it.name == "t_stop_all")
+    whole = orders.verdicts_of(case, STATES)
+    short = orders.verdicts_of(case, 3)
+    hold(whole.is_complete and not short.is_complete and short.states <= 4 and whole.states > 4, (whole, short))
+    hold(flaky.looked_at(case, 3).outcome in (flaky.OPEN, flaky.UNEXPLAINED), "it is decided")
+
+
+@test
+def a_state_is_kept_when_calls_are_taken_back(place: Place) -> None:
+    case, = read(log("pumps-full.merged"))[:1]
+    trail = playing.Trail(case, [[it for it in run.calls if it.channel is None] for run in case.runs])
+    answer = search.search(case, STATES)
+    table, states = Table(len(case.runs)), [playing.state_of(Table(len(case.runs)))]
+    queue = list(answer.entries)
+    while queue:
+        call = next(it for it in map(trail.head, range(len(case.runs))) if it is not None and it.run == queue[0].run)
+        entries = trail.attempt(call)
+        hold(not isinstance(entries, str), entries)
+        trail.take(call, entries)
+        for entry in entries:
+            same(entry, queue.pop(0))
+            table.play(entry.run, entry.op)
+        states.append(playing.state_of(table))
+    for length in (len(states) - 1, 40, 17, 16, 15, 3, 0):
+        trail.back_to(length)
+        same(playing.state_of(trail.table), states[length], length)
+        same(sum(trail.places), length)
+
+
+@test
+def the_table_is_the_tests_own(place: Place) -> None:
+    path = os.path.join(CLIENT, "titan_logs", "table.py")
+    hold(os.path.islink(path) and os.path.samefile(path, made.__file__.replace("titan/made.py", "program/table.py")), path)
+
+
+@test
+def a_stop_of_a_component_that_never_ran_destroys_it(place: Place) -> None:
+    table = Table(2)
+    table.play(0, Op("create"))
+    table.play(0, Op("create", alive=True))
+    for verb, target, wanted in (("stop", 1, "kill 1"), ("stop", 2, "stop 2"), ("kill", 1, "kill 1")):
+        same(playing.as_played(table, Op(verb, target=target)).text(), wanted)
