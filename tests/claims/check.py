@@ -13,10 +13,11 @@ from typing import Callable, Dict, Iterator, List, Tuple
 
 sys.dont_write_bytecode = True
 TOP = os.path.dirname(os.path.dirname(os.path.dirname(os.path.abspath(__file__))))
-sys.path += [os.path.join(TOP, "tests", it) for it in ("program", "lies")]
+sys.path += [os.path.join(TOP, it) for it in ("tests/program", "tests/lies", "page")]
 
 import believed
 import edits
+import make
 import graph
 from documents import Block, Document, named_by, read
 from script_reader import read_script
@@ -282,6 +283,7 @@ def main() -> int:
         "each bug can be planted, has a name of its own, and the gate has few": lambda: edits.faults(TOP),
         "no number stands for a rule that is written elsewhere": numbers,
         "the first line of each source says what it is": nameless,
+        "the page is what its sources make": make.differing,
     }
     failed = 0
     for name, check in checks.items():

@@ -21,16 +21,16 @@ from typing import Callable, Dict, List, Tuple
 TOP = os.path.dirname(os.path.dirname(os.path.dirname(os.path.abspath(__file__))))
 # The parts in their order, each by the command that it runs.
 PARTS = ("tests/claims/check.py", "tests/gate/run.py", "tests/wrapper/run.py", "rt", "tests/program/run.py", "tests/hostile/run.py",
-         "tests/titan/run.py")
+         "tests/titan/run.py", "tests/page/run.py")
 LEFT = ("crates/ttrun/out/ttrun", "crates/ttrun/out/ttrun.sources", "crates/refused_memory/out/refused_memory")
-# What each part does where a test says nothing else, so that the whole counts 28 passed.
+# What each part does where a test says nothing else, so that the whole counts 36 passed.
 PASSING = {part: f"echo '{number} passed, 0 failed'" for number, part in enumerate(PARTS, 1)}
 # A part that a gate of one second for each ends.
 ENDLESS = "echo '3 passed, 0 failed'; sleep 60"
 SECONDS = 60
 TESTS: Dict[str, Callable[[str], None]] = {}
 # There are no fewer tests.
-FEWEST = 17
+FEWEST = 18
 
 
 class Fault(Exception):
@@ -76,7 +76,7 @@ def put_parts(room: str, parts: Dict[str, str]) -> None:
             write_program(os.path.join(room, part), "import os, sys\nos.execvp('bash', ['bash', __file__ + '.sh', *sys.argv[1:]])\n")
 
 
-def run(room: str, *words: str, status: int = 0, last: str = "28 passed, 0 failed", **parts: str) -> Tuple[List[str], str]:
+def run(room: str, *words: str, status: int = 0, last: str = "36 passed, 0 failed", **parts: str) -> Tuple[List[str], str]:
     """Runs the gate over stand-ins, and holds it to a status and a last line: its lines, and its standard error."""
     put_parts(room, {next(it for it in PARTS if name in it): text for name, text in parts.items()})
     environment = {**os.environ, "PATH": f"{room}/bin:/usr/bin:/bin", "TMPDIR": room}
@@ -104,8 +104,8 @@ def all_parts_pass(room: str) -> None:
 
 @test
 def a_count_that_is_not_zero(room: str) -> None:
-    for part in ("claims", "gate", "wrapper", "rt", "program", "hostile", "titan"):
-        passed = 28 - [it for it in range(len(PARTS)) if part in PARTS[it]][-1] - 1 + 4
+    for part in ("claims", "gate", "wrapper", "rt", "program", "hostile", "titan", "page"):
+        passed = 36 - [it for it in range(len(PARTS)) if part in PARTS[it]][-1] - 1 + 4
         for status in (1, 0):
             given = {"rt" if part == "rt" else f"tests/{part}/": f"echo '4 passed, 3 failed'; exit {status}"}
             run(room, status=1, last=f"{passed} passed, 3 failed", **given)
@@ -113,22 +113,22 @@ def a_count_that_is_not_zero(room: str) -> None:
 
 @test
 def two_parts_fail_together(room: str) -> None:
-    run(room, status=1, last="27 passed, 5 failed", wrapper="echo '2 passed, 1 failed'; exit 1", hostile="echo '6 passed, 4 failed'; exit 1")
-    run(room, status=1, last="17 passed, 11 failed", **{it: "echo '1 passed, 2 failed'; exit 1" for it in ("claims", "wrapper", "rt")},
+    run(room, status=1, last="35 passed, 5 failed", wrapper="echo '2 passed, 1 failed'; exit 1", hostile="echo '6 passed, 4 failed'; exit 1")
+    run(room, status=1, last="25 passed, 11 failed", **{it: "echo '1 passed, 2 failed'; exit 1" for it in ("claims", "wrapper", "rt")},
         program="echo '3 passed, 3 failed'", hostile="echo '2 passed, 2 failed'")
 
 
 @test
 def a_part_that_ends_badly_and_counts_no_failure(room: str) -> None:
     for status in (1, 2, 3, 137):
-        _, errors = run(room, status=1, last="28 passed, 1 failed", program=f"echo '5 passed, 0 failed'; exit {status}")
+        _, errors = run(room, status=1, last="36 passed, 1 failed", program=f"echo '5 passed, 0 failed'; exit {status}")
         hold(f"ended with status {status} and counts no failure" in errors, errors)
-    run(room, status=1, last="28 passed, 1 failed", rt="echo '4 passed, 0 failed'; exit 1")
+    run(room, status=1, last="36 passed, 1 failed", rt="echo '4 passed, 0 failed'; exit 1")
 
 
 @test
 def a_part_that_is_killed(room: str) -> None:
-    _, errors = run(room, status=1, last="24 passed, 1 failed", rt=f"echo '9 passed'; kill -{int(signal.SIGKILL)} $$")
+    _, errors = run(room, status=1, last="32 passed, 1 failed", rt=f"echo '9 passed'; kill -{int(signal.SIGKILL)} $$")
     hold("rt ci ended with status 137" in errors, errors)
 
 
@@ -136,13 +136,20 @@ def a_part_that_is_killed(room: str) -> None:
 def a_part_that_counts_nothing(room: str) -> None:
     for text in ("exit 0", "exit 1", "echo 'all is well'", "echo '7 passed, 0 failed'; echo behind it", "echo '7 passed, 0 failed '",
                  "echo 'about 7 passed, 0 failed'", "echo '7 passed, no failed'", "echo '7 passed, 0 failed' >&2"):
-        _, errors = run(room, status=1, last="25 passed, 1 failed", wrapper=text)
+        _, errors = run(room, status=1, last="33 passed, 1 failed", wrapper=text)
         hold("counts no failure" in errors, f"{text}: {errors}")
 
 
 @test
+def a_part_that_skips_some(room: str) -> None:
+    run(room, page="echo '8 passed, 0 failed, 3 skipped'")
+    run(room, status=1, last="29 passed, 1 failed", page="echo '1 passed, 1 failed, 3 skipped'; exit 1")
+    run(room, status=1, last="28 passed, 1 failed", page="echo '8 passed, 0 failed, some skipped'")
+
+
+@test
 def a_part_that_cannot_be_run(room: str) -> None:
-    run(room, status=1, last="23 passed, 1 failed", program="exec /no/such/program")
+    run(room, status=1, last="31 passed, 1 failed", program="exec /no/such/program")
 
 
 @test
@@ -152,13 +159,13 @@ def a_part_that_does_not_end(room: str) -> None:
     shortened = re.sub(r"(?m)^part \d+ ", "part 1 ", text)
     hold(len(re.findall(r"(?m)^part 1 ", shortened)) == len(PARTS), "each part has a limit of seconds")
     write_program(os.path.join(room, "gate"), shortened)
-    _, errors = run(room, status=1, last="28 passed, 1 failed", wrapper=ENDLESS)
+    _, errors = run(room, status=1, last="36 passed, 1 failed", wrapper=ENDLESS)
     hold("was ended after 1 seconds" in errors, errors)
 
 
 @test
 def a_part_that_fails_stops_no_other(room: str) -> None:
-    run(room, status=1, last="27 passed, 1 failed", claims="echo '0 passed, 1 failed'; exit 1")
+    run(room, status=1, last="35 passed, 1 failed", claims="echo '0 passed, 1 failed'; exit 1")
     hold(len(calls_of(room)) == len(PARTS), f"{calls_of(room)}")
 
 

@@ -1,0 +1,153 @@
+// The chart: one case as a scalable picture, of which only the part in sight is drawn.
+import { VERDICTS } from "./reading.mjs";
+import { countWhile, nameOf } from "./lanes.mjs";
+import { filterOf, isDeciding, rowsOf } from "./rows.mjs";
+import { shapeOfRow } from "./shapes.mjs";
+import { cut, escaped, lookOf, svg, twoLines, widthOf } from "./drawing.mjs";
+
+export const ROW = 28, GUTTER = 66, HEAD = 50;
+const FOOT = 90, LOW = 20;  // how far below the top of a row its arrow is
+export class Chart {
+  // options: questions, ended, isFolded (what is shown), focus (a component or null), part (where two cases part, or -1)
+  constructor(game, options) {
+    Object.assign(this, { game, options, unfolded: new Set(), chosen: 0, room: 900 });
+    this.layout();
+  }
+  // Which rows there are, and which lanes: all, or those that an entry about the component in focus is about.
+  layout() {
+    const { game, options } = this, { focus } = options, isShown = filterOf(game, options), met = new Set([focus]);
+    this.rows = rowsOf(game.list, isShown, options.isFolded, this.unfolded, options.part);
+    const seen = focus === null ? [] : this.rows.flatMap(row => row.seen).map(index => game.list[index]);
+    for (const { on, target, made } of seen) met.add(on).add(target).add(made);
+    this.lanes = [...game.lanes.values()].filter(lane => focus === null || met.has(lane.number));
+    this.left = GUTTER + (game.list.some(entry => entry.on === null && isShown(entry)) ? 130 : 0);
+    this.place(this.room);
+  }
+  place(room) {
+    const pitch = Math.max(132, Math.min(200, Math.floor((room - this.left - 16) / this.lanes.length)));
+    const width = this.left + pitch * this.lanes.length + 16;
+    this.xs = new Map(this.lanes.map((lane, place) => [lane.number, this.left + pitch * (place + 0.5)]));
+    // some room on the right of the last life line
+    Object.assign(this, { room, pitch, width: Math.max(width, Math.min(room, width + 180)) });
+  }
+  get height() { return this.rows.length * ROW + FOOT; }
+  // the last row that begins at an entry or before it, or -1
+  rowAt(index) { return countWhile(this.rows, row => row.first <= index) - 1; }
+  isNear(x, left, right) { return x > left - this.pitch && x < right + this.pitch; }
+  lanesBetween(left, right) { return this.lanes.filter(lane => this.isNear(this.xs.get(lane.number), left, right)); }
+
+  heads(left = 0, right = this.width) {
+    const width = this.pitch - 10, { focus } = this.options;
+    return this.lanesBetween(left, right).map(({ number, name, alive }) => {
+      const x = this.xs.get(number), lines = twoLines(name ?? "", Math.floor((width - 6) / 6.6)), isAlone = focus === number;
+      const title = `${this.game.who(number)}${alive ? ", alive-type" : ""}`, first = lines.length > 1 ? 26 : 31;
+      return `<g class="head" data-lane="${number}" role="button" aria-pressed="${isAlone}"><title>${title}</title>` +
+        svg.rect(x - width / 2, 4, width, HEAD - 8, isAlone ? "box selected" : "box", 5) +
+        svg.text(x, name ? 14 : HEAD / 2, nameOf(number), "strong") +
+        lines.map((line, place) => svg.text(x, first + 12 * place, line, "small")).join("") + "</g>";
+    }).join("") + (this.left > GUTTER ? svg.text(GUTTER + 55, HEAD / 2, "not started", "dim") : "");
+  }
+  // The rows from one to another, with row `from` at the top, and of them what is to see between left and right.
+  draw(from, to, left = 0, right = this.width) {
+    const { rows, game, options } = this, bottom = (to - from) * ROW, parts = [], lanes = this.lanesBetween(left, right);
+    const across = (y, look, x) => svg.line(x, y, this.width, y, look), shown = rows.slice(from, to);
+    shown.forEach((row, place) => {
+      if (from + place === this.chosen) parts.push(svg.rect(0, place * ROW, this.width, ROW, "selected"));
+      if (isDeciding(game, row)) parts.push(svg.rect(GUTTER - 8, place * ROW, this.width, ROW, "why"));
+    });
+    for (const lane of lanes) parts.push(this.life(lane, from, bottom));
+    shown.forEach((row, place) => parts.push(this.row(row, from + place, place * ROW, left, right)));
+    const part = this.rowAt(options.part - 1) + 1, over = this.rowAt(game.overAt ?? -1);
+    if (options.part >= 0 && from <= part && part <= to) parts.push(across((part - from) * ROW, "part", 0));
+    if (from <= over && over < to) for (const low of [27.5, 25.5]) parts.push(across((over - from) * ROW + low, "over", GUTTER));
+    return parts.join("") + (to === rows.length ? this.foot(bottom, lanes) : "");
+  }
+  // How far below the top of row `from` an entry is. One that is not shown is between two rows.
+  yOf(index, from) {
+    const place = index === Infinity ? this.rows.length : this.rowAt(index), isShown = index <= this.rows[place]?.last;
+    return (place - from) * ROW + (isShown ? LOW : index === Infinity ? 0 : ROW);
+  }
+  // A life line: thin, thick while a run is running, crossed where it was killed, and the brackets of its waits.
+  life(lane, from, bottom) {
+    const x = this.xs.get(lane.number), y = index => this.yOf(index, from), parts = [];
+    const near = height => Math.max(-2 * ROW, Math.min(height, bottom + 2 * ROW));
+    lane.phases.forEach(({ at, phase, by }, place) => {
+      const top = near(y(at)), end = phase === "killed" ? top : near(y(lane.phases[place + 1]?.at ?? Infinity));
+      if (end <= -ROW || top >= bottom + ROW) return;
+      if (phase === "killed") parts.push(by === "kill" ? svg.cross(x, top) : svg.line(x - 9, top, x + 9, top, "over"));
+      else if (phase === "running") parts.push(svg.rect(x - 5, top, 10, Math.max(end - top, 1), "run"));
+      else parts.push(svg.line(x, top, x, end, `life ${phase}`));
+    });
+    const over = countWhile(lane.waits, wait => y(wait.to) < -ROW);
+    const begun = countWhile(lane.waits, wait => y(wait.at) < bottom + ROW);
+    for (const { at, to, how } of lane.waits.slice(over, begun)) {
+      const top = near(y(at) - 6), end = near(y(to) - 6);
+      if (top < end) parts.push(`<path d="M${x - 6},${top} h-7 V${end} ${how === "open" ? "" : "h7"}" class="wait ${how}"/>`);
+    }
+    return parts.join("");
+  }
+  foot(y, lanes) {
+    const { status, overall, isOver } = this.game, width = this.width - GUTTER - 16;
+    const local = lane => VERDICTS[lane.locals.at(-1).rank], middle = GUTTER + Math.min(width, this.room - GUTTER - 16) / 2;
+    return lanes.map(lane => this.box(this.xs.get(lane.number), y + 24, `local ${local(lane)}`, lookOf(local(lane)))).join("") +
+      `<g class="${lookOf(status)}">${svg.rect(GUTTER, y + 44, width, 24, "box", 4)}` +
+      `${svg.text(middle, y + 56, isOver ? `verdict ${status}` : `not over; verdict so far ${VERDICTS[overall]}`, "strong")}</g>`;
+  }
+  // A row: its picture, its lines in the text, and where its life line is out of sight, what it is.
+  row(row, place, y, left, right) {
+    const { list, who } = this.game, entry = list[row.first], x = this.xs.get(entry.on) ?? GUTTER;
+    const tint = isDeciding(this.game, row) ? "on-why" : place === this.chosen ? "on-selected" : "";
+    const number = row.times > 1 ? `${entry.line}\u2013${list[row.last].line}` : entry.line;
+    const title = row.seen.map(index => list[index].text).join("\n");
+    const shape = shapeOfRow(this.game, row), say = `${who(entry.on)}: ${shape.label}`;
+    const edge = x > right ? svg.text(right - 8, y + 14, `${say} \u203a`, "halo dim small", "end")
+      : x < left + GUTTER - 8 ? svg.text(left + GUTTER, y + 14, `\u2039 ${say}`, "halo dim small", "start") : "";
+    const drawn = edge && /note|box/.test(shape.form) ? "" : this.shape(shape, x, y, left, right);
+    return `<g data-row="${place}" class="${tint}" role="option" aria-selected="${place === this.chosen}">` +
+      `<title>line ${number}: ${escaped(title)}</title>${svg.rect(0, y, this.width, ROW, "hit")}${drawn}` +
+      (left > 0 ? svg.rect(left, y, GUTTER - 8, ROW, "cover") : "") + svg.rect(left, y, 4, ROW, "edge") +
+      `${edge}${svg.text(left + GUTTER - 14, y + 14, number, "gutter", "end")}</g>`;
+  }
+  shape({ form, from, to, label, look }, x, y, left, right) {
+    const words = cut(label, 420);
+    if (form === "note") return this.note(x, y + 14, words, look);
+    if (form === "box") return this.box(x, y + 14, words, look);
+    if (form === "arrow") return this.arrow(x, this.xs.get(from), this.xs.get(to), y, words, look);
+    if (form === "create") {
+      const made = this.xs.get(to), name = cut(this.game.who(to), this.pitch - 32);
+      return this.arrow(x, x, made, y, words, look, widthOf(name) / 2 + 9) + this.box(made, y + 16, name, "head");
+    }
+    const ends = to.filter(number => this.xs.has(number)).map(number => this.xs.get(number)), low = y + LOW;
+    const tip = end => svg.tip(end - 6 * Math.sign(end - x), low, Math.sign(end - x), look);
+    return svg.line(Math.min(x, ...ends), low, Math.max(x, ...ends), low, `arrow ${look}`) + this.note(x, y + 9, words) +
+      ends.filter(end => this.isNear(end, left, right)).map(tip).join("");
+  }
+  box(x, y, label, look) {
+    const width = widthOf(label) + 18, left = Math.max(GUTTER - 6, Math.min(x - width / 2, this.width - width - 4));
+    return `<g class="${look}">${svg.rect(left, y - 10, width, 20, "box", 5)}${svg.text(left + width / 2, y, label)}</g>`;
+  }
+  // a label on the right of a life line, or on its left where there is no room
+  note(x, y, label, look = "") {
+    const isRight = x + 14 + widthOf(label) < this.width - 4;
+    return svg.text(isRight ? x + 12 : x - 18, y, label, `halo ${look}`, isRight ? "start" : "end");
+  }
+  // an arrow that ends so much before the life line, with its label beside the caller's life line
+  arrow(caller, begin, end, y, label, look, gap = 6) {
+    const way = Math.sign(end - begin), tip = end - gap * way, half = widthOf(label) / 2;
+    const beside = caller + (half + 14) * (caller === begin ? way : -way);
+    return svg.line(begin + 6 * way, y + LOW, tip - 5 * way, y + LOW, `arrow ${look}`) + svg.tip(tip, y + LOW, way, look) +
+      svg.text(Math.max(half + GUTTER, Math.min(beside, this.width - half - 4)), y + 9, label, "halo");
+  }
+  // All rows as one picture, for a file.
+  picture(style) {
+    const { width, height, chosen } = this, all = ROW + HEAD + height;
+    this.chosen = -1;
+    const rows = this.draw(0, this.rows.length);
+    this.chosen = chosen;
+    const size = `viewBox="0 0 ${width} ${all}" width="${width}" height="${all}"`;
+    return `<svg xmlns="http://www.w3.org/2000/svg" class="chart" ${size}>${style}${svg.rect(0, 0, width, all, "cover")}` +
+      svg.text(GUTTER + 4, ROW / 2, `test case ${this.game.name}`, "strong", "start") +
+      `<svg y="${ROW}" width="${width}" height="${HEAD}">${this.heads()}</svg>` +
+      `<svg y="${ROW + HEAD}" width="${width}" height="${height}">${rows}</svg></svg>`;
+  }
+}

@@ -1,0 +1,31 @@
+// Drawing: the pieces of a picture, as SVG, and how wide words are in it.
+const FONT = '12px system-ui, "Segoe UI", Helvetica, Arial, sans-serif';
+export const escaped = text => String(text).replace(/[&<>"]/g, letter => `&#${letter.charCodeAt()};`);
+// The class of what has the look of a verdict.
+export const lookOf = status => `v-${status === "unfinished" ? "error" : status}`;
+const pen = document.createElement("canvas").getContext("2d"), widths = new Map();
+export function widthOf(text) {
+  pen.font = FONT;
+  if (!widths.has(text)) widths.set(text, pen.measureText(text).width);
+  return widths.get(text);
+}
+export function cut(text, room) {
+  let length = text.length;
+  while (length > 1 && widthOf(text.slice(0, length)) > room) length -= 1;
+  return length === text.length ? text : `${text.slice(0, length - 1)}\u2026`;
+}
+// A name in one line or two, parted behind a `_` where that can be.
+export function twoLines(name, room) {
+  if (name.length <= room) return [name];
+  const at = name.lastIndexOf("_", room - 1) + 1, parting = at > 0 && name.length - at <= room ? at : room;
+  return [name.slice(0, parting), name.slice(parting)];
+}
+export const svg = {
+  text: (x, y, words, look = "", anchor = "middle") =>
+    `<text x="${x}" y="${y + 4}" class="${look}" text-anchor="${anchor}">${escaped(words)}</text>`,
+  line: (x1, y1, x2, y2, look) => `<line x1="${x1}" y1="${y1}" x2="${x2}" y2="${y2}" class="${look}"/>`,
+  rect: (x, y, width, height, look, round = 0) =>
+    `<rect x="${x}" y="${y}" width="${width}" height="${height}" rx="${round}" class="${look}"/>`,
+  tip: (x, y, way, look) => `<path d="M${x},${y} l${-9 * way},-4.5 v9 z" class="tip ${look}"/>`,
+  cross: (x, y) => `<path d="M${x - 7},${y - 7} l14,14 m0,-14 l-14,14" class="cross"/>`,
+};

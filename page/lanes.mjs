@@ -1,0 +1,55 @@
+// The lanes: a case with its entries, and how each component's phase, local verdict and wait change with them.
+import { Lines, readBlock } from "./reading.mjs";
+import { Table, phaseOf } from "./table.mjs";
+
+// Of a list of which some first items are `so` and no further one: how many are.
+export function countWhile(list, so) {
+  let low = 0, high = list.length;
+  while (low < high) {
+    const middle = (low + high) >> 1;
+    if (so(list[middle])) low = middle + 1; else high = middle;
+  }
+  return low;
+}
+// The last change that is not behind an entry.
+export const lastAt = (changes, index) => changes[countWhile(changes, change => change.at <= index) - 1];
+// How a component is called.
+export const nameOf = (number, name = null) => number === null ? "no component" : number === 0 ? "mtc" :
+  name ? `${number} ${name}` : `${number}`;
+// Notes the phase and the local verdict that a slot has behind the entry at an index, which was the verb `by`.
+function note(lanes, slot, at, by) {
+  if (!slot.exists) return;
+  const { number, name, alive, run, local } = slot, phase = phaseOf(slot);
+  if (!lanes.has(number)) lanes.set(number, { number, name, alive, phases: [], locals: [], waits: [], wait: null });
+  const lane = lanes.get(number), last = lane.phases.at(-1);
+  if (!last || last.phase !== phase || last.run !== run) {
+    lane.phases.push({ at, phase, run, by });
+    if (lane.wait) { Object.assign(lane.wait, { to: at, how: "halted" }); lane.wait = null; }
+  }
+  if (lane.locals.at(-1)?.rank !== local) lane.locals.push({ at, rank: local });
+}
+// Begins or ends the wait of the run that made the entry. A wake that is parked goes on with the same wait.
+function noteWait(lane, entry, at) {
+  const { run, reply, error } = entry, operation = entry.operation.replace("wake", "wait");
+  const isParked = operation.startsWith("wait") && reply === "parked";
+  if (lane.wait?.run === run && !(isParked && lane.wait.operation === operation)) {
+    Object.assign(lane.wait, { to: at, how: error ? "error" : reply });
+    lane.wait = null;
+  }
+  if (isParked && !lane.wait) lane.waits.push(lane.wait = { at, to: Infinity, how: "open", run, operation });
+}
+// The case of a summary. A change at an entry holds from behind it on; that at -1 from the opening. `overAt` is the entry
+// that ended the case, and `on` of an entry the component of its run, or null.
+export function openCase(text, summary) {
+  const table = new Table(), list = [], lanes = new Map();
+  const game = { ...summary, list, lanes, overAt: null, who: number => nameOf(number, lanes.get(number)?.name) };
+  note(lanes, table.slot(0), -1, null);
+  readBlock(new Lines(text, summary.from, summary.line - 1), entry => {
+    const at = list.push(entry) - 1, wasOver = table.isOver, on = table.runs.get(entry.run);
+    entry.on = lanes.has(on) ? on : null;
+    if (entry.on !== null) noteWait(lanes.get(on), entry, at);
+    for (const slot of table.take(entry)) note(lanes, slot, at, entry.verb);
+    if (table.isOver && !wasOver) game.overAt = at;
+  });
+  return game;
+}

@@ -1,0 +1,126 @@
+#!/usr/bin/env python3
+"""Joins the sources of the page into one file, and makes the constants of the crate tc_page of it.
+
+usage: page/make.py [--check]
+
+It writes page/viewer.html, which is the page with no history in it, and the two parts between which a history text is put:
+crates/tc_page/src/head.rt and crates/tc_page/src/tail.rt. With --check nothing is written: a line for each file that is not
+what the sources make, and status 1 if there is one.
+"""
+from __future__ import annotations
+
+import base64
+import hashlib
+import os
+import re
+import sys
+from typing import Dict, Iterator, List
+
+TOP = os.path.dirname(os.path.dirname(os.path.abspath(__file__)))
+# A page is HEAD, a history text as it is, and TAIL. HEAD ends with this mark, which is there once.
+MARK = '<script type="text/plain" id="history">'
+# The crate that has the two parts, once it is there.
+CRATE = "crates/tc_page"
+# The module whose imports are the whole page.
+MAIN = "main"
+IMPORT = re.compile(r'(?m)^import \{ ([^;]*?) \} from "\./(\w+)\.mjs";\n')
+DEFINED = re.compile(r"(?m)^(?:export )?(?:async )?(?:function|class|const|let) (\w+)")
+
+
+def source(name: str) -> str:
+    """A file of page/."""
+    with open(os.path.join(TOP, "page", name), encoding="ascii") as file:
+        return file.read()
+
+
+def modules(name: str, met: List[str]) -> List[str]:
+    """A module behind all that it imports, each once."""
+    for _, imported in IMPORT.findall(source(f"{name}.mjs")):
+        if imported not in met:
+            modules(imported, met)
+    met.append(name)
+    return met
+
+
+def bare(text: str) -> str:
+    """The text without empty lines, leading blanks, and lines that are a comment."""
+    lines = (line.strip() for line in text.split("\n"))
+    return "\n".join(line for line in lines if line and not line.startswith("// ") and not re.fullmatch(r"/\*.*\*/", line)) + "\n"
+
+
+def style() -> str:
+    """The style of the page."""
+    return "\n" + bare(source("page.css"))
+
+
+def script() -> str:
+    """All modules as one script, in one scope, without the words that part them."""
+    joined = "".join(IMPORT.sub("", source(f"{name}.mjs")) for name in modules(MAIN, []))
+    names = DEFINED.findall(joined)
+    twice = sorted({name for name in names if names.count(name) > 1})
+    if twice:
+        sys.exit(f"two modules of the page define {', '.join(twice)}")
+    return '\n"use strict";\n' + bare(re.sub(r"(?m)^export ", "", joined))
+
+
+def policy() -> str:
+    """What the page may load: this style and this script, by their hashes, and nothing else."""
+    def named(text: str) -> str:
+        return "'sha256-" + base64.b64encode(hashlib.sha256(text.encode()).digest()).decode() + "'"
+    return f"style-src {named(style())}; script-src {named(script())}"
+
+
+def page() -> str:
+    """The page with no history in it."""
+    text = bare(re.sub(r"(?s)<!-- .*? -->\n", "", source("page.html")))
+    for name, part in (("policy", policy()), ("style", style()), ("script", script())):
+        text = text.replace("{{" + name + "}}", part)
+    return text
+
+
+def constant(name: str, says: str, text: str) -> str:
+    """A module of the crate tc_page with one constant."""
+    escaped = text.replace("\\", "\\\\").replace('"', '\\"').replace("\n", "\\n")
+    return f'//! {says}\n\n/// {says}\npub const {name}: &[u8] = b"{escaped}";\n'
+
+
+def made() -> Dict[str, str]:
+    """Each file that is made, by its path from the top."""
+    text = page()
+    head, tail = text.split(MARK)
+    files = {"page/viewer.html": text}
+    if os.path.isdir(os.path.join(TOP, CRATE)):
+        files[f"{CRATE}/src/head.rt"] = constant("HEAD", "What a page has before the histories.", head + MARK)
+        files[f"{CRATE}/src/tail.rt"] = constant("TAIL", "What a page has behind the histories.", tail)
+    return files
+
+
+def differing() -> Iterator[str]:
+    """The files that are not what the sources make, each with what to do."""
+    for path, text in made().items():
+        try:
+            with open(os.path.join(TOP, path), encoding="ascii") as file:
+                is_made = file.read() == text
+        except (OSError, UnicodeDecodeError):
+            is_made = False
+        if not is_made:
+            yield f"{path} is not what the sources of the page make: python3 page/make.py"
+
+
+def main() -> int:
+    """Writes the files, or says which are not made of the sources."""
+    if sys.argv[1:] == ["--check"]:
+        lines = list(differing())
+        print("".join(f"{line}\n" for line in lines), end="")
+        return 1 if lines else 0
+    if sys.argv[1:]:
+        print(__doc__, file=sys.stderr)
+        return 3
+    for path, text in made().items():
+        with open(os.path.join(TOP, path), "w", encoding="ascii") as file:
+            file.write(text)
+    return 0
+
+
+if __name__ == "__main__":
+    sys.exit(main())

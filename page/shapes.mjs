@@ -1,0 +1,48 @@
+// The shapes: what a chart draws for an entry or a row, and the words beside it. It knows no coordinates.
+import { VERDICTS } from "./reading.mjs";
+import { lastAt, nameOf } from "./lanes.mjs";
+import { isQuestion } from "./rows.mjs";
+
+// An arrow between two life lines, a create, an arrow to all others that there are, a box on the caller's life line, or a
+// note beside it. An entry that no rule is for is a box with all its words.
+export function shapeOf({ lanes, who }, entry, index) {
+  const { verb, reply, run, on, target, made, operation, started } = entry, isCarriedOut = reply === "ok";
+  const to = lanes.has(target) && target !== on ? target : null, isHalt = verb === "stop" || verb === "kill";
+  const words = typeof target === "number" ? `${verb} ${who(target)}${verb === "start" ? `, run ${started}` : ""}` : operation;
+  const shape = (form, label, look = "", from = on, end = to) => ({ form, label, look, from, to: end });
+  if (!lanes.has(on)) return shape("note", `run ${run}: ${operation} \u2192 ${reply}`, "dim");
+  if (reply === "ended") return shape("note", `${words} \u2192 ended`, "dim small");
+  if (entry.error !== null) return shape("box", `${words} \u2192 error ${entry.error}`, "v-error");
+  if (verb === "create" && made !== null && made !== on)
+    return shape("create", entry.alive ? "create alive" : "create", "dashed", on, made);
+  if (verb === "start" && isCarriedOut && to !== null) {
+    const names = entry.args.map(entry.args.length > 1 ? number => nameOf(number) : who);
+    return shape("arrow", `start run ${started}${names.length ? ` with ${names.join(", ")}` : ""}`);
+  }
+  if (isHalt && isCarriedOut && target === "all") {
+    const isThere = lane => (lastAt(lane.phases, index - 1)?.phase ?? "killed") !== "killed";
+    const others = [...lanes.values()].filter(lane => lane.number !== 0 && lane.number !== on && isThere(lane));
+    return shape("all", operation, verb, on, others.map(lane => lane.number));
+  }
+  if (isHalt && isCarriedOut && target === on) return shape("box", `${verb} itself`);
+  if (isHalt && isCarriedOut && to !== null) return shape("arrow", verb, verb);
+  if (verb === "stopcase" && isCarriedOut) return shape("box", "testcase.stop", "v-error");
+  if (verb === "setverdict" && isCarriedOut) {
+    const now = VERDICTS[lastAt(lanes.get(on).locals, index).rank];
+    if (now === entry.verdict) return shape("box", words, `v-${now}`);
+    return shape("box", `${words}, stays ${now}`, `kept v-${entry.verdict}`);
+  }
+  const isWait = verb.startsWith("wait "), isWake = verb.startsWith("wake "), awaited = words.slice(5);
+  if ((isWait || isWake) && reply === "matched")
+    return to === null ? shape("box", awaited) : shape("arrow", awaited, "dashed", to, on);
+  if (isWait && reply === "parked") return shape("note", words);
+  if (isWake && reply === "parked") return shape("note", `still waits: ${awaited}`, "dim small");
+  if (verb === "finish" && isCarriedOut) return shape("note", `finish run ${run}`);
+  return isQuestion(entry) ? shape("note", `${words} \u2192 ${reply}`, "dim small") : shape("box", `${words} \u2192 ${reply}`);
+}
+export function shapeOfRow(game, { seen, size, times }) {
+  const shapes = seen.map(index => shapeOf(game, game.list[index], index));
+  if (times === 1) return shapes[0];
+  if (size === 1) return { ...shapes[0], label: `${shapes[0].label}  \u00d7${times}` };
+  return { ...shapes[0], form: "box", label: `${times} times: ${shapes.map(shape => shape.label).join(" / ")}`, look: "kept" };
+}

@@ -1,0 +1,43 @@
+// The sources: histories in the page, files opened or dropped, a pasted text; and what is said of one that cannot be read.
+import { $, app, counted, on, when } from "./app.mjs";
+import { readHistories } from "./cases.mjs";
+import { escaped } from "./drawing.mjs";
+
+export function addSource(name, text) {
+  const source = { name, text, ...readHistories(text) };
+  app.sources.push(source);
+  for (const summary of source.cases) app.cases.push({ ...summary, source, id: app.cases.length });
+}
+// Files are shown beside what is open, so that two nights can be compared. Each byte is read as one character, so what is
+// not ASCII is refused as `check` refuses it.
+async function openFiles(files) {
+  for (const file of [...files]) addSource(file.name, new TextDecoder("windows-1252").decode(await file.arrayBuffer()));
+  if (location.hash.length > 1) location.hash = ""; else app.show();
+}
+export function listenForFiles() {
+  for (const type of ["dragover", "dragleave", "drop"]) on(document, type, event => {
+    event.preventDefault();
+    document.body.classList.toggle("dragged", type === "dragover");
+    if (type === "drop" && event.dataTransfer.files.length) openFiles(event.dataTransfer.files);
+  });
+  on($("#open"), "click", () => { $("#file").value = ""; $("#file").click(); });
+  on($("#file"), "change", event => openFiles(event.target.files));
+}
+export function showStart() {
+  $("#main").innerHTML = `<div class="start"><div class="drop">Drop files here that <code>ttrun run --history</code> or
+    <code>ttrun explore --history</code> wrote, or open them. More files are shown beside them, to be compared.</div>
+    <textarea id="paste" aria-label="histories" spellcheck="false"
+      placeholder="Or paste histories:\n\nhistory 2 t_pumps 4\n0 create alive named inlet_pump -> made 1\n..."></textarea>
+    <div><button id="read">Show</button></div></div>`;
+  on($("#read"), "click", () => { addSource("pasted text", $("#paste").value); app.show(); });
+}
+const inHex = letter => `\\x${letter.charCodeAt().toString(16).padStart(2, "0")}`;
+const visible = text => (text.length > 200 ? `${text.slice(0, 200)}..` : text).replace(/[^ -~]/g, inHex);
+export function faults() {
+  return app.sources.filter(source => source.fault).map(({ name, fault, cases }) => `<div class="fault" role="alert">
+    <b>${escaped(name)}: ${when(fault.line !== null, `line ${fault.line}: `)}${fault.kind}</b>
+    ${when(fault.text !== null, `<code>${escaped(visible(fault.text ?? ""))}</code>`)}
+    <div>This is no history text, so <code>ttrun check</code> prints nothing about it but this fault. ${cases.length
+      ? `Shown are the ${counted(cases.length, "whole history", "whole histories")} above that line, and nothing from there on.`
+      : "Nothing of it is shown."}</div></div>`).join("");
+}

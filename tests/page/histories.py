@@ -1,0 +1,143 @@
+"""Histories for the tests: random ones, which hardly any table makes, legal ones of any size, and spoilt ones."""
+from __future__ import annotations
+
+import os
+import random
+from typing import List, Tuple
+
+from definitions import VERDICTS
+
+TOP = os.path.dirname(os.path.dirname(os.path.dirname(os.path.abspath(__file__))))
+MOST_BYTES = 16_777_216
+MOST_COMPONENTS = 1000
+ERRORS = ("no-component", "not-main", "start-main", "already-running", "not-startable", "no-behaviour", "too-many", "stuck")
+STATUS = ("running", "alive", "done", "killed", "wait done", "wait killed", "wake done", "wake killed")
+VERBS = ("create", "create", "start", "start", "start", "stop", "kill", "stopcase", "setverdict", "setverdict", "getverdict", "finish")
+
+
+def example(name: str) -> str:
+    """A history text of examples/."""
+    with open(os.path.join(TOP, "examples", f"{name}.history"), encoding="ascii") as file:
+        return file.read()
+
+
+def examples() -> List[str]:
+    """The names of all history texts of examples/."""
+    return sorted(it[:-8] for it in os.listdir(os.path.join(TOP, "examples")) if it.endswith(".history"))
+
+
+def kinds() -> str:
+    """Cases of every kind of picture, legal ones and not."""
+    with open(os.path.join(TOP, "tests", "page", "kinds.history"), encoding="ascii") as file:
+        return file.read()
+
+
+def random_entry(rng: random.Random, form: int, is_wild: bool) -> str:
+    """Any entry; a wild one has replies that fit no operation, and numbers of no component."""
+    def some() -> int:
+        return rng.randrange(0, 6 if is_wild else 4)
+    run, verb = rng.randrange(0, 5), rng.choice(VERBS + STATUS)
+    operation = {
+        "create": lambda: "create" + rng.choice(["", " alive"]) + rng.choice(["", " named n_1", " named create"]) * (form == 2),
+        "start": lambda: f"start {some()} {rng.randrange(0, 5)}" + "".join(f" {some()}" for _ in range(rng.randrange(0, 5))),
+        "stop": lambda: f"stop {rng.choice([some(), 'all'])}",
+        "kill": lambda: f"kill {rng.choice([some(), some(), 'all'])}",
+        "setverdict": lambda: f"setverdict {rng.choice(VERDICTS[:4])}",
+    }.get(verb, lambda: f"{verb} {rng.choice([some(), 'any', 'all'])}" if verb in STATUS else verb)()
+    fitting = {"create": [f"made {some()}"], "getverdict": VERDICTS}.get(
+        verb, ["true", "false"] if verb in STATUS[:4] else ["matched", "parked"] if verb in STATUS else ["ok"])
+    every = ["made 1", "ok", "true", "false", *VERDICTS, "matched", "parked", "ended", "error " + rng.choice(ERRORS)]
+    rare = rng.random()
+    reply = rng.choice(every) if is_wild and rare < 0.2 else "ended" if rare < 0.06 else \
+        "error " + rng.choice(ERRORS) if rare < 0.08 else rng.choice(fitting)
+    return f"{run} {operation} -> {reply}"
+
+
+def random_block(rng: random.Random, is_wild: bool) -> Tuple[str, List[str]]:
+    """A block that can be read, and its entries."""
+    form = rng.choice([1, 2])
+    entries = [random_entry(rng, form, is_wild) for _ in range(rng.randrange(0, 26))]
+    text = "".join(f"{it}\n" for it in entries)
+    return f"history {form} t_{rng.randrange(100)} 5\n{text}end {rng.choice(VERDICTS)}\n", entries
+
+
+def workers(rng: random.Random, runs: int, steps: int, verdict: str) -> List[str]:
+    """What so many started runs do in turns, the main one waiting for all; the last of them sets the verdict."""
+    left, out = {run: steps for run in range(1, runs + 1)}, ["0 wait done all -> parked"]
+    while left:
+        run = rng.choice(list(left))
+        for _ in range(min(left[run], rng.randrange(1, 6))):
+            out.append(rng.choice([f"{run} getverdict -> none", f"{run} alive 0 -> true", f"{run} running {run} -> true",
+                                   f"{run} setverdict none -> ok"]))
+            left[run] -= 1
+        if not left[run]:
+            del left[run]
+            out += [f"{run} setverdict {'none' if left else verdict} -> ok", f"{run} finish -> ok"]
+            out.append(f"0 wake done all -> {'parked' if left else 'matched'}")
+    return out
+
+
+def legal_case(name: str, runs: int, steps: int, verdict: str = "pass", seed: int = 1) -> str:
+    """A main behaviour starts workers and waits for them; each makes so many calls, in turns with the others."""
+    out = [f"history 2 {name} {runs + 1}"]
+    for run in range(1, runs + 1):
+        out += [f"0 create {'alive ' if run % 3 == 0 else ''}named worker_{run} -> made {run}"]
+    out += [f"0 start {run} {run} 0 -> ok" for run in range(1, runs + 1)]
+    out += [*workers(random.Random(seed), runs, steps, verdict), "0 finish -> ok", f"end {verdict}"]
+    return "\n".join(out) + "\n"
+
+
+def widest_case(name: str) -> str:
+    """As many components as there may be, a run on as many of them as there may be; all are killed in the end."""
+    out = [f"history 2 {name} 256"]
+    out += [f"0 create {'alive ' if it % 3 == 0 else ''}named component_{it} -> made {it}" for it in range(1, MOST_COMPONENTS)]
+    out += [f"0 start {4 * run - 3 if run < 250 else 744 + run} {run} 0 {run} -> ok" for run in range(1, 256)]
+    for run in range(1, 256):
+        out += [f"{run} getverdict -> none", f"{run} setverdict {'inconc' if run == 200 else 'pass'} -> ok"]
+        out += [f"{run} finish -> ok"] if run % 2 else []
+    out += ["0 wait done 1 -> matched", "0 stop 5 -> ok", "0 kill 9 -> ok", "0 stop all -> ok", "0 kill all -> ok", "0 finish -> ok", "end inconc"]
+    return "\n".join(out) + "\n"
+
+
+def campaign(cases: int, size: int) -> str:
+    """About so many bytes in so many test cases of all verdicts that setverdict sets."""
+    steps = max(1, size // cases // 24 // 8)
+    made = [legal_case("t_NAME", 8, steps, VERDICTS[it % 4], it) for it in range(12)]
+    return "".join(made[it % 12].replace("t_NAME", f"t_case_{it}", 1) for it in range(cases))
+
+
+def fullest() -> str:
+    """A legal history text of exactly as many bytes as there may be."""
+    text, call = campaign(1000, 17_000_000), "0 getverdict -> none\n"
+    ends = "0 finish -> ok\nend none\n"
+    left = MOST_BYTES - len(text) - len("history 2 t 1\n") - len(ends)
+    assert left > 0, "the campaign is too long"
+    return f"{text}history 2 t{'x' * (left % len(call))} 1\n{call * (left // len(call))}{ends}"
+
+
+# What a spoilt text may have in place of something, or between two bytes.
+PIECES = (b"", b" ", b"  ", b"\n", b"\n\n", b"\r\n", b"\t", b"\0", b"\xc3\xa9", b"\xef\xbb\xbf", b"x", b"_", b"-", b"<", b"0", b"00", b"1",
+          b"65536", b"4294967296", b"-1", b"all", b"any", b"ended", b"error", b"error stuck", b"made 1", b"ok", b" -> ", b"->", b"end pass\n",
+          b"end\n", b"history 2 t 1\n", b"history 1 t 65\n", b"named all", b" alive", b" named x", b"wait", b"wake ", b"finish", b"HISTORY")
+
+
+def spoilt(rng: random.Random, texts: List[bytes]) -> bytes:
+    """One of the texts with one to three faults."""
+    text = rng.choice(texts)
+    for _ in range(rng.choice((1, 1, 1, 2, 3))):
+        at, how = rng.randrange(len(text) + 1), rng.randrange(5)
+        lines = text.split(b"\n")
+        line = rng.randrange(len(lines))
+        if how == 0:
+            text = text[:at] + rng.choice(PIECES) + text[at:]
+        elif how == 1:
+            text = text[:at] + rng.choice(PIECES) + text[at + rng.randrange(1, 9):]
+        elif how == 2:
+            text = text[:at]
+        elif how == 3:
+            text = b"\n".join(lines[:line] + lines[line + 1:])
+        else:
+            one = lines[line].split(b" ")
+            one[rng.randrange(len(one))] = rng.choice(PIECES)
+            text = b"\n".join([*lines[:line], b" ".join(one), *lines[line + 1:]])
+    return text
