@@ -92,6 +92,19 @@ def a_ttrun_that_refuses_is_believed(place: Place) -> None:
         ran = command(place, *words, log("pumps-full.merged"), "--only", "t_late", "--program", stand_in)
         hold(ran.status == 3 and outcome in ran.lines[-1], ran.lines)
         hold("table gives ended" in "\n".join(ran.lines), ran.lines)
+        command(place, *words, log("pumps-full.merged"), "--only", "t_late", "--program", stand_in, "--history", "refused")
+        same(os.path.getsize(os.path.join(place.room, "refused")), 0, "what check refuses is written")
+
+
+@test
+def without_ttrun_it_says_so(place: Place) -> None:
+    nowhere = Place(place.room, os.path.join(place.room, "none"))
+    ran = command(nowhere, "flaky", log("pumps-full.merged"))
+    hold(ran.status == 3 and "there is no program" in ran.errors and "--unchecked does without it" in ran.errors, ran.errors)
+    for words in (["flaky"], ["audit"]):
+        one, other = command(nowhere, *words, log("pumps-full.merged"), "--unchecked"), command(place, *words, log("pumps-full.merged"))
+        same((one.status, one.lines), (other.status, ["note: no history was shown to ttrun check", *other.lines]))
+    same(command(place, "flaky", log("pumps-full.merged"), "--unchecked", "--html", "x").status, 3)
 
 
 @test

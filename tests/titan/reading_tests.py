@@ -83,6 +83,57 @@ def layouts(place: Place) -> None:
         same(lines.Layout.guessed(rest).parts(rest), wanted, rest)
 
 
+def laid_out(its: list, layout: str) -> list:
+    """The lines of a log as other settings would have them."""
+    found = []
+    for at, line in enumerate(its):
+        stamp, _, text = line.partition(" ")
+        hours, minutes, seconds = stamp.split(":")
+        phrase = phrases.recognise(text, "")
+        family = next((it for name, it, _ in phrases.FORMS if phrase and name == phrase.name), "USER").split()[0]
+        text = text.replace("LogEventTypes:=No", "LogEventTypes:=Subcategories") if "kinds" in layout else text
+        text = text.replace("SourceInfoFormat:=None", "SourceInfoFormat:=Stack") if "sources" in layout else text
+        stamp = f"{int(hours) * 3600 + int(minutes) * 60 + float(seconds):.6f}" if "seconds" in layout else stamp
+        stamp = f"2026/Nov/26 {stamp}" if "dates" in layout else stamp
+        kind = f"{family}_PTC " if "kinds" in layout else ""
+        source = ("- " if at < 3 else "M.ttcn:9(testcase:t)->M.ttcn:7 ") if "sources" in layout else ""
+        found.append(f"{stamp} {kind}{source}{text}")
+    return found
+
+
+@test
+def settings_of_every_kind(place: Place) -> None:
+    wanted = None
+    for layout in ("", "seconds", "dates", "sources", "kinds", "kinds sources", "seconds kinds sources", "dates kinds sources"):
+        it = made.course(9, most=60)
+        it.logs = {role: laid_out(its, layout) for role, its in it.logs.items()}
+        case, = read(made.put(it, os.path.join(place.room, layout.replace(" ", "_") or "plain")))
+        same((case.faults, case.missing, case.verdict), ([], [], it.verdict), layout)
+        calls = [[call.text() for call in run.calls] for run in case.runs]
+        wanted = wanted or calls
+        same(calls, wanted, layout)
+
+
+@test
+def what_the_settings_leave_out_is_told(place: Place) -> None:
+    for mask, wanted in (("LOG_ALL | MATCHING", []), ("LOG_ALL | MATCHING_DONE", []), ("LOG_ALL", ["MATCHING"]), ("PARALLEL | MATCHING", ["PORTEVENT"]),
+                         ("PARALLEL | PORTEVENT", ["MATCHING"]), ("PARALLEL", ["MATCHING", "PORTEVENT"])):
+        it = made.course(9)
+        it.logs[0] = [line.replace("LOG_ALL | MATCHING", f"{mask}; *.ConsoleMask:=MATCHING | PORTEVENT") for line in it.logs[0]]
+        session, = sessions.read_sessions([made.put(it, os.path.join(place.room, "logs"))])
+        same([name for name, _ in session.left_out()], wanted, mask)
+
+
+@test
+def settings_without_calls_are_told(place: Place) -> None:
+    it = made.course(9)
+    it.logs = {role: [line for line in its if "verdict" in line or "Test case" in line or "TTCN-3" in line] for role, its in it.logs.items()}
+    case, = read(made.put(it, os.path.join(place.room, "logs")))
+    same(case.faults, ["the log settings leave PARALLEL out: the calls of components are in no log"])
+    ran = command(place, "flaky", "logs")
+    hold(ran.status == 3 and "leave PARALLEL out" in "\n".join(ran.lines), ran)
+
+
 @test
 def stamps(place: Place) -> None:
     clock, rows = lines.Clock(), (("23:59:59.999999 ", 86399999999), ("23:59:59.999990 ", 86399999990), ("00:00:00.000001 ", 86400000001),

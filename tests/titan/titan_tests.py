@@ -2,6 +2,7 @@
 from __future__ import annotations
 
 import os
+import re
 import shutil
 
 from command_tests import STEADY, rows_of
@@ -26,3 +27,19 @@ def titan_run_anew(place: Place) -> None:
         for name in STEADY:
             same(rows[name][1], "-", name)
         hold(rows["t_late"][1] == "pass", rows["t_late"])
+
+
+@test
+def titan_with_the_shim(place: Place) -> None:
+    folder = os.path.join(place.room, "quarrel")
+    record.record("Quarrel", folder, "full", is_shimmed=True, parameters=["tsp_parts := 4", "tsp_times := 3"])
+    text = ""
+    for name in os.listdir(folder):
+        if name.endswith(".log"):
+            with open(os.path.join(folder, name), encoding="utf-8") as file:
+                text += file.read()
+    hold(len(re.findall(r"AUDIT running (?:\d+|any) -> (?:true|false)", text)) > 60 and "AUDIT alive" in text, "the shim logs nothing")
+    rows = rows_of(command(place, "audit", folder))
+    # Now and then a kill takes effect behind the end of its caller, which no order has.
+    hold(len(rows) == 3 and sum(row[1] == "legal" for row in rows.values()) >= 1, rows)
+    hold(all(row[1] == "legal" or row[1:5] == ["no", "order", "was", "found"] for row in rows.values()), rows)

@@ -83,12 +83,12 @@ def audited(case: TestCase, states: int) -> Audit:
     return found
 
 
-def audit(cases: Sequence[TestCase], states: int, program: str) -> List[Audit]:
+def audit(cases: Sequence[TestCase], states: int, program: Optional[str]) -> List[Audit]:
     """The audits of test cases, each order shown to `ttrun check`."""
     found = [audited(it, states) for it in cases]
     with_block = [it for it in found if it.block]
     for one, said in zip(with_block, checked(program, [it.block for it in with_block])):
         if said:
-            one.outcome = REFUSED
+            one.outcome, one.block = REFUSED, ""
             one.remarks.insert(0, f"ttrun check says of the order: {said}")
     return found

@@ -153,7 +153,10 @@ def cases_of(session: Session) -> List[TestCase]:
             cases[at].logs[reference] = process.lines
         elif reference not in owned:
             session.remarks.append(f"{process.file}: this component belongs to no test case that the log has")
+    is_silent = not any(it.phrase.name in ("creating", "terminating", "starting_on") for it in session.main.lines)
     for case in cases:
+        if is_silent:
+            case.faults.append("the log settings leave PARALLEL out: the calls of components are in no log")
         if case.verdict is None:
             case.missing.append("the log has no end of this test case: its main component crashed, or the log is cut")
     return cases

@@ -59,6 +59,7 @@ def parser() -> Parser:
             continue
         command.add_argument("--states", type=states_of, default=STATES, metavar="N", help=f"how many states a search may look at ({STATES})")
         command.add_argument("--program", metavar="FILE", help="the program ttrun, where it is not found by itself")
+        command.add_argument("--unchecked", action="store_true", help="does without ttrun: no history is shown to ttrun check")
         command.add_argument("--history", metavar="FILE", help="writes the orders that were found as histories")
         command.add_argument("--html", metavar="FILE", help="writes them as a page, which shows two of them side by side")
         command.add_argument("--junit", metavar="FILE", help="writes a JUnit report")
@@ -79,8 +80,7 @@ def read(given: argparse.Namespace) -> Found:
             seen[case.name] += 1
             case.execution = seen[case.name]
             if is_chosen(case, given.only):
-                if not session.is_matching:
-                    case.remarks.append("waits for any or all components are in no log: what is named may be excluded by one")
+                case.remarks += [f"{text} are in no log: what is named may be excluded by one" for _, text in session.left_out()]
                 found.cases.append(read_case(case))
                 found.sessions.append(os.path.basename(session.name))
         found.remarks.extend(f"{session.name}: {it}" for it in session.remarks)
@@ -100,16 +100,25 @@ def write(path: Optional[str], text: str) -> None:
         raise Refused(f"{path}: {error.strerror}") from error
 
 
-def keep(given: argparse.Namespace, program: str, blocks: Sequence[str]) -> None:
+def program_of(given: argparse.Namespace) -> Optional[str]:
+    """The program ttrun, none where it is not wanted."""
+    if given.unchecked and given.html is not None:
+        raise Refused("--html needs ttrun, and --unchecked does without it")
+    return None if given.unchecked else found_program(given.program)
+
+
+def keep(given: argparse.Namespace, program: Optional[str], blocks: Sequence[str]) -> None:
     """Writes the histories and the page."""
     text = "".join(blocks)
     write(given.history, text)
-    if given.html is not None:
+    if given.html is not None and program is not None:
         write(given.html, page_of(program, text))
 
 
-def told(found: Found) -> Iterator[str]:
-    """The remarks on the logs."""
+def told(found: Found, program: Optional[str]) -> Iterator[str]:
+    """The remarks on the logs, and on what was not asked."""
+    if program is None:
+        yield "note: no history was shown to ttrun check"
     yield from (f"note: {it}" for it in found.remarks)
 
 
@@ -157,9 +166,9 @@ def link_of(given: argparse.Namespace, one: luck.Luck, first: int) -> Iterator[s
 
 def run_flaky(given: argparse.Namespace) -> int:
     """Says which verdicts depended on luck."""
-    program, found = found_program(given.program), read(given)
+    program, found = program_of(given), read(given)
     results = luck.flaky(found.cases, given.states, program)
-    lines, rows, cases = list(told(found)), [("test case", "log", "also", "search", "cut off")], []
+    lines, rows, cases = list(told(found, program)), [("test case", "log", "also", "search", "cut off")], []
     blocks: List[str] = []
     for one, session in zip(results, found.sessions):
         details = [*luck.parting(one), *link_of(given, one, len(blocks)), *one.remarks]
@@ -180,9 +189,9 @@ def run_flaky(given: argparse.Namespace) -> int:
 
 def run_audit(given: argparse.Namespace) -> int:
     """Looks for one legal order of all calls of each test case."""
-    program, found = found_program(given.program), read(given)
+    program, found = program_of(given), read(given)
     results = audits.audit(found.cases, given.states, program)
-    lines, rows, cases = list(told(found)), [("test case", "log", "outcome", "calls", "states")], []
+    lines, rows, cases = list(told(found, program)), [("test case", "log", "outcome", "calls", "states")], []
     for one, session in zip(results, found.sessions):
         head = f"{one.case.title}: {one.outcome}"
         if one.remarks:

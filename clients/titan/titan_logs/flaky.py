@@ -3,7 +3,7 @@ from __future__ import annotations
 
 import re
 from dataclasses import dataclass, field
-from typing import Dict, Iterator, List, Sequence, Set
+from typing import Dict, Iterator, List, Optional, Sequence, Set
 
 from .cases import Run, TestCase
 from .histories import block_of, side_by_side, why_none
@@ -110,12 +110,13 @@ def parting(one: Luck) -> Iterator[str]:
         yield about(one.case, one.case.runs[run])[:-1]
 
 
-def flaky(cases: Sequence[TestCase], states: int, program: str) -> List[Luck]:
-    """What was found of all test cases; each order was shown to `ttrun check`."""
+def flaky(cases: Sequence[TestCase], states: int, program: Optional[str]) -> List[Luck]:
+    """What was found of all test cases; each order was shown to `ttrun check`, and those that it refused are left out."""
     found = [looked_at(it, states) for it in cases]
     shown = [(one, verdict) for one in found for verdict in one.blocks]
     for (one, verdict), said in zip(shown, checked(program, [one.blocks[verdict] for one, verdict in shown])):
         if said:
             one.outcome = UNEXPLAINED
+            del one.blocks[verdict]
             one.remarks.insert(0, f"ttrun check says of the order for {verdict}: {said}")
     return found

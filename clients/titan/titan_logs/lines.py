@@ -16,7 +16,7 @@ STAMP = re.compile(r"(?:(\d{4})/(\w{3})/(\d\d) )?(\d\d):(\d\d):(\d\d)\.(\d{6}) |
 FAMILIES = "ACTION|DEBUG|DEFAULTOP|ERROR|EXECUTOR|FUNCTION|MATCHING|PARALLEL|PORTEVENT|STATISTICS|TESTCASE|TIMEROP|USER|VERDICTOP|WARNING"
 KIND = re.compile(rf"({FAMILIES})(?:_[A-Z]+)* ")
 SOURCE = re.compile(r"(?:-|\S+:\d+\S*) ")
-ENTITY = re.compile(rf"(\S+) (?=(?:(?:{FAMILIES})(?:_[A-Z]+)* )?(?:- |\S+:\d+\S* )?TTCN-3 )")
+ENTITY = re.compile(rf"(?!- |\S+:\d)(\S+) (?=(?:(?:{FAMILIES})(?:_[A-Z]+)* )?(?:- |\S+:\d+\S* )?TTCN-3 )")
 OPTIONS = re.compile(r"LogEventTypes:=(\w+); SourceInfoFormat:=(\w+)")
 
 

@@ -21,7 +21,8 @@ def found_program(given: Optional[str]) -> str:
     named = given or os.environ.get("FILSKEAM_TTRUN")
     path = named or (BUILT if os.access(BUILT, os.X_OK) else shutil.which("ttrun"))
     if path is None or not os.access(path, os.X_OK):
-        raise Refused(f"there is no program {path or BUILT}: ./ttrun --help builds it, FILSKEAM_TTRUN=FILE or --program FILE names it")
+        raise Refused(f"there is no program {path or BUILT}: ./ttrun --help builds it, FILSKEAM_TTRUN=FILE or --program FILE names it,"
+                      " --unchecked does without it")
     return os.path.abspath(path)
 
 
@@ -58,9 +59,11 @@ def batches(blocks: Sequence[str]) -> Iterator[List[int]]:
         yield held
 
 
-def checked(program: str, blocks: Sequence[str]) -> List[str]:
-    """Of each block nothing where `ttrun check` found it legal, else what it said."""
+def checked(program: Optional[str], blocks: Sequence[str]) -> List[str]:
+    """Of each block nothing where `ttrun check` found it legal, else what it said; without a program nothing is asked."""
     said = [""] * len(blocks)
+    if program is None:
+        return said
     for places in batches(blocks):
         ran = call(program, ["check"], "".join(blocks[it] for it in places))
         legal = [it for it in ran.output.splitlines() if LEGAL.fullmatch(it)]

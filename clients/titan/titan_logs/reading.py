@@ -480,8 +480,8 @@ def see_final(case: TestCase, reference: int, verdict: str, line: Line) -> None:
     run = mine[-1]
     is_error = any(it.is_error or it.op.verb == "stopcase" or (it.reply or "").startswith("error ") for it in run.calls)
     if is_error != (verdict == "error"):
-        if verdict == "error" or reference != MAIN:
-            case.faults.append(f"the log of component {reference} {'has an error' if is_error else 'has no error'}, and it ended with {verdict}")
+        who = "the main component" if reference == MAIN else f"component {reference}"
+        case.faults.append(f"the log of {who} {'has an error' if is_error else 'has no error'}, and it ended with {verdict}")
         return
     if is_error:
         return
@@ -497,7 +497,10 @@ def see_final(case: TestCase, reference: int, verdict: str, line: Line) -> None:
 
 
 def read_case(case: TestCase) -> TestCase:
-    """Fills in the runs and calls of a test case, and what its logs say against one another."""
+    """Fills in the runs and calls of a test case, and what its logs say against one another; of logs without calls nothing."""
+    if case.faults:
+        case.runs = [Run(0, 0, f"testcase {case.name}")]
+        return case
     alive = number_components(case)
     by_log = runs_of_logs(case)
     starts = match_starts(case, by_log)

@@ -14,8 +14,10 @@ from .lines import Budget, Layout, Line, Raw, Refused, is_unknown, raw_lines, sa
 
 PART = re.compile(r"-part(\d+)(?=\.\w+$|$)")
 ROLE = re.compile(r"-(mtc|hc|\d+)(?:-part\d+)?\.\w+$")
-# A mask of a log file that has what is matched; `ConsoleMask` is another one.
-MATCHING = re.compile(r"\bFileMask:=[^;]*\bMATCHING(?:_DONE)?\b")
+# The mask of a log file; `ConsoleMask` is another one. What it must have, and what else is in no log.
+MASK = re.compile(r"\bFileMask:=([^;]*)")
+NEEDED = (("MATCHING", r"\bMATCHING(?:_DONE)?\b", "waits for any or all components"),
+          ("PORTEVENT", r"\b(?:LOG_ALL|PORTEVENT)\b", "messages between components"))
 MAIN = 0
 # The roles of processes: 0 is the main component, others have their component reference. Titan gives 1 to the main component.
 Role = int
@@ -24,8 +26,8 @@ HOST = -1
 
 @dataclass
 class Process:
-    """What one process logged. `is_begun` says that the log has its first line, `is_typed` that it has event types, `is_matching`
-    that nothing says that waits for any or all components are left out."""
+    """What one process logged. `is_begun` says that the log has its first line, `is_typed` that it has event types, `mask` is
+    what its settings let into the log, empty where it does not say so."""
 
     role: Role
     file: str
@@ -35,7 +37,7 @@ class Process:
     unknown: List[str] = field(default_factory=list)
     last: int = 0
     first: int = 0
-    is_matching: bool = True
+    mask: str = ""
 
     def take(self, raw: Raw, name: str, budget: Budget) -> None:
         """Keeps a line, where it says something."""
@@ -45,7 +47,8 @@ class Process:
             budget.keep()
             self.lines.append(line)
             if line.phrase.name == "options":
-                self.is_matching = MATCHING.search(line.text) is not None
+                found = MASK.search(line.text)
+                self.mask = found[1] if found else ""
         elif is_unknown(raw):
             self.unknown.append(f"{name}:{raw.number}: {raw.text[:110]}")
 
@@ -59,10 +62,11 @@ class Session:
     components: Dict[int, Process] = field(default_factory=dict)
     remarks: List[str] = field(default_factory=list)
 
-    @property
-    def is_matching(self) -> bool:
-        """Whether the main component's log has its waits for any or all components, as far as its settings are known."""
-        return self.main.is_matching
+    def left_out(self) -> List[Tuple[str, str]]:
+        """What the settings of the main component's log leave out, and what is in no log for it."""
+        if not self.main.mask:
+            return []
+        return [(name, text) for name, form, text in NEEDED if not re.search(form, self.main.mask)]
 
 
 @dataclass
@@ -187,8 +191,7 @@ def remarks_on(session: Session) -> Iterator[str]:
     every = [session.main, *session.components.values()]
     if not all(it.is_typed for it in every):
         yield "the logs have no event types: a line that the test logs itself may be taken for the runtime's"
-    if not session.is_matching:
-        yield "the log settings leave MATCHING out: waits for any or all components are in no log"
+    yield from (f"the log settings leave {name} out: {text} are in no log" for name, text in session.left_out())
     if not session.main.is_begun:
         yield f"{session.main.file}: the beginning of the main component's log is missing"
     begun = [it for it in every[1:] if not it.is_begun]
