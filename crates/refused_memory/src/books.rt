@@ -466,7 +466,7 @@ pub(crate) fn close<R: Wait>(
 /// A case behind the first calls.
 fn opened_behind_first<R: Wait>(rt: &R, alloc: Global) -> Option<Opened> {
     let list = calls(alloc)?;
-    opened_behind(rt, alloc, list.moves.get(..10)?)
+    opened_behind(rt, alloc, list.moves.as_slice().get(..10)?)
 }
 
 /// What the main run leaves, with no growth given where that is asked for.

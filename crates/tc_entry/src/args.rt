@@ -8,26 +8,22 @@ ghost use Rattle.tc_entry.specs.declared.limits.TheConstants.{ARGUMENTS};
 
 use crate::comp::{Comp, same_comps};
 use crate::limits::ARGUMENTS;
+use arrayvec::ArrayVec;
 use std::marker::Model;
 
-/// The arguments of a Start: at most `ARGUMENTS` components, held in place. Their number is a byte, since each entry of a
-/// history has room for them.
+/// The arguments of a Start: at most `ARGUMENTS` components, held in place.
 #[derive(Debug, Drop)]
 pub struct Args {
-    comps: [Comp; ARGUMENTS],
-    count: u8,
+    comps: ArrayVec<Comp, ARGUMENTS>,
 }
 
 impl Model for Args {
-    ghost use Rattle.std.specs.Prelude.{List, take, ◌≤◌};
+    ghost use Rattle.std.specs.Prelude.{List};
     ghost use Rattle.tc_entry.specs.declared.comp.Comp.{Comp};
-    ghost use Rattle.tc_entry.specs.declared.limits.TheConstants.{ARGUMENTS};
 
     ghost Value = { List Comp };
 
-    ghost view = { λ a. take a.count a.comps };
-
-    ghost invariant = { λ a. a.count ≤ ARGUMENTS };
+    ghost view = { λ a. a.comps.items };
 }
 
 impl PartialEq for Args {
@@ -50,8 +46,7 @@ impl Args {
         ensures { result ≡ [] }
     {
         Args {
-            comps: [Comp(0); ARGUMENTS],
-            count: 0,
+            comps: ArrayVec::new(),
         }
     }
 
@@ -61,13 +56,7 @@ impl Args {
         ensures full { OnFalse result (self.new ≡ self.old) }
         ensures answer { IsTrue result ↔ (length self.old < 4) }
     {
-        let place = usize::from(self.count);
-        if place >= ARGUMENTS {
-            return false;
-        }
-        self.comps[place] = comp;
-        self.count += 1;
-        true
+        self.comps.try_push(comp).is_ok()
     }
 
     /// The components, in their order.
@@ -75,7 +64,7 @@ impl Args {
         ensures same { result.now ≡ self.now }
         ensures few { length self.now ≤ ARGUMENTS }
     {
-        &self.comps[..usize::from(self.count)]
+        self.comps.as_slice()
     }
 
     /// An equal value.
@@ -83,8 +72,7 @@ impl Args {
         ensures { result ≡ self.now }
     {
         Args {
-            comps: self.comps,
-            count: self.count,
+            comps: self.comps.clone().unwrap(),
         }
     }
 

@@ -8,26 +8,25 @@ ghost use Rattle.std.specs.Hash as fed;
 ghost use Rattle.tc_entry.specs.Name.{IsName, is_name_byte as is_allowed};
 
 use crate::limits::NAME_BYTES;
+use arrayvec::ArrayVec;
 use std::hash::{Hash, Hasher};
 use std::marker::Model;
 
-/// A name of a test case, a behaviour or a component: 1 to `NAME_BYTES` bytes, held in place. Their number is a byte, since
-/// each entry of a history has room for a name.
+/// A name of a test case, a behaviour or a component: 1 to `NAME_BYTES` bytes, held in place.
 #[derive(Debug, Drop)]
 pub struct Name {
-    bytes: [u8; NAME_BYTES],
-    length: u8,
+    bytes: ArrayVec<u8, NAME_BYTES>,
 }
 
 impl Model for Name {
-    ghost use Rattle.std.specs.Prelude.{List, ℕ, take, ◌≤◌};
+    ghost use Rattle.std.specs.Prelude.{List, ℕ};
     ghost use Rattle.tc_entry.specs.Name.{IsName};
 
     ghost Value = { List ℕ };
 
-    ghost view = { λ n. take n.length n.bytes };
+    ghost view = { λ n. n.bytes.items };
 
-    ghost invariant = { λ n. (n.length ≤ 32) × IsName (take n.length n.bytes) };
+    ghost invariant = { λ n. IsName n.bytes.items };
 }
 
 fn is_name_byte(byte: u8) -> bool
@@ -85,16 +84,8 @@ impl Name {
         {
             return None;
         }
-        let length = bytes.len();
-        if length > NAME_BYTES {
-            return None;
-        }
-        let mut own = [0; NAME_BYTES];
-        own[..length].copy_from_slice(bytes);
-        Some(Name {
-            bytes: own,
-            length: length as u8,
-        })
+        let bytes = ArrayVec::try_from(bytes).ok()?;
+        Some(Name { bytes })
     }
 
     /// The name's spelling.
@@ -102,7 +93,7 @@ impl Name {
         ensures bytes { result.now ≡ self.now }
         ensures name { IsName self.now }
     {
-        &self.bytes[..usize::from(self.length)]
+        self.bytes.as_slice()
     }
 
     /// An equal value.
@@ -110,8 +101,7 @@ impl Name {
         ensures { result ≡ self.now }
     {
         Name {
-            bytes: self.bytes,
-            length: self.length,
+            bytes: self.bytes.clone().unwrap(),
         }
     }
 

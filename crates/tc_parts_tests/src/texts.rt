@@ -56,7 +56,7 @@ fn single_texts(rt: HostRuntime) -> Result<(), NoMemory> {
 /// How many behaviours and moves a list has that is read, if it is.
 fn is_list(rt: &impl Abort, alloc: Global, text: &[u8], wanted: Option<(u16, usize)>) {
     let found = match read_moves(alloc, text) {
-        Ok(list) => Some((list.behaviours, list.moves.len())),
+        Ok(list) => Some((list.behaviours, list.moves.as_slice().len())),
         Err(_) => None,
     };
     is(rt, "a list", found, wanted);

@@ -13,13 +13,13 @@ use crate::fault::{TextFault, TextKind};
 use crate::moves::take_move;
 use crate::number::take_number;
 use std::alloc::Global;
-use tc_entry::{NoMemory, Op, Run, is_behaviours};
+use tc_entry::{NoMemory, Op, Run, Sequence, is_behaviours};
 
 /// How many behaviours the case has, 1 to 256, and the moves.
-#[derive(Debug, Drop)]
+#[derive(Drop)]
 pub struct MoveList {
     pub behaviours: u16,
-    pub moves: Vec<(Run, Op)>,
+    pub moves: Sequence<(Run, Op)>,
 }
 
 /// The number, where a case may have so many behaviours.
@@ -75,18 +75,17 @@ pub trait TakesMoves: Sized {
 }
 
 impl TakesMoves for MoveList {
-    ghost stands = { λ n moves l. (l.behaviours ≡ n) × (l.moves.items ≡ moves) };
+    ghost stands = { λ n moves l. (l.behaviours ≡ n) × (l.moves ≡ moves) };
 
     fn begin(alloc: Global, behaviours: u16) -> Result<MoveList, NoMemory> {
         Ok(MoveList {
             behaviours,
-            moves: Vec::new(alloc),
+            moves: Sequence::new(Vec::new(alloc)),
         })
     }
 
     fn take(&mut self, one: (Run, Op)) -> Result<(), NoMemory> {
-        self.moves.push(one)?;
-        Ok(())
+        self.moves.push(one)
     }
 }
 
@@ -118,10 +117,10 @@ pub fn read_moves_into<T: TakesMoves + Drop>(alloc: Global, text: &[u8]) -> Resu
 
 /// The list of moves that the text spells, else its first fault; NoMemory may stand in place of either.
 pub fn read_moves(alloc: Global, text: &[u8]) -> Result<MoveList, TextFault>
-    ensures ok { IfOk result (λ l. IsMoveList text.now l.behaviours l.moves.items) }
+    ensures ok { IfOk result (λ l. IsMoveList text.now l.behaviours l.moves) }
     ensures fault { IfErr result (λ e. IsListFault text.now e) }
     ensures only { (n : ℕ) (moves : List AnyMove) → IsMoveList text.now n moves
-        → MatchResult result (λ l. (l.behaviours ≡ n) × (l.moves.items ≡ moves)) (λ e. e ≡ TextFault.NoMemory) }
+        → MatchResult result (λ l. (l.behaviours ≡ n) × (l.moves ≡ moves)) (λ e. e ≡ TextFault.NoMemory) }
 {
     read_moves_into(alloc, text)
 }
