@@ -7,7 +7,7 @@ import xml.etree.ElementTree as ElementTree
 from typing import Dict, List, Tuple
 
 import made
-from kit import Place, Ran, command, hold, log, same, test, write
+from kit import TOP, Place, Ran, command, hold, log, same, test, write
 from texts import check, read_history
 
 STEADY = ("t_restart", "t_any_all", "t_watched", "t_killed_start", "t_stopped_start", "t_nested", "t_echo", "t_error", "t_stopcase",
@@ -34,6 +34,33 @@ def the_flaky_ones_are_named(place: Place) -> None:
     hold("t_late: inconc in the log, pass in another order of the same calls\n  inconc and pass: alike for" in text, text)
     cut = r"run 1, f_late\(inconc\) on component 1, which Titan calls \d+, was cut off after 1 call: what it would have called is in no log"
     hold(re.search(cut, text), text)
+
+
+@test
+def the_document_shows_what_is_printed(place: Place) -> None:
+    with open(os.path.join(TOP, "docs", "titan.md"), encoding="utf-8") as file:
+        shown = re.search(r"```\n(t_first: .*?)```", file.read(), re.DOTALL)
+    ran = command(place, "flaky", log("pumps-full.merged"), "--only", "t_first")
+    hold(shown is not None and shown[1] in "\n".join(ran.lines), ran.lines)
+
+
+@test
+def the_distance_in_time_is_told(place: Place) -> None:
+    it = made.Course(made.random.Random(1), 0, 1)
+    it.say(0, "TTCN-3 Main Test Component started on host. Version: 8.2.0.")
+    it.say(0, "Test case t started.")
+    it.do_create(0, 0)
+    made.start_one(it, 1)
+    it.time += 12_345
+    it.say(0, "setverdict(none): none -> none")
+    it.made.logs[3][-1] = it.made.logs[3][-1].replace("pass", "fail")
+    it.table.components[1].verdict = "fail"
+    begun = it.time
+    it.end()
+    hold(it.made.verdict == "fail", it.made.verdict)
+    ran = command(place, "flaky", made.put(it.made, os.path.join(place.room, "logs")))
+    found = re.search(r"1 setverdict fail and 0 finish are (\d+\.\d{3}) ms apart in the log, by their stamps", "\n".join(ran.lines))
+    hold(found is not None and 12.345 < float(found[1]) < 12.5, (ran.lines, begun))
 
 
 @test

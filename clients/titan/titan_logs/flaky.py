@@ -5,7 +5,7 @@ import re
 from dataclasses import dataclass, field
 from typing import Dict, Iterator, List, Optional, Sequence, Set
 
-from .cases import Run, TestCase
+from .cases import Call, Run, TestCase
 from .histories import block_of, side_by_side, why_none
 from .limits import MOST_REMARKS
 from .orders import Verdicts, verdicts_of
@@ -94,6 +94,22 @@ def looked_at(case: TestCase, states: int) -> Luck:
     return one
 
 
+def call_of(case: TestCase, entries: List[Entry], at: int) -> Call:
+    """The call of an entry of a witness: each call but a message is one entry."""
+    run = entries[at].run
+    place = sum(it.run == run for it in entries[:at])
+    return [it for it in case.runs[run].calls if not it.seen and it.channel is None][place]
+
+
+def apart(case: TestCase, mine: List[Entry], other: List[Entry]) -> Iterator[str]:
+    """How far apart in time the two calls are in the log with which the schedules part."""
+    at = next((at for at, (one, two) in enumerate(zip(mine, other)) if one != two), None)
+    if at is not None:
+        one, two = call_of(case, mine, at), call_of(case, other, at)
+        distance = abs(one.line.stamp - two.line.stamp) / 1000
+        yield f"{one.run} {one.op.text()} and {two.run} {two.op.text()} are {distance:.3f} ms apart in the log, by their stamps"
+
+
 def parting(one: Luck) -> Iterator[str]:
     """The schedule of the log's verdict beside that of each other one."""
     witnesses: Dict[str, List[Entry]] = one.found.witnesses
@@ -105,6 +121,7 @@ def parting(one: Luck) -> Iterator[str]:
         alike, *rows = side_by_side(witnesses[mine], witnesses[other], (mine, other))
         yield f"{mine} and {other}: {alike}"
         yield from rows
+        yield from apart(one.case, witnesses[mine], witnesses[other])
         shown |= {int(it) for row in rows[1:] for it in re.findall(r"(?:^|\| )(\d+) ", row)}
     for run in [it for it in sorted(shown - {0}) if not one.case.runs[it].is_cut][:MOST_REMARKS]:
         yield about(one.case, one.case.runs[run])[:-1]
