@@ -150,6 +150,21 @@ def an_error_of_a_component_is_marked(place: Place) -> None:
 
 
 @test
+def errors_of_the_main_component_are_the_tables(place: Place) -> None:
+    ran = command(place, "audit", log("faults-full.merged"), "--history", "h")
+    same((ran.status, ran.lines[-1]), (0, "16 test cases: 16 legal"))
+    with open(os.path.join(place.room, "h"), "rb") as file:
+        blocks, _ = read_history(file.read())
+    found = {it.name: [entry.reply[6:] for entry in it.entries if entry.reply.startswith("error ")] for it in blocks}
+    wanted = {"t_start_running": "already-running", "t_start_killed": "not-startable", "t_start_ended": "not-startable",
+              "t_start_null": "no-component", "t_start_main": "start-main"}
+    same({name: its for name, its in found.items() if its}, {name: [it] for name, it in wanted.items()})
+    marked = [line.split(":")[0] for line in ran.lines if line.endswith(": legal")]
+    same(marked, ["t_part_starts_running", "t_part_starts_killed", "t_part_asks_any"], "those with an error of a component")
+    same(command(place, "flaky", log("faults-full.merged")).lines[-1], "16 test cases: 16 without")
+
+
+@test
 def crashes_shots_and_mimics_are_named(place: Place) -> None:
     for name, words, status in (("crash.merged", "the main component crashed", 1), ("shot", "component 3 was shot", 1),
                                 ("mimic-default", "no order was found beyond", 1), ("quarrel-shim.merged", "3 test cases: 3 legal", 0)):
