@@ -31,8 +31,7 @@ export class Chart {
     Object.assign(this, { room, pitch, width: Math.max(width, Math.min(room, width + 180)) });
   }
   get height() { return this.rows.length * ROW + FOOT; }
-  // the last row that begins at an entry or before it, or -1
-  rowAt(index) { return countWhile(this.rows, row => row.first <= index) - 1; }
+  rowAt(index) { return countWhile(this.rows, row => row.first <= index) - 1; }  // the last one that begins there or before
   isNear(x, left, right) { return x > left - this.pitch && x < right + this.pitch; }
   lanesBetween(left, right) { return this.lanes.filter(lane => this.isNear(this.xs.get(lane.number), left, right)); }
 

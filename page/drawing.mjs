@@ -1,8 +1,7 @@
 // Drawing: the pieces of a picture, as SVG, and how wide words are in it.
 const FONT = '12px system-ui, "Segoe UI", Helvetica, Arial, sans-serif';
 export const escaped = text => String(text).replace(/[&<>"]/g, letter => `&#${letter.charCodeAt()};`);
-// The class of what has the look of a verdict.
-export const lookOf = status => `v-${status === "unfinished" ? "error" : status}`;
+export const lookOf = status => `v-${status === "unfinished" ? "error" : status}`;  // the class of a verdict
 const pen = document.createElement("canvas").getContext("2d"), widths = new Map();
 export function widthOf(text) {
   pen.font = FONT;
@@ -10,7 +9,7 @@ export function widthOf(text) {
   return widths.get(text);
 }
 export function cut(text, room) {
-  let length = text.length;
+  let { length } = text;
   while (length > 1 && widthOf(text.slice(0, length)) > room) length -= 1;
   return length === text.length ? text : `${text.slice(0, length - 1)}\u2026`;
 }

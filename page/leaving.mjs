@@ -26,6 +26,7 @@ export function showMermaid() {
   area.value = mermaidOf(chart.game, chart.rows, chart.lanes.map(lane => lane.number));
   dialog.append(Object.assign(area, { rows: 24, cols: 90, readOnly: true }));
   on(document.body.appendChild(dialog), "close", () => dialog.remove());
+  on(dialog, "click", event => { if (event.target === dialog) dialog.close(); });
   dialog.showModal();
   area.select();
 }

@@ -5,8 +5,8 @@ import { showTable } from "./list.mjs";
 import { choose, find, showCases, unfold } from "./view.mjs";
 
 app.show = () => {
-  const { sources, cases } = app, shown = location.hash.split("/").slice(1, 3).map(id => cases[id]).filter(Boolean);
-  const names = sources.map(source => source.name).join(", ");
+  const { sources, cases } = app, names = sources.map(source => source.name).join(", ");
+  const shown = (location.hash.match(/\d+/g) ?? []).slice(0, 2).map(id => cases[id]).filter(Boolean);
   $("#source").textContent = when(sources.length, `${names}: ${counted(cases.length, "test case")}`);
   $("#said").textContent = "";
   document.title = "ttrun histories";
@@ -14,14 +14,12 @@ app.show = () => {
   if (!sources.length) showStart(); else if (shown.length) showCases(shown); else showTable();
 };
 const STEPS = { j: 1, ArrowDown: 1, k: -1, ArrowUp: -1, PageDown: 15, PageUp: -15, Home: -Infinity, End: Infinity };
-const goToNeighbour = step => {
-  const next = app.found[app.found.findIndex(one => one.id === app.last) + step];
-  if (next) goTo(next.id);
-};
+const neighbour = step => app.found[app.found.findIndex(one => one.id === app.last) + step];
+const goToCase = one => { if (one) goTo(one.id); };
 // What further keys do in the table, and in a case.
-const IN_TABLE = { Enter: () => { if (app.found[app.at]) goTo(app.found[app.at].id); } };
-const IN_CASE = { Enter: () => unfold(app.pane), n: () => find(1), N: () => find(-1), "[": () => goToNeighbour(-1),
-  "]": () => goToNeighbour(1), w: ({ chart }) => { if (chart.game.why) choose(app.pane, chart.rowAt(chart.game.why.index)); } };
+const IN_TABLE = { Enter: () => goToCase(app.found[app.at]) };
+const IN_CASE = { Enter: unfold, n: () => find(1), N: () => find(-1), "[": () => goToCase(neighbour(-1)),
+  "]": () => goToCase(neighbour(1)), w: pane => choose(pane, pane.chart.rowAt(pane.chart.game.why?.index ?? -1)) };
 on(document, "keydown", event => {
   const { key, target } = event, isOpen = app.panes.length > 0, isTable = $(".cases") !== null;
   const isTyping = target.matches("textarea, select, input:not([type=checkbox])");
@@ -37,6 +35,5 @@ on(document, "keydown", event => {
 });
 on(window, "hashchange", app.show);
 listenForFiles();
-const own = $("#history").textContent;
-if (own) addSource("histories of this page", own);
+if ($("#history").textContent) addSource("histories of this page", $("#history").textContent);
 app.show();

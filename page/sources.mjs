@@ -1,5 +1,6 @@
 // The sources: histories in the page, files opened or dropped, a pasted text; and what is said of one that cannot be read.
 import { $, app, counted, on, when } from "./app.mjs";
+import { MOST_BYTES } from "./reading.mjs";
 import { readHistories } from "./cases.mjs";
 import { escaped } from "./drawing.mjs";
 
@@ -11,7 +12,10 @@ export function addSource(name, text) {
 // Files are shown beside what is open, so that two nights can be compared. Each byte is read as one character, so what is
 // not ASCII is refused as `check` refuses it.
 async function openFiles(files) {
-  for (const file of [...files]) addSource(file.name, new TextDecoder("windows-1252").decode(await file.arrayBuffer()));
+  for (const file of [...files]) {
+    const bytes = await file.slice(0, MOST_BYTES + 1).arrayBuffer().catch(() => alert(`${file.name} cannot be read.`));
+    if (bytes) addSource(file.name, new TextDecoder("windows-1252").decode(bytes));
+  }
   if (location.hash.length > 1) location.hash = ""; else app.show();
 }
 export function listenForFiles() {

@@ -23,8 +23,8 @@ function caseFrame(cases, games) {
   const state = two ? `<span>alike for ${counted(app.options.part, "entry", "entries")}</span>` : chip(one.status) +
     when(!one.isOver || one.told !== one.overall, ` <span>${reasonOf(one)}</span>`);
   const pane = shown => `<section class="pane">${when(two, `<h3>${chip(shown.status)} ${place(shown, true)}</h3>`)}
-    <div class="scroll" tabindex="0" aria-label="chart"><svg class="chart heads" height="${HEAD}"></svg><div class="space">
-    <svg class="chart rows" role="listbox" aria-label="entries"></svg></div></div></section>`;
+    <div class="scroll" tabindex="0" role="group" aria-label="chart"><svg class="chart heads" height="${HEAD}"></svg>
+    <div class="space"><svg class="chart rows" role="listbox" aria-label="entries"></svg></div></div></section>`;
   return `${faults()}<div class="bar"><a href="#">All test cases</a><h2>${one.name}</h2>${state}
     <input id="search" type="search" size="18" placeholder="entry or name  ( / )" aria-label="search for an entry">
     <select id="focus" aria-label="component">${option("", "all components")}

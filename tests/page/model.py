@@ -9,9 +9,10 @@ import subprocess
 from collections import Counter
 from concurrent.futures import ThreadPoolExecutor
 from dataclasses import dataclass
+from functools import lru_cache
 from typing import Any, Dict, List, Optional, Tuple
 
-from definitions import VERDICTS, History, deciding, ends_case
+from definitions import VERDICTS, History, deciding, ends_case, words
 from histories import MOST_BYTES, TOP, example, examples, kinds, legal_case, random_block, spoilt
 
 SECONDS = 120
@@ -49,10 +50,16 @@ def ask(context: Context, what: str, texts: List[str]) -> List[Any]:
     return json.loads(ran.stdout)
 
 
-def check(context: Context, text: bytes) -> Tuple[bytes, bytes, int]:
-    """What `ttrun check` prints, tells and ends with."""
-    ran = subprocess.run([context.program, "check"], input=text, capture_output=True, timeout=SECONDS, check=False)
+@lru_cache(maxsize=4000)
+def checked(program: str, text: bytes) -> Tuple[bytes, bytes, int]:
+    """What `ttrun check` prints, tells and ends with; a program is asked once about a text."""
+    ran = subprocess.run([program, "check"], input=text, capture_output=True, timeout=SECONDS, check=False)
     return ran.stdout, ran.stderr, ran.returncode
+
+
+def check(context: Context, text: bytes) -> Tuple[bytes, bytes, int]:
+    """The same of the program of the tests."""
+    return checked(context.program, text)
 
 
 def fault_of(errors: bytes) -> Optional[List[Any]]:
@@ -160,7 +167,12 @@ def faults_of_a_block(lines: List[str], answer: Dict[str, Any], is_legal: bool) 
         now = max(VERDICTS.index(verdict) for _, verdict in wanted.values())
         if now > worst:
             worst, why = now, count - 1
-    same((worst, why), (case["overall"], case["why"]["index"] if case["why"] else None), lines)
+    same(worst, case["overall"], lines)
+    if why is not None:
+        run = words(lines[why]).run
+        wanted = {"index": why, "line": why + 2, "text": lines[why], "run": run, "on": history.component_of(history.first(why), run)}
+        same(wanted, {it: value for it, value in case["why"].items() if it != "name"}, lines)
+    same(why is None, case["why"] is None, lines)
     hold(not is_legal or why == deciding(lines), lines)
     ends = [at for at, it in enumerate(lines) if ends_case(History([it]).past[0])]
     same((bool(ends), min(ends, default=None)), (case["isOver"], answer["ends"][0]), lines)
