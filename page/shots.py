@@ -18,7 +18,7 @@ import make
 from histories import example, examples, kinds
 
 # Each picture: its name, the case that it shows, if any, and the size of the window in points.
-SHOTS = (("table", "", (1000, 500)), ("case", "t_supervised", (1080, 660)), ("compare", "t_race", (1000, 600)))
+SHOTS = (("table", "", (1000, 500)), ("case", "t_supervised", (1080, 660)), ("compare", "t_race", (1000, 640)))
 
 
 def main() -> int:

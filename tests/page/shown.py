@@ -67,13 +67,13 @@ def reason(text: str, first: int, lines: List[str]) -> str:
     return f"run {run} on {names[run][1]}: {line} line {first + 1 + at}"
 
 
-def wanted_rows(context: Context, text: str) -> List[List[str]]:
+def wanted_rows(context: Context, text: str, records: List[Dict[str, str]]) -> List[List[str]]:
     """The rows of the table, by what `report --csv` and `check` print of a legal text, and by the tests' own reading."""
     output, errors, status = check(context, text.encode())
     same((b"", 0), (errors, status))
     legal = [line.split() for line in output.decode().splitlines()]
     rows, first = [], 1
-    for record, (_, name, entries, verdict), block in zip(csv_of(context, text), legal, blocks_of(text)):
+    for record, (_, name, entries, verdict), block in zip(records, legal, blocks_of(text)):
         same((name, verdict), (record["testcase"], record["verdict"]))
         lines = block.split("\n")[1:-2]
         rows.append([verdict, name, record["components"], entries, reason(block, first, lines)])
@@ -142,7 +142,8 @@ def it_takes_any_text_without_less(context: Context, browser: Browser) -> str:
 def it_shows_the_examples(context: Context, browser: Browser) -> str:
     """Every case of examples/, in each look."""
     text, count = "".join(map(example, examples())), 0
-    rows, records = wanted_rows(context, text), csv_of(context, text)
+    records = csv_of(context, text)
+    rows = wanted_rows(context, text, records)
     for width, height, dark in LOOKS:
         browser.open(page_of(context, "examples", text), width, height, dark)
         same(rows, shown_rows(browser))
@@ -163,7 +164,8 @@ def it_shows_large_histories(context: Context, browser: Browser) -> str:
     told = []
     for name, text in (("1,000 cases", campaign(1000, 900_000)), ("1,000 components", widest_case("t_wide") + legal_case("t_next", 3, 2, "fail")),
                        ("16 MiB", fullest())):
-        rows, records = wanted_rows(context, text), csv_of(context, text)
+        records = csv_of(context, text)
+        rows = wanted_rows(context, text, records)
         for width, height, dark in LOOKS[:2] if len(text) == MOST_BYTES else LOOKS:
             browser.open(page_of(context, name.replace(" ", "_"), text), width, height, dark)
             same(rows, shown_rows(browser), name)
@@ -173,7 +175,7 @@ def it_shows_large_histories(context: Context, browser: Browser) -> str:
         digest = "crypto.subtle.digest('SHA-256', new TextEncoder().encode($('#history').textContent)).then(sum => [...new Uint8Array(sum)])"
         same(list(hashlib.sha256(text.encode()).digest()), browser.js(digest), name)
         told.append(f"{name}: {len(records)} cases, {text.count(chr(10))} lines")
-    same(MOST_COMPONENTS, int(csv_of(context, widest_case("t"))[0]["components"]))
+        hold(name != "1,000 components" or int(records[0]["components"]) == MOST_COMPONENTS, records[0])
     return "; ".join(told)
 
 
