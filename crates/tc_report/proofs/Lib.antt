@@ -1,6 +1,7 @@
 -- The lemmas of this crate.
 pub mod Aborts
 pub mod Counting
+pub mod Keeping
 pub mod Locals
 pub mod Observing
 pub mod Overalls

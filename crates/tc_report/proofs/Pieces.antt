@@ -10,14 +10,17 @@ use Rattle.tc_verdict.specs.declared.verdict.Verdict.TheVariants as V
 use Rattle.tc_verdict.specs.Verdict.{level_of, worst, worse}
 use Rattle.tc_verdict.proofs.Order.{worst-more}
 use Rattle.tc_stream.specs.Output.{AppendsPrefix}
+use Rattle.tc_report.specs.declared.fault.OutFault.{OutFault}
 use Rattle.tc_report.specs.declared.form.Form.{Form}
+use Rattle.tc_report.specs.declared.results.CampaignEnd.{CampaignEnd}
 use Rattle.tc_report.specs.declared.results.Finished.{Finished}
-use Rattle.tc_report.specs.Live.{LiveState, IsWritten, Writes, one_if, part_text, tally_with}
+use Rattle.tc_report.specs.Live.{LiveState, IsWritten, Writes, closing_text, form_text, one_if, opening_text, part_text, tally_with}
 use Rattle.tc_report.specs.Inside.{text_so_far}
 use Rattle.tc_report.specs.Observers.{AreTaken, IsEndedAt}
-use Rattle.tc_report.specs.Status.{overall_of, worst_overall}
-use Rattle.tc_report.specs.Tally.{cases_of, tally_of_cases}
-use Rattle.tc_report.proofs.Writing.{appends_both, left_is_prefix, prefix_behind, so_far_more}
+use Rattle.tc_report.specs.Output.{LeavesPrefix}
+use Rattle.tc_report.specs.Status.{ending_status, overall_of, results_status, worst_overall}
+use Rattle.tc_report.specs.Tally.{cases_of, no_cases, tally_of_cases}
+use Rattle.tc_report.proofs.Writing.{appends_both, left_is_prefix, prefix_behind, prefix_longer, so_far_more, whole_text}
 
 one_counted : (p : Finished → Bool) (f : Finished) → length (filter p (f ∷ [])) ≡ one_if (p f)
 one_counted p f = go (p f)
@@ -47,6 +50,29 @@ pub record IsAt (form : Form) (start : Option (List ℕ)) (fs : List Finished) (
   pub out : Appends start state.out (text_so_far form fs)
   pub tally : state.tally ≡ tally_of_cases fs
   pub worst_is : state.worst ≡ worst_overall fs
+
+-- where it stands when only what is before the test cases was written
+pub begun : (form : Form) (start : Option (List ℕ)) (state : LiveState) → state.form ≡ form → Appends start state.out (opening_text form)
+    → state.tally ≡ no_cases → state.worst ≡ V.None → IsAt form start [] state
+begun form start state same out tally worst = record {
+  form_is = same;
+  out = subst (Appends start state.out) (sym (append-nil (opening_text form))) out;
+  tally = tally;
+  worst_is = worst;
+}
+
+-- a prefix of what stands up to some test case is one of the whole text
+cut_left : (form : Form) (start after : Option (List ℕ)) (fs : List Finished) (ending : CampaignEnd) → AppendsPrefix start after (text_so_far form fs)
+    → AppendsPrefix start after (form_text form (record { finished = fs; ending = ending }))
+cut_left form start after fs ending left =
+    subst (AppendsPrefix start after) (whole_text form fs ending) (prefix_longer start after (text_so_far form fs) (closing_text form (tally_of_cases fs) ending) left)
+
+-- what stands before the test cases was not written whole
+pub opening_left : (form : Form) (start after : Option (List ℕ)) (fault : OutFault) (ending : CampaignEnd) → LeavesPrefix start after (opening_text form) fault
+    → AppendsPrefix start after (form_text form (record { finished = []; ending = ending }))
+opening_left form start after fault ending left =
+    cut_left form start after [] ending
+    (subst (AppendsPrefix start after) (sym (append-nil (opening_text form))) (left_is_prefix start after (opening_text form) fault left))
 
 one_more : (form : Form) (start : Option (List ℕ)) (fs : List Finished) (f : Finished) (before after : LiveState)
     → IsAt form start fs before → IsWritten before f after → IsAt form start (fs ++ f ∷ []) after
@@ -88,3 +114,36 @@ module _ {O : Type 0} (state : O → LiveState) (name : O → GName) where
             (subst (AppendsPrefix start (state after).out) (so_far_more form ended.others ended.last) behind),
         ended.at_last.1 ∙ others.1,
       )
+
+  module _ (form : Form) (start : Option (List ℕ)) (before after : O) (first : IsAt form start [] (state before)) (finished : List Finished) where
+    -- where it ended the campaign, a prefix of the text of the results is out
+    pub case_left : (ending : CampaignEnd) → IsEndedAt Takes finished before after
+        → AppendsPrefix start (state after).out (form_text form (record { finished = finished; ending = ending }))
+    case_left ending ended = cut_left form start (state after).out finished ending (ended_at form start finished before after first ended).0
+
+    module _ (ending : CampaignEnd) (taken : AreTaken Takes finished before after) where
+      last : IsAt form start finished (state after)
+      last = (all_at form start [] finished before after first taken).0
+
+      -- where it let the campaign go on, the text of the results is out with what stands behind the test cases
+      pub all_written : (now : Option (List ℕ)) → Appends (state after).out now (closing_text (state after).form (state after).tally ending)
+          → Appends start now (form_text form (record { finished = finished; ending = ending }))
+      all_written now out =
+          subst (Appends start now) (whole_text form finished ending)
+          (appends_both start (state after).out now (text_so_far form finished) (closing_text form (tally_of_cases finished) ending) last.out
+          (subst (λ t. Appends (state after).out now (closing_text form t ending)) last.tally
+          (subst (λ k. Appends (state after).out now (closing_text k (state after).tally ending)) last.form_is out)))
+
+      -- and a prefix of it where that was not written whole
+      pub closing_left : (now : Option (List ℕ)) (fault : OutFault) → LeavesPrefix (state after).out now (closing_text (state after).form (state after).tally ending) fault
+          → AppendsPrefix start now (form_text form (record { finished = finished; ending = ending }))
+      closing_left now fault left =
+          subst (AppendsPrefix start now) (whole_text form finished ending)
+          (prefix_behind start (state after).out now (text_so_far form finished) (closing_text form (tally_of_cases finished) ending) last.out
+          (left_is_prefix (state after).out now (closing_text form (tally_of_cases finished) ending) fault
+          (subst (λ t. LeavesPrefix (state after).out now (closing_text form t ending) fault) last.tally
+          (subst (λ k. LeavesPrefix (state after).out now (closing_text k (state after).tally ending) fault) last.form_is left))))
+
+      -- and the status is that of the results
+      pub status_at : ending_status ending (state after).worst ≡ results_status (record { finished = finished; ending = ending })
+      status_at = ap (ending_status ending) last.worst_is

@@ -8,5 +8,6 @@ pub mod Csv
 pub mod Histories
 pub mod Output
 pub mod Observers
+pub mod Kept
 pub mod Live
 pub mod Inside

@@ -77,6 +77,11 @@ pub record LiveState : Type 0 where
   pub worst : Verdict
   pub fault : Option OutFault
 
+module _ {W : Type 0} (contents : W → Option (List ℕ)) where
+  -- where a live writer stands
+  abbrev pub state_of : LiveWriter W → LiveState
+  state_of l = record { form = l.form; out = contents l.writer.now; tally = l.tally; worst = l.worst; fault = l.fault }
+
 -- the test case was written and counted, and the campaign was not ended for it
 pub record IsWritten (before : LiveState) (f : Finished) (after : LiveState) : Type 0 where
   pub form : after.form ≡ before.form

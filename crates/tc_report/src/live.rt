@@ -2,7 +2,7 @@
 ghost use Rattle.std.specs.Prelude.{◌≡◌, None, OnOk, OnErr, IfOk, IfErr};
 ghost use Rattle.tc_verdict.specs.declared.verdict.Verdict.TheVariants.{None as NoVerdict};
 ghost use Rattle.tc_verdict.specs.Verdict.{worse};
-ghost use Rattle.tc_report.specs.Live.{HasWritten, HasWrittenPart, Writes, closing_text as spec_closing, opening_text as spec_opening, part_text as spec_part, tally_with};
+ghost use Rattle.tc_report.specs.Live.{HasWritten, HasWrittenPart, Writes, closing_text as spec_closing, opening_text as spec_opening, part_text as spec_part, state_of, tally_with};
 ghost use Rattle.tc_report.specs.Status.{ending_status as spec_status};
 ghost use Rattle.tc_report.specs.Tally.{no_cases as spec_none};
 
@@ -164,8 +164,7 @@ impl<'a, W: Write> LiveWriter<'a, W> {
 
 impl<W: Write> Observer for LiveWriter<'_, W> {
     ghost takes = { λ before f after goes_on.
-        Writes (record { form = before.form; out = W.contents before.writer.now; tally = before.tally; worst = before.worst; fault = before.fault }) f
-        (record { form = after.form; out = W.contents after.writer.now; tally = after.tally; worst = after.worst; fault = after.fault }) goes_on
+        Writes (state_of W.contents before) f (state_of W.contents after) goes_on
         × (after.writer.ghost_name ≡ before.writer.ghost_name) };
 
     fn take(&mut self, case: Finished) -> bool {

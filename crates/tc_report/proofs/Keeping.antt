@@ -1,0 +1,35 @@
+-- What one that keeps test cases has when it was given some.
+use Rattle.std.proofs.Common.{ℕ, ◌≡◌, ◌∙◌, ◌≤◌, ◌+◌, ◌++◌, ◌∷◌, [], true, false, List, length, arith, sym, ap, append_assoc}
+use Rattle.std.proofs.lemmas.List.{append-nil, length-append}
+use Rattle.std.specs.Vec.{vec_capacity}
+use Rattle.tc_report.specs.declared.kept.Kept.{Kept}
+use Rattle.tc_report.specs.declared.results.Finished.{Finished}
+use Rattle.tc_report.specs.Kept.{Keeps}
+use Rattle.tc_report.specs.Observers.{AreTaken, IsEndedAt}
+
+-- where there is room for them, those that it was given are kept behind the others, and the room stays
+all_kept : (fs : List Finished) (before after : Kept) → AreTaken Keeps fs before after → length before.finished.items + length fs ≤ vec_capacity before.finished
+    → (after.finished.items ≡ before.finished.items ++ fs) × (vec_capacity after.finished ≡ vec_capacity before.finished)
+all_kept [] before after same fits = (ap (λ (k : Kept). k.finished.items) same ∙ sym (append-nil before.finished.items), ap (λ (k : Kept). vec_capacity k.finished) same)
+all_kept (f ∷ fs) before after taken fits =
+    let one = taken.1 (omega (arith, fits)) in
+    let long = ap length one.1 ∙ length-append before.finished.items (f ∷ []) in
+    let rest = all_kept fs taken.0 after taken.2 (omega (arith, fits, long, one.2)) in
+    (rest.0 ∙ ap (λ l. l ++ fs) one.1 ∙ append_assoc before.finished.items (f ∷ []) fs, rest.1 ∙ one.2)
+
+module _ (fs : List Finished) (before after : Kept) (none : before.finished.items ≡ []) (room : length fs ≤ vec_capacity before.finished) where
+  fits : length before.finished.items + length fs ≤ vec_capacity before.finished
+  fits = omega (arith, ap length none, room)
+
+  -- where there is room for all that it was given, it keeps them
+  pub are_kept : AreTaken Keeps fs before after → after.finished.items ≡ fs
+  are_kept taken = (all_kept fs before after taken fits).0 ∙ ap (λ l. l ++ fs) none
+
+  -- and it never ends the campaign
+  pub never_ended : IsEndedAt Keeps fs before after → ⊥
+  never_ended ended =
+      let long = ap length ended.all ∙ length-append ended.others (ended.last ∷ []) in
+      let kept = all_kept ended.others before ended.between ended.each (omega (arith, fits, long)) in
+      let there = ap length kept.0 ∙ length-append before.finished.items ended.others in
+      let went : false ≡ true = (ended.at_last (omega (arith, fits, long, there, kept.1))).0 in
+      absurd (cc went)
