@@ -2,6 +2,7 @@
 use Rattle.std.proofs.Common.{All, map, ℕ, ◌≡◌, ◌∙◌, ◌+◌, ◌<◌, ◌≤◌, Bool, true, false, Result, Ok, Err, None, List, [], ◌∷◌, ◌++◌, length, refl, sym, ap, arith, append_assoc}
 use Rattle.std.specs.Prelude.{reverse, not, if◌then◌else◌, is_some}
 use Rattle.std.proofs.lemmas.List.{reverse-append, length-append, append-nil}
+use Rattle.std.proofs.lemmas.List.Elements.{All-weaker}
 use Rattle.std.proofs.lemmas.Bool.Decides.{nat_tests}
 use Rattle.tc_entry.specs.declared.limits.TheConstants.{ARGUMENTS, BEHAVIOURS}
 use Rattle.tc_step.specs.declared.limits.TheConstants.{STEPS}
@@ -19,7 +20,7 @@ use Rattle.tc_script.proofs.Lawful.{cases_are, case_names}
 use Rattle.tc_script.specs.SecondPass.{misnamed}
 use Rattle.tc_script.specs.Names.{all_of, has_twice}
 use Rattle.tc_script.proofs.Binding.{named_next, places_bound}
-use Rattle.tc_script.specs.Inside.Building.{HasFewArguments, HaveFewArguments, AreScripts, AreCases}
+use Rattle.tc_script.specs.Inside.Building.{HasFewArguments, HaveFewArguments, AreScripts, AreCases, AreDistinct}
 
 -- each line is in its place, and within the limits
 abbrev pub ArePlaced : List Line → List Line → Type 0
@@ -176,5 +177,11 @@ sound_law texts ls found is named same = rw same (cases_are [] ls (sound_cases t
 
 pub sound_names : (texts : List (List ℕ)) (ls : List Line) (found : CampaignView) → parsed [] texts ≡ Ok ls → None ≡ misnamed [] ls → found ≡ cases ls → has_twice (map (λ t. t.0) found) ≡ false
 sound_names texts ls found is named same = rw same (case_names [] ls (sym named) refl)
+
+pub sound_distinct : (texts : List (List ℕ)) (ls : List Line) → parsed [] texts ≡ Ok ls → None ≡ misnamed [] ls → AreDistinct (cases ls)
+sound_distinct texts ls is named = record {
+  cases = sound_names texts ls (cases ls) is named refl;
+  behaviours = All-weaker (λ t. IsCase t.1) (λ t. has_twice (map (λ b. b.0) t.1) ≡ false) (λ t is_case. is_case.distinct) (cases ls) (sound_law texts ls (cases ls) is named refl);
+}
 
 pub ruleset sound_rules = (sound_arguments, sound_cases)

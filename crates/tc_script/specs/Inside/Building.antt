@@ -1,13 +1,13 @@
 -- What lines without a fault give: behaviours within their limits, whose references are bound.
-use Rattle.std.specs.Prelude.{◌≤◌, List, [], ◌∷◌, length}
+use Rattle.std.specs.Prelude.{◌≡◌, ◌≤◌, false, List, [], ◌∷◌, All, length, map}
 use Rattle.tc_entry.specs.declared.limits.TheConstants.{ARGUMENTS, BEHAVIOURS}
 use Rattle.tc_line.specs.declared.line.Line.{Line}
 use Rattle.tc_line.specs.declared.line.Line.TheVariants as L
 use Rattle.tc_step.specs.Steps.{IsScript}
-use Rattle.tc_script.specs.Names.{all_of}
+use Rattle.tc_script.specs.Names.{all_of, has_twice}
 use Rattle.tc_script.specs.FirstPass.{given}
 use Rattle.tc_script.specs.Scope.{Head, heads}
-use Rattle.tc_script.specs.Campaign.{steps}
+use Rattle.tc_script.specs.Campaign.{CampaignView, steps}
 
 -- a start gives no more arguments than a behaviour may have
 abbrev pub HasFewArguments : Line → Type 0
@@ -42,3 +42,8 @@ abbrev pub from_next_case : List Line → List Line
 from_next_case [] = []
 from_next_case (L.TestCase n ∷ rest) = L.TestCase n ∷ rest
 from_next_case (_ ∷ rest) = from_next_case rest
+
+-- no two test cases have the same name, nor two behaviours of one
+pub record AreDistinct (cs : CampaignView) : Type 0 where
+  pub cases : has_twice (map (λ t. t.0) cs) ≡ false
+  pub behaviours : All (λ t. has_twice (map (λ b. b.0) t.1) ≡ false) cs
