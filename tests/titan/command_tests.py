@@ -3,12 +3,15 @@ from __future__ import annotations
 
 import os
 import re
+import subprocess
 import xml.etree.ElementTree as ElementTree
 from typing import Dict, List, Tuple
 
 import made
-from kit import TOP, Place, Ran, command, hold, log, same, test, write
-from texts import check, read_history
+from kit import TESTS, TOP, Place, Ran, command, hold, log, same, test, write
+from lies import LIES
+from script_reader import read_script
+from texts import Judged, check, read_history
 
 STEADY = ("t_restart", "t_any_all", "t_watched", "t_killed_start", "t_stopped_start", "t_nested", "t_echo", "t_error", "t_stopcase",
           "t_several", "t_self", "t_guard", "t_cut_off", "t_told")
@@ -200,7 +203,6 @@ def junit_keeps_any_letter(place: Place) -> None:
 
 def explored(place: Place, script: str) -> Dict[str, Tuple[str, ...]]:
     """The verdicts that `ttrun explore` finds, none where this ttrun cannot explore."""
-    import subprocess
     ran = subprocess.run([place.program, "explore"], input=script.encode(), stdout=subprocess.PIPE, stderr=subprocess.PIPE, check=False)
     rows = [line.split() for line in ran.stdout.decode().splitlines()]
     return {row[0]: tuple(row[1:row.index("complete")]) for row in rows if "complete" in row}
@@ -210,8 +212,6 @@ def explored(place: Place, script: str) -> Dict[str, Tuple[str, ...]]:
 def scripts_are_what_explore_reads(place: Place) -> None:
     ran = command(place, "script", log("pumps-full.merged"))
     same((ran.status, ran.errors), (0, ""))
-    from script_reader import read_script
-    from texts import Judged
     text = "".join(f"{it}\n" for it in ran.lines)
     found = read_script(text.encode())
     hold(not isinstance(found, Judged), found)
@@ -262,3 +262,12 @@ def a_page_or_why_there_is_none(place: Place) -> None:
     hold(ran.status == 1 and "compare inconc and pass: p.html#/1/2" in "\n".join(ran.lines), ran)
     with open(os.path.join(place.room, "seen"), "rb") as file:
         same([it.verdict for it in read_history(file.read())[0]], ["pass", "inconc", "pass"])
+
+
+@test
+def each_bug_can_be_planted(place: Place) -> None:
+    for lie in LIES:
+        with open(os.path.join(TOP, "clients", "titan", "titan_logs", lie.file), encoding="utf-8") as file:
+            same(file.read().count(lie.old), 1, f"the text of {lie.name} in {lie.file}")
+        hold(lie.old != lie.new and lie.test in TESTS, lie.name)
+    same(len({it.name for it in LIES}), len(LIES))

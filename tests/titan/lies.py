@@ -58,7 +58,7 @@ LIES = (
     Lie("a_final_verdict_is_not_compared", "reading.py", "told[reference][0] != own[reference][0]:", "told[reference][0] is None:",
         "damage_between_logs_is_told"),
     Lie("a_final_verdict_is_not_seen", "reading.py", "        if reference in own:\n            see_final", "        if reference not in own:\n            see_final",
-        "every_damage_is_found_out"),
+        "every_damage_is_found_out_or_another_legal_log"),
     Lie("the_log_says_how_the_block_ends", "histories.py", "f\"end {verdict_of(case, entries)}\"", "f\"end {case.verdict}\"", "one_order_of_each_test_case"),
     Lie("check_is_not_asked", "program.py", "        if ran.status == 0 and len(legal)", "        if len(legal) <", "a_ttrun_that_refuses_is_believed"),
     Lie("what_is_missing_is_legal", "audit.py", "    return PART if case.missing else LEGAL\n", "    return LEGAL\n", "crashes_shots_and_mimics_are_named"),

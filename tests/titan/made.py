@@ -4,9 +4,9 @@ from __future__ import annotations
 import os
 import random
 from dataclasses import dataclass, field
-from typing import Dict, List, Optional, Tuple
+from typing import Dict, List, Tuple
 
-from table import VERDICTS, Op, Table, worst
+from table import Op, Table, worst
 
 FIRST_REFERENCE = 3
 # Of each draw of what a run does next.

@@ -11,7 +11,7 @@ from . import audit as audits
 from . import flaky as luck
 from . import junit
 from .cases import TestCase, cases_of
-from .limits import MOST_STATES, STATES
+from .limits import MOST_BYTES_OF_A_SCRIPT, MOST_STATES, MOST_TEST_CASES_OF_A_SCRIPT, STATES
 from .lines import Refused
 from .program import found_program, page_of
 from .reading import read_case
@@ -213,6 +213,8 @@ def run_script(given: argparse.Namespace) -> int:
         if why:
             print(f"ttrun-titan: {case.title}: no script holds it: {why}", file=sys.stderr)
     texts = [text for text, _ in scripts if text is not None]
+    if len(texts) > MOST_TEST_CASES_OF_A_SCRIPT or sum(map(len, texts)) > MOST_BYTES_OF_A_SCRIPT:
+        raise Refused(f"a script holds {MOST_TEST_CASES_OF_A_SCRIPT} test cases and {MOST_BYTES_OF_A_SCRIPT} bytes: choose some with --only")
     sys.stdout.write("".join(texts))
     return 0 if len(texts) == len(scripts) else 3
 

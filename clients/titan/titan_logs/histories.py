@@ -6,11 +6,12 @@ from itertools import takewhile
 from typing import List, Sequence
 
 from .cases import TestCase
-from .limits import MOST_BEHAVIOURS, MOST_BYTES_OF_A_NAME, MOST_ROWS
+from .limits import MOST_BYTES_OF_A_HISTORY, MOST_BYTES_OF_A_NAME, MOST_ROWS
 from .playing import Entry
-from .table import MOST_COMPONENTS, Table
+from .table import MOST_BEHAVIOURS, MOST_COMPONENTS, Table
 
 COLUMN = 40
+LONGEST_ENTRY = 80
 NO_NAMES = ("all", "any", "mtc", "self")
 
 
@@ -29,6 +30,9 @@ def why_none(case: TestCase) -> str:
         return f"{len(case.runs) - 1} starts, and a history holds {MOST_BEHAVIOURS - 1}"
     if len(case.numbers) >= MOST_COMPONENTS:
         return f"{len(case.numbers) + 1} components, and the component table holds {MOST_COMPONENTS}"
+    # The longest entry: a create of an alive-type component with a name.
+    if case.total * LONGEST_ENTRY > MOST_BYTES_OF_A_HISTORY:
+        return f"{case.total} calls, and a history holds {MOST_BYTES_OF_A_HISTORY // LONGEST_ENTRY} of any kind"
     return ""
 
 

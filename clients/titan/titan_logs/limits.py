@@ -9,12 +9,13 @@ MOST_LINES = 5_000_000
 # How many lines that belong to one line of a log, as a value printed over several, are kept with it.
 MOST_FOLLOWING = 20
 
-# What a history of format 2 and a script can hold; the component table has its own limit of components.
-MOST_BEHAVIOURS = 256
+# What ttrun reads as a history and as a script. How many behaviours, components and arguments there may be, the component
+# table knows.
 MOST_BYTES_OF_A_HISTORY = 16_777_216
 MOST_BYTES_OF_A_SCRIPT = 1_048_576
+MOST_TEST_CASES_OF_A_SCRIPT = 1000
+MOST_STEPS = 1000
 MOST_BYTES_OF_A_NAME = 32
-MOST_HANDED_ON = 4
 
 # How many states a search looks at in a test case: without `--states`, and with the largest one.
 STATES = 100_000

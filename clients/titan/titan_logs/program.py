@@ -6,7 +6,7 @@ import re
 import shutil
 import subprocess
 from dataclasses import dataclass
-from typing import Iterator, List, Optional, Sequence, Tuple
+from typing import Iterator, List, Optional, Sequence
 
 from .limits import MOST_BYTES_OF_A_HISTORY, SECONDS_OF_A_CALL
 from .lines import Refused
@@ -83,9 +83,3 @@ def page_of(program: str, text: str) -> str:
         said = (ran.errors.strip() or f"status {ran.status}").splitlines()[0]
         raise Refused(f"this ttrun writes no page: {said}; --history FILE keeps the histories")
     return ran.output
-
-
-def version_of(program: str) -> Tuple[str, str]:
-    """The program's name and version."""
-    name, _, version = call(program, ["--version"], "").output.strip().partition(" ")
-    return name, version

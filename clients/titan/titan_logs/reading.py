@@ -52,7 +52,6 @@ class Reader:
         self.verdict_told: Optional[Tuple[str, Line]] = None
         self.sent: Counter = Counter()
         self.received: Counter = Counter()
-        self.overall = ""
 
     def number(self, reference: Optional[int]) -> int:
         """The number of a component in the test case; one that was never made has a number of none."""

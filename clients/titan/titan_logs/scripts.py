@@ -5,9 +5,9 @@ from typing import Dict, List, Optional, Set, Tuple
 
 from .cases import Call, Run, TestCase
 from .histories import name_of
-from .limits import MOST_BEHAVIOURS, MOST_HANDED_ON
+from .limits import MOST_STEPS
 from .orders import visible
-from .table import STATUSES, Op
+from .table import MOST_ARGUMENTS, MOST_BEHAVIOURS, STATUSES, Op
 
 
 def calls_of(case: TestCase) -> List[List[Call]]:
@@ -22,17 +22,12 @@ def names_in(op: Op) -> List[int]:
     return []
 
 
-def as_said(call: Call) -> Op:
-    """The operation that the script has for a call: a parallel component's error is its kill, the main one's is made again."""
-    return call.op
-
-
 def needs_of(run: Run, calls: List[Call], handed: Dict[int, List[int]]) -> List[int]:
     """The components that a behaviour has to be handed, in the order of their first use."""
     own: Set[int] = {0, run.component}
     found: List[int] = []
     for call in calls:
-        op = as_said(call)
+        op = call.op
         used = names_in(op) + (handed.get(op.run, []) if op.verb == "start" else [])
         found += [it for at, it in enumerate(used) if it not in own and it not in found and it not in used[:at]]
         if op.verb == "create" and call.reply is not None:
@@ -58,8 +53,11 @@ def why_none(case: TestCase, handed: Dict[int, List[int]]) -> str:
     if len(case.runs) > MOST_BEHAVIOURS:
         return f"{len(case.runs) - 1} starts, and a script holds {MOST_BEHAVIOURS - 1} behaviours beside the main one"
     most = max(handed, key=lambda it: len(handed[it]))
-    if len(handed[most]) > MOST_HANDED_ON:
-        return f"a behaviour would be handed {len(handed[most])} components, and a script hands on {MOST_HANDED_ON}: {case.runs[most].function}"
+    if len(handed[most]) > MOST_ARGUMENTS:
+        return f"a behaviour would be handed {len(handed[most])} components, and a script hands on {MOST_ARGUMENTS}: {case.runs[most].function}"
+    longest = max(case.runs, key=lambda it: len(it.calls))
+    if len(longest.calls) > MOST_STEPS:
+        return f"{len(longest.calls)} calls of a behaviour, and a script holds {MOST_STEPS} steps: {longest.function}"
     if handed[0]:
         return "the main behaviour names a component that no call before it creates"
     return ""
@@ -79,7 +77,7 @@ def behaviour(number: int) -> str:
 
 def step_of(run: Run, call: Call, handed: Dict[int, List[int]]) -> str:
     """The line of a call."""
-    op = as_said(call)
+    op = call.op
     if op.verb == "create":
         name = call.reply.split()[1] if call.reply else f"of_{len(run.calls)}"
         return f"create c{name}{' alive' * op.alive}{f' named {op.name}' * (op.name != '')}"

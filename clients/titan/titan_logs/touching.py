@@ -3,7 +3,7 @@ from __future__ import annotations
 
 from bisect import bisect_left
 from collections import defaultdict
-from typing import Dict, List, Set
+from typing import Dict, List
 
 from .cases import Call
 from .playing import Trail
@@ -113,8 +113,3 @@ def next_at(places: List[int], begin: int) -> int:
     """The first of these places that is not before."""
     at = bisect_left(places, begin)
     return places[at] if at < len(places) else NEVER
-
-
-def channels_of(calls: List[List[Call]]) -> Set[object]:
-    """The channels whose sendings are in the logs."""
-    return {it.channel for its in calls for it in its if it.is_sent}
