@@ -14,7 +14,8 @@ from titan_logs import audit, cases, lines, phrases, program, reading, sessions
 # The two test cases, each with any and all, kills, restarts, waits and verdicts.
 NAMES = ("t_restart", "t_any_all")
 STATES = 20_000
-FEWEST = 700
+FEWEST = 770
+FEWEST_FOUND_OUT = 637
 OTHER_WORDS = (("alive: yes", "alive: no"), ("alive: no", "alive: yes"), ("is done", "is killed"), ("is killed", "is done"),
                ("Stopping", "Killing"), ("was stopped", "is killed"), ("any component", "all component"),
                ("all component", "any component"), (".done'", ".killed'"), (".killed'", ".done'"), ("new alive", "new"),
@@ -113,6 +114,7 @@ def every_damage_is_found_out_or_another_legal_log(place: Place) -> None:
             blocks.append(one.block)
     same(set(program.checked(place.program, blocks)), {""})
     hold(count >= FEWEST and len(blocks) > 50, (count, len(blocks)))
+    hold(sum(found_out.values()) >= FEWEST_FOUND_OUT, found_out)
     for kind in ("another end", "a log is missing"):
         same(found_out[kind], kinds[kind], kind)
     hold(found_out["a word"] * 10 > kinds["a word"] * 6 and found_out["cut off"] * 10 > kinds["cut off"] * 8, (found_out, kinds))

@@ -40,11 +40,11 @@ LIES = (
     Lie("waits_for_others_protect", "touching.py", "self.waits[other].get(it, []), begin) for it in (component, \"all\")) > first",
         "its, begin) for its in [sum(self.waits[other].values(), [])]) > first", "no_verdict_is_missed_and_none_made_up"),
     Lie("states_are_told_by_places_alone", "playing.py", "return tuple(self.places), state_of(self.table)", "return (tuple(self.places),)",
+        "a_start_behind_a_stop_is_another_state_than_before_it"),
+    Lie("a_verdict_is_noted_before_the_end", "orders.py", "if is_over(self.trail.table):", "if is_over(self.trail.table) or len(self.trail.steps) > 9:",
         "no_verdict_is_missed_and_none_made_up"),
-    Lie("calls_behind_an_end_count", "orders.py", "if call is not None and self.trail.table.is_going_on(run) else \"\"", "if call is not None else \"\"",
-        "a_witness_keeps_each_runs_order"),
     Lie("every_stop_is_harmless", "touching.py", "        return not self.others_touch(trail, call.run, target)\n\n    def can_be",
-        "        return True\n\n    def can_be", "no_order_is_found_where_there_is_none"),
+        "        return True\n\n    def can_be", "an_order_against_the_stamps_is_found"),
     Lie("answers_are_not_compared", "playing.py", "not reply.startswith(\"error \") or reply == call.reply:", "not reply.startswith(\"error \") or reply:",
         "no_order_is_found_where_there_is_none"),
     Lie("tables_share_their_components", "playing.py",
@@ -57,10 +57,10 @@ LIES = (
         "every_true_log_has_an_order"),
     Lie("a_final_verdict_is_not_compared", "reading.py", "told[reference][0] != own[reference][0]:", "told[reference][0] is None:",
         "damage_between_logs_is_told"),
-    Lie("a_final_verdict_is_not_seen", "reading.py", "        if reference in own:\n            see_final", "        if reference not in own:\n            see_final",
+    Lie("a_final_verdict_is_not_seen", "reading.py", "        if reference in own:\n            see_final", "        if reference in own and reference == MAIN:\n            see_final",
         "every_damage_is_found_out_or_another_legal_log"),
     Lie("the_log_says_how_the_block_ends", "histories.py", "f\"end {verdict_of(case, entries)}\"", "f\"end {case.verdict}\"", "one_order_of_each_test_case"),
-    Lie("check_is_not_asked", "program.py", "        if ran.status == 0 and len(legal)", "        if len(legal) <", "a_ttrun_that_refuses_is_believed"),
+    Lie("check_is_not_asked", "program.py", "        if ran.status == 0 and len(legal) == len(places):", "        if len(legal) <= len(places):", "a_ttrun_that_refuses_is_believed"),
     Lie("what_is_missing_is_legal", "audit.py", "    return PART if case.missing else LEGAL\n", "    return LEGAL\n", "crashes_shots_and_mimics_are_named"),
     Lie("undecided_wins_over_luck", "command.py", "return 1 if 1 in statuses else max(statuses)", "return max(statuses)", "crashes_shots_and_mimics_are_named"),
     Lie("cut_off_behaviours_are_not_told", "flaky.py", "    for run in cut[:MOST_REMARKS]:\n", "    for run in cut[:0]:\n", "the_flaky_ones_are_named"),
@@ -88,8 +88,13 @@ def plant(client: str, lie: Lie) -> str:
         text = file.read()
     if text.count(lie.old) != 1:
         return f"its text stands {text.count(lie.old)} times in {lie.file}, and must stand once"
+    text = text.replace(lie.old, lie.new)
+    try:
+        compile(text, path, "exec")
+    except SyntaxError as error:
+        return f"it is no Python: {error}"
     with open(path, "w", encoding="utf-8") as file:
-        file.write(text.replace(lie.old, lie.new))
+        file.write(text)
     return ""
 
 
@@ -123,7 +128,8 @@ def main() -> int:
     passed, missed = int(failed == 0), int(failed != 0)
     for lie in chosen:
         count, why = tried(lie, [lie.test], program)
-        is_found = count == 1
+        # A test that breaks on it, and does not judge, has not found it.
+        is_found = count == 1 and why.startswith(("Fault:", "ParseError:"))
         print(f"{'' if is_found else 'FAILED '}{lie.name}: {lie.test} {'fails' if is_found else 'does not fail'}: {why[:150]}", flush=True)
         passed, missed = passed + is_found, missed + (not is_found)
     print(f"{passed} passed, {missed} failed")

@@ -3,6 +3,7 @@ from __future__ import annotations
 
 import os
 import random
+import re
 from dataclasses import dataclass, field
 from typing import Dict, List, Tuple
 
@@ -254,3 +255,20 @@ def finish_one(it: Course, run: int, target: int) -> None:
     it.play(run, Op("finish"))
     end = "remains alive and is waiting for next start" if it.is_alive[target] else "terminates"
     it.say(target, f"Function f{run} finished. PTC {end}.")
+
+
+def told(story: str) -> Made:
+    """The logs of a test case t from lines as `mtc: TEXT` and `3: TEXT`, in the order of their stamps."""
+    it = Course(random.Random(1), 0, 0)
+    it.say(0, "TTCN-3 Main Test Component started on host. Version: 8.2.0.")
+    it.say(0, "Test case t started.")
+    for line in story.strip().splitlines():
+        who, _, text = line.strip().partition(": ")
+        at = 0 if who == "mtc" else int(who) - FIRST_REFERENCE + 1
+        created = re.match(r"PTC was created\. Component reference: (\d+)", text)
+        if created:
+            begin = f"TTCN-3 Parallel Test Component started on host. Component reference: {created[1]}, component type: M.C."
+            it.say(int(created[1]) - FIRST_REFERENCE + 1, begin)
+        it.say(at, text)
+    it.made.verdict = story.rsplit("Verdict: ", 1)[1].split()[0]
+    return it.made

@@ -163,3 +163,87 @@ def a_stop_of_a_component_that_never_ran_destroys_it(place: Place) -> None:
     table.play(0, Op("create", alive=True))
     for verb, target, wanted in (("stop", 1, "kill 1"), ("stop", 2, "stop 2"), ("kill", 1, "kill 1")):
         same(playing.as_played(table, Op(verb, target=target)).text(), wanted)
+
+
+STOP_OR_START = """
+mtc: Creating new alive PTC with component type M.C.
+mtc: PTC was created. Component reference: 3, alive: yes, type: M.C.
+mtc: Creating new PTC with component type M.C.
+mtc: PTC was created. Component reference: 4, alive: no, type: M.C.
+mtc: Starting function f_stop(3) on component 4.
+mtc: Function was started.
+4: Starting function f_stop(3).
+4: PTC with component reference 3 is not running. Stop operation had no effect.
+4: Function f_stop finished. PTC terminates.
+mtc: Starting function f_fail() on component 3.
+mtc: Function was started.
+3: Starting function f_fail().
+3: setverdict(fail): none -> fail
+3: Function f_fail finished. PTC remains alive and is waiting for next start.
+mtc: PTC with component reference 3 is done.
+mtc: Terminating component type M.C.
+3: Kill was requested from MC. Terminating idle PTC.
+3: Final verdict of PTC: fail
+4: Final verdict of PTC: none
+mtc: Local verdict of MTC: none
+mtc: Local verdict of PTC with component reference 3: fail (none -> fail)
+mtc: Local verdict of PTC with component reference 4: none (fail -> fail)
+mtc: Test case t finished. Verdict: fail
+"""
+KILL_AND_QUESTION = """
+mtc: Creating new alive PTC with component type M.C.
+mtc: PTC was created. Component reference: 3, alive: yes, type: M.C.
+mtc: Creating new PTC with component type M.C.
+mtc: PTC was created. Component reference: 4, alive: no, type: M.C.
+mtc: Creating new PTC with component type M.C.
+mtc: PTC was created. Component reference: 5, alive: no, type: M.C.
+mtc: Starting function f_kill(3) on component 4.
+mtc: Function was started.
+mtc: Starting function f_ask(3) on component 5.
+mtc: Function was started.
+4: Starting function f_kill(3).
+5: Starting function f_ask(3).
+4: Killing PTC with component reference 3.
+3: Kill was requested from MC. Terminating idle PTC.
+3: Final verdict of PTC: none
+4: PTC with component reference 3 is killed.
+4: Function f_kill finished. PTC terminates.
+4: Final verdict of PTC: none
+5: AUDIT alive 3 -> true
+5: Function f_ask finished. PTC terminates.
+5: Final verdict of PTC: none
+mtc: PTC with component reference 4 is done.
+mtc: PTC with component reference 5 is done.
+mtc: Terminating component type M.C.
+mtc: Local verdict of MTC: none
+mtc: Local verdict of PTC with component reference 3: none (none -> none)
+mtc: Local verdict of PTC with component reference 4: none (none -> none)
+mtc: Local verdict of PTC with component reference 5: none (none -> none)
+mtc: Test case t finished. Verdict: none
+"""
+
+
+def number_of(case: cases.TestCase, caller: int) -> int:
+    """The main component's run, or that of the one that stops."""
+    return 0 if caller == 0 else next(it.number for it in case.runs if it.function.startswith("f_stop"))
+
+
+@test
+def a_start_behind_a_stop_is_another_state_than_before_it(place: Place) -> None:
+    case, = read(made.put(made.told(STOP_OR_START), os.path.join(place.room, "logs")))
+    same(audit.audited(case, STATES).outcome, audit.LEGAL)
+    same(set(orders.verdicts_of(case, STATES).witnesses), {"fail", "none"})
+    states = []
+    for callers in ((0, 0, 0, 1, 0), (0, 0, 0, 0, 1)):
+        trail = playing.Trail(case, orders.visible(case))
+        for caller in callers:
+            call = next(it for it in map(trail.head, range(len(case.runs))) if it is not None and it.run == number_of(case, caller))
+            trail.take(call, trail.attempt(call))
+        states.append(trail.state())
+    hold(states[0][0] == states[1][0] and states[0] != states[1], states)
+
+
+@test
+def an_order_against_the_stamps_is_found(place: Place) -> None:
+    case, = read(made.put(made.told(KILL_AND_QUESTION), os.path.join(place.room, "logs")))
+    same(audit.audited(case, STATES).outcome, audit.LEGAL, case.faults)
