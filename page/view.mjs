@@ -19,18 +19,19 @@ function caseFrame(cases, games) {
   const place = ({ line, source }, from) => `line ${line}${when(from, ` of ${escaped(source.name)}`)}`;
   const others = app.cases.filter(other => other.name === one.name && other !== one);
   const choice = other => option(other.id, `${other.status}, ${place(other, other.source !== one.source)}`, other === two);
-  const choices = option("", "compare with\u2026") + others.map(choice).join("");
-  const state = two ? `<span>alike for ${counted(app.options.part, "entry", "entries")}</span>` : chip(one.status) +
-    when(!one.isOver || one.told !== one.overall, ` <span>${reasonOf(one)}</span>`);
-  const pane = shown => `<section class="pane">${when(two, `<h3>${chip(shown.status)} ${place(shown, true)}</h3>`)}
+  const isOdd = ({ isOver, told, overall }) => !isOver || told !== overall;
+  const state = shown => chip(shown.status) + when(isOdd(shown), ` <span>${reasonOf(shown)}</span>`);
+  const told = two ? `<span>alike for ${counted(app.options.part, "entry", "entries")}</span>` : state(one);
+  const pane = shown => `<section class="pane">${when(two, `<h3>${state(shown)} ${place(shown, true)}</h3>`)}
     <div class="scroll" tabindex="0" role="group" aria-label="chart"><svg class="chart heads" height="${HEAD}"></svg>
     <div class="space"><svg class="chart rows" role="listbox" aria-label="entries"></svg></div></div></section>`;
-  return `${faults()}<div class="bar"><a href="#">All test cases</a><h2>${one.name}</h2>${state}
+  return `${faults()}<div class="bar"><a href="#">All test cases</a><h2>${one.name}</h2>${told}
     <input id="search" type="search" size="18" placeholder="entry or name  ( / )" aria-label="search for an entry">
     <select id="focus" aria-label="component">${option("", "all components")}
     ${[...new Map(games.flatMap(namesOf))].map(name => option(...name)).join("")}</select>
     ${box("questions", "questions")}${box("ended", "ended calls")}${box("isFolded", "fold repeats")}
-    ${when(others.length, `<select id="other" aria-label="compare with">${choices}</select>`)}
+    ${when(others.length, `<select id="other" aria-label="compare with">${option("", "compare with\u2026")}
+    ${others.map(choice).join("")}</select>`)}
     ${when(!two, '<span class="push"></span><button id="save">SVG</button><button id="mermaid">Mermaid</button>')}</div>
     <div class="case ${when(two, "two")}">${cases.map(pane).join("")}<aside class="state"></aside></div>`;
 }

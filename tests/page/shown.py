@@ -4,6 +4,7 @@ from __future__ import annotations
 import hashlib
 import json
 import os
+import random
 import re
 import subprocess
 import xml.dom.minidom
@@ -12,7 +13,7 @@ from typing import Dict, List
 
 from browser import Browser
 from definitions import VERDICTS, deciding
-from histories import MOST_BYTES, MOST_COMPONENTS, TOP, campaign, example, examples, fullest, kinds, legal_case, widest_case
+from histories import MOST_BYTES, MOST_COMPONENTS, TOP, campaign, example, examples, fullest, kinds, legal_case, random_block, widest_case
 from model import STATEMENT, Context, blocks_of, check, hold, same
 
 MARK = '<script type="text/plain" id="history">'
@@ -40,6 +41,11 @@ def page_of(context: Context, name: str, text: str) -> str:
         with open(path, "w", encoding="utf-8", newline="") as file:
             file.write(head + MARK + text + tail)
     return path
+
+
+def page_of_kinds(context: Context) -> str:
+    """The page of five examples and of cases of every kind."""
+    return page_of(context, "kinds", "".join(map(example, ("supervisor", "pumps", "verdicts", "restart", "workers"))) + kinds())
 
 
 def csv_of(context: Context, text: str) -> List[Dict[str, str]]:
@@ -186,8 +192,7 @@ def to_case(browser: Browser, name: str) -> None:
 
 def it_shows_the_kinds(context: Context, browser: Browser) -> str:
     """Cases that are not legal, or not over: the table, filters, the search, the way there and back by keys."""
-    text = "".join(map(example, ("supervisor", "pumps", "verdicts", "restart", "workers"))) + kinds()
-    browser.open(page_of(context, "kinds", text))
+    browser.open(page_of_kinds(context))
     same(["none 2", "pass 5", "inconc 2", "fail 3", "error 5", "unfinished 1"], browser.js("$$('[data-verdict]').map(one => one.textContent)"))
     rows = shown_rows(browser)
     same(["inconc", "t_supervised", "4", "16", "run 2 on 3: 2 setverdict inconc -> ok line 13"], rows[0])
@@ -214,7 +219,7 @@ def it_shows_the_kinds(context: Context, browser: Browser) -> str:
 
 def it_shows_one_case(context: Context, browser: Browser) -> str:
     """What is chosen, the states, keys, the search, folding, what is hidden, one component alone."""
-    browser.open(page_of(context, "kinds", "")), to_case(browser, "t_kinds")
+    browser.open(page_of_kinds(context)), to_case(browser, "t_kinds")
     same("168", browser.js("$('.on-why .gutter').textContent"))
     browser.key("Home", *"jjjjj")
     same("1 setverdict pass -> ok", browser.js("$('.state code').textContent"))
@@ -256,9 +261,37 @@ def it_shows_one_case(context: Context, browser: Browser) -> str:
     return f"{rows} rows"
 
 
+# Opens all cases, chooses each row, looks at each component alone, and makes what can be saved; how many rows there were.
+WALK = """(() => { let rows = 0;
+  const plain = text => { if (/NaN|undefined|null/.test(text)) throw new Error(text.match(/.{0,60}(NaN|undefined|null).{0,20}/)[0]) };
+  for (const one of app.cases) {
+    history.replaceState(null, "", `#/${one.id}`), app.show();
+    const { chart } = app.pane;
+    for (let at = 0; at < chart.rows.length; at += 1, rows += 1) {
+      choose(app.pane, at), plain($(".state").innerHTML), plain($(".rows").innerHTML);
+      if (!$(".on-selected, .on-why")) throw new Error(`row ${at} of ${one.name} is not chosen`);
+    }
+    for (const number of chart.game.lanes.keys()) focusOn(number), plain(fileOf(chart));
+    focusOn(null), plain(fileOf(chart)), showMermaid(), plain($("textarea").value), $("dialog").remove();
+  }
+  return rows })()"""
+
+
+def it_draws_what_no_table_makes(context: Context, browser: Browser) -> str:
+    """Histories that can be read, hardly one of them legal: each entry is drawn, and nothing breaks."""
+    rng = random.Random(context.seed + 3)
+    blocks = [random_block(rng, it % 2 == 0) for it in range(30)]
+    browser.open(page_of(context, "random", "".join(text for text, _ in blocks)))
+    browser.js("app.options.isFolded = false")
+    rows = browser.js(WALK)
+    same(sum(len(lines) for _, lines in blocks), rows)
+    hold(rows >= 250, rows)
+    return f"{len(blocks)} cases, {rows} rows"
+
+
 def it_gives_pictures_and_mermaid(context: Context, browser: Browser) -> str:
     """A picture is whole XML with its colours in it, and is saved; Mermaid's text is shown."""
-    browser.open(page_of(context, "kinds", ""))
+    browser.open(page_of_kinds(context))
     for name in ("t_kinds", "t_supervised", "t_odd", "t_pass"):
         to_case(browser, name)
         text = browser.js("fileOf(app.pane.chart)")
@@ -283,7 +316,7 @@ def it_gives_pictures_and_mermaid(context: Context, browser: Browser) -> str:
 
 def it_compares(context: Context, browser: Browser) -> str:
     """Two cases side by side: where they part, scrolled together, and back to one."""
-    browser.open(page_of(context, "kinds", ""))
+    browser.open(page_of_kinds(context))
     at = browser.js("app.cases.find(one => one.name === 't_race').id")
     browser.go(f"#/{at}/{at + 1}")
     hold("alike for 2 entries" in browser.js("$('.bar').textContent"), "it does not say where they part")
@@ -346,5 +379,5 @@ def it_tells_faults(context: Context, browser: Browser) -> str:
     return f"{len(texts)} texts"
 
 
-TESTS = (it_takes_any_text_without_less, it_shows_the_examples, it_shows_the_kinds, it_shows_one_case, it_gives_pictures_and_mermaid,
-         it_compares, it_opens_files, it_tells_faults, it_shows_large_histories)
+TESTS = (it_takes_any_text_without_less, it_shows_the_examples, it_shows_the_kinds, it_shows_one_case, it_draws_what_no_table_makes,
+         it_gives_pictures_and_mermaid, it_compares, it_opens_files, it_tells_faults, it_shows_large_histories)
