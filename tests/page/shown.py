@@ -325,6 +325,11 @@ def it_compares(context: Context, browser: Browser) -> str:
     same(["0 finish -> ok", "1 setverdict fail -> ok"], browser.js(chosen))
     browser.js("$('#other').value = ''; $('#other').dispatchEvent(new Event('change'))"), browser.settle()
     same((f"#/{at}", 1), (browser.js("location.hash"), browser.js("app.panes.length")))
+    # of cases that are odd the table's words are above both, and the rows are side by side
+    wrong = browser.js("app.cases.find(one => one.name === 't_wrong').id")
+    browser.open(page_of_kinds(context), 800), browser.go(f"#/{wrong - 1}/{wrong}")
+    hold("no entry ends the test case" in browser.js("$$('h3')[0].textContent") and "says fail" in browser.js("$$('h3')[1].textContent"), "no word")
+    same(1, browser.js("new Set($$('.pane .scroll').map(one => one.getBoundingClientRect().y)).size"))
     # a longer one beside a shorter one: both scroll to the end of the longer
     two = legal_case("t_two", 2, 3, "pass") + legal_case("t_two", 2, 40, "fail")
     browser.open(page_of(context, "two", two), height=600), browser.go("#/0/1")
@@ -332,7 +337,7 @@ def it_compares(context: Context, browser: Browser) -> str:
     hold(browser.js("Number($$('[data-row]', app.panes[1].rows).at(-1).dataset.row) === app.panes[1].chart.rows.length - 1"), "it does not end")
     one, other = browser.js("app.panes.map(pane => pane.scroll.scrollTop)")
     hold(one == other > 100, (one, other))
-    return "2 comparisons"
+    return "3 comparisons"
 
 
 def write(context: Context, name: str, data: bytes) -> str:
