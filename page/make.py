@@ -79,9 +79,9 @@ def page() -> str:
 
 
 def constant(name: str, says: str, text: str) -> str:
-    """A module of the crate tc_page with one constant, which has a line for each line of the page."""
-    escaped = text.replace("\\", "\\\\").replace('"', '\\"')
-    return f'//! {says}\n\n/// {says}\npub const {name}: &[u8] = b"{escaped}";\n'
+    """A module of the crate tc_page with one constant."""
+    escaped = text.replace("\\", "\\\\").replace('"', '\\"').replace("\n", "\\n")
+    return f'//! {says}\n\n/// {says}\npub const {name}: &[u8] =\n    b"{escaped}";\n'
 
 
 def made() -> Dict[str, str]:
