@@ -247,3 +247,41 @@ def a_start_behind_a_stop_is_another_state_than_before_it(place: Place) -> None:
 def an_order_against_the_stamps_is_found(place: Place) -> None:
     case, = read(made.put(made.told(KILL_AND_QUESTION), os.path.join(place.room, "logs")))
     same(audit.audited(case, STATES).outcome, audit.LEGAL, case.faults)
+
+
+@test
+def a_missing_log_is_no_proof_of_one_verdict(place: Place) -> None:
+    it = made.told(STOP_OR_START.replace("mtc: PTC with component reference 3 is done.\n", ""))
+    folder = made.put(it, os.path.join(place.room, "whole"))
+    same(flaky.looked_at(read(folder)[0], STATES).outcome, flaky.LUCK)
+    quiet = made.told("\n".join(line for line in KILL_AND_QUESTION.splitlines() if not line.startswith("mtc: PTC with component reference 5 is")))
+    same(flaky.looked_at(read(made.put(quiet, os.path.join(place.room, "quiet")))[0], STATES).outcome, flaky.STEADY)
+    del quiet.logs[5]
+    one = flaky.looked_at(read(made.put(quiet, os.path.join(place.room, "less")))[0], STATES)
+    same((one.outcome, one.remarks[0]), (flaky.UNEXPLAINED, "there is no log of component 5"))
+
+
+ERROR_OR_END = """
+mtc: Creating new PTC with component type M.C.
+mtc: PTC was created. Component reference: 3, alive: no, type: M.C.
+mtc: Starting function f_divide(0) on component 3.
+mtc: Function was started.
+3: Starting function f_divide(0).
+3: Dynamic test case error: Integer division by zero.
+3: setverdict(error): none -> error
+3: Function f_divide finished with an error. PTC terminates.
+3: Final verdict of PTC: error
+mtc: setverdict(pass): none -> pass
+mtc: Terminating component type M.C.
+mtc: Local verdict of MTC: pass
+mtc: Local verdict of PTC with component reference 3: error (pass -> error)
+mtc: Test case t finished. Verdict: error
+"""
+
+
+@test
+def an_error_that_the_end_may_come_before(place: Place) -> None:
+    case, = read(made.put(made.told(ERROR_OR_END), os.path.join(place.room, "logs")))
+    one = flaky.looked_at(case, STATES)
+    same((case.faults, one.outcome, one.others), ([], flaky.LUCK, ["pass"]))
+    hold("the error of a component is written as its kill: the history of error ends with pass" in one.remarks, one.remarks)

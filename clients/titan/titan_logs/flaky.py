@@ -6,7 +6,7 @@ from dataclasses import dataclass, field
 from typing import Dict, Iterator, List, Optional, Sequence, Set
 
 from .cases import Call, Run, TestCase
-from .histories import block_of, side_by_side, why_none
+from .histories import block_of, side_by_side, verdict_of, why_none
 from .limits import MOST_REMARKS
 from .orders import Verdicts, verdicts_of
 from .playing import Entry
@@ -59,12 +59,13 @@ def cut_off(case: TestCase) -> Iterator[str]:
 
 
 def outcome_of(case: TestCase, found: Verdicts, others: Sequence[str]) -> str:
-    """What is to be said of a test case: another verdict that was found stands, however the search ended."""
-    if case.faults or case.is_shot or case.verdict is None or case.verdict not in found.witnesses:
-        return OPEN if not found.is_complete else UNEXPLAINED
-    if others:
+    """What is to be said of a test case: another verdict that was found stands, however the search ended, and whatever is missing."""
+    is_judged = not (case.faults or case.is_shot or case.verdict is None or case.verdict not in found.witnesses)
+    if is_judged and others:
         return LUCK
-    return STEADY if found.is_complete else OPEN
+    if not found.is_complete:
+        return OPEN
+    return STEADY if is_judged and not case.missing else UNEXPLAINED
 
 
 def remarks_on(case: TestCase, found: Verdicts, others: Sequence[str]) -> Iterator[str]:
@@ -77,6 +78,9 @@ def remarks_on(case: TestCase, found: Verdicts, others: Sequence[str]) -> Iterat
     if not found.is_complete:
         yield f"the search met its limit after {found.states} states: other verdicts may exist"
     yield from case.remarks if others else ()
+    if others and case.errors and "error" in found.witnesses:
+        ends = verdict_of(case, found.witnesses["error"])
+        yield f"the error of a component is written as its kill: the history of error ends with {ends}"
     yield from cut_off(case)
 
 
