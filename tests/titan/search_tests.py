@@ -10,9 +10,12 @@ import made
 import plain
 from kit import CLIENT, Place, hold, log, same, test
 from reading_tests import read
+from courses import courses_of
+from script_reader import read_script
 from table import VERDICTS, Op, Table
+from texts import Judged
 
-from titan_logs import audit, cases, flaky, histories, orders, playing, program, search
+from titan_logs import audit, cases, flaky, histories, orders, playing, program, scripts, search
 
 STATES = 100_000
 COURSES = 120
@@ -285,3 +288,22 @@ def an_error_that_the_end_may_come_before(place: Place) -> None:
     one = flaky.looked_at(case, STATES)
     same((case.faults, one.outcome, one.others), ([], flaky.LUCK, ["pass"]))
     hold("the error of a component is written as its kill: the history of error ends with pass" in one.remarks, one.remarks)
+
+
+@test
+def a_script_has_every_verdict_that_is_named(place: Place) -> None:
+    looked = several = 0
+    for seed in range(COURSES):
+        case, = read(made.put(made.course(seed + 5000, most=8 + seed % 10, components=3), os.path.join(place.room, str(seed))))
+        text, _ = scripts.script_of(case)
+        if text is None:
+            continue
+        campaign = read_script(text.encode())
+        hold(not isinstance(campaign, Judged), f"seed {seed}: {campaign} {text}")
+        courses = courses_of(next(iter(campaign)), 1500)
+        if courses is not None:
+            # A script holds no answer fixed, so it may have more.
+            named = set(orders.verdicts_of(case, STATES).witnesses)
+            hold(named <= courses.verdicts, f"seed {seed}: {named} {courses.verdicts}")
+            looked, several = looked + 1, several + (len(named) > 1)
+    hold(looked > COURSES // 2 and several > 3, (looked, several))
