@@ -168,6 +168,21 @@ def errors_of_the_main_component_are_the_tables(place: Place) -> None:
 
 
 @test
+def functions_that_return_values(place: Place) -> None:
+    # Titan logs the end of such a function behind the end of its component, whenever it was.
+    ran = command(place, "audit", log("values-full.merged"))
+    same((ran.status, ran.lines[-1], len(ran.lines)), (0, "11 test cases: 11 legal", 13))
+    rows = rows_of(command(place, "flaky", log("values-full.merged")))
+    same([name for name, row in rows.items() if row[1] != "-"], [])
+    with open(log("values-full.merged"), encoding="utf-8") as file:
+        lines = [it.rstrip("\n") for it in file]
+    for old, new, word in (("Function f_value returned integer : 7", "", "just ends"), ("Function f_value returned", "Function f_other returned", "returned a value")):
+        damaged = [it.replace(old, new) for it in lines if new or old not in it]
+        ran = command(place, "audit", write(place, "x.merged", damaged))
+        hold(ran.status == 1 and word in "\n".join(ran.lines), ran.lines[:5])
+
+
+@test
 def crashes_shots_and_mimics_are_named(place: Place) -> None:
     for name, words, status in (("crash.merged", "the main component crashed", 1), ("shot", "component 3 was shot", 1),
                                 ("mimic-default", "no order was found beyond", 1), ("quarrel-shim.merged", "3 test cases: 3 legal", 0)):

@@ -42,6 +42,12 @@ requested | EXECUTOR | Stop was requested from MC. Ignored on idle PTC. | Stop I
 halting_self | PARALLEL | Terminating test component execution. | Terminating
 finished | PARALLEL | Function f finished. PTC remains alive and is waiting for next start. | remains
 stopped | PARALLEL | Function f was stopped. PTC terminates. | terminates
+has_ended | PARALLEL | PTC with component reference 3 is done. Return value: integer : 7 | 3 done
+returned | PARALLEL | Function f_value returned integer : 7<unfinished> | f_value
+told_final | VERDICTOP | Local verdict of PTC odd name(5): fail (pass -> fail) | odd name(5) fail pass fail
+sent | PORTEVENT | Sent on p to odd name(5) integer : 1 | Sent odd name(5)
+received | PORTEVENT | Receive operation on port wire succeeded, message from odd name(5): integer : 1 id 1 | message odd name(5)
+received | PORTEVENT | Getreply operation on port proc succeeded, reply from 4: @Odd.Ask : { } value 5 id 1 | reply 4
 own_final | VERDICTOP | Final verdict of PTC: pass reason: "first" | pass
 main_final | VERDICTOP | Local verdict of MTC: none | none
 told_final | VERDICTOP | Local verdict of PTC pump(3): fail (pass -> fail) reason: "x" | pump(3) fail pass fail

@@ -13,6 +13,7 @@ again() { mkdir -p "$room/$2"; cp -p "$room/$1/$3" "$room/$2/"; }
 record Pumps "$room/full" --logging full; merge full pumps-full.merged
 again full default Pumps; record Pumps "$room/default" --logging default; merge default pumps-default.merged
 record Faults "$room/faults" --logging full; merge faults faults-full.merged
+record Values "$room/values" --logging full; merge values values-full.merged
 record Crowd "$room/crowd" --logging rotated --set tsp_parts=4 --set tsp_rounds=2; keep crowd crowd-rotated
 again crowd twice Crowd
 record Crowd "$room/twice" --logging appended --set tsp_parts=2 --set tsp_rounds=1

@@ -5,7 +5,9 @@ import re
 from typing import Dict, List, NamedTuple, Optional, Pattern, Tuple
 
 # A component as Titan spells it, `3`, `pump(3)` or `component reference 3`; the main one is `mtc`.
-WHO = r"(?:with )?(?:component reference )?(\S+)"
+WHO = r"(?:with )?(?:component reference )?(.+?)"
+# The other end of a message; a component's name may have spaces.
+OTHER = r"(mtc|system|\d+|[^()]*\(\d+\))"
 VERDICT = r"(none|pass|inconc|fail|error)"
 
 # Name, the families of event types that such a line has, and its form. The first that fits is the one.
@@ -29,7 +31,7 @@ FORMS: Tuple[Tuple[str, str, str], ...] = (
     ("halted_none", "PARALLEL", r"No PTCs are running\. Operation 'all component\.(stop|kill)' had no effect\.?"),
     ("halted_none", "PARALLEL", r"There are no alive PTCs\. Operation 'all component\.(stop|kill)' had no effect\.?"),
     ("halted_in_vain", "PARALLEL", rf"PTC {WHO} is not (?:running|alive anymore)\. (Stop|Kill) operation had no effect\.?"),
-    ("has_ended", "PARALLEL", rf"PTC {WHO} is (done|killed)\."),
+    ("has_ended", "PARALLEL", rf"PTC {WHO} is (done|killed)\.(?: Return value: .*)?"),
     ("group_has_ended", "MATCHING", r"Operation '(any|all) component\.(done|killed)' (was successful|failed)\b.*"),
     ("set", "VERDICTOP", rf"setverdict\({VERDICT}\): {VERDICT} -> {VERDICT}\b.*"),
     ("got", "VERDICTOP", rf"getverdict: {VERDICT}"),
@@ -39,14 +41,15 @@ FORMS: Tuple[Tuple[str, str, str], ...] = (
     ("finished", "PARALLEL", r"Function .* finished\. PTC (terminates|remains)\b.*"),
     ("stopped", "PARALLEL", r"Function .* was stopped\. PTC (terminates|remains)\b.*"),
     ("finished_badly", "PARALLEL", r"Function .* finished with an error\b.*"),
+    ("returned", "PARALLEL", r"Function (\S+) returned .*"),
     ("terminating", "PARALLEL", r"Terminating component type .*"),
     ("own_final", "VERDICTOP", rf"Final verdict of PTC: {VERDICT}\b.*"),
     ("main_final", "VERDICTOP", rf"Local verdict of MTC: {VERDICT}\b.*"),
     ("told_final", "VERDICTOP", rf"Local verdict of PTC {WHO}: {VERDICT} \({VERDICT} -> {VERDICT}\).*"),
     ("shim_status", "PARALLEL", r"AUDIT (running|alive|done|killed) (any|all|\d+) -> (true|false|no|maybe)"),
     ("shim_set", "PARALLEL", rf"AUDIT setverdict {VERDICT}"),
-    ("sent", "PORTEVENT", r"(Sent|Called|Replied|Raised) on \S+ to (\S+) .*"),
-    ("received", "PORTEVENT", r"(?:Receive|Trigger|Getcall|Getreply|Catch) operation on .*?succeeded, (message|call|reply|exception) from ([^\s:]+).*"),
+    ("sent", "PORTEVENT", rf"(Sent|Called|Replied|Raised) on \S+ to {OTHER}(?: .*)?"),
+    ("received", "PORTEVENT", rf"(?:Receive|Trigger|Getcall|Getreply|Catch) operation on .*?succeeded, (message|call|reply|exception) from {OTHER}:.*"),
 )
 
 # Lines of these families that say nothing of the component table.

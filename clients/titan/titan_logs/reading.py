@@ -50,6 +50,8 @@ class Reader:
         self.is_over = False
         self.requested: Optional[Line] = None
         self.verdict_told: Optional[Tuple[str, Line]] = None
+        # The functions that returned a value: Titan logs that behind the end of the component, whenever it was.
+        self.returned = Counter(it.phrase.words[0] for it in self.lines if it.phrase.name == "returned")
         self.sent: Counter = Counter()
         self.received: Counter = Counter()
 
@@ -110,6 +112,8 @@ class Reader:
             if handler is not None:
                 handler(line, *line.phrase.words)
         self.close()
+        for name in sorted(str(it) for it, count in self.returned.items() if count > 0):
+            self.disagree(f"component {self.role}: {name} returned a value, and nothing in its log starts or ends it then")
         if self.run is not None and not self.is_over:
             self.run.is_cut = True
             if self.role != MAIN:
@@ -127,6 +131,17 @@ class Reader:
         self.case.errors += 1
         call = self.made(self.lines[-1], operation("kill", self.number(self.role)), "ok", faulty=Op("stopcase"))
         self.add(replace(call, begin=call.end, end=self.case.end))
+
+    def end_of_value(self, line: Line) -> None:
+        """Before a line that only an idle component has: the behaviour has ended, if its function returned a value."""
+        name = self.run.function.split("(")[0] if self.run else ""
+        if self.role == MAIN or self.is_over or self.requested is not None or self.returned[name] < 1:
+            return
+        self.returned[name] -= 1
+        self.close()
+        before = min(line.before, line.stamp)
+        self.add(replace(self.made(line, Op("finish"), "ok"), begin=before, guess=before))
+        self.is_over = True
 
     def on_creating(self, line: Line, alive: Optional[str]) -> None:
         self.begin(line, Op("create", alive=alive is not None))
@@ -148,6 +163,7 @@ class Reader:
     def on_starting(self, line: Line, function: str) -> None:
         if self.role == MAIN:
             return
+        self.end_of_value(line)
         if self.run is not None and not self.is_over:
             self.disagree(f"a start while the behaviour before is running: {line}")
         self.close(is_allowed=self.is_over)
@@ -273,7 +289,9 @@ class Reader:
         return replace(call, begin=begin, end=self.case.end)
 
     def on_requested(self, line: Line, verb: str, more: str) -> None:
-        if "Ignored" not in more and "idle" not in more and not self.is_over:
+        if "Ignored" in more or "idle" in more:
+            self.end_of_value(line)
+        elif not self.is_over:
             self.requested = line
 
     def on_halting_self(self, line: Line, verb: str) -> None:
@@ -319,6 +337,7 @@ class Reader:
         self.requested, self.is_over = None, True
 
     def on_terminating(self, line: Line) -> None:
+        self.end_of_value(line)
         if self.role == MAIN and not self.is_over:
             self.close()
             end = self.case.end
