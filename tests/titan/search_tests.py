@@ -44,6 +44,25 @@ def every_true_log_has_an_order(place: Place) -> None:
     same(program.checked(place.program, blocks), [""] * COURSES)
 
 
+def shifted(line: str, by: int) -> str:
+    """A line whose stamp is so many microseconds later."""
+    hours, minutes, seconds = line[:15].split(":")
+    stamp = (int(hours) * 60 + int(minutes)) * 60_000_000 + round(float(seconds) * 1_000_000) + by
+    return f"{stamp // 3_600_000_000:02}:{stamp // 60_000_000 % 60:02}:{stamp // 1_000_000 % 60:02}.{stamp % 1_000_000:06}{line[15:]}"
+
+
+@test
+def clocks_of_several_hosts_do_not_matter(place: Place) -> None:
+    for seed in range(COURSES):
+        it = made.course(seed, most=20 + seed % 40, components=2 + seed % 6)
+        case, = read(made.put(it, os.path.join(place.room, str(seed))))
+        by = (100, 1_000, 20_000, -1_000, 2_000_000)[seed % 5]
+        it.logs = {role: [shifted(line, by if role % 2 else 0) for line in its] for role, its in it.logs.items()}
+        other, = read(made.put(it, os.path.join(place.room, f"shifted{seed}")))
+        same((audit.audited(other, STATES).outcome, other.faults), (audit.LEGAL, []), f"seed {seed}")
+        same(set(orders.verdicts_of(other, STATES).witnesses), set(orders.verdicts_of(case, STATES).witnesses), f"seed {seed}")
+
+
 @test
 def no_verdict_is_missed_and_none_made_up(place: Place) -> None:
     several = looked = 0

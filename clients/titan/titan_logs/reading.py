@@ -408,24 +408,25 @@ def starts_by_target(case: TestCase) -> Dict[int, List[Tuple[int, Line, bool]]]:
 
 
 def match_starts(case: TestCase, by_log: Dict[int, List[Run]]) -> Dict[int, int]:
-    """The run of each start: the k-th that was carried out of a component is the k-th behaviour in its log; by the line's identity."""
+    """The run of each start, by its line's identity: a behaviour in a component's log is that of the first start of its function."""
     found: Dict[int, int] = {}
     by_target = starts_by_target(case)
-    for target, starts in by_target.items():
-        runs = list(by_log.get(target, []))
-        for _, line, is_error in sorted(starts, key=lambda it: it[0]):
-            if runs and not is_error:
-                run = runs.pop(0)
-                if run.function != line.phrase.words[0]:
-                    case.faults.append(f"component {target} ran {run.function}, another function than its start has: {line}")
-            else:
-                run = Run(len(case.runs), case.numbers.get(target, 0), line.phrase.words[0] or "")
-                case.runs.append(run)
+    for target in sorted({*by_target, *by_log}):
+        starts = sorted(by_target.get(target, []), key=lambda it: it[0])
+        carried_out = [line for _, line, is_error in starts if not is_error]
+        for run in by_log.get(target, []):
+            if not carried_out:
+                case.faults.append(f"component {target} ran a function that no log starts: {run.function}")
+                continue
+            line = next((it for it in carried_out if it.phrase.words[0] == run.function), carried_out[0])
+            if line.phrase.words[0] != run.function:
+                case.faults.append(f"component {target} ran {run.function}, another function than its start has: {line}")
+            carried_out.remove(line)
             found[id(line)] = run.number
-        if runs:
-            case.faults.append(f"component {target} ran a function that no log starts: {runs[0].function}")
-    for target in sorted(set(by_log) - set(by_target)):
-        case.faults.append(f"component {target} ran a function that no log starts: {by_log[target][0].function}")
+        for _, line, _ in starts:
+            if id(line) not in found:
+                found[id(line)] = len(case.runs)
+                case.runs.append(Run(len(case.runs), case.numbers.get(target, 0), line.phrase.words[0] or ""))
     return found
 
 
