@@ -81,18 +81,20 @@ def campaign(module: str, folder: str) -> None:
     """Runs the executable with a main controller and one host controller."""
     output = os.path.join(folder, "controller.txt")
     with open(output, "w", encoding="utf-8") as log:
-        controller = subprocess.Popen(["mctr_cli", "campaign.cfg"], cwd=folder, stdin=subprocess.DEVNULL, stdout=log, stderr=log)
+        started = [subprocess.Popen(["mctr_cli", "campaign.cfg"], cwd=folder, stdin=subprocess.DEVNULL, stdout=log, stderr=log)]
         try:
             port = port_of(output)
             if port is None:
-                raise SystemExit(f"the main controller tells no port: {output}")
-            host = subprocess.Popen([os.path.join(folder, module), "127.0.0.1", port], cwd=folder, stdin=subprocess.DEVNULL,
-                                    stdout=subprocess.DEVNULL, stderr=subprocess.DEVNULL)
-            controller.wait(SECONDS)
-            host.wait(SECONDS)
+                raise OSError(f"the main controller tells no port: {output}")
+            started.append(subprocess.Popen([os.path.join(folder, module), "127.0.0.1", port], cwd=folder, stdin=subprocess.DEVNULL,
+                                            stdout=subprocess.DEVNULL, stderr=subprocess.DEVNULL))
+            for process in started:
+                process.wait(SECONDS)
         finally:
-            if controller.poll() is None:
-                controller.kill()
+            for process in started:
+                if process.poll() is None:
+                    process.kill()
+                    process.wait()
 
 
 def record(module: str, folder: str, logging: str = "full", is_shimmed: bool = False, parameters: Optional[List[str]] = None) -> None:
@@ -119,7 +121,11 @@ def main() -> int:
     if why:
         print(f"record.py: {why}", file=sys.stderr)
         return 3
-    record(given.module, given.folder, given.logging, given.shim, [it.replace("=", " := ", 1) for it in given.set])
+    try:
+        record(given.module, given.folder, given.logging, given.shim, [it.replace("=", " := ", 1) for it in given.set])
+    except (OSError, subprocess.SubprocessError) as error:
+        print(f"record.py: {error}", file=sys.stderr)
+        return 3
     return 0
 
 
