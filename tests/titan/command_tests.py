@@ -4,11 +4,12 @@ from __future__ import annotations
 import os
 import re
 import subprocess
+import sys
 import xml.etree.ElementTree as ElementTree
 from typing import Dict, List, Tuple
 
 import made
-from kit import TESTS, TOP, Place, Ran, command, hold, log, same, test, write
+from kit import CLIENT, TESTS, TOP, Place, Ran, command, hold, log, same, test, write
 from lies import LIES
 from script_reader import read_script
 from texts import Judged, check, read_history
@@ -192,6 +193,18 @@ def crashes_shots_and_mimics_are_named(place: Place) -> None:
     hold(ran.status == 3 and "1 without, 1 not judged" in ran.lines[-1], ran.lines)
     ran = command(place, "flaky", log("shot"), log("pumps-full.merged"))
     same(ran.status, 1, "a verdict that depends on luck stands beside a test case that is not judged")
+
+
+@test
+def no_letter_of_a_log_moves_the_cursor(place: Place) -> None:
+    with open(log("pumps-full.merged"), encoding="utf-8") as file:
+        lines = [it.rstrip("\n").replace("f_late(inconc)", "f_late(\x1b[31m\u00e9\x9b1m)") for it in file]
+    path = write(place, "x.merged", lines)
+    for encoding in ("utf-8", "ascii"):
+        environment = {**os.environ, "PYTHONIOENCODING": encoding}
+        ran = subprocess.run([sys.executable, os.path.join(CLIENT, "ttrun-titan"), "flaky", path, "--unchecked", "--only", "t_late"],
+                             env=environment, stdout=subprocess.PIPE, stderr=subprocess.PIPE, check=False)
+        hold(ran.returncode == 1 and b"f_late(?[31m" in ran.stdout and b"\x1b" not in ran.stdout, ran)
 
 
 @test

@@ -3,6 +3,7 @@ from __future__ import annotations
 
 import argparse
 import os
+import re
 import sys
 from collections import Counter, defaultdict
 from typing import Dict, Iterator, List, NamedTuple, NoReturn, Optional, Sequence, Tuple
@@ -20,6 +21,7 @@ from .sessions import read_sessions
 from .table import VERDICTS
 
 ABOUT = "Reads the logs of Eclipse Titan, and says which verdicts depended on luck."
+CONTROL = re.compile(r"[\x00-\x1f\x7f-\x9f]")
 STATUSES = "status: 0 nothing was found, 1 something was found, 3 refused, undecided or not judged"
 
 
@@ -115,6 +117,11 @@ def keep(given: argparse.Namespace, program: Optional[str], blocks: Sequence[str
         write(given.html, page_of(program, text))
 
 
+def show(lines: Sequence[str]) -> None:
+    """Prints lines; a letter from a log that would move a terminal's cursor is shown as a question mark."""
+    print("\n".join(CONTROL.sub("?", it) for it in lines))
+
+
 def told(found: Found, program: Optional[str]) -> Iterator[str]:
     """The remarks on the logs, and on what was not asked."""
     if program is None:
@@ -183,7 +190,7 @@ def run_flaky(given: argparse.Namespace) -> int:
     keep(given, program, blocks)
     write(given.junit, junit.report_of("ttrun-titan flaky", cases))
     lines += [*table(rows), *seen_verdicts(found.cases), tally([luck.COUNTED[it.outcome] for it in results], tuple(luck.COUNTED.values()))]
-    print("\n".join(lines))
+    show(lines)
     return worst([it.status for it in results])
 
 
@@ -201,7 +208,7 @@ def run_audit(given: argparse.Namespace) -> int:
         cases.append(junit.Row(one.case.title, session, kind, head, one.remarks))
     keep(given, program, [it.block for it in results if it.block])
     write(given.junit, junit.report_of("ttrun-titan audit", cases))
-    print("\n".join([*lines, *table(rows), tally([it.outcome for it in results], tuple(audits.STATUS))]))
+    show([*lines, *table(rows), tally([it.outcome for it in results], tuple(audits.STATUS))])
     return worst([it.status for it in results])
 
 
@@ -211,7 +218,7 @@ def run_script(given: argparse.Namespace) -> int:
     scripts = [script_of(it) for it in found.cases]
     for case, (_, why) in zip(found.cases, scripts):
         if why:
-            print(f"ttrun-titan: {case.title}: no script holds it: {why}", file=sys.stderr)
+            print(CONTROL.sub("?", f"ttrun-titan: {case.title}: no script holds it: {why}"), file=sys.stderr)
     texts = [text for text, _ in scripts if text is not None]
     if len(texts) > MOST_TEST_CASES_OF_A_SCRIPT or sum(map(len, texts)) > MOST_BYTES_OF_A_SCRIPT:
         raise Refused(f"a script holds {MOST_TEST_CASES_OF_A_SCRIPT} test cases and {MOST_BYTES_OF_A_SCRIPT} bytes: choose some with --only")
@@ -224,6 +231,8 @@ RUNS = {"flaky": run_flaky, "audit": run_audit, "script": run_script}
 
 def main(words: Optional[Sequence[str]] = None) -> int:
     """Runs the command: its status."""
+    for stream in (sys.stdout, sys.stderr):
+        stream.reconfigure(errors="backslashreplace")
     try:
         given = parser().parse_args(words)
         if given.command is None:
@@ -232,7 +241,7 @@ def main(words: Optional[Sequence[str]] = None) -> int:
         sys.stdout.flush()
         return status
     except Refused as refusal:
-        print(f"ttrun-titan: {refusal}", file=sys.stderr)
+        print(CONTROL.sub("?", f"ttrun-titan: {refusal}"), file=sys.stderr)
         return 3
     except BrokenPipeError:
         os.dup2(os.open(os.devnull, os.O_WRONLY), 1)
