@@ -112,10 +112,9 @@ const EXPLORE_OPTIONS: [OptionRow; 3] = [
     ),
 ];
 
-const REPORT_OPTIONS: [OptionRow; 4] = [
+const REPORT_OPTIONS: [OptionRow; 3] = [
     OptionRow("csv", Takes::Nothing, "writes a table as CSV"),
     OptionRow("junit", Takes::Nothing, "writes a JUnit suite"),
-    OptionRow("chart", Takes::Nothing, "writes a message sequence chart"),
     EXPLAIN,
 ];
 

@@ -23,8 +23,6 @@ pub enum ReportForm {
     Csv,
     /// A test suite of JUnit's XML.
     Junit,
-    /// A message sequence chart.
-    Chart,
 }
 
 /// Which test cases of a script are chosen.

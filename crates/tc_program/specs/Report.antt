@@ -5,7 +5,6 @@ use Rattle.tc_command.specs.declared.task.ReportForm.{ReportForm}
 use Rattle.tc_command.specs.declared.task.ReportForm.TheVariants as Forms
 use Rattle.tc_history.specs.declared.read.Block.{Block}
 use Rattle.tc_history.specs.Text.{AreHistories}
-use Rattle.tc_chart.specs.Chart.{chart_of}
 use Rattle.tc_forms.specs.declared.summary.Summary.{Summary}
 use Rattle.tc_forms.specs.Csv.{csv_of}
 use Rattle.tc_forms.specs.Junit.{junit_of}
@@ -15,15 +14,14 @@ use Rattle.tc_program.specs.declared.judge.Judgement.{Judgement}
 use Rattle.tc_program.specs.declared.reply.Answer.{Answer}
 use Rattle.tc_program.specs.Check.{Checks, judgement_line, judges_legal}
 
--- the form of test cases by their summaries and their histories
-abbrev pub form_of : ReportForm → List Summary → List Block → List ℕ
-form_of Forms.Csv ss bs = csv_of ss
-form_of Forms.Junit ss bs = junit_of VERSION.now ss
-form_of Forms.Chart ss bs = chart_of ss bs
+-- the form of test cases by their summaries
+abbrev pub form_of : ReportForm → List Summary → List ℕ
+form_of Forms.Csv ss = csv_of ss
+form_of Forms.Junit ss = junit_of VERSION.now ss
 
 -- the form of these histories
 abbrev pub report_of : ReportForm → List Block → List ℕ
-report_of form bs = form_of form (map block_summary bs) bs
+report_of form bs = form_of form (map block_summary bs)
 
 -- `check` finds each of these histories legal
 abbrev pub AreAllLegal : List Block → Type 0

@@ -2,9 +2,8 @@
 ghost use Rattle.std.specs.Prelude.{◌≡◌, List, IfOk, IfErr, OnOk};
 ghost use Rattle.tc_history.specs.Text.{AreHistories, IsMadeOf};
 ghost use Rattle.tc_history.specs.declared.read.Block.{Block as AnyBlock};
-ghost use Rattle.tc_chart.specs.Chart.{chart_of};
 ghost use Rattle.tc_program.specs.Check.{RefusesHistory};
-ghost use Rattle.tc_program.specs.Inside.{HasOneEach, IsPlayed, Summarizes};
+ghost use Rattle.tc_program.specs.Inside.{IsPlayed, Summarizes};
 ghost use Rattle.tc_program.specs.Report.{IsReported, form_of, illegal_line};
 
 use crate::check_lines::append_judgement;
@@ -13,11 +12,10 @@ use crate::judge::{Judgement, Playing, is_legal};
 use crate::outcome::REFUSED;
 use crate::reply::Answer;
 use std::alloc::Global;
-use tc_chart::chart_report;
 use tc_command::{ReportForm, VERSION};
 use tc_entry::Sequence;
 use tc_forms::{Summary, csv_report, junit_report, worst_status};
-use tc_history::{Header, TakesHistories, read_history, read_history_into};
+use tc_history::{Header, TakesHistories, read_history_into};
 use tc_table::{Entry, NoMemory, Verdict};
 use tc_text::append_text;
 
@@ -84,30 +82,12 @@ fn read_reported(alloc: Global, text: &[u8]) -> Result<Reporting, RunFault>
     Ok(reporting)
 }
 
-// The chart of the histories that the text spells, whose test cases these are; else NoMemory.
-fn chart_text(alloc: Global, text: &[u8], cases: &[Summary]) -> Result<Vec<u8>, NoMemory>
-    requires { HasOneEach text.now cases.now }
-    ensures { (blocks : List AnyBlock) → AreHistories text.now blocks → IfOk result (λ v. v.items ≡ chart_of cases.now blocks) }
-{
-    match read_history(alloc, text) {
-        Ok(blocks) => chart_report(alloc, cases, blocks.as_slice()),
-        Err(_) => Err(NoMemory),
-    }
-}
-
-// The form of the histories that the text spells, whose test cases these are.
-fn form_text(
-    alloc: Global,
-    form: ReportForm,
-    text: &[u8],
-    cases: &[Summary],
-) -> Result<Vec<u8>, NoMemory>
-    requires { HasOneEach text.now cases.now }
-    ensures { (blocks : List AnyBlock) → AreHistories text.now blocks → IfOk result (λ v. v.items ≡ form_of form cases.now blocks) }
+// The form of these test cases.
+fn form_text(alloc: Global, form: ReportForm, cases: &[Summary]) -> Result<Vec<u8>, NoMemory>
+    ensures { IfOk result (λ v. v.items ≡ form_of form cases.now) }
 {
     match form {
         ReportForm::Csv => csv_report(alloc, cases),
-        ReportForm::Chart => chart_text(alloc, text, cases),
         ReportForm::Junit => junit_report(alloc, VERSION, cases),
     }
 }
@@ -135,7 +115,7 @@ pub(crate) fn report_text(alloc: Global, form: ReportForm, text: &[u8]) -> Resul
     } = read_reported(alloc, text)?;
     match illegal {
         None => Ok(Answer {
-            out: Sequence::new(form_text(alloc, form, text, summaries.as_slice())?),
+            out: Sequence::new(form_text(alloc, form, summaries.as_slice())?),
             told: Sequence::new(Vec::new(alloc)),
             status: worst_status(summaries.as_slice()),
         }),
