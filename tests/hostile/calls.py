@@ -23,7 +23,7 @@ FLOORS = {
     "readers": (5, 60),
     "writers": (43, 70),
     "writers of a part": (3, 7),
-    "forms and summaries": (11, 60),
+    "forms and summaries": (12, 60),
     "live writers": (9, 20),
     "searches": (4, 300),
     "boards": (3, 9),

@@ -10,12 +10,15 @@ use tc_forms::{
     write_junit,
 };
 use tc_history::Block;
+use tc_page::html_page;
 use tc_report::{
     Finished, OutFault, Results, csv_header, csv_row, write_csv, write_history, write_text,
 };
 use tc_table::CaseState;
 
 const VERSION: &str = "1";
+
+const HISTORY: &[u8] = b"history 2 t 1\n0 setverdict pass -> ok\n0 finish -> ok\nend pass\n";
 
 /// Plays these entries on a state, up to one that is refused. Whether none was.
 fn play_all(state: &mut CaseState, entries: &[Entry]) -> bool {
@@ -65,7 +68,8 @@ fn text(alloc: Global, place: usize, cases: &[Summary]) -> Result<Vec<u8>, NoMem
     match place {
         0 => csv_report(alloc, cases),
         1 => junit_report(alloc, VERSION, cases),
-        2 => csv_header(alloc),
+        2 => html_page(alloc, HISTORY),
+        3 => csv_header(alloc),
         _ => row(alloc, cases),
     }
 }
@@ -210,9 +214,9 @@ fn make_of_case(alloc: Global, refusal: &mut Refusal) -> Option<Outcome> {
 /// Each of the forms of histories and of results, the summaries of a state, of results and of a test case.
 pub(crate) fn make(alloc: Global, place: usize, refusal: &mut Refusal) -> Option<Outcome> {
     match place {
-        0..=4 => make_of_blocks(alloc, place, refusal),
-        5..=9 => make_of_results(alloc, place - 5, refusal),
-        10 => make_of_case(alloc, refusal),
+        0..=5 => make_of_blocks(alloc, place, refusal),
+        6..=10 => make_of_results(alloc, place - 6, refusal),
+        11 => make_of_case(alloc, refusal),
         _ => None,
     }
 }

@@ -112,9 +112,10 @@ const EXPLORE_OPTIONS: [OptionRow; 3] = [
     ),
 ];
 
-const REPORT_OPTIONS: [OptionRow; 3] = [
+const REPORT_OPTIONS: [OptionRow; 4] = [
     OptionRow("csv", Takes::Nothing, "writes a table as CSV"),
     OptionRow("junit", Takes::Nothing, "writes a JUnit suite"),
+    OptionRow("html", Takes::Nothing, "writes a page for a browser"),
     EXPLAIN,
 ];
 

@@ -23,6 +23,8 @@ pub enum ReportForm {
     Csv,
     /// A test suite of JUnit's XML.
     Junit,
+    /// A page of HTML that holds them.
+    Html,
 }
 
 /// Which test cases of a script are chosen.

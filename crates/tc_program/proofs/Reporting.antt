@@ -99,15 +99,15 @@ pub made_none : (ss lent : List Summary) (o : Option Judgement) (blocks : List B
 made_none ss lent o blocks none same made = subst (λ l. Summarizes blocks l None) (sym same) (subst (Summarizes blocks ss) none made)
 
 -- what is made of a text, none of whose histories is illegal
-pub legal_report : (form : ReportForm) (blocks : List Block) (ss lent : List Summary) (o : Option Judgement) (a : Answer) → o ≡ None → lent ≡ ss → Summarizes blocks ss o
-    → a.out ≡ form_of form lent → a.told ≡ [] → a.status ≡ status_of_summaries lent → IsReport form blocks a
-legal_report form blocks ss lent o a none same made out told status =
+pub legal_report : (form : ReportForm) (text : List ℕ) (blocks : List Block) (ss lent : List Summary) (o : Option Judgement) (a : Answer) → o ≡ None → lent ≡ ss → Summarizes blocks ss o
+    → a.out ≡ form_of form text lent → a.told ≡ [] → a.status ≡ status_of_summaries lent → IsReport form text blocks a
+legal_report form text blocks ss lent o a none same made out told status =
     let two = all_legal blocks lent (made_none ss lent o blocks none same made) in
-    let out_is : a.out ≡ form_of form (map block_summary blocks) = out ∙ ap (form_of form) two.1 in
+    let out_is : a.out ≡ form_of form text (map block_summary blocks) = out ∙ ap (form_of form text) two.1 in
     let status_is : a.status ≡ status_of_summaries (map block_summary blocks) = status ∙ ap status_of_summaries two.1 in record {
       legal = two.0;
-      answer_is = ap (λ x. answer_of x a.told a.status) out_is ∙ ap (λ x. answer_of (report_of form blocks) x a.status) told
-          ∙ ap (λ x. answer_of (report_of form blocks) [] x) status_is;
+      answer_is = ap (λ x. answer_of x a.told a.status) out_is ∙ ap (λ x. answer_of (report_of form text blocks) x a.status) told
+          ∙ ap (λ x. answer_of (report_of form text blocks) [] x) status_is;
     }
 
 -- what is made of a text, one of whose histories is illegal
@@ -130,10 +130,10 @@ summaries_written line (f ∷ fs) all =
     rw (first, rest) refl
 
 -- the report of what a run wrote
-pub written_reported : (form : ReportForm) (r : Results) (a : Answer) → WereRun r → IsReport form (blocks_of 1 r.finished) a → a ≡ report_of_run form r
+pub written_reported : (form : ReportForm) (r : Results) (a : Answer) → WereRun r → IsReport form (histories_text r) (blocks_of 1 r.finished) a → a ≡ report_of_run form r
 written_reported form r a ran is =
     let same = summaries_written 1 r.finished ran.each in
-    is.answer_is ∙ ap (λ ss. answer_of (form_of form ss) [] (status_of_summaries ss)) same
+    is.answer_is ∙ ap (λ ss. answer_of (form_of form (histories_text r) ss) [] (status_of_summaries ss)) same
 
 -- none of it is illegal
 pub none_illegal : (r : Results) (a : Answer) → WereRun r → IsIllegal (blocks_of 1 r.finished) a → ⊥
@@ -148,7 +148,7 @@ checked_so r a ran is told =
     let status_is : a.status ≡ 0 = is.status_is ∙ ap (λ t. if t then 0 else 3) two.1 in
     ap (λ x. answer_of x a.told a.status) two.0 ∙ ap (λ x. answer_of (legal_cases r) x a.status) told ∙ ap (λ x. answer_of (legal_cases r) [] x) status_is
 
-reported_so : (form : ReportForm) (r : Results) (a : Answer) → WereRun r → IsReport form (blocks_of 1 r.finished) a ⊎ IsIllegal (blocks_of 1 r.finished) a → a ≡ report_of_run form r
+reported_so : (form : ReportForm) (r : Results) (a : Answer) → WereRun r → IsReport form (histories_text r) (blocks_of 1 r.finished) a ⊎ IsIllegal (blocks_of 1 r.finished) a → a ≡ report_of_run form r
 reported_so form r a ran (inl is) = written_reported form r a ran is
 reported_so form r a ran (inr ill) = absurd (none_illegal r a ran ill)
 

@@ -54,12 +54,12 @@ abbrev pub found_legal : Results → Answer
 found_legal r = record { out = legal_cases r; told = []; status = 0 }
 
 -- the form of test cases that were run
-abbrev pub run_report : ReportForm → List Finished → List ℕ
-run_report form fs = form_of form (map case_summary fs)
+abbrev pub run_report : ReportForm → Results → List ℕ
+run_report form r = form_of form (histories_text r) (map case_summary r.finished)
 
 -- what `report` answers for the histories of the results: their form, and their status
 abbrev pub report_of_run : ReportForm → Results → Answer
-report_of_run form r = record { out = run_report form r.finished; told = []; status = status_of_summaries (map case_summary r.finished) }
+report_of_run form r = record { out = run_report form r; told = []; status = status_of_summaries (map case_summary r.finished) }
 
 -- the histories of the results are checked and reported so, whatever is asked for besides, and refused for want of memory alone
 pub record AreFoundLegal (r : Results) : Type 0 where

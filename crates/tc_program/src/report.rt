@@ -16,6 +16,7 @@ use tc_command::{ReportForm, VERSION};
 use tc_entry::Sequence;
 use tc_forms::{Summary, csv_report, junit_report, worst_status};
 use tc_history::{Header, TakesHistories, read_history_into};
+use tc_page::html_page;
 use tc_table::{Entry, NoMemory, Verdict};
 use tc_text::append_text;
 
@@ -82,13 +83,19 @@ fn read_reported(alloc: Global, text: &[u8]) -> Result<Reporting, RunFault>
     Ok(reporting)
 }
 
-// The form of these test cases.
-fn form_text(alloc: Global, form: ReportForm, cases: &[Summary]) -> Result<Vec<u8>, NoMemory>
-    ensures { IfOk result (λ v. v.items ≡ form_of form cases.now) }
+// The form of the histories that the text spells, whose test cases these are.
+fn form_text(
+    alloc: Global,
+    form: ReportForm,
+    text: &[u8],
+    cases: &[Summary],
+) -> Result<Vec<u8>, NoMemory>
+    ensures { IfOk result (λ v. v.items ≡ form_of form text.now cases.now) }
 {
     match form {
         ReportForm::Csv => csv_report(alloc, cases),
         ReportForm::Junit => junit_report(alloc, VERSION, cases),
+        ReportForm::Html => html_page(alloc, text),
     }
 }
 
@@ -115,7 +122,7 @@ pub(crate) fn report_text(alloc: Global, form: ReportForm, text: &[u8]) -> Resul
     } = read_reported(alloc, text)?;
     match illegal {
         None => Ok(Answer {
-            out: Sequence::new(form_text(alloc, form, summaries.as_slice())?),
+            out: Sequence::new(form_text(alloc, form, text, summaries.as_slice())?),
             told: Sequence::new(Vec::new(alloc)),
             status: worst_status(summaries.as_slice()),
         }),
