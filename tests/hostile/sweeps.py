@@ -52,7 +52,7 @@ def tasks() -> List[Task]:
     found.append(Task("a_refused_history", ("check", "--explain"), text("history 1 t 1;0 finish")))
     found += [Task(name, ("check",), bytes_of(f"{name}.history")) for name in ("pumps", "restart", "supervisor")]
     found.append(Task("an_illegal_history", ("check",), text("history 1 t 1;end pass")))
-    reported = [(name, form) for name in ("pumps", "supervisor") for form in ("--csv", "--junit", "--chart")]
+    reported = [(name, form) for name in ("pumps", "supervisor") for form in ("--csv", "--junit", "--html")]
     found += [Task(name, ("report", form), bytes_of(f"{name}.history")) for name, form in reported]
     words = (("--help",), ("run", "--help"), ("frobnicate",), ("run", "--stop-on", "maybe"))
     return found + [Task("words_alone", it) for it in words]

@@ -1,5 +1,5 @@
-"""Every file of examples/: scripts with their reports, tables, histories and what is told of their test cases, charts of
-histories, and lists of moves with their replies."""
+"""Every file of examples/: scripts with their reports, tables, histories and what is told of their test cases, and lists of
+moves with their replies."""
 from __future__ import annotations
 
 import os
@@ -99,7 +99,7 @@ def faults_of_folder(names: List[str]) -> List[str]:
     for name in names:
         stem, _, suffix = name.partition(".")
         suffix = suffix.rpartition(".")[2]
-        given = {"report": "script", "csv": "script", "junit": "script", "history": "script", "progress": "script", "chart": "history", "replies": "moves"}.get(suffix)
+        given = {"report": "script", "csv": "script", "junit": "script", "history": "script", "progress": "script", "replies": "moves"}.get(suffix)
         if given is not None and f"{stem}.{given}" not in names or given is None and suffix not in ("script", "moves"):
             faults.append(f"{name} is no output of an example")
         lacking = {"script": [f"{stem}.report", f"{stem}.csv", f"{stem}.history"], "moves": [f"{stem}.replies"]}.get(suffix, [])
@@ -125,9 +125,6 @@ def tests_of(name: str) -> Iterator[Union[Case, Judgement]]:
         yield stands_as_history(stem)
     elif suffix == "junit":
         yield junit_of_example(name)
-    elif suffix == "chart":
-        given = bytes_of(f"{stem}.history")
-        yield Case(f"example_{name}", ("report", "--chart"), given, text, status=status_in("history", given))
     elif suffix == "progress":
         table = bytes_of(f"{stem}.csv")
         words = ("run", "--progress", "--csv")

@@ -1,4 +1,4 @@
-"""Forms made of histories, held to a making of our own, to Python's reader of XML and to mscgen."""
+"""Forms made of histories, held to a making of our own and to Python's readers of XML and HTML."""
 from __future__ import annotations
 
 import os
@@ -7,8 +7,8 @@ import re
 import xml.etree.ElementTree as ElementTree
 from typing import Callable, Dict, Iterator, List, Optional, Tuple, Union
 
-import charts
 import examples
+import pages
 from case import Case, Ran, difference, run
 from judged import Judgement
 from rows import text
@@ -16,7 +16,7 @@ from table import VERDICTS, Op, Table
 from texts import Block, Entry, check, read_history, status_of
 
 # The forms that histories have.
-FORMS = ("csv", "junit", "chart")
+FORMS = ("csv", "junit", "html")
 # How many histories of random calls are reported, and the fewest of each kind that are to be among them.
 RANDOM_BLOCKS = 1000
 FLOORS: Dict[str, int] = {"none": 100, "pass": 20, "inconc": 20, "fail": 20, "error": 80, "unfinished": 100, "two components": 200}
@@ -141,9 +141,9 @@ def faults_of_report(program: str, form: str, text: bytes) -> List[str]:
     if form == "csv":
         wanted = csv_of(told)
         faults = []
-    elif form == "chart":
-        wanted = charts.chart_of(read_history(text)[0])
-        faults = charts.faults_of_chart(ran.output)
+    elif form == "html":
+        wanted = pages.page_of(text)
+        faults = pages.faults_of_page(ran.output, text)
     else:
         wanted = junit_of(told, version_in(ran.output))
         faults = faults_of_junit(ran.output) + ([] if version_in(ran.output) else ["it tells no version"])

@@ -32,7 +32,7 @@ EXPLORE = ("looks for every overall verdict that a schedule of a test case can g
            "  --states <N>  looks at so many states of a test case at most\n")
 REPORT = ("reads histories, and writes them in one of these forms\n",
           "  --csv      writes a table as CSV\n", "  --junit    writes a JUnit suite\n",
-          "  --chart    writes a message sequence chart\n", "  --explain  " + EXPLAIN)
+          "  --html     writes a page for a browser\n", "  --explain  " + EXPLAIN)
 CHECK = ("replays histories, and says which are legal\n", "  --explain  " + EXPLAIN)
 REPLAY = ("replays a list of moves, and prints each reply and the overall verdict\n", "  --explain  " + EXPLAIN)
 
@@ -57,22 +57,21 @@ run --shard => a value is required for '--shard <K/N>' but none was supplied
 run --stop-on => a value is required for '--stop-on <VERDICT>' but none was supplied
 run --stop-on --csv => a value is required for '--stop-on <VERDICT>' but none was supplied
 run --stop-on --live => a value is required for '--stop-on <VERDICT>' but none was supplied
-report => one of the arguments '--csv', '--junit' and '--chart' is needed
-report -- => one of the arguments '--csv', '--junit' and '--chart' is needed
-report --explain => one of the arguments '--csv', '--junit' and '--chart' is needed
+report => one of the arguments '--csv', '--junit' and '--html' is needed
+report -- => one of the arguments '--csv', '--junit' and '--html' is needed
+report --explain => one of the arguments '--csv', '--junit' and '--html' is needed
 check --explain --explain => the argument '--explain' cannot be used multiple times
 explore --details --details => the argument '--details' cannot be used multiple times
 explore --details --history => the argument '--history' cannot be used with '--details'
 explore --history --history => the argument '--history' cannot be used multiple times
 explore --history --states=1 --details => the argument '--history' cannot be used with '--details'
 explore --states 1 --states 1 => the argument '--states <N>' cannot be used multiple times
-report --chart --chart => the argument '--chart' cannot be used multiple times
-report --chart --csv => the argument '--csv' cannot be used with '--chart'
-report --chart --junit => the argument '--junit' cannot be used with '--chart'
 report --csv --csv => the argument '--csv' cannot be used multiple times
 report --csv --junit => the argument '--csv' cannot be used with '--junit'
 report --explain --csv --junit => the argument '--csv' cannot be used with '--junit'
-report --junit --chart => the argument '--junit' cannot be used with '--chart'
+report --html --csv => the argument '--csv' cannot be used with '--html'
+report --html --html => the argument '--html' cannot be used multiple times
+report --html --junit => the argument '--junit' cannot be used with '--html'
 report --junit --csv => the argument '--csv' cannot be used with '--junit'
 report --junit --junit => the argument '--junit' cannot be used multiple times
 run --csv --csv => the argument '--csv' cannot be used multiple times
@@ -120,6 +119,7 @@ run --stop-on pass --stop-on pass => the argument '--stop-on <VERDICT>' cannot b
 --stop-on fail => unexpected argument '--stop-on' found
 -x => unexpected argument '-x' found
 check --csv => unexpected argument '--csv' found
+check --html => unexpected argument '--html' found
 check --junit => unexpected argument '--junit' found
 check --live => unexpected argument '--live' found
 check --only a => unexpected argument '--only' found
@@ -142,10 +142,12 @@ run  => unexpected argument '' found
 run - => unexpected argument '-' found
 run -- --csv => unexpected argument '--csv' found
 run -- --live => unexpected argument '--live' found
+report --chart => unexpected argument '--chart' found
 run --chart => unexpected argument '--chart' found
 run --cs => unexpected argument '--cs' found
 run --csv check => unexpected argument 'check' found
 run --details => unexpected argument '--details' found
+run --html => unexpected argument '--html' found
 run --liv => unexpected argument '--liv' found
 run --live more => unexpected argument 'more' found
 run --only a b => unexpected argument 'b' found

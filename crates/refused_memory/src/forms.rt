@@ -4,19 +4,21 @@ use crate::outcome::{Outcome, refused_if, right_if};
 use crate::refusal::Refusal;
 use crate::results::{blocks, finished, results};
 use std::alloc::Global;
-use tc_chart::chart_report;
 use tc_entry::{Entry, NoMemory};
 use tc_forms::{
     Summary, csv_report, junit_report, summaries_of_results, summary_of_case, summary_of_state,
     write_junit,
 };
 use tc_history::Block;
+use tc_page::html_page;
 use tc_report::{
     Finished, OutFault, Results, csv_header, csv_row, write_csv, write_history, write_text,
 };
 use tc_table::CaseState;
 
 const VERSION: &str = "1";
+
+const HISTORY: &[u8] = b"history 2 t 1\n0 setverdict pass -> ok\n0 finish -> ok\nend pass\n";
 
 /// Plays these entries on a state, up to one that is refused. Whether none was.
 fn play_all(state: &mut CaseState, entries: &[Entry]) -> bool {
@@ -53,14 +55,6 @@ fn add_summaries(alloc: Global, blocks: &[Block], cases: &mut Vec<Summary>) -> b
     true
 }
 
-/// The chart of histories, of which there are to be as many as summaries.
-fn chart(alloc: Global, cases: &[Summary], blocks: &[Block]) -> Result<Vec<u8>, NoMemory> {
-    if cases.len() != blocks.len() {
-        return Err(NoMemory);
-    }
-    chart_report(alloc, cases, blocks)
-}
-
 /// The row of the first test case in the CSV report.
 fn row(alloc: Global, cases: &[Summary]) -> Result<Vec<u8>, NoMemory> {
     match cases.first() {
@@ -70,37 +64,22 @@ fn row(alloc: Global, cases: &[Summary]) -> Result<Vec<u8>, NoMemory> {
 }
 
 /// The text of the form of histories in this place.
-fn text(
-    alloc: Global,
-    place: usize,
-    blocks: &[Block],
-    cases: &[Summary],
-) -> Result<Vec<u8>, NoMemory> {
+fn text(alloc: Global, place: usize, cases: &[Summary]) -> Result<Vec<u8>, NoMemory> {
     match place {
         0 => csv_report(alloc, cases),
         1 => junit_report(alloc, VERSION, cases),
-        2 => chart(alloc, cases, blocks),
+        2 => html_page(alloc, HISTORY),
         3 => csv_header(alloc),
         _ => row(alloc, cases),
     }
 }
 
 /// The form of these histories in this place.
-fn make_text(
-    alloc: Global,
-    place: usize,
-    blocks: &[Block],
-    cases: &[Summary],
-    refusal: &mut Refusal,
-) -> Outcome {
+fn make_text(alloc: Global, place: usize, cases: &[Summary], refusal: &mut Refusal) -> Outcome {
     refusal.begin();
-    let answer = text(alloc, place, blocks, cases);
+    let answer = text(alloc, place, cases);
     refusal.end();
-    judged(
-        answer,
-        text(alloc, place, blocks, cases),
-        "a form is another",
-    )
+    judged(answer, text(alloc, place, cases), "a form is another")
 }
 
 /// The form of these histories in this place, of which summaries are made.
@@ -112,7 +91,7 @@ fn make_texts(
 ) -> Option<Outcome> {
     let mut cases = Vec::new(alloc);
     let are_added = add_summaries(alloc, blocks, &mut cases);
-    let outcome = make_text(alloc, place, blocks, cases.as_slice(), refusal);
+    let outcome = make_text(alloc, place, cases.as_slice(), refusal);
     if are_added { Some(outcome) } else { None }
 }
 

@@ -59,7 +59,7 @@ apart S.Run =
     ∷ (codes "list", codes "csv") ∷ (codes "list", codes "history") ∷ (codes "list", codes "junit") ∷ (codes "list", codes "live")
     ∷ (codes "list", codes "progress") ∷ (codes "list", codes "stop-on") ∷ (codes "list", codes "explain") ∷ (codes "junit", codes "live") ∷ []
 apart S.Explore = (codes "history", codes "details") ∷ []
-apart S.Report = (codes "csv", codes "junit") ∷ (codes "csv", codes "chart") ∷ (codes "junit", codes "chart") ∷ []
+apart S.Report = (codes "csv", codes "junit") ∷ (codes "csv", codes "html") ∷ (codes "junit", codes "html") ∷ []
 apart subcommand = []
 
 -- both options of a pair are given
@@ -78,7 +78,7 @@ abbrev pub report_form_of : List Row → Option ReportForm
 report_form_of rows =
     if is_given rows (codes "csv") then Some report_form.Csv
     else (if is_given rows (codes "junit") then Some report_form.Junit
-    else (if is_given rows (codes "chart") then Some report_form.Chart else None))
+    else (if is_given rows (codes "html") then Some report_form.Html else None))
 
 -- a form is needed, and none is given
 abbrev pub lacks_form : Subcommand → List Row → Bool

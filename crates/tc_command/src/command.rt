@@ -115,7 +115,7 @@ const EXPLORE_OPTIONS: [OptionRow; 3] = [
 const REPORT_OPTIONS: [OptionRow; 4] = [
     OptionRow("csv", Takes::Nothing, "writes a table as CSV"),
     OptionRow("junit", Takes::Nothing, "writes a JUnit suite"),
-    OptionRow("chart", Takes::Nothing, "writes a message sequence chart"),
+    OptionRow("html", Takes::Nothing, "writes a page for a browser"),
     EXPLAIN,
 ];
 

@@ -60,7 +60,7 @@ fn apart(subcommand: Subcommand) -> &'static [(&'static str, &'static str)]
             ("junit", "live"),
         ],
         Subcommand::Explore => &[("history", "details")],
-        Subcommand::Report => &[("csv", "junit"), ("csv", "chart"), ("junit", "chart")],
+        Subcommand::Report => &[("csv", "junit"), ("csv", "html"), ("junit", "html")],
         Subcommand::Check | Subcommand::Replay => &[],
     }
 }
@@ -120,8 +120,8 @@ fn report_form(options: &ArgMatches<'_>) -> Option<ReportForm>
         Some(ReportForm::Csv)
     } else if has_option(options, "junit") {
         Some(ReportForm::Junit)
-    } else if has_option(options, "chart") {
-        Some(ReportForm::Chart)
+    } else if has_option(options, "html") {
+        Some(ReportForm::Html)
     } else {
         None
     }

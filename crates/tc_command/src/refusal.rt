@@ -83,7 +83,7 @@ pub(crate) fn told_of(
         }
         Refusal::NoForm => Ok(Refused::Line(command.error(
             ErrorKind::MissingRequiredArgument,
-            "one of the arguments '--csv', '--junit' and '--chart' is needed",
+            "one of the arguments '--csv', '--junit' and '--html' is needed",
         )?)),
         Refusal::Word(fault) => Ok(Refused::Word(fault)),
         Refusal::NoMemory => Err(AllocError),

@@ -23,8 +23,8 @@ pub enum ReportForm {
     Csv,
     /// A test suite of JUnit's XML.
     Junit,
-    /// A message sequence chart.
-    Chart,
+    /// A page of HTML that holds them.
+    Html,
 }
 
 /// Which test cases of a script are chosen.

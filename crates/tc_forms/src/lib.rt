@@ -9,5 +9,5 @@ mod summary;
 
 pub use csv::csv_report;
 pub use junit::{junit_report, write_junit};
-pub use status::{counted_as, worst_status};
+pub use status::worst_status;
 pub use summary::{Summary, summaries_of_results, summary_of_case, summary_of_state};

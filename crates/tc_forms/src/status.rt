@@ -8,8 +8,8 @@ use tc_entry::Verdict;
 use tc_report::{CaseEnd, verdict_status};
 use tc_verdict::worse_of;
 
-/// The verdict that an end counts as: error for a test case that is not over, or has no report.
-pub fn counted_as(ending: CaseEnd) -> Verdict
+// The verdict that an end counts as: error for a test case that is not over, or has no report.
+fn counted_as(ending: CaseEnd) -> Verdict
     ensures { result ≡ spec_counted ending }
 {
     match ending {

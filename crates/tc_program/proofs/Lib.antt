@@ -8,4 +8,5 @@ pub mod Checking
 pub mod Exploring
 pub mod WrittenHistories
 pub mod Reporting
+pub mod Inert
 pub mod Explaining

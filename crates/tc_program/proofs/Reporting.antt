@@ -1,7 +1,7 @@
 -- The test cases of histories, one history after the other.
 use Rattle.std.proofs.Common.{ℕ, ◌≡◌, ◌∙◌, ◌+◌, ◌⊎◌, All, true, false, if◌then◌else◌, inl, inr, Option, Some, None, List, [], ◌∷◌, ◌++◌, length, map, reverse, refl, ap, sym, subst}
 use Rattle.std.specs.Prelude.{is_some}
-use Rattle.std.proofs.lemmas.List.{length-map, map-append}
+use Rattle.std.proofs.lemmas.List.{map-append}
 use Rattle.std.proofs.lemmas.List.Elements.{All-head, All-tail}
 use Rattle.tc_entry.specs.declared.entry.Entry.{Entry}
 use Rattle.tc_table.specs.Standing.{StandsFor}
@@ -19,16 +19,16 @@ use Rattle.tc_program.specs.declared.judge.Judgement.{Judgement}
 use Rattle.tc_program.specs.declared.judge.Judgement.TheVariants as J
 use Rattle.tc_program.specs.declared.judge.Playing.{Playing}
 use Rattle.tc_program.specs.Check.{IsChecked, IsJudgement, RefusesHistory, judges_legal, judgement_line}
-use Rattle.tc_program.specs.Inside.{IsPlayed, IsPlayedTo, HasOneEach, Summarizes}
+use Rattle.tc_program.specs.Inside.{IsPlayed, IsPlayedTo, Summarizes}
 use Rattle.tc_program.specs.declared.fault.RunFault.{RunFault}
 use Rattle.tc_program.specs.declared.fault.RunFault.TheVariants as F
 use Rattle.tc_command.specs.declared.task.ReportForm.{ReportForm}
 use Rattle.tc_program.specs.Report.{AreAllLegal, IsFoundIllegal, IsIllegal, IsReport, form_of, illegal_line, report_of}
 use Rattle.tc_program.specs.declared.reply.Answer.{Answer}
-use Rattle.tc_program.specs.WrittenHistories.{AreFoundLegal, WasRun, WereRun, block_of, blocks_of, found_legal, legal_cases, report_of_run}
+use Rattle.tc_program.specs.WrittenHistories.{AreFoundLegal, WasRun, WereRun, found_legal, legal_cases, report_of_run}
 use Rattle.tc_program.proofs.Doing.{answer_of}
 use Rattle.tc_program.proofs.Checking.{passed_more, printed_more, whole}
-use Rattle.tc_program.proofs.WrittenHistories.{IsRight, are_right, histories_of, no_difference, only_legal, said_of_written}
+use Rattle.tc_program.proofs.WrittenHistories.{IsRight, are_right, block_of, blocks_of, histories_of, no_difference, only_legal, said_of_written}
 
 -- a history that is judged legal is right
 right_of_legal : (b : Block) (j : Judgement) → judges_legal j ≡ true → IsJudgement b j → IsRight b
@@ -98,22 +98,16 @@ found_illegal blocks ss j made = record {
 pub made_none : (ss lent : List Summary) (o : Option Judgement) (blocks : List Block) → o ≡ None → lent ≡ ss → Summarizes blocks ss o → Summarizes blocks lent None
 made_none ss lent o blocks none same made = subst (λ l. Summarizes blocks l None) (sym same) (subst (Summarizes blocks ss) none made)
 
--- the text has as many histories as test cases are made of them
-pub one_each : (text : List ℕ) (ss lent : List Summary) (o : Option Judgement) → o ≡ None → lent ≡ ss
-    → ((blocks : List Block) → AreHistories text blocks → Summarizes blocks ss o) → HasOneEach text lent
-one_each text ss lent o none same made blocks histories =
-    ap length (all_legal blocks lent (made_none ss lent o blocks none same (made blocks histories))).1 ∙ length-map blocks block_summary
-
 -- what is made of a text, none of whose histories is illegal
-pub legal_report : (form : ReportForm) (blocks : List Block) (ss lent : List Summary) (o : Option Judgement) (a : Answer) → o ≡ None → lent ≡ ss → Summarizes blocks ss o
-    → a.out ≡ form_of form lent blocks → a.told ≡ [] → a.status ≡ status_of_summaries lent → IsReport form blocks a
-legal_report form blocks ss lent o a none same made out told status =
+pub legal_report : (form : ReportForm) (text : List ℕ) (blocks : List Block) (ss lent : List Summary) (o : Option Judgement) (a : Answer) → o ≡ None → lent ≡ ss → Summarizes blocks ss o
+    → a.out ≡ form_of form text lent → a.told ≡ [] → a.status ≡ status_of_summaries lent → IsReport form text blocks a
+legal_report form text blocks ss lent o a none same made out told status =
     let two = all_legal blocks lent (made_none ss lent o blocks none same made) in
-    let out_is : a.out ≡ form_of form (map block_summary blocks) blocks = out ∙ ap (λ l. form_of form l blocks) two.1 in
+    let out_is : a.out ≡ form_of form text (map block_summary blocks) = out ∙ ap (form_of form text) two.1 in
     let status_is : a.status ≡ status_of_summaries (map block_summary blocks) = status ∙ ap status_of_summaries two.1 in record {
       legal = two.0;
-      answer_is = ap (λ x. answer_of x a.told a.status) out_is ∙ ap (λ x. answer_of (report_of form blocks) x a.status) told
-          ∙ ap (λ x. answer_of (report_of form blocks) [] x) status_is;
+      answer_is = ap (λ x. answer_of x a.told a.status) out_is ∙ ap (λ x. answer_of (report_of form text blocks) x a.status) told
+          ∙ ap (λ x. answer_of (report_of form text blocks) [] x) status_is;
     }
 
 -- what is made of a text, one of whose histories is illegal
@@ -136,10 +130,10 @@ summaries_written line (f ∷ fs) all =
     rw (first, rest) refl
 
 -- the report of what a run wrote
-pub written_reported : (form : ReportForm) (r : Results) (a : Answer) → WereRun r → IsReport form (blocks_of 1 r.finished) a → a ≡ report_of_run form r
+pub written_reported : (form : ReportForm) (r : Results) (a : Answer) → WereRun r → IsReport form (histories_text r) (blocks_of 1 r.finished) a → a ≡ report_of_run form r
 written_reported form r a ran is =
     let same = summaries_written 1 r.finished ran.each in
-    is.answer_is ∙ ap (λ ss. answer_of (form_of form ss (blocks_of 1 r.finished)) [] (status_of_summaries ss)) same
+    is.answer_is ∙ ap (λ ss. answer_of (form_of form (histories_text r) ss) [] (status_of_summaries ss)) same
 
 -- none of it is illegal
 pub none_illegal : (r : Results) (a : Answer) → WereRun r → IsIllegal (blocks_of 1 r.finished) a → ⊥
@@ -154,7 +148,7 @@ checked_so r a ran is told =
     let status_is : a.status ≡ 0 = is.status_is ∙ ap (λ t. if t then 0 else 3) two.1 in
     ap (λ x. answer_of x a.told a.status) two.0 ∙ ap (λ x. answer_of (legal_cases r) x a.status) told ∙ ap (λ x. answer_of (legal_cases r) [] x) status_is
 
-reported_so : (form : ReportForm) (r : Results) (a : Answer) → WereRun r → IsReport form (blocks_of 1 r.finished) a ⊎ IsIllegal (blocks_of 1 r.finished) a → a ≡ report_of_run form r
+reported_so : (form : ReportForm) (r : Results) (a : Answer) → WereRun r → IsReport form (histories_text r) (blocks_of 1 r.finished) a ⊎ IsIllegal (blocks_of 1 r.finished) a → a ≡ report_of_run form r
 reported_so form r a ran (inl is) = written_reported form r a ran is
 reported_so form r a ran (inr ill) = absurd (none_illegal r a ran ill)
 

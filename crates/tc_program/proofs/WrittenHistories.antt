@@ -21,8 +21,17 @@ use Rattle.tc_campaign.specs.Campaign.{IsReported}
 use Rattle.tc_program.specs.declared.judge.Judgement.{Judgement}
 use Rattle.tc_program.specs.declared.judge.Judgement.TheVariants as J
 use Rattle.tc_program.specs.Check.{IsJudgement, Checks, judges_legal, judgement_line, legal_line}
-use Rattle.tc_program.specs.WrittenHistories.{block_of, blocks_of, WasRun, WereRun, legal_case, legal_cases, AreReported}
+use Rattle.tc_program.specs.WrittenHistories.{WasRun, WereRun, legal_case, legal_cases, AreReported}
 use Rattle.tc_program.specs.Inside.{FitsItsTypes}
+
+-- the block of a finished test case
+abbrev pub block_of : ℕ → Finished → Block
+block_of line f = record { format = 2; name = f.name; behaviours = f.report.behaviours; first_line = line; entries = f.report.history; verdict = f.report.verdict }
+
+-- the blocks of finished test cases, the first of which begins in this line
+abbrev pub blocks_of : ℕ → List Finished → List Block
+blocks_of line [] = []
+blocks_of line (f ∷ fs) = block_of line f ∷ blocks_of (line + length (block_lines (block_of line f))) fs
 
 pub blocks_text : (line : ℕ) (fs : List Finished) → text_of_blocks (blocks_of line fs) ≡ flat_map case_history fs
 blocks_text line [] = refl

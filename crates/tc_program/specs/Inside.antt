@@ -14,7 +14,7 @@ use Rattle.tc_table.specs.Standing.{Kept, StandsFor}
 use Rattle.tc_table.specs.Legal.{IsLegal}
 use Rattle.tc_history.specs.declared.header.Header.{Header}
 use Rattle.tc_history.specs.declared.read.Block.{Block}
-use Rattle.tc_history.specs.Text.{AreEntries, AreHistories, header_of}
+use Rattle.tc_history.specs.Text.{AreEntries, header_of}
 use Rattle.tc_report.specs.declared.results.Finished.{Finished}
 use Rattle.tc_campaign.specs.declared.case.Case.{Case}
 use Rattle.tc_program.specs.declared.fault.RunFault.{RunFault}
@@ -107,10 +107,6 @@ Summarizes blocks ss (Some j) = (judges_legal j ≡ false) × ((lines : List ℕ
 -- the line of a test case in a list
 abbrev pub case_line : {B : Type 0} → Case B → List ℕ
 case_line k = k.name ++ (10 ∷ [])
-
--- the text has as many histories as there are test cases
-abbrev pub HasOneEach : List ℕ → List Summary → Type 0
-HasOneEach text ss = (blocks : List Block) → AreHistories text blocks → length ss ≡ length blocks
 
 -- the names that are asked for are refused, where the test cases do not have them
 abbrev pub RefusesNames : Bool → RunFault → Type 0

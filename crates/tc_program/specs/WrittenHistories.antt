@@ -1,10 +1,9 @@
 -- What `check` says of the histories that `run` writes.
-use Rattle.std.specs.Prelude.{ℕ, ◌≡◌, ◌≢◌, Bool, List, [], ◌∷◌, ◌++◌, ◌+◌, All, length, map, take, codes}
+use Rattle.std.specs.Prelude.{ℕ, ◌≡◌, ◌≢◌, Bool, List, [], ◌∷◌, ◌++◌, All, length, map, take, codes}
 use Rattle.std.specs.List.{AllZip, flat_map}
 use Rattle.std.specs.Fmt.{decimal}
 use Rattle.tc_verdict.specs.Verdict.{name_of}
-use Rattle.tc_history.specs.declared.read.Block.{Block}
-use Rattle.tc_history.specs.Text.{IsHeader, AreEntries, block_lines}
+use Rattle.tc_history.specs.Text.{IsHeader, AreEntries}
 use Rattle.tc_case.specs.Report.{IsOneHistory}
 use Rattle.tc_report.specs.declared.results.Finished.{Finished}
 use Rattle.tc_report.specs.declared.results.Results.{Results}
@@ -50,26 +49,17 @@ legal_case f = codes "legal " ++ (f.name ++ (codes " " ++ (decimal (length f.rep
 abbrev pub legal_cases : Results → List ℕ
 legal_cases r = flat_map legal_case r.finished
 
--- the block of a finished test case
-abbrev pub block_of : ℕ → Finished → Block
-block_of line f = record { format = 2; name = f.name; behaviours = f.report.behaviours; first_line = line; entries = f.report.history; verdict = f.report.verdict }
-
--- the blocks of finished test cases, the first of which begins in this line
-abbrev pub blocks_of : ℕ → List Finished → List Block
-blocks_of line [] = []
-blocks_of line (f ∷ fs) = block_of line f ∷ blocks_of (line + length (block_lines (block_of line f))) fs
-
 -- what `check` answers for the histories of the results: each is legal
 abbrev pub found_legal : Results → Answer
 found_legal r = record { out = legal_cases r; told = []; status = 0 }
 
 -- the form of test cases that were run
-abbrev pub run_report : ReportForm → List Finished → List ℕ
-run_report form fs = form_of form (map case_summary fs) (blocks_of 1 fs)
+abbrev pub run_report : ReportForm → Results → List ℕ
+run_report form r = form_of form (histories_text r) (map case_summary r.finished)
 
 -- what `report` answers for the histories of the results: their form, and their status
 abbrev pub report_of_run : ReportForm → Results → Answer
-report_of_run form r = record { out = run_report form r.finished; told = []; status = status_of_summaries (map case_summary r.finished) }
+report_of_run form r = record { out = run_report form r; told = []; status = status_of_summaries (map case_summary r.finished) }
 
 -- the histories of the results are checked and reported so, whatever is asked for besides, and refused for want of memory alone
 pub record AreFoundLegal (r : Results) : Type 0 where

@@ -2,9 +2,8 @@
 ghost use Rattle.std.specs.Prelude.{◌≡◌, List, IfOk, IfErr, OnOk};
 ghost use Rattle.tc_history.specs.Text.{AreHistories, IsMadeOf};
 ghost use Rattle.tc_history.specs.declared.read.Block.{Block as AnyBlock};
-ghost use Rattle.tc_chart.specs.Chart.{chart_of};
 ghost use Rattle.tc_program.specs.Check.{RefusesHistory};
-ghost use Rattle.tc_program.specs.Inside.{HasOneEach, IsPlayed, Summarizes};
+ghost use Rattle.tc_program.specs.Inside.{IsPlayed, Summarizes};
 ghost use Rattle.tc_program.specs.Report.{IsReported, form_of, illegal_line};
 
 use crate::check_lines::append_judgement;
@@ -13,11 +12,11 @@ use crate::judge::{Judgement, Playing, is_legal};
 use crate::outcome::REFUSED;
 use crate::reply::Answer;
 use std::alloc::Global;
-use tc_chart::chart_report;
 use tc_command::{ReportForm, VERSION};
 use tc_entry::Sequence;
 use tc_forms::{Summary, csv_report, junit_report, worst_status};
-use tc_history::{Header, TakesHistories, read_history, read_history_into};
+use tc_history::{Header, TakesHistories, read_history_into};
+use tc_page::html_page;
 use tc_table::{Entry, NoMemory, Verdict};
 use tc_text::append_text;
 
@@ -84,17 +83,6 @@ fn read_reported(alloc: Global, text: &[u8]) -> Result<Reporting, RunFault>
     Ok(reporting)
 }
 
-// The chart of the histories that the text spells, whose test cases these are; else NoMemory.
-fn chart_text(alloc: Global, text: &[u8], cases: &[Summary]) -> Result<Vec<u8>, NoMemory>
-    requires { HasOneEach text.now cases.now }
-    ensures { (blocks : List AnyBlock) → AreHistories text.now blocks → IfOk result (λ v. v.items ≡ chart_of cases.now blocks) }
-{
-    match read_history(alloc, text) {
-        Ok(blocks) => chart_report(alloc, cases, blocks.as_slice()),
-        Err(_) => Err(NoMemory),
-    }
-}
-
 // The form of the histories that the text spells, whose test cases these are.
 fn form_text(
     alloc: Global,
@@ -102,13 +90,12 @@ fn form_text(
     text: &[u8],
     cases: &[Summary],
 ) -> Result<Vec<u8>, NoMemory>
-    requires { HasOneEach text.now cases.now }
-    ensures { (blocks : List AnyBlock) → AreHistories text.now blocks → IfOk result (λ v. v.items ≡ form_of form cases.now blocks) }
+    ensures { IfOk result (λ v. v.items ≡ form_of form text.now cases.now) }
 {
     match form {
         ReportForm::Csv => csv_report(alloc, cases),
-        ReportForm::Chart => chart_text(alloc, text, cases),
         ReportForm::Junit => junit_report(alloc, VERSION, cases),
+        ReportForm::Html => html_page(alloc, text),
     }
 }
 

@@ -50,7 +50,7 @@ ttrun replay --explain => replay --explain
 ttrun report --explain --junit => report --junit --explain
 ttrun report --csv => report --csv
 ttrun report --junit => report --junit
-ttrun report --chart => report --chart
+ttrun report --html => report --html
 ttrun explore => explore --states=100000
 ttrun explore --history => explore --history --states=100000
 ttrun explore --states 7 => explore --states=7
@@ -115,7 +115,7 @@ fn word_of_report(form: ReportForm) -> &'static str {
     match form {
         ReportForm::Csv => "report --csv",
         ReportForm::Junit => "report --junit",
-        ReportForm::Chart => "report --chart",
+        ReportForm::Html => "report --html",
     }
 }
 

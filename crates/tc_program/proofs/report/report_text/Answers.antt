@@ -17,8 +17,8 @@ returns-in-None-clause-done c =
     record {
       blocks = so.blocks;
       histories = so.histories;
-      made = λ all are. inl (legal_report c.args.form all c.in_ok-summaries.field-0.summaries.items c.as_slice.result.now c.in_ok-summaries.field-0.illegal _
-          none same (c.in_ok-summaries.ensures.only all are) (c.new.ensures ∙ c.in_ok-form_text-in-None.ensures all are) (c.new-in-None-2.ensures ∙ c.new-in-None.ensures.items)
+      made = λ all are. inl (legal_report c.args.form c.args.text.now all c.in_ok-summaries.field-0.summaries.items c.as_slice.result.now c.in_ok-summaries.field-0.illegal _
+          none same (c.in_ok-summaries.ensures.only all are) (c.new.ensures ∙ c.in_ok-form_text-in-None.ensures) (c.new-in-None-2.ensures ∙ c.new-in-None.ensures.items)
           (c.worst_status.ensures ∙ ap status_of_summaries both));
     }
 

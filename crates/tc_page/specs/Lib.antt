@@ -1,5 +1,2 @@
 -- The definitions that the contracts of this crate cite.
-pub mod Arcs
-pub mod Entries
-pub mod Chart
-pub mod Inside
+pub mod Page

@@ -1,4 +1,0 @@
--- The lemmas of this crate.
-pub mod Locals
-pub mod Most
-pub mod RunLemmas

@@ -1,0 +1,37 @@
+//! The page of a text.
+ghost use Rattle.std.specs.Prelude.{◌≡◌, ◌++◌, IfOk, OnOk};
+ghost use Rattle.tc_page.specs.Page.{head as spec_head, page_of, tail as spec_tail};
+
+use crate::head::HEAD;
+use crate::tail::TAIL;
+use std::alloc::Global;
+use tc_entry::NoMemory;
+
+// Appends what stands before the text.
+#[tactic(auto, unfolding(crate::specs::Page::head))]
+fn append_head(page: &mut Vec<u8>) -> Result<(), NoMemory>
+    ensures { OnOk result (page.new.items ≡ page.old.items ++ spec_head) }
+{
+    page.extend_from_slice(HEAD)?;
+    Ok(())
+}
+
+// Appends what stands behind the text.
+#[tactic(auto, unfolding(crate::specs::Page::tail))]
+fn append_tail(page: &mut Vec<u8>) -> Result<(), NoMemory>
+    ensures { OnOk result (page.new.items ≡ page.old.items ++ spec_tail) }
+{
+    page.extend_from_slice(TAIL)?;
+    Ok(())
+}
+
+/// The page that holds this text.
+pub fn html_page(alloc: Global, text: &[u8]) -> Result<Vec<u8>, NoMemory>
+    ensures { IfOk result (λ v. v.items ≡ page_of text.now) }
+{
+    let mut page = Vec::new(alloc);
+    append_head(&mut page)?;
+    page.extend_from_slice(text)?;
+    append_tail(&mut page)?;
+    Ok(page)
+}

@@ -1,0 +1,57 @@
+"""Pages of histories, made of the constants of the crate tc_page, and read by Python's reader of HTML."""
+from __future__ import annotations
+
+import os
+import re
+from html.parser import HTMLParser
+from typing import List, Optional, Tuple
+
+TOP = os.path.dirname(os.path.dirname(os.path.dirname(os.path.abspath(__file__))))
+CONSTANT = re.compile(r'pub const \w+: &\[u8\] =\s+b"((?:[^"\\]|\\.)*)";')
+ESCAPES = {"n": "\n"}
+
+
+def part_of(name: str) -> bytes:
+    """One of the two parts between which a page holds the histories."""
+    with open(os.path.join(TOP, "crates", "tc_page", "src", f"{name}.rt"), encoding="ascii") as file:
+        found = CONSTANT.search(file.read())
+    assert found is not None, name
+    return re.sub(r"\\(.)", lambda it: ESCAPES.get(it[1], it[1]), found[1]).encode()
+
+
+def page_of(text: bytes) -> bytes:
+    """The page of a history text."""
+    return part_of("head") + text + part_of("tail")
+
+
+class Reader(HTMLParser):
+    """Reads a page, and keeps what its element of histories holds."""
+
+    def __init__(self) -> None:
+        super().__init__(convert_charrefs=True)
+        self.held: List[str] = []
+        self.is_within = False
+
+    def handle_starttag(self, tag: str, attrs: List[Tuple[str, Optional[str]]]) -> None:
+        """Begins the element, where it is the one of the histories."""
+        if tag == "script" and ("id", "history") in attrs:
+            self.is_within = True
+            self.held.append("")
+
+    def handle_endtag(self, tag: str) -> None:
+        """Ends the element."""
+        if tag == "script":
+            self.is_within = False
+
+    def handle_data(self, data: str) -> None:
+        """Keeps what stands in the element."""
+        if self.is_within:
+            self.held[-1] += data
+
+
+def faults_of_page(page: bytes, text: bytes) -> List[str]:
+    """Why a page does not hold the histories in one element, byte by byte."""
+    reader = Reader()
+    reader.feed(page.decode("ascii"))
+    reader.close()
+    return [] if reader.held == [text.decode("ascii")] else [f"the page holds {[it[:100] for it in reader.held]}"]
