@@ -15,13 +15,14 @@ use Rattle.tc_step.specs.declared.place.Place.{Place}
 use Rattle.tc_step.specs.declared.place.TargetPlace.{TargetPlace}
 use Rattle.tc_step.specs.declared.step.Step.{Step}
 use Rattle.tc_step.specs.declared.step.Step.TheVariants as S
+use Rattle.tc_step.specs.Operation.{operation, target}
 use Rattle.tc_step.specs.Steps.{count_after}
 use Rattle.tc_book.specs.Passes.{PassState, has_ended, entry_of, added, By, IsCall, IsWait, Waits}
 use Rattle.tc_table.specs.History.{ends_pass}
 use Rattle.tc_book.specs.Replies.{is_parked}
 use Rattle.tc_book.specs.declared.halt.Halt.{Halt}
 use Rattle.tc_book.specs.declared.halt.Halt.TheVariants as H
-use Rattle.tc_behaviour.specs.Calls.{Calls, operation, target, bound_behind}
+use Rattle.tc_behaviour.specs.Calls.{Calls, bound_behind}
 use Rattle.tc_behaviour.specs.Inside.{is_refused, Carried, IsStepped, creates, waits}
 
 pub carried : {A : Type 0} (said : A → Reply) (P Q : Reply → Type 0) (same same-new : Type 0) (answer : Result A Halt) (result : Result (Unit {0}) NoMemory)

@@ -1,5 +1,3 @@
 -- The lemmas of this crate.
 pub mod Carrying
 pub mod Running
-pub mod Giving
-pub mod Spelled

@@ -8,10 +8,11 @@ use Rattle.tc_entry.specs.declared.reply.Reply.{Reply}
 use Rattle.tc_entry.specs.declared.reply.Reply.TheVariants as R
 use Rattle.tc_step.specs.declared.step.Step.{Step}
 use Rattle.tc_step.specs.declared.step.Step.TheVariants as S
+use Rattle.tc_step.specs.Operation.{operation, target}
 use Rattle.tc_step.specs.Steps.{AreBound}
 use Rattle.tc_book.specs.Passes.{PassState, has_ended, entry_of}
 use Rattle.tc_exec.specs.declared.job.Ending.TheVariants as E
-use Rattle.tc_behaviour.specs.Calls.{Calls, HasCalled, HasGrown, IsRun, operation, target, ending}
+use Rattle.tc_behaviour.specs.Calls.{Calls, HasCalled, HasGrown, IsRun, ending}
 use Rattle.tc_behaviour.specs.Calls.HasCalled.{none, one_more}
 use Rattle.tc_behaviour.specs.Inside.{IsStepped, IsSoFar}
 

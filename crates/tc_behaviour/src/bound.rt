@@ -1,8 +1,8 @@
 //! The components that the places of steps name.
 ghost use Rattle.std.specs.Prelude.{◌≡◌, ◌++◌, List, All, map, length};
 ghost use Rattle.tc_entry.specs.declared.comp.Comp.{Comp};
+ghost use Rattle.tc_step.specs.Operation as calls;
 ghost use Rattle.tc_step.specs.Steps.{IsBound, of_group, of_target};
-ghost use Rattle.tc_behaviour.specs.Calls as calls;
 
 use tc_book::Pass;
 use tc_entry::{Args, Comp, Group, Target};

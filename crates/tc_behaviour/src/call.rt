@@ -4,8 +4,8 @@ ghost use Rattle.tc_entry.specs.declared.op.Op.TheVariants as ops;
 ghost use Rattle.tc_entry.specs.declared.reply.Reply.TheVariants as replies;
 ghost use Rattle.tc_book.specs.Passes.{has_ended, IsCall, IsWait};
 ghost use Rattle.tc_step.specs.declared.step.Step.TheVariants as steps;
+ghost use Rattle.tc_step.specs.Operation.{question};
 ghost use Rattle.tc_step.specs.Steps.{IsBound, places};
-ghost use Rattle.tc_behaviour.specs.Calls.{question};
 ghost use Rattle.tc_behaviour.specs.Inside.{is_refused, IsCarriedOut};
 
 use crate::bound::{arguments, component, group, target};

@@ -1,6 +1,5 @@
--- Lines that are told: what each is about, and its form. How a line spells that no clause says.
-use Rattle.std.specs.Prelude.{ℕ, ◌≡◌, ◌&&◌, nat_le, Bool, true, Option, List, [], ◌∷◌, ◌++◌}
-use Rattle.std.specs.List.{list_all}
+-- Lines that are told: what each is about.
+use Rattle.std.specs.Prelude.{ℕ, Bool, Option, List}
 use Rattle.tc_explain.specs.declared.sort.Sort.{Sort}
 use Rattle.tc_explain.specs.declared.sort.Refusal.{Refusal}
 use Rattle.tc_explain.specs.declared.slot.Slot.{Slot}
@@ -27,17 +26,3 @@ pub data Note : Type 0 where
   Broken : Refusal → Note
   Opening : Bool → Note
   Begun : ℕ → Note
-
--- a byte from 32 to 126
-abbrev pub is_plain : ℕ → Bool
-is_plain b = nat_le 32 b && nat_le b 126
-
--- one line is appended: two spaces, such bytes, and LF
-unfoldable pub AddsLine : List ℕ → List ℕ → Type 0
-AddsLine before after =
-    (words : List ℕ) × (after ≡ before ++ (32 ∷ 32 ∷ (words ++ 10 ∷ []))) × (list_all is_plain words ≡ true)
-
--- a line is appended for each of these, in their order
-unfoldable pub Tells : List Note → List ℕ → List ℕ → Type 0
-Tells [] before after = after ≡ before
-Tells (note ∷ more) before after = (middle : List ℕ) × AddsLine before middle × Tells more middle after

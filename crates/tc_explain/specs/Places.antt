@@ -1,7 +1,7 @@
 -- Places in a line.
 use Rattle.std.specs.Prelude.{ℕ, suc, ◌==◌, ◌-◌, ◌&&◌, ◌||◌, not, Bool, true, false, if◌then◌else◌, List, [], ◌∷◌, length}
 use Rattle.tc_line.specs.Text.{is_space}
-use Rattle.tc_explain.specs.Notes.{is_plain}
+use Rattle.tc_text.specs.Shown.{is_plain}
 
 -- how many bytes stand before the word at this place among the words, or before the end where there is none; whether a word has begun is told
 unfoldable pub starts : ℕ → Bool → List ℕ → ℕ

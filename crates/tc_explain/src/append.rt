@@ -1,33 +1,14 @@
 //! The lines of an explanation.
-ghost use Rattle.std.specs.Prelude.{◌≡◌, [], ◌∷◌, OnOk, map, option_copied, true};
-ghost use Rattle.tc_explain.specs.Notes.{AddsLine, Listed, Tells, is_plain as plain};
+ghost use Rattle.std.specs.Prelude.{[], ◌∷◌, OnOk, map, option_copied};
+ghost use Rattle.tc_text.specs.Shown.{AddsLine, Shows};
+ghost use Rattle.tc_explain.specs.Notes.{Listed};
 ghost use Rattle.tc_explain.specs.Explanation.{begun, near_note, nearest_note};
 
 use crate::nearest::near_word;
-use crate::quote::{append_quoted, is_plain};
+use crate::quote::append_quoted;
 use std::alloc::Global;
-use tc_text::{append_number, append_text};
+use tc_text::{append_line, append_number, append_text};
 use tc_verdict::NoMemory;
-
-// The byte, or a question mark for one that is not printable.
-fn printable(byte: u8) -> u8
-    ensures { plain result ≡ true }
-{
-    if is_plain(byte) { byte } else { b'?' }
-}
-
-/// Appends a line with these words.
-#[tactic(auto, using(crate::proofs::Showing::line_rules))]
-pub(crate) fn append_line(out: &mut Vec<u8>, words: &[u8]) -> Result<(), NoMemory>
-    ensures { OnOk result (AddsLine out.old.items out.new.items) }
-{
-    out.extend_from_slice(b"  ")?;
-    for byte in words {
-        out.push(printable(*byte))?;
-    }
-    out.push(b'\n')?;
-    Ok(())
-}
 
 /// Appends a line with this text.
 pub(crate) fn append_note(out: &mut Vec<u8>, text: &str) -> Result<(), NoMemory>
@@ -98,7 +79,7 @@ pub(crate) fn append_list(
     words: &[&str],
     other: &str,
 ) -> Result<(), NoMemory>
-    ensures { OnOk result (Tells (Listed (map (λ w. w.now) words.now) ∷ []) out.old.items out.new.items) }
+    ensures { OnOk result (Shows (Listed (map (λ w. w.now) words.now) ∷ []) out.old.items out.new.items) }
 {
     let mut line = Vec::new(alloc);
     append_text(&mut line, "understood there:")?;
@@ -110,7 +91,7 @@ pub(crate) fn append_list(
 // Appends the nearest word, where there is one.
 #[tactic(auto, using(crate::proofs::Showing::tell_rules))]
 fn append_near(alloc: Global, out: &mut Vec<u8>, near: Option<&str>) -> Result<(), NoMemory>
-    ensures { OnOk result (Tells (near_note (option_copied near.entry)) out.old.items out.new.items) }
+    ensures { OnOk result (Shows (near_note (option_copied near.entry)) out.old.items out.new.items) }
 {
     match near {
         Some(near) => append_behind(alloc, out, "nearest: ", near),
@@ -126,7 +107,7 @@ pub(crate) fn append_nearest(
     word: Option<&[u8]>,
     table: &[&str],
 ) -> Result<(), NoMemory>
-    ensures { OnOk result (Tells (nearest_note (option_copied word.entry) (map (λ w. w.now) table.now)) out.old.items out.new.items) }
+    ensures { OnOk result (Shows (nearest_note (option_copied word.entry) (map (λ w. w.now) table.now)) out.old.items out.new.items) }
 {
     let Some(word) = word else {
         return Ok(());
@@ -143,7 +124,7 @@ pub(crate) fn append_begun(
     what: &str,
     line: Option<usize>,
 ) -> Result<(), NoMemory>
-    ensures { OnOk result (Tells (begun line) out.old.items out.new.items) }
+    ensures { OnOk result (Shows (begun line) out.old.items out.new.items) }
 {
     match line {
         Some(line) => append_numbered(alloc, out, what, line),

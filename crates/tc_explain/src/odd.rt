@@ -3,8 +3,8 @@ ghost use Rattle.std.specs.Prelude.{◌≡◌, ◌<◌, IfSome, length};
 ghost use Rattle.std.specs.List.{position};
 ghost use Rattle.tc_explain.specs.Places.{is_odd};
 
-use crate::quote::{append_hex, is_plain};
-use tc_text::append_text;
+use crate::quote::append_hex;
+use tc_text::{append_text, is_plain};
 use tc_verdict::NoMemory;
 
 /// How many bytes stand before the first odd byte, where there is one.

@@ -1,19 +1,11 @@
 //! Bytes of a text, as they are shown.
-ghost use Rattle.std.specs.Prelude.{◌≡◌, ◌<◌};
-ghost use Rattle.tc_explain.specs.Notes.{is_plain as plain};
+ghost use Rattle.std.specs.Prelude.{◌<◌};
 
-use tc_text::append_text;
+use tc_text::{append_text, is_plain};
 use tc_verdict::NoMemory;
 
 /// How many bytes of a line or a word are shown.
 const SHOWN: usize = 60;
-
-/// Whether the byte is from 32 to 126.
-pub(crate) fn is_plain(byte: u8) -> bool
-    ensures { result ≡ plain byte }
-{
-    32 <= byte && byte <= 126
-}
 
 // The hexadecimal digit of this value.
 fn digit(value: u8) -> u8

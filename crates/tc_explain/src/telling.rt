@@ -7,12 +7,13 @@ ghost use Rattle.tc_explain.specs.Places.{is_odd};
 ghost use Rattle.tc_explain.specs.Slots.{walk};
 ghost use Rattle.tc_explain.specs.Replies.{entry_stop as entry_end};
 ghost use Rattle.tc_explain.specs.Nearest.{all_words as words_of_scripts, script_words as words_at};
-ghost use Rattle.tc_explain.specs.Notes.{AddsLine, Listed, Tells};
+ghost use Rattle.tc_text.specs.Shown.{AddsLine, Shows};
+ghost use Rattle.tc_explain.specs.Notes.{Listed};
 ghost use Rattle.tc_explain.specs.Explanation.{byte_note, entry_note, explanation, kind_note, line_note, move_note, nearest_note, open_note, place_note, script_note, sort_note, spaced_note, stop_note, text_note, wanted};
 
 use crate::append::{
-    append_begun, append_behind, append_column, append_line as append_words, append_list,
-    append_nearest, append_note, append_numbered, append_stopped,
+    append_begun, append_behind, append_column, append_list, append_nearest, append_note,
+    append_numbered, append_stopped,
 };
 use crate::nearest::{all_words, move_words, script_words};
 use crate::odd::{append_odd, odd_place};
@@ -25,7 +26,7 @@ use crate::sort::{Refusal, Sort, seen_sort};
 use crate::stop::{Stop, entry_stop, is_move, is_whole, move_stop, script_stop};
 use std::alloc::Global;
 use tc_line::{ScriptKind, read_words};
-use tc_text::{TextKind, append_text};
+use tc_text::{TextKind, append_line as append_words, append_text};
 use tc_verdict::NoMemory;
 
 /// What stands before what would be understood.
@@ -34,7 +35,7 @@ const UNDERSTOOD: &str = "understood there: ";
 // Appends what the text seems to be, where it should be something else.
 #[tactic(auto, using(crate::proofs::Showing::tell_rules))]
 fn append_sort(out: &mut Vec<u8>, sort: Sort, seen: Option<Sort>) -> Result<(), NoMemory>
-    ensures { OnOk result (Tells (sort_note sort seen) out.old.items out.new.items) }
+    ensures { OnOk result (Shows (sort_note sort seen) out.old.items out.new.items) }
 {
     match (sort, seen) {
         (_, None)
@@ -62,7 +63,7 @@ fn append_place(
     place: usize,
 ) -> Result<(), NoMemory>
     requires { map (λ w. w.now) words.now ≡ words_of line.now }
-    ensures { OnOk result (Tells (place_note line.now place) out.old.items out.new.items) }
+    ensures { OnOk result (Shows (place_note line.now place) out.old.items out.new.items) }
 {
     let mut text = Vec::new(alloc);
     append_column(&mut text, start_of(line, place))?;
@@ -79,7 +80,7 @@ fn append_table(
     other: &str,
     word: Option<&[u8]>,
 ) -> Result<(), NoMemory>
-    ensures { OnOk result (Tells ((Listed (map (λ w. w.now) table.now) ∷ []) ++ nearest_note (option_copied word.entry) (map (λ w. w.now) table.now)) out.old.items out.new.items) }
+    ensures { OnOk result (Shows ((Listed (map (λ w. w.now) table.now) ∷ []) ++ nearest_note (option_copied word.entry) (map (λ w. w.now) table.now)) out.old.items out.new.items) }
 {
     append_list(alloc, out, table, other)?;
     append_nearest(alloc, out, word, table)
@@ -93,7 +94,7 @@ fn append_keywords(
     opened: Opened,
     word: Option<&[u8]>,
 ) -> Result<(), NoMemory>
-    ensures { OnOk result (Tells ((Listed (words_at opened) ∷ []) ++ nearest_note (option_copied word.entry) words_of_scripts) out.old.items out.new.items) }
+    ensures { OnOk result (Shows ((Listed (words_at opened) ∷ []) ++ nearest_note (option_copied word.entry) words_of_scripts) out.old.items out.new.items) }
 {
     append_list(alloc, out, script_words(alloc, opened)?.as_slice(), "")?;
     append_nearest(alloc, out, word, all_words(alloc)?.as_slice())
@@ -108,7 +109,7 @@ fn append_slot(
     slot: Slot,
     word: Option<&[u8]>,
 ) -> Result<(), NoMemory>
-    ensures { OnOk result (Tells (wanted opened slot (option_copied word.entry)) out.old.items out.new.items) }
+    ensures { OnOk result (Shows (wanted opened slot (option_copied word.entry)) out.old.items out.new.items) }
 {
     match slot {
         Slot::Keyword => append_keywords(alloc, out, opened, word),
@@ -130,7 +131,7 @@ fn append_stop(
     stop: Stop,
 ) -> Result<(), NoMemory>
     requires { map (λ w. w.now) words.now ≡ words_of line.now }
-    ensures { OnOk result (Tells (stop_note opened line.now stop) out.old.items out.new.items) }
+    ensures { OnOk result (Shows (stop_note opened line.now stop) out.old.items out.new.items) }
 {
     append_place(alloc, out, line, words, stop.place)?;
     append_slot(alloc, out, opened, stop.slot, word_at(words, stop.place))
@@ -164,7 +165,7 @@ fn append_script(
     words: &[&[u8]],
 ) -> Result<(), NoMemory>
     requires { map (λ w. w.now) words.now ≡ words_of line.now }
-    ensures { OnOk result (Tells (script_note kind opened line.now) out.old.items out.new.items) }
+    ensures { OnOk result (Shows (script_note kind opened line.now) out.old.items out.new.items) }
 {
     match kind {
         ScriptKind::BadLine | ScriptKind::BadName => {
@@ -188,7 +189,7 @@ fn append_move(
     words: &[&[u8]],
 ) -> Result<(), NoMemory>
     requires { map (λ w. w.now) words.now ≡ words_of line.now }
-    ensures { OnOk result (Tells (move_note opened line.now (walk true S.Run 0 (words_of line.now))) out.old.items out.new.items) }
+    ensures { OnOk result (Shows (move_note opened line.now (walk true S.Run 0 (words_of line.now))) out.old.items out.new.items) }
 {
     let stop = move_stop(words);
     if is_move(stop, words) {
@@ -210,7 +211,7 @@ fn append_entry(
     words: &[&[u8]],
 ) -> Result<(), NoMemory>
     requires { map (λ w. w.now) words.now ≡ words_of line.now }
-    ensures { OnOk result (Tells (entry_note opened line.now (entry_end (words_of line.now))) out.old.items out.new.items) }
+    ensures { OnOk result (Shows (entry_note opened line.now (entry_end (words_of line.now))) out.old.items out.new.items) }
 {
     let stop = entry_stop(words);
     if is_whole(stop, words) {
@@ -243,7 +244,7 @@ fn append_text_note(
     words: &[&[u8]],
 ) -> Result<(), NoMemory>
     requires { map (λ w. w.now) words.now ≡ words_of line.now }
-    ensures { OnOk result (Tells (text_note moves kind opened line.now) out.old.items out.new.items) }
+    ensures { OnOk result (Shows (text_note moves kind opened line.now) out.old.items out.new.items) }
 {
     match kind {
         TextKind::Move => append_move(alloc, out, opened, line, words),
@@ -275,7 +276,7 @@ fn append_spaced(
     words: &[&[u8]],
 ) -> Result<(), NoMemory>
     requires { map (λ w. w.now) words.now ≡ words_of line.now }
-    ensures { OnOk result (Tells (spaced_note line.now (text_note moves kind opened line.now)) out.old.items out.new.items) }
+    ensures { OnOk result (Shows (spaced_note line.now (text_note moves kind opened line.now)) out.old.items out.new.items) }
 {
     let space = space_of(line);
     if space < line.len() {
@@ -293,7 +294,7 @@ fn append_kind(
     opened: Opened,
     line: &[u8],
 ) -> Result<(), NoMemory>
-    ensures { OnOk result (Tells (kind_note refusal opened line.now) out.old.items out.new.items) }
+    ensures { OnOk result (Shows (kind_note refusal opened line.now) out.old.items out.new.items) }
 {
     let mut list = Vec::new(alloc);
     read_words(line, &mut list)?;
@@ -325,7 +326,7 @@ fn append_wrong(
     opened: Opened,
     line: &[u8],
 ) -> Result<(), NoMemory>
-    ensures { OnOk result (Tells (byte_note refusal opened line.now (position is_odd line.now)) out.old.items out.new.items) }
+    ensures { OnOk result (Shows (byte_note refusal opened line.now (position is_odd line.now)) out.old.items out.new.items) }
 {
     match odd_place(line) {
         Some(at) => append_odd_at(alloc, out, line, at),
@@ -363,7 +364,7 @@ fn append_line(
     opened: Opened,
     line: Option<&[u8]>,
 ) -> Result<(), NoMemory>
-    ensures { OnOk result (Tells (line_note refusal number opened (option_copied line.entry)) out.old.items out.new.items) }
+    ensures { OnOk result (Shows (line_note refusal number opened (option_copied line.entry)) out.old.items out.new.items) }
 {
     match line {
         None => append_ended(alloc, out, number),
@@ -382,7 +383,7 @@ fn append_opened(
     sort: Sort,
     opened: Opened,
 ) -> Result<(), NoMemory>
-    ensures { OnOk result (Tells (open_note sort opened) out.old.items out.new.items) }
+    ensures { OnOk result (Shows (open_note sort opened) out.old.items out.new.items) }
 {
     match sort {
         Sort::Script => {
@@ -406,7 +407,7 @@ pub fn explain(
     number: usize,
     refusal: Refusal,
 ) -> Result<Vec<u8>, NoMemory>
-    ensures { IfOk result (λ v. Tells (explanation refusal text.now number) [] v.items) }
+    ensures { IfOk result (λ v. Shows (explanation refusal text.now number) [] v.items) }
 {
     let sort = refusal.sort();
     let seen = seen_sort(alloc, text)?;

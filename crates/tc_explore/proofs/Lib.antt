@@ -17,8 +17,6 @@ pub mod Reaching
 pub mod Room
 pub mod Closed
 pub mod States
-pub mod Logging
-pub mod Reports
 pub mod Numbers
 pub mod Showing
 pub mod Prefixes

@@ -8,10 +8,10 @@ use Rattle.tc_entry.specs.declared.op.Op.TheVariants as O
 use Rattle.tc_entry.specs.declared.reply.Reply.{Reply}
 use Rattle.tc_entry.specs.declared.reply.Reply.TheVariants as R
 use Rattle.tc_step.specs.declared.step.Step.{Step}
+use Rattle.tc_step.specs.Operation.{operation}
 use Rattle.tc_step.specs.Steps.{ScriptView}
 use Rattle.tc_table.specs.History.{created, started_on, ends_pass}
 use Rattle.tc_table.specs.Answers.{answer}
-use Rattle.tc_behaviour.specs.Calls.{operation}
 
 -- ---- what is known of one run
 

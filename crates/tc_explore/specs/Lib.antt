@@ -4,7 +4,6 @@ pub mod Found
 pub mod Told
 pub mod Inside
 pub mod Laws
-pub mod Reports
 pub mod Shown
 pub mod Race
 pub mod Waits

@@ -1,6 +1,5 @@
--- Lines that are shown: what each is about, and its form. How a line spells that no clause says.
-use Rattle.std.specs.Prelude.{ℕ, ◌≡◌, ◌&&◌, nat_le, Bool, true, Option, List, [], ◌∷◌, ◌++◌}
-use Rattle.std.specs.List.{list_all}
+-- Lines that are shown: what each is about.
+use Rattle.std.specs.Prelude.{ℕ, Option}
 use Rattle.tc_entry.specs.declared.comp.Comp.{Comp}
 use Rattle.tc_entry.specs.declared.entry.Entry.{Entry}
 use Rattle.tc_step.specs.declared.step.Step.{Step}
@@ -18,17 +17,3 @@ pub data Shown : Type 0 where
   More : Shown
   Waits : ℕ → Comp → Awaited → Shown
   Unseen : ℕ → ℕ → Step → Shown
-
--- a byte from 32 to 126
-abbrev pub is_plain : ℕ → Bool
-is_plain b = nat_le 32 b && nat_le b 126
-
--- one line is appended: two spaces, such bytes, and LF
-unfoldable pub AddsLine : List ℕ → List ℕ → Type 0
-AddsLine before after =
-    (words : List ℕ) × (after ≡ before ++ (32 ∷ 32 ∷ (words ++ 10 ∷ []))) × (list_all is_plain words ≡ true)
-
--- a line is appended for each of these, in their order
-unfoldable pub Shows : List Shown → List ℕ → List ℕ → Type 0
-Shows [] before after = after ≡ before
-Shows (shown ∷ more) before after = (middle : List ℕ) × AddsLine before middle × Shows more middle after

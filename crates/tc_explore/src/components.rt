@@ -3,15 +3,14 @@ ghost use Rattle.std.specs.Prelude.{◌≤◌, OnOk, reverse};
 ghost use Rattle.tc_entry.specs.declared.limits.TheConstants.{BEHAVIOURS};
 ghost use Rattle.tc_table.specs.Legal.{IsLegal};
 ghost use Rattle.tc_explore.specs.Details.{locals as about_locals};
-ghost use Rattle.tc_explore.specs.Shown.{Shows};
+ghost use Rattle.tc_text.specs.Shown.{Shows};
 
-use crate::line::append_line;
 use crate::state::state_after;
 use crate::witness::Witness;
 use std::alloc::Global;
 use tc_entry::{Comp, Entry, Op};
 use tc_table::{created, is_comp, locals_of};
-use tc_text::{append_number, append_text};
+use tc_text::{append_line, append_number, append_text};
 use tc_verdict::{NoMemory, Verdict, name as name_of};
 
 // Appends the name that an operation gives to what it makes; where memory is refused, a part of it.
@@ -68,7 +67,7 @@ fn append_words(out: &mut Vec<u8>, witness: &Witness, locals: &[Verdict]) -> Res
 
 /// Appends the line of a witness: its verdict, and the local verdict of each component at its end. Where memory is refused,
 /// a part of it.
-#[tactic(auto, using(crate::proofs::Showing::show_rules))]
+#[tactic(auto, using(tc_text::proofs::Showing::show_rules))]
 pub(crate) fn append_locals_line(
     alloc: Global,
     out: &mut Vec<u8>,

@@ -10,7 +10,6 @@ mod entries;
 mod explored;
 mod findings;
 pub mod laws;
-mod line;
 mod noted;
 mod race;
 mod same;

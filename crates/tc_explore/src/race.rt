@@ -3,13 +3,13 @@ ghost use Rattle.std.specs.Prelude.{◌≡◌, ◌≤◌, ◌++◌, [], ◌∷�
 ghost use Rattle.std.specs.List.{flat_map, range_with_len};
 ghost use Rattle.tc_history.specs.Block.{entry_text};
 ghost use Rattle.tc_explore.specs.Race.{alike_count as count_alike, more_row, parting, race, races, row_at, rows};
-ghost use Rattle.tc_explore.specs.Shown.{AddsLine, Alike, Heads, Shows};
+ghost use Rattle.tc_text.specs.Shown.{AddsLine, Shows};
+ghost use Rattle.tc_explore.specs.Shown.{Alike, Heads};
 
-use crate::line::append_line;
 use crate::witness::Witness;
 use std::alloc::Global;
 use tc_entry::Entry;
-use tc_text::{append_number, append_text, write_move, write_reply};
+use tc_text::{append_line, append_number, append_text, write_move, write_reply};
 use tc_verdict::{NoMemory, name as name_of};
 
 /// The width of the left one of two columns.
@@ -85,7 +85,7 @@ fn text_at(alloc: Global, history: &[Entry], at: usize) -> Result<Vec<u8>, NoMem
 }
 
 // Appends the line of the entries at a place, if one of both has an entry there; where memory is refused, a part of it.
-#[tactic(auto, unfolding(crate::specs::Race::row_at), using(crate::proofs::Showing::show_rules))]
+#[tactic(auto, unfolding(crate::specs::Race::row_at), using(tc_text::proofs::Showing::show_rules))]
 fn append_row_at(
     alloc: Global,
     out: &mut Vec<u8>,
@@ -104,7 +104,7 @@ fn append_row_at(
 }
 
 // Appends the first entries of both in two columns; where memory is refused, a part of them.
-#[tactic(auto, using(crate::proofs::Showing::show_rules))]
+#[tactic(auto, using(tc_text::proofs::Showing::show_rules))]
 fn append_first_rows(
     alloc: Global,
     out: &mut Vec<u8>,
@@ -120,7 +120,7 @@ fn append_first_rows(
 }
 
 // Appends whether there are more entries than are shown; where memory is refused, a part of it.
-#[tactic(auto, unfolding(crate::specs::Race::more_row), using(crate::proofs::Showing::show_rules))]
+#[tactic(auto, unfolding(crate::specs::Race::more_row), using(tc_text::proofs::Showing::show_rules))]
 fn append_more(out: &mut Vec<u8>, left: &[Entry], right: &[Entry]) -> Result<(), NoMemory>
     ensures { OnOk result (Shows (more_row left.now right.now) out.old.items out.new.items) }
 {
@@ -131,7 +131,7 @@ fn append_more(out: &mut Vec<u8>, left: &[Entry], right: &[Entry]) -> Result<(),
 }
 
 // Appends the first entries of both in two columns, and whether there are more; where memory is refused, a part of it.
-#[tactic(auto, unfolding(crate::specs::Race::rows), using(crate::proofs::Showing::show_rules))]
+#[tactic(auto, unfolding(crate::specs::Race::rows), using(tc_text::proofs::Showing::show_rules))]
 fn append_rows(
     alloc: Global,
     out: &mut Vec<u8>,
@@ -145,7 +145,7 @@ fn append_rows(
 }
 
 // Appends how far two witnesses go alike; where memory is refused, a part of it.
-#[tactic(auto, using(crate::proofs::Showing::show_rules))]
+#[tactic(auto, using(tc_text::proofs::Showing::show_rules))]
 fn append_alike(
     alloc: Global,
     out: &mut Vec<u8>,
@@ -166,7 +166,7 @@ fn append_alike(
 }
 
 // Appends the names of two verdicts in two columns; where memory is refused, a part of it.
-#[tactic(auto, using(crate::proofs::Showing::show_rules))]
+#[tactic(auto, using(tc_text::proofs::Showing::show_rules))]
 fn append_heads(
     alloc: Global,
     out: &mut Vec<u8>,
@@ -189,7 +189,7 @@ fn behind(history: &[Entry], count: usize) -> &[Entry]
 }
 
 // Appends two witnesses side by side behind so many entries; where memory is refused, a part of it.
-#[tactic(auto, using(crate::proofs::Showing::show_rules))]
+#[tactic(auto, using(tc_text::proofs::Showing::show_rules))]
 fn append_parting(
     alloc: Global,
     out: &mut Vec<u8>,
@@ -225,7 +225,7 @@ fn append_race(
 }
 
 /// Appends the first witness beside each other one, from where they part. Where memory is refused, a part of it.
-#[tactic(auto, using(crate::proofs::Showing::show_rules))]
+#[tactic(auto, using(tc_text::proofs::Showing::show_rules))]
 pub(crate) fn append_races(
     alloc: Global,
     out: &mut Vec<u8>,

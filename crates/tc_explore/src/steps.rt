@@ -1,6 +1,7 @@
 //! The words of a step: as a script spells it, but that components go by their place, and behaviours by their run.
 use tc_entry::Name;
-use tc_step::{GroupPlace, Place, Status, Step, TargetPlace};
+use tc_line::Keyword;
+use tc_step::{GroupPlace, Place, Step, TargetPlace};
 use tc_text::{append_number, append_text};
 use tc_verdict::{NoMemory, Run, from_user, name as name_of};
 
@@ -41,19 +42,9 @@ fn append_target(out: &mut Vec<u8>, target: TargetPlace) -> Result<(), NoMemory>
     }
 }
 
-// The word that asks for a status.
-fn status_word(status: Status) -> &'static str {
-    match status {
-        Status::Running => "running",
-        Status::Alive => "alive",
-        Status::Done => "done",
-        Status::Killed => "killed",
-    }
-}
-
-// The words that wait.
-fn wait_words(killed: bool) -> &'static str {
-    if killed { "wait killed" } else { "wait done" }
+// The word that says what is waited for.
+fn wait_word(killed: bool) -> &'static str {
+    if killed { " killed" } else { " done" }
 }
 
 // The word of an alive-type component.
@@ -70,45 +61,53 @@ fn append_named(out: &mut Vec<u8>, name: &Option<Name>) -> Result<(), NoMemory> 
     Ok(())
 }
 
-// Appends a start; where memory is refused, a part of it.
+// Appends what a start names; where memory is refused, a part of it.
 fn append_start(out: &mut Vec<u8>, on: Place, run: Run, args: &[Place]) -> Result<(), NoMemory> {
-    append_text(out, "start")?;
     append_place(out, on)?;
     append_text(out, " run ")?;
     append_number(out, u64::from(run.0))?;
     append_places(out, args)
 }
 
-/// Appends a step. Where memory is refused, a part of it.
-pub(crate) fn append_step(out: &mut Vec<u8>, step: &Step) -> Result<(), NoMemory> {
+// The keyword of a step.
+fn keyword_of(step: &Step) -> Keyword {
+    match step {
+        Step::Create { .. } => Keyword::Create,
+        Step::Start { .. } => Keyword::Start,
+        Step::Stop(_) => Keyword::Stop,
+        Step::Kill(_) => Keyword::Kill,
+        Step::StopCase => Keyword::StopCase,
+        Step::Ask(status, _) => Keyword::Ask(*status),
+        Step::Wait { .. } => Keyword::Wait,
+        Step::SetVerdict(_) => Keyword::SetVerdict,
+        Step::GetVerdict => Keyword::GetVerdict,
+    }
+}
+
+// Appends what stands behind the keyword of a step; where memory is refused, a part of it.
+fn append_operands(out: &mut Vec<u8>, step: &Step) -> Result<(), NoMemory> {
     match step {
         Step::Create { alive, name } => {
-            append_text(out, "create")?;
             append_text(out, alive_word(*alive))?;
             append_named(out, name)
         }
         Step::Start { on, run, args } => append_start(out, *on, *run, args.as_slice()),
-        Step::Stop(group) => {
-            append_text(out, "stop")?;
-            append_group(out, *group)
-        }
-        Step::Kill(group) => {
-            append_text(out, "kill")?;
-            append_group(out, *group)
-        }
-        Step::StopCase => append_text(out, "stopcase"),
-        Step::Ask(status, target) => {
-            append_text(out, status_word(*status))?;
-            append_target(out, *target)
-        }
+        Step::Stop(group) | Step::Kill(group) => append_group(out, *group),
+        Step::Ask(_, target) => append_target(out, *target),
         Step::Wait { killed, target } => {
-            append_text(out, wait_words(*killed))?;
+            append_text(out, wait_word(*killed))?;
             append_target(out, *target)
         }
         Step::SetVerdict(verdict) => {
-            append_text(out, "setverdict ")?;
+            append_text(out, " ")?;
             append_text(out, name_of(from_user(*verdict)))
         }
-        Step::GetVerdict => append_text(out, "getverdict"),
+        Step::StopCase | Step::GetVerdict => Ok(()),
     }
+}
+
+/// Appends a step. Where memory is refused, a part of it.
+pub(crate) fn append_step(out: &mut Vec<u8>, step: &Step) -> Result<(), NoMemory> {
+    append_text(out, keyword_of(step).text())?;
+    append_operands(out, step)
 }

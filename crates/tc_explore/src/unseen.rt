@@ -1,15 +1,14 @@
 //! The steps that no course which was looked at carries out.
 ghost use Rattle.std.specs.Prelude.{◌≡◌, ◌≤◌, OnOk, length, slice_index_or};
 ghost use Rattle.tc_entry.specs.declared.limits.TheConstants.{BEHAVIOURS};
-ghost use Rattle.tc_explore.specs.Shown.{Shows};
+ghost use Rattle.tc_text.specs.Shown.{Shows};
 ghost use Rattle.tc_explore.specs.Unseen.{unseen, unseen_among};
 
 use crate::course::steps_of;
-use crate::line::append_line;
 use crate::steps::append_step;
 use std::alloc::Global;
 use tc_step::{Script, Step};
-use tc_text::{append_number, append_text};
+use tc_text::{append_line, append_number, append_text};
 use tc_verdict::{NoMemory, Run};
 
 // How many calls of a run are reached.
@@ -39,7 +38,7 @@ fn append_words(
 }
 
 // Appends the line of a run, if one of its steps is not carried out; where memory is refused, a part of it.
-#[tactic(auto, unfolding(crate::specs::Unseen::unseen_among), using(crate::proofs::Showing::show_rules))]
+#[tactic(auto, unfolding(crate::specs::Unseen::unseen_among), using(tc_text::proofs::Showing::show_rules))]
 fn append_among(
     alloc: Global,
     out: &mut Vec<u8>,
@@ -59,7 +58,7 @@ fn append_among(
 
 /// Appends the lines of the runs of which some steps are carried out in no course that was looked at. Where memory is refused,
 /// a part of them.
-#[tactic(auto, unfolding(crate::specs::Unseen::unseen), using(crate::proofs::Showing::show_rules))]
+#[tactic(auto, unfolding(crate::specs::Unseen::unseen), using(tc_text::proofs::Showing::show_rules))]
 pub(crate) fn append_unseen(
     alloc: Global,
     out: &mut Vec<u8>,

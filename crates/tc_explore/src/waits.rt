@@ -4,17 +4,16 @@ ghost use Rattle.std.specs.List.{flat_map, range_with_len};
 ghost use Rattle.tc_entry.specs.declared.limits.TheConstants.{BEHAVIOURS};
 ghost use Rattle.tc_table.specs.Legal.{IsLegal};
 ghost use Rattle.tc_table.specs.Standing.{StandsFor};
-ghost use Rattle.tc_explore.specs.Shown.{Shows};
+ghost use Rattle.tc_text.specs.Shown.{Shows};
 ghost use Rattle.tc_explore.specs.Waits.{is_stuck as is_stuck_reply, stuck_place as place_of_stuck, wait, waits};
 
 use crate::components::append_comp;
-use crate::line::append_line;
 use crate::state::{standing_after, state_after};
 use crate::witness::Witness;
 use std::alloc::Global;
 use tc_entry::{Comp, Entry, Fault, Phase, Reply, Target};
 use tc_table::{Awaited, CaseState};
-use tc_text::{append_number, append_text};
+use tc_text::{append_line, append_number, append_text};
 use tc_verdict::{NoMemory, Run};
 
 // Whether the main component is told that no run can go on.
@@ -92,7 +91,7 @@ fn append_words(
 }
 
 // Appends the line of a run, if it goes on and waits; where memory is refused, a part of it.
-#[tactic(auto, unfolding(crate::specs::Waits::wait), using(crate::proofs::Showing::show_rules))]
+#[tactic(auto, unfolding(crate::specs::Waits::wait), using(tc_text::proofs::Showing::show_rules))]
 fn append_wait(
     alloc: Global,
     out: &mut Vec<u8>,
@@ -119,7 +118,7 @@ fn append_wait(
 }
 
 // Appends the lines of all runs that go on and wait; where memory is refused, a part of them.
-#[tactic(auto, using(crate::proofs::Showing::show_rules))]
+#[tactic(auto, using(tc_text::proofs::Showing::show_rules))]
 fn append_waiting(
     alloc: Global,
     out: &mut Vec<u8>,
@@ -140,7 +139,7 @@ fn append_waiting(
 }
 
 /// Appends who waits for whom where a witness ends since no run can go on. Where memory is refused, a part of it.
-#[tactic(auto, unfolding(crate::specs::Waits::waits), using(crate::proofs::Showing::show_rules))]
+#[tactic(auto, unfolding(crate::specs::Waits::waits), using(tc_text::proofs::Showing::show_rules))]
 pub(crate) fn append_waits(
     alloc: Global,
     out: &mut Vec<u8>,

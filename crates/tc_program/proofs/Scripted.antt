@@ -9,9 +9,9 @@ use Rattle.tc_verdict.specs.declared.verdict.Verdict.{Verdict}
 use Rattle.tc_step.specs.Steps.{ScriptView}
 use Rattle.tc_behaviour.specs.Acts.{Acts, MakesItsCalls}
 use Rattle.tc_behaviour.proofs.Running.{run_grown}
-use Rattle.tc_behaviour.proofs.Spelled.{are_called, made_of_calls}
+use Rattle.tc_scripted.proofs.Spelled.{are_called, made_of_calls}
 use Rattle.tc_script.specs.Law.{IsCase}
-use Rattle.tc_explore.proofs.Reports.{report_is_course}
+use Rattle.tc_scripted.proofs.Reports.{report_is_course}
 use Rattle.tc_book.specs.Passes.{PassState}
 use Rattle.tc_exec.specs.declared.job.Back.{Back}
 use Rattle.tc_exec.specs.Case.{IsCaseReport, IsMadeOf}

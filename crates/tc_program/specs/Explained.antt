@@ -4,7 +4,8 @@ use Rattle.tc_text.specs.declared.fault.TextFault.TheVariants as X
 use Rattle.tc_explain.specs.declared.sort.Refusal.{Refusal}
 use Rattle.tc_explain.specs.declared.sort.Refusal.TheVariants as R
 use Rattle.tc_explain.specs.Explanation.{explanation}
-use Rattle.tc_explain.specs.Notes.{Note, Tells}
+use Rattle.tc_text.specs.Shown.{Shows}
+use Rattle.tc_explain.specs.Notes.{Note}
 use Rattle.tc_command.specs.declared.task.Task.{Task}
 use Rattle.tc_command.specs.declared.task.Task.TheVariants as T
 use Rattle.tc_program.specs.declared.fault.RunFault.{RunFault}
@@ -28,7 +29,7 @@ notes_of (Some what) text = explanation what.0 text what.1
 
 -- this is told of the text of a task that has this fault: its line, and behind it what is explained
 abbrev pub IsToldOf : Task → List ℕ → RunFault → List ℕ → Type 0
-IsToldOf task text fault told = Tells (notes_of (refusal_of task fault) text) (line_of fault) told
+IsToldOf task text fault told = Shows (notes_of (refusal_of task fault) text) (line_of fault) told
 
 -- the outcome of a task whose text has this fault: that is told
 abbrev pub IsExplained : Task → List ℕ → RunFault → Option (List ℕ) → Option (List ℕ) → Outcome → Type 0

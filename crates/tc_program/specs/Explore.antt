@@ -5,7 +5,8 @@ use Rattle.tc_script.specs.Campaign.{CampaignView, campaign}
 use Rattle.tc_step.specs.Steps.{ScriptView}
 use Rattle.tc_explore.specs.declared.explored.Explored.{Explored}
 use Rattle.tc_explore.specs.Details.{details as of_details}
-use Rattle.tc_explore.specs.Shown.{Shown, Shows}
+use Rattle.tc_text.specs.Shown.{Shows}
+use Rattle.tc_explore.specs.Shown.{Shown}
 use Rattle.tc_explore.specs.Found.{AreWitnesses, AreLegal, AreReached}
 use Rattle.tc_explore.specs.Laws.{AllFound}
 use Rattle.tc_explore.specs.declared.explored.Ending.TheVariants as E

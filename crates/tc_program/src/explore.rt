@@ -3,7 +3,7 @@ ghost use Rattle.std.specs.Prelude.{◌≡◌, ◌≤◌, [], All, IfOk, IfErr, 
 ghost use Rattle.std.specs.List.{AllZip, flat_map};
 ghost use Rattle.tc_entry.specs.declared.limits.TheConstants.{BEHAVIOURS};
 ghost use Rattle.tc_explore.specs.Details.{AreLegalOf};
-ghost use Rattle.tc_explore.specs.Shown.{Shows};
+ghost use Rattle.tc_text.specs.Shown.{Shows};
 ghost use Rattle.tc_script.specs.Law.{IsCase};
 ghost use Rattle.tc_program.specs.Choosing.{RefusesScript};
 ghost use Rattle.tc_program.specs.Explore.{Explores, IsExplored, details_if, has_status as status_in, status_of_all, told_of};
@@ -41,7 +41,7 @@ fn scripts_of(alloc: Global, case: CaseScript) -> Result<Vec<Script>, NoMemory>
 }
 
 // The details of a test case with these scripts, where they are asked for.
-#[tactic(auto, using(tc_explore::proofs::Showing::shows_none))]
+#[tactic(auto, using(tc_text::proofs::Showing::shows_none))]
 fn details_of(
     alloc: Global,
     details: bool,

@@ -2,6 +2,7 @@
 #![tactic(auto)]
 
 mod limits;
+mod operation;
 mod place;
 mod places;
 mod script;

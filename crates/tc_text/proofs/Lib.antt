@@ -8,3 +8,4 @@ pub mod Naming
 pub mod Plain
 pub mod MoveLines
 pub mod SoFar
+pub mod Showing

@@ -4,4 +4,5 @@ pub mod Lines
 pub mod TextKind
 pub mod MoveList
 pub mod Reading
+pub mod Shown
 pub mod Inside

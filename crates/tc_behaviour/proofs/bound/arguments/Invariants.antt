@@ -1,6 +1,6 @@
 use Rattle.std.proofs.Common.{◌≡◌, ◌++◌, ◌≤◌, length, map, take}
 use Rattle.tc_entry.specs.declared.limits.TheConstants.{ARGUMENTS}
-use Rattle.tc_behaviour.specs.Calls.{component}
+use Rattle.tc_step.specs.Operation.{component}
 use Rattle.tc_behaviour.proofs.bound.arguments.Given as goal
 
 abbrev pub invariant-loop-place : goal.invariant-loop-place

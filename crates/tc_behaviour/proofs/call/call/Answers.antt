@@ -2,7 +2,7 @@ use Rattle.std.proofs.Common.{◌∙◌, ◌++◌, All, ap, refl, subst, map, le
 use Rattle.std.proofs.lemmas.List.Elements.{All-tail}
 use Rattle.tc_step.specs.declared.step.Step.TheVariants as S
 use Rattle.tc_step.specs.Steps.{IsBound, places}
-use Rattle.tc_behaviour.specs.Calls.{component}
+use Rattle.tc_step.specs.Operation.{component}
 use Rattle.tc_behaviour.proofs.Carrying.{plain_step, start_same}
 use Rattle.tc_behaviour.proofs.call.call.Goals as goal
 

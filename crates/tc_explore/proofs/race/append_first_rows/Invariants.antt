@@ -1,6 +1,6 @@
 use Rattle.std.specs.List.{flat_map, range_with_len}
 use Rattle.tc_explore.specs.Race.{row_at}
-use Rattle.tc_explore.specs.Shown.{Shows}
+use Rattle.tc_text.specs.Shown.{Shows}
 use Rattle.tc_explore.proofs.race.append_first_rows.Given as goal
 
 abbrev pub invariant-loop-at : goal.invariant-loop-at

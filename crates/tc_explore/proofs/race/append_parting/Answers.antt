@@ -1,7 +1,8 @@
 use Rattle.std.proofs.Common.{OnOk, ◌∷◌, ◌∙◌, ap, drop, subst}
 use Rattle.tc_explore.specs.Race.{rows}
-use Rattle.tc_explore.specs.Shown.{Alike, Heads, Shows}
-use Rattle.tc_explore.proofs.Showing.{on_ok, shows_before}
+use Rattle.tc_text.specs.Shown.{Shows}
+use Rattle.tc_explore.specs.Shown.{Alike, Heads}
+use Rattle.tc_text.proofs.Showing.{on_ok, shows_before}
 use Rattle.tc_explore.proofs.race.append_parting.Goals as goal
 
 pub returns : goal.returns

@@ -1,6 +1,6 @@
 use Rattle.std.proofs.Common.{rules, ◌≡◌, OnOk, subst}
 use Rattle.tc_explore.specs.Race.{alike_count, parting, race}
-use Rattle.tc_explore.specs.Shown.{Shows}
+use Rattle.tc_text.specs.Shown.{Shows}
 use Rattle.tc_explore.proofs.race.append_race.Goals as goal
 
 pub returns : goal.returns

@@ -1,8 +1,9 @@
 use Rattle.std.proofs.Common.{rules, ◌<◌, ◌≤◌, get_or, length, subst, sym}
 use Rattle.std.proofs.lemmas.Option.{slice_get_past, slice_get-get_or}
-use Rattle.tc_explore.specs.Shown.{Shows, Unseen}
+use Rattle.tc_text.specs.Shown.{Shows}
+use Rattle.tc_explore.specs.Shown.{Unseen}
 use Rattle.tc_explore.specs.Unseen.{unseen_among, unseen_if_any}
-use Rattle.tc_explore.proofs.Showing.{on_ok, shows_none, shows_one}
+use Rattle.tc_text.proofs.Showing.{on_ok, shows_none, shows_one}
 use Rattle.tc_explore.proofs.unseen.append_among.Goals as goal
 
 pub returns-then-before-steps : goal.returns-then-before-steps
@@ -10,7 +11,7 @@ unfolding unseen_among
 returns-then-before-steps c =
     let out = c.args.out.now.items in
     let past : length c.args.steps.now ≤ c.args.before = search rules in
-    subst (λ step. Shows (unseen_if_any c.args.run c.args.before step) out out) (sym (slice_get_past c.args.steps.now c.args.before past)) (shows_none out)
+    subst (λ step. Shows (unseen_if_any c.args.run c.args.before step) out out) (sym (slice_get_past c.args.steps.now c.args.before past)) (shows_none _ out)
 
 pub returns : goal.returns
 unfolding unseen_among

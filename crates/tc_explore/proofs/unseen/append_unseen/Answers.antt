@@ -1,6 +1,6 @@
 use Rattle.std.proofs.Common.{subst}
 use Rattle.std.specs.Prelude.{slice_index_or}
-use Rattle.tc_explore.specs.Shown.{Shows}
+use Rattle.tc_text.specs.Shown.{Shows}
 use Rattle.tc_explore.specs.Unseen.{unseen_among, unseen_of}
 use Rattle.tc_explore.proofs.Showing.{shows_number}
 use Rattle.tc_explore.proofs.unseen.append_unseen.Goals as goal

@@ -1,5 +1,5 @@
 use Rattle.std.specs.List.{flat_map, range_with_len}
-use Rattle.tc_explore.specs.Shown.{Shows}
+use Rattle.tc_text.specs.Shown.{Shows}
 use Rattle.tc_explore.specs.Unseen.{unseen_of}
 use Rattle.tc_explore.proofs.unseen.append_unseen.Given as goal
 

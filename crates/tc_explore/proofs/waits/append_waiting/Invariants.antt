@@ -1,6 +1,6 @@
 use Rattle.std.proofs.Common.{reverse}
 use Rattle.std.specs.List.{flat_map, range_with_len}
-use Rattle.tc_explore.specs.Shown.{Shows}
+use Rattle.tc_text.specs.Shown.{Shows}
 use Rattle.tc_explore.specs.Waits.{wait}
 use Rattle.tc_explore.proofs.waits.append_waiting.Given as goal
 

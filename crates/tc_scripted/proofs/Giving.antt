@@ -17,6 +17,7 @@ use Rattle.tc_step.specs.declared.step.Status.{Status}
 use Rattle.tc_step.specs.declared.step.Status.TheVariants as Asks
 use Rattle.tc_step.specs.declared.step.Step.{Step}
 use Rattle.tc_step.specs.declared.step.Step.TheVariants as S
+use Rattle.tc_step.specs.Operation.{operation, question, target, component}
 use Rattle.tc_step.specs.Steps.{ScriptView}
 use Rattle.tc_script.specs.Scope.{Head}
 use Rattle.tc_script.specs.Law.{StartsOne}
@@ -24,7 +25,7 @@ use Rattle.tc_book.specs.Passes.{PassState, LeftState, has_ended, added, entry_o
 use Rattle.tc_exec.specs.declared.job.Back.{Back}
 use Rattle.tc_exec.specs.Workers.{HasLeft, IsLeftBy}
 use Rattle.tc_behaviour.specs.Acts.{Acts}
-use Rattle.tc_behaviour.specs.Calls.{Calls, HasCalled, none, one_more, operation, question, target, component}
+use Rattle.tc_behaviour.specs.Calls.{Calls, HasCalled, none, one_more}
 
 -- a Start is of a behaviour with as many parameters as it gives arguments
 abbrev pub GivesAll : List Head → Op → Type 0

@@ -36,7 +36,7 @@ use Rattle.tc_exec.specs.Case.{AreCalled, IsMadeOf}
 use Rattle.tc_exec.specs.Workers.{WasCalledFor, WasStarted, IsLeftBy, AreLeftBy}
 use Rattle.tc_exec.proofs.Calls.{at, all_called, unstarted_comp}
 use Rattle.tc_behaviour.specs.Acts.{Acts, MakesItsCalls}
-use Rattle.tc_behaviour.proofs.Giving.{GivesAll, GiveAll, worker_gives}
+use Rattle.tc_scripted.proofs.Giving.{GivesAll, GiveAll, worker_gives}
 
 -- ---- a history and its starts
 

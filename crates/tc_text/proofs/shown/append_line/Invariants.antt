@@ -1,5 +1,5 @@
-use Rattle.tc_explain.proofs.Showing.{IsBegun}
-use Rattle.tc_explain.proofs.append.append_line.Given as goal
+use Rattle.tc_text.proofs.Showing.{IsBegun}
+use Rattle.tc_text.proofs.shown.append_line.Given as goal
 
 abbrev pub invariant-loop-byte : goal.invariant-loop-byte
 invariant-loop-byte l = IsBegun l.fn.out.items l.out.items

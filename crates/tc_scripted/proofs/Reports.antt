@@ -31,8 +31,8 @@ use Rattle.tc_behaviour.specs.Acts.{MakesItsCalls}
 use Rattle.tc_behaviour.proofs.Running.{run_grown}
 use Rattle.tc_explore.specs.Course.{Stand, after_own, after_other_by, arguments, stand, started, steps_in, script_of, turn, turn_on, IsTurn, IsCourse}
 use Rattle.tc_explore.specs.Found.{IsWitness}
-use Rattle.tc_explore.specs.Reports.{ReportIsCourse, ReportIsFound}
-use Rattle.tc_explore.proofs.Logging.{AreTurns, IsLogOf, IsOwnTurn, after_all, after_append, after_comp, fresh, log_left, turn_at}
+use Rattle.tc_scripted.specs.Reports.{ReportIsCourse, ReportIsFound}
+use Rattle.tc_scripted.proofs.Logging.{AreTurns, IsLogOf, IsOwnTurn, after_all, after_append, after_comp, fresh, log_left, turn_at}
 use Rattle.tc_explore.proofs.Standings.{run_in_range, stand_other, stand_own, unstarted}
 
 -- ---- what a run was started with

@@ -16,6 +16,7 @@ use Rattle.tc_step.specs.declared.step.Step.{Step}
 use Rattle.tc_step.specs.declared.step.Step.TheVariants as S
 use Rattle.tc_step.specs.declared.place.Place.{Place}
 use Rattle.tc_step.specs.declared.place.TargetPlace.{TargetPlace}
+use Rattle.tc_step.specs.Operation.{operation, target}
 use Rattle.tc_step.specs.Steps.{ScriptView}
 use Rattle.tc_table.specs.History.{created, ends_pass}
 use Rattle.tc_table.proofs.Deciding.{self_equal}
@@ -25,7 +26,7 @@ use Rattle.tc_exec.specs.declared.job.Back.{Back}
 use Rattle.tc_exec.specs.declared.job.Ending.TheVariants as E
 use Rattle.tc_exec.specs.Workers.{HasLeft}
 use Rattle.tc_behaviour.specs.Acts.{MakesItsCalls}
-use Rattle.tc_behaviour.specs.Calls.{Calls, HasCalled, operation, target, bound_behind, ending}
+use Rattle.tc_behaviour.specs.Calls.{Calls, HasCalled, bound_behind, ending}
 use Rattle.tc_behaviour.specs.Calls.HasCalled.{none, one_more}
 use Rattle.tc_explore.specs.Course.{Stand, after_own, as_list, call_of, is_idle, is_idle_by, is_wake, turn_on, wake_for, wake_if, wake_or}
 use Rattle.tc_explore.proofs.Turning.{other_not_idle}

@@ -1,0 +1,12 @@
+//! Laws of the reports of runs of scripts: each function does nothing, and its contract is the law.
+ghost use Rattle.tc_scripted.specs.Reports as reports;
+
+/// The history of a report of a run of scripts is a complete course of them, with the verdict of the report.
+pub fn report_is_course()
+    ensures { reports.ReportIsCourse }
+{}
+
+/// Where the verdict of each complete course is found, the verdict of each report of a run of the scripts is.
+pub fn report_is_found()
+    ensures { reports.ReportIsFound }
+{}
