@@ -2,7 +2,7 @@
 use Rattle.std.proofs.Common.{ℕ, ◌≡◌, ◌∙◌, ◌+◌, ◌<◌, List, [], ◌∷◌, ◌++◌, length, take, get_or, refl, ap, arith}
 use Rattle.std.specs.Prelude.{max}
 use Rattle.std.proofs.lemmas.List.{take_more}
-use Rattle.tc_forms.specs.declared.summary.Summary.{Summary}
+use Rattle.tc_report.specs.declared.summary.Summary.{Summary}
 use Rattle.tc_chart.specs.Chart.{most_components}
 
 most-more : (ss : List Summary) (s : Summary) → most_components (ss ++ s ∷ []) ≡ max (most_components ss) (length s.locals)

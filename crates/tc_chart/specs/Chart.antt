@@ -15,8 +15,8 @@ use Rattle.tc_history.specs.declared.read.Block.{Block}
 use Rattle.tc_report.specs.declared.results.CaseEnd.{CaseEnd}
 use Rattle.tc_report.specs.declared.results.CaseEnd.TheVariants as C
 use Rattle.tc_report.specs.Csv.{end_word}
-use Rattle.tc_forms.specs.declared.summary.Summary.{Summary}
-use Rattle.tc_forms.specs.Status.{counted_as}
+use Rattle.tc_report.specs.declared.summary.Summary.{Summary}
+use Rattle.tc_report.specs.Status.{counted_as}
 use Rattle.tc_chart.specs.declared.arcs.Mark.TheVariants as M
 use Rattle.tc_chart.specs.declared.arcs.Piece.TheVariants as P
 use Rattle.tc_chart.specs.Arcs.{behind_label, between_text, label_end, line_text, piece}

@@ -11,9 +11,8 @@ use crate::heads::{append_heads, most_components};
 use crate::runs::RunComps;
 use std::alloc::Global;
 use tc_entry::{COMPONENTS, Entry, Name, NoMemory, Verdict};
-use tc_forms::{Summary, counted_as};
 use tc_history::Block;
-use tc_report::{CaseEnd, end_word};
+use tc_report::{CaseEnd, Summary, counted_as, end_word};
 use tc_text::{append_number, append_text};
 use tc_verdict::name as name_of;
 

@@ -5,8 +5,8 @@ ghost use Rattle.tc_chart.specs.Chart as spec;
 
 use crate::arcs::{Piece, append_line, append_piece};
 use tc_entry::{Comp, Entry, Name, NoMemory, Op, Reply};
-use tc_forms::Summary;
 use tc_history::Block;
+use tc_report::Summary;
 use tc_text::{append_number, append_text};
 
 // The larger of two numbers.

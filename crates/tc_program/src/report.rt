@@ -16,8 +16,8 @@ use std::alloc::Global;
 use tc_chart::chart_report;
 use tc_command::{ReportForm, VERSION};
 use tc_entry::Sequence;
-use tc_forms::{Summary, csv_report, junit_report, worst_status};
 use tc_history::{Header, TakesHistories, read_history, read_history_into};
+use tc_report::{Summary, csv_report, junit_report, worst_status};
 use tc_table::{Entry, NoMemory, Verdict};
 use tc_text::append_text;
 
