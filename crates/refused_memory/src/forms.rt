@@ -5,14 +5,11 @@ use crate::refusal::Refusal;
 use crate::results::{blocks, finished, results};
 use std::alloc::Global;
 use tc_entry::{Entry, NoMemory};
-use tc_forms::{
-    Summary, csv_report, junit_report, summaries_of_results, summary_of_case, summary_of_state,
-    write_junit,
-};
 use tc_history::Block;
 use tc_page::html_page;
 use tc_report::{
-    Finished, OutFault, Results, csv_header, csv_row, write_csv, write_history, write_text,
+    Finished, OutFault, Results, Summary, csv_report, junit_report, summaries_of_results,
+    summary_of_case, summary_of_state, write_csv, write_history, write_junit, write_text,
 };
 use tc_table::CaseState;
 
@@ -55,22 +52,12 @@ fn add_summaries(alloc: Global, blocks: &[Block], cases: &mut Vec<Summary>) -> b
     true
 }
 
-/// The row of the first test case in the CSV report.
-fn row(alloc: Global, cases: &[Summary]) -> Result<Vec<u8>, NoMemory> {
-    match cases.first() {
-        Some(case) => csv_row(alloc, &case.name, case.locals.as_slice(), case.ending),
-        None => Err(NoMemory),
-    }
-}
-
 /// The text of the form of histories in this place.
 fn text(alloc: Global, place: usize, cases: &[Summary]) -> Result<Vec<u8>, NoMemory> {
     match place {
         0 => csv_report(alloc, cases),
         1 => junit_report(alloc, VERSION, cases),
-        2 => html_page(alloc, HISTORY),
-        3 => csv_header(alloc),
-        _ => row(alloc, cases),
+        _ => html_page(alloc, HISTORY),
     }
 }
 
@@ -214,9 +201,9 @@ fn make_of_case(alloc: Global, refusal: &mut Refusal) -> Option<Outcome> {
 /// Each of the forms of histories and of results, the summaries of a state, of results and of a test case.
 pub(crate) fn make(alloc: Global, place: usize, refusal: &mut Refusal) -> Option<Outcome> {
     match place {
-        0..=5 => make_of_blocks(alloc, place, refusal),
-        6..=10 => make_of_results(alloc, place - 6, refusal),
-        11 => make_of_case(alloc, refusal),
+        0..=3 => make_of_blocks(alloc, place, refusal),
+        4..=8 => make_of_results(alloc, place - 4, refusal),
+        9 => make_of_case(alloc, refusal),
         _ => None,
     }
 }

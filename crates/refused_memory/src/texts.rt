@@ -8,7 +8,7 @@ use tc_entry::{Entry, Fault, Name, NoMemory, Op, Reply, Run, Verdict};
 use tc_exec::CaseError;
 use tc_explain::{Refusal as Refused, explain};
 use tc_history::{read_history, write_block};
-use tc_report::{append_aborted, append_locals, append_verdict};
+use tc_report::{append_aborted, append_verdict};
 use tc_script::{Campaign, CaseScript, ReadFault, ScriptKind, read_campaign};
 use tc_step::Script;
 use tc_stream::{InputFault, read_input};
@@ -219,7 +219,6 @@ enum Text<'a> {
     Block(&'a [Entry]),
     Words(&'a str),
     Number(u64),
-    Locals(&'a [Verdict]),
     Verdict(Verdict),
     Aborted(CaseError),
 }
@@ -233,7 +232,6 @@ fn append(out: &mut Vec<u8>, text: &Text, name: &Name) -> Result<(), NoMemory> {
         Text::Block(entries) => write_block(out, name, 8, entries, Verdict::Error),
         Text::Words(words) => append_text(out, words),
         Text::Number(number) => append_number(out, *number),
-        Text::Locals(locals) => append_locals(out, locals),
         Text::Verdict(verdict) => append_verdict(out, *verdict),
         Text::Aborted(why) => append_aborted(out, name, *why),
     }
@@ -348,14 +346,11 @@ pub(crate) fn write(alloc: Global, place: usize, refusal: &mut Refusal) -> Optio
     }
 }
 
-const LOCALS: [Verdict; 3] = [Verdict::None, Verdict::Inconc, Verdict::Error];
-
-/// The lines of local verdicts, the line of an overall verdict, and which test case was refused: writers that leave a part.
+/// The line of an overall verdict, and which test case was refused: writers that leave a part.
 pub(crate) fn write_part(alloc: Global, place: usize, refusal: &mut Refusal) -> Option<Outcome> {
     let text = match place {
-        0 => Text::Locals(&LOCALS),
-        1 => Text::Verdict(Verdict::Inconc),
-        2 => Text::Aborted(CaseError::TooManyBehaviours),
+        0 => Text::Verdict(Verdict::Inconc),
+        1 => Text::Aborted(CaseError::TooManyBehaviours),
         _ => return None,
     };
     append_one(alloc, &text, true, refusal)

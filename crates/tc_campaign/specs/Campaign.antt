@@ -82,6 +82,7 @@ abbrev pub IsWhy : ℕ → Option Outline → CampaignEnd → Type 0
 IsWhy threads next (E.Aborted name why) = IfSome next (IsRefusal threads why)
 IsWhy threads next ending = ⊤
 
+-- where the campaign was aborted for what the jobs of the next case handed back, each was called, was not refused memory, and handed it back
 abbrev pub IsTornAt : {B : Type 0} → (B → PassState → Back → Type 0) → Option (Case B) → CampaignEnd → Type 0
 IsTornAt outcome next (E.Aborted name why) = IfSome next (IsTorn outcome why)
 IsTornAt outcome next ending = ⊤

@@ -6,7 +6,7 @@ use std::process::Abort;
 use std::test::Fail;
 use tc_campaign::{OutFault, Results, write_abort};
 use tc_exec::CaseError;
-use tc_forms::{
+use tc_report::{
     Summary, csv_report, junit_report, summaries_of_results, worst_status, write_junit,
 };
 

@@ -7,10 +7,10 @@ use Rattle.tc_entry.specs.declared.entry.Entry.{Entry}
 use Rattle.tc_table.specs.Standing.{StandsFor}
 use Rattle.tc_history.specs.declared.read.Block.{Block}
 use Rattle.tc_history.specs.Text.{AreHistories, block_lines, header_of}
-use Rattle.tc_forms.specs.declared.summary.Summary.{Summary}
-use Rattle.tc_forms.specs.Status.{status_of_summaries}
-use Rattle.tc_forms.specs.Summary.{block_summary, case_summary, summary_of}
-use Rattle.tc_forms.proofs.Agreeing.{one_same}
+use Rattle.tc_report.specs.declared.summary.Summary.{Summary}
+use Rattle.tc_report.specs.Status.{status_of_summaries}
+use Rattle.tc_report.specs.Summary.{block_summary, case_summary, summary_of}
+use Rattle.tc_report.proofs.Agreeing.{one_same}
 use Rattle.tc_report.specs.declared.results.Finished.{Finished}
 use Rattle.tc_report.specs.declared.results.Results.{Results}
 use Rattle.tc_report.specs.Histories.{histories_text}
@@ -125,7 +125,7 @@ summaries_written : (line : ℕ) (fs : List Finished) → All WasRun fs → map 
 summaries_written line [] all = refl
 summaries_written line (f ∷ fs) all =
     let this = All-head WasRun f fs all in
-    let first = one_same f (block_of line f) (record { name = refl; entries = refl }) this.report in
+    let first = one_same f (block_of line f) (record { name = refl; entries = refl; report = this.report }) in
     let rest = summaries_written (line + length (block_lines (block_of line f))) fs (All-tail WasRun f fs all) in
     rw (first, rest) refl
 

@@ -6,8 +6,8 @@ use Rattle.tc_report.specs.declared.form.Form.TheVariants as ReportForms
 use Rattle.tc_report.specs.Live.{form_text}
 use Rattle.tc_report.specs.Output.{LeavesPrefix}
 use Rattle.tc_report.specs.declared.fault.OutFault.{OutFault}
-use Rattle.tc_forms.specs.Junit.{junit_of}
-use Rattle.tc_forms.specs.Summary.{results_summaries}
+use Rattle.tc_report.specs.Junit.{junit_of}
+use Rattle.tc_report.specs.Summary.{results_summaries}
 use Rattle.tc_command.specs.declared.command.TheConstants.{VERSION}
 use Rattle.tc_command.specs.declared.task.Form.{Form}
 use Rattle.tc_command.specs.declared.task.Form.TheVariants as Forms

@@ -40,8 +40,8 @@ use Rattle.tc_program.specs.Choosing.{AreChosen}
 use Rattle.tc_program.specs.Made.{Makes, Refuses}
 use Rattle.tc_program.specs.Program.{IsDone}
 use Rattle.tc_program.specs.declared.reply.Answer.{Answer}
-use Rattle.tc_forms.specs.declared.summary.Summary.{Summary}
-use Rattle.tc_forms.specs.Summary.{block_summary}
+use Rattle.tc_report.specs.declared.summary.Summary.{Summary}
+use Rattle.tc_report.specs.Summary.{block_summary}
 use Rattle.tc_program.specs.Give.{LeavesUnwritten}
 
 -- the fault for an input that could not be read whole

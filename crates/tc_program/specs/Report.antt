@@ -7,11 +7,11 @@ use Rattle.tc_command.specs.declared.task.ReportForm.TheVariants as Forms
 use Rattle.tc_history.specs.declared.read.Block.{Block}
 use Rattle.tc_history.specs.Text.{AreHistories}
 use Rattle.tc_page.specs.Page.{page_of}
-use Rattle.tc_forms.specs.declared.summary.Summary.{Summary}
-use Rattle.tc_forms.specs.Csv.{csv_of}
-use Rattle.tc_forms.specs.Junit.{junit_of}
-use Rattle.tc_forms.specs.Status.{status_of_summaries}
-use Rattle.tc_forms.specs.Summary.{block_summary}
+use Rattle.tc_report.specs.declared.summary.Summary.{Summary}
+use Rattle.tc_report.specs.Csv.{csv_of}
+use Rattle.tc_report.specs.Junit.{junit_of}
+use Rattle.tc_report.specs.Status.{status_of_summaries}
+use Rattle.tc_report.specs.Summary.{block_summary}
 use Rattle.tc_program.specs.declared.judge.Judgement.{Judgement}
 use Rattle.tc_program.specs.declared.reply.Answer.{Answer}
 use Rattle.tc_program.specs.Check.{Checks, judgement_line, judges_legal}

@@ -12,8 +12,8 @@ use Rattle.tc_campaign.specs.Outline.{Outline}
 use Rattle.tc_campaign.specs.Campaign.{HasBehaviours, IsReported}
 use Rattle.tc_command.specs.declared.task.ReportForm.{ReportForm}
 use Rattle.tc_command.specs.declared.task.Task.TheVariants as T
-use Rattle.tc_forms.specs.Status.{status_of_summaries}
-use Rattle.tc_forms.specs.Summary.{case_summary}
+use Rattle.tc_report.specs.Status.{status_of_summaries}
+use Rattle.tc_report.specs.Summary.{case_summary}
 use Rattle.tc_program.specs.declared.reply.Answer.{Answer}
 use Rattle.tc_program.specs.Check.{RefusesHistory}
 use Rattle.tc_program.specs.Made.{Makes}

@@ -12,7 +12,7 @@ use tc_campaign::{
     Form as ReportForm, OutFault, Results, status_of, write_csv, write_history, write_text,
 };
 use tc_command::{Form, VERSION};
-use tc_forms::write_junit;
+use tc_report::write_junit;
 
 /// The form in which test cases are written as they finish; a JUnit report has none, since its head counts all of them.
 pub(crate) fn live_form(form: Form) -> Option<ReportForm>

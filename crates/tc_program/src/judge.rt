@@ -3,14 +3,14 @@ ghost use Rattle.std.specs.Prelude.{◌≡◌, ◌<◌, [], ℕ, List, IfOk, OnO
 ghost use Rattle.tc_history.specs.Text.{IsHeader};
 ghost use Rattle.tc_entry.specs.declared.entry.Entry.{Entry as AnyEntry};
 ghost use Rattle.tc_table.specs.Standing.{StandsFor};
-ghost use Rattle.tc_forms.specs.Summary.{summary_of};
+ghost use Rattle.tc_report.specs.Summary.{summary_of};
 ghost use Rattle.tc_program.specs.Check.{judges_legal};
 ghost use Rattle.tc_program.specs.Inside.{IsPlayed, JudgesPlayed, PlaysNext};
 
 use std::alloc::Global;
 use tc_entry::Name;
-use tc_forms::{Summary, summary_of_state};
 use tc_history::Header;
+use tc_report::{Summary, summary_of_state};
 use tc_table::{CaseState, Entry, NoMemory, Reply, Verdict};
 
 /// What the table says of a history, with all that is printed of it.

@@ -14,9 +14,9 @@ use crate::reply::Answer;
 use std::alloc::Global;
 use tc_command::{ReportForm, VERSION};
 use tc_entry::Sequence;
-use tc_forms::{Summary, csv_report, junit_report, worst_status};
 use tc_history::{Header, TakesHistories, read_history_into};
 use tc_page::html_page;
+use tc_report::{Summary, csv_report, junit_report, worst_status};
 use tc_table::{Entry, NoMemory, Verdict};
 use tc_text::append_text;
 

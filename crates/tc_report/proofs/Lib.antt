@@ -1,5 +1,6 @@
 -- The lemmas of this crate.
 pub mod Aborts
+pub mod Agreeing
 pub mod Counting
 pub mod Keeping
 pub mod Locals

@@ -1,14 +1,13 @@
 -- What a live writer has written and counted, test case by test case.
 use Rattle.std.proofs.Common.{ℕ, ◌≡◌, ◌∙◌, ◌+◌, Bool, true, false, List, [], ◌∷◌, ◌++◌, Option, length, map, refl, sym, ap, subst, append_assoc}
 use Rattle.std.specs.Prelude.{◌==◌, if◌then◌else◌, filter}
-use Rattle.std.proofs.lemmas.List.{append-nil, length-append, map-append}
+use Rattle.std.proofs.lemmas.List.{append-nil, length-append}
 use Rattle.std.proofs.lemmas.List.Elements.{filter-append}
 use Rattle.std.specs.Borrow.{GName}
 use Rattle.std.specs.Io.KnownBytes.{Appends}
 use Rattle.tc_verdict.specs.declared.verdict.Verdict.{Verdict}
 use Rattle.tc_verdict.specs.declared.verdict.Verdict.TheVariants as V
-use Rattle.tc_verdict.specs.Verdict.{level_of, worst, worse}
-use Rattle.tc_verdict.proofs.Order.{worst-more}
+use Rattle.tc_verdict.specs.Verdict.{level_of, worse}
 use Rattle.tc_stream.specs.Output.{AppendsPrefix}
 use Rattle.tc_report.specs.declared.fault.OutFault.{OutFault}
 use Rattle.tc_report.specs.declared.form.Form.{Form}
@@ -18,8 +17,10 @@ use Rattle.tc_report.specs.Live.{LiveState, IsWritten, Writes, closing_text, for
 use Rattle.tc_report.specs.Inside.{text_so_far}
 use Rattle.tc_report.specs.Observers.{AreTaken, IsEndedAt}
 use Rattle.tc_report.specs.Output.{LeavesPrefix}
-use Rattle.tc_report.specs.Status.{ending_status, overall_of, results_status, worst_overall}
+use Rattle.tc_report.specs.Status.{ending_status, results_status, worst_of}
+use Rattle.tc_report.specs.Summary.{case_summary}
 use Rattle.tc_report.specs.Tally.{cases_of, no_cases, tally_of_cases}
+use Rattle.tc_report.proofs.Overalls.{worst_more}
 use Rattle.tc_report.proofs.Writing.{appends_both, left_is_prefix, prefix_behind, prefix_longer, so_far_more, whole_text}
 
 one_counted : (p : Finished → Bool) (f : Finished) → length (filter p (f ∷ [])) ≡ one_if (p f)
@@ -40,16 +41,12 @@ pub tally_more : (fs : List Finished) (f : Finished) → tally_with (tally_of_ca
 tally_more fs f =
     rw (length-append fs (f ∷ []), cases_more V.None fs f, cases_more V.Pass fs f, cases_more V.Inconc fs f, cases_more V.Fail fs f, cases_more V.Error fs f) refl
 
--- the worst overall verdict, one test case more
-pub worst_more : (fs : List Finished) (f : Finished) → worse (worst_overall fs) f.report.verdict ≡ worst_overall (fs ++ f ∷ [])
-worst_more fs f = sym (ap worst (map-append overall_of fs (f ∷ [])) ∙ worst-more (map overall_of fs) f.report.verdict)
-
 -- where a writer that held `start` stands when these test cases were written
 pub record IsAt (form : Form) (start : Option (List ℕ)) (fs : List Finished) (state : LiveState) : Type 0 where
   pub form_is : state.form ≡ form
   pub out : Appends start state.out (text_so_far form fs)
   pub tally : state.tally ≡ tally_of_cases fs
-  pub worst_is : state.worst ≡ worst_overall fs
+  pub worst_is : state.worst ≡ worst_of (map case_summary fs)
 
 -- where it stands when only what is before the test cases was written
 pub begun : (form : Form) (start : Option (List ℕ)) (state : LiveState) → state.form ≡ form → Appends start state.out (opening_text form)

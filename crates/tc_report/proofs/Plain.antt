@@ -14,6 +14,7 @@ use Rattle.tc_verdict.specs.Verdict.{name_of}
 use Rattle.tc_entry.specs.Name.{is_name_byte, IsName}
 use Rattle.tc_report.specs.declared.results.CaseEnd.{CaseEnd}
 use Rattle.tc_report.specs.declared.results.CaseEnd.TheVariants as C
+use Rattle.tc_report.specs.declared.summary.Summary.{Summary}
 use Rattle.tc_report.specs.Csv.{csv_line, counts_of, end_word, row_fields}
 
 -- no byte of the field calls for quotes
@@ -55,12 +56,11 @@ counts-unquoted (n ∷ ns) rest digits plain =
     All-cons IsUnquoted (decimal n) (map decimal ns ++ rest) (decimal-unquoted n (All-head IsBoundedDecimal n ns digits))
     (counts-unquoted ns rest (All-tail IsBoundedDecimal n ns digits) plain)
 
-pub fields-unquoted : (name : List ℕ) (locals : List Verdict) (ending : CaseEnd) → IsName name → All IsBoundedDecimal (counts_of locals)
-    → All IsUnquoted (row_fields name locals ending)
-fields-unquoted name locals ending named digits =
-    let last = All-cons IsUnquoted (end_word ending) [] (end-unquoted ending) (All-nil IsUnquoted) in
-    All-cons IsUnquoted name (map decimal (counts_of locals) ++ end_word ending ∷ []) (name-unquoted name named)
-    (counts-unquoted (counts_of locals) (end_word ending ∷ []) digits last)
+pub fields-unquoted : (s : Summary) → IsName s.name → All IsBoundedDecimal (counts_of s.locals) → All IsUnquoted (row_fields s)
+fields-unquoted s named digits =
+    let last = All-cons IsUnquoted (end_word s.ending) [] (end-unquoted s.ending) (All-nil IsUnquoted) in
+    All-cons IsUnquoted s.name (map decimal (counts_of s.locals) ++ end_word s.ending ∷ []) (name-unquoted s.name named)
+    (counts-unquoted (counts_of s.locals) (end_word s.ending ∷ []) digits last)
 
 field_text-unquoted : (f : List ℕ) → IsUnquoted f → field_text default_writer f ≡ f
 field_text-unquoted f plain = rw plain refl

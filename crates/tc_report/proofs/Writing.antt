@@ -1,6 +1,7 @@
 -- The pieces of a text, written one behind the other.
 use Rattle.std.proofs.Common.{ℕ, ◌≡◌, ◌∙◌, ◌+◌, arith, List, [], ◌∷◌, ◌++◌, Option, Some, None, length, take, refl, sym, ap, subst, append_assoc}
 use Rattle.std.proofs.lemmas.List.{append-nil, flat_map_more, length-append, take-append-le}
+use Rattle.std.proofs.lemmas.List.Folds.{flat_map-map}
 use Rattle.std.proofs.Math.Seq.{take-append-add, take-length}
 use Rattle.std.specs.Io.KnownBytes.{Appends, Keeps}
 use Rattle.tc_stream.specs.Output.{AppendsPrefix}
@@ -10,9 +11,11 @@ use Rattle.tc_report.specs.declared.form.Form.{Form}
 use Rattle.tc_report.specs.declared.form.Form.TheVariants as F
 use Rattle.tc_report.specs.declared.results.CampaignEnd.{CampaignEnd}
 use Rattle.tc_report.specs.declared.results.Finished.{Finished}
+use Rattle.tc_report.specs.Csv.{header_text, row_line}
 use Rattle.tc_report.specs.Live.{closing_text, form_text, part_text}
 use Rattle.tc_report.specs.Inside.{text_so_far}
 use Rattle.tc_report.specs.Output.{LeavesPrefix}
+use Rattle.tc_report.specs.Summary.{case_summary}
 use Rattle.tc_report.specs.Tally.{tally_of_cases}
 
 -- two texts, one behind the other
@@ -63,5 +66,5 @@ so_far_more form fs f = flat_map_more (part_text form) _ fs f
 pub whole_text : (form : Form) (fs : List Finished) (ending : CampaignEnd)
     → text_so_far form fs ++ closing_text form (tally_of_cases fs) ending ≡ form_text form (record { finished = fs; ending = ending })
 whole_text F.Text fs ending = refl
-whole_text F.Csv fs ending = append-nil _
+whole_text F.Csv fs ending = append-nil _ ∙ ap (λ l. header_text ++ l) (sym (flat_map-map row_line case_summary fs))
 whole_text F.History fs ending = append-nil _

@@ -1,4 +1,4 @@
--- The CSV report of a campaign.
+-- The CSV report of test cases.
 use Rattle.std.specs.Prelude.{ℕ, List, [], ◌∷◌, ◌++◌, length, map, codes}
 use Rattle.std.specs.List.{flat_map, join_with_byte}
 use Rattle.std.specs.Fmt.{decimal}
@@ -8,7 +8,8 @@ use Rattle.tc_verdict.specs.Verdict.{name_of}
 use Rattle.tc_report.specs.declared.results.CaseEnd.{CaseEnd}
 use Rattle.tc_report.specs.declared.results.CaseEnd.TheVariants as C
 use Rattle.tc_report.specs.declared.results.Results.{Results}
-use Rattle.tc_report.specs.declared.results.Finished.{Finished}
+use Rattle.tc_report.specs.declared.summary.Summary.{Summary}
+use Rattle.tc_report.specs.Summary.{case_summary}
 use Rattle.tc_report.specs.Tally.{count_of}
 
 -- fields with a comma between them, and LF
@@ -30,18 +31,18 @@ end_word (C.Over v) = name_of v
 end_word C.Unfinished = codes "unfinished"
 end_word (C.Aborted why) = codes "aborted"
 
--- a test case of this name, with these local verdicts: its name, the counts, and its end
-abbrev pub row_fields : List ℕ → List Verdict → CaseEnd → List (List ℕ)
-row_fields name locals ending = name ∷ (map decimal (counts_of locals) ++ end_word ending ∷ [])
+-- a test case: its name, the counts, and its end
+abbrev pub row_fields : Summary → List (List ℕ)
+row_fields s = s.name ∷ (map decimal (counts_of s.locals) ++ end_word s.ending ∷ [])
 
--- the line of such a test case
-abbrev pub row_line : List ℕ → List Verdict → CaseEnd → List ℕ
-row_line name locals ending = csv_line (row_fields name locals ending)
+-- the line of a test case
+abbrev pub row_line : Summary → List ℕ
+row_line s = csv_line (row_fields s)
 
--- the line of a finished test case
-abbrev pub record_line : Finished → List ℕ
-record_line f = row_line f.name f.report.locals (C.Over f.report.verdict)
+-- the header, and a line for each test case
+abbrev pub csv_of : List Summary → List ℕ
+csv_of ss = header_text ++ flat_map row_line ss
 
--- the header, and a line for each finished test case
+-- that of the finished test cases
 abbrev pub csv_text : Results → List ℕ
-csv_text r = header_text ++ flat_map record_line r.finished
+csv_text r = csv_of (map case_summary r.finished)

@@ -12,11 +12,12 @@ use Rattle.tc_report.specs.declared.results.CampaignEnd.{CampaignEnd}
 use Rattle.tc_report.specs.declared.results.Finished.{Finished}
 use Rattle.tc_report.specs.declared.results.Results.{Results}
 use Rattle.tc_report.specs.declared.results.Tally.{Tally}
-use Rattle.tc_report.specs.Csv.{csv_text, header_text, record_line}
+use Rattle.tc_report.specs.Csv.{csv_text, header_text, row_line}
 use Rattle.tc_report.specs.Ending.{ending_line}
 use Rattle.tc_report.specs.Histories.{case_history, histories_text}
 use Rattle.tc_report.specs.Output.{LeavesPrefix}
 use Rattle.tc_report.specs.Report.{case_text, report_text}
+use Rattle.tc_report.specs.Summary.{case_summary}
 use Rattle.tc_report.specs.Tally.{tally_line}
 
 -- the text of the results in this form
@@ -34,7 +35,7 @@ opening_text F.History = []
 -- what of it says one test case
 abbrev pub part_text : Form → Finished → List ℕ
 part_text F.Text f = case_text f
-part_text F.Csv f = record_line f
+part_text F.Csv f = row_line (case_summary f)
 part_text F.History f = case_history f
 
 -- what of it stands behind the test cases

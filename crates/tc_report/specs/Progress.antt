@@ -1,26 +1,22 @@
 -- What is told of test cases as they finish.
-use Rattle.std.specs.Prelude.{ℕ, ◌≡◌, ◌⊎◌, Bool, true, false, List, [], ◌∷◌, ◌++◌, Option, Some, None, Result, Ok, Err, codes}
+use Rattle.std.specs.Prelude.{ℕ, ◌≡◌, ◌⊎◌, nat_lt, Bool, true, false, List, [], ◌∷◌, ◌++◌, Option, Some, None, Result, Ok, Err, codes}
 use Rattle.std.specs.List.{flat_map}
 use Rattle.std.specs.Io.KnownBytes.{Appends, Keeps}
 use Rattle.tc_verdict.specs.declared.verdict.Verdict.{Verdict}
-use Rattle.tc_verdict.specs.declared.verdict.Verdict.TheVariants as V
 use Rattle.tc_verdict.specs.Verdict.{name_of}
 use Rattle.tc_stream.specs.Output.{AppendsPrefix}
 use Rattle.tc_report.specs.declared.fault.OutFault.{OutFault}
 use Rattle.tc_report.specs.declared.progress.Progress.{Progress}
 use Rattle.tc_report.specs.declared.results.Finished.{Finished}
+use Rattle.tc_report.specs.Status.{verdict_status}
 
 -- the line that tells of a finished test case: its name, and its overall verdict
 abbrev pub told_line : Finished → List ℕ
 told_line f = f.name ++ (codes " " ++ (name_of f.report.verdict ++ (10 ∷ [])))
 
--- a test case with this overall verdict has failed
+-- a test case with this overall verdict has failed: its status is not 0
 abbrev pub is_failed : Verdict → Bool
-is_failed V.None = false
-is_failed V.Pass = false
-is_failed V.Inconc = true
-is_failed V.Fail = true
-is_failed V.Error = true
+is_failed v = nat_lt 0 (verdict_status v)
 
 -- the line that names a test case again where it has failed
 abbrev pub named_again : Bool → Finished → List ℕ

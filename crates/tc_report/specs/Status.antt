@@ -1,12 +1,15 @@
--- The exit status for the results of a campaign.
+-- The exit status for test cases, by how they ended.
 use Rattle.std.specs.Prelude.{ℕ, List, map}
 use Rattle.tc_verdict.specs.declared.verdict.Verdict.{Verdict}
 use Rattle.tc_verdict.specs.declared.verdict.Verdict.TheVariants as V
 use Rattle.tc_verdict.specs.Verdict.{worst}
 use Rattle.tc_report.specs.declared.results.CampaignEnd.{CampaignEnd}
 use Rattle.tc_report.specs.declared.results.CampaignEnd.TheVariants as E
+use Rattle.tc_report.specs.declared.results.CaseEnd.{CaseEnd}
+use Rattle.tc_report.specs.declared.results.CaseEnd.TheVariants as C
 use Rattle.tc_report.specs.declared.results.Results.{Results}
-use Rattle.tc_report.specs.declared.results.Finished.{Finished}
+use Rattle.tc_report.specs.declared.summary.Summary.{Summary}
+use Rattle.tc_report.specs.Summary.{case_summary}
 
 -- the status for a verdict
 abbrev pub verdict_status : Verdict → ℕ
@@ -22,14 +25,20 @@ ending_status E.Complete v = verdict_status v
 ending_status (E.StoppedAfter name) v = verdict_status v
 ending_status (E.Aborted name why) v = 3
 
--- the overall verdict of a finished test case
-abbrev pub overall_of : Finished → Verdict
-overall_of f = f.report.verdict
+-- the verdict that an end counts as: a test case that is not over, or has no report, counts as error
+abbrev pub counted_as : CaseEnd → Verdict
+counted_as (C.Over v) = v
+counted_as C.Unfinished = V.Error
+counted_as (C.Aborted why) = V.Error
 
--- the worst of the overall verdicts, none where no test case finished
-abbrev pub worst_overall : List Finished → Verdict
-worst_overall cases = worst (map overall_of cases)
+-- the worst of the verdicts that the test cases count as, none where there is no test case
+abbrev pub worst_of : List Summary → Verdict
+worst_of ss = worst (map (λ s. counted_as s.ending) ss)
 
--- 3 where the campaign was aborted, else the status for the worst overall verdict
+-- the status for that verdict
+abbrev pub status_of_summaries : List Summary → ℕ
+status_of_summaries ss = verdict_status (worst_of ss)
+
+-- 3 where the campaign was aborted, else the status for the finished test cases
 abbrev pub results_status : Results → ℕ
-results_status r = ending_status r.ending (worst_overall r.finished)
+results_status r = ending_status r.ending (worst_of (map case_summary r.finished))

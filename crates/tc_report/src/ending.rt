@@ -24,10 +24,9 @@ pub fn append_aborted(out: &mut Vec<u8>, name: &Name, why: CaseError) -> Result<
     append_text(out, why.text())
 }
 
-/// Appends the line of the ending; where memory is refused, a part of it.
+/// Appends the line of the ending.
 pub(crate) fn append_ending(out: &mut Vec<u8>, ending: &CampaignEnd) -> Result<(), NoMemory>
-    ensures ok { OnOk result (out.new.items ≡ out.old.items ++ ending_line ending.now) }
-    ensures err { OnErr result (StartsWith out.new.items out.old.items) }
+    ensures { OnOk result (out.new.items ≡ out.old.items ++ ending_line ending.now) }
 {
     match ending {
         CampaignEnd::Complete => append_text(out, "complete")?,

@@ -1,7 +1,6 @@
 //! The histories of a campaign.
-ghost use Rattle.std.specs.Prelude.{◌≡◌, ◌++◌, OnOk, OnErr, IfErr};
+ghost use Rattle.std.specs.Prelude.{◌≡◌, ◌++◌, OnOk, IfErr};
 ghost use Rattle.std.specs.List.{flat_map};
-ghost use Rattle.std.specs.Io.{StartsWith};
 ghost use Rattle.std.specs.Io.KnownBytes.{Appends};
 ghost use Rattle.tc_report.specs.Histories.{case_history, histories_text};
 ghost use Rattle.tc_report.specs.Output.{LeavesPrefix};
@@ -16,8 +15,7 @@ use tc_history::write_block;
 
 /// Appends the history of a finished test case.
 pub(crate) fn append_history(out: &mut Vec<u8>, case: &Finished) -> Result<(), NoMemory>
-    ensures ok { OnOk result (out.new.items ≡ out.old.items ++ case_history case.now) }
-    ensures err { OnErr result (StartsWith out.new.items out.old.items) }
+    ensures { OnOk result (out.new.items ≡ out.old.items ++ case_history case.now) }
 {
     let report = &case.report;
     write_block(
@@ -29,10 +27,9 @@ pub(crate) fn append_history(out: &mut Vec<u8>, case: &Finished) -> Result<(), N
     )
 }
 
-// Appends the history of each finished test case; where memory is refused, a part of them.
+// Appends the history of each finished test case.
 fn append_histories(out: &mut Vec<u8>, cases: &[Finished]) -> Result<(), NoMemory>
-    ensures ok { OnOk result (out.new.items ≡ out.old.items ++ flat_map case_history cases.now) }
-    ensures err { OnErr result (StartsWith out.new.items out.old.items) }
+    ensures { OnOk result (out.new.items ≡ out.old.items ++ flat_map case_history cases.now) }
 {
     for case in cases {
         append_history(out, case)?;

@@ -1,4 +1,4 @@
-//! The results of a campaign, and their texts.
+//! The results of a campaign, what they and histories say of test cases, and the texts of both.
 #![tactic(auto)]
 
 mod counts;
@@ -6,7 +6,9 @@ mod ending;
 mod fault;
 mod form;
 mod histories;
+mod junit;
 mod kept;
+pub mod laws;
 mod live;
 mod observer;
 mod output;
@@ -15,17 +17,20 @@ mod records;
 mod report;
 mod results;
 mod status;
+mod summary;
 
 pub use counts::tally;
 pub use ending::{append_aborted, write_abort};
 pub use fault::OutFault;
 pub use form::Form;
 pub use histories::write_history;
+pub use junit::{junit_report, write_junit};
 pub use kept::Kept;
 pub use live::LiveWriter;
 pub use observer::Observer;
 pub use progress::Progress;
-pub use records::{csv_header, csv_row, end_word, write_csv};
-pub use report::{append_locals, append_verdict, write_text};
+pub use records::{csv_report, end_word, write_csv};
+pub use report::{append_verdict, write_text};
 pub use results::{CampaignEnd, CaseEnd, Finished, Results, Tally};
-pub use status::{status_of, verdict_status};
+pub use status::{counted_as, status_of, verdict_status, worst_status};
+pub use summary::{Summary, summaries_of_results, summary_of_case, summary_of_state};

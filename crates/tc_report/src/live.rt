@@ -13,7 +13,7 @@ use crate::form::Form;
 use crate::histories::append_history;
 use crate::observer::Observer;
 use crate::output::write_flushed;
-use crate::records::{case_record, csv_header};
+use crate::records::{case_row, csv_header};
 use crate::report::{append_case, append_tally};
 use crate::results::{CampaignEnd, Finished, Tally};
 use crate::status::ending_status;
@@ -39,7 +39,7 @@ fn part_text(alloc: Global, form: Form, case: &Finished) -> Result<Vec<u8>, NoMe
     let mut text = Vec::new(alloc);
     match form {
         Form::Text => append_case(&mut text, case)?,
-        Form::Csv => return case_record(alloc, case),
+        Form::Csv => return case_row(alloc, case),
         Form::History => append_history(&mut text, case)?,
     }
     Ok(text)

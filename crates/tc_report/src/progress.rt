@@ -1,6 +1,5 @@
 //! What is told of test cases as they finish.
 ghost use Rattle.std.specs.Prelude.{◌≡◌, ◌++◌, [], OnOk, OnErr, None};
-ghost use Rattle.std.specs.Io.{StartsWith};
 ghost use Rattle.std.specs.Io.KnownBytes.{Appends};
 ghost use Rattle.tc_stream.specs.Output.{AppendsPrefix};
 ghost use Rattle.tc_report.specs.Progress.{EndsTelling, Tells, failed_line, is_failed as spec_failed, state_of, told_line};
@@ -9,6 +8,7 @@ use crate::fault::OutFault;
 use crate::observer::Observer;
 use crate::output::write_made;
 use crate::results::Finished;
+use crate::status::verdict_status;
 use std::alloc::Global;
 use std::io::Write;
 use tc_entry::{NoMemory, Verdict};
@@ -19,16 +19,12 @@ use tc_verdict::name as name_of;
 fn is_failed(verdict: Verdict) -> bool
     ensures { result ≡ spec_failed verdict }
 {
-    match verdict {
-        Verdict::None | Verdict::Pass => false,
-        Verdict::Inconc | Verdict::Fail | Verdict::Error => true,
-    }
+    verdict_status(verdict) > 0
 }
 
-// Appends the line that tells of the test case; where memory is refused, a part of it.
+// Appends the line that tells of the test case.
 fn append_told(out: &mut Vec<u8>, case: &Finished) -> Result<(), NoMemory>
-    ensures ok { OnOk result (out.new.items ≡ out.old.items ++ told_line case.now) }
-    ensures err { OnErr result (StartsWith out.new.items out.old.items) }
+    ensures { OnOk result (out.new.items ≡ out.old.items ++ told_line case.now) }
 {
     out.extend_from_slice(case.name.bytes())?;
     append_text(out, " ")?;
@@ -37,10 +33,9 @@ fn append_told(out: &mut Vec<u8>, case: &Finished) -> Result<(), NoMemory>
     Ok(())
 }
 
-// Appends the line that names the test case again, where it has failed; where memory is refused, a part of it.
+// Appends the line that names the test case again, where it has failed.
 fn append_failed(out: &mut Vec<u8>, case: &Finished) -> Result<(), NoMemory>
-    ensures ok { OnOk result (out.new.items ≡ out.old.items ++ failed_line case.now) }
-    ensures err { OnErr result (StartsWith out.new.items out.old.items) }
+    ensures { OnOk result (out.new.items ≡ out.old.items ++ failed_line case.now) }
 {
     if is_failed(case.report.verdict) {
         append_text(out, "failed: ")?;

@@ -1,11 +1,12 @@
 //! The CSV report.
-ghost use Rattle.std.specs.Prelude.{◌≡◌, ◌++◌, ◌∷◌, [], OnOk, IfOk, IfErr, All};
+ghost use Rattle.std.specs.Prelude.{◌≡◌, ◌++◌, ◌∷◌, [], OnOk, IfOk, IfErr, All, map};
 ghost use Rattle.std.specs.List.{flat_map};
 ghost use Rattle.std.specs.Fmt.{IsBoundedDecimal, decimal};
 ghost use Rattle.std.specs.Io.KnownBytes.{Appends};
 ghost use Rattle.csv.specs.Records.{fields_of, partial_of};
 ghost use Rattle.tc_entry.specs.Name.{IsName};
-ghost use Rattle.tc_report.specs.Csv.{counts_of, csv_text, end_word as spec_word, header_text, record_line, row_fields, row_line};
+ghost use Rattle.tc_report.specs.Csv.{counts_of, csv_of, csv_text, end_word as spec_word, header_text, row_fields, row_line};
+ghost use Rattle.tc_report.specs.Summary.{case_summary};
 ghost use Rattle.tc_report.specs.Output.{LeavesPrefix};
 ghost use Rattle.tc_report.specs.Inside.{IsBetweenRecords, IsStarted, written_by};
 
@@ -13,10 +14,11 @@ use crate::counts::count_of;
 use crate::fault::OutFault;
 use crate::output::write_made;
 use crate::results::{CaseEnd, Finished, Results};
+use crate::summary::{Summary, summaries_of_cases, summary_of_case};
 use csv::{ByteRecord, Writer, WriterBuilder};
 use std::alloc::Global;
 use std::io::Write;
-use tc_entry::{Name, NoMemory, Verdict};
+use tc_entry::{NoMemory, Verdict};
 use tc_verdict::name as name_of;
 
 // Adds a field, the number.
@@ -42,66 +44,47 @@ pub fn end_word(ending: CaseEnd) -> &'static str
     }
 }
 
-// The fields of a test case.
-fn row_of(
-    alloc: Global,
-    name: &Name,
-    locals: &[Verdict],
-    ending: CaseEnd,
-) -> Result<ByteRecord, NoMemory>
-    ensures fields { IfOk result (λ r. fields_of r ≡ row_fields name.now locals.now ending) }
-    ensures name { OnOk result (IsName name.now) }
+// Adds how many local verdicts there are, and how many of each.
+fn push_counts(alloc: Global, row: &mut ByteRecord, locals: &[Verdict]) -> Result<(), NoMemory>
+    requires { partial_of row.old ≡ [] }
+    ensures fields { OnOk result (fields_of row.new ≡ fields_of row.old ++ map decimal (counts_of locals.now)) }
+    ensures partial { OnOk result (partial_of row.new ≡ []) }
     ensures digits { OnOk result (All IsBoundedDecimal (counts_of locals.now)) }
 {
-    let mut row = ByteRecord::new(alloc);
-    row.push_field(name.bytes())?;
-    push_count(alloc, &mut row, locals.len())?;
-    push_count(alloc, &mut row, count_of(locals, Verdict::None))?;
-    push_count(alloc, &mut row, count_of(locals, Verdict::Pass))?;
-    push_count(alloc, &mut row, count_of(locals, Verdict::Inconc))?;
-    push_count(alloc, &mut row, count_of(locals, Verdict::Fail))?;
-    push_count(alloc, &mut row, count_of(locals, Verdict::Error))?;
-    row.push_field(end_word(ending).as_bytes())?;
-    Ok(row)
+    push_count(alloc, row, locals.len())?;
+    push_count(alloc, row, count_of(locals, Verdict::None))?;
+    push_count(alloc, row, count_of(locals, Verdict::Pass))?;
+    push_count(alloc, row, count_of(locals, Verdict::Inconc))?;
+    push_count(alloc, row, count_of(locals, Verdict::Fail))?;
+    push_count(alloc, row, count_of(locals, Verdict::Error))
 }
 
-// Writes the record of a test case.
-fn write_row(
-    alloc: Global,
-    writer: &mut Writer<Vec<u8>>,
-    name: &Name,
-    locals: &[Verdict],
-    ending: CaseEnd,
-) -> Result<(), NoMemory>
+// Adds the fields of a test case, the first ones of a row.
+fn push_fields(alloc: Global, row: &mut ByteRecord, case: &Summary) -> Result<(), NoMemory>
+    requires none { fields_of row.old ≡ [] }
+    requires partial { partial_of row.old ≡ [] }
+    ensures fields { OnOk result (fields_of row.new ≡ row_fields case.now) }
+    ensures name { OnOk result (IsName case.now.name) }
+    ensures digits { OnOk result (All IsBoundedDecimal (counts_of case.now.locals)) }
+{
+    row.push_field(case.name.bytes())?;
+    push_counts(alloc, row, case.locals.as_slice())?;
+    row.push_field(end_word(case.ending).as_bytes())?;
+    Ok(())
+}
+
+// Adds the record of a test case.
+fn add_row(alloc: Global, writer: &mut Writer<Vec<u8>>, case: &Summary) -> Result<(), NoMemory>
     requires { IsBetweenRecords writer.old }
     ensures between { OnOk result (IsBetweenRecords writer.new) }
-    ensures written { OnOk result (written_by writer.new ≡ written_by writer.old ++ row_line name.now locals.now ending) }
+    ensures written { OnOk result (written_by writer.new ≡ written_by writer.old ++ row_line case.now) }
 {
-    let row = row_of(alloc, name, locals, ending)?;
+    let mut row = ByteRecord::new(alloc);
+    push_fields(alloc, &mut row, case)?;
     match writer.write_byte_record(&row) {
         Ok(()) => Ok(()),
         Err(_) => Err(NoMemory),
     }
-}
-
-// Writes the record of a finished test case.
-fn write_record(
-    alloc: Global,
-    writer: &mut Writer<Vec<u8>>,
-    case: &Finished,
-) -> Result<(), NoMemory>
-    requires { IsBetweenRecords writer.old }
-    ensures between { OnOk result (IsBetweenRecords writer.new) }
-    ensures written { OnOk result (written_by writer.new ≡ written_by writer.old ++ record_line case.now) }
-{
-    let report = &case.report;
-    write_row(
-        alloc,
-        writer,
-        &case.name,
-        report.locals.as_slice(),
-        CaseEnd::Over(report.verdict),
-    )
 }
 
 // A writer that has written nothing.
@@ -143,66 +126,65 @@ fn started(alloc: Global) -> Result<Writer<Vec<u8>>, NoMemory>
     }
 }
 
-// Writes the record of each finished test case.
-fn write_records(
-    alloc: Global,
-    writer: &mut Writer<Vec<u8>>,
-    cases: &[Finished],
-) -> Result<(), NoMemory>
+// Adds the record of each test case.
+fn add_rows(alloc: Global, writer: &mut Writer<Vec<u8>>, cases: &[Summary]) -> Result<(), NoMemory>
     requires { IsBetweenRecords writer.old }
-    ensures { OnOk result (written_by writer.new ≡ written_by writer.old ++ flat_map record_line cases.now) }
+    ensures { OnOk result (written_by writer.new ≡ written_by writer.old ++ flat_map row_line cases.now) }
 {
     for case in cases {
-        write_record(alloc, writer, case)?;
+        add_row(alloc, writer, case)?;
     }
     Ok(())
 }
 
-// The CSV report.
-fn records(alloc: Global, results: &Results) -> Result<Vec<u8>, NoMemory>
-    ensures { IfOk result (λ v. v.items ≡ csv_text results.now) }
+/// The CSV report of these test cases: a header, and a record for each, with how many components it has, how many of them
+/// have each local verdict, and how it ended.
+pub fn csv_report(alloc: Global, cases: &[Summary]) -> Result<Vec<u8>, NoMemory>
+    ensures { IfOk result (λ v. v.items ≡ csv_of cases.now) }
 {
     let mut writer = started(alloc)?;
-    write_records(alloc, &mut writer, results.finished.as_slice())?;
+    add_rows(alloc, &mut writer, cases)?;
     whole(writer)
 }
 
 /// The header of the CSV report.
-pub fn csv_header(alloc: Global) -> Result<Vec<u8>, NoMemory>
+pub(crate) fn csv_header(alloc: Global) -> Result<Vec<u8>, NoMemory>
     ensures { IfOk result (λ v. v.items ≡ header_text) }
 {
     whole(started(alloc)?)
 }
 
-/// The line of the CSV report for a test case of this name, with these local verdicts, which ended so.
-pub fn csv_row(
-    alloc: Global,
-    name: &Name,
-    locals: &[Verdict],
-    ending: CaseEnd,
-) -> Result<Vec<u8>, NoMemory>
-    ensures { IfOk result (λ v. v.items ≡ row_line name.now locals.now ending) }
+// The line of a test case.
+fn csv_row(alloc: Global, case: &Summary) -> Result<Vec<u8>, NoMemory>
+    ensures { IfOk result (λ v. v.items ≡ row_line case.now) }
 {
     let mut writer = fresh(alloc);
-    write_row(alloc, &mut writer, name, locals, ending)?;
+    add_row(alloc, &mut writer, case)?;
     whole(writer)
 }
 
 /// The line of a finished test case.
-pub(crate) fn case_record(alloc: Global, case: &Finished) -> Result<Vec<u8>, NoMemory>
-    ensures { IfOk result (λ v. v.items ≡ record_line case.now) }
+pub(crate) fn case_row(alloc: Global, case: &Finished) -> Result<Vec<u8>, NoMemory>
+    ensures { IfOk result (λ v. v.items ≡ row_line (case_summary case.now)) }
 {
-    let report = &case.report;
-    let ending = CaseEnd::Over(report.verdict);
-    csv_row(alloc, &case.name, report.locals.as_slice(), ending)
+    let summary = summary_of_case(alloc, case)?;
+    csv_row(alloc, &summary)
 }
 
-/// Writes the CSV report: a header, and a record for each finished test case in order, with how many components it has,
-/// how many of them have each local verdict, and its overall verdict. The text is made whole before anything is written.
+// The CSV report of the results of a campaign.
+fn csv_of_results(alloc: Global, results: &Results) -> Result<Vec<u8>, NoMemory>
+    ensures { IfOk result (λ v. v.items ≡ csv_text results.now) }
+{
+    let cases = summaries_of_cases(alloc, results.finished.as_slice())?;
+    csv_report(alloc, cases.as_slice())
+}
+
+/// Writes the CSV report of the results of a campaign: a header, and a record for each finished test case in order. The text
+/// is made whole before anything is written.
 pub fn write_csv<W: Write>(alloc: Global, results: &Results, writer: &mut W) -> Result<(), OutFault>
     ensures all { OnOk result (Appends (W.contents writer.old) (W.contents writer.new) (csv_text results.now)) }
     ensures part { IfErr result (λ fault. LeavesPrefix (W.contents writer.old) (W.contents writer.new) (csv_text results.now) fault) }
 {
-    let text = records(alloc, results)?;
+    let text = csv_of_results(alloc, results)?;
     write_made(writer, text.as_slice())
 }

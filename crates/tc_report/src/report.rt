@@ -25,8 +25,7 @@ use tc_verdict::{UserVerdict, name as name_of};
 
 // A Wake is shown as the Wait with the same target.
 fn append_op(out: &mut Vec<u8>, op: &Op) -> Result<(), NoMemory>
-    ensures ok { OnOk result (out.new.items ≡ out.old.items ++ op_text (shown_op op.now)) }
-    ensures err { OnErr result (StartsWith out.new.items out.old.items) }
+    ensures { OnOk result (out.new.items ≡ out.old.items ++ op_text (shown_op op.now)) }
 {
     match op {
         Op::Wake { killed, target } => write_op(
@@ -78,8 +77,7 @@ fn verdict_call_line(entry: &Entry) -> Option<&'static str>
 
 // Appends what is shown of an entry: nothing where it was parked.
 fn append_entry(out: &mut Vec<u8>, entry: &Entry) -> Result<(), NoMemory>
-    ensures ok { OnOk result (out.new.items ≡ out.old.items ++ shown_entry entry.now) }
-    ensures err { OnErr result (StartsWith out.new.items out.old.items) }
+    ensures { OnOk result (out.new.items ≡ out.old.items ++ shown_entry entry.now) }
 {
     if let Some(line) = verdict_call_line(entry) {
         return append_text(out, line);
@@ -97,8 +95,7 @@ fn append_entry(out: &mut Vec<u8>, entry: &Entry) -> Result<(), NoMemory>
 
 // Appends what is shown of each entry.
 fn append_entries(out: &mut Vec<u8>, entries: &[Entry]) -> Result<(), NoMemory>
-    ensures ok { OnOk result (out.new.items ≡ out.old.items ++ flat_map shown_entry entries.now) }
-    ensures err { OnErr result (StartsWith out.new.items out.old.items) }
+    ensures { OnOk result (out.new.items ≡ out.old.items ++ flat_map shown_entry entries.now) }
 {
     for entry in entries {
         append_entry(out, entry)?;
@@ -108,8 +105,7 @@ fn append_entries(out: &mut Vec<u8>, entries: &[Entry]) -> Result<(), NoMemory>
 
 // Appends the name of the run's behaviour, if it has one.
 fn append_behaviour(out: &mut Vec<u8>, names: &[Name], run: Run) -> Result<(), NoMemory>
-    ensures ok { OnOk result (out.new.items ≡ out.old.items ++ name_text (slice_get names.now run.0)) }
-    ensures err { OnErr result (StartsWith out.new.items out.old.items) }
+    ensures { OnOk result (out.new.items ≡ out.old.items ++ name_text (slice_get names.now run.0)) }
 {
     match names.get(usize::from(run.0)) {
         Some(name) => {
@@ -122,8 +118,7 @@ fn append_behaviour(out: &mut Vec<u8>, names: &[Name], run: Run) -> Result<(), N
 
 // Appends the line of the run.
 fn append_run_line(out: &mut Vec<u8>, names: &[Name], log: &RunLog) -> Result<(), NoMemory>
-    ensures ok { OnOk result (out.new.items ≡ out.old.items ++ run_line names.now log.now) }
-    ensures err { OnErr result (StartsWith out.new.items out.old.items) }
+    ensures { OnOk result (out.new.items ≡ out.old.items ++ run_line names.now log.now) }
 {
     append_text(out, "run ")?;
     append_number(out, u64::from(log.run.0))?;
@@ -137,8 +132,7 @@ fn append_run_line(out: &mut Vec<u8>, names: &[Name], log: &RunLog) -> Result<()
 
 // Appends each run that was started, and its log.
 fn append_runs(out: &mut Vec<u8>, names: &[Name], logs: &[RunLog]) -> Result<(), NoMemory>
-    ensures ok { OnOk result (out.new.items ≡ out.old.items ++ flat_map (run_text names.now) logs.now) }
-    ensures err { OnErr result (StartsWith out.new.items out.old.items) }
+    ensures { OnOk result (out.new.items ≡ out.old.items ++ flat_map (run_text names.now) logs.now) }
 {
     for log in logs {
         append_run_line(out, names, log)?;
@@ -149,8 +143,7 @@ fn append_runs(out: &mut Vec<u8>, names: &[Name], logs: &[RunLog]) -> Result<(),
 
 // Appends the line of a component's local verdict.
 fn append_local(out: &mut Vec<u8>, comp: usize, verdict: Verdict) -> Result<(), NoMemory>
-    ensures ok { OnOk result (out.new.items ≡ out.old.items ++ local_line comp verdict) }
-    ensures err { OnErr result (StartsWith out.new.items out.old.items) }
+    ensures { OnOk result (out.new.items ≡ out.old.items ++ local_line comp verdict) }
 {
     append_text(out, "local ")?;
     append_number(out, comp as u64)?;
@@ -160,10 +153,9 @@ fn append_local(out: &mut Vec<u8>, comp: usize, verdict: Verdict) -> Result<(), 
     Ok(())
 }
 
-/// Appends the line of each component's local verdict; where memory is refused, a part of them.
-pub fn append_locals(out: &mut Vec<u8>, locals: &[Verdict]) -> Result<(), NoMemory>
-    ensures ok { OnOk result (out.new.items ≡ out.old.items ++ local_lines 0 locals.now) }
-    ensures err { OnErr result (StartsWith out.new.items out.old.items) }
+/// Appends the line of each component's local verdict.
+pub(crate) fn append_locals(out: &mut Vec<u8>, locals: &[Verdict]) -> Result<(), NoMemory>
+    ensures { OnOk result (out.new.items ≡ out.old.items ++ local_lines 0 locals.now) }
 {
     for (comp, verdict) in locals.iter().enumerate() {
         append_local(out, comp, *verdict)?;
@@ -173,8 +165,7 @@ pub fn append_locals(out: &mut Vec<u8>, locals: &[Verdict]) -> Result<(), NoMemo
 
 // Appends the line that names a test case.
 fn append_name(out: &mut Vec<u8>, name: &Name) -> Result<(), NoMemory>
-    ensures ok { OnOk result (out.new.items ≡ out.old.items ++ case_line name.now) }
-    ensures err { OnErr result (StartsWith out.new.items out.old.items) }
+    ensures { OnOk result (out.new.items ≡ out.old.items ++ case_line name.now) }
 {
     append_text(out, "testcase ")?;
     out.extend_from_slice(name.bytes())?;
@@ -195,8 +186,7 @@ pub fn append_verdict(out: &mut Vec<u8>, verdict: Verdict) -> Result<(), NoMemor
 
 /// Appends a finished test case.
 pub(crate) fn append_case(out: &mut Vec<u8>, case: &Finished) -> Result<(), NoMemory>
-    ensures ok { OnOk result (out.new.items ≡ out.old.items ++ case_text case.now) }
-    ensures err { OnErr result (StartsWith out.new.items out.old.items) }
+    ensures { OnOk result (out.new.items ≡ out.old.items ++ case_text case.now) }
 {
     let report = &case.report;
     append_name(out, &case.name)?;
@@ -207,8 +197,7 @@ pub(crate) fn append_case(out: &mut Vec<u8>, case: &Finished) -> Result<(), NoMe
 
 // Appends each finished test case.
 fn append_cases(out: &mut Vec<u8>, cases: &[Finished]) -> Result<(), NoMemory>
-    ensures ok { OnOk result (out.new.items ≡ out.old.items ++ flat_map case_text cases.now) }
-    ensures err { OnErr result (StartsWith out.new.items out.old.items) }
+    ensures { OnOk result (out.new.items ≡ out.old.items ++ flat_map case_text cases.now) }
 {
     for case in cases {
         append_case(out, case)?;
@@ -218,8 +207,7 @@ fn append_cases(out: &mut Vec<u8>, cases: &[Finished]) -> Result<(), NoMemory>
 
 // Appends the words, and then the number.
 fn append_count(out: &mut Vec<u8>, words: &str, count: usize) -> Result<(), NoMemory>
-    ensures ok { OnOk result (out.new.items ≡ out.old.items ++ (words.now ++ decimal count)) }
-    ensures err { OnErr result (StartsWith out.new.items out.old.items) }
+    ensures { OnOk result (out.new.items ≡ out.old.items ++ (words.now ++ decimal count)) }
 {
     append_text(out, words)?;
     append_number(out, count as u64)
@@ -227,8 +215,7 @@ fn append_count(out: &mut Vec<u8>, words: &str, count: usize) -> Result<(), NoMe
 
 /// Appends the line of the tally.
 pub(crate) fn append_tally(out: &mut Vec<u8>, tally: &Tally) -> Result<(), NoMemory>
-    ensures ok { OnOk result (out.new.items ≡ out.old.items ++ tally_line tally.now) }
-    ensures err { OnErr result (StartsWith out.new.items out.old.items) }
+    ensures { OnOk result (out.new.items ≡ out.old.items ++ tally_line tally.now) }
 {
     append_count(out, "cases ", tally.cases)?;
     append_count(out, " none ", tally.none)?;
@@ -240,10 +227,9 @@ pub(crate) fn append_tally(out: &mut Vec<u8>, tally: &Tally) -> Result<(), NoMem
     Ok(())
 }
 
-// Appends the report; where memory is refused, a part of it.
+// Appends the report.
 fn append_report(out: &mut Vec<u8>, results: &Results) -> Result<(), NoMemory>
-    ensures ok { OnOk result (out.new.items ≡ out.old.items ++ report_text results.now) }
-    ensures err { OnErr result (StartsWith out.new.items out.old.items) }
+    ensures { OnOk result (out.new.items ≡ out.old.items ++ report_text results.now) }
 {
     append_cases(out, results.finished.as_slice())?;
     append_tally(out, &tally(results))?;

@@ -1,18 +1,41 @@
 //! The exit status.
-ghost use Rattle.std.specs.Prelude.{◌≡◌};
-ghost use Rattle.tc_report.specs.Status.{ending_status as spec_ending, results_status, verdict_status as spec_status, worst_overall as spec_worst};
+ghost use Rattle.std.specs.Prelude.{◌≡◌, map};
+ghost use Rattle.tc_report.specs.Status.{counted_as as spec_counted, ending_status as spec_ending, results_status, status_of_summaries, verdict_status as spec_status, worst_of as spec_worst};
+ghost use Rattle.tc_report.specs.Summary.{case_summary};
 
-use crate::results::{CampaignEnd, Finished, Results};
+use crate::results::{CampaignEnd, CaseEnd, Finished, Results};
+use crate::summary::Summary;
 use tc_entry::Verdict;
 use tc_verdict::worse_of;
 
+/// The verdict that an end counts as: error for a test case that is not over, or has no report.
+pub fn counted_as(ending: CaseEnd) -> Verdict
+    ensures { result ≡ spec_counted ending }
+{
+    match ending {
+        CaseEnd::Over(verdict) => verdict,
+        CaseEnd::Unfinished | CaseEnd::Aborted(_) => Verdict::Error,
+    }
+}
+
 // The worst of the overall verdicts, none where no test case finished.
 fn worst_overall(cases: &[Finished]) -> Verdict
-    ensures { result ≡ spec_worst cases.now }
+    ensures { result ≡ spec_worst (map case_summary cases.now) }
 {
     let mut worst = Verdict::None;
     for case in cases {
         worst = worse_of(worst, case.report.verdict);
+    }
+    worst
+}
+
+// The worst of the verdicts that the test cases count as, none where there is none.
+fn worst_of(cases: &[Summary]) -> Verdict
+    ensures { result ≡ spec_worst cases.now }
+{
+    let mut worst = Verdict::None;
+    for case in cases {
+        worst = worse_of(worst, counted_as(case.ending));
     }
     worst
 }
@@ -44,4 +67,12 @@ pub fn status_of(results: &Results) -> u8
     ensures { result ≡ results_status results.now }
 {
     ending_status(&results.ending, worst_overall(results.finished.as_slice()))
+}
+
+/// The exit status: 0 where the worst overall verdict is none or pass, 1 where it is inconc or fail, 2 where it is error; a
+/// test case that is not over, or has no report, counts as error. It takes no memory.
+pub fn worst_status(cases: &[Summary]) -> u8
+    ensures { result ≡ status_of_summaries cases.now }
+{
+    verdict_status(worst_of(cases))
 }

@@ -1,5 +1,5 @@
 use Rattle.std.proofs.Common.{◌≡◌, ◌∙◌, None, Some, ap, inl, inr, refl}
-use Rattle.tc_forms.specs.Status.{status_of_summaries}
+use Rattle.tc_report.specs.Status.{status_of_summaries}
 use Rattle.tc_program.proofs.Reporting.{illegal_report, legal_report}
 use Rattle.tc_program.proofs.report.report_text.Goals as goal
 

@@ -1,4 +1,4 @@
--- What the forms say of a test case: by its history, or by its report.
+-- What reports say of a test case: by its history, or by its own report.
 use Rattle.std.specs.Prelude.{ℕ, if◌then◌else◌, List, [], ◌∷◌, ◌++◌, map, reverse}
 use Rattle.tc_entry.specs.declared.entry.Entry.{Entry}
 use Rattle.tc_table.specs.History.{comps, is_over}
@@ -10,7 +10,7 @@ use Rattle.tc_report.specs.declared.results.CaseEnd.{CaseEnd}
 use Rattle.tc_report.specs.declared.results.CaseEnd.TheVariants as C
 use Rattle.tc_report.specs.declared.results.Finished.{Finished}
 use Rattle.tc_report.specs.declared.results.Results.{Results}
-use Rattle.tc_forms.specs.declared.summary.Summary.{Summary}
+use Rattle.tc_report.specs.declared.summary.Summary.{Summary}
 
 -- how a test case with these past entries, the newest first, ended
 abbrev pub end_of : List Entry → CaseEnd

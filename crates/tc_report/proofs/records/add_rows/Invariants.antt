@@ -1,11 +1,11 @@
 use Rattle.std.proofs.Common.{◌≡◌, ◌++◌, take}
 use Rattle.std.specs.List.{flat_map}
-use Rattle.tc_report.specs.Csv.{record_line}
+use Rattle.tc_report.specs.Csv.{row_line}
 use Rattle.tc_report.specs.Inside.{written_by, IsBetweenRecords}
-use Rattle.tc_report.proofs.records.write_records.Given as goal
+use Rattle.tc_report.proofs.records.add_rows.Given as goal
 
 abbrev pub invariant-loop-case : goal.invariant-loop-case
 invariant-loop-case l = record {
   between : IsBetweenRecords l.writer;
-  written : written_by l.writer ≡ written_by l.fn.writer ++ flat_map record_line (take l.case-index l.cases);
+  written : written_by l.writer ≡ written_by l.fn.writer ++ flat_map row_line (take l.case-index l.cases);
 }

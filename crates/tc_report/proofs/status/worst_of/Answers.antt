@@ -1,5 +1,5 @@
-use Rattle.tc_forms.proofs.Worst.{worst_counted_more}
-use Rattle.tc_forms.proofs.status.worst_of.Goals as goal
+use Rattle.tc_report.proofs.Overalls.{worst_counted_more}
+use Rattle.tc_report.proofs.status.worst_of.Goals as goal
 
 pub loop-case-preserved : goal.loop-case-preserved
 loop-case-preserved c =

@@ -1,15 +1,15 @@
-//! What the forms say of a test case.
+//! What reports say of a test case.
 ghost use Rattle.std.specs.Prelude.{◌≡◌, ◌++◌, IfOk, OnOk, List, map};
 ghost use Rattle.tc_entry.specs.declared.entry.Entry.{Entry as AnyEntry};
 ghost use Rattle.tc_table.specs.Standing.{StandsFor};
-ghost use Rattle.tc_forms.specs.Summary.{aborted_summary, case_summary, end_of, results_summaries, summary_of};
+ghost use Rattle.tc_report.specs.Summary.{aborted_summary, case_summary, end_of, results_summaries, summary_of};
 
+use crate::results::{CampaignEnd, CaseEnd, Finished, Results};
 use std::alloc::Global;
 use tc_entry::{Name, NoMemory, Sequence, Verdict};
-use tc_report::{CampaignEnd, CaseEnd, Finished, Results};
 use tc_table::{CaseState, locals_of};
 
-/// What the forms say of a test case.
+/// What reports say of a test case.
 #[derive(Drop)]
 pub struct Summary {
     /// The name of the test case.
@@ -88,23 +88,23 @@ fn add_finished(
     Ok(())
 }
 
-// Adds the summaries of the results.
-fn add_results(
+/// The summaries of finished test cases.
+pub(crate) fn summaries_of_cases(
     alloc: Global,
-    summaries: &mut Vec<Summary>,
-    results: &Results,
-) -> Result<(), NoMemory>
-    ensures { OnOk result (summaries.new.items ≡ summaries.old.items ++ results_summaries results.now) }
+    cases: &[Finished],
+) -> Result<Vec<Summary>, NoMemory>
+    ensures { IfOk result (λ v. v.items ≡ map case_summary cases.now) }
 {
-    add_finished(alloc, summaries, results.finished.as_slice())?;
-    add_aborted(alloc, summaries, &results.ending)
+    let mut summaries = Vec::new(alloc);
+    add_finished(alloc, &mut summaries, cases)?;
+    Ok(summaries)
 }
 
 /// The summaries of the results of a campaign: of each finished test case, and of the one that has no report.
 pub fn summaries_of_results(alloc: Global, results: &Results) -> Result<Vec<Summary>, NoMemory>
     ensures { IfOk result (λ v. v.items ≡ results_summaries results.now) }
 {
-    let mut summaries = Vec::new(alloc);
-    add_results(alloc, &mut summaries, results)?;
+    let mut summaries = summaries_of_cases(alloc, results.finished.as_slice())?;
+    add_aborted(alloc, &mut summaries, &results.ending)?;
     Ok(summaries)
 }
