@@ -48,9 +48,7 @@ LIES = (
 """),
     )),
     Lie("the_stopping_rule_is_dropped", (
-        ("""        stop_on: options.stop_on,
-""", """        stop_on: None,
-"""),
+        ("""cases, options.stop_on, THREADS, progress);""", """cases, None, THREADS, progress);"""),
     )),
     Lie("help_ends_with_3", (
         ("""\

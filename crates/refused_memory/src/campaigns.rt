@@ -10,7 +10,7 @@ use std::sync::Wait;
 use std::thread::Threads;
 use tc_behaviour::ScriptJob;
 use tc_book::{Halt, Pass};
-use tc_campaign::{Case, Shard, choose, run_campaign, run_campaign_live};
+use tc_campaign::{Case, LiveWriter, Shard, choose, run_campaign, run_campaign_with};
 use tc_entry::{Name, NoMemory, UserVerdict};
 use tc_exec::{Back, CaseError, CaseReport, Job, run_case};
 use tc_report::{CampaignEnd, Form, OutFault, Results};
@@ -215,6 +215,23 @@ fn run_kept<R: Threads + Wait + Copy + Send + 'static>(
 
 type LiveAnswer = Result<(CampaignEnd, u8), OutFault>;
 
+/// The answer to a campaign that is written by this, as its test cases finish.
+fn write_cases<R: Threads + Wait + Copy + Send + 'static>(
+    rt: &R,
+    alloc: Global,
+    cases: Vec<Case<ScriptJob<R>>>,
+    live: &mut LiveWriter<'_, Vec<u8>>,
+) -> LiveAnswer
+    requires names { All HasNames cases.items }
+{
+    live.begin()?;
+    let Some(ending) = run_campaign_with(rt, alloc, cases, None, 0, live) else {
+        return Err(live.fault.unwrap_or(OutFault::Write));
+    };
+    let status = live.end(&ending)?;
+    Ok((ending, status))
+}
+
 /// The answer to a campaign that is written to this, with a growth refused where that is asked for.
 fn live_answer<R: Threads + Wait + Copy + Send + 'static>(
     rt: &R,
@@ -224,10 +241,11 @@ fn live_answer<R: Threads + Wait + Copy + Send + 'static>(
     refuses: bool,
 ) -> Option<LiveAnswer> {
     let cases = cases(rt, alloc)?;
+    let mut live = LiveWriter::new(alloc, Form::Csv, out);
     if refuses {
         refusal.begin();
     }
-    let answer = run_campaign_live(rt, alloc, cases, None, 0, Form::Csv, out);
+    let answer = write_cases(rt, alloc, cases, &mut live);
     if refuses {
         refusal.end();
     }

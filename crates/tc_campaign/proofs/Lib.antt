@@ -2,8 +2,6 @@
 pub mod Running
 pub mod Going
 pub mod Keeping
-pub mod Pieces
 pub mod Places
 pub mod Rightness
 pub mod Sharding
-pub mod Telling

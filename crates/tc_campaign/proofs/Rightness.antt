@@ -1,5 +1,5 @@
 -- The results of a run are right.
-use Rattle.std.proofs.Common.{ℕ, Bool, Some, None, ◌≡◌, ◌∙◌, ◌-◌, ◌++◌, ◌∷◌, [], Option, List, All, length, map, take, arith, refl, sym, ap, subst, append_assoc, slice_index_or}
+use Rattle.std.proofs.Common.{ℕ, Bool, Some, None, ◌≡◌, ◌∙◌, ◌-◌, ◌++◌, ◌∷◌, [], Option, List, All, length, map, take, arith, inl, refl, sym, ap, subst, append_assoc, slice_index_or}
 use Rattle.std.specs.Prelude.{IfNone, IfSome, IsNone, IsSomeAnd, slice_get}
 use Rattle.std.specs.List.{AllZip}
 use Rattle.std.proofs.lemmas.List.Elements.{All-map, All-nil, All-cons, All-head, All-tail, All-take}
@@ -11,7 +11,7 @@ use Rattle.tc_report.specs.declared.results.Finished.{Finished}
 use Rattle.tc_campaign.specs.declared.case.Case.{Case}
 use Rattle.tc_campaign.specs.Stopping.{IsBetter, IsMet}
 use Rattle.tc_campaign.specs.Outline.{Outline, HasNames, outline_of}
-use Rattle.tc_campaign.specs.Campaign.{AreFinished, HasBehaviours, IsCutShort, IsEnding, IsNamed, IsObserved, IsOfCase, IsReported}
+use Rattle.tc_campaign.specs.Campaign.{AreFinished, HasBehaviours, IsCalled, IsCutShort, IsEnding, IsNamed, IsObserved, IsOfCase, IsReported}
 use Rattle.tc_campaign.specs.Inside.{IsOf, IsSoFar, IsRun, WasRun}
 use Rattle.tc_campaign.specs.Inside.IsRun.{complete, aborted, stopped, cut}
 use Rattle.tc_campaign.proofs.Places.{AllZip-pushed, AllZip-weaker, AllZip-begin, slice_get-behind, take-front, slice_get-last, All-slice_get}
@@ -81,7 +81,8 @@ all_few (c ∷ cases) (f ∷ finished) each = All-cons HasBehaviours f finished 
 
 module _ {B O : Type 0} (outcome : B → PassState → Back → Type 0) (takes : O → Finished → O → Bool → Type 0)
     (cases : List (Case B)) (stop_on : Option Verdict) (threads : ℕ) (named : All HasNames cases) (before after : O) where
-  are_finished : (answer : Option CampaignEnd) (was : WasRun outcome takes stop_on threads cases before after answer) → AreFinished outcome cases stop_on threads was.finished
+  are_finished : (answer : Option CampaignEnd) (was : WasRun outcome takes stop_on threads cases before after answer)
+      → AreFinished outline_of (IsCalled outcome) cases stop_on threads was.finished
   are_finished answer was =
       let each = each_of (map outline_of cases) stop_on was.finished answer was.run in
       let first = take (length was.finished) (map outline_of cases) in
@@ -89,7 +90,7 @@ module _ {B O : Type 0} (outcome : B → PassState → Back → Type 0) (takes :
         names = AllZip-weaker IsOf IsOfCase (λ c f of. of.names) first was.finished each;
         better = each_better (map outline_of cases) stop_on was.finished answer was.run;
         reports = AllZip-weaker IsOf IsReported (λ c f of. of.report) first was.finished each;
-        called = was.called;
+        calls = was.called;
         named = names cases stop_on was.finished answer named was.run;
         threads_are = was.threads_are;
         behaviours = all_few first was.finished each;
@@ -101,9 +102,10 @@ module _ {B O : Type 0} (outcome : B → PassState → Back → Type 0) (takes :
     run = record {
       each = are_finished (Some ending) was;
       last = ends_so (map outline_of cases) stop_on was.finished ending was.run;
-      why = was.why;
-      torn = was.torn;
+      why = inl was.why;
     };
+    why = was.why;
+    torn = was.torn;
     taken = was.given;
   }
 

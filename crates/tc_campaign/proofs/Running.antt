@@ -4,13 +4,12 @@ use Rattle.std.specs.List.{AllZip}
 use Rattle.std.proofs.lemmas.List.Elements.{All-nil, All-push}
 use Rattle.tc_campaign.specs.Campaign.{HasThreads}
 use Rattle.tc_verdict.specs.declared.verdict.Verdict.{Verdict}
-use Rattle.tc_case.specs.declared.refusal.CaseError.TheVariants as C
 use Rattle.tc_report.specs.declared.results.CampaignEnd.{CampaignEnd}
 use Rattle.tc_report.specs.declared.results.CampaignEnd.TheVariants as E
 use Rattle.tc_report.specs.declared.results.Finished.{Finished}
 use Rattle.tc_campaign.specs.Stopping.{IsBetter, IsMet}
 use Rattle.tc_campaign.specs.Outline.{Outline}
-use Rattle.tc_campaign.specs.Inside.{AreDone, IsAbortedAt, IsOf, IsSoFar, IsRun, IsUnrun}
+use Rattle.tc_campaign.specs.Inside.{AreDone, IsAbortedAt, IsOf, IsSoFar, IsRun}
 use Rattle.tc_campaign.specs.Inside.IsRun.{complete, aborted, stopped, cut}
 use Rattle.tc_campaign.proofs.Places.{AllZip-pushed, AllZip-begin}
 
@@ -65,7 +64,3 @@ pub run_complete : {A : Type 0} (f : A → Outline) (cases : List Outline) (stop
     → IsSoFar cases stop_on (map f left) finished → length left ≡ 0 → IsRun cases stop_on finished (Some E.Complete)
 run_complete f cases stop_on [] finished so none = complete finished so
 run_complete f cases stop_on (x ∷ left) finished so none = absurd (omega arith)
-
-pub run_none : (cases : List Outline) (stop_on : Option Verdict) (ending : CampaignEnd) → IsUnrun cases ending → IsRun cases stop_on [] (Some ending)
-run_none [] stop_on ending is = rw is (complete [] (so_far_none [] stop_on))
-run_none (c ∷ left) stop_on ending is = aborted [] c left ending (so_far_none (c ∷ left) stop_on) (record { why = C.NoMemory; aborted = is })

@@ -92,43 +92,38 @@ abbrev pub IsWithoutRoom : List Finished → CampaignEnd → Type 0
 IsWithoutRoom finished (E.Aborted name why) = (finished ≡ []) × (why ≡ C.NoMemory)
 IsWithoutRoom finished ending = ⊥
 
-module _ {B : Type 0} (outcome : B → PassState → Back → Type 0) (cases : List (Case B)) (stop_on : Option Verdict) (threads : ℕ) where
+module _ {C : Type 0} (outline : C → Outline) (called : C → Finished → Type 0) (cases : List C) (stop_on : Option Verdict) (threads : ℕ) where
   -- these test cases were finished, of a beginning of the list, and none of them but the last ended the campaign
   pub record AreFinished (finished : List Finished) : Type 0 where
     -- they have the names and behaviour names of the list, in order
-    pub names : AllZip IsOfCase (take (length finished) (map outline_of cases)) finished
+    pub names : AllZip IsOfCase (take (length finished) (map outline cases)) finished
     -- each but the last is better than stop_on
     pub better : All (λ f. IsBetter stop_on f.report.verdict) (take (length finished - 1) finished)
     -- each report is of its own case, whose jobs were called
-    pub reports : AllZip IsReported (take (length finished) (map outline_of cases)) finished
-    pub called : AllZip (IsCalled outcome) (take (length finished) cases) finished
+    pub reports : AllZip IsReported (take (length finished) (map outline cases)) finished
+    pub calls : AllZip called (take (length finished) cases) finished
     pub named : All IsNamed finished
     pub threads_are : All (HasThreads threads) finished
     pub behaviours : All HasBehaviours finished
 
-  -- these test cases were finished, and the campaign ended so behind them
+  -- these test cases were finished, and the campaign ended so behind them; it may have had no room for its reports
   pub record IsRunTo (finished : List Finished) (ending : CampaignEnd) : Type 0 where
     pub each : AreFinished finished
-    pub last : IsEnding stop_on (slice_get finished (length finished - 1)) (slice_get (map outline_of cases) (length finished)) ending
+    pub last : IsEnding stop_on (slice_get finished (length finished - 1)) (slice_get (map outline cases) (length finished)) ending
+    pub why : IsWhy threads (slice_get (map outline cases) (length finished)) ending ⊎ IsWithoutRoom finished ending
+
+module _ {B O : Type 0} (outcome : B → PassState → Back → Type 0) (cases : List (Case B)) (stop_on : Option Verdict) (threads : ℕ)
+    (takes : O → Finished → O → Bool → Type 0) (before after : O) where
+  -- the campaign was run to this end, and the observer was given each finished test case
+  pub record IsObserved (ending : CampaignEnd) : Type 0 where
+    pub finished : List Finished
+    pub run : IsRunTo outline_of (IsCalled outcome) cases stop_on threads finished ending
     pub why : IsWhy threads (slice_get (map outline_of cases) (length finished)) ending
     pub torn : IsTornAt outcome (slice_get cases (length finished)) ending
+    pub taken : AreTaken takes finished before after
 
-  -- the same of a campaign that keeps its reports, and has made room for all of them before the first case was run
-  pub record IsKeptRun (finished : List Finished) (ending : CampaignEnd) : Type 0 where
-    pub each : AreFinished finished
-    pub last : IsEnding stop_on (slice_get finished (length finished - 1)) (slice_get (map outline_of cases) (length finished)) ending
-    pub why : IsWhy threads (slice_get (map outline_of cases) (length finished)) ending ⊎ IsWithoutRoom finished ending
-    pub torn : IsTornAt outcome (slice_get cases (length finished)) ending
-
-  module _ {O : Type 0} (takes : O → Finished → O → Bool → Type 0) (before after : O) where
-    -- the campaign was run to this end, and the observer was given each finished test case
-    pub record IsObserved (ending : CampaignEnd) : Type 0 where
-      pub finished : List Finished
-      pub run : IsRunTo finished ending
-      pub taken : AreTaken takes finished before after
-
-    -- the campaign was run until the observer ended it, at the last finished test case
-    pub record IsCutShort : Type 0 where
-      pub finished : List Finished
-      pub each : AreFinished finished
-      pub ended : IsEndedAt takes finished before after
+  -- the campaign was run until the observer ended it, at the last finished test case
+  pub record IsCutShort : Type 0 where
+    pub finished : List Finished
+    pub each : AreFinished outline_of (IsCalled outcome) cases stop_on threads finished
+    pub ended : IsEndedAt takes finished before after

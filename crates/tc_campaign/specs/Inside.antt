@@ -9,18 +9,16 @@ use Rattle.tc_case.specs.declared.refusal.CaseError.TheVariants as C
 use Rattle.tc_exec.specs.Case.{IsCaseReport}
 use Rattle.tc_exec.specs.declared.job.Back.{Back}
 use Rattle.tc_book.specs.Passes.{PassState}
-use Rattle.tc_report.specs.declared.fault.OutFault.{OutFault}
 use Rattle.tc_report.specs.declared.results.CampaignEnd.{CampaignEnd}
 use Rattle.tc_report.specs.declared.results.CampaignEnd.TheVariants as E
 use Rattle.tc_report.specs.declared.results.Finished.{Finished}
 use Rattle.tc_report.specs.Observers.{AreTaken, IsEndedAt}
-use Rattle.tc_report.specs.Progress.{IsToldBy, told_text}
 use Rattle.tc_campaign.specs.declared.case.Case.{Case}
 use Rattle.tc_campaign.specs.declared.step.Step.{Step}
 use Rattle.tc_campaign.specs.declared.step.Step.TheVariants as S
 use Rattle.tc_campaign.specs.Outline.{Outline, outline_of}
 use Rattle.tc_campaign.specs.Stopping.{IsBetter, IsMet}
-use Rattle.tc_campaign.specs.Campaign.{AreFinished, HasThreads, IsCalled, IsOfCase, IsRefusal, IsRunTo, IsTorn, IsTornAt, IsWhy}
+use Rattle.tc_campaign.specs.Campaign.{HasThreads, IsCalled, IsOfCase, IsRefusal, IsTorn, IsTornAt, IsWhy}
 
 -- a case was finished so
 pub record IsOf (c : Outline) (f : Finished) : Type 0 where
@@ -74,12 +72,6 @@ abbrev pub IsUnrun : List Outline → CampaignEnd → Type 0
 IsUnrun [] ending = ending ≡ E.Complete
 IsUnrun (c ∷ left) ending = ending ≡ E.Aborted c.name C.NoMemory
 
--- what becomes of the reports of an observer by whether it has room for one more: it keeps the report
-pub record IsKept (items : List Finished) (room : ℕ) (f : Finished) (now : List Finished) (room_now : ℕ) (goes_on : Bool) : Type 0 where
-  pub went : goes_on ≡ true
-  pub kept : now ≡ items ++ f ∷ []
-  pub same : room_now ≡ room
-
 -- the test case was run to its end
 pub record IsFinished {B : Type 0} (outcome : B → PassState → Back → Type 0) (threads : ℕ) (c : Case B) (f : Finished) : Type 0 where
   pub is : IsOf (outline_of c) f
@@ -119,15 +111,3 @@ module _ {B O : Type 0} (outcome : B → PassState → Back → Type 0) (takes :
     pub why : IfSome answer (IsWhy threads (slice_get (map outline_of cases) (length finished)))
     pub torn : IfSome answer (IsTornAt outcome (slice_get cases (length finished)))
     pub given : IsGiven finished before after answer
-
-  -- these test cases were finished and given to the observer; the campaign ended so, or the observer has ended it at the last of them
-  abbrev pub AreGivenTo : List (Case B) → O → O → List Finished → Option CampaignEnd → Type 0
-  AreGivenTo cases before after fs (Some ending) = IsRunTo outcome cases stop_on threads fs ending × AreTaken takes fs before after
-  AreGivenTo cases before after fs None = AreFinished outcome cases stop_on threads fs × IsEndedAt takes fs before after
-
-  -- the campaign was run so, and what was told is told of the test cases that were finished
-  pub record WasTold (cases : List (Case B)) (before after : O) (tells : Bool) (untold told : Option (List ℕ))
-      (answer : Option CampaignEnd) (line : Result (Unit {0}) OutFault) : Type 0 where
-    pub finished : List Finished
-    pub given : AreGivenTo cases before after finished answer
-    pub told_of : IsToldBy tells untold told (told_text tells finished) line

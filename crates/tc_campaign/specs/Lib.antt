@@ -4,5 +4,4 @@ pub mod Outline
 pub mod Campaign
 pub mod Shard
 pub mod Choosing
-pub mod Live
 pub mod Inside

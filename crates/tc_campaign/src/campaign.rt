@@ -1,22 +1,22 @@
 //! The run of a campaign.
-ghost use Rattle.std.specs.Prelude.{◌≡◌, ◌⊎◌, [], All, IfOk, IfErr, IfSome, IfNone, length, map, take, slice_get};
+ghost use Rattle.std.specs.Prelude.{◌≡◌, ◌⊎◌, ◌≤◌, [], All, IfOk, IfErr, IfSome, IfNone, Option, length, map, take, slice_get, ℕ};
 ghost use Rattle.std.specs.List.{AllZip};
+ghost use Rattle.std.specs.Vec.{vec_capacity, vec_len};
+ghost use Rattle.tc_verdict.specs.declared.verdict.Verdict.{Verdict as AnyVerdict};
 ghost use Rattle.tc_campaign.specs.Outline.{HasNames, outline_of};
-ghost use Rattle.tc_campaign.specs.Campaign.{HasBehaviours, HasThreads, IsCalled, IsCutShort, IsNamed, IsObserved, IsReported, IsRight, IsTornAt, IsWhy, IsWithoutRoom};
+ghost use Rattle.tc_campaign.specs.Campaign.{HasBehaviours, HasThreads, IsCalled, IsCutShort, IsNamed, IsObserved, IsReported, IsRight, IsRunTo, IsTornAt, IsWhy, IsWithoutRoom};
 ghost use Rattle.tc_campaign.specs.Inside.{IsOf, IsRefused, IsStep, IsUnrun, WasRun, ended_by};
 
 use crate::case::Case;
 use crate::step::Step;
 use crate::stopping::stop_after;
-use crate::told::{Plan, run_campaign_told};
 use std::alloc::Global;
-use std::io;
 use std::sync::Wait;
 use std::thread::Threads;
 use tc_book::Sequence;
 use tc_entry::{Name, Verdict};
 use tc_exec::{Callable, CaseError, CaseReport, Everyone, run_case_with};
-use tc_report::{CampaignEnd, Finished, Observer, Results};
+use tc_report::{CampaignEnd, Finished, Kept, Observer, Results};
 
 /// What becomes of a test case by the answer to its run: it is finished with the report, or the campaign is aborted at its name, for the
 /// same reason.
@@ -135,8 +135,8 @@ fn ending_without_room<B: Callable>(cases: Vec<Case<B>>) -> CampaignEnd
     }
 }
 
-/// The results of a campaign that has no room for its reports.
-pub(crate) fn without_room<B: Callable>(alloc: Global, cases: Vec<Case<B>>) -> Results
+// The results of a campaign of which no test case is run for want of room.
+fn unrun<B: Callable>(alloc: Global, cases: Vec<Case<B>>) -> Results
     ensures none { result.finished ≡ [] }
     ensures ending { IsUnrun (map outline_of cases.items) result.ending }
 {
@@ -146,7 +146,60 @@ pub(crate) fn without_room<B: Callable>(alloc: Global, cases: Vec<Case<B>>) -> R
     }
 }
 
-/// Runs the test cases of a campaign one after the other (ES 201 873-1, the execute statement).
+/// The results of a campaign that has no room for its reports: none of its test cases is run, and it is aborted at the
+/// first of them, where there is one.
+pub fn without_room<B: Callable>(alloc: Global, cases: Vec<Case<B>>) -> Results
+    ensures none { result.finished ≡ [] }
+    ensures run { (stop_on : Option AnyVerdict) (threads : ℕ)
+        → IsRunTo outline_of (IsCalled B.outcome) cases.items stop_on threads result.finished result.ending }
+    ensures torn { IsTornAt B.outcome (slice_get cases.items (length result.finished)) result.ending }
+{
+    unrun(alloc, cases)
+}
+
+// Runs the test cases, and keeps all of them: there is room.
+fn run_kept<R: Threads + Wait + Copy + Send + 'static, B: Callable>(
+    rt: &R,
+    alloc: Global,
+    cases: Vec<Case<B>>,
+    stop_on: Option<Verdict>,
+    threads: u16,
+    kept: Kept,
+) -> Results
+    requires names { All HasNames cases.items }
+    requires none { kept.finished.items ≡ [] }
+    requires room { vec_len cases ≤ vec_capacity kept.finished }
+    ensures run { IsRunTo outline_of (IsCalled B.outcome) cases.items stop_on threads result.finished result.ending }
+    ensures torn { IsTornAt B.outcome (slice_get cases.items (length result.finished)) result.ending }
+{
+    let mut kept = kept;
+    let ending = run_campaign_with(rt, alloc, cases, stop_on, threads, &mut kept);
+    match ending {
+        Some(ending) => kept.into_results(ending),
+        None => unreachable!(),
+    }
+}
+
+// Runs the test cases, and keeps all of them; without room for them none is run.
+fn run_or_not<R: Threads + Wait + Copy + Send + 'static, B: Callable>(
+    rt: &R,
+    alloc: Global,
+    cases: Vec<Case<B>>,
+    stop_on: Option<Verdict>,
+    threads: u16,
+) -> Results
+    requires names { All HasNames cases.items }
+    ensures run { IsRunTo outline_of (IsCalled B.outcome) cases.items stop_on threads result.finished result.ending }
+    ensures torn { IsTornAt B.outcome (slice_get cases.items (length result.finished)) result.ending }
+{
+    match Kept::with_room(alloc, cases.len()) {
+        Ok(kept) => run_kept(rt, alloc, cases, stop_on, threads, kept),
+        Err(_) => without_room(alloc, cases),
+    }
+}
+
+/// Runs the test cases of a campaign one after the other (ES 201 873-1, the execute statement), as by `run_campaign_with`
+/// with an observer that keeps them, a `Kept`.
 ///
 /// Each finished test case has the report of its own jobs. A test case whose verdict is `stop_on` or worse is the last. A
 /// test case that is refused ends the campaign, and the finished test cases stay. The room for all reports is made first;
@@ -170,10 +223,5 @@ pub fn run_campaign<R: Threads + Wait + Copy + Send + 'static, B: Callable>(
     ensures why { IsWhy threads (slice_get (map outline_of cases.items) (length result.finished)) result.ending ⊎ IsWithoutRoom result.finished result.ending }
     ensures torn { IsTornAt B.outcome (slice_get cases.items (length result.finished)) result.ending }
 {
-    let plan = Plan {
-        stop_on,
-        threads,
-        tells: false,
-    };
-    run_campaign_told(rt, alloc, cases, plan, &mut io::sink()).results
+    run_or_not(rt, alloc, cases, stop_on, threads)
 }

@@ -1,5 +1,6 @@
 //! Observers: what each is given, when, and what its refusal does.
-ghost use Rattle.std.specs.Prelude.{⊤};
+ghost use Rattle.std.specs.Prelude.{⊤, All};
+ghost use Rattle.tc_campaign.specs.Outline.{HasNames};
 
 use crate::cases::{Counts, Does, between, case_of, counted};
 use crate::checks::{holds, is};
@@ -11,10 +12,10 @@ use std::sync::Wait;
 use std::test::Fail;
 use std::thread::Threads;
 use tc_campaign::{
-    CampaignEnd, Finished, Form, LiveEnd, Observer, OutFault, Plan, run_campaign_live,
-    run_campaign_live_told, run_campaign_with,
+    CampaignEnd, Case, Finished, Form, LiveWriter, Observer, OutFault, Progress, run_campaign_with,
 };
 use tc_entry::{UserVerdict, Verdict};
+use tc_exec::Callable;
 use tc_stream::devices::{NarrowWriter, WriteFailure};
 
 /// Notes how many test cases have begun when each report comes, and ends the campaign at the report of this number.
@@ -138,19 +139,46 @@ impl Write for Flushing {
     }
 }
 
+/// How a campaign ended that was written as its test cases finished, and its exit status; or why it was not written whole.
+type LiveAnswer = Result<(CampaignEnd, u8), OutFault>;
+
+/// Writes what stands behind the test cases of a campaign that ended so; without an ending the writer has ended it.
+fn close<W: Write>(ending: Option<CampaignEnd>, live: &mut LiveWriter<'_, W>) -> LiveAnswer {
+    let Some(ending) = ending else {
+        return Err(live.fault.unwrap_or(OutFault::NoMemory));
+    };
+    let status = live.end(&ending)?;
+    Ok((ending, status))
+}
+
+/// The answer to these test cases that are written by this as they finish.
+fn write_cases<R: Threads + Wait + Copy + Send + 'static, B: Callable, W: Write>(
+    rt: &R,
+    alloc: Global,
+    cases: Vec<Case<B>>,
+    live: &mut LiveWriter<'_, W>,
+) -> LiveAnswer
+    requires { All HasNames cases.items }
+{
+    live.begin()?;
+    let ending = run_campaign_with(rt, alloc, cases, None, 0, live);
+    close(ending, live)
+}
+
 /// The answer to three counted test cases that are written as they finish.
 fn write_three<R: Threads + Wait + Copy + Send + 'static, W: Write>(
     rt: &R,
     alloc: Global,
     counts: &Counts,
     writer: &mut W,
-) -> Result<Result<(CampaignEnd, u8), OutFault>, Fail> {
+) -> Result<LiveAnswer, Fail> {
     let cases = counted(alloc, counts)?;
-    Ok(run_campaign_live(rt, alloc, cases, None, 0, Form::Csv, writer))
+    let mut live = LiveWriter::new(alloc, Form::Csv, writer);
+    Ok(write_cases(rt, alloc, cases, &mut live))
 }
 
 /// The status of a campaign that is complete.
-fn status_of(answer: &Result<(CampaignEnd, u8), OutFault>) -> Result<u8, OutFault> {
+fn status_of(answer: &LiveAnswer) -> Result<u8, OutFault> {
     match answer {
         Ok((CampaignEnd::Complete, status)) => Ok(*status),
         Ok(_) => Ok(9),
@@ -225,22 +253,37 @@ fn no_case_begins_behind_a_write_fault(rt: HostRuntime) -> Result<(), Fail> {
     Ok(())
 }
 
+/// Runs these test cases with one that writes their table, and tells of them on this writer.
+fn tell_cases<R: Threads + Wait + Copy + Send + 'static, B: Callable, W: Write>(
+    rt: &R,
+    alloc: Global,
+    cases: Vec<Case<B>>,
+    live: &mut LiveWriter<'_, W>,
+    lines: &mut Vec<u8>,
+) -> (Option<CampaignEnd>, Result<(), OutFault>)
+    requires { All HasNames cases.items }
+{
+    let mut failed = Vec::new(alloc);
+    let mut progress = Progress::new(alloc, true, live, lines, &mut failed);
+    let ending = run_campaign_with(rt, alloc, cases, None, 0, &mut progress);
+    let told = progress.end();
+    (ending, told)
+}
+
 /// What comes of three test cases, of which the second fails, that are told of and whose table goes to this writer.
 fn tell<R: Abort + Threads + Wait + Copy + Send + 'static, W: Write>(
     rt: &R,
     alloc: Global,
     table: &mut W,
     lines: &mut Vec<u8>,
-) -> Result<LiveEnd, Fail> {
+) -> Result<(LiveAnswer, Result<(), OutFault>), Fail> {
     let fails = Some(Does::Sets(UserVerdict::Fail));
     let second = case_of(rt, alloc, "b", fails, 0)?;
     let cases = between(alloc, second)?;
-    let plan = Plan {
-        stop_on: None,
-        threads: 0,
-        tells: true,
-    };
-    Ok(run_campaign_live_told(rt, alloc, cases, plan, Form::Csv, table, lines))
+    let mut live = LiveWriter::new(alloc, Form::Csv, table);
+    live.begin()?;
+    let (ending, told) = tell_cases(rt, alloc, cases, &mut live, lines);
+    Ok((close(ending, &mut live), told))
 }
 
 // A campaign whose table can't be written is told of up to the test case at which that was found.
@@ -249,14 +292,9 @@ fn a_campaign_that_is_cut_short_is_told_of(rt: HostRuntime) -> Result<(), Fail> 
     let written = HEADER.len() + "a,1,0,1,0,0,0,pass\n".len();
     let mut table = NarrowWriter::new(rt.alloc(), written, WriteFailure::Full);
     let mut lines = Vec::new(rt.alloc());
-    let end = tell(&rt, rt.alloc(), &mut table, &mut lines)?;
-    is(
-        &rt,
-        "the table",
-        status_of(&end.ended),
-        Err(OutFault::Write),
-    );
-    is(&rt, "whether the lines were written", end.told, Ok(()));
+    let (ended, told) = tell(&rt, rt.alloc(), &mut table, &mut lines)?;
+    is(&rt, "the table", status_of(&ended), Err(OutFault::Write));
+    is(&rt, "whether the lines were written", told, Ok(()));
     let wanted = "a pass\nb fail\nfailed: b fail\n";
     is(&rt, "what is told", lines.as_slice(), wanted.as_bytes());
     Ok(())

@@ -2,6 +2,7 @@
 pub mod Doing
 pub mod Replaying
 pub mod Running
+pub mod Telling
 pub mod Chosen
 pub mod Scripted
 pub mod Checking

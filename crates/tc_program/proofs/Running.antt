@@ -1,143 +1,169 @@
 -- What comes of a campaign that was run.
-use Rattle.std.proofs.Common.{ℕ, ◌≡◌, ◌-◌, ◌⊎◌, subst, ap, length, List, map, Option, Some, Result, Ok, Err, IfErr, inl, sym}
-use Rattle.std.specs.Prelude.{IsErrAnd, slice_get, unwrap_or}
-use Rattle.tc_program.specs.declared.fault.RunFault.{RunFault}
+use Rattle.std.proofs.Common.{ℕ, ◌≡◌, ◌∙◌, [], Bool, true, false, subst, ap, List, Option, Some, None, Result, Ok, Err, IfErr, sym}
+use Rattle.std.specs.Borrow.{GName}
+use Rattle.std.specs.Prelude.{IfNone, IfSome, IsErrAnd, unwrap_or}
 use Rattle.std.specs.Io.KnownBytes.{Appends}
+use Rattle.tc_verdict.specs.declared.verdict.Verdict.TheVariants as V
 use Rattle.tc_stream.specs.Output.{AppendsPrefix}
 use Rattle.tc_book.specs.Passes.{PassState}
 use Rattle.tc_exec.specs.declared.job.Back.{Back}
 use Rattle.tc_report.specs.declared.fault.OutFault.{OutFault}
 use Rattle.tc_report.specs.declared.form.Form.{Form as ReportForm}
+use Rattle.tc_report.specs.declared.form.Form.TheVariants as ReportForms
+use Rattle.tc_report.specs.declared.live.LiveWriter.{LiveWriter}
 use Rattle.tc_report.specs.declared.results.CampaignEnd.{CampaignEnd}
+use Rattle.tc_report.specs.declared.results.CampaignEnd.TheVariants as E
 use Rattle.tc_report.specs.declared.results.Finished.{Finished}
 use Rattle.tc_report.specs.declared.results.Results.{Results}
 use Rattle.tc_report.specs.Ending.{abort_text}
-use Rattle.tc_report.specs.Live.{form_text}
+use Rattle.tc_report.specs.Live.{LiveState, closing_text, form_text, opening_text}
 use Rattle.tc_report.specs.Output.{LeavesPrefix}
 use Rattle.tc_report.specs.Progress.{IsToldBy, told_text}
-use Rattle.tc_report.specs.Status.{results_status}
-use Rattle.tc_report.proofs.Telling.{told_is_prefix}
+use Rattle.tc_report.specs.Status.{ending_status, results_status}
+use Rattle.tc_report.specs.Tally.{no_cases}
+use Rattle.tc_report.proofs.Pieces.{IsAt, Takes, all_at, all_written, begun, case_left, closing_left, ended_at, opening_left, status_at}
+use Rattle.tc_report.proofs.Telling.{nothing_of, told_is_prefix}
 use Rattle.tc_campaign.specs.declared.case.Case.{Case}
-use Rattle.tc_campaign.specs.declared.told.Plan.{Plan}
 use Rattle.tc_campaign.specs.Outline.{outline_of}
-use Rattle.tc_campaign.specs.Campaign.{AreFinished as AreRun, IsCalled, IsEnding, IsKeptRun, IsRunTo, IsWhy, IsWithoutRoom}
-use Rattle.tc_campaign.specs.Live.{IsWrittenAndTold}
-use Rattle.tc_program.specs.declared.outcome.Outcome.{Outcome}
-use Rattle.tc_command.specs.declared.task.RunOptions.{RunOptions}
-use Rattle.tc_program.specs.Give.{live_form, text_of}
-use Rattle.tc_program.specs.Limits.{worker_limit}
+use Rattle.tc_campaign.specs.Campaign.{AreFinished, IsCalled, IsRunTo}
+use Rattle.tc_campaign.proofs.Keeping.{none_finished}
 use Rattle.tc_command.specs.declared.task.Form.{Form}
 use Rattle.tc_command.specs.declared.task.Form.TheVariants as Forms
-use Rattle.tc_report.specs.declared.form.Form.TheVariants as ReportForms
+use Rattle.tc_command.specs.declared.task.RunOptions.{RunOptions}
+use Rattle.tc_program.specs.declared.fault.RunFault.{RunFault}
+use Rattle.tc_program.specs.declared.outcome.Outcome.{Outcome}
+use Rattle.tc_program.specs.Give.{live_form, text_of}
+use Rattle.tc_program.specs.Inside.{AreGiven}
+use Rattle.tc_program.specs.Limits.{worker_limit}
+use Rattle.tc_program.specs.Run.{IsLeft, IsRun, IsUnwritten, first_fault}
 use Rattle.tc_program.specs.Streams.{Streams}
 use Rattle.tc_program.specs.Tell.{IsTold}
-use Rattle.tc_program.specs.Run.{AreFinished, AreResults, IsCutShort, IsRun, IsUnwritten, first_fault}
 
 -- the text in a form that is written live is that of the form that was asked for
-live_text : (form : Form) (live : ReportForm) (r : Results) → live_form form ≡ Some live → form_text live r ≡ text_of form r
-live_text Forms.Text live r is = sym (ap (λ o. form_text (unwrap_or o ReportForms.Text) r) is)
-live_text Forms.Csv live r is = sym (ap (λ o. form_text (unwrap_or o ReportForms.Text) r) is)
-live_text Forms.History live r is = sym (ap (λ o. form_text (unwrap_or o ReportForms.Text) r) is)
-live_text Forms.Junit live r is = absurd cc
+live_text : (live : Bool) (form : Form) (found : ReportForm) (r : Results) → live_form live form ≡ Some found → form_text found r ≡ text_of form r
+live_text true Forms.Text found r is = sym (ap (λ o. form_text (unwrap_or o ReportForms.Text) r) is)
+live_text true Forms.Csv found r is = sym (ap (λ o. form_text (unwrap_or o ReportForms.Text) r) is)
+live_text true Forms.History found r is = sym (ap (λ o. form_text (unwrap_or o ReportForms.Text) r) is)
+live_text true Forms.Junit found r is = absurd (cc is)
+live_text false form found r is = absurd (cc is)
 
 -- what is told behind the test cases, and what comes of both
 abbrev pub EndsTold : Option (List ℕ) → Option (List ℕ) → CampaignEnd → Result (Unit {0}) OutFault → Result (Unit {0}) RunFault → Type 0
 EndsTold between told ending telling answer =
     (line : Result (Unit {0}) RunFault) × IsTold between told (abort_text ending) line × (answer ≡ first_fault telling line)
 
-module _ {B : Type 0} (outcome : B → PassState → Back → Type 0) (cases : List (Case B)) (options : RunOptions) (plan : Plan)
-    (is : plan ≡ record { stop_on = options.stop_on; threads = worker_limit; tells = options.progress }) where
-  finished_of : (fs : List Finished) → AreRun outcome cases plan.stop_on plan.threads fs → AreFinished outline_of (IsCalled outcome) cases options.stop_on fs
-  finished_of fs run =
-      let each = subst (λ (p : Plan). AreRun outcome cases p.stop_on p.threads fs) is run in record {
-        cases_are = each.names;
-        better = each.better;
-        reports = each.reports;
-        calls = each.called;
-        names = each.named;
-        behaviours = each.behaviours;
-      }
+-- where no test case was finished, nothing is told
+pub untold : (tells : Bool) (start : Option (List ℕ)) (finished : List Finished) → finished ≡ []
+    → IsToldBy tells start start (told_text tells finished) (Ok tt)
+untold tells start finished none = subst (λ fs. IsToldBy tells start start (told_text tells fs) (Ok tt)) (sym none) (nothing_of tells start)
 
-  kept_of : (finished : List Finished) (ending : CampaignEnd) → IsRunTo outcome cases plan.stop_on plan.threads finished ending
-      → IsKeptRun outcome cases plan.stop_on plan.threads finished ending
-  kept_of finished ending run = record { each = run.each; last = run.last; why = inl run.why; torn = run.torn }
+-- which writer a live writer writes to
+abbrev pub name_of : {W : Type 0} → LiveWriter W → GName
+name_of l = l.writer.ghost_name
 
-  results_of : (r : Results) → IsKeptRun outcome cases plan.stop_on plan.threads r.finished r.ending → AreResults outline_of (IsCalled outcome) cases options.stop_on r
-  results_of r run = record {
-    each = finished_of r.finished run.each;
-    last = subst (λ (p : Plan). IsEnding p.stop_on (slice_get r.finished (length r.finished - 1)) (slice_get (map outline_of cases) (length r.finished)) r.ending) is run.last;
-    why = subst (λ (p : Plan). IsWhy p.threads (slice_get (map outline_of cases) (length r.finished)) r.ending ⊎ IsWithoutRoom r.finished r.ending) is run.why;
-  }
+-- where a live writer has done nothing, its writer holds what it held
+pub writes_nothing : {W A : Type 0} (contents : W → Option (List ℕ)) (ending : Option A) (before after : LiveWriter W) → IfNone ending (after ≡ before)
+    → IfNone ending (contents after.writer.now ≡ contents before.writer.now)
+writes_nothing contents None before after same = ap (λ (l : LiveWriter _). contents l.writer.now) same
+writes_nothing contents (Some ending) before after same = tt
 
-  told_so : (fs : List Finished) (before after : Option (List ℕ)) (line : Result (Unit {0}) OutFault)
-      → IsToldBy plan.tells before after (told_text plan.tells fs) line → IsToldBy options.progress before after (told_text options.progress fs) line
-  told_so fs before after line told = subst (λ (p : Plan). IsToldBy p.tells before after (told_text p.tells fs) line) is told
-
+module _ {B : Type 0} (outcome : B → PassState → Back → Type 0) (cases : List (Case B)) (options : RunOptions) where
   -- the results of a run were given, and what is to be told was
   pub whole_done : (streams : Streams) (between : Option (List ℕ)) (r : Results) (telling : Result (Unit {0}) OutFault) (ended : Outcome)
-      → IsKeptRun outcome cases plan.stop_on plan.threads r.finished r.ending
-      → IsToldBy plan.tells streams.untold between (told_text plan.tells r.finished) telling
+      → IsRunTo outline_of (IsCalled outcome) cases options.stop_on worker_limit r.finished r.ending
+      → IsToldBy options.progress streams.untold between (told_text options.progress r.finished) telling
       → ended.status ≡ results_status r → Appends streams.before streams.after (text_of options.form r)
       → EndsTold between streams.told r.ending telling ended.told → IsRun outline_of (IsCalled outcome) cases options streams ended
   whole_done streams between r telling ended run told status written line = record {
     results = r;
-    right = results_of r run;
+    right = run;
     status = status;
     written = written;
-    told = record {
-      between = between;
-      telling = telling;
-      cases_told = told_so r.finished streams.untold between telling told;
-      line = line.0;
-      line_told = line.1;
-      first = line.2;
-    };
+    told = record { between = between; telling = telling; cases_told = told; line = line.0; line_told = line.1; first = line.2 };
   }
 
   -- the results of a run were not written whole
   pub whole_left : (streams : Streams) (r : Results) (telling : Result (Unit {0}) OutFault) (fault : OutFault) (answer : Result Outcome OutFault)
-      → IsErrAnd answer (λ f. f ≡ fault) → IsKeptRun outcome cases plan.stop_on plan.threads r.finished r.ending
-      → IsToldBy plan.tells streams.untold streams.told (told_text plan.tells r.finished) telling
+      → IsErrAnd answer (λ f. f ≡ fault) → live_form options.live options.form ≡ None
+      → IsRunTo outline_of (IsCalled outcome) cases options.stop_on worker_limit r.finished r.ending
+      → IsToldBy options.progress streams.untold streams.told (told_text options.progress r.finished) telling
       → LeavesPrefix streams.before streams.after (text_of options.form r) fault
       → IfErr answer (IsUnwritten outline_of (IsCalled outcome) cases options streams)
-  whole_left streams r telling fault (Ok ended) what run told left = absurd what
-  whole_left streams r telling fault (Err f) what run told left = record {
+  whole_left streams r telling fault (Ok ended) what is run told left = absurd what
+  whole_left streams r telling fault (Err f) what is run told left = record {
     results = r;
-    right = results_of r run;
-    left = subst (LeavesPrefix streams.before streams.after (text_of options.form r)) (sym what) left;
-    told = told_is_prefix options.progress streams.untold streams.told (told_text options.progress r.finished) telling
-        (told_so r.finished streams.untold streams.told telling told);
+    left = subst (λ live. IsLeft outline_of (IsCalled outcome) cases options live streams r f) (sym is)
+        (run, subst (LeavesPrefix streams.before streams.after (text_of options.form r)) (sym what) left);
+    told = told_is_prefix options.progress streams.untold streams.told (told_text options.progress r.finished) telling told;
   }
 
-  module _ (form : ReportForm) (same : live_form options.form ≡ Some form) where
-    -- a run that was written live was run, and its results were given
-    pub live_done : (streams : Streams) (between : Option (List ℕ)) (telling : Result (Unit {0}) OutFault) (ending : CampaignEnd) (ended : Outcome)
-        (answer : Result (CampaignEnd × ℕ) OutFault) → answer ≡ Ok (ending, ended.status)
-        → IsWrittenAndTold outcome cases plan.stop_on plan.threads form streams.before streams.after plan.tells streams.untold between answer telling
-        → EndsTold between streams.told ending telling ended.told → IsRun outline_of (IsCalled outcome) cases options streams ended
-    live_done streams between telling ending ended answer ok told line =
-        let was = subst (λ a. IsWrittenAndTold outcome cases plan.stop_on plan.threads form streams.before streams.after plan.tells streams.untold between a telling) ok told in
-        let r : Results = record { finished = was.finished; ending = ending } in
-        whole_done streams between r telling ended (kept_of was.finished ending was.done.run) was.told_of was.done.status_is
-        (subst (λ t. Appends streams.before streams.after t) (live_text options.form form r same) was.done.written) line
+  module _ (streams : Streams) (form : ReportForm) (same : live_form options.live options.form ≡ Some form) where
+    -- a run that was not written whole as its test cases finished left a prefix
+    cut_up : (r : Results) (telling : Result (Unit {0}) OutFault) (fault : OutFault)
+        → AreFinished outline_of (IsCalled outcome) cases options.stop_on worker_limit r.finished
+        → IsToldBy options.progress streams.untold streams.told (told_text options.progress r.finished) telling
+        → AppendsPrefix streams.before streams.after (form_text form r) → IsUnwritten outline_of (IsCalled outcome) cases options streams fault
+    cut_up r telling fault each told left = record {
+      results = r;
+      left = subst (λ live. IsLeft outline_of (IsCalled outcome) cases options live streams r fault) (sym same)
+          (each, subst (AppendsPrefix streams.before streams.after) (live_text options.live options.form form r same) left);
+      told = told_is_prefix options.progress streams.untold streams.told (told_text options.progress r.finished) telling told;
+    }
 
-    -- a run that was not written whole left a prefix
-    live_cut : (streams : Streams) (telling : Result (Unit {0}) OutFault) (why : OutFault)
-        → IsWrittenAndTold outcome cases plan.stop_on plan.threads form streams.before streams.after plan.tells streams.untold streams.told (Err why) telling
-        → IsCutShort outline_of (IsCalled outcome) cases options streams why
-    live_cut streams telling why was =
-        let part = was.part in
-        let r : Results = record { finished = was.finished; ending = part.ending } in record {
-          results = r;
-          each = finished_of was.finished part.each;
-          left = subst (λ t. AppendsPrefix streams.before streams.after t) (live_text options.form form r same) part.left;
-          told = told_is_prefix options.progress streams.untold streams.told (told_text options.progress was.finished) telling
-              (told_so was.finished streams.untold streams.told telling was.told_of);
-        }
+    -- what stands before the test cases was not written whole, and nothing was told
+    pub at_opening : (fault : OutFault) → streams.told ≡ streams.untold → LeavesPrefix streams.before streams.after (opening_text form) fault
+        → IsUnwritten outline_of (IsCalled outcome) cases options streams fault
+    at_opening fault untold left =
+        cut_up (record { finished = []; ending = E.Complete }) (Ok tt) fault (none_finished outcome cases options.stop_on worker_limit)
+        (subst (λ t. IsToldBy options.progress streams.untold t (told_text options.progress []) (Ok tt)) (sym untold) (nothing_of options.progress streams.untold))
+        (opening_left form streams.before streams.after fault E.Complete left)
 
-    pub cut_up : (streams : Streams) (telling : Result (Unit {0}) OutFault) (why : OutFault) (ended : Result (CampaignEnd × ℕ) OutFault) → ended ≡ Err why
-        → IsWrittenAndTold outcome cases plan.stop_on plan.threads form streams.before streams.after plan.tells streams.untold streams.told ended telling
-        → IsCutShort outline_of (IsCalled outcome) cases options streams why
-    cut_up streams telling why ended err told =
-        live_cut streams telling why
-        (subst (λ e. IsWrittenAndTold outcome cases plan.stop_on plan.threads form streams.before streams.after plan.tells streams.untold streams.told e telling) err told)
+    module _ {O : Type 0} (state : O → LiveState) (name : O → GName) (before after : O)
+        (form_is : (state before).form ≡ form) (opening : Appends streams.before (state before).out (opening_text form))
+        (tally : (state before).tally ≡ no_cases) (worst : (state before).worst ≡ V.None)
+        (finished : List Finished) (answer : Option CampaignEnd) (given : AreGiven outcome (Takes state name) cases options before after finished answer) where
+      first : IsAt form streams.before [] (state before)
+      first = begun form streams.before (state before) form_is opening tally worst
+
+      -- the writer is the same one
+      pub named_still : name after ≡ name before
+      named_still = go answer given
+        where
+          go : (a : Option CampaignEnd) → AreGiven outcome (Takes state name) cases options before after finished a → name after ≡ name before
+          go (Some ending) given = (all_at state name form streams.before [] finished before after first given.1).1
+          go None given = (ended_at state name form streams.before finished before after first given.1).1
+
+      -- a test case, or what stands behind all, was not written whole
+      pub live_left : (telling : Result (Unit {0}) OutFault) (fault : OutFault)
+          → IsToldBy options.progress streams.untold streams.told (told_text options.progress finished) telling
+          → IfNone answer (streams.after ≡ (state after).out)
+          → IfSome answer (λ e. LeavesPrefix (state after).out streams.after (closing_text (state after).form (state after).tally e) fault)
+          → IsUnwritten outline_of (IsCalled outcome) cases options streams fault
+      live_left telling fault told cut part = go answer given cut part
+        where
+          go : (a : Option CampaignEnd) → AreGiven outcome (Takes state name) cases options before after finished a
+              → IfNone a (streams.after ≡ (state after).out)
+              → IfSome a (λ e. LeavesPrefix (state after).out streams.after (closing_text (state after).form (state after).tally e) fault)
+              → IsUnwritten outline_of (IsCalled outcome) cases options streams fault
+          go (Some ending) given cut part =
+              cut_up (record { finished = finished; ending = ending }) telling fault given.0.each told
+              (closing_left state name form streams.before before after first finished ending given.1 streams.after fault part)
+          go None given cut part =
+              cut_up (record { finished = finished; ending = E.Complete }) telling fault given.0 told
+              (subst (λ now. AppendsPrefix streams.before now (form_text form (record { finished = finished; ending = E.Complete }))) (sym cut)
+              (case_left state name form streams.before before after first finished E.Complete given.1))
+
+      -- all was written, and what is to be told was
+      pub live_done : (between : Option (List ℕ)) (telling : Result (Unit {0}) OutFault) (ending : CampaignEnd) (ended : Outcome)
+          → IsToldBy options.progress streams.untold between (told_text options.progress finished) telling → answer ≡ Some ending
+          → Appends (state after).out streams.after (closing_text (state after).form (state after).tally ending)
+          → ended.status ≡ ending_status ending (state after).worst
+          → EndsTold between streams.told ending telling ended.told → IsRun outline_of (IsCalled outcome) cases options streams ended
+      live_done between telling ending ended told is out status line =
+          let had : AreGiven outcome (Takes state name) cases options before after finished (Some ending) =
+          subst (AreGiven outcome (Takes state name) cases options before after finished) is given in
+          let r : Results = record { finished = finished; ending = ending } in
+          whole_done streams between r telling ended had.0 told
+          (status ∙ status_at state name form streams.before before after first finished ending had.1)
+          (subst (Appends streams.before streams.after) (live_text options.live options.form form r same)
+          (all_written state name form streams.before before after first finished ending had.1 streams.after out)) line

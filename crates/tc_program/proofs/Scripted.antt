@@ -1,5 +1,5 @@
 -- The results of the test cases that were made of a script are those of the script.
-use Rattle.std.proofs.Common.{ℕ, zero, suc, ◌≡◌, ◌∙◌, ◌-◌, ◌⊎◌, Bool, true, false, List, [], ◌∷◌, Option, All, length, map, take, arith, refl, sym, ap, subst}
+use Rattle.std.proofs.Common.{ℕ, zero, suc, ◌≡◌, ◌∙◌, ◌-◌, ◌⊎◌, List, [], ◌∷◌, Option, None, Some, All, length, map, take, arith, refl, sym, ap, subst}
 use Rattle.std.proofs.lemmas.List.{length-map}
 use Rattle.std.proofs.lemmas.List.Elements.{All-nil, All-cons, All-tail}
 use Rattle.std.specs.List.{AllZip}
@@ -16,21 +16,23 @@ use Rattle.tc_book.specs.Passes.{PassState}
 use Rattle.tc_exec.specs.declared.job.Back.{Back}
 use Rattle.tc_exec.specs.Case.{IsCaseReport, IsMadeOf}
 use Rattle.tc_exec.proofs.Logs.{logs_by}
+use Rattle.tc_report.specs.declared.form.Form.{Form as ReportForm}
+use Rattle.tc_report.specs.declared.results.CampaignEnd.{CampaignEnd}
 use Rattle.tc_report.specs.declared.results.Finished.{Finished}
 use Rattle.tc_report.specs.declared.results.Results.{Results}
 use Rattle.tc_campaign.specs.declared.case.Case.{Case}
 use Rattle.tc_campaign.specs.Outline.{Outline, HasNames, outline_of}
-use Rattle.tc_campaign.specs.Campaign.{IsCalled, IsEnding, IsOfCase, IsReported, IsWhy, IsWithoutRoom}
-use Rattle.tc_program.specs.Give.{is_live}
+use Rattle.tc_campaign.specs.Campaign.{AreFinished, IsCalled, IsEnding, IsOfCase, IsReported, IsRunTo, IsWhy, IsWithoutRoom}
+use Rattle.tc_program.specs.Give.{live_form}
 use Rattle.tc_program.specs.Limits.{worker_limit}
 use Rattle.tc_command.specs.declared.task.RunOptions.{RunOptions}
 use Rattle.tc_report.specs.declared.fault.OutFault.{OutFault}
 use Rattle.tc_program.specs.Fault.{line_of, of_output}
 use Rattle.tc_program.specs.Tell.{IsRefusal}
 use Rattle.tc_program.specs.declared.outcome.Outcome.{Outcome}
-use Rattle.tc_program.specs.Run.{AreFinished, AreResults, IsCutShort, IsRun, IsUnwritten}
+use Rattle.tc_program.specs.Run.{IsLeft, IsRun, IsUnwritten}
 use Rattle.tc_program.specs.Choosing.{AreChosen}
-use Rattle.tc_program.specs.Program.{IsLeft, LeavesScript, RunsScript}
+use Rattle.tc_program.specs.Program.{LeavesScript, RunsScript}
 use Rattle.tc_program.specs.Streams.{Streams}
 use Rattle.tc_program.specs.Scripted.{CaseView, IsScripted, names_of, scripts_of, script_outline}
 use Rattle.tc_program.specs.Inside.{IsCaseOf}
@@ -86,30 +88,32 @@ scripted (suc n) (c ∷ cs) (k ∷ ks) [] lawful each reports called = absurd ca
 scripted (suc n) (c ∷ cs) (k ∷ ks) (f ∷ fs) lawful each reports called =
     (of_script c k f (lawful 0 c (omega arith)) each.0 reports.0 called.0, scripted n cs ks fs (All-tail (λ c. IsCase c.1) c cs lawful) each.1 reports.1 called.1)
 
--- the finished test cases are those of the script
-finished : (cs : List CaseView) (ks : List (Case ScriptView)) (stop_on : Option Verdict) (fs : List Finished) → All (λ c. IsCase c.1) cs → AllZip IsCaseOf cs ks
-    → AreFinished outline_of (IsCalled Acts) ks stop_on fs → AreFinished script_outline IsScripted cs stop_on fs
-finished cs ks stop_on fs lawful each are =
-    let same = outlines cs ks each in
-    let reports : AllZip IsReported (take (length fs) (map script_outline cs)) fs = subst (λ os. AllZip IsReported (take (length fs) os) fs) same are.reports in
-    record {
-      cases_are = subst (λ os. AllZip IsOfCase (take (length fs) os) fs) same are.cases_are;
-      better = are.better;
-      reports = reports;
-      calls = scripted (length fs) cs ks fs lawful each reports are.calls;
-      names = are.names;
-      behaviours = are.behaviours;
-    }
+module _ (cs : List CaseView) (ks : List (Case ScriptView)) (stop_on : Option Verdict) (threads : ℕ) (lawful : All (λ c. IsCase c.1) cs) (each : AllZip IsCaseOf cs ks) where
+  same : map outline_of ks ≡ map script_outline cs
+  same = outlines cs ks each
 
--- right results of the test cases are right results of the script
-results : (cs : List CaseView) (ks : List (Case ScriptView)) (stop_on : Option Verdict) (r : Results) → All (λ c. IsCase c.1) cs → AllZip IsCaseOf cs ks
-    → AreResults outline_of (IsCalled Acts) ks stop_on r → AreResults script_outline IsScripted cs stop_on r
-results cs ks stop_on r lawful each are =
-    let same = outlines cs ks each in record {
-      each = finished cs ks stop_on r.finished lawful each are.each;
-      last = subst (λ os. IsEnding stop_on (slice_get r.finished (length r.finished - 1)) (slice_get os (length r.finished)) r.ending) same are.last;
-      why = subst (λ os. IsWhy worker_limit (slice_get os (length r.finished)) r.ending ⊎ IsWithoutRoom r.finished r.ending) same are.why;
-    }
+  -- the finished test cases are those of the script
+  finished : (fs : List Finished) → AreFinished outline_of (IsCalled Acts) ks stop_on threads fs → AreFinished script_outline IsScripted cs stop_on threads fs
+  finished fs are =
+      let reports : AllZip IsReported (take (length fs) (map script_outline cs)) fs = subst (λ os. AllZip IsReported (take (length fs) os) fs) same are.reports in
+      record {
+        names = subst (λ os. AllZip IsOfCase (take (length fs) os) fs) same are.names;
+        better = are.better;
+        reports = reports;
+        calls = scripted (length fs) cs ks fs lawful each reports are.calls;
+        named = are.named;
+        threads_are = are.threads_are;
+        behaviours = are.behaviours;
+      }
+
+  -- and so are they where the campaign ended
+  results : (fs : List Finished) (ending : CampaignEnd) → IsRunTo outline_of (IsCalled Acts) ks stop_on threads fs ending
+      → IsRunTo script_outline IsScripted cs stop_on threads fs ending
+  results fs ending are = record {
+    each = finished fs are.each;
+    last = subst (λ os. IsEnding stop_on (slice_get fs (length fs - 1)) (slice_get os (length fs)) ending) same are.last;
+    why = subst (λ os. IsWhy threads (slice_get os (length fs)) ending ⊎ IsWithoutRoom fs ending) same are.why;
+  }
 
 module _ (o : RunOptions) (text : List ℕ) (cs : List CaseView) (ks : List (Case ScriptView)) (chosen : AreChosen o.choice text cs) (lawful : All (λ c. IsCase c.1) cs)
     (each : AllZip IsCaseOf cs ks) where
@@ -120,44 +124,26 @@ module _ (o : RunOptions) (text : List ℕ) (cs : List CaseView) (ks : List (Cas
     chosen = chosen;
     run = record {
       results = run.results;
-      right = results cs ks o.stop_on run.results lawful each run.right;
+      right = results cs ks o.stop_on worker_limit lawful each run.results.finished run.results.ending run.right;
       status = run.status;
       written = run.written;
       told = run.told;
     };
   }
 
-  left_whole : (streams : Streams) (fault : OutFault) → IsUnwritten outline_of (IsCalled Acts) ks o streams fault → IsLeft false cs o streams fault
-  left_whole streams fault run = record {
-    results = run.results;
-    right = results cs ks o.stop_on run.results lawful each run.right;
-    left = run.left;
-    told = run.told;
-  }
-
-  left_cut : (streams : Streams) (fault : OutFault) → IsCutShort outline_of (IsCalled Acts) ks o streams fault → IsLeft true cs o streams fault
-  left_cut streams fault run = record {
-    results = run.results;
-    each = finished cs ks o.stop_on run.results.finished lawful each run.each;
-    left = run.left;
-    told = run.told;
-  }
+  left_of : (live : Option ReportForm) (s : Streams) (r : Results) (fault : OutFault) → IsLeft outline_of (IsCalled Acts) ks o live s r fault
+      → IsLeft script_outline IsScripted cs o live s r fault
+  left_of None s r fault left = (results cs ks o.stop_on worker_limit lawful each r.finished r.ending left.0, left.1)
+  left_of (Some form) s r fault left = (finished cs ks o.stop_on worker_limit lawful each r.finished left.0, left.1)
 
   -- and so is one whose results were not written whole
-  pub run_left : (streams : Streams) (fault : OutFault) (told : Option (List ℕ)) (outcome : Outcome)
-      → (is_live o.form o.live ≡ false → IsUnwritten outline_of (IsCalled Acts) ks o streams fault)
-      → (is_live o.form o.live ≡ true → IsCutShort outline_of (IsCalled Acts) ks o streams fault)
+  pub run_left : (streams : Streams) (fault : OutFault) (told : Option (List ℕ)) (outcome : Outcome) → IsUnwritten outline_of (IsCalled Acts) ks o streams fault
       → IsRefusal streams.told told (line_of (of_output fault)) outcome → LeavesScript o text (record streams { told = told }) outcome
-  run_left streams fault told outcome whole cut refusal = record {
+  run_left streams fault told outcome run refusal = record {
     cases = cs;
     chosen = chosen;
     fault = fault;
     between = streams.told;
-    run = go (is_live o.form o.live) whole cut;
+    run = record { results = run.results; left = left_of (live_form o.live o.form) streams run.results fault run.left; told = run.told };
     refusal = refusal;
   }
-    where
-      go : (live : Bool) → (live ≡ false → IsUnwritten outline_of (IsCalled Acts) ks o streams fault)
-          → (live ≡ true → IsCutShort outline_of (IsCalled Acts) ks o streams fault) → IsLeft live cs o streams fault
-      go false whole cut = left_whole streams fault (whole refl)
-      go true whole cut = left_cut streams fault (cut refl)

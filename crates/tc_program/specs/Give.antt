@@ -1,5 +1,5 @@
 -- What `run` writes.
-use Rattle.std.specs.Prelude.{ℕ, ◌≡◌, Bool, ◌&&◌, List, Option, Some, None, is_some}
+use Rattle.std.specs.Prelude.{ℕ, ◌≡◌, Bool, true, false, List, Option, Some, None}
 use Rattle.tc_report.specs.declared.results.Results.{Results}
 use Rattle.tc_report.specs.declared.form.Form.{Form as ReportForm}
 use Rattle.tc_report.specs.declared.form.Form.TheVariants as ReportForms
@@ -14,16 +14,14 @@ use Rattle.tc_command.specs.declared.task.Form.TheVariants as Forms
 use Rattle.tc_program.specs.declared.fault.RunFault.{RunFault}
 use Rattle.tc_program.specs.Fault.{of_output}
 
--- the form in which test cases are written as they finish: a JUnit report has none, since its head counts all of them
-abbrev pub live_form : Form → Option ReportForm
-live_form Forms.Text = Some ReportForms.Text
-live_form Forms.Csv = Some ReportForms.Csv
-live_form Forms.History = Some ReportForms.History
-live_form Forms.Junit = None
-
--- where it is asked for that test cases are written as they finish, they are, in a form that has it
-abbrev pub is_live : Form → Bool → Bool
-is_live form live = live && is_some (live_form form)
+-- the form in which test cases are written as they finish, where it is asked for that they are; a JUnit report has none, since its head counts
+-- all of them
+abbrev pub live_form : Bool → Form → Option ReportForm
+live_form false form = None
+live_form true Forms.Text = Some ReportForms.Text
+live_form true Forms.Csv = Some ReportForms.Csv
+live_form true Forms.History = Some ReportForms.History
+live_form true Forms.Junit = None
 
 -- the text of the results in this form
 abbrev pub text_of : Form → Results → List ℕ

@@ -15,8 +15,18 @@ use Rattle.tc_table.specs.Legal.{IsLegal}
 use Rattle.tc_history.specs.declared.header.Header.{Header}
 use Rattle.tc_history.specs.declared.read.Block.{Block}
 use Rattle.tc_history.specs.Text.{AreEntries, header_of}
+use Rattle.tc_report.specs.declared.fault.OutFault.{OutFault}
+use Rattle.tc_report.specs.declared.results.CampaignEnd.{CampaignEnd}
 use Rattle.tc_report.specs.declared.results.Finished.{Finished}
+use Rattle.tc_report.specs.Observers.{AreTaken, IsEndedAt}
+use Rattle.tc_report.specs.Progress.{IsToldBy, told_text}
+use Rattle.tc_book.specs.Passes.{PassState}
+use Rattle.tc_exec.specs.declared.job.Back.{Back}
 use Rattle.tc_campaign.specs.declared.case.Case.{Case}
+use Rattle.tc_campaign.specs.Campaign.{AreFinished, IsCalled, IsRunTo}
+use Rattle.tc_campaign.specs.Outline.{outline_of}
+use Rattle.tc_command.specs.declared.task.RunOptions.{RunOptions}
+use Rattle.tc_program.specs.Limits.{worker_limit}
 use Rattle.tc_program.specs.declared.fault.RunFault.{RunFault}
 use Rattle.tc_program.specs.declared.fault.RunFault.TheVariants as F
 use Rattle.tc_program.specs.declared.judge.Difference.{Difference}
@@ -142,3 +152,16 @@ ShowsText before after answer = (text : List ℕ) × MatchResult answer (λ _. A
 -- what comes of words that are refused, by what two writers held before and after: first the output, and then standard error
 abbrev pub ShowsNoTask : {W E : Type 0} → (W → Option (List ℕ)) → W → W → (E → Option (List ℕ)) → E → E → Refused → Outcome → Type 0
 ShowsNoTask contents w w' lines e e' why outcome = IsRefused why (held contents w w' lines e e') (w' ≡ w) outcome
+
+module _ {B O : Type 0} (outcome : B → PassState → Back → Type 0) (takes : O → Finished → O → Bool → Type 0) (cases : List (Case B)) (o : RunOptions) where
+  -- these test cases were finished and given to the observer; the campaign ended so, or the observer has ended it at the last of them
+  abbrev pub AreGiven : O → O → List Finished → Option CampaignEnd → Type 0
+  AreGiven before after fs (Some ending) =
+      IsRunTo outline_of (IsCalled outcome) cases o.stop_on worker_limit fs ending × AreTaken takes fs before after
+  AreGiven before after fs None = AreFinished outline_of (IsCalled outcome) cases o.stop_on worker_limit fs × IsEndedAt takes fs before after
+
+  -- the campaign was run so, and what was told is told of the test cases that were finished
+  pub record WasTold (before after : O) (untold told : Option (List ℕ)) (answer : Option CampaignEnd) (line : Result (Unit {0}) OutFault) : Type 0 where
+    pub finished : List Finished
+    pub given : AreGiven before after finished answer
+    pub told_of : IsToldBy o.progress untold told (told_text o.progress finished) line

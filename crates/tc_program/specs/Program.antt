@@ -1,5 +1,5 @@
 -- What the program does with what it is asked for: what it writes, its statuses, and its lines on standard error.
-use Rattle.std.specs.Prelude.{ℕ, ◌≡◌, ◌⊎◌, Bool, true, false, List, Option}
+use Rattle.std.specs.Prelude.{ℕ, ◌≡◌, ◌⊎◌, List, Option}
 use Rattle.std.specs.Io.KnownBytes.{Appends, Keeps}
 use Rattle.tc_stream.specs.Output.{AppendsPrefix}
 use Rattle.tc_script.specs.Campaign.{CampaignView}
@@ -14,11 +14,10 @@ use Rattle.tc_program.specs.declared.reply.Answer.{Answer}
 use Rattle.tc_program.specs.Choosing.{AreChosen}
 use Rattle.tc_program.specs.Explained.{IsExplained}
 use Rattle.tc_program.specs.Fault.{line_of, of_output}
-use Rattle.tc_program.specs.Give.{is_live}
 use Rattle.tc_program.specs.Input.{IsRead, IsUnread}
 use Rattle.tc_program.specs.Limits.{limit_of}
 use Rattle.tc_program.specs.Made.{Makes, Refuses}
-use Rattle.tc_program.specs.Run.{IsCutShort, IsRun, IsUnwritten}
+use Rattle.tc_program.specs.Run.{IsRun, IsUnwritten}
 use Rattle.tc_program.specs.Scripted.{script_outline, IsScripted}
 use Rattle.tc_program.specs.Streams.{Streams}
 use Rattle.tc_program.specs.Tell.{IsRefusal, IsTold}
@@ -30,18 +29,13 @@ pub record RunsScript (o : RunOptions) (text : List ℕ) (streams : Streams) (ou
   pub chosen : AreChosen o.choice text cases
   pub run : IsRun script_outline IsScripted cases o streams outcome
 
--- the results of these test cases were not written whole, by whether they are written as they finish
-abbrev pub IsLeft : Bool → CampaignView → RunOptions → Streams → OutFault → Type 0
-IsLeft false cases o streams fault = IsUnwritten script_outline IsScripted cases o streams fault
-IsLeft true cases o streams fault = IsCutShort script_outline IsScripted cases o streams fault
-
 -- the chosen test cases were run so, their results were not written whole, and that is told behind what was told of them
 pub record LeavesScript (o : RunOptions) (text : List ℕ) (streams : Streams) (outcome : Outcome) : Type 0 where
   pub cases : CampaignView
   pub chosen : AreChosen o.choice text cases
   pub fault : OutFault
   pub between : Option (List ℕ)
-  pub run : IsLeft (is_live o.form o.live) cases o (record streams { told = between }) fault
+  pub run : IsUnwritten script_outline IsScripted cases o (record streams { told = between }) fault
   pub refusal : IsRefusal between streams.told (line_of (of_output fault)) outcome
 
 -- what the program does with the text of a task

@@ -16,7 +16,7 @@ use crate::made::finish;
 use crate::outcome::Outcome;
 use crate::replay::replay_text;
 use crate::report::report_text;
-use crate::run::run_as;
+use crate::run::run_cases;
 use crate::tell::refuse;
 use std::alloc::Global;
 use std::io::{Read, Write};
@@ -53,7 +53,7 @@ where
         Ok(cases) => cases,
         Err(fault) => return refuse_text(alloc, errors, task, text, fault),
     };
-    match run_as(rt, alloc, cases, options, writer, errors) {
+    match run_cases(rt, alloc, cases, options, writer, errors) {
         Ok(outcome) => outcome,
         Err(fault) => refuse(alloc, errors, RunFault::from(fault)),
     }

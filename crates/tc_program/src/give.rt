@@ -14,10 +14,14 @@ use tc_campaign::{
 use tc_command::{Form, VERSION};
 use tc_report::write_junit;
 
-/// The form in which test cases are written as they finish; a JUnit report has none, since its head counts all of them.
-pub(crate) fn live_form(form: Form) -> Option<ReportForm>
-    ensures { result ≡ spec_form form }
+/// The form in which test cases are written as they finish, where it is asked for that they are; a JUnit report has none,
+/// since its head counts all of them.
+pub(crate) fn live_form(live: bool, form: Form) -> Option<ReportForm>
+    ensures { result ≡ spec_form live form }
 {
+    if !live {
+        return None;
+    }
     match form {
         Form::Text => Some(ReportForm::Text),
         Form::Csv => Some(ReportForm::Csv),

@@ -1,10 +1,17 @@
-//! A run of a campaign: what is read for it, how it is carried out, and what is written of it.
-ghost use Rattle.std.specs.Prelude.{◌≡◌, All, IfOk, IfErr, Some, true, false};
+//! A run of a campaign: who is given its test cases, and what is written and told of it.
+ghost use Rattle.std.specs.Prelude.{◌≡◌, ◌≤◌, [], All, IfOk, IfErr, IfNone, IfSome, None, Some};
+ghost use Rattle.std.specs.Vec.{vec_capacity, vec_len};
+ghost use Rattle.tc_verdict.specs.declared.verdict.Verdict.TheVariants.{None as NoVerdict};
 ghost use Rattle.tc_campaign.specs.Outline.{HasNames, outline_of};
-ghost use Rattle.tc_campaign.specs.Campaign.{IsCalled};
-ghost use Rattle.tc_program.specs.Give.{is_live, live_form as spec_form};
+ghost use Rattle.tc_campaign.specs.Campaign.{IsCalled, IsRunTo};
+ghost use Rattle.tc_report.specs.Live.{HasWritten, HasWrittenPart, closing_text};
+ghost use Rattle.tc_report.specs.Progress.{IsToldBy, told_text};
+ghost use Rattle.tc_report.specs.Status.{ending_status};
+ghost use Rattle.tc_report.specs.Tally.{no_cases};
+ghost use Rattle.tc_program.specs.Give.{live_form as spec_form};
+ghost use Rattle.tc_program.specs.Inside.{WasTold};
 ghost use Rattle.tc_program.specs.Limits.{worker_limit};
-ghost use Rattle.tc_program.specs.Run.{IsCutShort, IsRun, IsUnwritten};
+ghost use Rattle.tc_program.specs.Run.{IsRun, IsUnwritten};
 ghost use Rattle.tc_program.specs.Streams.{held};
 
 use crate::give::{live_form, write_results};
@@ -16,8 +23,8 @@ use std::sync::Wait;
 use std::thread::Threads;
 use tc_book::Sequence;
 use tc_campaign::{
-    Case, Form as ReportForm, LiveEnd, OutFault, Plan, Results, Told, run_campaign_live_told,
-    run_campaign_told, status_of,
+    CampaignEnd, Case, Form as ReportForm, Kept, LiveWriter, Observer, OutFault, Progress, Results,
+    run_campaign_with, status_of, without_room,
 };
 use tc_command::RunOptions;
 use tc_entry::BEHAVIOURS;
@@ -26,19 +33,212 @@ use tc_exec::Callable;
 /// How many workers a test case may have.
 const THREADS: u16 = BEHAVIOURS as u16;
 
-// The plan of a campaign that is run so.
-fn plan_of(options: &RunOptions) -> Plan
-    ensures { result ≡ record { stop_on = options.now.stop_on; threads = THREADS; tells = options.now.progress } }
+// Runs the test cases with one that tells of each and hands it on, and has it name those again that have failed.
+fn run_with<R, B: Callable, O: Observer, E: Write>(
+    rt: &R,
+    alloc: Global,
+    cases: Vec<Case<B>>,
+    options: &RunOptions,
+    progress: &mut Progress<'_, O, E>,
+) -> (Option<CampaignEnd>, Result<(), OutFault>)
+where
+    R: Threads + Wait + Copy + Send + 'static,
+    requires names { All HasNames cases.items }
+    requires tells { progress.old.tells ≡ options.now.progress }
+    requires fault { progress.old.fault ≡ None }
+    requires failed { progress.old.failed.now.items ≡ [] }
+    ensures run { WasTold B.outcome O.takes cases.items options.now progress.old.observer.now progress.new.observer.now
+        (E.contents progress.old.writer.now) (E.contents progress.new.writer.now) result.0 result.1 }
+    ensures same_observer { progress.new.observer.ghost_name ≡ progress.old.observer.ghost_name }
+    ensures same_writer { progress.new.writer.ghost_name ≡ progress.old.writer.ghost_name }
+    ensures same_failed { progress.new.failed.ghost_name ≡ progress.old.failed.ghost_name }
 {
-    Plan {
-        stop_on: options.stop_on,
-        threads: THREADS,
-        tells: options.progress,
+    let ending = run_campaign_with(rt, alloc, cases, options.stop_on, THREADS, progress);
+    let told = progress.end();
+    (ending, told)
+}
+
+// Runs the test cases with this observer, and tells of each where it is asked for; says how the campaign ended, where the
+// observer did not end it, and what came of the telling.
+fn run_told<R, B: Callable, O: Observer, E: Write>(
+    rt: &R,
+    alloc: Global,
+    cases: Vec<Case<B>>,
+    options: &RunOptions,
+    observer: &mut O,
+    errors: &mut E,
+) -> (Option<CampaignEnd>, Result<(), OutFault>)
+where
+    R: Threads + Wait + Copy + Send + 'static,
+    requires names { All HasNames cases.items }
+    ensures { WasTold B.outcome O.takes cases.items options.now observer.old observer.new
+        (E.contents errors.old) (E.contents errors.new) result.0 result.1 }
+{
+    let mut failed = Vec::new(alloc);
+    run_with(
+        rt,
+        alloc,
+        cases,
+        options,
+        &mut Progress::new(alloc, options.progress, observer, errors, &mut failed),
+    )
+}
+
+// Runs the test cases, and keeps and tells of all of them: there is room.
+fn run_kept<R, B: Callable, E: Write>(
+    rt: &R,
+    alloc: Global,
+    cases: Vec<Case<B>>,
+    options: &RunOptions,
+    kept: Kept,
+    errors: &mut E,
+) -> (Results, Result<(), OutFault>)
+where
+    R: Threads + Wait + Copy + Send + 'static,
+    requires names { All HasNames cases.items }
+    requires none { kept.finished.items ≡ [] }
+    requires room { vec_len cases ≤ vec_capacity kept.finished }
+    ensures run { IsRunTo outline_of (IsCalled B.outcome) cases.items options.now.stop_on worker_limit result.0.finished result.0.ending }
+    ensures told { IsToldBy options.now.progress (E.contents errors.old) (E.contents errors.new)
+        (told_text options.now.progress result.0.finished) result.1 }
+{
+    let mut kept = kept;
+    let (ending, told) = run_told(rt, alloc, cases, options, &mut kept, errors);
+    match ending {
+        Some(ending) => (kept.into_results(ending), told),
+        None => unreachable!(),
     }
 }
 
-/// Runs the test cases, writes the results, and answers what came of them; test cases are told of as they finish where it
-/// is asked for, and a campaign that was aborted is.
+// Runs the test cases, and keeps and tells of all of them; without room for them none is run.
+fn run_or_not<R, B: Callable, E: Write>(
+    rt: &R,
+    alloc: Global,
+    cases: Vec<Case<B>>,
+    options: &RunOptions,
+    errors: &mut E,
+) -> (Results, Result<(), OutFault>)
+where
+    R: Threads + Wait + Copy + Send + 'static,
+    requires names { All HasNames cases.items }
+    ensures run { IsRunTo outline_of (IsCalled B.outcome) cases.items options.now.stop_on worker_limit result.0.finished result.0.ending }
+    ensures told { IsToldBy options.now.progress (E.contents errors.old) (E.contents errors.new)
+        (told_text options.now.progress result.0.finished) result.1 }
+{
+    match Kept::with_room(alloc, cases.len()) {
+        Ok(kept) => run_kept(rt, alloc, cases, options, kept, errors),
+        Err(_) => (without_room(alloc, cases), Ok(())),
+    }
+}
+
+// Runs the test cases, writes the results at the end, and answers what came of them.
+fn run_whole<R, B: Callable, W: Write, E: Write>(
+    rt: &R,
+    alloc: Global,
+    cases: Vec<Case<B>>,
+    options: &RunOptions,
+    writer: &mut W,
+    errors: &mut E,
+) -> Result<Outcome, OutFault>
+where
+    R: Threads + Wait + Copy + Send + 'static,
+    requires names { All HasNames cases.items }
+    requires form { spec_form options.now.live options.now.form ≡ None }
+    ensures done { IfOk result (IsRun outline_of (IsCalled B.outcome) cases.items options.now
+        (held W.contents writer.old writer.new E.contents errors.old errors.new)) }
+    ensures refused { IfErr result (IsUnwritten outline_of (IsCalled B.outcome) cases.items options.now
+        (held W.contents writer.old writer.new E.contents errors.old errors.new)) }
+{
+    let (results, told) = run_or_not(rt, alloc, cases, options, errors);
+    write_results(alloc, &results, options.form, writer)?;
+    let status = status_of(&results);
+    let told = tell_end(errors, &results, told);
+    Ok(Outcome { status, told })
+}
+
+// Writes what stands behind the test cases of a campaign that ended so; without an ending the writer has ended it.
+fn close<W: Write>(
+    ending: Option<CampaignEnd>,
+    live: &mut LiveWriter<'_, W>,
+) -> Result<(CampaignEnd, u8), OutFault>
+    ensures ended { IfOk result (λ r. ending ≡ Some r.0) }
+    ensures all { IfOk result (λ r. HasWritten W.contents live.old live.new (closing_text live.old.form live.old.tally r.0)) }
+    ensures status { IfOk result (λ r. r.1 ≡ ending_status r.0 live.old.worst) }
+    ensures cut { IfNone ending (live.new ≡ live.old) }
+    ensures part { IfSome ending (λ e. IfErr result (HasWrittenPart W.contents live.old live.new
+        (closing_text live.old.form live.old.tally e))) }
+    ensures same { live.new.writer.ghost_name ≡ live.old.writer.ghost_name }
+{
+    let Some(ending) = ending else {
+        return Err(live.fault.unwrap_or(OutFault::Write));
+    };
+    let status = live.end(&ending)?;
+    Ok((ending, status))
+}
+
+// Runs the test cases, has the writer write each as it finishes, and answers what came of them.
+fn write_live<R, B: Callable, W: Write, E: Write>(
+    rt: &R,
+    alloc: Global,
+    cases: Vec<Case<B>>,
+    options: &RunOptions,
+    live: &mut LiveWriter<'_, W>,
+    errors: &mut E,
+) -> Result<Outcome, OutFault>
+where
+    R: Threads + Wait + Copy + Send + 'static,
+    requires names { All HasNames cases.items }
+    requires form { spec_form options.now.live options.now.form ≡ Some live.old.form }
+    requires tally { live.old.tally ≡ no_cases }
+    requires worst { live.old.worst ≡ NoVerdict }
+    ensures done { IfOk result (IsRun outline_of (IsCalled B.outcome) cases.items options.now
+        (held W.contents live.old.writer.now live.new.writer.now E.contents errors.old errors.new)) }
+    ensures refused { IfErr result (IsUnwritten outline_of (IsCalled B.outcome) cases.items options.now
+        (held W.contents live.old.writer.now live.new.writer.now E.contents errors.old errors.new)) }
+    ensures same { live.new.writer.ghost_name ≡ live.old.writer.ghost_name }
+{
+    if let Err(fault) = live.begin() {
+        return Err(fault);
+    }
+    let (ending, told) = run_told(rt, alloc, cases, options, live, errors);
+    match close(ending, live) {
+        Ok((ending, status)) => {
+            let unkept = Results {
+                finished: Sequence::new(Vec::new(alloc)),
+                ending,
+            };
+            let told = tell_end(errors, &unkept, told);
+            Ok(Outcome { status, told })
+        }
+        Err(fault) => Err(fault),
+    }
+}
+
+// Runs the test cases, writes each in this form as it finishes, and answers what came of them.
+fn run_live<R, B: Callable, W: Write, E: Write>(
+    rt: &R,
+    alloc: Global,
+    cases: Vec<Case<B>>,
+    options: &RunOptions,
+    form: ReportForm,
+    writer: &mut W,
+    errors: &mut E,
+) -> Result<Outcome, OutFault>
+where
+    R: Threads + Wait + Copy + Send + 'static,
+    requires names { All HasNames cases.items }
+    requires form { spec_form options.now.live options.now.form ≡ Some form }
+    ensures done { IfOk result (IsRun outline_of (IsCalled B.outcome) cases.items options.now
+        (held W.contents writer.old writer.new E.contents errors.old errors.new)) }
+    ensures refused { IfErr result (IsUnwritten outline_of (IsCalled B.outcome) cases.items options.now
+        (held W.contents writer.old writer.new E.contents errors.old errors.new)) }
+{
+    let mut live = LiveWriter::new(alloc, form, writer);
+    write_live(rt, alloc, cases, options, &mut live, errors)
+}
+
+/// Runs the test cases, writes their results as they finish, where that is asked for and the form has it, or at the end, and
+/// answers what came of them. Test cases are told of as they finish where it is asked for, and a campaign that was aborted is.
 pub fn run_cases<R, B: Callable, W: Write, E: Write>(
     rt: &R,
     alloc: Global,
@@ -56,77 +256,8 @@ where
         (held W.contents writer.old writer.new E.contents errors.old errors.new)) }
     ensures workers { THREADS ≡ worker_limit }
 {
-    let Told { results, told } = run_campaign_told(rt, alloc, cases, plan_of(options), errors);
-    write_results(alloc, &results, options.form, writer)?;
-    let status = status_of(&results);
-    let told = tell_end(errors, &results, told);
-    Ok(Outcome { status, told })
-}
-
-/// Runs the test cases and writes each as it finishes, and answers what came of them; what is told is as by `run_cases`.
-pub fn run_cases_live<R, B: Callable, W: Write, E: Write>(
-    rt: &R,
-    alloc: Global,
-    cases: Vec<Case<B>>,
-    options: &RunOptions,
-    form: ReportForm,
-    writer: &mut W,
-    errors: &mut E,
-) -> Result<Outcome, OutFault>
-where
-    R: Threads + Wait + Copy + Send + 'static,
-    requires names { All HasNames cases.items }
-    requires form { spec_form options.now.form ≡ Some form }
-    ensures done { IfOk result (IsRun outline_of (IsCalled B.outcome) cases.items options.now
-        (held W.contents writer.old writer.new E.contents errors.old errors.new)) }
-    ensures refused { IfErr result (IsCutShort outline_of (IsCalled B.outcome) cases.items options.now
-        (held W.contents writer.old writer.new E.contents errors.old errors.new)) }
-{
-    let LiveEnd { ended, told } = run_campaign_live_told(
-        rt,
-        alloc,
-        cases,
-        plan_of(options),
-        form,
-        writer,
-        errors,
-    );
-    match ended {
-        Ok((ending, status)) => {
-            let unkept = Results {
-                finished: Sequence::new(Vec::new(alloc)),
-                ending,
-            };
-            let told = tell_end(errors, &unkept, told);
-            Ok(Outcome { status, told })
-        }
-        Err(fault) => Err(fault),
-    }
-}
-
-/// Runs the test cases, writes their results live, where the form can be, or at the end, and answers what came of them.
-pub fn run_as<R, B: Callable, W: Write, E: Write>(
-    rt: &R,
-    alloc: Global,
-    cases: Vec<Case<B>>,
-    options: &RunOptions,
-    writer: &mut W,
-    errors: &mut E,
-) -> Result<Outcome, OutFault>
-where
-    R: Threads + Wait + Copy + Send + 'static,
-    requires names { All HasNames cases.items }
-    ensures done { IfOk result (IsRun outline_of (IsCalled B.outcome) cases.items options.now
-        (held W.contents writer.old writer.new E.contents errors.old errors.new)) }
-    ensures whole { is_live options.now.form options.now.live ≡ false → IfErr result (IsUnwritten outline_of (IsCalled B.outcome) cases.items options.now
-        (held W.contents writer.old writer.new E.contents errors.old errors.new)) }
-    ensures cut { is_live options.now.form options.now.live ≡ true → IfErr result (IsCutShort outline_of (IsCalled B.outcome) cases.items options.now
-        (held W.contents writer.old writer.new E.contents errors.old errors.new)) }
-{
-    match live_form(options.form) {
-        Some(form) if options.live => run_cases_live(
-            rt, alloc, cases, options, form, writer, errors,
-        ),
-        _ => run_cases(rt, alloc, cases, options, writer, errors),
+    match live_form(options.live, options.form) {
+        Some(form) => run_live(rt, alloc, cases, options, form, writer, errors),
+        None => run_whole(rt, alloc, cases, options, writer, errors),
     }
 }

@@ -1,6 +1,5 @@
 //! What is told of a campaign that is aborted, to a standard error that fails.
-ghost use Rattle.std.specs.Prelude.{◌≡◌, All, IfOk, ⊤};
-ghost use Rattle.tc_command.specs.declared.task.Form.TheVariants.{Text};
+ghost use Rattle.std.specs.Prelude.{All, IfOk, ⊤};
 ghost use Rattle.tc_campaign.specs.Outline.{HasNames};
 
 use crate::checks::{holds, is};
@@ -10,12 +9,12 @@ use std::sync::Wait;
 use std::test::Fail;
 use std::thread::Threads;
 use tc_book::Pass;
-use tc_campaign::{Case, Form as ReportForm};
+use tc_campaign::Case;
 use tc_command::{Choice, Form, RunOptions};
 use tc_entry::Name;
 use tc_exec::{Back, Callable, Ending};
 use tc_program::outcome::Outcome;
-use tc_program::run::{run_as, run_cases, run_cases_live};
+use tc_program::run::run_cases;
 use tc_stream::devices::{NarrowWriter, WriteFailure};
 
 const ABORTED: &[u8] = b"ttrun: aborted at a: no behaviours\n";
@@ -80,9 +79,7 @@ fn both(alloc: Global) -> Result<Vec<Case<Returns>>, Fail>
 }
 
 /// A plain run, told of as it goes on or not.
-fn options(alloc: Global, live: bool, progress: bool) -> RunOptions
-    ensures { result.form ≡ Text }
-{
+fn options(alloc: Global, live: bool, progress: bool) -> RunOptions {
     RunOptions {
         form: Form::Text,
         live,
@@ -138,8 +135,7 @@ fn run_live<R: Threads + Wait + Copy + Send + 'static>(
 ) -> Result<Outcome, Fail> {
     let cases = alone(alloc)?;
     let options = options(alloc, true, false);
-    let form = ReportForm::Text;
-    Ok(run_cases_live(rt, alloc, cases, &options, form, written, errors)?)
+    Ok(run_cases(rt, alloc, cases, &options, written, errors)?)
 }
 
 #[test]
@@ -164,7 +160,7 @@ fn run_both<R: Threads + Wait + Copy + Send + 'static>(
     let cases = both(alloc)?;
     let options = options(alloc, live, true);
     let mut written = Vec::new(alloc);
-    Ok(run_as(rt, alloc, cases, &options, &mut written, errors)?)
+    Ok(run_cases(rt, alloc, cases, &options, &mut written, errors)?)
 }
 
 /// Tells of both where standard error fails at this write, which is one of the first line.

@@ -1,5 +1,5 @@
 -- What one that keeps test cases has when it was given some.
-use Rattle.std.proofs.Common.{ℕ, ◌≡◌, ◌∙◌, ◌≤◌, ◌+◌, ◌++◌, ◌∷◌, [], true, false, List, length, arith, sym, ap, append_assoc}
+use Rattle.std.proofs.Common.{◌≡◌, ◌∙◌, ◌≤◌, ◌+◌, ◌++◌, ◌∷◌, [], true, false, List, length, arith, sym, ap, append_assoc}
 use Rattle.std.proofs.lemmas.List.{append-nil, length-append}
 use Rattle.std.specs.Vec.{vec_capacity}
 use Rattle.tc_report.specs.declared.kept.Kept.{Kept}

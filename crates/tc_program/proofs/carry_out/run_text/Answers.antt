@@ -13,21 +13,21 @@ returns-in-Err g c =
     IsDone.refused c.in-Err.fault (subst (λ task. Refuses task c.args.text.now c.in-Err.fault) (sym c.requires) c.in-Err.ensures.refused)
     (keeps_same (g.W.Write.contents c.args.writer.now)) c.refuse_text.ensures
 
-pub run_as-requires-clause-names : goal.run_as-requires-clause-names
-run_as-requires-clause-names g c κs within = even c.in-Ok.ensures.chosen.cases c.in-Ok.cases.items c.in-Ok.ensures.chosen.each
+pub run_cases-requires-clause-names : goal.run_cases-requires-clause-names
+run_cases-requires-clause-names g c κs within = even c.in-Ok.ensures.chosen.cases c.in-Ok.cases.items c.in-Ok.ensures.chosen.each
 
-pub returns-in-Ok-run_as : goal.returns-in-Ok-run_as
-returns-in-Ok-run_as g c =
+pub returns-in-Ok-run_cases : goal.returns-in-Ok-run_cases
+returns-in-Ok-run_cases g c =
     let are = c.in-Ok.ensures.chosen in
     IsDone.run c.args.options.now c.requires
     (inl (run_done c.args.options.now c.args.text.now are.cases c.in-Ok.cases.items are.chosen are.lawful are.each
-    (held g.W.Write.contents c.args.writer.now c.run_as.new.writer g.E.Write.contents c.args.errors.now c.run_as.new.errors) c.in-Ok-run_as.outcome c.in-Ok-run_as.ensures.done))
+    (held g.W.Write.contents c.args.writer.now c.run_cases.new.writer g.E.Write.contents c.args.errors.now c.run_cases.new.errors) c.in-Ok-run_cases.outcome c.in-Ok-run_cases.ensures.done))
 
-pub returns-in-Err-run_as : goal.returns-in-Err-run_as
-returns-in-Err-run_as g c =
+pub returns-in-Err-run_cases : goal.returns-in-Err-run_cases
+returns-in-Err-run_cases g c =
     let are = c.in-Ok.ensures.chosen in
     IsDone.run c.args.options.now c.requires
     (inr (run_left c.args.options.now c.args.text.now are.cases c.in-Ok.cases.items are.chosen are.lawful are.each
-    (held g.W.Write.contents c.args.writer.now c.run_as.new.writer g.E.Write.contents c.args.errors.now c.run_as.new.errors) c.in-Err-run_as.fault
-    (g.E.Write.contents c.refuse.new.errors) c.refuse.result c.in-Err-run_as.ensures.whole c.in-Err-run_as.ensures.cut
-    (subst (λ f. IsRefusal (g.E.Write.contents c.run_as.new.errors) (g.E.Write.contents c.refuse.new.errors) (line_of f) c.refuse.result) c.from.ensures c.refuse.ensures)))
+    (held g.W.Write.contents c.args.writer.now c.run_cases.new.writer g.E.Write.contents c.args.errors.now c.run_cases.new.errors) c.in-Err-run_cases.fault
+    (g.E.Write.contents c.refuse.new.errors) c.refuse.result c.in-Err-run_cases.ensures.refused
+    (subst (λ f. IsRefusal (g.E.Write.contents c.run_cases.new.errors) (g.E.Write.contents c.refuse.new.errors) (line_of f) c.refuse.result) c.from.ensures c.refuse.ensures)))
