@@ -106,6 +106,8 @@ def record(module: str, folder: str, logging: str = "full", is_shimmed: bool = F
     with open(os.path.join(folder, "campaign.cfg"), "w", encoding="utf-8") as file:
         file.write(configuration(module, logging, parameters or []))
     campaign(module, folder)
+    if not any("-mtc" in it for it in os.listdir(folder)):
+        raise OSError(f"no main component ran: {os.path.join(folder, 'controller.txt')} says why")
 
 
 def main() -> int:
