@@ -15,6 +15,7 @@ import argparse
 import os
 import re
 import shutil
+import subprocess
 import sys
 import tempfile
 import time
@@ -26,11 +27,11 @@ import browser
 import lies
 import model
 import shown
-from histories import TOP
+from histories import TOP, example, examples
 from model import Context, hold
 
 # There are no fewer tests of the sources, of the model and of what is shown.
-FEWEST = (3, 7, 10)
+FEWEST = (4, 7, 10)
 MOST_LINES, WIDTH, MOST_MADE = 999, 130, 60_000
 
 
@@ -74,7 +75,19 @@ def the_page_loads_nothing(_: Context) -> str:
     return f"{len(text)} bytes"
 
 
-SOURCES = (the_sources_are_small_and_plain, each_import_names_what_is_there, the_page_loads_nothing)
+def the_program_writes_this_page(context: Context) -> str:
+    with open(os.path.join(TOP, "page", "viewer.html"), "rb") as file:
+        head, tail = file.read().split(shown.MARK.encode())
+    names = examples()
+    for name in names:
+        text = example(name).encode()
+        ran = subprocess.run([context.program, "report", "--html"], input=text, capture_output=True, timeout=60, check=False)
+        hold(ran.stdout == head + shown.MARK.encode() + text + tail and not ran.stderr, f"{name}: {ran.stderr[:300]!r}")
+    hold(len(names) >= 5, names)
+    return f"{len(names)} pages"
+
+
+SOURCES = (the_sources_are_small_and_plain, each_import_names_what_is_there, the_page_loads_nothing, the_program_writes_this_page)
 
 
 def passes(name: str, test: Callable[[], str]) -> bool:
