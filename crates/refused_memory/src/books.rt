@@ -81,79 +81,48 @@ struct Opened {
     other: Option<Pass>,
 }
 
-/// Creates a component.
-fn create_on<R: Wait>(
-    rt: &R,
-    pass: &mut Pass,
-    alive: bool,
-    name: &Option<Name>,
-) -> Result<(), Halt> {
+/// Creates a component. Why it is not created; none where it is.
+fn create_on<R: Wait>(rt: &R, pass: &mut Pass, alive: bool, name: &Option<Name>) -> Option<Halt> {
     match name {
-        Some(name) => pass.create_named(rt, alive, name.copy()).map(|_| ()),
-        None => pass.create(rt, alive).map(|_| ()),
+        Some(name) => pass.create_named(rt, alive, name.copy()).err(),
+        None => pass.create(rt, alive).err(),
     }
 }
 
-/// Asks for a status.
-fn ask_on<R: Wait>(rt: &R, pass: &mut Pass, op: &Op) -> Result<(), Halt> {
+/// Asks for a status. Why there is no answer; none where there is.
+fn ask_on<R: Wait>(rt: &R, pass: &mut Pass, op: &Op) -> Option<Halt> {
     match op {
-        Op::Running(target) => pass.running(rt, *target).map(|_| ()),
-        Op::Alive(target) => pass.alive(rt, *target).map(|_| ()),
-        Op::Done(target) => pass.done(rt, *target).map(|_| ()),
-        Op::Killed(target) => pass.killed(rt, *target).map(|_| ()),
-        _ => Ok(()),
+        Op::Running(target) => pass.running(rt, *target).err(),
+        Op::Alive(target) => pass.alive(rt, *target).err(),
+        Op::Done(target) => pass.done(rt, *target).err(),
+        Op::Killed(target) => pass.killed(rt, *target).err(),
+        _ => None,
     }
 }
 
-/// Ends something.
-fn end_on<R: Wait>(rt: &R, pass: &mut Pass, op: &Op) -> Result<(), Halt> {
-    match op {
-        Op::Stop(group) => pass.stop(rt, *group),
-        Op::Kill(group) => pass.kill(rt, *group),
-        Op::StopCase => pass.stop_case(rt),
-        _ => Ok(()),
-    }
-}
-
-/// Waits.
-fn wait_on<R: Wait>(rt: &R, pass: &mut Pass, killed: bool, target: Target) -> Result<(), Halt> {
-    if killed {
+/// Waits. Why it is in vain; none where it is not.
+fn wait_on<R: Wait>(rt: &R, pass: &mut Pass, killed: bool, target: Target) -> Option<Halt> {
+    let waited = if killed {
         pass.wait_killed(rt, target)
     } else {
         pass.wait_done(rt, target)
-    }
+    };
+    waited.err()
 }
 
-/// Sets or gets the verdict.
-fn judge_on(pass: &mut Pass, op: &Op) -> Result<(), Halt> {
-    match op {
-        Op::SetVerdict(verdict) => pass.set_verdict(*verdict),
-        Op::GetVerdict => pass.get_verdict().map(|_| ()),
-        _ => Ok(()),
-    }
-}
-
-/// Starts a run.
-fn start_on<R: Wait>(
-    rt: &R,
-    pass: &mut Pass,
-    comp: Comp,
-    run: Run,
-    args: &Args,
-) -> Result<(), Halt> {
-    pass.start(rt, comp, run, args)
-}
-
-/// Makes a call; none of those that a pass does not have.
-fn call_on<R: Wait>(rt: &R, pass: &mut Pass, op: &Op) -> Result<(), Halt> {
+/// Makes a call; none of those that a pass does not have. Why it is not answered; none where it is.
+fn call_on<R: Wait>(rt: &R, pass: &mut Pass, op: &Op) -> Option<Halt> {
     match op {
         Op::Create { alive, name } => create_on(rt, pass, *alive, name),
-        Op::Start { comp, run, args } => start_on(rt, pass, *comp, *run, args),
-        Op::Stop(_) | Op::Kill(_) | Op::StopCase => end_on(rt, pass, op),
+        Op::Start { comp, run, args } => pass.start(rt, *comp, *run, args).err(),
+        Op::Stop(group) => pass.stop(rt, *group).err(),
+        Op::Kill(group) => pass.kill(rt, *group).err(),
+        Op::StopCase => pass.stop_case(rt).err(),
         Op::Running(_) | Op::Alive(_) | Op::Done(_) | Op::Killed(_) => ask_on(rt, pass, op),
         Op::Wait { killed, target } => wait_on(rt, pass, *killed, *target),
-        Op::SetVerdict(_) | Op::GetVerdict => judge_on(pass, op),
-        Op::Wake { .. } | Op::Finish => Ok(()),
+        Op::SetVerdict(verdict) => pass.set_verdict(*verdict).err(),
+        Op::GetVerdict => pass.get_verdict().err(),
+        Op::Wake { .. } | Op::Finish => None,
     }
 }
 
@@ -168,14 +137,14 @@ impl Opened {
         })
     }
 
-    /// Makes a call of a run, if it has a pass.
-    fn call<R: Wait>(&mut self, rt: &R, run: Run, op: &Op) -> Result<(), Halt> {
+    /// Makes a call of a run, if it has a pass. Why it is not answered; none where it is.
+    fn call<R: Wait>(&mut self, rt: &R, run: Run, op: &Op) -> Option<Halt> {
         if run == Run(0) {
             return call_on(rt, &mut self.main, op);
         }
         match &mut self.other {
             Some(pass) => call_on(rt, pass, op),
-            None => Ok(()),
+            None => None,
         }
     }
 
@@ -321,7 +290,7 @@ fn call_beside<R: Wait>(
     refusal.begin();
     let answer = opened.call(rt, run, op);
     refusal.end();
-    if answer != Err(Halt::NoMemory) {
+    if answer != Some(Halt::NoMemory) {
         let is_right = answer == other.call(rt, run, op) && opened.is_like(other);
         return right_if(is_right, "a call is answered otherwise");
     }
@@ -448,6 +417,21 @@ fn close_one<R: Wait>(
     Some(answered_as(&answer, wanted, "a case is closed otherwise"))
 }
 
+/// The close of a case behind all calls, or the merge of its logs; the close answers this with ample memory.
+fn close_as<R: Wait>(
+    rt: &R,
+    alloc: Global,
+    place: usize,
+    wanted: &Closed,
+    refusal: &mut Refusal,
+) -> Option<Outcome> {
+    match place {
+        0 => close_one(rt, alloc, wanted, refusal),
+        1 => Some(merged(alloc, wanted, refusal)),
+        _ => None,
+    }
+}
+
 /// The close of a case behind all calls, and the merge of its logs.
 pub(crate) fn close<R: Wait>(
     rt: &R,
@@ -456,11 +440,9 @@ pub(crate) fn close<R: Wait>(
     refusal: &mut Refusal,
 ) -> Option<Outcome> {
     let wanted = closed_behind_all(rt, alloc)?;
-    match place {
-        0 => close_one(rt, alloc, &wanted, refusal),
-        1 => Some(merged(alloc, &wanted, refusal)),
-        _ => None,
-    }
+    let outcome = close_as(rt, alloc, place, &wanted, refusal);
+    drop(wanted);
+    outcome
 }
 
 /// A case behind the first calls.
@@ -533,7 +515,7 @@ fn given_unfed<R: Wait>(rt: &R, ticket: Ticket, refusal: &mut Refusal) -> Result
 /// Starts a run on a component that is created for it, which is given back.
 fn start_on_another<R: Wait>(rt: &R, main: &mut Pass, run: Run) -> Option<Comp> {
     let comp = main.create(rt, false).ok()?;
-    start_on(rt, main, comp, run, &Args::new()).ok()?;
+    main.start(rt, comp, run, &Args::new()).ok()?;
     Some(comp)
 }
 
@@ -592,7 +574,7 @@ pub(crate) fn await_starts<R: Wait>(
 fn answers_ended<R: Wait>(rt: &R, pass: &mut Pass, moves: &[(Run, Op)]) -> bool {
     let mut are_ended = true;
     for (_, op) in moves {
-        if call_on(rt, pass, op) != Err(Halt::Ended) {
+        if call_on(rt, pass, op) != Some(Halt::Ended) {
             are_ended = false;
         }
     }
@@ -630,5 +612,7 @@ fn call_all_on<R: Wait>(
 /// All calls on a pass that has ended.
 pub(crate) fn call_ended<R: Wait>(rt: &R, alloc: Global, refusal: &mut Refusal) -> Option<Outcome> {
     let mut opened = stopped(rt, alloc)?;
-    call_all_on(rt, alloc, &mut opened.main, refusal)
+    let outcome = call_all_on(rt, alloc, &mut opened.main, refusal);
+    drop(opened);
+    outcome
 }

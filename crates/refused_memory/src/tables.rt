@@ -306,16 +306,23 @@ pub(crate) fn judge(
     judge_in(alloc, table.history(), place, replays, refusal)
 }
 
+/// What came of a copy of these entries.
+fn copied_as(answer: &Result<Vec<Entry>, NoMemory>, entries: &[Entry]) -> Outcome {
+    match answer {
+        Ok(copy) => right_if(
+            are_like(copy.as_slice(), entries),
+            "a copy is another history",
+        ),
+        Err(NoMemory) => Outcome::Refused,
+    }
+}
+
 /// A copy of these entries.
 fn copy_entries(alloc: Global, entries: &[Entry], refusal: &mut Refusal) -> Outcome {
     refusal.begin();
     let answer = copied_entries(alloc, entries);
     refusal.end();
-    judged(
-        answer,
-        copied_entries(alloc, entries),
-        "a copy is another history",
-    )
+    copied_as(&answer, entries)
 }
 
 /// Pushes the last of a history behind the entries before it.
