@@ -270,5 +270,6 @@ def told(story: str) -> Made:
             begin = f"TTCN-3 Parallel Test Component started on host. Component reference: {created[1]}, component type: M.C."
             it.say(int(created[1]) - FIRST_REFERENCE + 1, begin)
         it.say(at, text)
-    it.made.verdict = story.rsplit("Verdict: ", 1)[1].split()[0]
+    verdict = re.search(r"finished\. Verdict: (\w+)", story)
+    it.made.verdict = verdict[1] if verdict else ""
     return it.made

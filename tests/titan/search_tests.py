@@ -326,3 +326,34 @@ def a_script_has_every_verdict_that_is_named(place: Place) -> None:
             hold(named <= courses.verdicts, f"seed {seed}: {named} {courses.verdicts}")
             looked, several = looked + 1, several + (len(named) > 1)
     hold(looked > COURSES // 2 and several > 3, (looked, several))
+
+
+LOST_CONTROLLER = """
+mtc: Creating new PTC with component type M.C.
+mtc: PTC was created. Component reference: 3, alive: no, type: M.C.
+mtc: Creating new PTC with component type M.C.
+mtc: PTC was created. Component reference: 4, alive: no, type: M.C.
+mtc: Starting function f_work() on component 3.
+mtc: Function was started.
+3: Starting function f_work().
+3: setverdict(pass): none -> pass
+mtc: Terminating component type M.C.
+mtc: Dynamic test case error: Internal error: Message PTC_VERDICT arrived in invalid state.
+3: Dynamic test case error: Sending data on the control connection to MC failed.
+3: setverdict(error): pass -> error
+3: Final verdict of PTC: error
+4: Kill was requested from MC. Terminating idle PTC.
+4: Dynamic test case error: Sending data on the control connection to MC failed.
+4: setverdict(error): none -> error
+4: Dynamic test case error: Trying to send a message to MC, but the control connection is down.
+4: Final verdict of PTC: error
+"""
+
+
+@test
+def components_that_lost_the_controller_are_named(place: Place) -> None:
+    case, = read(made.put(made.told(LOST_CONTROLLER), os.path.join(place.room, "logs")))
+    one = audit.audited(case, STATES)
+    same((one.outcome, case.faults, len(case.missing)), (audit.PART, [], 4), case.missing)
+    for word in ("no end of this test case", "the main component crashed", "component 3 lost the main controller", "component 4 lost"):
+        hold(any(word in it for it in case.missing), f"{word}: {case.missing}")

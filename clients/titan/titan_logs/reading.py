@@ -19,6 +19,7 @@ FAULTS = (("already executing", "already-running"), ("own component reference", 
 NOT_MAIN = re.compile(r"Operation '(any|all) component\.(running|alive|done|killed|stop|kill)' can only be performed on the MTC")
 NAME = re.compile(rf"[A-Za-z][A-Za-z0-9_]{{0,{MOST_BYTES_OF_A_NAME - 1}}}")
 NO_NAMES = ("all", "any", "mtc", "self")
+LOST = "control connection"
 HALTS = {"Stopping": "stop", "Killing": "kill", "Stop": "stop", "Kill": "kill", "Terminating": "kill", "stopped": "stop", "killed": "kill"}
 # The local verdict of each component, and the line that says it.
 Finals = Dict[int, Tuple[str, Line]]
@@ -47,7 +48,7 @@ class Reader:
         self.waiting_runs = list(runs)
         self.run: Optional[Run] = case.runs[0] if role == MAIN else None
         self.open: Optional[Call] = None
-        self.is_over = False
+        self.is_over = self.is_lost = False
         self.requested: Optional[Line] = None
         self.verdict_told: Optional[Tuple[str, Line]] = None
         # The functions that returned a value: Titan logs that behind the end of the component, whenever it was.
@@ -251,7 +252,21 @@ class Reader:
         self.close(is_allowed=False)
         self.add(self.made(line, Op("getverdict"), verdict))
 
+    def lose(self, line: Line) -> None:
+        """An error of the connection to the main controller, as when the main component has crashed: no call, and the end of all."""
+        if not self.is_lost:
+            who = "the main component" if self.role == MAIN else f"component {self.role}"
+            self.case.missing.append(f"{who} lost the main controller: {line}")
+            self.is_lost = True
+        if self.run is not None and not self.is_over:
+            self.close()
+            self.mark_cut()
+        self.is_over = True
+
     def on_error(self, line: Line, text: str) -> None:
+        if LOST in text:
+            self.lose(line)
+            return
         if self.is_over and self.role == MAIN:
             self.case.missing.append(f"the main component crashed: {line}")
             return
@@ -449,7 +464,10 @@ def finals(case: TestCase) -> Tuple[Finals, Finals]:
     told: Finals = {}
     overall: Optional[str] = None
     for role in [MAIN, *sorted(case.logs)]:
-        for line in case.lines_of(role):
+        lines = case.lines_of(role)
+        if any(it.phrase.name == "error" and LOST in it.text for it in lines):
+            continue
+        for line in lines:
             name, words = line.phrase
             if name == "own_final" and role != MAIN or name == "main_final" and role == MAIN:
                 if role in own:
