@@ -33,9 +33,10 @@ counts_text ss =
     number_text (codes " tests=\"") (length ss) ++ (number_text (codes " failures=\"") (with_status 1 ss) ++
     (number_text (codes " errors=\"") (with_status 2 ss) ++ number_text (codes " skipped=\"") (skipped ss)))
 
--- a tag, with the counts as attributes
-unfoldable pub tag_text : List ℕ → List Summary → List ℕ
-tag_text tag ss = tag ++ counts_text ss
+-- the first tags, each with the counts
+unfoldable pub head_text : List Summary → List ℕ
+head_text ss =
+    (codes "<?xml version=\"1.0\" encoding=\"UTF-8\"?>\n<testsuites" ++ counts_text ss) ++ (codes ">\n<testsuite name=\"ttrun\"" ++ counts_text ss)
 
 -- the program's version
 unfoldable pub version_text : List ℕ → List ℕ
@@ -65,9 +66,7 @@ case_element s = name_tag s.name ++ (end_element s.ending ++ locals_element s.lo
 
 -- one suite with all test cases
 abbrev pub junit_of : List ℕ → List Summary → List ℕ
-junit_of version ss =
-    tag_text (codes "<?xml version=\"1.0\" encoding=\"UTF-8\"?>\n<testsuites") ss ++ (tag_text (codes ">\n<testsuite name=\"ttrun\"") ss ++
-    (version_text version ++ (flat_map case_element ss ++ codes "</testsuite>\n</testsuites>\n")))
+junit_of version ss = head_text ss ++ (version_text version ++ (flat_map case_element ss ++ codes "</testsuite>\n</testsuites>\n"))
 
 -- the report of the results of a campaign
 abbrev pub junit_of_results : List ℕ → Results → List ℕ

@@ -67,12 +67,23 @@ fn append_counts(out: &mut Vec<u8>, cases: &[Summary]) -> Result<(), NoMemory>
 }
 
 // Appends a tag, with the counts as attributes.
-#[tactic(auto, unfolding(crate::specs::Junit::tag_text))]
 fn append_tag(out: &mut Vec<u8>, tag: &str, cases: &[Summary]) -> Result<(), NoMemory>
-    ensures { OnOk result (out.new.items ≡ out.old.items ++ spec.tag_text tag.now cases.now) }
+    ensures { OnOk result (out.new.items ≡ out.old.items ++ (tag.now ++ spec.counts_text cases.now)) }
 {
     append_text(out, tag)?;
     append_counts(out, cases)
+}
+
+// Appends the first tags.
+fn append_head(out: &mut Vec<u8>, cases: &[Summary]) -> Result<(), NoMemory>
+    ensures { OnOk result (out.new.items ≡ out.old.items ++ spec.head_text cases.now) }
+{
+    append_tag(
+        out,
+        "<?xml version=\"1.0\" encoding=\"UTF-8\"?>\n<testsuites",
+        cases,
+    )?;
+    append_tag(out, ">\n<testsuite name=\"ttrun\"", cases)
 }
 
 // Appends the text between two others.
@@ -182,12 +193,7 @@ fn append_elements(out: &mut Vec<u8>, cases: &[Summary]) -> Result<(), NoMemory>
 fn append_suites(out: &mut Vec<u8>, version: &str, cases: &[Summary]) -> Result<(), NoMemory>
     ensures { OnOk result (out.new.items ≡ out.old.items ++ spec.junit_of version.now cases.now) }
 {
-    append_tag(
-        out,
-        "<?xml version=\"1.0\" encoding=\"UTF-8\"?>\n<testsuites",
-        cases,
-    )?;
-    append_tag(out, ">\n<testsuite name=\"ttrun\"", cases)?;
+    append_head(out, cases)?;
     append_version(out, version)?;
     append_elements(out, cases)?;
     append_text(out, "</testsuite>\n</testsuites>\n")

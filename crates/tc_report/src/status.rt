@@ -9,7 +9,7 @@ use tc_entry::Verdict;
 use tc_verdict::worse_of;
 
 /// The verdict that an end counts as: error for a test case that is not over, or has no report.
-pub fn counted_as(ending: CaseEnd) -> Verdict
+pub(crate) fn counted_as(ending: CaseEnd) -> Verdict
     ensures { result ≡ spec_counted ending }
 {
     match ending {
