@@ -172,9 +172,10 @@ entries_inert f [] fits = tt
 entries_inert f (e ∷ es) fits = (entry_inert f e fits.0, entries_inert f es fits.1)
 
 block_inert : (b : Block) → IsHeader (header_of b) → AreEntries b.format b.entries → AllByRecursion AreInert (block_lines b)
-block_inert b header entries =
-    (header_inert (header_of b) header,
-    all-append (map entry_text b.entries) (end_text b.verdict ∷ []) (entries_inert b.format b.entries entries) (end_inert b.verdict, tt))
+block_inert b header entries = (
+  header_inert (header_of b) header,
+  all-append (map entry_text b.entries) (end_text b.verdict ∷ []) (entries_inert b.format b.entries entries) (end_inert b.verdict, tt),
+)
 
 blocks_inert : (line : ℕ) (bs : List Block) → AreBlocks line bs → AllByRecursion AreInert (all_lines bs)
 blocks_inert line [] are = tt

@@ -6,13 +6,13 @@ use Rattle.tc_program.proofs.run.write_live.Goals as goal
 pub returns-in-Err-clause-refused : goal.returns-in-Err-clause-refused
 returns-in-Err-clause-refused g c = at_opening _ _ _ _ _ c.requires.form c.in-Err.fault refl c.in-Err.ensures.part
 
-pub returns-in-Ok-close-clause-done : goal.returns-in-Ok-close-clause-done
-returns-in-Ok-close-clause-done g c =
+pub returns-in-Ok-clause-done : goal.returns-in-Ok-clause-done
+returns-in-Ok-clause-done g c =
     let at = c.in_default.ensures in
     let was = c.run_told-ending.ensures in
     live_done _ _ _ _ _ c.requires.form (state_of g.W.Write.contents) name_of c.begin.new.self c.run_told-ending.new.observer
     at.form at.all (at.tally ∙ c.requires.tally) (at.worst ∙ c.requires.worst) was.finished _ was.given _ _ _ _ was.told_of
-    c.in-Ok-close.ensures.ended c.in-Ok-close.ensures.all c.in-Ok-close.ensures.status c.tell_end-told.ensures
+    c.in-Ok.ensures.ended c.in-Ok.ensures.all c.in-Ok.ensures.status c.tell_end-told.ensures
 
 pub returns-in-Err-close-clause-refused : goal.returns-in-Err-close-clause-refused
 returns-in-Err-close-clause-refused g c =
@@ -22,11 +22,11 @@ returns-in-Err-close-clause-refused g c =
     at.form at.all (at.tally ∙ c.requires.tally) (at.worst ∙ c.requires.worst) was.finished _ was.given _ _ was.told_of
     (writes_nothing g.W.Write.contents _ _ _ c.in-Err-close.ensures.cut) c.in-Err-close.ensures.part
 
-pub returns-in-Ok-close-clause-same : goal.returns-in-Ok-close-clause-same
-returns-in-Ok-close-clause-same g c =
+pub returns-in-Ok-clause-same : goal.returns-in-Ok-clause-same
+returns-in-Ok-clause-same g c =
     let at = c.in_default.ensures in
     let was = c.run_told-ending.ensures in
-    c.in-Ok-close.ensures.same ∙ named_still _ _ _ _ _ c.requires.form (state_of g.W.Write.contents) name_of c.begin.new.self c.run_told-ending.new.observer
+    c.in-Ok.ensures.same ∙ named_still _ _ _ _ _ c.requires.form (state_of g.W.Write.contents) name_of c.begin.new.self c.run_told-ending.new.observer
     at.form at.all (at.tally ∙ c.requires.tally) (at.worst ∙ c.requires.worst) was.finished _ was.given ∙ at.same
 
 pub returns-in-Err-close-clause-same : goal.returns-in-Err-close-clause-same
