@@ -1,5 +1,6 @@
 use Rattle.std.proofs.Common.{◌∙◌, refl}
 use Rattle.tc_report.specs.Live.{state_of}
+use Rattle.tc_program.specs.Streams.{held}
 use Rattle.tc_program.proofs.Running.{at_opening, live_done, live_left, name_of, named_still, writes_nothing}
 use Rattle.tc_program.proofs.run.write_live.Goals as goal
 
@@ -24,14 +25,16 @@ returns-in-Err-close-clause-refused g c =
 
 pub returns-in-Ok-clause-same : goal.returns-in-Ok-clause-same
 returns-in-Ok-clause-same g c =
+    let streams = held g.W.Write.contents c.args.live.now.writer.now c.args.live.now.writer.now g.E.Write.contents c.args.errors.now c.args.errors.now in
     let at = c.in_default.ensures in
     let was = c.run_told-ending.ensures in
-    c.in-Ok.ensures.same ∙ named_still _ _ _ _ _ c.requires.form (state_of g.W.Write.contents) name_of c.begin.new.self c.run_told-ending.new.observer
+    c.in-Ok.ensures.same ∙ named_still _ _ _ streams _ c.requires.form (state_of g.W.Write.contents) name_of c.begin.new.self c.run_told-ending.new.observer
     at.form at.all (at.tally ∙ c.requires.tally) (at.worst ∙ c.requires.worst) was.finished _ was.given ∙ at.same
 
 pub returns-in-Err-close-clause-same : goal.returns-in-Err-close-clause-same
 returns-in-Err-close-clause-same g c =
+    let streams = held g.W.Write.contents c.args.live.now.writer.now c.args.live.now.writer.now g.E.Write.contents c.args.errors.now c.args.errors.now in
     let at = c.in_default.ensures in
     let was = c.run_told-ending.ensures in
-    c.in-Err-close.ensures.same ∙ named_still _ _ _ _ _ c.requires.form (state_of g.W.Write.contents) name_of c.begin.new.self c.run_told-ending.new.observer
+    c.in-Err-close.ensures.same ∙ named_still _ _ _ streams _ c.requires.form (state_of g.W.Write.contents) name_of c.begin.new.self c.run_told-ending.new.observer
     at.form at.all (at.tally ∙ c.requires.tally) (at.worst ∙ c.requires.worst) was.finished _ was.given ∙ at.same
