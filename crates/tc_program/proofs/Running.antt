@@ -113,9 +113,9 @@ module _ {B : Type 0} (outcome : B → PassState → Back → Type 0) (cases : L
     -- what stands before the test cases was not written whole, and nothing was told
     pub at_opening : (fault : OutFault) → streams.told ≡ streams.untold → LeavesPrefix streams.before streams.after (opening_text form) fault
         → IsUnwritten outline_of (IsCalled outcome) cases options streams fault
-    at_opening fault untold left =
+    at_opening fault nothing left =
         cut_up (record { finished = []; ending = E.Complete }) (Ok tt) fault (none_finished outcome cases options.stop_on worker_limit)
-        (subst (λ t. IsToldBy options.progress streams.untold t (told_text options.progress []) (Ok tt)) (sym untold) (nothing_of options.progress streams.untold))
+        (subst (λ t. IsToldBy options.progress streams.untold t (told_text options.progress []) (Ok tt)) (sym nothing) (nothing_of options.progress streams.untold))
         (opening_left form streams.before streams.after fault E.Complete left)
 
     module _ {O : Type 0} (state : O → LiveState) (name : O → GName) (before after : O)
