@@ -12,6 +12,7 @@ use Rattle.tc_verdict.specs.declared.verdict.Verdict.TheVariants as V
 use Rattle.tc_verdict.specs.Verdict.{name_of}
 use Rattle.tc_verdict.specs.UserVerdict.{given}
 use Rattle.tc_entry.specs.Name.{IsName, is_name_byte}
+use Rattle.tc_entry.specs.Reply.{fault_name}
 use Rattle.tc_entry.specs.declared.comp.Comp.{Comp}
 use Rattle.tc_entry.specs.declared.entry.Entry.{Entry}
 use Rattle.tc_entry.specs.declared.op.Group.{Group}
@@ -25,11 +26,11 @@ use Rattle.tc_entry.specs.declared.reply.Fault.TheVariants as F
 use Rattle.tc_entry.specs.declared.reply.Reply.{Reply}
 use Rattle.tc_entry.specs.declared.reply.Reply.TheVariants as R
 use Rattle.tc_text.specs.Lines.{lines_of}
-use Rattle.tc_text.specs.Spelling.{AreComps, IsGroup, IsOp, IsReply, IsTarget, args_text, fault_name, group_text, move_text, op_text, reply_text, target_text}
+use Rattle.tc_text.specs.Spelling.{AreComps, IsGroup, IsOp, IsReply, IsTarget, args_text, group_text, move_text, op_text, reply_text, start_text, target_text}
 use Rattle.tc_text.proofs.Digits.{both, spelled_digits}
 use Rattle.tc_history.specs.declared.header.Header.{Header}
 use Rattle.tc_history.specs.declared.read.Block.{Block}
-use Rattle.tc_history.specs.Block.{end_text, entry_text, header_text}
+use Rattle.tc_history.specs.Block.{end_text, entry_text, format_text, header_text}
 use Rattle.tc_history.specs.Text.{AreBlocks, AreEntries, IsEntry, IsHeader, all_lines, block_lines, header_of}
 use Rattle.tc_program.specs.Report.{HistoriesAreInert, is_inert}
 
@@ -83,7 +84,7 @@ target_inert T.All fits = refl
 
 args_inert : (cs : List Comp) → AreComps cs → AreInert (args_text cs)
 args_inert [] fits = refl
-args_inert (c ∷ cs) fits = inert-append (codes " ") _ refl (inert-append (decimal c.0) (args_text cs) (number_inert c.0 fits.0) (args_inert cs fits.1))
+args_inert (c ∷ cs) fits = inert-append (codes " ") (decimal c.0 ++ args_text cs) refl (inert-append (decimal c.0) (args_text cs) (number_inert c.0 fits.0) (args_inert cs fits.1))
 
 verdict_inert : (v : Verdict) → AreInert (name_of v)
 verdict_inert V.None = refl
@@ -98,9 +99,9 @@ op_inert (O.Create true None) fits = refl
 op_inert (O.Create false (Some name)) fits = inert-append (codes "create named ") name refl (name_inert name fits)
 op_inert (O.Create true (Some name)) fits = inert-append (codes "create alive named ") name refl (name_inert name fits)
 op_inert (O.Start c run args) fits =
-    inert-append (codes "start ") _ refl
-    (inert-append (decimal c.0) _ (number_inert c.0 fits.0)
-    (inert-append (codes " ") _ refl
+    inert-append (codes "start ") (start_text c run args) refl
+    (inert-append (decimal c.0) (codes " " ++ (decimal run.0 ++ args_text args)) (number_inert c.0 fits.0)
+    (inert-append (codes " ") (decimal run.0 ++ args_text args) refl
     (inert-append (decimal run.0) (args_text args) (number_inert run.0 (let low = fits.1 in omega (arith, low))) (args_inert args fits.3))))
 op_inert (O.Stop g) fits = inert-append (codes "stop ") (group_text g) refl (group_inert g fits)
 op_inert (O.Kill g) fits = inert-append (codes "kill ") (group_text g) refl (group_inert g fits)
@@ -119,7 +120,7 @@ op_inert O.Finish fits = refl
 
 move_inert : (run : ℕ) (op : Op) → run < 2 ^ 16 → IsOp op → AreInert (move_text run op)
 move_inert run op low fits =
-    inert-append (decimal run) _ (number_inert run (omega (arith, low)))
+    inert-append (decimal run) (codes " " ++ op_text op) (number_inert run (omega (arith, low)))
     (inert-append (codes " ") (op_text op) refl (op_inert op fits))
 
 fault_inert : (f : Fault) → AreInert (fault_name f)
@@ -147,7 +148,7 @@ reply_inert (R.Fault f) fits = inert-append (codes "error ") (fault_name f) refl
 
 entry_inert : (f : ℕ) (e : Entry) → IsEntry f e → AreInert (entry_text e)
 entry_inert f e fits =
-    inert-append (move_text e.caller.0 e.op) _ (move_inert e.caller.0 e.op fits.caller fits.op)
+    inert-append (move_text e.caller.0 e.op) (codes " -> " ++ reply_text e.reply) (move_inert e.caller.0 e.op fits.caller fits.op)
     (inert-append (codes " -> ") (reply_text e.reply) refl (reply_inert e.reply fits.reply))
 
 end_inert : (v : Verdict) → AreInert (end_text v)
@@ -159,8 +160,8 @@ format_inert false = refl
 
 header_inert : (h : Header) → IsHeader h → AreInert (header_text h)
 header_inert h header =
-    inert-append _ (h.name ++ (codes " " ++ decimal h.behaviours)) (format_inert (h.format == 1))
-    (inert-append h.name _ (name_inert h.name header.name_is)
+    inert-append (format_text h.format) (h.name ++ (codes " " ++ decimal h.behaviours)) (format_inert (h.format == 1))
+    (inert-append h.name (codes " " ++ decimal h.behaviours) (name_inert h.name header.name_is)
     (inert-append (codes " ") (decimal h.behaviours) refl (number_inert h.behaviours (let few = header.few.1 in omega (arith, few)))))
 
 all-append : (xs ys : List (List ℕ)) → AllByRecursion AreInert xs → AllByRecursion AreInert ys → AllByRecursion AreInert (xs ++ ys)
