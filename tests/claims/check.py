@@ -31,6 +31,7 @@ TABLES = (("docs/proved.md", "", 60), ("docs/architecture.md", "Where a rule sta
 # The columns of these tables that are in words, with quotations of texts among them.
 IN_WORDS = ("crate", "question", "rule", "at most", "beyond it", "what there is")
 WIDTH = 120
+MOST_WORDS_OF_THE_README = 1000
 # A path in backquotes; but one with a word in capitals stands for many, and what is built is not there before.
 PATH = re.compile(r"[\w.*+-]+(?:/[\w.*+-]+)+/?|[\w-]+\.(?:rt|antt|edit|py|sh)")
 OF_MANY = re.compile(r"\*|\b[A-Z]{2,}\b(?!\.md)|\b[A-Z]/[A-Z]\b|/out/")
@@ -221,6 +222,13 @@ def broken_lines(documents: List[Document]) -> Iterator[str]:
                 yield f"{document.path}:{number}: {len(line)} letters, where {WIDTH} are the most"
 
 
+def long_readme() -> Iterator[str]:
+    """Whether the first page has more words than a newcomer reads."""
+    words = [word for line in read(TOP, "README.md").lines for word in line.split() if re.search(r"\w", word)]
+    if len(words) > MOST_WORDS_OF_THE_README:
+        yield f"README.md: {len(words)} words, where {MOST_WORDS_OF_THE_README} are the most"
+
+
 def paths(documents: List[Document]) -> Iterator[str]:
     """Paths that lead to nothing: each begins at the top, or in the README of a folder beside it."""
     for document in documents:
@@ -280,6 +288,7 @@ def main() -> int:
         "all links lead somewhere": lambda: links(documents),
         "all paths begin at the top, and lead somewhere": lambda: paths(documents),
         "no line of prose is too long": lambda: broken_lines(documents),
+        "the first page is short": long_readme,
         "each bug can be planted, has a name of its own, and the gate has few": lambda: edits.faults(TOP),
         "no number stands for a rule that is written elsewhere": numbers,
         "the first line of each source says what it is": nameless,
