@@ -115,7 +115,11 @@ fn case_of<'l>(
             First::Other(Line::Behaviour(name, parameters)) => {
                 let parameters = parameters.as_slice();
                 let (steps, behind) = steps_of(alloc, heads, parameters, &others)?;
-                add(&mut found, name.copy(), Script::new(parameters.len(), steps))?;
+                add(
+                    &mut found,
+                    name.copy(),
+                    Script::new(parameters.len(), steps),
+                )?;
                 rest = behind;
             }
             _ => rest = others,

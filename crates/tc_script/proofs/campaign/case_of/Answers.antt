@@ -15,7 +15,7 @@ add-requires c =
     let others = c.in-Some.others in
     record {
       new = rw c.copy.ensures
-        (member_is_new c.loop-first.found.entries name (record { parameters = length ps; steps = steps hs (all_of [] ps) others })
+          (member_is_new c.loop-first.found.entries name (record { parameters = length ps; steps = steps hs (all_of [] ps) others })
           (behaviours hs others) (behaviours hs c.args.lines.now) (search rules) c.requires.distinct);
     }
 

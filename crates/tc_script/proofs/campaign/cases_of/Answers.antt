@@ -24,7 +24,7 @@ add-requires c =
     let others = c.in-Some.others in
     record {
       new = rw c.copy.ensures
-        (member_is_new c.loop-first.found.entries name (behaviours (heads others) others)
+          (member_is_new c.loop-first.found.entries name (behaviours (heads others) others)
           (cases others) (cases c.args.lines.now) (search rules) c.requires.distinct.cases);
     }
 
