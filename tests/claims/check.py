@@ -32,6 +32,9 @@ TABLES = (("docs/proved.md", "", 60), ("docs/architecture.md", "Where a rule sta
 IN_WORDS = ("crate", "question", "rule", "at most", "beyond it", "what there is")
 WIDTH = 120
 MOST_WORDS_OF_THE_README = 1000
+FEWEST_LINES_OF_A_LIBRARY, MOST_LINES_OF_A_CRATE = 20, 35
+# In backquotes, what is spelt as a name of the sources.
+NAME = re.compile(r"\w+(?:_\w+)+|\w+(?:::\w+)+|(?:[A-Z][a-z]+){2,}")
 # A path in backquotes; but one with a word in capitals stands for many, and what is built is not there before.
 PATH = re.compile(r"[\w.*+-]+(?:/[\w.*+-]+)+/?|[\w-]+\.(?:rt|antt|edit|py|sh)")
 OF_MANY = re.compile(r"\*|\b[A-Z]{2,}\b(?!\.md)|\b[A-Z]/[A-Z]\b|/out/")
@@ -229,6 +232,33 @@ def long_readme() -> Iterator[str]:
         yield f"README.md: {len(words)} words, where {MOST_WORDS_OF_THE_README} are the most"
 
 
+def absent_names(sources: Sources, crate: str, lines: List[str]) -> Iterator[str]:
+    """Names in the README of a crate that stand in no source, or not in the file that it says. Its paths begin in its folder."""
+    path, text = f"crates/{crate}/README.md", re.sub(r"```.*?```", "", "\n".join(lines), flags=re.DOTALL)
+    yield from (f"{path}: {it} stands nowhere" for it in CODE.findall(text) if NAME.fullmatch(it) and not sources.has(it, ""))
+    for names, file in re.findall(r"((?:`[^`]+`(?:,\s| and\s)?)+)\s?in\s`([^`]+\.(?:rt|antt))`", text):
+        file = file if file.startswith("crates/") else f"crates/{crate}/{file}"
+        yield from (f"{path}: {it} is not defined in {file}" for it in CODE.findall(names) if not sources.defines(file, it))
+
+
+def readmes_of_crates(sources: Sources) -> Iterator[str]:
+    """Crates without a README, and READMEs that are too long or short, or name what there is not. Crates of tests have none."""
+    for crate in sources.crates:
+        path = f"crates/{crate}/README.md"
+        if crate.endswith("_tests"):
+            continue
+        if not os.path.isfile(os.path.join(TOP, path)):
+            yield f"there is no {path}"
+            continue
+        lines = read(TOP, path).lines
+        if not re.fullmatch(rf"# {crate}: \w.*", lines[0]):
+            yield f"{path}: the first line does not say what {crate} is"
+        fewest = FEWEST_LINES_OF_A_LIBRARY if crate.startswith("tc_") else 1
+        if not fewest <= len(lines) - 1 <= MOST_LINES_OF_A_CRATE:
+            yield f"{path}: {len(lines) - 1} lines, where {fewest} to {MOST_LINES_OF_A_CRATE} are wanted"
+        yield from absent_names(sources, crate, lines)
+
+
 def paths(documents: List[Document]) -> Iterator[str]:
     """Paths that lead to nothing: each begins at the top, or in the README of a folder beside it."""
     for document in documents:
@@ -289,6 +319,7 @@ def main() -> int:
         "all paths begin at the top, and lead somewhere": lambda: paths(documents),
         "no line of prose is too long": lambda: broken_lines(documents),
         "the first page is short": long_readme,
+        "each library and program has a README, and what it names stands in the sources": lambda: readmes_of_crates(sources),
         "each bug can be planted, has a name of its own, and the gate has few": lambda: edits.faults(TOP),
         "no number stands for a rule that is written elsewhere": numbers,
         "the first line of each source says what it is": nameless,
