@@ -74,10 +74,9 @@ LIES = (
 def copied(room: str) -> str:
     """A copy of the command, over the same table."""
     client = os.path.join(room, "titan")
-    shutil.copytree(CLIENT, client, symlinks=True, ignore=shutil.ignore_patterns("logs", "__pycache__"))
+    shutil.copytree(CLIENT, client, ignore=shutil.ignore_patterns("logs", "__pycache__"))
     table = os.path.join(client, "titan_logs", "table.py")
-    os.remove(table)
-    os.symlink(os.path.join(TOP, "tests", "program", "table.py"), table)
+    shutil.copyfile(os.path.join(TOP, "tests", "program", "table.py"), table)
     return client
 
 
