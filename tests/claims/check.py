@@ -25,8 +25,7 @@ from sources import Sources, files_below
 from texts import Judged
 
 # The tables whose cells name what stands in the sources: document, section or none for all, and the fewest rows.
-TABLES = (("docs/proved.md", "", 60), ("docs/architecture.md", "Where a rule stands", 15), ("docs/scripts.md", "Where a rule stands", 8),
-          ("docs/architecture.md", "From a rule to its contract, code, test and edit", 5), ("docs/architecture.md", "What a newcomer asks", 12),
+TABLES = (("docs/proved.md", "", 60), ("docs/architecture.md", "From a question to its place", 50),
           ("docs/guide.md", "Limits", 8), ("CONTRIBUTING.md", "Add an operation", 8))
 # The columns of these tables that are in words, with quotations of texts among them.
 IN_WORDS = ("crate", "question", "rule", "at most", "beyond it", "what there is")

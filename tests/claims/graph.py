@@ -57,6 +57,15 @@ def below(crate: str, lines: Uses) -> Set[str]:
     return {*own, *(deep for it in own for deep in below(it, lines))}
 
 
+def title(crate: str) -> str:
+    """What a crate is, by the first line of its README."""
+    path = os.path.join(TOP, "crates", crate, "README.md")
+    if not os.path.isfile(path):
+        return ""
+    with open(path, encoding="utf-8") as file:
+        return file.readline().partition(": ")[2].strip()
+
+
 def drawing() -> Iterator[str]:
     """The libraries and the program by their layers, lowest first, each with those that it stands on and none of these does."""
     lines = {name: used for name, used in uses().items() if re.fullmatch(r"tc_(?!\w*_tests$)\w+|ttrun", name)}
@@ -64,10 +73,13 @@ def drawing() -> Iterator[str]:
     layer: Dict[str, int] = {}
     for it in sorted(lines, key=lambda name: len(deep[name])):
         layer[it] = 1 + max((layer[under] for under in deep[it]), default=-1)
+    yield "| layer | crate | what it is | built on |"
+    yield "|---|---|---|---|"
     before = -1
     for it in sorted(lines, key=lambda name: (layer[name], name)):
         direct = sorted(deep[it].difference(*(deep[under] for under in deep[it])))
-        yield f"{layer[it] if layer[it] != before else '':>2}  {it:<15} {' '.join(direct)}".rstrip()
+        number = str(layer[it]) if layer[it] != before else ""
+        yield " ".join(("|", number, "|", f"[{it}](../crates/{it}/README.md)", "|", title(it), "|", ", ".join(direct), "|")).replace("  ", " ")
         before = layer[it]
 
 
@@ -77,7 +89,7 @@ def page_with_drawing(text: str) -> str:
     _, end, tail = rest.partition(END)
     if not begin or not end:
         raise ValueError(f"{PAGE} has not both marks of the graph")
-    return f"{head}{BEGIN}\n```\n{block}\n```\n\n{END}{tail}"
+    return f"{head}{BEGIN}\n{block}\n\n{END}{tail}"
 
 
 def undrawn() -> Iterator[str]:
