@@ -34,6 +34,8 @@ MOST_WORDS_OF_THE_README = 1000
 FEWEST_LINES_OF_A_LIBRARY, MOST_LINES_OF_A_CRATE = 20, 35
 # In backquotes, what is spelt as a name of the sources.
 NAME = re.compile(r"\w+(?:_\w+)+|\w+(?:::\w+)+|(?:[A-Z][a-z]+){2,}")
+# A document that is tables above all, with the most rows that they may have together, and the most words of a cell.
+LIMITED = (("docs/proved.md", 110, 40),)
 # A path in backquotes; but one with a word in capitals stands for many, and what is built is not there before.
 PATH = re.compile(r"[\w.*+-]+(?:/[\w.*+-]+)+/?|[\w-]+\.(?:rt|antt|edit|py|sh)")
 OF_MANY = re.compile(r"\*|\b[A-Z]{2,}\b(?!\.md)|\b[A-Z]/[A-Z]\b|/out/")
@@ -102,6 +104,25 @@ def all_table_claims(sources: Sources) -> Iterator[str]:
     """The same of each of the tables."""
     for path, section, fewest in TABLES:
         yield from table_claims(sources, path, section, fewest)
+
+
+def long_tables(path: str, most_rows: int, most_words: int) -> Iterator[str]:
+    """Cells of a document with too many words, and whether its tables have too many rows, without their heads."""
+    rows, is_row = 0, False
+    for number, line in enumerate(read(TOP, path).lines, 1):
+        cells = cells_of(line)
+        if is_row and cells:
+            rows += 1
+            yield from (f"{path}:{number}: a cell has {len(it.split())} words" for it in cells if len(it.split()) > most_words)
+        is_row = bool(cells) and (is_row or re.fullmatch("[-:| ]+", line) is not None)
+    if rows > most_rows:
+        yield f"{path}: its tables have {rows} rows, where {most_rows} are the most"
+
+
+def all_long_tables() -> Iterator[str]:
+    """The same of each document with limits."""
+    for path, most_rows, most_words in LIMITED:
+        yield from long_tables(path, most_rows, most_words)
 
 
 def example(name: str) -> str:
@@ -307,6 +328,7 @@ def main() -> int:
     documents = [read(TOP, it) for it in tracked() if it.endswith(".md")]
     checks: Dict[str, Callable[[], Iterator[str]]] = {
         "what the tables of names name stands in the sources": lambda: all_table_claims(sources),
+        "the tables of what is proved have few rows, and short cells": all_long_tables,
         "the lines that must be believed are as many as the table says": believed_lines,
         "public clauses rest on each definition of specs/ outside of Inside": believed.unused,
         "each line of crates.txt lists what its crate names, and no more": graph.edges,
