@@ -32,10 +32,13 @@ IN_WORDS = ("crate", "question", "rule", "at most", "beyond it", "what there is"
 WIDTH = 120
 MOST_WORDS_OF_THE_README = 1000
 FEWEST_LINES_OF_A_LIBRARY, MOST_LINES_OF_A_CRATE = 20, 35
+# Documents in which no sentence is longer; the READMEs of the crates are held to it too.
+MOST_WORDS_OF_A_SENTENCE = 35
+SHORT = ("README.md", "docs/architecture.md", "docs/board.md", "docs/rules.md")
 # In backquotes, what is spelt as a name of the sources.
 NAME = re.compile(r"\w+(?:_\w+)+|\w+(?:::\w+)+|(?:[A-Z][a-z]+){2,}")
 # A document that is tables above all, with the most rows that they may have together, and the most words of a cell.
-LIMITED = (("docs/proved.md", 110, 40),)
+LIMITED = (("docs/proved.md", 110, 40), ("README.md", 25, 30), ("docs/architecture.md", 160, 40))
 # A path in backquotes; but one with a word in capitals stands for many, and what is built is not there before.
 PATH = re.compile(r"[\w.*+-]+(?:/[\w.*+-]+)+/?|[\w-]+\.(?:rt|antt|edit|py|sh)")
 OF_MANY = re.compile(r"\*|\b[A-Z]{2,}\b(?!\.md)|\b[A-Z]/[A-Z]\b|/out/")
@@ -245,6 +248,24 @@ def broken_lines(documents: List[Document]) -> Iterator[str]:
                 yield f"{document.path}:{number}: {len(line)} letters, where {WIDTH} are the most"
 
 
+def sentences(document: Document) -> Iterator[str]:
+    """The sentences of a document outside of its tables, headings and blocks; an item of a list begins one."""
+    lines = ["" if line.startswith(("#", "!")) else line for _, line in prose(document)]
+    text = re.sub(r"\]\([^)]*\)", "]", "\n".join(lines))
+    for paragraph in re.split(r"\n\s*\n|\n(?=\s*(?:-|\d+\.) )", text):
+        yield from re.split(r"(?<=[.!?])\s+(?=[A-Z`\[(*])", " ".join(paragraph.split()))
+
+
+def long_sentences(documents: List[Document]) -> Iterator[str]:
+    """Sentences with too many words in the documents that have none."""
+    for document in documents:
+        if document.path in SHORT or re.fullmatch(r"crates/\w+/README\.md", document.path):
+            for sentence in sentences(document):
+                words = [it for it in sentence.split() if re.search(r"\w", it)]
+                if len(words) > MOST_WORDS_OF_A_SENTENCE:
+                    yield f"{document.path}: {len(words)} words, where {MOST_WORDS_OF_A_SENTENCE} are the most: {sentence[:60]}.."
+
+
 def long_readme() -> Iterator[str]:
     """Whether the first page has more words than a newcomer reads."""
     words = [word for line in read(TOP, "README.md").lines for word in line.split() if re.search(r"\w", word)]
@@ -328,7 +349,7 @@ def main() -> int:
     documents = [read(TOP, it) for it in tracked() if it.endswith(".md")]
     checks: Dict[str, Callable[[], Iterator[str]]] = {
         "what the tables of names name stands in the sources": lambda: all_table_claims(sources),
-        "the tables of what is proved have few rows, and short cells": all_long_tables,
+        "the tables with limits have few rows, and short cells": all_long_tables,
         "the lines that must be believed are as many as the table says": believed_lines,
         "public clauses rest on each definition of specs/ outside of Inside": believed.unused,
         "each line of crates.txt lists what its crate names, and no more": graph.edges,
@@ -340,6 +361,7 @@ def main() -> int:
         "all paths begin at the top, and lead somewhere": lambda: paths(documents),
         "no line of prose is too long": lambda: broken_lines(documents),
         "the first page is short": long_readme,
+        "the sentences are short where they have been shortened": lambda: long_sentences(documents),
         "each library and program has a README, and what it names stands in the sources": lambda: readmes_of_crates(sources),
         "each bug can be planted, has a name of its own, and the gate has few": lambda: edits.faults(TOP),
         "no number stands for a rule that is written elsewhere": numbers,
