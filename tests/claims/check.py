@@ -34,6 +34,8 @@ MOST_WORDS_OF_THE_README = 1000
 FEWEST_LINES_OF_A_LIBRARY, MOST_LINES_OF_A_CRATE = 20, 35
 # Documents in which no sentence is longer; the READMEs of the crates are held to it too.
 MOST_WORDS_OF_A_SENTENCE = 35
+# A sentence of so many words stands in one document only; the history of changes is none of these.
+FEWEST_WORDS_SAID_ONCE = 11
 SHORT = ("README.md", "docs/architecture.md", "docs/board.md", "docs/guide.md", "docs/proved.md", "docs/rules.md", "docs/scripts.md")
 # In backquotes, what is spelt as a name of the sources.
 NAME = re.compile(r"\w+(?:_\w+)+|\w+(?:::\w+)+|(?:[A-Z][a-z]+){2,}")
@@ -266,6 +268,19 @@ def long_sentences(documents: List[Document]) -> Iterator[str]:
                     yield f"{document.path}: {len(words)} words, where {MOST_WORDS_OF_A_SENTENCE} are the most: {sentence[:60]}.."
 
 
+def said_twice(documents: List[Document]) -> Iterator[str]:
+    """Sentences and cells of some length that stand in two documents."""
+    first: Dict[Tuple[str, ...], str] = {}
+    for document in documents:
+        if document.path == "CHANGELOG.md":
+            continue
+        for text in [*sentences(document), *(cell for line in document.lines for cell in cells_of(line))]:
+            words = tuple(re.findall(r"\w+", text.lower()))
+            other = first.setdefault(words, document.path)
+            if len(words) >= FEWEST_WORDS_SAID_ONCE and other != document.path:
+                yield f"{document.path}: this stands in {other} too: {text[:60]}.."
+
+
 def long_readme() -> Iterator[str]:
     """Whether the first page has more words than a newcomer reads."""
     words = [word for line in read(TOP, "README.md").lines for word in line.split() if re.search(r"\w", word)]
@@ -362,6 +377,7 @@ def main() -> int:
         "no line of prose is too long": lambda: broken_lines(documents),
         "the first page is short": long_readme,
         "the sentences are short where they have been shortened": lambda: long_sentences(documents),
+        "no sentence stands in two documents": lambda: said_twice(documents),
         "each library and program has a README, and what it names stands in the sources": lambda: readmes_of_crates(sources),
         "each bug can be planted, has a name of its own, and the gate has few": lambda: edits.faults(TOP),
         "no number stands for a rule that is written elsewhere": numbers,
