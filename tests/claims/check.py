@@ -34,9 +34,10 @@ MOST_WORDS_OF_THE_README = 1000
 FEWEST_LINES_OF_A_LIBRARY, MOST_LINES_OF_A_CRATE = 20, 35
 # Documents in which no sentence is longer; the READMEs of the crates are held to it too.
 MOST_WORDS_OF_A_SENTENCE = 35
+SHORT = ("README.md", "CONTRIBUTING.md", "docs/architecture.md", "docs/board.md", "docs/guide.md", "docs/proved.md", "docs/rules.md", "docs/scripts.md",
+         "docs/texts.md", "docs/titan.md")
 # A sentence of so many words stands in one document only; the history of changes is none of these.
 FEWEST_WORDS_SAID_ONCE = 11
-SHORT = ("README.md", "docs/architecture.md", "docs/board.md", "docs/guide.md", "docs/proved.md", "docs/rules.md", "docs/scripts.md")
 # In backquotes, what is spelt as a name of the sources.
 NAME = re.compile(r"\w+(?:_\w+)+|\w+(?:::\w+)+|(?:[A-Z][a-z]+){2,}")
 # A document that is tables above all, with the most rows that they may have together, and the most words of a cell.
