@@ -1,5 +1,5 @@
 -- What was told of a campaign, and what the observer behind was given.
-use Rattle.std.proofs.Common.{ℕ, ◌≡◌, List, [], Option, Some, None, Result, refl, sym, subst}
+use Rattle.std.proofs.Common.{Bool, ℕ, ◌≡◌, List, [], Option, Some, None, Result, refl, sym, subst}
 use Rattle.std.specs.Borrow.{GName}
 use Rattle.std.specs.Prelude.{IfNone, IfSome}
 use Rattle.tc_book.specs.Passes.{PassState}

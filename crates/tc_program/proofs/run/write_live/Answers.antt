@@ -28,7 +28,7 @@ returns-in-Ok-clause-same g c =
     let streams = held g.W.Write.contents c.args.live.now.writer.now c.args.live.now.writer.now g.E.Write.contents c.args.errors.now c.args.errors.now in
     let at = c.in_default.ensures in
     let was = c.run_told-ending.ensures in
-    c.in-Ok.ensures.same ∙ named_still _ _ _ streams _ c.requires.form (state_of g.W.Write.contents) name_of c.begin.new.self c.run_told-ending.new.observer
+    c.in-Ok.ensures.same ∙ named_still g.B.Callable.outcome c.args.cases.items c.args.options.now streams _ c.requires.form (state_of g.W.Write.contents) name_of c.begin.new.self c.run_told-ending.new.observer
     at.form at.all (at.tally ∙ c.requires.tally) (at.worst ∙ c.requires.worst) was.finished _ was.given ∙ at.same
 
 pub returns-in-Err-close-clause-same : goal.returns-in-Err-close-clause-same
@@ -36,5 +36,5 @@ returns-in-Err-close-clause-same g c =
     let streams = held g.W.Write.contents c.args.live.now.writer.now c.args.live.now.writer.now g.E.Write.contents c.args.errors.now c.args.errors.now in
     let at = c.in_default.ensures in
     let was = c.run_told-ending.ensures in
-    c.in-Err-close.ensures.same ∙ named_still _ _ _ streams _ c.requires.form (state_of g.W.Write.contents) name_of c.begin.new.self c.run_told-ending.new.observer
+    c.in-Err-close.ensures.same ∙ named_still g.B.Callable.outcome c.args.cases.items c.args.options.now streams _ c.requires.form (state_of g.W.Write.contents) name_of c.begin.new.self c.run_told-ending.new.observer
     at.form at.all (at.tally ∙ c.requires.tally) (at.worst ∙ c.requires.worst) was.finished _ was.given ∙ at.same
