@@ -81,9 +81,10 @@ fn next_cases<R: Wait + Copy + Send + 'static>(
 ) -> Option<Vec<Case<ScriptJob<R>>>>
     ensures { IfSome result (λ v. All HasNames v.items) }
 {
-    let first = next_case(rt, alloc, campaign);
-    let (first, second) = first.zip(next_case(rt, alloc, campaign))?;
-    vec![in alloc; first, second].ok()
+    let mut cases = Vec::new(alloc);
+    cases.push(next_case(rt, alloc, campaign)?).ok()?;
+    cases.push(next_case(rt, alloc, campaign)?).ok()?;
+    Some(cases)
 }
 
 /// The two test cases.
