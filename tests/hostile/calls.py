@@ -23,7 +23,7 @@ FLOORS = {
     "readers": (5, 60),
     "writers": (43, 70),
     "writers of a part": (2, 4),
-    "forms and summaries": (10, 30),
+    "forms and summaries": (10, 60),
     "live writers": (9, 20),
     "searches": (4, 300),
     "boards": (3, 9),
