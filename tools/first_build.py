@@ -26,6 +26,8 @@ from typing import Callable, Dict, List, Optional, Set
 PAUSE = 0.3
 # As many as rt itself gives a check at most.
 MOST_JOBS = 8
+# How far those give way that others do not wait for so long.
+YIELDING = 10
 MEMINFO = "/proc/meminfo"
 # The files of a group of processes with limits of its own: the limit, where what it takes stands, and after which word.
 GROUPS = (
@@ -134,9 +136,8 @@ def chains_of(uses: Uses, size: Callable[[str], int]) -> Dict[str, int]:
 
 
 def bytes_of(folder: str) -> int:
-    """The size of a crate's sources."""
-    every = (f"{at}/{it}" for part in ("src", "specs", "proofs") for at, _, names in os.walk(f"{folder}/{part}") for it in names)
-    return sum(map(os.path.getsize, every))
+    """The size of a crate's code, which tells better than that of its lemmas how long its proof takes."""
+    return sum(os.path.getsize(f"{at}/{it}") for at, _, names in os.walk(f"{folder}/src") for it in names)
 
 
 def is_locked(folder: int) -> bool:
@@ -176,10 +177,11 @@ def remove(folder: str) -> None:
 class Running:
     """An rt that builds a crate, and what it said so far."""
 
-    def __init__(self, name: str, jobs: int, words: List[str], folder: str, log: str) -> None:
+    def __init__(self, name: str, jobs: int, words: List[str], folder: str, log: str, is_yielding: bool) -> None:
         self.name, self.jobs, self.log, self.told = name, jobs, log, ""
+        before = ["nice", "-n", str(YIELDING)] if is_yielding else []
         with open(log, "wb") as file:
-            self.process = subprocess.Popen(["rt", *words], cwd=folder, stdin=subprocess.DEVNULL, stdout=file, stderr=file)
+            self.process = subprocess.Popen([*before, "rt", *words], cwd=folder, stdin=subprocess.DEVNULL, stdout=file, stderr=file)
         self.file = open(log, encoding="utf-8", errors="replace")
 
     def how_far(self) -> str:
@@ -240,33 +242,36 @@ class Builder:
         left = self.uses.keys() - self.built - self.running.keys() - {self.program}
         return sorted((it for it in left if self.built.issuperset(self.uses[it])), key=lambda it: -self.chains[it])
 
-    def jobs_for(self, name: str, longest: int) -> int:
-        """With how many jobs the crate may begin now, and 0 where it has to wait for memory."""
+    def jobs_for(self, name: str, share: int) -> int:
+        """With how many jobs the crate may begin now, at most its share, and 0 where it has to wait for memory."""
         if self.running and self.killed.intersection([name, *self.running]):
             return 0
         now = free_memory()
         self.memory = max(now, self.memory) if self.running else now
-        most = min(self.lanes, MOST_JOBS) if self.chains[name] == longest and name not in self.killed else 1
+        most = 1 if name in self.killed else min(share, MOST_JOBS)
         free = min(now, self.memory - sum(need(it.jobs) for it in self.running.values()))
         fitting = [it for it in range(1, most + 1) if need(it) <= free]
         return fitting[-1] if fitting else 0 if self.running else 1
 
     def begin_ready(self) -> None:
-        """Begins what may begin."""
+        """Begins what may begin. The longest chain gets all processors and goes before; the others share them beside it."""
         ready = self.ready()
-        longest = max((self.chains[it] for it in [*self.running, *ready]), default=0)
+        every = [*self.running, *ready]
+        longest = max((self.chains[it] for it in every), default=0)
         for name in ready:
-            jobs = self.jobs_for(name, longest) if len(self.running) < self.lanes else 0
+            is_longest = self.chains[name] == longest
+            share = self.lanes if is_longest else max(1, self.lanes // len(every))
+            jobs = self.jobs_for(name, share) if len(self.running) < self.lanes else 0
             if not jobs:
                 break
             self.make_tree(name)
-            self.begin(name, jobs, ["lib", "--jobs", str(jobs)], f"{self.tree(name)}/crates/{name}")
+            self.begin(name, jobs, ["lib", "--jobs", str(jobs)], f"{self.tree(name)}/crates/{name}", not is_longest)
 
-    def begin(self, name: str, jobs: int, words: List[str], folder: str) -> None:
+    def begin(self, name: str, jobs: int, words: List[str], folder: str, is_yielding: bool = False) -> None:
         """Starts an rt."""
         os.makedirs(self.room, exist_ok=True)
         self.has_begun = True
-        self.running[name] = Running(name, jobs, words, folder, f"{self.room}/{name}.log")
+        self.running[name] = Running(name, jobs, words, folder, f"{self.room}/{name}.log", is_yielding)
 
     def tree(self, name: str) -> str:
         """The tree in which a library is built."""
@@ -333,7 +338,7 @@ class Builder:
 
     def build_program(self) -> int:
         """Builds the program in the checkout, and runs it once for its help."""
-        jobs = self.jobs_for(self.program, self.chains[self.program])
+        jobs = self.jobs_for(self.program, self.lanes)
         self.begin(self.program, jobs, ["run", "--jobs", str(jobs), "--", "--help"], f"{self.top}/crates/{self.program}")
         status = 0
         while self.running:

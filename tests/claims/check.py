@@ -17,8 +17,10 @@ sys.path += [os.path.join(TOP, it) for it in ("tests/program", "tests/lies", "pa
 
 import believed
 import edits
+import forms
 import make
 import graph
+import memory
 from documents import Block, Document, named_by, read
 from script_reader import read_script
 from sources import Sources, files_below
@@ -32,10 +34,8 @@ IN_WORDS = ("crate", "question", "rule", "at most", "beyond it", "what there is"
 WIDTH = 120
 MOST_WORDS_OF_THE_README = 1000
 FEWEST_LINES_OF_A_LIBRARY, MOST_LINES_OF_A_CRATE = 20, 35
-# Documents in which no sentence is longer; the READMEs of the crates are held to it too.
+# In no document a sentence is longer.
 MOST_WORDS_OF_A_SENTENCE = 35
-SHORT = ("README.md", "CONTRIBUTING.md", "docs/architecture.md", "docs/board.md", "docs/guide.md", "docs/proved.md", "docs/rules.md", "docs/scripts.md",
-         "docs/texts.md", "docs/titan.md")
 # A sentence of so many words stands in one document only; the history of changes is none of these.
 FEWEST_WORDS_SAID_ONCE = 11
 # In backquotes, what is spelt as a name of the sources.
@@ -260,13 +260,12 @@ def sentences(document: Document) -> Iterator[str]:
 
 
 def long_sentences(documents: List[Document]) -> Iterator[str]:
-    """Sentences with too many words in the documents that have none."""
+    """Sentences with too many words."""
     for document in documents:
-        if document.path in SHORT or re.fullmatch(r"crates/\w+/README\.md", document.path):
-            for sentence in sentences(document):
-                words = [it for it in sentence.split() if re.search(r"\w", it)]
-                if len(words) > MOST_WORDS_OF_A_SENTENCE:
-                    yield f"{document.path}: {len(words)} words, where {MOST_WORDS_OF_A_SENTENCE} are the most: {sentence[:60]}.."
+        for sentence in sentences(document):
+            words = [it for it in sentence.split() if re.search(r"\w", it)]
+            if len(words) > MOST_WORDS_OF_A_SENTENCE:
+                yield f"{document.path}: {len(words)} words, where {MOST_WORDS_OF_A_SENTENCE} are the most: {sentence[:60]}.."
 
 
 def said_twice(documents: List[Document]) -> Iterator[str]:
@@ -374,13 +373,17 @@ def main() -> int:
         "the code that the documents quote stands in its crate": lambda: quoted_code(documents),
         "the commands that name an example name one, with words that there are": lambda: commands(documents),
         "all links lead somewhere": lambda: links(documents),
+        "the text of each link is on one line": lambda: forms.broken_links(documents),
         "all paths begin at the top, and lead somewhere": lambda: paths(documents),
         "no line of prose is too long": lambda: broken_lines(documents),
         "the first page is short": long_readme,
-        "the sentences are short where they have been shortened": lambda: long_sentences(documents),
+        "no sentence is too long": lambda: long_sentences(documents),
         "no sentence stands in two documents": lambda: said_twice(documents),
+        "each decision has its reason and its consequence": lambda: forms.decisions(read(TOP, "docs/DECISIONS.md")),
+        "each change was added, changed, fixed or removed": lambda: forms.changes(read(TOP, "CHANGELOG.md")),
         "each library and program has a README, and what it names stands in the sources": lambda: readmes_of_crates(sources),
         "each bug can be planted, has a name of its own, and the gate has few": lambda: edits.faults(TOP),
+        "each public call is refused memory in turn, or made with none, or says why not": memory.unlisted,
         "no number stands for a rule that is written elsewhere": numbers,
         "the first line of each source says what it is": nameless,
         "the page is what its sources make": make.differing,

@@ -8,6 +8,7 @@ The last line is 'N passed, M failed'; the status is 0 where nothing failed, els
 from __future__ import annotations
 
 import argparse
+import hashlib
 import os
 import re
 import shutil
@@ -15,22 +16,24 @@ import signal
 import subprocess
 import sys
 import tempfile
+import time
 from concurrent.futures import ThreadPoolExecutor
 from typing import Callable, Dict, List, Tuple
 
 TOP = os.path.dirname(os.path.dirname(os.path.dirname(os.path.abspath(__file__))))
 # The parts in their order, each by the command that it runs.
 PARTS = ("tests/claims/check.py", "tests/gate/run.py", "tests/wrapper/run.py", "rt", "tests/program/run.py", "tests/hostile/run.py",
-         "tests/titan/run.py", "tests/page/run.py")
-LEFT = ("crates/ttrun/out/ttrun", "crates/ttrun/out/ttrun.sources", "crates/refused_memory/out/refused_memory")
-# What each part does where a test says nothing else, so that the whole counts 36 passed.
+         "tests/titan/run.py", "tests/page/run.py", "tests/documents/run.py")
+RECORD = "crates/ttrun/out/ttrun.gate"
+LEFT = ("crates/ttrun/out/ttrun", "crates/ttrun/out/ttrun.sources", RECORD, "crates/refused_memory/out/refused_memory")
+# What each part does where a test says nothing else, so that the whole counts 45 passed.
 PASSING = {part: f"echo '{number} passed, 0 failed'" for number, part in enumerate(PARTS, 1)}
 # A part that a gate of one second for each ends.
 ENDLESS = "echo '3 passed, 0 failed'; sleep 60"
 SECONDS = 60
 TESTS: Dict[str, Callable[[str], None]] = {}
 # There are no fewer tests.
-FEWEST = 18
+FEWEST = 22
 
 
 class Fault(Exception):
@@ -70,13 +73,13 @@ def put_parts(room: str, parts: Dict[str, str]) -> None:
     for part in PARTS:
         text = f'echo "{part} $* ${{RT_JOBS:-none}}" >> "{room}/calls"\n{parts.get(part, PASSING[part])}\n'
         if part == "rt":
-            write_program(os.path.join(room, "bin/rt"), f"#!/usr/bin/env bash\n{text}")
+            write_program(os.path.join(room, "bin/rt"), f"#!/usr/bin/env bash\n[ \"$1\" != version ] || {{ echo of tests; exit; }}\n{text}")
         else:
             write_program(os.path.join(room, f"{part}.sh"), text)
             write_program(os.path.join(room, part), "import os, sys\nos.execvp('bash', ['bash', __file__ + '.sh', *sys.argv[1:]])\n")
 
 
-def run(room: str, *words: str, status: int = 0, last: str = "36 passed, 0 failed", **parts: str) -> Tuple[List[str], str]:
+def run(room: str, *words: str, status: int = 0, last: str = "45 passed, 0 failed", **parts: str) -> Tuple[List[str], str]:
     """Runs the gate over stand-ins, and holds it to a status and a last line: its lines, and its standard error."""
     put_parts(room, {next(it for it in PARTS if name in it): text for name, text in parts.items()})
     environment = {**os.environ, "PATH": f"{room}/bin:/usr/bin:/bin", "TMPDIR": room}
@@ -91,7 +94,10 @@ def run(room: str, *words: str, status: int = 0, last: str = "36 passed, 0 faile
 
 def calls_of(room: str) -> List[str]:
     """The parts that were run, in their order."""
-    with open(os.path.join(room, "calls"), encoding="utf-8") as file:
+    path = os.path.join(room, "calls")
+    if not os.path.exists(path):
+        return []
+    with open(path, encoding="utf-8") as file:
         return file.read().splitlines()
 
 
@@ -104,8 +110,8 @@ def all_parts_pass(room: str) -> None:
 
 @test
 def a_count_that_is_not_zero(room: str) -> None:
-    for part in ("claims", "gate", "wrapper", "rt", "program", "hostile", "titan", "page"):
-        passed = 36 - [it for it in range(len(PARTS)) if part in PARTS[it]][-1] - 1 + 4
+    for part in ("claims", "gate", "wrapper", "rt", "program", "hostile", "titan", "page", "documents"):
+        passed = 45 - [it for it in range(len(PARTS)) if part in PARTS[it]][-1] - 1 + 4
         for status in (1, 0):
             given = {"rt" if part == "rt" else f"tests/{part}/": f"echo '4 passed, 3 failed'; exit {status}"}
             run(room, status=1, last=f"{passed} passed, 3 failed", **given)
@@ -113,22 +119,22 @@ def a_count_that_is_not_zero(room: str) -> None:
 
 @test
 def two_parts_fail_together(room: str) -> None:
-    run(room, status=1, last="35 passed, 5 failed", wrapper="echo '2 passed, 1 failed'; exit 1", hostile="echo '6 passed, 4 failed'; exit 1")
-    run(room, status=1, last="25 passed, 11 failed", **{it: "echo '1 passed, 2 failed'; exit 1" for it in ("claims", "wrapper", "rt")},
+    run(room, status=1, last="44 passed, 5 failed", wrapper="echo '2 passed, 1 failed'; exit 1", hostile="echo '6 passed, 4 failed'; exit 1")
+    run(room, status=1, last="34 passed, 11 failed", **{it: "echo '1 passed, 2 failed'; exit 1" for it in ("claims", "wrapper", "rt")},
         program="echo '3 passed, 3 failed'", hostile="echo '2 passed, 2 failed'")
 
 
 @test
 def a_part_that_ends_badly_and_counts_no_failure(room: str) -> None:
     for status in (1, 2, 3, 137):
-        _, errors = run(room, status=1, last="36 passed, 1 failed", program=f"echo '5 passed, 0 failed'; exit {status}")
+        _, errors = run(room, status=1, last="45 passed, 1 failed", program=f"echo '5 passed, 0 failed'; exit {status}")
         hold(f"ended with status {status} and counts no failure" in errors, errors)
-    run(room, status=1, last="36 passed, 1 failed", rt="echo '4 passed, 0 failed'; exit 1")
+    run(room, status=1, last="45 passed, 1 failed", rt="echo '4 passed, 0 failed'; exit 1")
 
 
 @test
 def a_part_that_is_killed(room: str) -> None:
-    _, errors = run(room, status=1, last="32 passed, 1 failed", rt=f"echo '9 passed'; kill -{int(signal.SIGKILL)} $$")
+    _, errors = run(room, status=1, last="41 passed, 1 failed", rt=f"echo '9 passed'; kill -{int(signal.SIGKILL)} $$")
     hold("rt ci ended with status 137" in errors, errors)
 
 
@@ -136,20 +142,20 @@ def a_part_that_is_killed(room: str) -> None:
 def a_part_that_counts_nothing(room: str) -> None:
     for text in ("exit 0", "exit 1", "echo 'all is well'", "echo '7 passed, 0 failed'; echo behind it", "echo '7 passed, 0 failed '",
                  "echo 'about 7 passed, 0 failed'", "echo '7 passed, no failed'", "echo '7 passed, 0 failed' >&2"):
-        _, errors = run(room, status=1, last="33 passed, 1 failed", wrapper=text)
+        _, errors = run(room, status=1, last="42 passed, 1 failed", wrapper=text)
         hold("counts no failure" in errors, f"{text}: {errors}")
 
 
 @test
 def a_part_that_skips_some(room: str) -> None:
     run(room, page="echo '8 passed, 0 failed, 3 skipped'")
-    run(room, status=1, last="29 passed, 1 failed", page="echo '1 passed, 1 failed, 3 skipped'; exit 1")
-    run(room, status=1, last="28 passed, 1 failed", page="echo '8 passed, 0 failed, some skipped'")
+    run(room, status=1, last="38 passed, 1 failed", page="echo '1 passed, 1 failed, 3 skipped'; exit 1")
+    run(room, status=1, last="37 passed, 1 failed", page="echo '8 passed, 0 failed, some skipped'")
 
 
 @test
 def a_part_that_cannot_be_run(room: str) -> None:
-    run(room, status=1, last="31 passed, 1 failed", program="exec /no/such/program")
+    run(room, status=1, last="40 passed, 1 failed", program="exec /no/such/program")
 
 
 @test
@@ -159,13 +165,13 @@ def a_part_that_does_not_end(room: str) -> None:
     shortened = re.sub(r"(?m)^part \d+ ", "part 1 ", text)
     hold(len(re.findall(r"(?m)^part 1 ", shortened)) == len(PARTS), "each part has a limit of seconds")
     write_program(os.path.join(room, "gate"), shortened)
-    _, errors = run(room, status=1, last="36 passed, 1 failed", wrapper=ENDLESS)
+    _, errors = run(room, status=1, last="45 passed, 1 failed", wrapper=ENDLESS)
     hold("was ended after 1 seconds" in errors, errors)
 
 
 @test
 def a_part_that_fails_stops_no_other(room: str) -> None:
-    run(room, status=1, last="35 passed, 1 failed", claims="echo '0 passed, 1 failed'; exit 1")
+    run(room, status=1, last="44 passed, 1 failed", claims="echo '0 passed, 1 failed'; exit 1")
     hold(len(calls_of(room)) == len(PARTS), f"{calls_of(room)}")
 
 
@@ -178,6 +184,76 @@ def what_an_earlier_run_left(room: str) -> None:
 def what_this_run_built_is_left(room: str) -> None:
     run(room, rt=f"for it in {' '.join(LEFT)}; do : > $it; done; echo '4 passed, 0 failed'",
         hostile=f"for it in {' '.join(LEFT)}; do [ -e $it ] || exit 1; done; echo '6 passed, 0 failed'")
+
+
+def commit(room: str) -> str:
+    """Commits all of the tree but what a run writes: the commit."""
+    put_parts(room, {})
+    write_program(os.path.join(room, ".gitignore"), "out/\ncalls\n/tmp.*\n/bin/\n/tests/\n")
+    names = [word for it in ("user.name=a", "user.email=a@b") for word in ("-c", it)]
+    for words in (["add", "--all"], [*names, "commit", "--quiet", "--message", "all"]):
+        subprocess.run(["git", "-C", room, *words], check=True)
+    return subprocess.run(["git", "-C", room, "rev-parse", "HEAD"], stdout=subprocess.PIPE, text=True, check=True).stdout.strip()
+
+
+def record_of(room: str) -> List[str]:
+    """What the gate leaves for a release."""
+    with open(os.path.join(room, RECORD), encoding="utf-8") as file:
+        return file.read().splitlines()
+
+
+BUILDS = f"echo program > {LEFT[0]}; echo '4 passed, 0 failed'"
+# Of the text that BUILDS writes.
+SUM = hashlib.sha256(b"program\n").hexdigest()
+
+
+@test
+def a_record_for_a_release(room: str) -> None:
+    name = commit(room)
+    run(room, rt=BUILDS)
+    wanted = [f"commit {name}", "tree clean", "toolchain of tests", f"program {SUM}", "gate 45 passed, 0 failed"]
+    hold(record_of(room) == wanted, f"{record_of(room)}")
+    run(room, status=1, last="46 passed, 3 failed", rt=BUILDS, program="echo '6 passed, 3 failed'; exit 1")
+    hold(record_of(room) == [*wanted[:4], "gate 46 passed, 3 failed"], f"{record_of(room)}")
+
+
+@test
+def a_record_of_a_tree_that_was_changed(room: str) -> None:
+    name = commit(room)
+    write_program(os.path.join(room, "more"), "not committed\n")
+    run(room, rt=BUILDS)
+    hold(record_of(room)[:2] == [f"commit {name}", "tree changed"], f"{record_of(room)}")
+    os.remove(os.path.join(room, "more"))
+    for change in ("echo >> gate.more", "git -c user.name=a -c user.email=a@b commit --quiet --allow-empty --message more"):
+        run(room, rt=BUILDS, titan=f"{change}; echo '7 passed, 0 failed'")
+        hold(record_of(room)[:2] == ["commit none", "tree changed"], f"{change}: {record_of(room)}")
+        subprocess.run(["git", "-C", room, "clean", "--quiet", "--force"], check=True)
+
+
+@test
+def a_record_without_a_program(room: str) -> None:
+    commit(room)
+    run(room, rt="rm -rf crates; echo '4 passed, 0 failed'")
+    hold(record_of(room)[3:] == ["program ", "gate 45 passed, 0 failed"], f"{record_of(room)}")
+
+
+@test
+def no_record_of_a_gate_that_was_ended(room: str) -> None:
+    commit(room)
+    put_parts(room, {"tests/page/run.py": ENDLESS})
+    environment = {**os.environ, "PATH": f"{room}/bin:/usr/bin:/bin", "TMPDIR": room}
+    silent = {"stdin": subprocess.DEVNULL, "stdout": subprocess.DEVNULL, "stderr": subprocess.DEVNULL}
+    with subprocess.Popen([f"{room}/gate"], env=environment, start_new_session=True, **silent) as started:
+        until = time.monotonic() + SECONDS
+        while not any("tests/page" in it for it in calls_of(room)):
+            hold(time.monotonic() < until, "the part is not begun")
+            time.sleep(0.1)
+        started.terminate()
+        # timeout makes a group of its own, which ends by its limit or with what it runs
+        for line in subprocess.run(["ps", "-eo", "pid,args"], stdout=subprocess.PIPE, text=True, check=True).stdout.splitlines():
+            if f"{room}/tests/page" in line:
+                os.kill(int(line.split()[0]), signal.SIGKILL)
+    hold(not os.path.exists(os.path.join(room, RECORD)), "it left what a whole gate leaves")
 
 
 @test

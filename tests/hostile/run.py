@@ -5,7 +5,7 @@ usage: tests/hostile/run.py [--program FILE] [--all] [--jobs N]
 
 The programs are crates/ttrun/out/ttrun and crates/refused_memory/out/refused_memory, which `rt ci` and `rt run` leave there.
 Without --all, as ./gate runs it, every so manyth growth and byte is tried; with it each one, which takes minutes. Where there is
-no compiler of C nothing can be refused by a library, and where the tests are not root's no other user can be refused threads:
+no compiler of C nothing can be refused by a library: that fails. Where the tests are not root's no other user can be refused threads:
 those tests are skipped, and said to be. The last line is 'N passed, M failed'; the status is 0 where nothing failed, else 1, and
 3 where there is no program.
 """
@@ -64,14 +64,15 @@ def judged(title: str, work: List[Callable[[], Sweep]], floors: dict, threads: i
 
 
 def refused(library: Optional[Refusing], program: str, is_whole: bool, threads: int) -> List[List[str]]:
-    """Runs the tests that a library refuses something, or says that they are skipped."""
+    """Runs the tests that a library refuses something; where there is none they fail."""
     parts = (("calls of the library", calls.jobs(library), {}),
              ("failing devices", narrow.jobs(library, program, is_whole), DEVICE_FLOORS),
              ("refused memory and threads", sweeps.jobs(library, program, is_whole), REFUSING_FLOORS))
     if library is not None:
         return [it for title, work, floors in parts for it in judged(title, work, floors, threads)]
-    print(f"skipped: {sum(len(work) for _, work, _ in parts)} tests, since there is no compiler of C to build refuse.c")
-    return []
+    fault = f"{sum(len(work) for _, work, _ in parts)} tests are not run, since there is no compiler of C to build refuse.c"
+    print(f"FAILED refused memory, threads and devices: {fault}")
+    return [[fault]]
 
 
 def crowded(program: str, is_whole: bool, threads: int) -> List[List[str]]:

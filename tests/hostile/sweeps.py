@@ -15,6 +15,7 @@ sys.path.append(os.path.join(TOP, "tests", "program"))
 from examples import bytes_of
 from rows import text
 from sizes import many_behaviours
+from whole import EACH
 
 # The forms of `run`: each can be written live but the JUnit report.
 LIVE_FORMS: Tuple[Tuple[str, ...], ...] = ((), ("--csv",), ("--history",))
@@ -88,15 +89,26 @@ def numbers(most: int, stride: int) -> Iterator[int]:
     return (it for it in range(1, most + 1) if it % stride == 1 % stride or it > most - BEHIND)
 
 
+def fault_of_the_first_abort(task: Task, ran: Ran) -> List[str]:
+    """Why the first refusal that aborts a campaign is not that of the room for its reports, before any test case is run."""
+    return [] if ran.output.startswith(b"cases 0 ") else [f"{task.name}: the first abort has a finished test case before it"]
+
+
 def sweep(refusing: Refusing, program: str, task: Task, what: str, behind: str, stride: int) -> Sweep:
     """Refuses the growths or threads of a task in turn, until none is refused any more."""
     words = [program, *task.words]
     ample = refusing.run(words, task.given)
     done = Sweep(f"{' '.join(task.words)} < {task.name}, {what} N{behind} refused")
     most = ample.growths if what == "growth" else ample.threads
+    # (every growth is refused in turn, and the report is the text)
+    is_first = what == "growth" and stride == 1 and task.words == ("run",)
     for number in numbers(most, stride):
         plan = f"{what}:{number}{behind}"
-        done.add(task, ample, refusing.run(words, task.given, plan), plan)
+        ran = refusing.run(words, task.given, plan)
+        done.add(task, ample, ran, plan)
+        if is_first and b"ttrun: aborted at " in ran.errors:
+            done.faults += fault_of_the_first_abort(task, ran)
+            is_first = False
         if done.is_given_up():
             return done
     spared = 0
@@ -150,11 +162,16 @@ def large_tasks() -> List[Task]:
     return found + [Task("supervisor", ("explore",), bytes_of("supervisor.script"))]
 
 
+# A sweep of which each growth is refused in the gate too: its first abort is judged.
+WHOLE = ("verdicts", ("run",), "growth", "")
+
+
 def jobs(refusing: Refusing, program: str, is_whole: bool) -> List[Callable[[], Sweep]]:
-    """All sweeps; in the gate every so manyth growth alone is refused."""
+    """All sweeps; in the gate every so manyth growth alone is refused, but for some tasks."""
     found: List[Callable[[], Sweep]] = []
     for at, task in enumerate(tasks()):
         for what, behind, stride in (("growth", "", 5), ("growth", "..", 29), ("thread", "", 1), ("thread", "..", 7)):
-            step = 1 if is_whole else stride
+            is_each = (task.name, task.words, what, behind) == WHOLE or (not behind and any(map(task.has, EACH)))
+            step = 1 if is_whole or is_each else stride
             found.append(lambda task=task, what=what, behind=behind, step=step: sweep(refusing, program, task, what, behind, step))
     return found + [lambda task=task: falling(program, task, is_whole) for task in large_tasks()]

@@ -1,4 +1,4 @@
-"""Lies that the program could tell: each is a change of the sources after which the program's tests must fail."""
+"""Lies that no clause refuses: each is a change of the sources after which the tests of the program, or of a crate, must fail."""
 from __future__ import annotations
 
 from dataclasses import dataclass
@@ -11,6 +11,8 @@ class Lie:
 
     name: str
     changes: Tuple[Tuple[str, str], ...]
+    # the crate whose tests must fail: the program, or a crate of tests
+    by: str = "ttrun"
 
 
 LIES = (
@@ -87,4 +89,48 @@ LIES = (
     let mut cases = Vec::new(alloc);
 """),
     )),
+    Lie("starved_behind_a_thousand_entries", (
+        ("""\
+        if pass.is_ended() {
+            break;
+        }
+""", """\
+        if pass.is_ended() {
+            break;
+        }
+        if 1000 <= pass.log().len() {
+            return Err(NoMemory);
+        }
+"""),
+    )),
+    Lie("nobody_is_told", (
+        ("""\
+        if book.wakes(self.run) {
+            self.changed.notify_all();
+""", """\
+        if book.wakes(self.run) {
+"""),
+    ), "tc_exec_tests"),
+    Lie("each_wait_has_a_condition_of_its_own", (
+        ("""        match self.held.changed.of(run) {""", """        match self.held.changed.of(run).filter(|_| false) {"""),
+    ), "tc_exec_tests"),
+    Lie("a_place_is_never_given_up", (
+        ("""\
+                shared.give_up(rt, run);
+""", ""),
+    ), "tc_exec_tests"),
+    Lie("a_long_log_is_torn", (
+        ("""\
+        self.look(rt).close(alloc, lefts)
+""", """\
+        if lefts.iter().any(|left| 4_096 < left.log().len()) {
+            return Err(CloseFault::Torn);
+        }
+        self.look(rt).close(alloc, lefts)
+"""),
+    ), "tc_exec_tests"),
+    Lie("a_reply_that_differs_is_told_as_no_memory", (
+        ("""        Err(CheckFault::Differs { .. }) => Err(CloseFault::Torn),""",
+         """        Err(CheckFault::Differs { .. }) => Err(CloseFault::NoMemory),"""),
+    ), "tc_exec_tests"),
 )

@@ -24,9 +24,21 @@ def edits_by_crate(only: str) -> Dict[str, List[str]]:
     return {crate: names for crate, names in sorted(found.items()) if names}
 
 
+def put(path: str, into: str) -> None:
+    """Links what was built, where that can be done, so that nothing is proved twice; copies what is written by hand."""
+    if f"{os.sep}out{os.sep}" in path:
+        try:
+            os.link(path, into)
+            return
+        except OSError:
+            pass
+    shutil.copy2(path, into)
+
+
 def copy_sources(room: str, crate: str, names: List[str]) -> None:
-    """A copy of the checkout without what was built, in which these edits stand in the place of the crate's own."""
-    shutil.copytree(os.path.join(TOP, "crates"), os.path.join(room, "crates"), ignore=shutil.ignore_patterns("out", "must-fail"))
+    """A copy of the checkout with what was built of it, in which these edits stand in the place of the crate's own."""
+    kept = shutil.ignore_patterns("must-fail")
+    shutil.copytree(os.path.join(TOP, "crates"), os.path.join(room, "crates"), symlinks=True, ignore=kept, copy_function=put)
     for name in ("crates.txt", "HANDLES"):
         shutil.copy(os.path.join(TOP, name), room)
     os.mkdir(os.path.join(room, ".git"))

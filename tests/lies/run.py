@@ -7,7 +7,8 @@ It is no part of the gate. The prover is shown the lies of tests/lies/edits/CRAT
 crates/CRATE/must-fail: each must be refused by a clause, which its line names. It takes a proof of each crate that has some,
 and 10 to 60 seconds for each lie. The tests are shown those of lies.py: the program is built without a proof once for each of
 them, and once as it stands, which takes about a minute each, and some of tests/program that need no more than a plain standard
-input are run by `rt try --cases`: at least one must fail. The last line is 'N passed, M failed'.
+input are run by `rt try --cases`: at least one must fail. Where a lie names a crate of tests, `rt try --test` runs that one's
+tests in their place. The last line is 'N passed, M failed'.
 """
 from __future__ import annotations
 
@@ -40,7 +41,10 @@ LONGEST = 100_000
 # Of the long tables of tests every so many is run: `rt try` takes about half a second for each.
 EVERY = 10
 TRIED = re.compile(rb"case=c(\d+) run=(\w+) (?:status=(\d+) )?.*proved=no\n")
-TRUTH = Lie("the_program_as_it_stands", ())
+TESTED = re.compile(r"(?m)^test (\S+) \.\.\. (\w+)")
+PROGRAM = "ttrun"
+# Each test of a crate has so long: under some lies many wait for ever.
+SECONDS = "20"
 
 
 def plain_cases() -> List[Case]:
@@ -99,13 +103,36 @@ def failing(cases: List[Case], printed: bytes, said: bytes) -> Tuple[int, List[s
     return count, failed
 
 
+def planted(room: str, lie: Lie) -> str:
+    """Copies the sources to this folder, and plants the lie there; says why, where it cannot be."""
+    shutil.copytree(os.path.join(TOP, "crates"), os.path.join(room, "crates"), ignore=shutil.ignore_patterns("out"))
+    for name in ("crates.txt", "HANDLES"):
+        shutil.copy(os.path.join(TOP, name), room)
+    return plant(room, lie)
+
+
+def tried_by_crate(lie: Lie, rt: List[str], wanted: bool) -> Tuple[bool, str]:
+    """Plants the lie in a copy, and runs the tests of its crate of tests, without a proof; else as `tried`."""
+    with tempfile.TemporaryDirectory(prefix="ttrun-lies-") as room:
+        fault = planted(room, lie)
+        if fault:
+            return False, f"FAILED {lie.name}: {fault}"
+        ran = subprocess.run([*rt, "try", "--test", "--seconds", SECONDS], cwd=os.path.join(room, "crates", lie.by), stdin=subprocess.DEVNULL,
+                             stdout=subprocess.PIPE, stderr=subprocess.STDOUT, text=True, errors="replace")
+    tested = TESTED.findall(ran.stdout)
+    if not tested:
+        return False, f"FAILED {lie.name}: no test was run: {ran.stdout[-1500:]}"
+    failed = [name for name, how in tested if how != "ok"]
+    told = f"{lie.name}: {len(failed)} of {len(tested)} tests of {lie.by} fail" + (f", as {failed[0]}" if failed else "")
+    return bool(failed) == wanted, ("" if bool(failed) == wanted else "FAILED ") + told
+
+
 def tried(lie: Lie, rt: List[str], cases: List[Case], wanted: bool) -> Tuple[bool, str]:
     """Plants the lie in a copy, builds it and runs the cases; whether tests fail exactly where they should, and the lines to print."""
+    if lie.by != PROGRAM:
+        return tried_by_crate(lie, rt, wanted)
     with tempfile.TemporaryDirectory(prefix="ttrun-lies-") as room:
-        shutil.copytree(os.path.join(TOP, "crates"), os.path.join(room, "crates"), ignore=shutil.ignore_patterns("out"))
-        for name in ("crates.txt", "HANDLES"):
-            shutil.copy(os.path.join(TOP, name), room)
-        fault = plant(room, lie)
+        fault = planted(room, lie)
         if fault:
             return False, f"FAILED {lie.name}: {fault}"
         folder = os.path.join(room, "cases")
@@ -121,9 +148,10 @@ def tried(lie: Lie, rt: List[str], cases: List[Case], wanted: bool) -> Tuple[boo
 
 
 def shown_to_tests(only: str, jobs: int, rt: List[str]) -> Iterator[Tuple[bool, str]]:
-    """Tries the program as it stands, and then with each lie of the tests."""
-    cases = plain_cases()
-    chosen = [(TRUTH, False), *((it, True) for it in LIES if only in it.name)]
+    """Tries the program and the crates of tests as they stand, and then with each lie of the tests."""
+    cases, lies = plain_cases(), [it for it in LIES if only in it.name]
+    truths = [Lie(f"{by}_as_it_stands", (), by) for by in sorted({it.by for it in lies})]
+    chosen = [*((it, False) for it in truths), *((it, True) for it in lies)]
     with ThreadPoolExecutor(jobs) as pool:
         yield from pool.map(lambda it: tried(it[0], rt, cases, it[1]), chosen)
 

@@ -1,9 +1,13 @@
 """Devices that fail: closed, full and broken pipes, a directory, memory and threads that are refused."""
 from __future__ import annotations
 
-from typing import Iterator, List
+import os
+import signal
+import subprocess
+from typing import Iterator, List, Optional, Tuple
 
-from case import Case, SomeText
+from case import SECONDS, Case, SomeText
+from judged import Judgement
 from rows import RESTARTED_SCRIPT, STORED_SCRIPT, of_verdicts, text
 
 READ = b"ttrun: read fault\n"
@@ -67,6 +71,53 @@ def untold() -> Iterator[Case]:
                    text("ok;verdict fail"), status=1, redirect=redirect)
         yield Case(f"error_{name}_help", ("--help",), output=SomeText(("Usage",)), redirect=redirect)
     yield Case("everything_closed", ("replay",), status=3, redirect="<&- >&- 2>&-")
+
+
+def faults_beside(program: str, words: Tuple[str, ...], given: Optional[int], taken: Optional[int], line: bytes) -> List[str]:
+    """Why a run with these ends of pipes does not end at once with this line on standard error, and with status 3."""
+    other = subprocess.DEVNULL
+    with subprocess.Popen([program, *words], stdin=other if given is None else given, stdout=other if taken is None else taken,
+                          stderr=subprocess.PIPE, start_new_session=True) as started:
+        try:
+            _, errors = started.communicate(timeout=SECONDS)
+        except subprocess.TimeoutExpired:
+            os.killpg(started.pid, signal.SIGKILL)
+            return [f"it had not ended after {SECONDS} seconds"]
+    return [] if (errors, started.returncode) == (line, 3) else [f"status {started.returncode}, standard error {errors!r}"]
+
+
+def judge_a_read(program: str) -> List[str]:
+    """A read that would block, behind a beginning of the input, is a fault, and is not made again."""
+    reading, writing = os.pipe()
+    try:
+        os.set_blocking(reading, False)
+        os.write(writing, b"behaviours 1\n")
+        return faults_beside(program, ("replay",), reading, None, READ)
+    finally:
+        os.close(reading)
+        os.close(writing)
+
+
+def judge_a_write(program: str) -> List[str]:
+    """A write that would block, to a pipe that is full, is a fault, and is not made again."""
+    reading, writing = os.pipe()
+    try:
+        os.set_blocking(writing, False)
+        try:
+            while os.write(writing, b"x" * 4096):
+                pass
+        except BlockingIOError:
+            pass
+        return faults_beside(program, ("--version",), None, writing, WRITE)
+    finally:
+        os.close(reading)
+        os.close(writing)
+
+
+def judgements() -> List[Judgement]:
+    """Devices that do not wait."""
+    return [Judgement("a_read_that_would_block", "ttrun replay < (a pipe that does not wait)", judge_a_read),
+            Judgement("a_write_that_would_block", "ttrun --version | (a full pipe that does not wait)", judge_a_write)]
 
 
 def cases() -> List[Case]:

@@ -66,6 +66,7 @@ def tests(seed: int) -> List[Test]:
             sys.exit(f"{name}: {len(group)} tests are fewer than {fewest}")
         found += group
     found += random_moves.judgements(seed) + random_scripts.judgements(seed) + random_courses.judgements(seed)
+    found += devices.judgements()
     found += reports.judgements(seed)
     found += choosing.judgements(seed)
     found += details.judgements(seed)

@@ -85,6 +85,17 @@ def single(steps: List[str]) -> bytes:
     return text(";".join(["testcase t", "behaviour main", *steps, "end", "end"]))
 
 
+def waiting(count: int, steps: int) -> bytes:
+    """The main behaviour starts each other one, waits for it, and sets pass until it has made so many calls. A wait is a second
+    entry where it is parked, so its log has more entries than that, unless no wait was."""
+    main, others = [], []
+    for at in range(1, count):
+        main += [f"create p{at}", f"start p{at} w{at}", f"wait done p{at}"]
+        others += [f"behaviour w{at}", *["setverdict pass"] * 50, "end"]
+    main += ["setverdict pass"] * (steps - len(main))
+    return text(";".join(["testcase t", "behaviour main", *main, "end", *others, "end"]))
+
+
 def counted() -> Iterator[Case]:
     """As many of a thing as may be, and one more."""
     yield Case("sixty_four_jobs", ("run",), many_behaviours(64), report_of_many(64))
@@ -96,6 +107,7 @@ def counted() -> Iterator[Case]:
     yield Case("a_thousand_steps", ("run",), single(passed * 1000),
                text(f"testcase t;run 0 main on 0;{calls}  finish -> ok;local 0 pass;verdict pass;"
                     "cases 1 none 0 pass 1 inconc 0 fail 0 error 0;complete"))
+    yield Case("more_entries_than_steps", ("run", "--csv"), waiting(64, 1000), (CSV_HEADER + "t,64,0,64,0,0,0,pass\n").encode())
     yield Case("one_step_more", ("run", "--csv"), single(passed * 1001), status=3, errors=b"ttrun: line 1003: too many\n")
     creates = [f"create p{at}" for at in range(1000)]
     yield Case("a_thousand_components_of_a_script", ("run", "--csv"), single(creates),

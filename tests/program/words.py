@@ -10,7 +10,7 @@ from case import Case, SomeText, Word
 COMMANDS = ("run", "check", "replay", "explore", "report", "ttrun run < FILE", "No word at all means run",
             "Status of run, replay and report: 0 for none and pass, 1 for inconc and fail, 2 for error.",
             "Status of check: 0 where each history is legal.",
-            "Status of explore: 0 where each test case has one verdict, 1 where one has several.")
+            "Status of explore: 0 where each test case has one verdict, 1 where one has several.", "standard error says which.\n")
 EXPLAIN = "after a fault's line, says what stands there and what would be understood\n"
 # A line for each option, as it stands in the help.
 ALL_OPTIONS = ("runs the campaign of a script, and writes its report\n",
@@ -25,7 +25,7 @@ ALL_OPTIONS = ("runs the campaign of a script, and writes its report\n",
                "  --shard <K/N>        runs the K-th of N shards of the test cases\n",
                "  --explain            " + EXPLAIN,
                "ttrun run < FILE", "none, pass, inconc, fail or error",
-               "Status: 0 for none and pass, 1 for inconc and fail, 2 for error, 3 for an abort or a refusal.")
+               "Status: 0 for none and pass, 1 for inconc and fail, 2 for error, 3 for an abort or a refusal.\n")
 EXPLORE = ("looks for every overall verdict that a schedule of a test case can give\n",
            "  --history     writes a history for each verdict that was found\n",
            "  --details     says where schedules part and who waits for whom\n",
@@ -192,12 +192,27 @@ REFUSED: List[Tuple[str, Tuple[Word, ...]]] = [
     ("help_of_an_unknown_word", ("help", "frobnicate")),
 ]
 
+# A script of one test case, t.
+NAMED = b"testcase t\nbehaviour main\nend\nend\n"
+
 # Of several faults the first is told: of the shard, of the stopping rule, of the text, and then of the names.
 ORDERED: List[Tuple[str, bytes, bytes]] = [
     ("run --only z --stop-on x --shard 0/2", b"x\n", b"ttrun: --shard takes K/N, with K from 1 to N\n"),
     ("run --only z --stop-on x", b"x\n", b"ttrun: --stop-on takes none, pass, inconc, fail or error\n"),
     ("run --only z", b"x\n", b"ttrun: line 1: line not understood\n"),
     ("run --list --only z", b"x\n", b"ttrun: line 1: line not understood\n"),
+    ("run --shard 0/2", b"x\n", b"ttrun: --shard takes K/N, with K from 1 to N\n"),
+    ("run --list --only z --shard 0/2", b"x\n", b"ttrun: --shard takes K/N, with K from 1 to N\n"),
+    ("run --stop-on x", b"x\n", b"ttrun: --stop-on takes none, pass, inconc, fail or error\n"),
+    ("run --only z- --stop-on x", NAMED, b"ttrun: --stop-on takes none, pass, inconc, fail or error\n"),
+    ("explore --states 0", b"x\n", b"ttrun: --states takes a number from 1 to 1000000\n"),
+    ("explore --states 1", b"x\n", b"ttrun: line 1: line not understood\n"),
+    ("run --only z --shard 1/2", b"", b"ttrun: line 1: text ends too early\n"),
+    ("run --only z --stop-on pass", NAMED, b"ttrun: --only takes the name of a test case of the script\n"),
+    ("run --only z --only z", NAMED, b"ttrun: --only takes the name of a test case of the script\n"),
+    ("run --only t --only t --only z", NAMED, b"ttrun: --only takes the name of a test case of the script\n"),
+    ("run --list --only z --shard 1/1", NAMED, b"ttrun: --only takes the name of a test case of the script\n"),
+    ("run --live --progress --only z", NAMED, b"ttrun: --only takes the name of a test case of the script\n"),
 ]
 
 # Words behind options that name nothing.
@@ -213,6 +228,9 @@ NAMELESS: List[Tuple[str, bytes]] = [
          ("run --only=", "run --list --only all", "run --only a --only 2b")),
     ) for line in lines
 ]
+
+# How the text about refused words ends.
+MORE = "\nFor more information, try '--help'.\n"
 
 # What is said where no file's name was given in place of a subcommand.
 NO_TIP = SomeText(lacking=("tip: ttrun run <",))
@@ -290,7 +308,7 @@ def cases() -> List[Case]:
     found += [Case(f"refused_{name}", words, errors=NO_TIP, status=3, stays_open=True) for name, words in REFUSED]
     for mistake in MISTAKES.splitlines():
         line, _, said = mistake.partition(" => ")
-        found.append(Case(f"refused: {line}", tuple(line.split(" ")), errors=SomeText((f"error: {said}\n",), NO_TIP.lacking), status=3,
+        found.append(Case(f"refused: {line}", tuple(line.split(" ")), errors=SomeText((f"error: {said}\n", MORE), NO_TIP.lacking), status=3,
                           stays_open=True))
     found += [Case(f"unread: {line}", tuple(line.split(" ")), errors=told, status=3, stays_open=True) for line, told in NAMELESS]
     found += [Case(f"names_are_judged_last: {line}", tuple(line.split(" ")), given, errors=told, status=3) for line, given, told in ORDERED]

@@ -26,7 +26,7 @@ from tree import LARGE, SECONDS, STARTING, Ran, Tree, hold
 Test = Callable[[Tree], None]
 TESTS: Dict[str, Test] = {}
 # There are no fewer tests.
-FEWEST = 67
+FEWEST = 72
 # A change so many seconds ago, by its file times, came before the program was built.
 OLD = 1000
 
@@ -450,14 +450,23 @@ def a_quota_of_processors(tree: Tree) -> None:
 @test
 def the_longest_chain_comes_first(tree: Tree) -> None:
     tree.write("crates.txt", "tc_low:\ntc_high: tc_low\ntc_aside:\nttrun: tc_high tc_aside tc_low\n")
-    tree.write("crates/tc_aside/proofs/more.antt", LARGE[:len(LARGE) // 2])
+    tree.write("crates/tc_aside/src/more.rt", LARGE[:len(LARGE) // 2])
+    tree.write("crates/tc_aside/proofs/more.antt", LARGE * 2)
     found, _ = begins_with(tree, "4")
-    hold(found == ["tc_low 4", "tc_aside 1", "tc_high 4", "ttrun 4"], f"{found}")
+    hold(found == ["tc_low 4", "tc_aside 2", "tc_high 4", "ttrun 4"], f"{found}")
+    own, found = os.nice(0), [nice_of(tree, it) for it in ("tc_low", "tc_aside", "tc_high", "ttrun")]
+    hold(found == [own, min(own + 10, 19), own, own], f"another goes before: {found}")
     found, _ = begins_with(tree, "1")
     hold(found == ["tc_low 1", "tc_high 1", "tc_aside 1", "ttrun 1"], f"{found}")
-    shutil.rmtree(tree.path("crates/tc_high/proofs"))
+    os.remove(tree.path("crates/tc_high/src/more.rt"))
     found, _ = begins_with(tree, "1")
     hold(found == ["tc_aside 1", "tc_low 1", "tc_high 1", "ttrun 1"], f"{found}")
+
+
+def nice_of(tree: Tree, name: str) -> int:
+    """How far the rt of a crate gave way to others when it began last."""
+    with open(os.path.join(tree.room, f"nice of {name}"), encoding="ascii") as file:
+        return int(file.read())
 
 
 def begins_with(tree: Tree, jobs: str) -> Tuple[List[str], bool]:
@@ -479,7 +488,7 @@ def begins_with(tree: Tree, jobs: str) -> Tuple[List[str], bool]:
 @test
 def memory_is_short(tree: Tree) -> None:
     for memory, in_group, wanted, at_once in (
-        (64, None, ["tc_low 4", "tc_high 4", "tc_aside 1", "ttrun 4"], True),
+        (64, None, ["tc_low 4", "tc_high 4", "tc_aside 2", "ttrun 4"], True),
         (8.5, None, ["tc_low 4", "tc_high 4", "tc_aside 1", "ttrun 4"], True),
         (8, None, ["tc_low 4", "tc_high 4", "tc_aside 4", "ttrun 4"], False),
         (4, None, ["tc_low 2", "tc_high 2", "tc_aside 2", "ttrun 2"], False),
@@ -827,6 +836,67 @@ def no_python(tree: Tree) -> None:
 def tools_that_sort_in_another_way(tree: Tree) -> None:
     hold_program(built(tree).call("a", OTHER_TOOLS="yes"))
     hold_runs(tree, 1)
+
+
+def named_program(tree: Tree, name: str = "named", status: int = 7) -> str:
+    """A program that says that it was named, which words it got, and whether it still sees TTRUN."""
+    path = os.path.join(tree.room, name)
+    with STARTING:
+        with open(path, "w", encoding="utf-8") as file:
+            file.write(f"#!/usr/bin/env bash\nprintf '<%s>' named \"${{TTRUN-unset}}\" \"$@\"\ncat\nexit {status}\n")
+        os.chmod(path, 0o755)
+    return path
+
+
+@test
+def a_program_that_is_named(tree: Tree) -> None:
+    path, given = named_program(tree), bytes(range(256)) * 100
+    for has_rt in ("yes", "no"):
+        ran = tree.call("run", "a b", "", "*", given=given, TTRUN=path, has_rt=has_rt)
+        hold((ran.output, ran.errors, ran.status) == (b"<named><unset><run><a b><><*>" + given, b"", 7), f"{ran}")
+    hold(not tree.calls() and not os.path.exists(tree.path("crates/ttrun/out")), f"something is built: {tree.calls()}")
+    started = tree.start(["id"], TTRUN="/proc/self/exe", command=["sh", "-c", 'exec "$0" "$@"', tree.path("ttrun"), "-c", "echo $$"])
+    hold(tree.ended(started).output == b"%d\n" % started.pid, "it does not take the place of the wrapper")
+
+
+@test
+def a_program_that_is_named_from_the_folder_of_the_call(tree: Tree) -> None:
+    named_program(tree)
+    for name in ("named", "./named", "a tree/../named"):
+        hold(tree.call("a", TTRUN=name).output == b"<named><unset><a>", name)
+    named_program(tree, "bin/on_the_path")
+    hold_refused(tree.call("a", TTRUN="on_the_path"), "TTRUN names ./on_the_path")
+
+
+@test
+def a_name_of_no_program(tree: Tree) -> None:
+    built(tree)
+    plain = os.path.join(tree.room, "plain")
+    tree.write(plain, "no program\n")
+    for name in (plain, tree.top, "/nowhere", "no such"):
+        hold_refused(tree.call("a", TTRUN=name), "TTRUN names", name, "is no program")
+    with STARTING, open(plain, "wb") as file:
+        file.write(b"\x7fELF\x00\x00 of another machine")
+    os.chmod(plain, 0o755)
+    ran = tree.call("a", TTRUN=plain)
+    hold(ran.status == 3 and "TTRUN names" in ran.lines()[-1] and "does not run on this machine" in ran.lines()[-1], f"{ran}")
+    hold_program(tree.call("a", TTRUN=""))
+
+
+@test
+def a_copy_of_it_with_a_program_that_is_named(tree: Tree) -> None:
+    with STARTING:
+        shutil.copy2(tree.path("ttrun"), tree.bin)
+    ran = tree.call("a", command=[os.path.join(tree.bin, "ttrun")], TTRUN=named_program(tree))
+    hold(ran.output == b"<named><unset><a>", f"{ran}")
+
+
+@test
+def a_wrapper_that_is_named(tree: Tree) -> None:
+    ran = tree.call("a", TTRUN=tree.path("ttrun"))
+    hold(ran.status == 0 and ran.output == b"<a>", f"{ran}")
+    hold_runs(tree, 1)
+    hold_tried(tree.call("--try", "a", TTRUN=named_program(tree)), b"<a>")
 
 
 def faults_in(judge: Test) -> List[str]:

@@ -59,6 +59,7 @@ fi
 verb=$1
 shift
 tell "$verb $name $*"
+nice > "$FAKE_FOLDER/nice of $name"
 [ ! -t 0 ] && [ "$(head -c 1 | wc -c)" = 0 ] || tell "fault: rt was given input"
 readlink /proc/$PPID/fd/* | grep -q '/ttrun.lock$' && tell "fault: what builds holds the wrapper's lock"
 for it in "$name" $(uses "$name"); do
@@ -169,7 +170,7 @@ class Tree:
         for crate in ("tc_low", "tc_high", "tc_aside", "other", "ttrun"):
             for part, ending in (("src", "rt"), ("specs", "antt"), ("proofs", "antt"), ("must-fail", "edit")):
                 self.write(f"crates/{crate}/{part}/{part} of.{ending}", f"-- {crate} {part}\n")
-        self.write("crates/tc_high/proofs/more.antt", LARGE)
+        self.write("crates/tc_high/src/more.rt", LARGE)
         self.write("crates.txt", CRATES)
         self.program = self.path("crates/ttrun/out/ttrun")
         with STARTING:

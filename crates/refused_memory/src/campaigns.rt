@@ -1,4 +1,4 @@
-//! Test cases of one behaviour, which need no thread, and campaigns of them.
+//! Test cases of one behaviour, which need no thread, and campaigns of them; a test case of three behaviours on threads.
 ghost use Rattle.std.specs.Prelude.{All, IfOk, IfSome};
 ghost use Rattle.tc_campaign.specs.Outline.{HasNames};
 
@@ -10,12 +10,11 @@ use std::sync::Wait;
 use std::thread::Threads;
 use tc_behaviour::ScriptJob;
 use tc_book::{Halt, Pass};
-use tc_campaign::{Case, LiveWriter, Shard, choose, run_campaign, run_campaign_with};
-use tc_entry::{Name, NoMemory, UserVerdict};
-use tc_exec::{Back, CaseError, CaseReport, Job, run_case};
+use tc_campaign::{Case, LiveWriter, Shard, choose, have_all, run_campaign, run_campaign_with};
+use tc_entry::{Name, NoMemory, UserVerdict, Verdict};
+use tc_exec::{Back, CaseError, CaseReport, Everyone, Job, run_case, run_case_with};
 use tc_report::{CampaignEnd, Form, OutFault, Results};
-use tc_script::{Campaign, read_campaign};
-use tc_step::Script;
+use tc_script::{Campaign, CaseScript, Script, read_campaign};
 
 /// Two test cases of one behaviour.
 const SCRIPT: &str = "testcase first
@@ -32,6 +31,26 @@ testcase second
 behaviour main
 create pump
 running all
+setverdict pass
+end
+end
+";
+
+/// A component that is started anew keeps its verdict; each run of it is waited for.
+const RESTARTED: &str = "testcase t_fail
+behaviour main
+create p alive
+start p first
+wait done p
+start p second
+wait done p
+setverdict pass
+end
+behaviour first
+setverdict fail
+end
+behaviour second
+getverdict
 setverdict pass
 end
 end
@@ -124,7 +143,7 @@ fn answer_of_one<R: Threads + Wait + Copy + Send + 'static>(
     let mut jobs = Vec::new(alloc);
     jobs.push(Job::new(behaviour)).ok()?;
     if refuses {
-        refusal.begin();
+        refusal.begin("run_case");
     }
     let answer = run_case(rt, alloc, jobs, 0);
     if refuses {
@@ -152,6 +171,69 @@ fn run_one<R: Threads + Wait + Copy + Send + 'static>(
 ) -> Option<Outcome> {
     let wanted = answer_of_one(rt, alloc, refusal, false)?.ok()?;
     run_one_as(rt, alloc, &wanted, refusal)
+}
+
+/// What came of the run of the restarted component.
+fn restarted_as(answer: &Result<CaseReport, CaseError>) -> Outcome {
+    match answer {
+        Ok(report) => right_if(
+            report.locals.as_slice() == [Verdict::Pass, Verdict::Fail].as_slice(),
+            "a component that is started anew loses its verdict",
+        ),
+        Err(CaseError::NoMemory | CaseError::NoThread) => Outcome::Refused,
+        Err(_) => Outcome::Wrong("a test case is refused for another reason"),
+    }
+}
+
+/// Makes a job of the next script of a test case. Whether there is one, and memory for it.
+fn add_job<R: Wait + Copy + Send + 'static>(
+    rt: &R,
+    alloc: Global,
+    case: &mut CaseScript,
+    jobs: &mut Vec<ScriptJob<R>>,
+) -> bool {
+    match case.take_first() {
+        Some((_, script)) => jobs.push(ScriptJob::new(*rt, alloc, script)).is_ok(),
+        None => false,
+    }
+}
+
+/// The jobs of the three scripts of a test case. Whether there are three, and memory for them.
+fn add_jobs<R: Wait + Copy + Send + 'static>(
+    rt: &R,
+    alloc: Global,
+    case: &mut CaseScript,
+    jobs: &mut Vec<ScriptJob<R>>,
+) -> bool {
+    for _ in 0..3 {
+        if !add_job(rt, alloc, case, jobs) {
+            return false;
+        }
+    }
+    true
+}
+
+/// The test case of the restarted component.
+fn restarted(alloc: Global) -> Option<CaseScript> {
+    let mut campaign = read_campaign(alloc, RESTARTED.as_bytes()).ok()?;
+    let (_, case) = campaign.take_first()?;
+    Some(case)
+}
+
+/// The run of a test case of three behaviours on threads.
+fn run_restarted<R: Threads + Wait + Copy + Send + 'static>(
+    rt: &R,
+    alloc: Global,
+    refusal: &mut Refusal,
+) -> Option<Outcome> {
+    let mut case = restarted(alloc)?;
+    let mut jobs = Vec::new(alloc);
+    let are_made = add_jobs(rt, alloc, &mut case, &mut jobs);
+    refusal.begin("run_case_with");
+    let answer = run_case_with(rt, alloc, jobs, 2, &mut Everyone);
+    refusal.end();
+    let outcome = restarted_as(&answer);
+    if are_made { Some(outcome) } else { None }
 }
 
 /// Whether a campaign was aborted at this test case for want of memory.
@@ -194,7 +276,7 @@ fn results_of_two<R: Threads + Wait + Copy + Send + 'static>(
 ) -> Option<Results> {
     let cases = cases(rt, alloc)?;
     if refuses {
-        refusal.begin();
+        refusal.begin("run_campaign");
     }
     let results = run_campaign(rt, alloc, cases, None, 0);
     if refuses {
@@ -244,7 +326,7 @@ fn live_answer<R: Threads + Wait + Copy + Send + 'static>(
     let cases = cases(rt, alloc)?;
     let mut live = LiveWriter::new(alloc, Form::Csv, out);
     if refuses {
-        refusal.begin();
+        refusal.begin("run_campaign_with");
     }
     let answer = write_cases(rt, alloc, cases, &mut live);
     if refuses {
@@ -273,17 +355,6 @@ fn live_as(answer: &LiveAnswer, out: &[u8], status: u8, wanted: &[u8]) -> Outcom
     }
 }
 
-/// The status of a campaign that is written to this.
-fn live_status<R: Threads + Wait + Copy + Send + 'static>(
-    rt: &R,
-    alloc: Global,
-    out: &mut Vec<u8>,
-    refusal: &mut Refusal,
-) -> Option<u8> {
-    let (_, status) = live_answer(rt, alloc, out, refusal, false)?.ok()?;
-    Some(status)
-}
-
 /// The run of a campaign that is written to this as its test cases finish, beside one that is refused nothing.
 fn run_live_beside<R: Threads + Wait + Copy + Send + 'static>(
     rt: &R,
@@ -292,7 +363,7 @@ fn run_live_beside<R: Threads + Wait + Copy + Send + 'static>(
     wanted: &mut Vec<u8>,
     refusal: &mut Refusal,
 ) -> Option<Outcome> {
-    let status = live_status(rt, alloc, wanted, refusal)?;
+    let (_, status) = live_answer(rt, alloc, wanted, refusal, false)?.ok()?;
     let answer = live_answer(rt, alloc, out, refusal, true)?;
     Some(live_as(&answer, out.as_slice(), status, wanted.as_slice()))
 }
@@ -338,13 +409,36 @@ fn choose_shard<R: Threads + Wait + Copy + Send + 'static>(
 ) -> Option<Outcome> {
     let (shard, wanted) = Shard::new(2, 2).zip(Name::read("second"))?;
     let cases = cases(rt, alloc)?;
-    refusal.begin();
+    refusal.begin("choose");
     let answer = choose(alloc, cases, &[], Some(shard));
     refusal.end();
     Some(chosen_as(&answer, &wanted))
 }
 
-/// The run of a test case and of a campaign, one that is written live, and the choice of a shard.
+/// Whether these test cases have all of these names.
+fn hold_names<R: Wait + Copy + Send + 'static>(
+    told: &mut Refusal,
+    cases: &[Case<ScriptJob<R>>],
+    only: &[Name],
+) -> Outcome {
+    told.begin_each("");
+    told.holds("have_all", have_all(cases, only));
+    told.end();
+    told.held()
+}
+
+/// What is asked of test cases before they are run.
+pub(crate) fn ask<R: Wait + Copy + Send + 'static>(
+    rt: &R,
+    alloc: Global,
+    told: &mut Refusal,
+) -> Option<Outcome> {
+    let name = Name::read("second")?;
+    let cases = cases(rt, alloc)?;
+    Some(hold_names(told, cases.as_slice(), &[name]))
+}
+
+/// The runs of test cases of one and of three behaviours, and of campaigns, one that is written live; the choice of a shard.
 pub(crate) fn run<R: Threads + Wait + Copy + Send + 'static>(
     rt: &R,
     alloc: Global,
@@ -356,6 +450,7 @@ pub(crate) fn run<R: Threads + Wait + Copy + Send + 'static>(
         1 => run_kept(rt, alloc, refusal),
         2 => run_live(rt, alloc, refusal),
         3 => choose_shard(rt, alloc, refusal),
+        4 => run_restarted(rt, alloc, refusal),
         _ => None,
     }
 }

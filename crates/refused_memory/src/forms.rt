@@ -4,18 +4,18 @@ use crate::outcome::{Outcome, refused_if, right_if};
 use crate::refusal::Refusal;
 use crate::results::{blocks, finished, results};
 use std::alloc::Global;
-use tc_entry::{Entry, NoMemory};
+use tc_book::CloseFault;
+use tc_entry::{Entry, NoMemory, Sequence, Verdict};
+use tc_exec::CaseError;
 use tc_history::Block;
-use tc_page::html_page;
 use tc_report::{
-    Finished, OutFault, Results, Summary, csv_report, junit_report, summaries_of_results,
-    summary_of_case, summary_of_state, write_csv, write_history, write_junit, write_text,
+    Finished, OutFault, Results, Summary, csv_report, junit_report, status_of,
+    summaries_of_results, summary_of_case, summary_of_state, tally, verdict_status, worst_status,
+    write_csv, write_history, write_junit, write_text,
 };
 use tc_table::CaseState;
 
 const VERSION: &str = "1";
-
-const HISTORY: &[u8] = b"history 2 t 1\n0 setverdict pass -> ok\n0 finish -> ok\nend pass\n";
 
 /// Plays these entries on a state, up to one that is refused. Whether none was.
 fn play_all(state: &mut CaseState, entries: &[Entry]) -> bool {
@@ -34,18 +34,14 @@ fn summary_of_block(alloc: Global, block: &Block) -> Option<Summary> {
     summary_of_state(alloc, &block.name, &state).ok()
 }
 
-/// Adds the summary of a history. Whether there was memory for it.
-fn add_summary(alloc: Global, block: &Block, cases: &mut Vec<Summary>) -> bool {
-    match summary_of_block(alloc, block) {
-        Some(summary) => cases.push(summary).is_ok(),
-        None => false,
-    }
-}
-
 /// Adds the summaries of these histories. Whether there was memory for them.
 fn add_summaries(alloc: Global, blocks: &[Block], cases: &mut Vec<Summary>) -> bool {
     for block in blocks {
-        if !add_summary(alloc, block, cases) {
+        let is_added = match summary_of_block(alloc, block) {
+            Some(summary) => cases.push(summary).is_ok(),
+            None => false,
+        };
+        if !is_added {
             return false;
         }
     }
@@ -56,14 +52,13 @@ fn add_summaries(alloc: Global, blocks: &[Block], cases: &mut Vec<Summary>) -> b
 fn text(alloc: Global, place: usize, cases: &[Summary]) -> Result<Vec<u8>, NoMemory> {
     match place {
         0 => csv_report(alloc, cases),
-        1 => junit_report(alloc, VERSION, cases),
-        _ => html_page(alloc, HISTORY),
+        _ => junit_report(alloc, VERSION, cases),
     }
 }
 
 /// The form of these histories in this place.
 fn make_text(alloc: Global, place: usize, cases: &[Summary], refusal: &mut Refusal) -> Outcome {
-    refusal.begin();
+    refusal.begin("csv_report junit_report");
     let answer = text(alloc, place, cases);
     refusal.end();
     judged(answer, text(alloc, place, cases), "a form is another")
@@ -107,7 +102,7 @@ fn write_beside(
     refusal: &mut Refusal,
 ) -> Outcome {
     let ample = write(alloc, place, results, wanted);
-    refusal.begin();
+    refusal.begin("write_junit write_text write_csv write_history");
     let answer = write(alloc, place, results, out);
     refusal.end();
     match answer {
@@ -138,7 +133,7 @@ const OTHER: &str = "a summary is another";
 
 /// The summary of a state under the name of a history.
 fn make_summary(alloc: Global, block: &Block, state: &CaseState, refusal: &mut Refusal) -> Outcome {
-    refusal.begin();
+    refusal.begin("summary_of_state");
     let answer = summary_of_state(alloc, &block.name, state);
     refusal.end();
     judged(answer, summary_of_state(alloc, &block.name, state), OTHER)
@@ -158,7 +153,7 @@ fn make_summary_behind(alloc: Global, block: &Block, refusal: &mut Refusal) -> O
 
 /// The summary of a test case.
 fn make_case_summary(alloc: Global, case: &Finished, refusal: &mut Refusal) -> Outcome {
-    refusal.begin();
+    refusal.begin("summary_of_case");
     let answer = summary_of_case(alloc, case);
     refusal.end();
     judged(answer, summary_of_case(alloc, case), OTHER)
@@ -166,7 +161,7 @@ fn make_case_summary(alloc: Global, case: &Finished, refusal: &mut Refusal) -> O
 
 /// The summaries of results.
 fn make_summaries(alloc: Global, results: &Results, refusal: &mut Refusal) -> Outcome {
-    refusal.begin();
+    refusal.begin("summaries_of_results");
     let answer = summaries_of_results(alloc, results);
     refusal.end();
     judged(answer, summaries_of_results(alloc, results), OTHER)
@@ -201,9 +196,31 @@ fn make_of_case(alloc: Global, refusal: &mut Refusal) -> Option<Outcome> {
 /// Each of the forms of histories and of results, the summaries of a state, of results and of a test case.
 pub(crate) fn make(alloc: Global, place: usize, refusal: &mut Refusal) -> Option<Outcome> {
     match place {
-        0..=3 => make_of_blocks(alloc, place, refusal),
-        4..=8 => make_of_results(alloc, place - 4, refusal),
-        9 => make_of_case(alloc, refusal),
+        0..=2 => make_of_blocks(alloc, place, refusal),
+        3..=7 => make_of_results(alloc, place - 3, refusal),
+        8 => make_of_case(alloc, refusal),
         _ => None,
     }
+}
+
+/// What is asked of these results, and of the list of no bytes.
+fn hold_results(told: &mut Refusal, results: &Results, list: Vec<u8>) -> Outcome {
+    told.begin_each("Sequence::new");
+    told.holds("tally", tally(results).fail == 1);
+    told.holds("status_of", status_of(results) == 3);
+    told.holds("worst_status", worst_status(&[]) == 0);
+    told.holds("verdict_status", verdict_status(Verdict::Error) == 2);
+    told.holds("OutFault::text", !OutFault::NoMemory.text().is_empty());
+    told.holds("CaseError::text", !CaseError::Torn.text().is_empty());
+    told.holds("CloseFault::text", !CloseFault::Torn.text().is_empty());
+    let list = Sequence::new(list);
+    told.holds("Sequence::as_slice", list.as_slice().is_empty());
+    told.end();
+    told.held()
+}
+
+/// What is asked of results.
+pub(crate) fn ask(alloc: Global, told: &mut Refusal) -> Option<Outcome> {
+    let results = results(alloc)?;
+    Some(hold_results(told, &results, Vec::new(alloc)))
 }

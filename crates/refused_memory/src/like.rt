@@ -76,6 +76,7 @@ impl Like for MoveList {
 /// Whether two tables tell the same of a component.
 fn are_alike_at(left: &Table, right: &Table, comp: Comp) -> bool {
     left.phase_of(comp) == right.phase_of(comp)
+        && left.is_alive_type(comp) == right.is_alive_type(comp)
         && left.local(comp) == right.local(comp)
         && left.last_run(comp) == right.last_run(comp)
 }
@@ -87,6 +88,7 @@ impl Like for Table {
             && self.overall() == other.overall()
             && self.is_over() == other.is_over()
             && self.behaviours() == other.behaviours()
+            && (0..8).all(|run| self.is_active(Run(run)) == other.is_active(Run(run)))
             && are_like(self.history(), other.history())
     }
 }
@@ -109,6 +111,7 @@ impl Like for CaseState {
             && self.overall() == other.overall()
             && self.is_over() == other.is_over()
             && self.behaviours() == other.behaviours()
+            && (0..8).all(|run| self.is_active(Run(run)) == other.is_active(Run(run)))
     }
 }
 

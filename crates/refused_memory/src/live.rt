@@ -58,7 +58,7 @@ fn write_refused(
     refusal: &mut Refusal,
 ) -> Result<u8, OutFault> {
     let mut case = finished(alloc);
-    refusal.begin();
+    refusal.begin("LiveWriter::begin LiveWriter::end");
     let answer = write(live, place, &mut case);
     refusal.end();
     answer

@@ -6,8 +6,10 @@
 mod books;
 mod campaigns;
 mod forms;
+mod leaving;
 mod like;
 mod live;
+mod opening;
 mod outcome;
 mod quiet;
 mod refusal;
@@ -16,6 +18,7 @@ mod runs;
 mod searches;
 mod tables;
 mod texts;
+mod values;
 
 use crate::outcome::{Outcome, Sum};
 use crate::refusal::Refusal;
@@ -45,12 +48,13 @@ enum Kind {
     NewBoard,
     Open,
     Call,
+    LastCall,
     Close,
     Run,
     Quiet,
 }
 
-const KINDS: [(Kind, &str); 19] = [
+const KINDS: [(Kind, &str); 20] = [
     (Kind::NewTable, "tables"),
     (Kind::Play, "moves on a table"),
     (Kind::MakeRoom, "room on a table"),
@@ -67,6 +71,7 @@ const KINDS: [(Kind, &str); 19] = [
     (Kind::NewBoard, "boards"),
     (Kind::Open, "opened cases"),
     (Kind::Call, "calls on a pass"),
+    (Kind::LastCall, "last calls on a pass"),
     (Kind::Close, "closed cases"),
     (Kind::Run, "runs and campaigns"),
     (Kind::Quiet, "calls that take no memory"),
@@ -97,12 +102,13 @@ fn make<R: Threads + Wait + Copy + Send + 'static>(
         Kind::Form => forms::make(alloc, place, refusal),
         Kind::Live => live::make(alloc, place, refusal),
         Kind::Search => searches::make(alloc, place, refusal),
-        Kind::NewBoard => books::new_board(alloc, place, refusal),
-        Kind::Open => books::open(alloc, place, refusal),
+        Kind::NewBoard => opening::new_board(alloc, place, refusal),
+        Kind::Open => opening::open(alloc, place, refusal),
         Kind::Call => books::call(rt, alloc, place, refusal),
+        Kind::LastCall => books::call_last(rt, alloc, place, refusal),
         Kind::Close => books::close(rt, alloc, place, refusal),
         Kind::Run => campaigns::run(rt, alloc, place, refusal),
-        Kind::Quiet => quiet::call_unfed(rt, alloc, place, refusal),
+        Kind::Quiet => quiet::call(rt, alloc, place, refusal),
     }
 }
 
@@ -120,12 +126,13 @@ fn sweep<R: Threads + Wait + Copy + Send + 'static>(
         let Some(outcome) = make(rt, alloc, kind, place, refusal) else {
             return false;
         };
-        sum.count(outcome, refusal.was_met());
+        sum.count(refusal.call(), outcome, refusal.was_met());
         if !refusal.was_met() {
             return true;
         }
     }
-    sum.count(Outcome::Wrong("it is refused for ever"), true);
+    let endless = Outcome::Wrong("it is refused for ever");
+    sum.count(refusal.call(), endless, true);
     true
 }
 
@@ -155,7 +162,7 @@ fn tell_counts<R: Eprint>(rt: &R, name: &str, sum: &Sum) -> io::Result<()> {
 /// Prints on standard output what came of the calls of a kind.
 fn tell_outcome<R: Print>(rt: &R, name: &str, sum: &Sum) -> io::Result<()> {
     match sum.wrong {
-        Some(why) => println!(rt; "{name}: {why}"),
+        Some((call, why)) => println!(rt; "{name}: {call}: {why}"),
         None => println!(rt; "{name}: right"),
     }
 }

@@ -36,25 +36,25 @@ pub struct Sum {
     pub refused: u64,
     /// A growth was refused, and the call answered as with ample memory.
     pub absorbed: u64,
-    /// Why the first that was wrong was.
-    pub wrong: Option<&'static str>,
+    /// The first that was wrong, and why.
+    pub wrong: Option<(&'static str, &'static str)>,
 }
 
 impl Sum {
     /// Counts an outcome; nothing may be told as refused where nothing was.
-    pub(crate) fn count(&mut self, outcome: Outcome, was_refused: bool) {
+    pub(crate) fn count(&mut self, call: &'static str, outcome: Outcome, was_refused: bool) {
         match outcome {
             Outcome::Right if was_refused => self.absorbed = self.absorbed.saturating_add(1),
             Outcome::Right => {}
             Outcome::Refused if was_refused => self.refused = self.refused.saturating_add(1),
-            Outcome::Refused => self.find("it is refused where memory was given"),
-            Outcome::Wrong(why) => self.find(why),
+            Outcome::Refused => self.find(call, "it is refused where memory was given"),
+            Outcome::Wrong(why) => self.find(call, why),
         }
     }
 
-    fn find(&mut self, why: &'static str) {
+    fn find(&mut self, call: &'static str, why: &'static str) {
         if self.wrong.is_none() {
-            self.wrong = Some(why);
+            self.wrong = Some((call, why));
         }
     }
 }

@@ -4,26 +4,39 @@ ghost use Rattle.tc_board.specs.Board.{new_hands, new_keeper};
 
 use crate::outcome::{Outcome, right_if};
 use crate::refusal::Refusal;
-use crate::{books, runs, tables, texts};
+use crate::results::blocks;
+use crate::values::hold_values;
+use crate::{campaigns, forms, leaving, runs, tables, texts};
 use std::alloc::Global;
 use std::sync::{Arc, Wait};
 use std::thread::Threads;
-use tc_board::{Board, Hand, Keeper, Said};
+use tc_board::{Board, Hand, Keeper, Record, Said};
 use tc_book::laws::Book;
-use tc_entry::{Args, Comp, Op, Reply, Run, Target, UserVerdict};
+use tc_entry::{Args, Comp, Entry, Op, Reply, Run, Target, UserVerdict};
+
+/// What came of a call, which is wrong if it asked for memory.
+fn unfed(outcome: Option<Outcome>, refusal: &Refusal) -> Option<Outcome> {
+    match outcome {
+        Some(Outcome::Right) if refusal.was_met() => Some(Outcome::Wrong(
+            "a call that takes no memory asks for it, and is right without",
+        )),
+        Some(Outcome::Refused) => Some(Outcome::Wrong("a call that takes no memory is refused it")),
+        _ => outcome,
+    }
+}
 
 /// The call in a place.
-fn call<R: Threads + Wait + Copy + Send + 'static>(
+fn call_in<R: Threads + Wait + Copy + Send + 'static>(
     rt: &R,
     alloc: Global,
     place: usize,
     refusal: &mut Refusal,
 ) -> Option<Outcome> {
     match place {
-        0 => books::leave(rt, alloc, refusal),
-        1 => books::leave_ended(rt, alloc, refusal),
-        2 => books::call_ended(rt, alloc, refusal),
-        3 => books::await_starts(rt, alloc, refusal),
+        0 => leaving::leave(rt, alloc, refusal),
+        1 => leaving::leave_ended(rt, alloc, refusal),
+        2 => leaving::call_ended(rt, alloc, refusal),
+        3 => leaving::await_starts(rt, alloc, refusal),
         4 => wake(alloc, false, refusal),
         5 => wake(alloc, true, refusal),
         6 => hands(alloc, false, refusal),
@@ -32,25 +45,37 @@ fn call<R: Threads + Wait + Copy + Send + 'static>(
         9 => texts::take_all(alloc, refusal),
         10..=12 => runs::run_refused(rt, alloc, place - 10, refusal),
         13 => Some(runs::run_no_case(rt, alloc, refusal)),
+        14 => leaving::ask(rt, alloc, refusal),
+        15 => tables::ask(alloc, refusal),
+        16 => values(alloc, refusal),
+        17 => forms::ask(alloc, refusal),
+        18 => campaigns::ask(rt, alloc, refusal),
         _ => None,
     }
 }
 
-/// Whether that was right, and asked for no memory.
-pub(crate) fn call_unfed<R: Threads + Wait + Copy + Send + 'static>(
+/// The calls on values, and on these entries.
+fn hold(entries: &[Entry], refusal: &mut Refusal) -> Outcome {
+    refusal.begin_each("");
+    hold_values(refusal, entries);
+    refusal.end();
+    refusal.held()
+}
+
+/// The calls on values, and on the entries of a history.
+fn values(alloc: Global, refusal: &mut Refusal) -> Option<Outcome> {
+    let blocks = blocks(alloc)?;
+    Some(hold(blocks.first()?.entries.as_slice(), refusal))
+}
+
+/// The call in a place, which is to ask for no memory.
+pub(crate) fn call<R: Threads + Wait + Copy + Send + 'static>(
     rt: &R,
     alloc: Global,
     place: usize,
     refusal: &mut Refusal,
 ) -> Option<Outcome> {
-    let outcome = call(rt, alloc, place, refusal)?;
-    Some(match outcome {
-        Outcome::Right if refusal.was_met() => {
-            Outcome::Wrong("a call that takes no memory asks for it, and is right without")
-        }
-        Outcome::Refused => Outcome::Wrong("a call that takes no memory is refused it"),
-        Outcome::Right | Outcome::Wrong(_) => outcome,
-    })
+    unfed(call_in(rt, alloc, place, refusal), refusal)
 }
 
 const CREATE: Op = Op::Create {
@@ -89,7 +114,9 @@ fn create_and_wait(book: &mut Book, starts: bool) -> Option<Reply> {
 
 /// What comes of the wake of a wait that is stuck, and of the leave of its run.
 fn wake_stuck(book: &mut Book, refusal: &mut Refusal) -> Outcome {
-    refusal.begin_each();
+    refusal.begin_each("Book::wake Book::leave");
+    refusal.holds("Book::start_of", book.start_of(Run(1)).is_none());
+    refusal.holds("Book::word_of", book.word_of(Run(1)) == Record::Unbegun);
     let woken = book.wake(Run(0), false, FIRST);
     let left = book.leave(Run(0), true);
     refusal.end();
@@ -101,14 +128,14 @@ fn wake_stuck(book: &mut Book, refusal: &mut Refusal) -> Outcome {
 
 /// What comes of the wakes of a wait that goes on waiting, and then is matched, and of the leave of the run that it waited for.
 fn wake_matched(book: &mut Book, refusal: &mut Refusal) -> Outcome {
-    refusal.begin_each();
+    refusal.begin_each("Book::wake Book::leave Book::call_wake");
     let asleep = book.wake(Run(0), false, FIRST);
     let left = book.leave(Run(1), false);
-    let woken = book.wake(Run(0), false, FIRST);
+    let woken = book.call_wake(Run(0), false, FIRST);
     refusal.end();
     let is_right = matches!(
         (asleep, left, woken),
-        (None, Some(Some(Reply::Ok)), Some(Reply::Matched))
+        (None, Some(Some(Reply::Ok)), Some((Reply::Matched, _)))
     );
     right_if(is_right, "a matched wait is woken otherwise")
 }
@@ -144,7 +171,7 @@ fn set_and_get(
     requires one { one.old.board ≡ board.now }
     requires zero { zero.old.board ≡ board.now }
 {
-    refusal.begin_each();
+    refusal.begin_each("Hand::meet Hand::set Hand::get Keeper::begin Keeper::close");
     let is_early = one.meet(board);
     keeper.begin(board, Run(1), UserVerdict::None);
     let is_heard = one.meet(board)
@@ -172,7 +199,7 @@ fn set_late(
     requires zero { zero.board ≡ board.now }
 {
     let mut one = one;
-    refusal.begin_each();
+    refusal.begin_each("Hand::meet Hand::set Hand::get Keeper::begin Keeper::close Keeper::gather");
     keeper.begin(board, Run(1), UserVerdict::Fail);
     let closed = keeper.close(board, Run(1));
     let is_late = one.meet(board)

@@ -1,4 +1,5 @@
 //! Which growth of memory is refused to a call. The library that refuses is told by growths that nothing else asks for.
+use crate::outcome::{Outcome, right_if};
 use std::alloc::Global;
 
 /// What is asked for in a growth that ends all refusals. It is given only where none was refused since the last was begun.
@@ -14,6 +15,8 @@ pub struct Refusal {
     is_heard: bool,
     told: usize,
     is_met: bool,
+    call: &'static str,
+    is_wrong: bool,
 }
 
 /// So many bytes, where they are given. Not inline, so that the growth is not taken for one that nothing needs.
@@ -38,6 +41,8 @@ impl Refusal {
             is_heard: is_heard(alloc),
             told: MARK + 1,
             is_met: false,
+            call: "",
+            is_wrong: false,
         }
     }
 
@@ -50,15 +55,18 @@ impl Refusal {
     pub(crate) fn set(&mut self, number: u16) {
         self.told = MARK + 1 + usize::from(number);
         self.is_met = false;
+        self.is_wrong = false;
     }
 
-    /// The growths from here on are counted; the one that is meant is refused.
-    pub(crate) fn begin(&self) {
+    /// The growths from here on are counted; the one that is meant is refused to these calls.
+    pub(crate) fn begin(&mut self, calls: &'static str) {
+        self.call = calls;
         self.tell(self.told);
     }
 
-    /// Each growth from here on is refused.
-    pub(crate) fn begin_each(&self) {
+    /// Each growth from here on is refused to these calls.
+    pub(crate) fn begin_each(&mut self, calls: &'static str) {
+        self.call = calls;
         self.tell(MARK + 1 + EACH);
     }
 
@@ -79,5 +87,26 @@ impl Refusal {
     /// Whether a growth was refused between a begin and its end.
     pub(crate) fn was_met(&self) -> bool {
         self.is_met
+    }
+
+    /// The calls to which memory was refused last, or the first that answered otherwise.
+    pub(crate) fn call(&self) -> &'static str {
+        self.call
+    }
+
+    /// Takes in whether a call answered as it should.
+    pub(crate) fn holds(&mut self, call: &'static str, is_right: bool) {
+        if !is_right && !self.is_wrong {
+            self.call = call;
+            self.is_wrong = true;
+        }
+    }
+
+    /// What came of the calls that were taken in, none of which may have asked for memory.
+    pub(crate) fn held(&self) -> Outcome {
+        right_if(
+            !self.is_wrong && !self.is_met,
+            "it answers otherwise, or asks for memory",
+        )
     }
 }

@@ -41,9 +41,12 @@ fn answer_of_idle<R: Threads + Wait + Copy + Send + 'static>(
             alloc,
             |pass: Pass| Back::after(pass, Ok(())),
         ).ok()?;
-        jobs.push(Job::new(idle)).ok()?;
+        refusal.begin_each("Job::new");
+        let job = Job::new(idle);
+        refusal.end();
+        jobs.push(job).ok()?;
     }
-    refusal.begin_each();
+    refusal.begin_each("run_case");
     let answer = run_case(rt, alloc, jobs, workers);
     refusal.end();
     Some(answer)
@@ -73,7 +76,7 @@ pub(crate) fn run_no_case<R: Threads + Wait + Copy + Send + 'static>(
     refusal: &mut Refusal,
 ) -> Outcome {
     let cases: Vec<Case> = Vec::new(alloc);
-    refusal.begin_each();
+    refusal.begin_each("run_campaign");
     let results = run_campaign(rt, alloc, cases, None, 1);
     refusal.end();
     right_if(

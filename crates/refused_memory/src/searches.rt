@@ -10,8 +10,7 @@ use crate::texts::{HEAD, appended};
 use std::alloc::Global;
 use tc_entry::{BEHAVIOURS, Name, NoMemory};
 use tc_explore::{Explored, explore};
-use tc_script::{CaseScript, read_campaign};
-use tc_step::Script;
+use tc_script::{CaseScript, Script, read_campaign};
 
 /// A test case of two verdicts, in which two runs may wait in vain, with a step that is never carried out.
 const RACE: &str = "testcase race
@@ -67,10 +66,18 @@ fn add_scripts(case: &mut CaseScript, scripts: &mut Vec<Script>) -> bool {
 fn search(alloc: Global, scripts: &[Script], wanted: &Explored, refusal: &mut Refusal) -> Outcome
     requires { length scripts.now ≤ BEHAVIOURS }
 {
-    refusal.begin();
+    refusal.begin("explore");
     let answer = explore(alloc, scripts, STATES);
     refusal.end();
     answered_as(&answer, wanted, "a search finds something else")
+}
+
+/// What is asked of what was found.
+fn ask(explored: &Explored, told: &mut Refusal) -> Outcome {
+    told.begin_each("");
+    told.holds("Explored::status", explored.status() == 1);
+    told.end();
+    told.held()
 }
 
 /// What is told of a search.
@@ -116,7 +123,7 @@ fn tell(
     requires legal { AreLegalOf (length scripts.now) explored.now.found }
 {
     let _ = append(alloc, wanted, told, scripts, explored);
-    refusal.begin();
+    refusal.begin("Explored::append_line Explored::append_witnesses Explored::append_details");
     let answer = append(alloc, out, told, scripts, explored);
     refusal.end();
     appended(answer, out.as_slice(), wanted.as_slice())
@@ -161,6 +168,7 @@ fn make_of(
         1 => tell_of(alloc, Told::Line, scripts, explored, refusal),
         2 => tell_of(alloc, Told::Witnesses, scripts, explored, refusal),
         3 => tell_of(alloc, Told::Details, scripts, explored, refusal),
+        4 => Some(ask(explored, refusal)),
         _ => None,
     }
 }
@@ -179,24 +187,13 @@ fn make_on(
     make_of(alloc, scripts, &explored, place, refusal)
 }
 
-/// The call in a place, on the scripts of this test case.
-fn make_in(
-    alloc: Global,
-    case: &mut CaseScript,
-    scripts: &mut Vec<Script>,
-    place: usize,
-    refusal: &mut Refusal,
-) -> Option<Outcome> {
-    if add_scripts(case, scripts) {
+/// The search, its line, its witnesses and its details, and what is asked of it.
+pub(crate) fn make(alloc: Global, place: usize, refusal: &mut Refusal) -> Option<Outcome> {
+    let mut case = race(alloc)?;
+    let mut scripts = Vec::new(alloc);
+    if add_scripts(&mut case, &mut scripts) {
         make_on(alloc, scripts.as_slice(), place, refusal)
     } else {
         None
     }
-}
-
-/// The search, and its line, its witnesses and its details.
-pub(crate) fn make(alloc: Global, place: usize, refusal: &mut Refusal) -> Option<Outcome> {
-    let mut case = race(alloc)?;
-    let mut scripts = Vec::new(alloc);
-    make_in(alloc, &mut case, &mut scripts, place, refusal)
 }

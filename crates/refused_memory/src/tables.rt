@@ -154,7 +154,7 @@ pub(crate) fn open<T: Plays + Drop>(
     refusal: &mut Refusal,
 ) -> Option<Outcome> {
     let behaviours = behaviours_in(place)?;
-    refusal.begin();
+    refusal.begin("Table::new CaseState::new");
     let answer = T::begin(alloc, behaviours);
     refusal.end();
     Some(judged(answer, T::begin(alloc, behaviours), "a new case is another"))
@@ -169,7 +169,7 @@ fn play_beside<T: Plays>(
     refusal: &mut Refusal,
 ) -> Outcome {
     let wanted = Ok(other.would(run, op));
-    refusal.begin();
+    refusal.begin("Table::play CaseState::play");
     let reply = on.play(run, op);
     refusal.end();
     if reply.is_ok() {
@@ -209,7 +209,7 @@ pub(crate) fn play<T: Plays + Drop>(
 
 /// A copy.
 fn copy_one<T: Plays + Drop>(alloc: Global, one: &T, refusal: &mut Refusal) -> Outcome {
-    refusal.begin();
+    refusal.begin("Table::copied CaseState::copied");
     let answer = one.copied(alloc);
     refusal.end();
     answered_as(&answer, one, "a copy is another")
@@ -228,7 +228,7 @@ fn make_room_beside(
     more: usize,
     refusal: &mut Refusal,
 ) -> Outcome {
-    refusal.begin();
+    refusal.begin("Table::make_room");
     let made = table.make_room(more);
     refusal.end();
     let is_kept = table.is_like(other) && table.room() >= other.room();
@@ -260,7 +260,7 @@ fn history_in(entries: &[Entry], place: usize) -> Option<&[Entry]> {
 
 /// The check of a history.
 fn check_one(alloc: Global, checked: &[Entry], refusal: &mut Refusal) -> Outcome {
-    refusal.begin();
+    refusal.begin("replay_check");
     let answer = replay_check(alloc, BEHAVIOURS as u16, checked);
     refusal.end();
     let ample = replay_check(alloc, BEHAVIOURS as u16, checked);
@@ -269,7 +269,7 @@ fn check_one(alloc: Global, checked: &[Entry], refusal: &mut Refusal) -> Outcome
 
 /// The replay of a history.
 fn replay_one(alloc: Global, checked: &[Entry], refusal: &mut Refusal) -> Outcome {
-    refusal.begin();
+    refusal.begin("tc_table::replay");
     let answer = replay(alloc, BEHAVIOURS as u16, checked);
     refusal.end();
     let ample = replay(alloc, BEHAVIOURS as u16, checked);
@@ -319,7 +319,7 @@ fn copied_as(answer: &Result<Vec<Entry>, NoMemory>, entries: &[Entry]) -> Outcom
 
 /// A copy of these entries.
 fn copy_entries(alloc: Global, entries: &[Entry], refusal: &mut Refusal) -> Outcome {
-    refusal.begin();
+    refusal.begin("copied_entries");
     let answer = copied_entries(alloc, entries);
     refusal.end();
     copied_as(&answer, entries)
@@ -333,7 +333,7 @@ fn push_last(
     last: &Entry,
     refusal: &mut Refusal,
 ) -> Outcome {
-    refusal.begin();
+    refusal.begin("Sequence::push");
     let answer = entries.push(last.copy());
     refusal.end();
     if answer.is_ok() {
@@ -394,7 +394,7 @@ fn play_one_in_room(table: &mut Table, run: Run, op: &Op, refusal: &mut Refusal)
         return Some(table.play(run, op.copy()) == wanted);
     }
     table.make_room(1).ok()?;
-    refusal.begin_each();
+    refusal.begin_each("Table::play Table::make_room");
     let reply = table.play(run, op.copy());
     let is_made = table.make_room(0).is_ok();
     refusal.end();
@@ -435,4 +435,63 @@ fn play_these_in_room(
 pub(crate) fn play_in_room(alloc: Global, refusal: &mut Refusal) -> Option<Outcome> {
     let list = moves(alloc)?;
     play_these_in_room(alloc, list.moves.as_slice(), refusal)
+}
+
+/// What is asked of a table and of a state behind the same moves, of which one more would be replied so.
+fn hold_replies(told: &mut Refusal, table: &Table, state: &CaseState, moves: &[(Run, Op)]) {
+    for (run, op) in moves {
+        told.holds(
+            "Table::would",
+            table.would(*run, op) == state.would(*run, op),
+        );
+    }
+}
+
+/// What is asked of two tables and of two states behind the same moves.
+fn hold_alike(told: &mut Refusal, tables: (&Table, &Table), states: (&CaseState, &CaseState)) {
+    let (one, other) = tables;
+    told.holds(
+        "Table::history",
+        one.is_like(other) && one.history().len() == other.history().len(),
+    );
+    told.holds("Table::room", one.room() == other.room());
+    let (one, other) = states;
+    told.holds(
+        "CaseState::overall",
+        one.is_like(other) && one.overall() == other.overall(),
+    );
+}
+
+/// What is asked of tables and states.
+fn ask_all(
+    tables: (&Table, &Table),
+    states: (&CaseState, &CaseState),
+    moves: &[(Run, Op)],
+    told: &mut Refusal,
+) -> Outcome {
+    told.begin_each(
+        "\
+Table::phase_of Table::local Table::last_run Table::is_alive_type Table::is_active \
+Table::components Table::overall Table::is_over Table::behaviours \
+CaseState::phase_of CaseState::local CaseState::last_run CaseState::is_alive_type \
+CaseState::is_active CaseState::components CaseState::is_over CaseState::behaviours \
+CaseState::would",
+    );
+    hold_alike(told, tables, states);
+    hold_replies(told, tables.0, states.0, moves);
+    told.end();
+    told.held()
+}
+
+/// What is asked of tables and states behind these moves.
+fn ask_behind(alloc: Global, moves: &[(Run, Op)], told: &mut Refusal) -> Option<Outcome> {
+    let (one, other): (Table, Table) = played(alloc, moves).zip(played(alloc, moves))?;
+    let (state, copy): (CaseState, CaseState) = played(alloc, moves).zip(played(alloc, moves))?;
+    Some(ask_all((&one, &other), (&state, &copy), moves, told))
+}
+
+/// What is asked of tables and states behind the first moves.
+pub(crate) fn ask(alloc: Global, told: &mut Refusal) -> Option<Outcome> {
+    let list = moves(alloc)?;
+    ask_behind(alloc, list.moves.as_slice().get(..12)?, told)
 }

@@ -6,11 +6,9 @@ use crate::tables::{MOVES, moves};
 use std::alloc::Global;
 use tc_entry::{Entry, Fault, Name, NoMemory, Op, Reply, Run, Verdict};
 use tc_exec::CaseError;
-use tc_explain::{Refusal as Refused, explain};
 use tc_history::{read_history, write_block};
 use tc_report::{append_aborted, append_verdict};
-use tc_script::{Campaign, CaseScript, ReadFault, ScriptKind, read_campaign};
-use tc_step::Script;
+use tc_script::{Campaign, CaseScript, ReadFault, Script, read_campaign};
 use tc_stream::{InputFault, read_input};
 use tc_text::{append_number, append_text, read_moves, write_move, write_op, write_reply};
 
@@ -27,14 +25,6 @@ history 2 second 200
 0 create alive named pump -> made 1
 0 stopcase -> ok
 end error
-";
-
-/// A script whose third line has a misspelt keyword.
-const MISSPELT: &str = "testcase first
-behaviour main
-setverdct pass
-end
-end
 ";
 
 /// Two test cases, with a step of each kind.
@@ -133,34 +123,17 @@ fn are_like_campaigns(left: &mut Campaign, right: &mut Campaign) -> bool {
 const READ: &str = "a text is read otherwise";
 
 fn read_list(alloc: Global, refusal: &mut Refusal) -> Outcome {
-    refusal.begin();
+    refusal.begin("read_moves");
     let answer = read_moves(alloc, MOVES.as_bytes());
     refusal.end();
     judged(answer, read_moves(alloc, MOVES.as_bytes()), READ)
 }
 
 fn read_blocks(alloc: Global, refusal: &mut Refusal) -> Outcome {
-    refusal.begin();
+    refusal.begin("read_history");
     let answer = read_history(alloc, HISTORIES.as_bytes());
     refusal.end();
     judged(answer, read_history(alloc, HISTORIES.as_bytes()), READ)
-}
-
-/// The explanation of the misspelt script.
-fn explained(alloc: Global) -> Result<Vec<u8>, NoMemory> {
-    explain(
-        alloc,
-        MISSPELT.as_bytes(),
-        3,
-        Refused::Script(ScriptKind::BadLine),
-    )
-}
-
-fn explain_script(alloc: Global, refusal: &mut Refusal) -> Outcome {
-    refusal.begin();
-    let answer = explained(alloc);
-    refusal.end();
-    judged(answer, explained(alloc), "a text is explained otherwise")
 }
 
 /// The campaign of the script.
@@ -180,7 +153,7 @@ fn campaign_as(answer: &mut Result<Campaign, ReadFault>, wanted: &mut Campaign) 
 
 fn read_script(alloc: Global, refusal: &mut Refusal) -> Option<Outcome> {
     let mut wanted = campaign(alloc).ok()?;
-    refusal.begin();
+    refusal.begin("read_campaign");
     let mut answer = campaign(alloc);
     refusal.end();
     Some(campaign_as(&mut answer, &mut wanted))
@@ -192,20 +165,19 @@ fn bytes(alloc: Global) -> Result<Vec<u8>, InputFault> {
 }
 
 fn read_bytes(alloc: Global, refusal: &mut Refusal) -> Outcome {
-    refusal.begin();
+    refusal.begin("read_input");
     let answer = bytes(alloc);
     refusal.end();
     judged(answer, bytes(alloc), READ)
 }
 
-/// The readers of moves, of histories, of a script and of an input, and the explanation of a script.
+/// The readers of moves, of histories, of a script and of an input.
 pub(crate) fn read(alloc: Global, place: usize, refusal: &mut Refusal) -> Option<Outcome> {
     match place {
         0 => Some(read_list(alloc, refusal)),
         1 => Some(read_blocks(alloc, refusal)),
         2 => read_script(alloc, refusal),
         3 => Some(read_bytes(alloc, refusal)),
-        4 => Some(explain_script(alloc, refusal)),
         _ => None,
     }
 }
@@ -258,7 +230,7 @@ fn append_as(
     name: &Name,
     refusal: &mut Refusal,
 ) -> Outcome {
-    refusal.begin();
+    refusal.begin("write_move write_op write_reply write_block append_text append_number");
     let answer = append(out, text, name);
     refusal.end();
     if answer.is_ok() {
@@ -288,7 +260,7 @@ fn append_part_as(
     name: &Name,
     refusal: &mut Refusal,
 ) -> Outcome {
-    refusal.begin();
+    refusal.begin("append_verdict append_aborted");
     let answer = append(out, text, name);
     refusal.end();
     appended(answer, out.as_slice(), wanted)
@@ -356,11 +328,19 @@ pub(crate) fn write_part(alloc: Global, place: usize, refusal: &mut Refusal) -> 
     append_one(alloc, &text, true, refusal)
 }
 
+/// The next behaviour of a test case, taken out; each has a step, and at most two parameters.
+fn takes_behaviour(case: &mut CaseScript) -> bool {
+    match case.take_first() {
+        Some((_, script)) => !script.steps().is_empty() && script.parameters() <= 2,
+        None => false,
+    }
+}
+
 /// The behaviours of a test case, taken out one by one, as many as are wanted.
 fn takes_behaviours(case: CaseScript, wanted: usize) -> bool {
     let mut case = case;
     for _ in 0..wanted {
-        if case.take_first().is_none() {
+        if !takes_behaviour(&mut case) {
             return false;
         }
     }
@@ -387,7 +367,9 @@ fn takes_cases(campaign: &mut Campaign) -> bool {
 /// The test cases of a campaign and their behaviours, taken out one by one.
 pub(crate) fn take_all(alloc: Global, refusal: &mut Refusal) -> Option<Outcome> {
     let mut campaign = campaign(alloc).ok()?;
-    refusal.begin_each();
+    refusal.begin_each(
+        "Campaign::take_first CaseScript::take_first Script::steps Script::parameters",
+    );
     let is_right = takes_cases(&mut campaign);
     refusal.end();
     Some(right_if(is_right, "a campaign is taken out otherwise"))

@@ -1,3 +1,3 @@
 -- The lemmas of this crate.
 pub mod Carrying
-pub mod Running
+pub mod Lemmas

@@ -5,7 +5,7 @@ use Rattle.tc_verdict.specs.declared.user_verdict.UserVerdict.{UserVerdict}
 use Rattle.tc_verdict.specs.declared.user_verdict.UserVerdict.TheVariants as U
 use Rattle.tc_verdict.specs.Verdict.{level_of, worse, worst}
 use Rattle.tc_verdict.specs.UserVerdict.{given, rank_of}
-use Rattle.tc_verdict.proofs.Order.{worst-more}
+use Rattle.tc_verdict.proofs.Lemmas.Order.{worst-more}
 use Rattle.tc_board.specs.declared.answer.Answer.{Answer}
 use Rattle.tc_board.specs.declared.answer.Answer.TheVariants.{Met, Taken, Found, Shut}
 use Rattle.tc_board.specs.Answers.{taken, worst_of, FindsWorst, NeverShut, StaysShut}

@@ -16,7 +16,7 @@ use Rattle.tc_book.specs.Inside.{IsKept, start_at}
 use Rattle.tc_book.specs.OpenCase.{opening_place}
 use Rattle.tc_book.proofs.Totals.{total_opening, total_bound, one_at_most, total_set, no_place_beyond}
 use Rattle.tc_book.proofs.Suits.{answer_suits}
-use Rattle.tc_book.proofs.Starting.{starts_below}
+use Rattle.tc_book.proofs.Lemmas.Starting.{starts_below}
 
 pub past_more : (h : List Entry) (e : Entry) → reverse (h ++ e ∷ []) ≡ e ∷ reverse h
 past_more h e = reverse-append h (e ∷ [])

@@ -3,8 +3,7 @@ pub mod Totals
 pub mod Keeping
 pub mod Waking
 pub mod Suits
-pub mod Starting
-pub mod PartOf
+pub mod Lemmas
 pub mod ByRun
 pub mod Merging
 pub mod Sums

@@ -9,15 +9,16 @@ use Rattle.tc_verdict.specs.declared.run.Run.{Run}
 use Rattle.tc_table.specs.History.{comp_of}
 use Rattle.tc_case.specs.declared.run_log.RunLog.{RunLog}
 use Rattle.tc_case.specs.Merge.{is_other, is_verdict_call, head, head_at_start, after_others, count_of, started, in_place, late, end_of, merge, log_of as log_by, logged}
-use Rattle.tc_merge.proofs.Kept.{others-merge}
-use Rattle.tc_merge.proofs.Table.{log_or, log_or-none, log_or-last, log_of-beyond}
+use Rattle.tc_merge.proofs.Lemmas.Kept.{others-merge}
+use Rattle.tc_merge.proofs.Lemmas.Table.{log_or, log_or-none, log_or-last, log_of-beyond}
 use Rattle.tc_book.specs.Closing.{IsWhole, run_log}
 use Rattle.tc_book.specs.OpenCase.{AreOthers}
 use Rattle.tc_case.specs.Parts.{part, log_if, logs_below}
 use Rattle.tc_book.specs.Passes.{LeftState}
-use Rattle.tc_book.proofs.Reporting.{no_others}
+use Rattle.tc_book.specs.Inside.{ArePlaced, IsJoined, KnowsStarts}
+use Rattle.tc_book.proofs.Reporting.{no_others, whole_logged}
 use Rattle.tc_book.proofs.Skipping.{filter-reverse}
-use Rattle.tc_book.proofs.Wholeness.{log_of_fits}
+use Rattle.tc_book.proofs.Wholeness.{log_of_fits, merged_starts}
 
 -- the merge asks for the log of each run alone
 join : (a a' b b' c c' : List Entry) (e : Entry) → a ≡ a' → b ≡ b' → c ≡ c' → a ++ (e ∷ b ++ c) ≡ a' ++ (e ∷ b' ++ c')
@@ -120,3 +121,13 @@ pub merge_of_itself : (n : ℕ) (k h : List Entry) (lefts : List LeftState) (log
 merge_of_itself n k h lefts logs others are is whole as_long =
     let same : filter is_other h ≡ k = ap (filter is_other) is ∙ (others-merge k logs ∙ all_others k others) in
     is ∙ (ap (merge k) are ∙ (merge_same k (map run_log lefts) (logs_below h n) (logs_same n h lefts whole as_long) ∙ ap (λ l. merge l (logs_below h n)) (sym same)))
+
+-- what came back, by what a book keeps and by the history that it was merged into
+pub joined_by : (n : ℕ) (starts : List (Option (Comp × List Comp))) (k h : List Entry) (lefts : List LeftState) → ArePlaced n starts lefts → KnowsStarts starts (reverse k) → AreOthers (reverse k) → h ≡ merge k (map run_log lefts) →
+    IsJoined n starts h lefts
+joined_by n starts k h lefts placed known others is =
+    record {
+      placed = placed;
+      known = rw is (merged_starts starts k lefts known);
+      itself = λ whole. merge_of_itself n k h lefts (map run_log lefts) others refl is whole (whole_logged n h lefts whole);
+    }

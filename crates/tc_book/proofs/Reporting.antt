@@ -9,19 +9,19 @@ use Rattle.tc_entry.specs.declared.entry.Entry.{Entry}
 use Rattle.tc_table.specs.History.{comps, comp_of, is_over}
 use Rattle.tc_table.specs.Local.{local, overall}
 use Rattle.tc_table.specs.Legal.{IsLegal, IsAllOver}
-use Rattle.tc_table.proofs.Over.{all_over}
+use Rattle.tc_table.proofs.Lemmas.Over.{all_over}
 use Rattle.tc_case.specs.declared.closed.Closed.{Closed}
 use Rattle.tc_case.specs.declared.run_log.RunLog.{RunLog}
 use Rattle.tc_case.specs.Merge.{is_other, merge, logged}
 use Rattle.tc_book.specs.Passes.{LeftState}
 use Rattle.tc_book.specs.Closing.{is_of_run, IsFitting, IsWhole}
-use Rattle.tc_case.specs.Parts.{part, log_of, log_if, logs_below}
+use Rattle.tc_case.specs.Parts.{part, log_on, log_if, logs_below}
 use Rattle.tc_book.specs.Inside.{start_at, comp_by, logs_from, KnowsStarts, KnowsParts}
-use Rattle.tc_book.proofs.PartOf.{comp_known}
+use Rattle.tc_book.proofs.Lemmas.PartOf.{comp_known}
 use Rattle.tc_case.specs.Report.{IsOneHistory}
 use Rattle.std.proofs.lemmas.List.{length-map, get_or_append_left}
 use Rattle.std.proofs.Math.Seq.{get_or-append_seam}
-use Rattle.tc_table.proofs.Numbered.{numbered}
+use Rattle.tc_table.proofs.Lemmas.Numbered.{numbered}
 use Rattle.tc_book.proofs.Sums.{sum_below, only, sum_below-same, sum_below-add, sum_below-zero, sum_below-only, sum_below-at_most}
 
 -- one list of runs, summed by run
@@ -188,7 +188,7 @@ logs_from_prefix starts parts more (suc n) all =
 
 -- the log of one run more
 pub logs_from_more : (starts : List (Option (Comp × List Comp))) (parts : List (List Entry)) (entries : List Entry) →
-    logs_from starts (parts ++ entries ∷ []) (length parts + 1) ≡ logs_from starts parts (length parts) ++ log_of (comp_by (length parts) (start_at starts (length parts))) (length parts) entries
+    logs_from starts (parts ++ entries ∷ []) (length parts + 1) ≡ logs_from starts parts (length parts) ++ log_on (comp_by (length parts) (start_at starts (length parts))) (length parts) entries
 logs_from_more starts parts entries =
     rw (add-one, logs_from_prefix starts parts (entries ∷ []) (length parts) (omega arith), get_or-append_seam parts entries [] []) refl
 

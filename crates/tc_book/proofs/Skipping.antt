@@ -12,7 +12,7 @@ use Rattle.tc_table.specs.History.{first_some}
 use Rattle.tc_case.specs.Merge.{is_other, is_verdict_call}
 use Rattle.tc_book.specs.Starts.{start_of, start_in}
 use Rattle.tc_book.specs.Inside.{KnowsStarts}
-use Rattle.tc_book.proofs.Starting.{no_more}
+use Rattle.tc_book.proofs.Lemmas.Starting.{no_more}
 
 if_none : (ok : Bool) → (if ok then (let o : Option (Comp × List Comp) = None in o) else None) ≡ None
 if_none true = refl

@@ -9,9 +9,9 @@ use Rattle.tc_table.specs.Legal.{IsLegal}
 use Rattle.tc_book.specs.Closing.{all_started}
 use Rattle.tc_book.specs.Starts.{start_in}
 use Rattle.tc_book.specs.Inside.{StartsBelow, KnowsStarts, start_at, comp_by}
-use Rattle.tc_table.proofs.Differing.{later_legal, parted}
-use Rattle.tc_book.proofs.PartOf.{comp_known}
-use Rattle.tc_book.proofs.Starting.{starts_below}
+use Rattle.tc_table.proofs.Lemmas.Differing.{later_legal, parted}
+use Rattle.tc_book.proofs.Lemmas.PartOf.{comp_known}
+use Rattle.tc_book.proofs.Lemmas.Starting.{starts_below}
 
 -- what is known of a history behind so many of its entries, each of which was by a run that was started
 pub record IsBehind (n : ℕ) (starts : List (Option (Comp × List Comp))) (past : List Entry) : Type 0 where

@@ -10,7 +10,7 @@ use Rattle.tc_entry.specs.Reply.{is_ok}
 use Rattle.tc_table.specs.History.{first_some}
 use Rattle.tc_table.specs.Legal.{IsLegal}
 use Rattle.tc_table.specs.Laws.{keeps_phases, lets_go_on}
-use Rattle.tc_table.proofs.Quiet.{quiet_wakes_nobody}
+use Rattle.tc_table.proofs.Lemmas.Quiet.{quiet_wakes_nobody}
 use Rattle.tc_book.specs.OpenCase.{OpenCase, past_of, reply_to, with_entry}
 use Rattle.tc_book.specs.Starts.{start_in, start_of, starts_with}
 use Rattle.tc_book.specs.Waking.{NobodyWakes}

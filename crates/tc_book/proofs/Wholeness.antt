@@ -11,12 +11,12 @@ use Rattle.tc_case.specs.declared.run_log.RunLog.{RunLog}
 use Rattle.tc_book.specs.OpenCase.{OpenCase}
 use Rattle.tc_book.specs.Passes.{LeftState}
 use Rattle.tc_case.specs.Merge.{log_of, logged}
-use Rattle.tc_merge.proofs.Kept.{others-merge}
+use Rattle.tc_merge.proofs.Lemmas.Kept.{others-merge}
 use Rattle.tc_book.specs.Closing.{all_started, is_of_run, IsFitting, IsWhole, IsMerged, run_log, merged}
 use Rattle.tc_book.proofs.Skipping.{starts_same}
 use Rattle.tc_case.specs.Parts.{part}
-use Rattle.tc_book.specs.Inside.{ArePlaced, KnowsStarts, KnowsParts}
-use Rattle.tc_book.proofs.PartOf.{comp_known}
+use Rattle.tc_book.specs.Inside.{AreLogs, ArePlaced, IsJoined, KnowsStarts, KnowsParts}
+use Rattle.tc_book.proofs.Lemmas.PartOf.{comp_known}
 
 logged_map : (lefts : List LeftState) → logged (map run_log lefts) ≡ sum_by (λ l. length l.log) lefts
 logged_map [] = refl
@@ -65,31 +65,25 @@ log_of_fits h (l ∷ lefts) b some fits =
     by_test true same before count = let q : l.run.0 ≡ b = grind (arith, nat_tests) in (fits 0 l (omega arith)).part ∙ ap (part h) q
     by_test false other before count = before (omega (arith, some, count))
 
--- these lists are the logs that came back, each at the number of its run
-pub record AreLogs (n : ℕ) (parts : List (List Entry)) (logs : List RunLog) (lefts : List LeftState) : Type 0 where
-  pub as_many : length parts ≡ n
-  pub are : logs ≡ map run_log lefts
-  pub each : (b : ℕ) → b < n → get_or parts b [] ≡ log_of logs b
-
 -- where these are what is kept of the merged history, what came back is whole by it
-pub whole_by : (n : ℕ) (starts : List (Option (Comp × List Comp))) (parts : List (List Entry)) (h : List Entry) (lefts : List LeftState) (logs : List RunLog) →
-    KnowsStarts starts (reverse h) → KnowsParts parts h → AreLogs n parts logs lefts → ArePlaced n starts lefts → is_over (reverse h) ≡ true → all_started (reverse h) ≡ true → length h ≡ logged logs → IsWhole n h lefts
-whole_by n starts parts h lefts logs known parts_known put placed over started as_long =
+pub whole_by : (n : ℕ) (starts : List (Option (Comp × List Comp))) (parts : List (List Entry)) (h : List Entry) (lefts : List LeftState) →
+    IsJoined n starts h lefts → AreLogs n parts lefts → KnowsParts parts h → is_over (reverse h) ≡ true → all_started (reverse h) ≡ true → length h ≡ logged (map run_log lefts) → IsWhole n h lefts
+whole_by n starts parts h lefts joined put parts_known over started as_long =
     record {
-      one_each = placed.one_each;
+      one_each = joined.placed.one_each;
       over = over;
       started = started;
       fitting = λ k d q.
           let l : LeftState = get_or lefts k d in
-          let place = placed.each k d q in
-          let within : l.run.0 < n = placed.one_each.within k d q in
-          let own : log_of logs l.run.0 ≡ l.log = ap (λ ls. log_of ls l.run.0) put.are ∙ own_log lefts k d q (placed.one_each.each l.run.0 within) in
+          let place = joined.placed.each k d q in
+          let within : l.run.0 < n = joined.placed.one_each.within k d q in
+          let own : log_of (map run_log lefts) l.run.0 ≡ l.log = own_log lefts k d q (joined.placed.one_each.each l.run.0 within) in
           record {
             part = sym own ∙ (sym (put.each l.run.0 within) ∙ parts_known l.run.0 (let b : l.run.0 < length parts = rw put.as_many within in b));
-            started = λ some. place.started some ∙ known l.run.0;
-            unstarted = λ none. place.unstarted (comp_known starts (reverse h) l.run.0 known ∙ none);
+            started = λ some. place.started some ∙ joined.known l.run.0;
+            unstarted = λ none. place.unstarted (comp_known starts (reverse h) l.run.0 joined.known ∙ none);
           };
-      as_long = as_long ∙ (ap logged put.are ∙ logged_map lefts);
+      as_long = as_long ∙ logged_map lefts;
     }
 
 -- and only there
@@ -105,13 +99,13 @@ whole_placed n starts h lefts known w = record {
       };
 }
 
-pub whole_parts : (n : ℕ) (parts : List (List Entry)) (h : List Entry) (lefts : List LeftState) (logs : List RunLog) → AreLogs n parts logs lefts → IsWhole n h lefts → KnowsParts parts h
-whole_parts n parts h lefts logs put w b below =
+pub whole_parts : (n : ℕ) (parts : List (List Entry)) (h : List Entry) (lefts : List LeftState) → AreLogs n parts lefts → IsWhole n h lefts → KnowsParts parts h
+whole_parts n parts h lefts put w b below =
     let within : b < n = rw put.as_many at below in
-    put.each b within ∙ (ap (λ ls. log_of ls b) put.are ∙ log_of_fits h lefts b (omega (arith, w.one_each.each b within)) w.fitting)
+    put.each b within ∙ log_of_fits h lefts b (omega (arith, w.one_each.each b within)) w.fitting
 
-pub whole_together : (n : ℕ) (h : List Entry) (lefts : List LeftState) (logs : List RunLog) → logs ≡ map run_log lefts → IsWhole n h lefts → length h ≡ logged logs
-whole_together n h lefts logs are w = w.as_long ∙ (sym (logged_map lefts) ∙ ap logged (sym are))
+pub whole_together : (n : ℕ) (h : List Entry) (lefts : List LeftState) → IsWhole n h lefts → length h ≡ logged (map run_log lefts)
+whole_together n h lefts w = w.as_long ∙ sym (logged_map lefts)
 
 -- the starts of a book's history are those of the merged one
 pub merged_starts : (starts : List (Option (Comp × List Comp))) (k : List Entry) (lefts : List LeftState) → KnowsStarts starts (reverse k) → KnowsStarts starts (reverse (merged k lefts))

@@ -1,5 +1,5 @@
 -- What only the way a book is kept needs: no public clause names a word of this file.
-use Rattle.std.specs.Prelude.{ℕ, zero, suc, ◌++◌, ◌∷◌, ◌≡◌, ◌+◌, ◌≤◌, ◌<◌, ◌==◌, Bool, if◌then◌else◌, option_map, Option, Some, None, List, [], length, sum_by, slice_index_or, All, true, false, ◌||◌, not, is_some}
+use Rattle.std.specs.Prelude.{ℕ, zero, suc, ◌++◌, ◌∷◌, ◌≡◌, ◌+◌, ◌≤◌, ◌<◌, ◌==◌, Bool, if◌then◌else◌, option_map, Option, Some, None, List, [], length, map, filter, reverse, sum_by, slice_index_or, All, true, false, ◌||◌, not, is_some}
 use Rattle.std.specs.Borrow.{Bor}
 use Rattle.tc_entry.specs.declared.limits.TheConstants.{BEHAVIOURS}
 use Rattle.tc_entry.specs.declared.comp.Comp.{Comp}
@@ -11,9 +11,10 @@ use Rattle.tc_entry.specs.declared.reply.Reply.TheVariants as R
 use Rattle.tc_case.specs.declared.run_log.RunLog.{RunLog}
 use Rattle.tc_book.specs.declared.places.Places.{Places}
 use Rattle.tc_table.specs.Legal.{IsLegal}
-use Rattle.tc_case.specs.Parts.{part, log_of, is_by}
-use Rattle.tc_book.specs.Closing.{IsOneEach}
-use Rattle.tc_book.specs.OpenCase.{AreOthers, OpenCase, past_of, reply_to}
+use Rattle.tc_case.specs.Parts.{part, log_on, logs_below, is_by}
+use Rattle.tc_book.specs.Closing.{IsOneEach, IsWhole, run_log}
+use Rattle.tc_case.specs.Merge.{is_other, log_of, merge}
+use Rattle.tc_book.specs.OpenCase.{AreOthers, has_leave, has_wake, OpenCase, past_of, reply_to}
 use Rattle.tc_words.specs.Words.{AreTold}
 use Rattle.tc_board.specs.Hand.{HandView, answered}
 use Rattle.tc_board.specs.declared.record.Record.{Record}
@@ -26,6 +27,8 @@ use Rattle.tc_table.specs.History.{is_over}
 use Rattle.tc_book.specs.Replies.{is_parked}
 use Rattle.tc_book.specs.declared.until.Until.{Until}
 use Rattle.tc_book.specs.declared.until.Until.TheVariants as U
+use Rattle.tc_book.specs.declared.until.Lack.{Lack}
+use Rattle.tc_book.specs.declared.until.Lack.TheVariants as L
 
 -- one where it is so
 abbrev pub one_if : Bool → ℕ
@@ -72,7 +75,7 @@ IsNewHand hand b = (hand.run ≡ b) × (hand.answers ≡ [])
 -- the logs of the first n runs, by what each was started with and by these parts
 abbrev pub logs_from : List (Option (Comp × List Comp)) → List (List Entry) → ℕ → List RunLog
 logs_from starts parts zero = []
-logs_from starts parts (suc b) = logs_from starts parts b ++ log_of (comp_by b (start_at starts b)) b (slice_index_or parts b [])
+logs_from starts parts (suc b) = logs_from starts parts b ++ log_on (comp_by b (start_at starts b)) b (slice_index_or parts b [])
 
 -- what a run left is what these starts have of it
 pub record IsPlaced (starts : List (Option (Comp × List Comp))) (l : LeftState) : Type 0 where
@@ -83,6 +86,18 @@ pub record IsPlaced (starts : List (Option (Comp × List Comp))) (l : LeftState)
 pub record ArePlaced (n : ℕ) (starts : List (Option (Comp × List Comp))) (lefts : List LeftState) : Type 0 where
   pub one_each : IsOneEach n lefts
   pub each : All (IsPlaced starts) lefts
+
+-- What came back of a case with this merged history, before it is known whether it is whole: it is one of each run as these
+-- starts have it, they are the starts of the history, and the history is a merge of itself if it is whole.
+pub record IsJoined (n : ℕ) (starts : List (Option (Comp × List Comp))) (history : List Entry) (lefts : List LeftState) : Type 0 where
+  pub placed : ArePlaced n starts lefts
+  pub known : KnowsStarts starts (reverse history)
+  pub itself : IsWhole n history lefts → history ≡ merge (filter is_other history) (logs_below history n)
+
+-- these lists are the logs that came back, each at the number of its run
+pub record AreLogs (n : ℕ) (parts : List (List Entry)) (lefts : List LeftState) : Type 0 where
+  pub as_many : length parts ≡ n
+  pub each : (b : ℕ) → b < n → slice_index_or parts b [] ≡ log_of (map run_log lefts) b
 
 -- a run that is started by this call is one of the first n
 abbrev pub StartsBelow : Op → Reply → ℕ → Type 0
@@ -137,6 +152,13 @@ goes_on b run (U.Wake killed target) = not (is_parked (reply_to b run (O.Wake ki
 abbrev pub wakes : OpenCase → Run → Option Until → Bool
 wakes b run (Some until) = goes_on b run until
 wakes b run None = false
+
+-- the run lacks this by the book: no place is kept for its Wake, or for its leaving; or it was started, so its word is what it
+-- waits for
+abbrev pub lacks : OpenCase → Run → Lack → Bool
+lacks b run L.PlaceForWake = not (has_wake b run)
+lacks b run L.PlaceForLeaving = not (has_leave b run)
+lacks b run L.Word = is_some (start_of (past_of b) run.0)
 
 -- who waits for the start of run b is answered so after these entries: by its start, or by none where the case is over without
 pub record IsAwaitedIn (n : ℕ) (past : List Entry) (b : ℕ) (start : Option (Comp × List Comp)) : Type 0 where

@@ -1,5 +1,6 @@
 //! What the lock of a case holds.
-ghost use Rattle.std.specs.Prelude.{◌≡◌, ◌≤◌, ◌≢◌, [], Some, None, IfOk, OnErr, OnOk, IfSome, IfNone, OnSome, IsTrue, IsFalse, MatchOption, true, false, replicate};
+ghost use Rattle.std.specs.Prelude.{◌≡◌, ◌≤◌, ◌≢◌, ℕ, [], Some, None, IfOk, OnErr, OnOk, IfSome, IfNone, OnSome, IsTrue, IsFalse, MatchOption, true, false, length, replicate};
+ghost use Rattle.tc_book.specs.Inside.{start_at};
 ghost use Rattle.tc_entry.specs.declared.limits.TheConstants.{BEHAVIOURS};
 ghost use Rattle.tc_entry.specs.declared.op.Op.TheVariants as ops;
 ghost use Rattle.tc_entry.specs.declared.reply.Reply.TheVariants as replies;
@@ -54,6 +55,54 @@ impl Model for Book {
     ghost invariant = { λ b. IsKept b.table.behaviours (reverse b.table.history) b.starts.items b.places.items b.count b.table.room b.words };
 }
 
+/// A table at the opening, with room for the leaving of each run.
+fn table_with_room(alloc: Global, behaviours: u16) -> Result<Table, NoMemory>
+    requires some { 1 ≤ behaviours }
+    requires few { behaviours ≤ BEHAVIOURS }
+    ensures behaviours { IfOk result (λ t. t.behaviours ≡ behaviours) }
+    ensures opening { IfOk result (λ t. t.history ≡ []) }
+    ensures room { IfOk result (λ t. behaviours ≤ t.room) }
+{
+    let mut table = Table::new(alloc, behaviours)?;
+    match table.make_room(usize::from(behaviours)) {
+        Ok(()) => Ok(table),
+        Err(NoMemory) => Err(NoMemory),
+    }
+}
+
+/// A place for the leaving of each run.
+fn opening_places(alloc: Global, behaviours: u16) -> Result<Vec<Places>, NoMemory>
+    ensures { IfOk result (λ v. v.items ≡ replicate behaviours opening_place) }
+{
+    let opening = Places {
+        leave: true,
+        wake: false,
+    };
+    let places = vec![in alloc; opening; usize::from(behaviours)]?;
+    Ok(places)
+}
+
+type Opening = (Table, Vec<Option<(Comp, Args)>>, Vec<Places>);
+
+/// What a book keeps at its opening, but for the words.
+fn at_opening(alloc: Global, behaviours: u16) -> Result<Opening, NoMemory>
+    requires some { 1 ≤ behaviours }
+    requires few { behaviours ≤ BEHAVIOURS }
+    ensures behaviours { IfOk result (λ o. o.0.behaviours ≡ behaviours) }
+    ensures opening { IfOk result (λ o. o.0.history ≡ []) }
+    ensures room { IfOk result (λ o. behaviours ≤ o.0.room) }
+    ensures as_many { IfOk result (λ o. length o.1.items ≡ behaviours) }
+    ensures starts { IfOk result (λ o. (b : ℕ) → start_at o.1.items b ≡ None) }
+    ensures places { IfOk result (λ o. o.2.items ≡ replicate behaviours opening_place) }
+{
+    let places = opening_places(alloc, behaviours)?;
+    let starts = no_starts(alloc, behaviours)?;
+    match table_with_room(alloc, behaviours) {
+        Ok(table) => Ok((table, starts, places)),
+        Err(NoMemory) => Err(NoMemory),
+    }
+}
+
 #[tactic(auto, using(crate::proofs::Keeping::book_rules))]
 impl Book {
     /// The book of a case at its opening, which keeps a place for each run and the words of a new board.
@@ -70,23 +119,17 @@ impl Book {
         ensures opening { IfOk result (λ b. b.history ≡ []) }
         ensures places { IfOk result (λ b. b.places ≡ replicate behaviours opening_place) }
     {
-        let mut table = Table::new(alloc, behaviours)?;
-        let count = usize::from(behaviours);
-        table.make_room(count)?;
-        let starts = no_starts(alloc, behaviours)?;
-        let opening = Places {
-            leave: true,
-            wake: false,
-        };
-        let places = vec![in alloc; opening; count]?;
         let words = Words::new(alloc, behaviours, keeper, board)?;
-        Ok(Book {
-            table,
-            starts,
-            places,
-            count,
-            words,
-        })
+        match at_opening(alloc, behaviours) {
+            Ok((table, starts, places)) => Ok(Book {
+                table,
+                starts,
+                places,
+                count: usize::from(behaviours),
+                words,
+            }),
+            Err(NoMemory) => Err(NoMemory),
+        }
     }
 
     /// Adds a call to the history, and answers its reply. The word of a run that it starts is begun, and those of the runs
@@ -200,6 +243,14 @@ impl Book {
         ensures others { AreOthers (past_of self.now) }
     {
         self.words.record_of(run)
+    }
+
+    /// Does nothing. Every book is so.
+    pub(crate) fn is_legal(&self)
+        ensures legal { IsLegal self.now.behaviours (past_of self.now) }
+        ensures others { AreOthers (past_of self.now) }
+    {
+        let _ = &self.count;
     }
 
     /// The reply that a call would be given now.

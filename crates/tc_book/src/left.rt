@@ -2,6 +2,7 @@
 ghost use Rattle.std.specs.Prelude.{◌≡◌, ◌↔◌, IsTrue, MatchOption, Some, None};
 ghost use Rattle.tc_book.specs.Closing.{run_log};
 
+use crate::logged_book::Unstarted;
 use std::marker::Model;
 use tc_case::RunLog;
 use tc_entry::{Args, Comp, Entry, Sequence};
@@ -24,10 +25,26 @@ impl Model for Left {
 }
 
 impl Left {
-    pub(crate) fn new(run: Run, log: Vec<Entry>, started: Option<(Comp, Args)>) -> Left
-        ensures { result ≡ record { run = run; log = log.items; started = started } }
+    /// What the pass of a started run leaves.
+    pub(crate) fn new(run: Run, log: Vec<Entry>, comp: Comp, args: Args) -> Left
+        ensures { result ≡ record { run = run; log = log.items; started = Some (comp, args) } }
     {
-        Left { run, log, started }
+        Left {
+            run,
+            log,
+            started: Some((comp, args)),
+        }
+    }
+
+    /// What a run leaves that was never started.
+    pub(crate) fn never_started(unstarted: Unstarted, log: Vec<Entry>) -> Left
+        ensures { result ≡ record { run = unstarted.run; log = log.items; started = None } }
+    {
+        Left {
+            run: unstarted.run(),
+            log,
+            started: None,
+        }
     }
 
     /// The run.

@@ -5,6 +5,7 @@ mod book;
 mod callers;
 mod case;
 mod close;
+mod condition;
 mod conditions;
 mod halt;
 pub mod laws;

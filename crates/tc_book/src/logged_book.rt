@@ -4,9 +4,10 @@ ghost use Rattle.tc_entry.specs.declared.op.Op.TheVariants as ops;
 ghost use Rattle.tc_entry.specs.declared.reply.Reply.TheVariants as replies;
 ghost use Rattle.tc_table.specs.History as history;
 ghost use Rattle.tc_case.specs.declared.closed.CloseFault.TheVariants as faults;
-ghost use Rattle.tc_book.specs.Closing.{IsWhole, IsMerged, merged};
+ghost use Rattle.tc_book.specs.Closing.{IsMerged, merged};
 ghost use Rattle.tc_book.specs.Inside.{IsAwaitedIn, goes_on, is_closed, with_own, wakes};
-ghost use Rattle.tc_book.specs.OpenCase.{has_leave, has_wake, past_of, places_after, reply_to, with_entry, without_leave, without_wake};
+ghost use Rattle.tc_table.specs.Legal.{IsLegal};
+ghost use Rattle.tc_book.specs.OpenCase.{AreOthers, has_leave, has_wake, past_of, places_after, reply_to, with_entry, without_leave, without_wake};
 ghost use Rattle.tc_book.specs.Replies.{suits};
 ghost use Rattle.tc_case.specs.Report.{IsOneHistory};
 ghost use Rattle.tc_book.specs.Starts as starts;
@@ -25,6 +26,21 @@ use std::alloc::Global;
 use tc_case::{CloseFault, Closed};
 use tc_entry::{Args, Comp, Op, Reply, Target};
 use tc_verdict::{NoMemory, Run};
+
+/// That a run was never started in a case that is over. Only the book that says so makes one.
+#[derive(Drop)]
+pub(crate) struct Unstarted {
+    run: Run,
+}
+
+impl Unstarted {
+    /// The run.
+    pub(crate) fn run(&self) -> Run
+        ensures { result ≡ self.now.run }
+    {
+        self.run
+    }
+}
 
 /// A book, each of whose entries is in the log of its caller as well, and what each run waits for behind the lock.
 #[derive(Drop)]
@@ -181,20 +197,30 @@ impl LoggedBook {
         self.book.has_place(run)
     }
 
-    /// What one that waits for a run's start is answered: its start, once its hand has met its word, or none where the case is
-    /// over without. Nothing before that.
+    /// Does nothing. Every book is so.
+    pub(crate) fn is_legal(&self)
+        ensures legal { IsLegal self.now.book.behaviours (past_of self.now.book) }
+        ensures others { AreOthers (past_of self.now.book) }
+    {
+        self.book.is_legal();
+    }
+
+    /// What one that waits for a run's start is answered: its start, once its hand has met its word, or where the case is over
+    /// without, that it was not started. Nothing before that.
     pub(crate) fn start_or_end(
         &mut self,
         run: Run,
         hand: &mut RunHand,
-    ) -> Option<Option<(Comp, Args)>>
+    ) -> Option<Result<(Comp, Args), Unstarted>>
         ensures book { self.new.book ≡ self.old.book }
         ensures waits { IfNone result (starts.start_of (past_of self.old.book) run.0 ≡ None → history.is_over (past_of self.old.book) ≡ false) }
         ensures unmet { IfNone result (hand.new ≡ hand.old) }
         ensures waits_still { IfNone result (self.new.waiting.items ≡ self.old.waiting.items) }
         ensures waits_no_more { OnSome result (self.new.waiting.items ≡ set self.old.waiting.items run.0 None) }
-        ensures met { IfSome result (λ s. OnSome s (hand.new ≡ answered hand.old Met)) }
-        ensures answers { IfSome result (λ s. IsAwaitedIn self.old.book.behaviours (past_of self.old.book) run.0 s) }
+        ensures met { IfSome result (λ s. OnOk s (hand.new ≡ answered hand.old Met)) }
+        ensures started { IfSome result (λ s. IfOk s (λ c. IsAwaitedIn self.old.book.behaviours (past_of self.old.book) run.0 (Some c))) }
+        ensures unstarted { IfSome result (λ s. OnErr s (IsAwaitedIn self.old.book.behaviours (past_of self.old.book) run.0 None)) }
+        ensures run { IfSome result (λ s. IfErr s (λ u. u.run ≡ run)) }
     {
         let start = self.book.start_of(run);
         let goes_on = if start.is_some() {
@@ -204,7 +230,7 @@ impl LoggedBook {
         };
         if goes_on {
             self.note(run, None);
-            Some(start)
+            Some(start.ok_or(Unstarted { run }))
         } else {
             None
         }
@@ -212,8 +238,7 @@ impl LoggedBook {
 
     /// Closes the case.
     pub(crate) fn close(&self, alloc: Global, lefts: Vec<Left>) -> Result<Closed, CloseFault>
-        ensures whole { IfOk result (λ c. IsWhole c.behaviours c.history lefts.items) }
-        ensures merged { IfOk result (λ _. IsMerged self.now.book lefts.items) }
+        ensures whole { IfOk result (λ _. IsMerged self.now.book lefts.items) }
         ensures torn { IfErr result (λ f. f ≡ faults.Torn → IsMerged self.now.book lefts.items → ⊥) }
         ensures behaviours { IfOk result (λ c. c.behaviours ≡ self.now.book.behaviours) }
         ensures history { IfOk result (λ c. c.history ≡ merged self.now.book.history lefts.items) }

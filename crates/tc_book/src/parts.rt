@@ -9,7 +9,7 @@ use tc_entry::{Entry, Sequence};
 use tc_verdict::NoMemory;
 
 // So many empty parts.
-#[tactic(auto, using(crate::proofs::PartOf::none_more))]
+#[tactic(auto, using(crate::proofs::Lemmas::PartOf::none_more))]
 fn no_parts(alloc: Global, count: u16) -> Result<Vec<Sequence<Entry>>, NoMemory>
     ensures len { IfOk result (λ v. length v.items ≡ count) }
     ensures none { IfOk result (λ v. (b : ℕ) → slice_index_or v.items b [] ≡ []) }

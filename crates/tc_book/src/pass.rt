@@ -310,6 +310,6 @@ impl Pass {
         } = self;
         shared.leave(rt, &mut log);
         let (run, me) = (log.run(), log.own());
-        Left::new(run, log.into_entries(), Some((me, args)))
+        Left::new(run, log.into_entries(), me, args)
     }
 }

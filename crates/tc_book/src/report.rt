@@ -6,7 +6,7 @@ ghost use Rattle.tc_table.specs.Standing.{StandsFor};
 ghost use Rattle.tc_table.specs.Legal.{IsLegal};
 ghost use Rattle.tc_case.specs.Merge.{is_other, merge, logged};
 ghost use Rattle.tc_book.specs.Inside.{KnowsStarts, KnowsParts, logs_from};
-ghost use Rattle.tc_case.specs.Parts.{log_of, logs_below};
+ghost use Rattle.tc_case.specs.Parts.{log_on, logs_below};
 ghost use Rattle.tc_case.specs.Report.{IsOneHistory};
 
 use crate::starts::comp_of;
@@ -23,7 +23,7 @@ fn add_log(
     comp: Option<Comp>,
     entries: Sequence<Entry>,
 ) -> Result<(), NoMemory>
-    ensures { OnOk result (logs.new.items ≡ logs.old.items ++ log_of comp run.0 entries) }
+    ensures { OnOk result (logs.new.items ≡ logs.old.items ++ log_on comp run.0 entries) }
 {
     if let Some(comp) = comp {
         logs.push(RunLog { run, comp, entries })?;

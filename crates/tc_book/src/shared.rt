@@ -1,24 +1,27 @@
 //! The lock and the conditions of a case: each entry but those of verdict calls is added in one hold.
-ghost use Rattle.std.specs.Prelude.{◌≡◌, ◌≢◌, ◌≤◌, ◌+◌, true, false, IfOk, OnOk, OnErr, IfSome, IfNone, OnSome, IsTrue, is_none};
+ghost use Rattle.std.specs.Prelude.{◌≡◌, ◌≢◌, ◌≤◌, ◌+◌, true, false, IfOk, OnOk, OnErr, IfErr, IfSome, IfNone, IsTrue, is_none};
 ghost use Rattle.tc_entry.specs.declared.op.Op.TheVariants as ops;
 ghost use Rattle.tc_entry.specs.declared.reply.Reply.TheVariants as replies;
 ghost use Rattle.tc_book.specs.Replies.{suits};
-ghost use Rattle.tc_book.specs.Closing.{IsWhole};
+ghost use Rattle.tc_case.specs.declared.closed.CloseFault.TheVariants as faults;
+ghost use Rattle.tc_book.specs.Closing.{IsMerged, IsWhole, merged};
 ghost use Rattle.tc_case.specs.Report.{IsOneHistory};
 ghost use Rattle.tc_book.specs.Inside.{goes_on, is_closed, with_own};
 ghost use Rattle.std.specs.Sync.Mutex.{mutex_guard_value};
-ghost use Rattle.tc_book.specs.OpenCase.{has_leave};
+ghost use Rattle.tc_table.specs.Legal.{IsLegal};
+ghost use Rattle.tc_book.specs.OpenCase.{AreOthers, has_leave, past_of};
 ghost use Rattle.tc_case.specs.Merge.{is_verdict_call};
 ghost use Rattle.tc_board.specs.Hand.{answered};
 ghost use Rattle.tc_board.specs.declared.answer.Answer.TheVariants.{Met};
 
 use crate::book::Book;
+use crate::condition::Condition;
 use crate::conditions::Conditions;
 use crate::left::Left;
 use crate::log::Log;
-use crate::logged_book::LoggedBook;
+use crate::logged_book::{LoggedBook, Unstarted};
 use crate::run_hand::RunHand;
-use crate::until::Until;
+use crate::until::{Lack, Until};
 use std::alloc::{AllocError, Global};
 use std::marker::Model;
 use std::sync::{Arc, Mutex, MutexGuard, Wait};
@@ -55,6 +58,17 @@ impl Look<'_> {
     {
         self.book.has_place(run)
     }
+
+    /// The report of the case, by the book as it is and by what came back. The case goes on.
+    pub fn close(&self, alloc: Global, lefts: Vec<Left>) -> Result<Closed, CloseFault>
+        ensures whole { IfOk result (λ _. IsMerged self.now lefts.items) }
+        ensures torn { IfErr result (λ f. f ≡ faults.Torn → IsMerged self.now lefts.items → ⊥) }
+        ensures behaviours { IfOk result (λ c. c.behaviours ≡ self.now.behaviours) }
+        ensures history { IfOk result (λ c. c.history ≡ merged self.now.history lefts.items) }
+        ensures report { IfOk result (λ c. IsOneHistory c) }
+    {
+        self.book.close(alloc, lefts)
+    }
 }
 
 /// A shared owner of a case's book.
@@ -84,20 +98,15 @@ impl Shared {
         }
     }
 
-    /// The book, once the run goes on that waits for this.
+    /// The book, once the run goes on that waits for this. Nobody tells a run that there is not.
     fn wait<R: Wait>(&self, rt: &R, run: Run, until: Until) -> MutexGuard<'_, LoggedBook>
         ensures { IsTrue (goes_on (mutex_guard_value result).book run until) }
     {
         let book = self.held.book.lock(rt);
-        let changed = self.held.changed.of(run);
-        changed.wait_while(rt, book, |book| book.waits(run, until))
-    }
-
-    /// Waits for ever: what would let go on can't come.
-    fn stay<R: Wait>(&self, rt: &R, book: MutexGuard<'_, LoggedBook>)
-        ensures { ⊥ }
-    {
-        self.held.changed.never().wait_while(rt, book, |_| true);
+        match self.held.changed.of(run) {
+            Some(condition) => condition.wait(rt, book, until),
+            None => Condition::new(run).wait(rt, book, until),
+        }
     }
 
     /// Records a call of the log's run in the history and in the log, and tells each run that may go on by it.
@@ -130,7 +139,7 @@ impl Shared {
     {
         let mut book = self.wait(rt, log.run(), Until::Wake { killed, target });
         let Some((reply, wake_up)) = book.wake(killed, target, log) else {
-            self.stay(rt, book);
+            Condition::new(log.run()).stay(rt, book, Lack::PlaceForWake);
             unreachable!()
         };
         wake_up.give(&self.held.changed, &book);
@@ -149,7 +158,7 @@ impl Shared {
     {
         let mut book = self.held.book.lock(rt);
         let Some((finish, wake_up)) = book.leave(log) else {
-            self.stay(rt, book);
+            Condition::new(log.run()).stay(rt, book, Lack::PlaceForLeaving);
             unreachable!()
         };
         wake_up.give(&self.held.changed, &book);
@@ -160,32 +169,37 @@ impl Shared {
     pub(crate) fn give_up<R: Wait>(&self, rt: &R, run: Run) {
         let mut book = self.held.book.lock(rt);
         if !book.give_up(run) {
-            self.stay(rt, book);
+            Condition::new(run).stay(rt, book, Lack::PlaceForLeaving);
         }
     }
 
-    /// What a run was started with, once it was started and its hand has met its word; none once the case is over without.
+    /// What a run was started with, once it was started and its hand has met its word; or, once the case is over without, that it
+    /// was not.
     pub(crate) fn await_start<R: Wait>(
         &self,
         rt: &R,
         run: Run,
         hand: &mut RunHand,
-    ) -> Option<(Comp, Args)>
-        ensures met { OnSome result (hand.new ≡ answered hand.old Met) }
+    ) -> Result<(Comp, Args), Unstarted>
+        ensures met { OnOk result (hand.new ≡ answered hand.old Met) }
+        ensures unstarted { IfErr result (λ u. u.run ≡ run) }
     {
         let mut book = self.wait(rt, run, Until::Start);
         let Some(start) = book.start_or_end(run, hand) else {
-            self.stay(rt, book);
+            Condition::new(run).stay(rt, book, Lack::Word);
             unreachable!()
         };
         start
     }
 
     /// A look at the book, which is locked until the look is let go.
-    pub fn look<R: Wait>(&self, rt: &R) -> Look<'_> {
-        Look {
-            book: self.held.book.lock(rt),
-        }
+    pub fn look<R: Wait>(&self, rt: &R) -> Look<'_>
+        ensures legal { IsLegal result.behaviours (past_of result) }
+        ensures others { AreOthers (past_of result) }
+    {
+        let book = self.held.book.lock(rt);
+        book.is_legal();
+        Look { book }
     }
 
     /// Closes the case.
@@ -198,6 +212,6 @@ impl Shared {
         ensures whole { IfOk result (λ c. IsWhole c.behaviours c.history lefts.items) }
         ensures report { IfOk result (λ c. IsOneHistory c) }
     {
-        self.held.book.lock(rt).close(alloc, lefts)
+        self.look(rt).close(alloc, lefts)
     }
 }

@@ -10,7 +10,7 @@ use tc_entry::{Args, Comp, Op, Reply};
 use tc_verdict::{NoMemory, Run};
 
 /// A list of so many runs, none of them started.
-#[tactic(auto, using(crate::proofs::Starting::none_more))]
+#[tactic(auto, using(crate::proofs::Lemmas::Starting::none_more))]
 pub(crate) fn no_starts(alloc: Global, count: u16) -> Result<Vec<Option<(Comp, Args)>>, NoMemory>
     ensures len { IfOk result (λ v. length v.items ≡ count) }
     ensures none { IfOk result (λ v. (b : ℕ) → start_at v.items b ≡ None) }
@@ -46,7 +46,7 @@ pub(crate) fn comp_of(starts: &[Option<(Comp, Args)>], run: Run) -> Option<Comp>
 }
 
 /// Notes the run that an entry starts, unless it was started before.
-#[tactic(auto, using(crate::proofs::Starting::note_rules))]
+#[tactic(auto, using(crate::proofs::Lemmas::Starting::note_rules))]
 pub(crate) fn note_start(starts: &mut Vec<Option<(Comp, Args)>>, op: &Op, reply: Reply)
     requires { StartsBelow op.now reply (length starts.old.items) }
     ensures len { length starts.new.items ≡ length starts.old.items }

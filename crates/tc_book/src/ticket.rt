@@ -72,10 +72,10 @@ impl Ticket {
             mut hand,
         } = self;
         match shared.await_start(rt, run, &mut hand) {
-            Some((comp, args)) => Ok(Pass::new(shared, Log::new(run, comp, log, hand), args)),
-            None => {
+            Ok((comp, args)) => Ok(Pass::new(shared, Log::new(run, comp, log, hand), args)),
+            Err(unstarted) => {
                 shared.give_up(rt, run);
-                Err(Left::new(run, log, None))
+                Err(Left::never_started(unstarted, log))
             }
         }
     }

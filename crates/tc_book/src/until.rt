@@ -1,4 +1,4 @@
-//! What a run waits for behind the lock.
+//! What a run waits for behind the lock, and what it may lack.
 
 use tc_entry::Target;
 
@@ -9,4 +9,15 @@ pub(crate) enum Until {
     Start,
     /// The target of its parked wait.
     Wake { killed: bool, target: Target },
+}
+
+/// What a run lacks that can't go on.
+#[derive(Clone, Copy)]
+pub(crate) enum Lack {
+    /// A place in the history for its Wake.
+    PlaceForWake,
+    /// A place in the history for its leaving.
+    PlaceForLeaving,
+    /// Its word, though it was started.
+    Word,
 }

@@ -1,7 +1,7 @@
 //! Who is told of a change.
 ghost use Rattle.std.specs.Prelude.{◌≡◌};
 
-use crate::conditions::Conditions;
+use crate::conditions::{Conditions, Told};
 use crate::logged_book::LoggedBook;
 
 /// Whether somebody who waits may go on. It is no `Drop`: who gets one gives it to those that wait.
@@ -17,10 +17,12 @@ impl WakeUp {
     }
 
     /// Wakes each run that waits and may go on now, where there may be one.
-    pub(crate) fn give(self, waiting: &Conditions, book: &LoggedBook) {
+    pub(crate) fn give(self, waiting: &Conditions, book: &LoggedBook) -> Told {
         let WakeUp { anyone } = self;
         if anyone {
-            waiting.tell(book);
+            waiting.tell(book)
+        } else {
+            Told::nobody(anyone)
         }
     }
 }

@@ -9,14 +9,14 @@ use Rattle.tc_report.specs.declared.results.CampaignEnd.{CampaignEnd}
 use Rattle.tc_report.specs.declared.results.CampaignEnd.TheVariants as E
 use Rattle.tc_report.specs.declared.results.Finished.{Finished}
 use Rattle.tc_report.specs.Observers.{AreTaken}
-use Rattle.tc_report.proofs.Observing.{taken_more}
+use Rattle.tc_report.proofs.Lemmas.Observing.{taken_more}
 use Rattle.tc_campaign.specs.declared.case.Case.{Case}
 use Rattle.tc_campaign.specs.declared.step.Step.TheVariants as S
 use Rattle.tc_campaign.specs.Outline.{outline_of}
-use Rattle.tc_campaign.specs.Campaign.{HasThreads, IsCalled, IsRefusal, IsTorn}
-use Rattle.tc_campaign.specs.Inside.{IsGoing, IsOf, IsSoFar, IsStep, WasRun}
+use Rattle.tc_campaign.specs.Campaign.{IsCalled, IsRefusal, IsTorn}
+use Rattle.tc_campaign.specs.Inside.{HasThreads, IsGoing, IsOf, IsSoFar, IsStep, WasRun}
 use Rattle.tc_campaign.proofs.Places.{slice_get-behind}
-use Rattle.tc_campaign.proofs.Running.{done_begin, done_more, done_none, run_aborted, run_complete, run_cut, run_stopped, so_far_more, so_far_none, threads_more}
+use Rattle.tc_campaign.proofs.Lemmas.Running.{done_begin, done_more, done_none, run_aborted, run_complete, run_cut, run_stopped, so_far_more, so_far_none, threads_more}
 
 module _ {B O : Type 0} (outcome : B → PassState → Back → Type 0) (takes : O → Finished → O → Bool → Type 0)
     (stop_on : Option Verdict) (threads : ℕ) (cases : List (Case B)) where

@@ -1,7 +1,6 @@
 -- The lemmas of this crate.
-pub mod Running
+pub mod Lemmas
 pub mod Going
-pub mod Keeping
 pub mod Places
 pub mod Rightness
 pub mod Sharding

@@ -12,15 +12,10 @@ use Rattle.tc_exec.specs.Case.{IsCaseReport, AreCalled, IsHandedBack, IsMadeOf}
 use Rattle.tc_report.specs.declared.results.CampaignEnd.{CampaignEnd}
 use Rattle.tc_report.specs.declared.results.CampaignEnd.TheVariants as E
 use Rattle.tc_report.specs.declared.results.Finished.{Finished}
-use Rattle.tc_report.specs.declared.results.Results.{Results}
 use Rattle.tc_campaign.specs.declared.case.Case.{Case}
 use Rattle.tc_report.specs.Observers.{AreTaken, IsEndedAt}
 use Rattle.tc_campaign.specs.Outline.{Outline, outline_of}
 use Rattle.tc_campaign.specs.Stopping.{IsBetter, IsMet}
-
--- a finished case has a name for each behaviour
-abbrev pub IsNamed : Finished → Type 0
-IsNamed f = length f.names ≡ f.report.behaviours
 
 -- a finished case has the name and the behaviour names of this case
 pub record IsOfCase (c : Outline) (f : Finished) : Type 0 where
@@ -47,30 +42,12 @@ IsEnding stop_on last next (E.StoppedAfter name) = IsSomeAnd last (λ f. (name �
 IsEnding stop_on last next (E.Aborted name why) = IfSome last (λ f. IsBetter stop_on f.report.verdict) × IsSomeAnd next (λ c. name ≡ c.name)
 IsEnding stop_on last next E.Complete = IfSome last (λ f. IsBetter stop_on f.report.verdict) × IsNone next
 
--- The results are right for this list of cases and this stopping rule.
-pub record IsRight (cases : List Outline) (stop_on : Option Verdict) (r : Results) : Type 0 where
-  -- the finished cases have the names and behaviour names of a prefix of the list, in order
-  pub names : AllZip IsOfCase (take (length r.finished) cases) r.finished
-  -- each finished case but the last is better than stop_on
-  pub better : All (λ f. IsBetter stop_on f.report.verdict) (take (length r.finished - 1) r.finished)
-  -- how the campaign ended
-  pub ending : IsEnding stop_on (slice_get r.finished (length r.finished - 1)) (slice_get cases (length r.finished)) r.ending
-
--- a finished case has a worker thread for each behaviour but that of run 0
-abbrev pub HasThreads : ℕ → Finished → Type 0
-HasThreads threads f = f.report.behaviours ≤ threads + 1
-
--- this case may be run with so many worker threads
-abbrev pub MayRun : ℕ → Outline → Type 0
-MayRun threads c = IsBehaviours c.jobs × (c.jobs ≤ threads + 1)
-
 -- a run of this case with so many worker threads can be refused so: where they are too few for 1 to 256 behaviours, by NoThread alone
 abbrev pub IsRefusal : ℕ → CaseError → Outline → Type 0
 IsRefusal threads C.NoBehaviours c = c.jobs ≡ 0
 IsRefusal threads C.TooManyBehaviours c = BEHAVIOURS < c.jobs
 IsRefusal threads C.NoThread c = (1 < c.jobs) × (c.jobs ≤ BEHAVIOURS)
-IsRefusal threads C.Torn c = MayRun threads c
-IsRefusal threads C.NoMemory c = MayRun threads c
+IsRefusal threads why c = IsBehaviours c.jobs × (c.jobs ≤ threads + 1)
 
 -- where a run of this case is refused for what its jobs handed back, each was called, was not refused memory, and handed it back
 abbrev pub IsTorn : {B : Type 0} → (B → PassState → Back → Type 0) → CaseError → Case B → Type 0
@@ -102,8 +79,9 @@ module _ {C : Type 0} (outline : C → Outline) (called : C → Finished → Typ
     -- each report is of its own case, whose jobs were called
     pub reports : AllZip IsReported (take (length finished) (map outline cases)) finished
     pub calls : AllZip called (take (length finished) cases) finished
-    pub named : All IsNamed finished
-    pub threads_are : All (HasThreads threads) finished
+    -- each has a name for each behaviour, and a worker thread for each but that of run 0
+    pub named : All (λ f. length f.names ≡ f.report.behaviours) finished
+    pub threads_are : All (λ f. f.report.behaviours ≤ threads + 1) finished
     pub behaviours : All HasBehaviours finished
 
   -- these test cases were finished, and the campaign ended so behind them; it may have had no room for its reports

@@ -3,7 +3,7 @@ use Rattle.std.specs.Prelude.{ℕ, ◌≡◌, ◌+◌, ◌<◌, ◌==◌, ◌||�
 use Rattle.std.specs.List.{list_all, list_any}
 use Rattle.std.specs.Str.{bytes_eq}
 use Rattle.tc_campaign.specs.declared.case.Case.{Case}
-use Rattle.tc_campaign.specs.Shard.{IsShard, ShardView, has_place}
+use Rattle.tc_entry.specs.Shard.{IsShard, ShardView, has_place}
 
 -- the name is asked for; where none is, each is
 abbrev pub is_asked : List (List ℕ) → List ℕ → Bool

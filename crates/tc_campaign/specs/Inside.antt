@@ -1,5 +1,5 @@
 -- What the functions inside of a campaign say, which no public clause names.
-use Rattle.std.specs.Prelude.{ℕ, ◌≡◌, ◌≤◌, ◌++◌, ◌∷◌, [], Option, Some, None, Bool, true, false, Result, Ok, Err, List, All, IfSome, length, map, take, slice_get}
+use Rattle.std.specs.Prelude.{ℕ, ◌≡◌, ◌≤◌, ◌+◌, ◌++◌, ◌∷◌, [], Option, Some, None, Bool, true, false, Result, Ok, Err, List, All, IfSome, length, map, take, slice_get}
 use Rattle.tc_entry.specs.declared.limits.TheConstants.{BEHAVIOURS}
 use Rattle.tc_case.specs.declared.closed.Closed.{Closed}
 use Rattle.std.specs.List.{AllZip}
@@ -18,7 +18,15 @@ use Rattle.tc_campaign.specs.declared.step.Step.{Step}
 use Rattle.tc_campaign.specs.declared.step.Step.TheVariants as S
 use Rattle.tc_campaign.specs.Outline.{Outline, outline_of}
 use Rattle.tc_campaign.specs.Stopping.{IsBetter, IsMet}
-use Rattle.tc_campaign.specs.Campaign.{HasThreads, IsCalled, IsOfCase, IsRefusal, IsTorn, IsTornAt, IsWhy}
+use Rattle.tc_campaign.specs.Campaign.{IsCalled, IsOfCase, IsRefusal, IsTorn, IsTornAt, IsWhy}
+
+-- a finished case has a name for each behaviour
+abbrev pub IsNamed : Finished → Type 0
+IsNamed f = length f.names ≡ f.report.behaviours
+
+-- a finished case has a worker thread for each behaviour but that of run 0
+abbrev pub HasThreads : ℕ → Finished → Type 0
+HasThreads threads f = f.report.behaviours ≤ threads + 1
 
 -- a case was finished so
 pub record IsOf (c : Outline) (f : Finished) : Type 0 where

@@ -2,6 +2,5 @@
 pub mod Stopping
 pub mod Outline
 pub mod Campaign
-pub mod Shard
 pub mod Choosing
 pub mod Inside

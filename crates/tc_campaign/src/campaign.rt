@@ -1,11 +1,10 @@
 //! The run of a campaign.
-ghost use Rattle.std.specs.Prelude.{◌≡◌, ◌⊎◌, ◌≤◌, [], All, IfOk, IfErr, IfSome, IfNone, Option, length, map, take, slice_get, ℕ};
-ghost use Rattle.std.specs.List.{AllZip};
+ghost use Rattle.std.specs.Prelude.{◌≡◌, ◌≤◌, [], All, IfOk, IfErr, IfSome, IfNone, Option, length, map, slice_get, ℕ};
 ghost use Rattle.std.specs.Vec.{vec_capacity, vec_len};
 ghost use Rattle.tc_verdict.specs.declared.verdict.Verdict.{Verdict as AnyVerdict};
 ghost use Rattle.tc_campaign.specs.Outline.{HasNames, outline_of};
-ghost use Rattle.tc_campaign.specs.Campaign.{HasBehaviours, HasThreads, IsCalled, IsCutShort, IsNamed, IsObserved, IsReported, IsRight, IsRunTo, IsTornAt, IsWhy, IsWithoutRoom};
-ghost use Rattle.tc_campaign.specs.Inside.{IsOf, IsRefused, IsStep, IsUnrun, WasRun, ended_by};
+ghost use Rattle.tc_campaign.specs.Campaign.{IsCalled, IsCutShort, IsObserved, IsRunTo, IsTornAt};
+ghost use Rattle.tc_campaign.specs.Inside.{HasThreads, IsOf, IsRefused, IsStep, IsUnrun, WasRun, ended_by};
 
 use crate::case::Case;
 use crate::step::Step;
@@ -180,24 +179,6 @@ fn run_kept<R: Threads + Wait + Copy + Send + 'static, B: Callable>(
     }
 }
 
-// Runs the test cases, and keeps all of them; without room for them none is run.
-fn run_or_not<R: Threads + Wait + Copy + Send + 'static, B: Callable>(
-    rt: &R,
-    alloc: Global,
-    cases: Vec<Case<B>>,
-    stop_on: Option<Verdict>,
-    threads: u16,
-) -> Results
-    requires names { All HasNames cases.items }
-    ensures run { IsRunTo outline_of (IsCalled B.outcome) cases.items stop_on threads result.finished result.ending }
-    ensures torn { IsTornAt B.outcome (slice_get cases.items (length result.finished)) result.ending }
-{
-    match Kept::with_room(alloc, cases.len()) {
-        Ok(kept) => run_kept(rt, alloc, cases, stop_on, threads, kept),
-        Err(_) => without_room(alloc, cases),
-    }
-}
-
 /// Runs the test cases of a campaign one after the other (ES 201 873-1, the execute statement), as by `run_campaign_with`
 /// with an observer that keeps them, a `Kept`.
 ///
@@ -214,14 +195,11 @@ pub fn run_campaign<R: Threads + Wait + Copy + Send + 'static, B: Callable>(
     threads: u16,
 ) -> Results
     requires names { All HasNames cases.items }
-    ensures right { IsRight (map outline_of cases.items) stop_on result }
-    ensures reports { AllZip IsReported (take (length result.finished) (map outline_of cases.items)) result.finished }
-    ensures called { AllZip (IsCalled B.outcome) (take (length result.finished) cases.items) result.finished }
-    ensures names { All IsNamed result.finished }
-    ensures threads { All (HasThreads threads) result.finished }
-    ensures behaviours { All HasBehaviours result.finished }
-    ensures why { IsWhy threads (slice_get (map outline_of cases.items) (length result.finished)) result.ending ⊎ IsWithoutRoom result.finished result.ending }
+    ensures run { IsRunTo outline_of (IsCalled B.outcome) cases.items stop_on threads result.finished result.ending }
     ensures torn { IsTornAt B.outcome (slice_get cases.items (length result.finished)) result.ending }
 {
-    run_or_not(rt, alloc, cases, stop_on, threads)
+    match Kept::with_room(alloc, cases.len()) {
+        Ok(kept) => run_kept(rt, alloc, cases, stop_on, threads, kept),
+        Err(_) => without_room(alloc, cases),
+    }
 }

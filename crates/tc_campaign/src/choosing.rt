@@ -5,9 +5,8 @@ ghost use Rattle.std.specs.Str.{bytes_eq};
 ghost use Rattle.tc_campaign.specs.Choosing.{case_name, chosen, have_names, is_asked as spec_asked, named as spec_named, placed};
 
 use crate::case::Case;
-use crate::shard::Shard;
 use std::alloc::Global;
-use tc_entry::{Name, NoMemory};
+use tc_entry::{Name, NoMemory, Shard};
 
 fn is_same(name: &Name, other: &Name) -> bool
     ensures { result ≡ bytes_eq name.now other.now }

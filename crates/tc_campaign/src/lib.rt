@@ -5,14 +5,13 @@ mod campaign;
 mod case;
 mod choosing;
 pub mod laws;
-mod shard;
 mod step;
 mod stopping;
 
 pub use campaign::{run_campaign, run_campaign_with, without_room};
 pub use case::Case;
 pub use choosing::{choose, have_all};
-pub use shard::Shard;
+pub use tc_entry::Shard;
 pub use tc_report::{
     CampaignEnd, Finished, Form, Kept, LiveWriter, Observer, OutFault, Progress, Results, Tally,
     status_of, tally, write_abort, write_csv, write_history, write_text,

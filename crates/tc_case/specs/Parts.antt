@@ -14,13 +14,13 @@ unfoldable pub part : List Entry → ℕ → List Entry
 part history b = filter (is_by b) history
 
 -- the log of run b with these entries, if it is on a component
-abbrev pub log_of : Option Comp → ℕ → List Entry → List RunLog
-log_of (Some c) b entries = record { run = record { 0 = b }; comp = c; entries = entries } ∷ []
-log_of None b entries = []
+abbrev pub log_on : Option Comp → ℕ → List Entry → List RunLog
+log_on (Some c) b entries = record { run = record { 0 = b }; comp = c; entries = entries } ∷ []
+log_on None b entries = []
 
 -- the log of run b, if it was started: its component, and its part of the history
 abbrev pub log_if : Option Comp → List Entry → ℕ → List RunLog
-log_if comp history b = log_of comp b (part history b)
+log_if comp history b = log_on comp b (part history b)
 
 -- the logs of the runs below n that were started, in the order of their numbers
 abbrev pub logs_below : List Entry → ℕ → List RunLog

@@ -1,5 +1,6 @@
 -- What only the reading of the words needs: no public clause rests on a word of this file.
-use Rattle.std.specs.Prelude.{◌≡◌, ◌∷◌, [], Bool, List, true}
+use Rattle.std.specs.Prelude.{◌≡◌, ◌==◌, ◌||◌, ◌∷◌, [], Bool, List, Option, Some, None, if◌then◌else◌, true}
+use Rattle.std.specs.List.{list_any}
 use Rattle.clap.specs.Words.{App, Row, Rule, Text, app_of, kind_of, with_rule, with_subcommand}
 use Rattle.clap.specs.declared.builder.command.Command.{Command}
 use Rattle.clap.specs.declared.builder.command.Command.TheViews.{out-Command}
@@ -85,3 +86,17 @@ app_of_subcommand S.Replay = replay
 abbrev pub with_each : List Subcommand → App → App
 with_each [] app = app
 with_each (s ∷ ss) app = with_each ss (with_subcommand app (app_of_subcommand s).top)
+
+-- the word has a dot or a slash
+abbrev pub looks_like_file : Text → Bool
+looks_like_file word = list_any (λ b. (b == 46) || (b == 47)) word
+
+-- the word, where it looks like the path of a file
+abbrev pub if_file : Text → Option Text
+if_file word = if looks_like_file word then Some word else None
+
+-- the first word behind the program's name, where it looks like the path of a file
+abbrev pub stray_file : List Text → Option Text
+stray_file [] = None
+stray_file (program ∷ []) = None
+stray_file (program ∷ word ∷ words) = if_file word

@@ -2,5 +2,4 @@
 pub mod Command
 pub mod Words
 pub mod Asked
-pub mod Stray
 pub mod Inside

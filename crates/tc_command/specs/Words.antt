@@ -2,19 +2,15 @@
 use Rattle.std.specs.Prelude.{ℕ, ◌≡◌, ◌≤◌, ◌<◌, ◌+◌, ◌^◌, List, ◌∷◌, ◌++◌, Option, Some, None, codes}
 use Rattle.std.specs.Fmt.{decimal}
 use Rattle.clap.specs.Words.{Text}
+use Rattle.tc_entry.specs.Shard.{IsShard, ShardView}
 use Rattle.tc_verdict.specs.declared.verdict.Verdict.{Verdict}
 use Rattle.tc_verdict.specs.Verdict.{name_of}
 use Rattle.tc_command.specs.declared.word.WordFault.{WordFault}
 use Rattle.tc_command.specs.declared.word.WordFault.TheVariants as F
 
--- one of so many shards, by its place among them, which counts from 0
-pub record ShardView : Type 0 where
-  pub place : ℕ
-  pub shards : ℕ
-
 -- the word is K/N, in decimal: this is the K-th of N shards, and K is from 1 to N
 abbrev pub IsShardWord : Text → ShardView → Type 0
-IsShardWord word s = (word ≡ decimal (s.place + 1) ++ (47 ∷ decimal s.shards)) × (s.place < s.shards) × (s.shards < 2 ^ 32)
+IsShardWord word s = (word ≡ decimal (s.place + 1) ++ (47 ∷ decimal s.shards)) × IsShard s × (s.shards < 2 ^ 32)
 
 -- the word of an option names this; without a word there is nothing
 abbrev pub IsNamed : {T : Type 0} → (Text → T → Type 0) → Option Text → Option T → Type 0

@@ -4,14 +4,12 @@
 mod command;
 mod read;
 mod refusal;
-mod shard;
 mod stray;
 mod task;
 mod word;
 
 pub use command::VERSION;
 pub use read::{Refused, read_task};
-pub use shard::Shard;
-pub use stray::stray_file;
 pub use task::{Choice, Form, ReportForm, RunOptions, Task};
+pub use tc_entry::Shard;
 pub use word::WordFault;

@@ -2,7 +2,7 @@
 ghost use Rattle.std.specs.Prelude.{◌≡◌, IfOk, map, option_map, string_bytes};
 ghost use Rattle.clap.specs.Words.{kind_of};
 ghost use Rattle.clap.specs.declared.error.kind.ErrorKind.TheVariants.{InvalidSubcommand};
-ghost use Rattle.tc_command.specs.Stray.{looks_like_file as spec_looks, stray_file as spec_stray};
+ghost use Rattle.tc_command.specs.Inside.{looks_like_file as spec_looks, stray_file as spec_stray};
 
 use clap::error::ErrorKind;
 use clap::{Command, Error};
@@ -17,8 +17,8 @@ fn looks_like_file(word: &str) -> bool
         .any(|byte| *byte == b'.' || *byte == b'/')
 }
 
-/// The first word behind the program's name, where it looks like the path of a file: it has a dot or a slash.
-pub fn stray_file(words: &[String]) -> Option<&str>
+// The first word behind the program's name, where it looks like the path of a file: it has a dot or a slash.
+fn stray_file(words: &[String]) -> Option<&str>
     ensures { option_map (λ w. w.now) result ≡ spec_stray (map string_bytes words.now) }
 {
     let [_, word, ..] = words else {

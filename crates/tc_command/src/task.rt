@@ -1,6 +1,5 @@
 //! What the program can be asked for.
-use crate::shard::Shard;
-use tc_entry::Name;
+use tc_entry::{Name, Shard};
 use tc_verdict::Verdict;
 
 /// In which form the results are written.

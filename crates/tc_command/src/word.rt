@@ -2,14 +2,14 @@
 ghost use Rattle.std.specs.Prelude.{◌≡◌, ◌≤◌, All, IfOk, IfErr, IfSome, IfNone, map, option_copied, ℕ};
 ghost use Rattle.std.specs.Fmt.{decimal};
 ghost use Rattle.tc_entry.specs.Name.{IsName};
-ghost use Rattle.tc_command.specs.Words.{IsBad, IsRuleOf, IsShardOf, IsShardWord, IsStatesOf, ShardView, text_of};
+ghost use Rattle.tc_entry.specs.Shard.{ShardView};
+ghost use Rattle.tc_command.specs.Words.{IsBad, IsRuleOf, IsShardOf, IsShardWord, IsStatesOf, text_of};
 ghost use Rattle.tc_command.specs.Inside.{IsBadWord};
 ghost use Rattle.tc_command.specs.declared.word.WordFault.TheVariants as fault;
 
 use crate::refusal::Refusal;
-use crate::shard::Shard;
 use std::alloc::Global;
-use tc_entry::Name;
+use tc_entry::{Name, Shard};
 use tc_text::{read_number, take_number};
 use tc_verdict::{Verdict, read_name};
 

@@ -3,3 +3,4 @@ pub mod Limits
 pub mod Name
 pub mod Group
 pub mod Reply
+pub mod Shard

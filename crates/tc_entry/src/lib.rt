@@ -10,6 +10,7 @@ mod op;
 mod phase;
 mod reply;
 mod sequence;
+mod shard;
 
 pub use args::Args;
 pub use comp::Comp;
@@ -20,4 +21,5 @@ pub use op::{Group, Op, Target};
 pub use phase::Phase;
 pub use reply::{Fault, Reply, name_of_fault};
 pub use sequence::Sequence;
+pub use shard::Shard;
 pub use tc_verdict::{NoMemory, Run, UserVerdict, Verdict};

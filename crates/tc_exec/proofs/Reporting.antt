@@ -10,7 +10,7 @@ use Rattle.tc_book.specs.Inside.{comp_by}
 use Rattle.tc_book.specs.Starts.{start_of}
 use Rattle.tc_case.specs.Parts.{part, log_if, logs_below}
 use Rattle.tc_case.specs.Report.{IsOneHistory}
-use Rattle.tc_book.proofs.PartOf.{comp_is}
+use Rattle.tc_book.proofs.Lemmas.PartOf.{comp_is}
 use Rattle.tc_exec.specs.Case.{WasStartedIn, IsCaseReport}
 
 -- what a run above 0 was started with, by its component

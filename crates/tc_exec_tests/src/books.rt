@@ -50,6 +50,49 @@ fn closed_by_both<R: Abort + Wait>(rt: &R, alloc: Global) -> Closed {
     got(rt, close_of_two(rt, alloc, shared, first, second))
 }
 
+/// A case of three behaviours: run 1 makes this call and leaves, then run 2 on the same component; and what each of them left.
+fn one_after_the_other<R: Abort + Wait>(
+    rt: &R,
+    alloc: Global,
+    first: &str,
+    second: &str,
+) -> (Shared, Left, Left, Left) {
+    let (shared, pass, tickets) = got(rt, open(alloc, 3));
+    let (mut main, mut tickets) = (pass, tickets);
+    calls(rt, &mut main, "0 create alive => made 1");
+    calls(rt, &mut main, "0 start 1 1 => ok");
+    let one = left_behind(rt, &mut tickets, first);
+    calls(rt, &mut main, "0 start 1 2 => ok");
+    let other = left_behind(rt, &mut tickets, second);
+    (shared, leave(rt, main), one, other)
+}
+
+/// What the run leaves whose ticket is the first, after this call.
+fn left_behind<R: Abort + Wait>(rt: &R, tickets: &mut Vec<Ticket>, row: &str) -> Left {
+    let mut pass = enter(rt, tickets);
+    calls(rt, &mut pass, row);
+    leave(rt, pass)
+}
+
+/// How a case is refused that is closed by what its first two runs left, and by what the third run of another case left: it was
+/// told the verdict that its component had there.
+fn closed_by_another_reply<R: Abort + Wait>(rt: &R, alloc: Global) -> Option<CloseFault> {
+    let (_, _, _, told) = one_after_the_other(
+        rt,
+        alloc,
+        "1 setverdict fail => ok",
+        "2 getverdict => fail",
+    );
+    let (shared, main, one, _) = one_after_the_other(
+        rt,
+        alloc,
+        "1 setverdict none => ok",
+        "2 getverdict => none",
+    );
+    let lefts = got(rt, vec![in alloc; main, one, told]);
+    close(rt, alloc, shared, lefts).err()
+}
+
 #[test]
 fn torn_closes(rt: HostRuntime) {
     let torn = Some(CloseFault::Torn);
@@ -57,6 +100,8 @@ fn torn_closes(rt: HostRuntime) {
     is(&rt, "what another left", another, torn);
     let one = closed_by_one_of_two(&rt, rt.alloc());
     is(&rt, "what one of two left", one, torn);
+    let told = closed_by_another_reply(&rt, rt.alloc());
+    is(&rt, "a reply that differs", told, torn);
     let closed = closed_by_both(&rt, rt.alloc());
     is_told(&rt, &closed, 1, Verdict::None);
     is(&rt, "logs", closed.logs.as_slice().len(), 1);

@@ -72,7 +72,7 @@ fn append_words(out: &mut Vec<u8>, words: &[&str]) -> Result<(), NoMemory> {
 }
 
 /// Appends the words that would be understood, and what else would.
-#[tactic(auto, using(crate::proofs::Showing::tell_rules))]
+#[tactic(auto, using(crate::proofs::Lemmas::Showing::tell_rules))]
 pub(crate) fn append_list(
     alloc: Global,
     out: &mut Vec<u8>,
@@ -89,7 +89,7 @@ pub(crate) fn append_list(
 }
 
 // Appends the nearest word, where there is one.
-#[tactic(auto, using(crate::proofs::Showing::tell_rules))]
+#[tactic(auto, using(crate::proofs::Lemmas::Showing::tell_rules))]
 fn append_near(alloc: Global, out: &mut Vec<u8>, near: Option<&str>) -> Result<(), NoMemory>
     ensures { OnOk result (Shows (near_note (option_copied near.entry)) out.old.items out.new.items) }
 {
@@ -100,7 +100,7 @@ fn append_near(alloc: Global, out: &mut Vec<u8>, near: Option<&str>) -> Result<(
 }
 
 /// Appends the word of the table that is the nearest to a word.
-#[tactic(auto, using(crate::proofs::Showing::tell_rules))]
+#[tactic(auto, using(crate::proofs::Lemmas::Showing::tell_rules))]
 pub(crate) fn append_nearest(
     alloc: Global,
     out: &mut Vec<u8>,
@@ -117,7 +117,7 @@ pub(crate) fn append_nearest(
 }
 
 /// Appends what began in a line, where it is open.
-#[tactic(auto, using(crate::proofs::Showing::tell_rules))]
+#[tactic(auto, using(crate::proofs::Lemmas::Showing::tell_rules))]
 pub(crate) fn append_begun(
     alloc: Global,
     out: &mut Vec<u8>,

@@ -33,7 +33,7 @@ use tc_verdict::NoMemory;
 const UNDERSTOOD: &str = "understood there: ";
 
 // Appends what the text seems to be, where it should be something else.
-#[tactic(auto, using(crate::proofs::Showing::tell_rules))]
+#[tactic(auto, using(crate::proofs::Lemmas::Showing::tell_rules))]
 fn append_sort(out: &mut Vec<u8>, sort: Sort, seen: Option<Sort>) -> Result<(), NoMemory>
     ensures { OnOk result (Shows (sort_note sort seen) out.old.items out.new.items) }
 {
@@ -54,7 +54,7 @@ fn word_at<'t>(words: &[&'t [u8]], place: usize) -> Option<&'t [u8]>
 }
 
 // Appends the word at a place of the line, with its column.
-#[tactic(auto, unfolding(crate::specs::Explanation::place_note), using(crate::proofs::Showing::tell_rules))]
+#[tactic(auto, unfolding(crate::specs::Explanation::place_note), using(crate::proofs::Lemmas::Showing::tell_rules))]
 fn append_place(
     alloc: Global,
     out: &mut Vec<u8>,
@@ -72,7 +72,7 @@ fn append_place(
 }
 
 // Appends these words, which would be understood, and the nearest to the word.
-#[tactic(auto, using(crate::proofs::Showing::tell_rules))]
+#[tactic(auto, using(crate::proofs::Lemmas::Showing::tell_rules))]
 fn append_table(
     alloc: Global,
     out: &mut Vec<u8>,
@@ -87,7 +87,7 @@ fn append_table(
 }
 
 // Appends the keywords of a script that would be understood, and the nearest to the word of all.
-#[tactic(auto, using(crate::proofs::Showing::tell_rules))]
+#[tactic(auto, using(crate::proofs::Lemmas::Showing::tell_rules))]
 fn append_keywords(
     alloc: Global,
     out: &mut Vec<u8>,
@@ -101,7 +101,7 @@ fn append_keywords(
 }
 
 // Appends what would be understood in place of the word.
-#[tactic(auto, using(crate::proofs::Showing::tell_rules))]
+#[tactic(auto, using(crate::proofs::Lemmas::Showing::tell_rules))]
 fn append_slot(
     alloc: Global,
     out: &mut Vec<u8>,
@@ -121,7 +121,7 @@ fn append_slot(
 }
 
 // Appends where the line stops, and what would be understood there.
-#[tactic(auto, unfolding(crate::specs::Explanation::stop_note), using(crate::proofs::Showing::tell_rules))]
+#[tactic(auto, unfolding(crate::specs::Explanation::stop_note), using(crate::proofs::Lemmas::Showing::tell_rules))]
 fn append_stop(
     alloc: Global,
     out: &mut Vec<u8>,
@@ -155,7 +155,7 @@ fn rule(kind: ScriptKind) -> &'static str {
 }
 
 // Appends what is wrong with a line of a script.
-#[tactic(auto, using(crate::proofs::Showing::tell_rules))]
+#[tactic(auto, using(crate::proofs::Lemmas::Showing::tell_rules))]
 fn append_script(
     alloc: Global,
     out: &mut Vec<u8>,
@@ -180,7 +180,7 @@ fn append_script(
 }
 
 // Appends what is wrong with a move.
-#[tactic(auto, using(crate::proofs::Showing::tell_rules))]
+#[tactic(auto, using(crate::proofs::Lemmas::Showing::tell_rules))]
 fn append_move(
     alloc: Global,
     out: &mut Vec<u8>,
@@ -202,7 +202,7 @@ fn append_move(
 }
 
 // Appends what is wrong with a line of histories.
-#[tactic(auto, using(crate::proofs::Showing::tell_rules))]
+#[tactic(auto, using(crate::proofs::Lemmas::Showing::tell_rules))]
 fn append_entry(
     alloc: Global,
     out: &mut Vec<u8>,
@@ -233,7 +233,7 @@ fn first_line(moves: bool) -> &'static str {
 }
 
 // Appends what is wrong with a line of moves or of histories.
-#[tactic(auto, using(crate::proofs::Showing::tell_rules))]
+#[tactic(auto, using(crate::proofs::Lemmas::Showing::tell_rules))]
 fn append_text_note(
     alloc: Global,
     out: &mut Vec<u8>,
@@ -265,7 +265,7 @@ fn append_at(alloc: Global, out: &mut Vec<u8>, start: usize, what: &str) -> Resu
 }
 
 // Appends what is wrong with a line of moves or of histories, first of all a space too many.
-#[tactic(auto, using(crate::proofs::Showing::tell_rules))]
+#[tactic(auto, using(crate::proofs::Lemmas::Showing::tell_rules))]
 fn append_spaced(
     alloc: Global,
     out: &mut Vec<u8>,
@@ -286,7 +286,7 @@ fn append_spaced(
 }
 
 // Appends what is wrong with a line without odd bytes.
-#[tactic(auto, using(crate::proofs::Showing::tell_rules))]
+#[tactic(auto, using(crate::proofs::Lemmas::Showing::tell_rules))]
 fn append_kind(
     alloc: Global,
     out: &mut Vec<u8>,
@@ -318,7 +318,7 @@ fn append_odd_at(alloc: Global, out: &mut Vec<u8>, line: &[u8], at: usize) -> Re
 }
 
 // Appends what is wrong with a line, first of all an odd byte.
-#[tactic(auto, using(crate::proofs::Showing::tell_rules))]
+#[tactic(auto, using(crate::proofs::Lemmas::Showing::tell_rules))]
 fn append_wrong(
     alloc: Global,
     out: &mut Vec<u8>,
@@ -355,7 +355,7 @@ fn append_shown(alloc: Global, out: &mut Vec<u8>, line: &[u8]) -> Result<(), NoM
 }
 
 // Appends the line with its fault, or that the text ends before it.
-#[tactic(auto, using(crate::proofs::Showing::tell_rules))]
+#[tactic(auto, using(crate::proofs::Lemmas::Showing::tell_rules))]
 fn append_line(
     alloc: Global,
     out: &mut Vec<u8>,
@@ -376,7 +376,7 @@ fn append_line(
 }
 
 // Appends what is open.
-#[tactic(auto, using(crate::proofs::Showing::tell_rules))]
+#[tactic(auto, using(crate::proofs::Lemmas::Showing::tell_rules))]
 fn append_opened(
     alloc: Global,
     out: &mut Vec<u8>,
@@ -400,7 +400,7 @@ fn append_opened(
 ///
 /// Each line ends with a line feed and begins with two spaces. Of the text it shows printable bytes alone, others by their
 /// numbers, and of a long line the first 60 bytes.
-#[tactic(auto, unfolding(crate::specs::Explanation::explanation), using(crate::proofs::Showing::tell_rules))]
+#[tactic(auto, unfolding(crate::specs::Explanation::explanation), using(crate::proofs::Lemmas::Showing::tell_rules))]
 pub fn explain(
     alloc: Global,
     text: &[u8],

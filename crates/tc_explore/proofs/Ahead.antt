@@ -26,16 +26,16 @@ use Rattle.tc_table.specs.Faults.{fault, names, all_exist, asks_many, special_fa
 use Rattle.tc_table.specs.Answers.{answer, plain_answer, is_active, is_active_on, is_run_of}
 use Rattle.tc_table.specs.Legal.{IsLegal}
 use Rattle.tc_table.specs.Inside.Step.{next_phase, next_local}
-use Rattle.tc_table.proofs.Deciding.{self_equal, equal_if}
-use Rattle.tc_table.proofs.Keeping.{all_exist_same}
-use Rattle.tc_table.proofs.Over.{on_existing}
-use Rattle.tc_table.proofs.Going.{starts_still}
-use Rattle.tc_table.proofs.Sound.{plain_if}
+use Rattle.tc_table.proofs.Lemmas.Deciding.{self_equal, equal_if}
+use Rattle.tc_table.proofs.Lemmas.Keeping.{all_exist_same}
+use Rattle.tc_table.proofs.Lemmas.Over.{on_existing}
+use Rattle.tc_table.proofs.Lemmas.Going.{starts_still}
+use Rattle.tc_table.proofs.Lemmas.Sound.{plain_if}
 use Rattle.tc_explore.specs.Course.{Stand, stand, goes_on, IsCourse}
 use Rattle.tc_explore.specs.Inside.Alike.{IsAlike}
 use Rattle.tc_explore.specs.Inside.Simulation.{IsQuietAt, call_at, IsLastAt, WasParked, IsLeaving, IsEnding, IsAhead}
 use Rattle.tc_explore.proofs.Alike.{is_plain_call, phase_next, overall_next}
-use Rattle.tc_explore.proofs.Standings.{stand_comp, stand_other}
+use Rattle.tc_explore.proofs.Lemmas.Standings.{stand_comp, stand_other}
 
 -- ---- waits
 

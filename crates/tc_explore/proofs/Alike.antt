@@ -6,7 +6,7 @@ use Rattle.tc_verdict.specs.declared.run.Run.{Run}
 use Rattle.tc_verdict.specs.declared.verdict.Verdict.{Verdict}
 use Rattle.tc_verdict.specs.declared.verdict.Verdict.TheVariants as V
 use Rattle.tc_verdict.specs.Verdict.{worse, worst, level_of}
-use Rattle.tc_verdict.proofs.Order.{worse_later, worse_swap}
+use Rattle.tc_verdict.proofs.Lemmas.Order.{worse_later, worse_swap}
 use Rattle.tc_entry.specs.declared.comp.Comp.{Comp}
 use Rattle.tc_entry.specs.declared.entry.Entry.{Entry}
 use Rattle.tc_entry.specs.declared.op.Op.{Op}
@@ -30,13 +30,13 @@ use Rattle.tc_table.specs.Answers.{answer, is_active, is_active_on, is_run_of}
 use Rattle.tc_table.specs.Legal.{IsLegal}
 use Rattle.tc_table.specs.Inside.Kept.{state_of, blank}
 use Rattle.tc_table.specs.Inside.Step.{next_phase, next_state, next_local}
-use Rattle.tc_table.proofs.Steps.{state_step}
-use Rattle.tc_table.proofs.Fresh.{fresh_step}
-use Rattle.tc_table.proofs.Keeping.{all_exist_same, kill_halts}
-use Rattle.tc_table.proofs.Sound.{starts}
-use Rattle.tc_table.proofs.Over.{on_existing, stays}
-use Rattle.tc_table.proofs.LawsOfHistories.{killed_was_halted}
-use Rattle.tc_table.proofs.Deciding.{self_equal, equal_if, if_same}
+use Rattle.tc_table.proofs.Lemmas.Steps.{state_step}
+use Rattle.tc_table.proofs.Lemmas.Fresh.{fresh_step}
+use Rattle.tc_table.proofs.Lemmas.Keeping.{all_exist_same, kill_halts}
+use Rattle.tc_table.proofs.Lemmas.Sound.{starts}
+use Rattle.tc_table.proofs.Lemmas.Over.{on_existing, stays}
+use Rattle.tc_table.proofs.Lemmas.LawsOfHistories.{killed_was_halted}
+use Rattle.tc_table.proofs.Lemmas.Deciding.{self_equal, equal_if, if_same}
 use Rattle.tc_explore.specs.Inside.Alike.{IsAlike}
 use Rattle.tc_explore.specs.Inside.Simulation.{is_gone, is_late, is_met}
 

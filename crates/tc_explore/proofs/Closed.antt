@@ -1,5 +1,5 @@
 -- When what comes after a state is seen, or its verdict is found.
-use Rattle.std.proofs.Common.{ℕ, ◌≡◌, ◌+◌, ◌<◌, Bool, true, false, Some, List, ◌∷◌, ◌++◌, length, reverse, nat_lt, refl, ap, sym, subst, ◌∙◌, arith}
+use Rattle.std.proofs.Common.{ℕ, ◌≡◌, ◌+◌, ◌<◌, Bool, true, false, Some, List, ◌∷◌, ◌++◌, length, reverse, nat_lt, refl, ap, sym, subst, ◌∙◌, arith, length-append}
 use Rattle.std.proofs.lemmas.List.{append_assoc}
 use Rattle.std.proofs.lemmas.Bool.Decides.{nat_tests}
 use Rattle.tc_verdict.specs.declared.run.Run.{Run}
@@ -13,11 +13,12 @@ use Rattle.tc_table.specs.History.{is_over}
 use Rattle.tc_table.specs.Local.{overall}
 use Rattle.tc_table.specs.Answers.{answer}
 use Rattle.tc_explore.specs.declared.witness.Witness.{Witness}
+use Rattle.tc_explore.specs.declared.search.Met.{Met}
 use Rattle.tc_explore.specs.Told.{is_found}
 use Rattle.tc_explore.specs.Course.{goes_on, turn, IsTurn, IsCourse}
 use Rattle.tc_explore.specs.Inside.Going.{taken, IsOn, CannotGo}
 use Rattle.tc_explore.specs.Inside.Simulation.{is_spent, IsCovered, GoesOn, IsClosedFor}
-use Rattle.tc_explore.specs.Inside.Seen.{IsSeen, IsLonger, StandsOn, IsAfter, IsRunClosed}
+use Rattle.tc_explore.specs.Inside.Seen.{IsSeen, IsLonger, StandsOn, IsAfter, IsRunClosed, IsCalm, IsState, IsStillAt, AreStill, IsFull}
 use Rattle.tc_explore.proofs.Seeing.{closed_for_longer, covered_by}
 
 -- what a copy of a course has called, it has called
@@ -57,7 +58,7 @@ entry_of : Run → Op → Reply → Entry
 entry_of run op reply = record { caller = run; op = op; reply = reply }
 
 -- a run has one next call
-same_entry : (scripts : List ScriptView) (q : List Entry) (e d : Entry) → IsTurn scripts q e → IsTurn scripts q d → e.caller.0 ≡ d.caller.0 → e ≡ d
+pub same_entry : (scripts : List ScriptView) (q : List Entry) (e d : Entry) → IsTurn scripts q e → IsTurn scripts q d → e.caller.0 ≡ d.caller.0 → e ≡ d
 unfolding entry_of
 same_entry scripts q e d h k own =
     let turns : turn scripts q e.caller.0 ≡ turn scripts q d.caller.0 = ap (turn scripts q) own in
@@ -85,16 +86,36 @@ run_parked scripts states found n q run op t off = λ e own h on.
     let was : goes_on e.reply ≡ goes_on (answer n q run.0 op) = ap (λ (x : Entry). goes_on x.reply) same in
     absurd cc
 
-pub run_closed : (scripts : List ScriptView) (states : List Case) (found : List Witness) (n : ℕ) (q : List Entry) (run : Run) (op : Op) → IsTurn scripts q (taken n q run op) →
-    (is_fault (answer n q run.0 op) ≡ false → is_spent q op ≡ false) → IsAfter scripts states found q (taken n q run op) → IsRunClosed scripts states found q run.0
-run_closed scripts states found n q run op t loud after = λ e own h on.
+-- in a state a call that goes on is an error, or changes something
+pub run_closed : (scripts : List ScriptView) (states : List Case) (found : List Witness) (n : ℕ) (q : List Entry) (run : Run) (op : Op) → IsCalm scripts q → run.0 < length scripts → IsTurn scripts q (taken n q run op) →
+    goes_on (answer n q run.0 op) ≡ true → IsAfter scripts states found q (taken n q run op) → IsRunClosed scripts states found q run.0
+run_closed scripts states found n q run op calm near t goes after = λ e own h on.
+    let loud : is_fault (answer n q run.0 op) ≡ false → is_spent q op ≡ false = calm run.0 near (taken n q run op) refl t goes in
     let same : taken n q run op ≡ e = sym (same_entry scripts q e (taken n q run op) h t own) in
     subst (λ x. IsClosedFor scripts (IsSeen states) found q x) same (record { loud = loud; over = after.over; more = after.more })
 
 pub goes_on_by : (scripts : List ScriptView) (n : ℕ) (q : List Entry) (run : Run) (op : Op) → IsTurn scripts q (taken n q run op) → goes_on (answer n q run.0 op) ≡ true → is_fault (answer n q run.0 op) ≡ false → GoesOn scripts q
 goes_on_by scripts n q run op t on plain = record { entry = taken n q run op; turn = t; on = on; no_fault = plain }
 
-pub ruleset run_rules = (run_cannot, run_parked, run_closed, goes_on_by)
+-- the next call of a run that does not go on, and that of one that is an error
+pub still_cannot : (scripts : List ScriptView) (q : List Entry) (b : ℕ) → CannotGo scripts q b → IsStillAt scripts q b
+still_cannot scripts q b cannot = λ e own t on. absurd (cannot e own t)
+
+pub still_parked : (scripts : List ScriptView) (n : ℕ) (q : List Entry) (run : Run) (op : Op) → IsTurn scripts q (taken n q run op) → goes_on (answer n q run.0 op) ≡ false → IsStillAt scripts q run.0
+still_parked scripts n q run op t off = λ e own h on.
+    let same : e ≡ taken n q run op = same_entry scripts q e (taken n q run op) h t own in
+    let was : goes_on e.reply ≡ goes_on (answer n q run.0 op) = ap (λ (x : Entry). goes_on x.reply) same in
+    absurd cc
+
+pub still_fault : (scripts : List ScriptView) (n : ℕ) (q : List Entry) (run : Run) (op : Op) → IsTurn scripts q (taken n q run op) → is_fault (answer n q run.0 op) ≡ true → IsStillAt scripts q run.0
+still_fault scripts n q run op t fault = λ e own h on.
+    let same : e ≡ taken n q run op = same_entry scripts q e (taken n q run op) h t own in
+    ap (λ (x : Entry). is_fault x.reply) same ∙ fault
+
+pub calm_state : (scripts : List ScriptView) (t : Case) → IsState scripts t → IsCalm scripts (past_of t)
+calm_state scripts t s = s.calm
+
+pub ruleset run_rules = (run_cannot, run_parked, run_closed, goes_on_by, still_cannot, still_parked, still_fault, calm_state)
 
 -- ---- all runs
 
@@ -116,4 +137,18 @@ runs_more scripts a b f g q n states found closed last k less = by_place (nat_lt
 pub longer_then : {A : Type 0} (a b c : List A) → IsLonger a b → IsLonger b c → IsLonger a c
 longer_then a b c h k = (h.0 ++ k.0, k.1 ∙ (ap (λ x. x ++ k.0) h.1 ∙ append_assoc a h.0 k.0))
 
-pub ruleset runs_rules = (runs_longer, runs_more, longer_then)
+-- one run more
+pub still_more : (scripts : List ScriptView) (q : List Entry) (n : ℕ) → AreStill scripts q n → IsStillAt scripts q n → AreStill scripts q (n + 1)
+still_more scripts q n are last b less = by_place (nat_lt b n) refl
+  where
+    by_place : (t : Bool) → nat_lt b n ≡ t → IsStillAt scripts q b
+    by_place true h = are b (grind (arith, nat_tests))
+    by_place false h = let same : n ≡ b = grind (arith, nat_tests) in subst (IsStillAt scripts q) same last
+
+-- as many as the limit stay so
+pub full_longer : (before after : Met) → IsLonger before.states.items after.states.items → after.limit ≡ before.limit → IsFull before → IsFull after
+full_longer before after more same full =
+    let size : length after.states.items ≡ length before.states.items + length more.0 = ap length more.1 ∙ length-append before.states.items more.0 in
+    omega (arith, size, same, full)
+
+pub ruleset runs_rules = (runs_longer, runs_more, longer_then, full_longer)

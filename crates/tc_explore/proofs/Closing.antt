@@ -26,10 +26,10 @@ use Rattle.tc_table.specs.Waiting.{holds, waiting, waits_in_vain, is_still, is_s
 use Rattle.tc_table.specs.Faults.{fault, all_exist}
 use Rattle.tc_table.specs.Answers.{answer, plain_answer, wake_reply, is_active, is_active_on, is_run_of}
 use Rattle.tc_table.specs.Legal.{IsLegal}
-use Rattle.tc_table.proofs.Deciding.{equal_if, and_right}
-use Rattle.tc_table.proofs.Over.{on_existing, all_over}
-use Rattle.tc_table.proofs.Stuck.{one_false}
-use Rattle.tc_table.proofs.Going.{started_by_entry}
+use Rattle.tc_table.proofs.Lemmas.Deciding.{equal_if, and_right}
+use Rattle.tc_table.proofs.Lemmas.Over.{on_existing, all_over}
+use Rattle.tc_table.proofs.Lemmas.Stuck.{one_false}
+use Rattle.tc_table.proofs.Lemmas.Going.{started_by_entry}
 use Rattle.tc_explore.specs.declared.witness.Witness.{Witness}
 use Rattle.tc_explore.specs.Course.{Stand, stand, goes_on, after_own, after_other_by, is_wake, is_idle_by, wake_or, wake_if, call_of, turn, steps_in, script_of, IsTurn, IsCourse, IsComplete}
 use Rattle.tc_explore.specs.Told.{is_found}
@@ -39,7 +39,7 @@ use Rattle.tc_explore.proofs.Legality.{course_legal}
 use Rattle.tc_explore.proofs.Alike.{ChangesNothing, alike_sym, alike_unchanged, active_alike, holds_alike, is_plain_call, overall_next}
 use Rattle.tc_explore.proofs.Ahead.{holds_ahead, ending_active, ended_inactive, not_ending_run, died_before, active_back, active_forth, none_too, some_too, fault_ahead, answer_ahead, ahead_self, ahead_after, ahead_turn, ahead_step}
 use Rattle.tc_explore.proofs.Leaving.{Ends, running_on, ends_no_case, after_end}
-use Rattle.tc_explore.proofs.Standings.{HasTurn, has_turn, turn_of, never_wake, stand_own, stand_comp, stand_unstarted, unstarted, IsAwaitedBy, waiting_wake, wake_after_other, run_in_range}
+use Rattle.tc_explore.proofs.Lemmas.Standings.{HasTurn, has_turn, turn_of, never_wake, stand_own, stand_comp, stand_unstarted, unstarted, IsAwaitedBy, waiting_wake, wake_after_other, run_in_range}
 use Rattle.tc_explore.proofs.Late.{IsGone, late_for, late_reply, late_halts, IsMetFor, met_for, met_reply, met_or_parked, met_holds, halt_not_ending, other_than_gone, ahead_late}
 use Rattle.tc_explore.proofs.Ordered.{order_opening}
 use Rattle.tc_explore.proofs.Simulation.{unchanged_ended, unchanged_quiet, unchanged_wait, unchanged_wake, some_if, stay, stutter, both}
@@ -57,15 +57,15 @@ SeenIsClosed scripts Seen found =
 
 -- ---- replies
 
-answer_fault : (n : ℕ) (past : List Entry) (b : ℕ) (op : Op) (f : Fault) → is_active past b ≡ true → fault n past b op ≡ Some f → answer n past b op ≡ R.Fault f
+pub answer_fault : (n : ℕ) (past : List Entry) (b : ℕ) (op : Op) (f : Fault) → is_active past b ≡ true → fault n past b op ≡ Some f → answer n past b op ≡ R.Fault f
 unfolding answer
 answer_fault n past b op f act h = rw (act, h) refl
 
-answer_plain : (n : ℕ) (past : List Entry) (b : ℕ) (op : Op) → is_active past b ≡ true → fault n past b op ≡ None → answer n past b op ≡ plain_answer past b op
+pub answer_plain : (n : ℕ) (past : List Entry) (b : ℕ) (op : Op) → is_active past b ≡ true → fault n past b op ≡ None → answer n past b op ≡ plain_answer past b op
 unfolding answer
 answer_plain n past b op act h = rw (act, h) refl
 
-answer_inactive : (n : ℕ) (past : List Entry) (b : ℕ) (op : Op) → is_active past b ≡ false → answer n past b op ≡ R.Ended
+pub answer_inactive : (n : ℕ) (past : List Entry) (b : ℕ) (op : Op) → is_active past b ≡ false → answer n past b op ≡ R.Ended
 unfolding answer
 answer_inactive n past b op act = rw act refl
 
@@ -84,7 +84,7 @@ plain_not_ended past b (O.Wake k t) c on = woken_or_not (holds past (record { ki
 plain_not_ended past b O.GetVerdict c on = rw on refl
 plain_not_ended past b _ c on = refl
 
-not_ended : (n : ℕ) (past : List Entry) (b : ℕ) (op : Op) (c : Comp) → is_active past b ≡ true → comp_of past b ≡ Some c → is_ended (answer n past b op) ≡ false
+pub not_ended : (n : ℕ) (past : List Entry) (b : ℕ) (op : Op) (c : Comp) → is_active past b ≡ true → comp_of past b ≡ Some c → is_ended (answer n past b op) ≡ false
 not_ended n past b op c act on = by_fault (fault n past b op) refl
   where
     by_fault : (o : Option Fault) → fault n past b op ≡ o → is_ended (answer n past b op) ≡ false
@@ -92,7 +92,7 @@ not_ended n past b op c act on = by_fault (fault n past b op) refl
     by_fault (Some f) k = ap is_ended (answer_fault n past b op f act k)
 
 -- a quiet call that is no error is answered at once
-quiet_reply : (w : Verdict) (past : List Entry) (b : ℕ) (op : Op) (c : Comp) → comp_of past b ≡ Some c → is_quiet w op ≡ true →
+pub quiet_reply : (w : Verdict) (past : List Entry) (b : ℕ) (op : Op) (c : Comp) → comp_of past b ≡ Some c → is_quiet w op ≡ true →
     (goes_on (plain_answer past b op) ≡ true) × (is_fault (plain_answer past b op) ≡ false)
 quiet_reply w past b (O.SetVerdict v) c on h = (refl, refl)
 quiet_reply w past b O.GetVerdict c on h = rw on (refl, refl)
@@ -113,7 +113,7 @@ spent_reply q b op c on h = by_kind (how_spent q op h)
     by_kind (inr (inr met)) = rw (met_reply q b op met) (refl, refl)
 
 -- only a Wait is parked, or a Wake
-parks_wait : (w : Verdict) (past : List Entry) (b : ℕ) (op : Op) → is_wake op ≡ false → is_quiet w op ≡ false → plain_answer past b op ≡ R.Parked → (k : Bool) × (t : Target) × (op ≡ O.Wait k t)
+pub parks_wait : (w : Verdict) (past : List Entry) (b : ℕ) (op : Op) → is_wake op ≡ false → is_quiet w op ≡ false → plain_answer past b op ≡ R.Parked → (k : Bool) × (t : Target) × (op ≡ O.Wait k t)
 parks_wait w past b (O.Wait k t) wk q h = (k, t, refl)
 parks_wait w past b (O.Wake k t) wk q h = absurd cc
 parks_wait w past b O.GetVerdict wk q h = absurd cc
@@ -147,7 +147,7 @@ never_fault past b O.GetVerdict h = absurd cc
 never_fault past b (O.Wake k t) h = absurd cc
 never_fault past b _ h = refl
 
-loud_sets_no_wake : (op : Op) (r : Reply) → goes_on r ≡ true → wake_if op r ≡ None
+pub loud_sets_no_wake : (op : Op) (r : Reply) → goes_on r ≡ true → wake_if op r ≡ None
 loud_sets_no_wake op R.Parked h = absurd cc
 loud_sets_no_wake op _ h = refl
 
@@ -155,14 +155,14 @@ idle_never : (op : Op) (r : Reply) → is_wake op ≡ false → is_idle_by op r 
 idle_never op R.Parked h = h
 idle_never op _ h = refl
 
-error_is_worst : (w : Verdict) → worse w V.Error ≡ V.Error
+pub error_is_worst : (w : Verdict) → worse w V.Error ≡ V.Error
 error_is_worst V.None = refl
 error_is_worst V.Pass = refl
 error_is_worst V.Inconc = refl
 error_is_worst V.Fail = refl
 error_is_worst V.Error = refl
 
-or_left : (a b : Bool) → (a || b) ≡ false → a ≡ false
+pub or_left : (a b : Bool) → (a || b) ≡ false → a ≡ false
 or_left true b h = absurd cc
 or_left false b h = refl
 
@@ -644,7 +644,7 @@ finish_reply : (n : ℕ) (past : List Entry) (b : ℕ) → is_active past b ≡ 
 unfolding answer fault all_exist
 finish_reply n past b act = rw act refl
 
-fault_of_wait : (n : ℕ) (past : List Entry) (b : ℕ) (k : Bool) (t : Target) → fault n past b (O.Wait k t) ≡ fault n past b (O.Wake k t)
+pub fault_of_wait : (n : ℕ) (past : List Entry) (b : ℕ) (k : Bool) (t : Target) → fault n past b (O.Wait k t) ≡ fault n past b (O.Wake k t)
 unfolding fault
 fault_of_wait n past b k t = refl
 

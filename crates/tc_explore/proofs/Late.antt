@@ -22,9 +22,9 @@ use Rattle.tc_table.specs.Faults.{special_fault}
 use Rattle.tc_table.specs.Answers.{answer, plain_answer, is_active, is_active_on, is_run_of}
 use Rattle.tc_table.specs.Legal.{IsLegal}
 use Rattle.tc_table.specs.Inside.Step.{next_phase, next_local}
-use Rattle.tc_table.proofs.Deciding.{self_equal, equal_if, ok_is}
-use Rattle.tc_table.proofs.Sound.{IsPlain, plain_if, no_special, startable}
-use Rattle.tc_table.proofs.Over.{stays}
+use Rattle.tc_table.proofs.Lemmas.Deciding.{self_equal, equal_if, ok_is}
+use Rattle.tc_table.proofs.Lemmas.Sound.{IsPlain, plain_if, no_special, startable}
+use Rattle.tc_table.proofs.Lemmas.Over.{stays}
 use Rattle.tc_explore.specs.Course.{stand, ends, is_wake, wake_if, IsCourse}
 use Rattle.tc_explore.specs.Inside.Alike.{IsAlike}
 use Rattle.tc_explore.specs.Inside.Simulation.{is_gone, is_late, is_met, IsLeaving, IsEnding, IsAhead}

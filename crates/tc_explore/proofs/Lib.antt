@@ -1,8 +1,7 @@
 -- The lemmas of this crate.
-pub mod Turning
+pub mod Lemmas
 pub mod Legality
 pub mod Alike
-pub mod Standings
 pub mod Ahead
 pub mod Leaving
 pub mod Simulation
@@ -13,6 +12,9 @@ pub mod Completeness
 pub mod Searching
 pub mod Seeing
 pub mod Noting
+pub mod Keeping
+pub mod LastCalls
+pub mod Parking
 pub mod Reaching
 pub mod Room
 pub mod Closed

@@ -7,7 +7,7 @@ use Rattle.std.proofs.Math.Seq.{get_or-append_seam}
 use Rattle.tc_verdict.specs.declared.verdict.Verdict.{Verdict}
 use Rattle.tc_verdict.specs.Verdict.{level_of}
 use Rattle.tc_step.specs.Steps.{ScriptView}
-use Rattle.tc_table.proofs.Deciding.{self_equal}
+use Rattle.tc_table.proofs.Lemmas.Deciding.{self_equal}
 use Rattle.tc_explore.specs.declared.witness.Witness.{Witness}
 use Rattle.tc_explore.specs.Found.{IsWitness, IsOnce}
 use Rattle.tc_explore.specs.Inside.Going.{AreNoted}

@@ -11,14 +11,14 @@ use Rattle.tc_table.specs.History.{comp_of, created, started_on, first_some}
 use Rattle.tc_table.specs.Phases.{phase, phase_if_any}
 use Rattle.tc_table.specs.Answers.{is_active, is_active_on, is_run_of}
 use Rattle.tc_table.specs.Legal.{IsLegal}
-use Rattle.tc_table.proofs.Deciding.{equal_if, and_left}
-use Rattle.tc_table.proofs.Going.{halted_by_entry, started_by_entry}
+use Rattle.tc_table.proofs.Lemmas.Deciding.{equal_if, and_left}
+use Rattle.tc_table.proofs.Lemmas.Going.{halted_by_entry, started_by_entry}
 use Rattle.tc_explore.specs.Course.{Stand, stand, after_own, is_wake, wake_if, wake_or, call_of, steps_in, script_of, IsTurn, IsCourse}
 use Rattle.tc_explore.specs.Inside.Alike.{IsAlike}
 use Rattle.tc_explore.specs.Inside.Simulation.{is_gone, call_at, place_by, IsAhead, IsOrdered, AreOrdered}
 use Rattle.tc_explore.proofs.Legality.{course_legal}
 use Rattle.tc_explore.proofs.Alike.{any_phase_same, first_kept}
-use Rattle.tc_explore.proofs.Standings.{HasTurn, has_turn, never_wake, stand_own, stand_other, stand_comp}
+use Rattle.tc_explore.proofs.Lemmas.Standings.{HasTurn, has_turn, never_wake, stand_own, stand_other, stand_comp}
 use Rattle.tc_explore.proofs.Late.{gone_is, gone_if, gone_next}
 use Rattle.tc_explore.proofs.Places.{kept_bound}
 

@@ -3,7 +3,7 @@ use Rattle.std.proofs.Common.{ℕ, suc, ◌≡◌, ◌+◌, ◌<◌, ◌≤◌, 
 use Rattle.std.proofs.lemmas.Bool.Decides.{nat_tests}
 use Rattle.tc_verdict.specs.declared.verdict.Verdict.{Verdict}
 use Rattle.tc_verdict.specs.Verdict.{level_of}
-use Rattle.tc_verdict.proofs.Order.{worse_left}
+use Rattle.tc_verdict.proofs.Lemmas.Order.{worse_left}
 use Rattle.std.specs.List.{list_all}
 use Rattle.tc_entry.specs.declared.comp.Comp.{Comp}
 use Rattle.tc_entry.specs.declared.entry.Entry.{Entry}
@@ -20,7 +20,7 @@ use Rattle.tc_table.specs.Local.{overall, gives}
 use Rattle.tc_table.specs.Faults.{fault, all_exist, names, asks_many, special_fault}
 use Rattle.tc_table.specs.Legal.{IsLegal}
 use Rattle.tc_table.specs.Inside.Step.{next_local}
-use Rattle.tc_table.proofs.Over.{stays}
+use Rattle.tc_table.proofs.Lemmas.Over.{stays}
 use Rattle.tc_explore.specs.Course.{Stand, after_own, ends, as_list, is_wake, wake_for, wake_if}
 use Rattle.tc_explore.specs.Inside.Simulation.{is_quiet, is_late, is_met, is_spent, WasParked, IsQuietAt, call_at, IsWakeOf, IsBefore, IsParkedAt, IsFollowed, IsLastAt, IsLeaving}
 use Rattle.tc_explore.proofs.Alike.{ChangesNothing, overall_next}
@@ -34,13 +34,13 @@ or_no false = refl
 pub kept_bound : (e : Entry) (s : Stand) → created e.op e.reply ≡ None → (after_own e s).bound ≡ s.bound
 kept_bound e s h = rw h (append-nil s.bound)
 
-kept_left : (e : Entry) (s : Stand) → ends s.comp e ≡ false → (after_own e s).left ≡ s.left
+pub kept_left : (e : Entry) (s : Stand) → ends s.comp e ≡ false → (after_own e s).left ≡ s.left
 kept_left e s h = rw h (or_no s.left)
 
 one_more_called : (e : Entry) (s : Stand) → is_wake e.op ≡ false → (after_own e s).called ≡ s.called + 1
 one_more_called e s h = rw h refl
 
-neither : (a b : Bool) → a ≡ false → b ≡ false → (a || b) ≡ false
+pub neither : (a b : Bool) → a ≡ false → b ≡ false → (a || b) ≡ false
 neither a b g h = rw (g, h) refl
 
 -- what changes nothing ends no pass

@@ -3,7 +3,7 @@ use Rattle.std.proofs.Common.{ℕ, ◌≡◌, ◌==◌, ◌<◌, Bool, true, fal
 use Rattle.std.proofs.lemmas.List.{get_or-set_same, get_or-set_other, get_or-replicate, length-set, length-replicate}
 use Rattle.tc_step.specs.Steps.{ScriptView}
 use Rattle.tc_table.specs.Case.{Case, past_of}
-use Rattle.tc_table.proofs.Deciding.{equal_if, self_equal}
+use Rattle.tc_table.proofs.Lemmas.Deciding.{equal_if, self_equal}
 use Rattle.tc_explore.specs.Course.{carried}
 use Rattle.tc_explore.specs.Found.{Reaches, AreReached}
 use Rattle.tc_explore.specs.Inside.Going.{IsOn}

@@ -13,7 +13,7 @@ use Rattle.tc_table.specs.Case.{Case, past_of}
 use Rattle.tc_table.specs.History.{comp_of, is_alive_type}
 use Rattle.tc_table.specs.Local.{overall}
 use Rattle.tc_table.specs.Answers.{answer}
-use Rattle.tc_table.proofs.Sound.{plain_if}
+use Rattle.tc_table.proofs.Lemmas.Sound.{plain_if}
 use Rattle.tc_explore.specs.Course.{stand, wake_or, call_of, steps_in, script_of, IsTurn, IsCourse}
 use Rattle.tc_explore.specs.Inside.Going.{taken, IsOn}
 use Rattle.tc_explore.specs.Inside.Alike.{IsAlike}
@@ -21,7 +21,7 @@ use Rattle.tc_explore.specs.Inside.Simulation.{is_quiet, is_late, is_met, is_spe
 use Rattle.tc_explore.specs.Inside.Seen.{StandsOn}
 use Rattle.tc_explore.proofs.Legality.{course_legal}
 use Rattle.tc_explore.proofs.Alike.{alike_unchanged}
-use Rattle.tc_explore.proofs.Standings.{has_turn, stand_own, stand_comp}
+use Rattle.tc_explore.proofs.Lemmas.Standings.{has_turn, stand_own, stand_comp}
 use Rattle.tc_explore.proofs.Simulation.{unchanged_quiet, unchanged_wait, some_if, quiet_alike, followed_later, lead}
 use Rattle.tc_explore.proofs.Leaving.{Ends, running_on, lead_end}
 use Rattle.tc_explore.proofs.Late.{late_for, late_reply, late_halts, met_for, met_reply, alike_late, halt_not_ending, other_than_gone}

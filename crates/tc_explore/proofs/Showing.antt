@@ -3,7 +3,7 @@ use Rattle.std.proofs.Common.{ℕ, ◌≡◌, ◌∙◌, ◌+◌, ◌<◌, List,
 use Rattle.std.specs.List.{flat_map, range_with_len}
 use Rattle.std.proofs.lemmas.List.{take_more, flat_map_more}
 use Rattle.tc_text.specs.Shown.{Shows}
-use Rattle.tc_text.proofs.Showing.{shows_then}
+use Rattle.tc_text.proofs.Lemmas.Showing.{shows_then}
 use Rattle.tc_explore.specs.Shown.{Shown}
 use Rattle.tc_explore.proofs.Numbers.{range_next}
 

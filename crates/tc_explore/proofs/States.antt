@@ -1,5 +1,6 @@
 -- When a state is closed, and when all are.
-use Rattle.std.proofs.Common.{ℕ, ◌≡◌, ◌+◌, ◌<◌, ◌≤◌, ◌⊎◌, inl, inr, Bool, true, false, Some, List, [], length, reverse, nat_lt, slice_get, get_or, refl, ap, sym, subst, ◌∙◌, arith, append-nil}
+use Rattle.std.specs.Prelude.{IfOk, OnOk}
+use Rattle.std.proofs.Common.{Result, Ok, Err, ℕ, ◌≡◌, ◌+◌, ◌<◌, ◌≤◌, ◌⊎◌, inl, inr, Bool, true, false, Some, List, [], length, reverse, nat_lt, slice_get, get_or, refl, ap, sym, subst, ◌∙◌, arith, append-nil}
 use Rattle.std.proofs.lemmas.Bool.Decides.{nat_tests}
 use Rattle.std.proofs.lemmas.Option.{slice_get_within, slice_get-get_or}
 use Rattle.tc_verdict.specs.declared.verdict.Verdict.TheVariants as V
@@ -11,12 +12,12 @@ use Rattle.tc_table.specs.Answers.{is_active}
 use Rattle.tc_explore.specs.declared.witness.Witness.{Witness}
 use Rattle.tc_explore.specs.Told.{is_found}
 use Rattle.tc_explore.specs.Course.{stand, IsCourse}
-use Rattle.tc_explore.specs.Inside.Going.{IsOn}
 use Rattle.tc_explore.specs.Inside.Simulation.{IsCovered, GoesOn, IsClosed}
-use Rattle.tc_explore.specs.Inside.Seen.{IsSeen, IsLonger, StandsOn, IsRunClosed}
-use Rattle.tc_explore.specs.Laws.{IsClosedAt, AreClosed, AllFound}
+use Rattle.tc_explore.specs.Inside.Seen.{IsClosedAt, AreClosed, IsSeen, IsLonger, StandsOn, IsRunClosed, IsState}
+use Rattle.tc_explore.specs.Laws.{AllFound}
 use Rattle.tc_explore.proofs.Seeing.{seen_longer, found_longer, closed_for_longer, covered_by, get_more}
 use Rattle.tc_explore.proofs.Completeness.{closed_is_complete}
+use Rattle.tc_explore.proofs.Keeping.{active_stays, main_goes}
 
 closed_by : (scripts : List ScriptView) (states : List Case) (found : List Witness) (q : List Entry) → IsCourse scripts q → is_over q ≡ false → is_active q 0 ≡ true → (stand q 0).left ≡ false →
     ((b : ℕ) → b < length scripts → IsRunClosed scripts states found q b) → (is_found found V.Error ≡ true) ⊎ GoesOn scripts q → IsClosed scripts (IsSeen states) found q
@@ -29,20 +30,30 @@ closed_by scripts states found q course going main stays runs stuck = record {
   stuck = stuck;
 }
 
+closed_state : (scripts : List ScriptView) (states : List Case) (found : List Witness) (t : Case) → IsState scripts t → ((b : ℕ) → b < length scripts → IsRunClosed scripts states found (past_of t) b) →
+    (is_found found V.Error ≡ true) ⊎ GoesOn scripts (past_of t) → IsClosed scripts (IsSeen states) found (past_of t)
+closed_state scripts states found t s runs stuck =
+    let main = main_goes scripts (past_of t) s.opened.on.course s.opened.going in
+    closed_by scripts states found (past_of t) s.opened.on.course s.opened.going main (active_stays scripts (past_of t) 0 s.opened.on.course main) runs stuck
+
 -- a run goes on
-pub closed_going : (scripts : List ScriptView) (states : List Case) (found : List Witness) (t : Case) → IsOn scripts t → is_over (past_of t) ≡ false → is_active (past_of t) 0 ≡ true → (stand (past_of t) 0).left ≡ false →
-    ((b : ℕ) → b < length scripts → IsRunClosed scripts states found (past_of t) b) → GoesOn scripts (past_of t) → IsClosed scripts (IsSeen states) found (past_of t)
-closed_going scripts states found t on going main stays runs goes = closed_by scripts states found (past_of t) on.course going main stays runs (inr goes)
+pub closed_going : (scripts : List ScriptView) (states : List Case) (found : List Witness) (t : Case) → IsState scripts t → ((b : ℕ) → b < length scripts → IsRunClosed scripts states found (past_of t) b) →
+    GoesOn scripts (past_of t) → IsClosed scripts (IsSeen states) found (past_of t)
+closed_going scripts states found t s runs goes = closed_state scripts states found t s runs (inr goes)
 
 -- none goes on, and error is found
-pub closed_stuck : (scripts : List ScriptView) (states : List Case) (before found : List Witness) (t : Case) → IsOn scripts t → is_over (past_of t) ≡ false → is_active (past_of t) 0 ≡ true → (stand (past_of t) 0).left ≡ false →
-    ((b : ℕ) → b < length scripts → IsRunClosed scripts states before (past_of t) b) → IsLonger before found → is_found found V.Error ≡ true → IsClosed scripts (IsSeen states) found (past_of t)
-closed_stuck scripts states before found t on going main stays runs more error =
-    closed_by scripts states found (past_of t) on.course going main stays
+pub closed_stuck : (scripts : List ScriptView) (states : List Case) (before found : List Witness) (t : Case) → IsState scripts t → ((b : ℕ) → b < length scripts → IsRunClosed scripts states before (past_of t) b) →
+    IsLonger before found → is_found found V.Error ≡ true → IsClosed scripts (IsSeen states) found (past_of t)
+closed_stuck scripts states before found t s runs more error =
+    closed_state scripts states found t s
     (λ b near e own turn goes. closed_for_longer scripts states states before found (past_of t) e ([], sym (append-nil states)) more (runs b near e own turn goes))
     (inl error)
 
-pub ruleset state_rules = (closed_going, closed_stuck)
+pub closed_error : (scripts : List ScriptView) (states : List Case) (found : List Witness) (t : Case) → IsState scripts t → ((b : ℕ) → b < length scripts → IsRunClosed scripts states found (past_of t) b) →
+    is_found found V.Error ≡ true → IsClosed scripts (IsSeen states) found (past_of t)
+closed_error scripts states found t s runs error = closed_state scripts states found t s runs (inl error)
+
+pub ruleset state_rules = (closed_going, closed_stuck, closed_error)
 
 -- ---- places
 
@@ -50,16 +61,20 @@ get_longer : (a b : List Case) (i : ℕ) (t : Case) → IsLonger a b → slice_g
 get_longer a b i t more h = ap (λ x. slice_get x i) more.1 ∙ get_more a more.0 i t h
 
 -- a copy of the state at a place is closed
-pub closed_at : (scripts : List ScriptView) (a b : List Case) (found : List Witness) (i : ℕ) (u : Case) → IsLonger a b → i < length a → u.history ≡ (get_or a i u).history → IsClosed scripts (IsSeen b) found (past_of u) →
+closed_at : (scripts : List ScriptView) (a b : List Case) (found : List Witness) (i : ℕ) (u v : Case) → IsLonger a b → i < length a → u.history ≡ v.history → v ≡ get_or a i v → IsClosed scripts (IsSeen b) found (past_of u) →
     IsClosedAt scripts b found i
-closed_at scripts a b found i u more near same closed t here =
-    let there : slice_get b i ≡ Some (get_or a i u) = get_longer a b i (get_or a i u) more (slice_get-get_or a i u near) in
-    let some : Some t ≡ Some (get_or a i u) = sym here ∙ there in
-    let is : t ≡ get_or a i u = cc in
-    let past : past_of u ≡ past_of t = ap reverse (same ∙ ap (λ (x : Case). x.history) (sym is)) in
+closed_at scripts a b found i u v more near same at closed t here =
+    let there : slice_get b i ≡ Some (get_or a i v) = get_longer a b i (get_or a i v) more (slice_get-get_or a i v near) in
+    let some : Some t ≡ Some (get_or a i v) = sym here ∙ there in
+    let is : t ≡ get_or a i v = cc in
+    let past : past_of u ≡ past_of t = ap reverse (same ∙ ap (λ (x : Case). x.history) (at ∙ sym is)) in
     subst (IsClosed scripts (IsSeen b) found) past closed
 
-pub ruleset place_rules = (closed_at)
+-- where such a copy was looked at
+pub closed_at_if : {E : Type 0} (scripts : List ScriptView) (a b : List Case) (found : List Witness) (i : ℕ) (u v : Case) (r : Result Bool E) → i < length a → u.history ≡ v.history → v ≡ get_or a i v → OnOk r (IsLonger a b) →
+    IfOk r (λ is. is ≡ true → IsClosed scripts (IsSeen b) found (past_of u)) → IfOk r (λ is. is ≡ true → IsClosedAt scripts b found i)
+closed_at_if scripts a b found i u v (Ok is) near same at more closed = λ h. closed_at scripts a b found i u v more near same at (closed h)
+closed_at_if scripts a b found i u v (Err e) near same at more closed = tt
 
 closed_longer : (scripts : List ScriptView) (a b : List Case) (f g : List Witness) (q : List Entry) → IsLonger a b → IsLonger f g → IsClosed scripts (IsSeen a) f q → IsClosed scripts (IsSeen b) g q
 closed_longer scripts a b f g q states found c = record {

@@ -7,7 +7,7 @@ use Rattle.tc_entry.specs.declared.op.Op.{Op}
 use Rattle.tc_entry.specs.declared.op.Op.TheVariants as O
 use Rattle.tc_entry.specs.Reply.{is_ok}
 use Rattle.tc_table.specs.History.{started_on, starts_run}
-use Rattle.tc_table.proofs.Deciding.{self_equal, equal_if, if_same}
+use Rattle.tc_table.proofs.Lemmas.Deciding.{self_equal, equal_if, if_same}
 use Rattle.tc_explore.specs.Course.{Stand, next, after_other_by}
 use Rattle.tc_explore.specs.Inside.Going.{next_for, TakesIn, TakesInFor}
 

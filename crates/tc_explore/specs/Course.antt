@@ -1,6 +1,6 @@
 -- Courses of a test case whose behaviours are scripts: what each run has called, and what it calls next.
 -- As in the component table's definitions `past` lists entries, the newest first, and runs go by their numbers.
-use Rattle.std.specs.Prelude.{ℕ, ◌≡◌, ◌==◌, ◌<◌, ◌+◌, ◌*◌, ◌/◌, ◌++◌, ◌&&◌, ◌||◌, if◌then◌else◌, Bool, true, false, Option, Some, None, List, [], ◌∷◌, length, slice_get}
+use Rattle.std.specs.Prelude.{ℕ, ◌≡◌, ◌==◌, ◌<◌, ◌+◌, ◌*◌, ◌/◌, ◌++◌, ◌&&◌, ◌||◌, min, if◌then◌else◌, Bool, true, false, Option, Some, None, List, [], ◌∷◌, length, slice_get}
 use Rattle.tc_entry.specs.declared.comp.Comp.{Comp}
 use Rattle.tc_entry.specs.declared.entry.Entry.{Entry}
 use Rattle.tc_entry.specs.declared.op.Op.{Op}
@@ -163,6 +163,10 @@ room_of (script ∷ scripts) = room_of scripts + length script.steps
 -- what a state counts for by the limit of a search: one, and one more for each 2,000 that its behaviours times its room have
 abbrev pub weight_of : List ScriptView → ℕ
 weight_of scripts = length scripts * room_of scripts / 2000 + 1
+
+-- how many states a search looks at, at most: the limit counts each for its weight, and what they have room for is limited too
+abbrev pub most_states : List ScriptView → ℕ → ℕ
+most_states scripts limit = min (limit / weight_of scripts) (2000000 / room_of scripts)
 
 -- it is complete: no run has a call left
 abbrev pub IsComplete : List ScriptView → List Entry → Type 0

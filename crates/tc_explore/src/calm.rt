@@ -1,15 +1,16 @@
 //! The calls of which nobody can tell that they were made, and the making of them.
-ghost use Rattle.std.specs.Prelude.{◌≡◌, ◌≤◌, false, IfOk, IsTrue, length};
+ghost use Rattle.std.specs.Prelude.{◌≡◌, ◌≤◌, ◌<◌, true, false, IfOk, IsTrue, length};
 ghost use Rattle.tc_entry.specs.declared.limits.TheConstants.{BEHAVIOURS};
 ghost use Rattle.tc_entry.specs.declared.op.Op.TheVariants.{Finish};
 ghost use Rattle.tc_entry.specs.Reply as reply;
 ghost use Rattle.tc_table.specs.Case.{past_of};
 ghost use Rattle.tc_table.specs.Answers as answers;
-ghost use Rattle.tc_explore.specs.Inside.Going.{IsOn};
+ghost use Rattle.tc_explore.specs.Course as courses;
 ghost use Rattle.tc_explore.specs.Inside.Simulation as moves;
-ghost use Rattle.tc_explore.specs.Inside.Seen.{StandsOn};
+ghost use Rattle.tc_explore.specs.Inside.Seen.{IsOpen, IsState, IsCalm, IsCalmAfter, IsLoudAt, StandsOn};
 
 use crate::course::Course;
+use crate::entries::has_gone_on;
 use crate::told::level;
 use crate::turns::next_call;
 use tc_entry::{Group, Op, Phase, Target};
@@ -52,8 +53,8 @@ fn is_met(course: &Course, op: &Op) -> bool
     }
 }
 
-/// Whether a call would change nothing but its caller's place.
-pub(crate) fn is_spent(course: &Course, op: &Op) -> bool
+// Whether a call would change nothing but its caller's place.
+fn is_spent(course: &Course, op: &Op) -> bool
     ensures { result ≡ moves.is_spent (past_of course.now) op.now }
 {
     is_quiet_now(op, course.verdict()) || is_late(course, op) || is_met(course, op)
@@ -94,11 +95,12 @@ fn is_end(course: &Course, run: Run, op: &Op) -> bool
 #[tactic(auto, using(crate::proofs::Searching::silent_rules))]
 fn is_silent(course: &Course, run: Run, op: &Op) -> bool
     ensures plain { IsTrue result → reply.is_fault (answers.answer course.now.behaviours (past_of course.now) run.0 op.now) ≡ false }
-    ensures going { IsTrue result → reply.is_ended (answers.answer course.now.behaviours (past_of course.now) run.0 op.now) ≡ false }
+    ensures going { IsTrue result → courses.goes_on (answers.answer course.now.behaviours (past_of course.now) run.0 op.now) ≡ true }
     ensures silent { IsTrue result → moves.IsSilent (past_of course.now) run.0 op.now }
+    ensures calm { result ≡ false → IsLoudAt course.now.behaviours (past_of course.now) run.0 op.now }
 {
     let reply = course.would(run, op);
-    if reply.is_fault() || reply.is_ended() {
+    if reply.is_fault() || !has_gone_on(reply) {
         return false;
     }
     is_spent(course, op) || is_end(course, run, op)
@@ -112,11 +114,13 @@ struct Advance {
 }
 
 // The course with the next call of a run, if nobody can tell that it was made.
-#[tactic(auto, using(crate::proofs::Searching::searching_rules, crate::proofs::Turning::turn_rules))]
+#[tactic(auto, using(crate::proofs::Searching::searching_rules, crate::proofs::Keeping::call_rules, crate::proofs::Lemmas::Turning::turn_rules))]
 fn with_silent_call(course: Course, scripts: &[Script], run: Run) -> Result<Advance, NoMemory>
-    requires on { IsOn scripts.now course }
-    ensures on { IfOk result (λ a. IsOn scripts.now a.course) }
+    requires within { run.0 < length scripts.now }
+    requires opened { IsOpen scripts.now course }
+    ensures opened { IfOk result (λ a. IsOpen scripts.now a.course) }
     ensures stands { IfOk result (λ a. StandsOn scripts.now course a.course) }
+    ensures calm { IfOk result (λ a. a.went_on ≡ false → IsCalmAfter scripts.now course a.course run.0) }
 {
     let Some(op) = next_call(&course, scripts, run) else {
         return Ok(Advance {
@@ -138,11 +142,13 @@ fn with_silent_call(course: Course, scripts: &[Script], run: Run) -> Result<Adva
 }
 
 // The course with the next calls of a run of which nobody can tell that they were made.
-#[tactic(auto, using(crate::proofs::Searching::searching_rules))]
+#[tactic(auto, using(crate::proofs::Searching::searching_rules, crate::proofs::Keeping::calm_rules))]
 fn with_silent_calls(course: Course, scripts: &[Script], run: Run) -> Result<Advance, NoMemory>
-    requires on { IsOn scripts.now course }
-    ensures on { IfOk result (λ a. IsOn scripts.now a.course) }
+    requires within { run.0 < length scripts.now }
+    requires opened { IsOpen scripts.now course }
+    ensures opened { IfOk result (λ a. IsOpen scripts.now a.course) }
     ensures stands { IfOk result (λ a. StandsOn scripts.now course a.course) }
+    ensures calm { IfOk result (λ a. a.went_on ≡ false → IsCalmAfter scripts.now course a.course run.0) }
 {
     let mut course = course;
     let mut went_on = false;
@@ -154,16 +160,20 @@ fn with_silent_calls(course: Course, scripts: &[Script], run: Run) -> Result<Adv
         }
         went_on = true;
     }
-    Ok(Advance { course, went_on })
+    Ok(Advance {
+        course,
+        went_on: true,
+    })
 }
 
 // The course with such calls of all runs, one run after the other.
-#[tactic(auto, using(crate::proofs::Searching::searching_rules))]
+#[tactic(auto, using(crate::proofs::Searching::searching_rules, crate::proofs::Keeping::calm_rules))]
 fn calmed_once(course: Course, scripts: &[Script]) -> Result<Advance, NoMemory>
     requires few { length scripts.now ≤ BEHAVIOURS }
-    requires on { IsOn scripts.now course }
-    ensures on { IfOk result (λ a. IsOn scripts.now a.course) }
+    requires opened { IsOpen scripts.now course }
+    ensures opened { IfOk result (λ a. IsOpen scripts.now a.course) }
     ensures stands { IfOk result (λ a. StandsOn scripts.now course a.course) }
+    ensures calm { IfOk result (λ a. a.went_on ≡ false → IsCalm scripts.now (past_of a.course)) }
 {
     let mut course = course;
     let mut went_on = false;
@@ -176,21 +186,22 @@ fn calmed_once(course: Course, scripts: &[Script]) -> Result<Advance, NoMemory>
 }
 
 /// The course with all calls of which nobody can tell that they were made. The end of a run can make a call of another one
-/// of these, so it goes over the runs until none has such a call.
-#[tactic(auto, using(crate::proofs::Searching::searching_rules))]
+/// of these, so it goes over the runs until none has such a call. Each turn but the last adds an entry, and no memory holds as
+/// many as there are turns.
+#[tactic(auto, using(crate::proofs::Searching::searching_rules, crate::proofs::Keeping::calm_rules))]
 pub(crate) fn calmed(course: Course, scripts: &[Script]) -> Result<Course, NoMemory>
     requires few { length scripts.now ≤ BEHAVIOURS }
-    requires on { IsOn scripts.now course }
-    ensures on { IfOk result (λ c. IsOn scripts.now c) }
+    requires opened { IsOpen scripts.now course }
+    ensures state { IfOk result (λ c. IsState scripts.now c) }
     ensures stands { IfOk result (λ c. StandsOn scripts.now course c) }
 {
     let mut course = course;
-    for _ in 0..scripts.len() {
+    for _ in 0..usize::MAX {
         let advance = calmed_once(course, scripts)?;
         course = advance.course;
         if !advance.went_on {
             return Ok(course);
         }
     }
-    Ok(course)
+    Err(NoMemory)
 }

@@ -67,7 +67,7 @@ fn append_words(out: &mut Vec<u8>, witness: &Witness, locals: &[Verdict]) -> Res
 
 /// Appends the line of a witness: its verdict, and the local verdict of each component at its end. Where memory is refused,
 /// a part of it.
-#[tactic(auto, using(tc_text::proofs::Showing::show_rules))]
+#[tactic(auto, using(tc_text::proofs::Lemmas::Showing::show_rules))]
 pub(crate) fn append_locals_line(
     alloc: Global,
     out: &mut Vec<u8>,

@@ -249,14 +249,6 @@ impl Course {
         self.table.is_active(run)
     }
 
-    /// Whether the pass of a run has ended.
-    pub(crate) fn has_left(&self, run: Run) -> bool
-        requires { run.0 < self.now.behaviours }
-        ensures { result ≡ (courses.stand (past_of self.now) run.0).left }
-    {
-        self.standings[usize::from(run.0)].has_left()
-    }
-
     /// Whether a run is on the same component, or on none in both.
     pub(crate) fn is_on_same(&self, other: &Course, run: Run) -> bool
         requires mine { run.0 < self.now.behaviours }

@@ -17,7 +17,7 @@ use tc_step::Script;
 use tc_verdict::NoMemory;
 
 // Appends the line of each witness; where memory is refused, a part of them.
-#[tactic(auto, using(tc_text::proofs::Showing::show_rules))]
+#[tactic(auto, using(tc_text::proofs::Lemmas::Showing::show_rules))]
 fn append_locals_lines(
     alloc: Global,
     out: &mut Vec<u8>,
@@ -36,7 +36,7 @@ fn append_locals_lines(
 }
 
 // Appends who waits for whom in each witness; where memory is refused, a part of it.
-#[tactic(auto, using(tc_text::proofs::Showing::show_rules))]
+#[tactic(auto, using(tc_text::proofs::Lemmas::Showing::show_rules))]
 fn append_all_waits(
     alloc: Global,
     out: &mut Vec<u8>,
@@ -55,7 +55,7 @@ fn append_all_waits(
 }
 
 // Appends what the witnesses show; where memory is refused, a part of it.
-#[tactic(auto, unfolding(crate::specs::Details::of_witnesses), using(tc_text::proofs::Showing::show_rules))]
+#[tactic(auto, unfolding(crate::specs::Details::of_witnesses), using(tc_text::proofs::Lemmas::Showing::show_rules))]
 fn append_witnesses(
     alloc: Global,
     out: &mut Vec<u8>,
@@ -77,7 +77,7 @@ impl Explored {
     /// beside each other one from where they part, who waits for whom where no run can go on, and, where the search came to
     /// its end, which steps no course that it looked at carries out. Of a test case without behaviours nothing is told. Where
     /// memory is refused, a part of it.
-    #[tactic(auto, unfolding(crate::specs::Details::details), using(tc_text::proofs::Showing::show_rules))]
+    #[tactic(auto, unfolding(crate::specs::Details::details), using(tc_text::proofs::Lemmas::Showing::show_rules))]
     pub fn append_details(
         &self,
         alloc: Global,

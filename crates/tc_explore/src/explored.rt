@@ -1,7 +1,8 @@
 //! The search for the overall verdicts of a test case.
-ghost use Rattle.std.specs.Prelude.{◌≡◌, ◌≤◌, ◌*◌, ◌/◌, [], IfOk, IfSome, OnOk, length};
+ghost use Rattle.std.specs.Prelude.{◌≡◌, ◌≤◌, [], IfOk, IfSome, OnOk, length};
 ghost use Rattle.tc_entry.specs.declared.limits.TheConstants.{BEHAVIOURS};
 ghost use Rattle.tc_explore.specs.Found.{AreWitnesses, AreLegal, AreReached, IsOnce};
+ghost use Rattle.tc_explore.specs.Course as courses;
 ghost use Rattle.tc_explore.specs.Course.{room_of, weight_of};
 ghost use Rattle.tc_explore.specs.Laws.{AllFound};
 ghost use Rattle.tc_explore.specs.declared.explored.Ending.TheVariants.{Complete, Undecided};
@@ -56,31 +57,28 @@ fn room_for_one(scripts: &[Script]) -> Option<usize>
 const SIZE_OF_ONE_MORE: usize = 2_000;
 
 // What a state counts for by the limit, if a number can hold it.
-fn weight_for(scripts: &[Script]) -> Option<usize>
+fn weight_for(scripts: &[Script], room: usize) -> Option<usize>
+    requires { room ≡ room_of scripts.now }
     ensures some { IfSome result (λ n. 1 ≤ n) }
     ensures is { IfSome result (λ n. n ≡ weight_of scripts.now) }
 {
-    let size = scripts.len().checked_mul(room_for_one(scripts)?)?;
+    let size = scripts.len().checked_mul(room)?;
     (size / SIZE_OF_ONE_MORE).checked_add(1)
 }
 
-// How many states a search looks at: no more than the limit, and fewer where the scripts have many steps.
-#[tactic(auto, using(crate::proofs::Room::room_rules))]
-fn most_states(scripts: &[Script], limit: usize) -> usize
-    ensures within { result ≤ limit }
-    ensures kept { result * room_of scripts.now ≤ 2000000 }
+// How many states a search looks at, at most, if numbers can hold what they have room for.
+fn most_states(scripts: &[Script], limit: usize) -> Option<usize>
+    ensures { IfSome result (λ n. n ≡ courses.most_states scripts.now limit) }
 {
-    let Some(entries) = room_for_one(scripts) else {
-        return 0;
-    };
-    let most = KEPT / entries;
-    if limit < most { limit } else { most }
+    let room = room_for_one(scripts)?;
+    let weight = weight_for(scripts, room)?;
+    Some((limit / weight).min(KEPT / room))
 }
 
 /// Looks for the overall verdicts that the courses of a test case give, each with a complete course that gives it. The search
-/// keeps so many states at most, each counted for its weight, and fewer of a test case with many steps. Where it comes to its
-/// end, the verdict of each complete course is found. Each number of calls that is reached has a course too. A test case
-/// without behaviours is left undecided.
+/// keeps so many states at most, each counted for its weight, and fewer of a test case with many steps. It comes to its end
+/// unless it meets that limit, and then the verdict of each complete course is found. Each number of calls that is reached has
+/// a course too. A test case without behaviours is left undecided.
 #[tactic(auto, using(crate::proofs::Legality::legal_rules, crate::proofs::Noting::noting_rules, crate::proofs::Room::weight_rules))]
 pub fn explore(alloc: Global, scripts: &[Script], limit: usize) -> Result<Explored, NoMemory>
     requires few { length scripts.now ≤ BEHAVIOURS }
@@ -89,8 +87,8 @@ pub fn explore(alloc: Global, scripts: &[Script], limit: usize) -> Result<Explor
     ensures reached { IfOk result (λ e. AreReached scripts.now e.reached) }
     ensures complete { IfOk result (λ e. e.ending ≡ Complete → AllFound scripts.now e.found) }
     ensures within { IfOk result (λ e. e.states ≤ limit) }
-    ensures counted { IfOk result (λ e. e.states * weight_of scripts.now ≤ limit) }
-    ensures kept { IfOk result (λ e. e.states * room_of scripts.now ≤ 2000000) }
+    ensures most { IfOk result (λ e. e.states ≤ courses.most_states scripts.now limit) }
+    ensures undecided { IfOk result (λ e. e.ending ≡ Undecided → 1 ≤ length scripts.now → e.states ≡ courses.most_states scripts.now limit) }
     ensures once { IfOk result (λ e. IsOnce e.found) }
     ensures nothing { IfOk result (λ e. scripts.now ≡ [] → (e.ending ≡ Undecided) × (e.found ≡ []) × (e.states ≡ 0)) }
 {
@@ -103,8 +101,7 @@ pub fn explore(alloc: Global, scripts: &[Script], limit: usize) -> Result<Explor
             ending: Ending::Undecided,
         });
     }
-    let weight = weight_for(scripts).ok_or(NoMemory)?;
-    let most = most_states(scripts, limit / weight);
+    let most = most_states(scripts, limit).ok_or(NoMemory)?;
     let extent = search_all(alloc, scripts, most, &mut found)?;
     Ok(Explored {
         found: Sequence::new(found.witnesses),

@@ -9,7 +9,6 @@ mod details;
 mod entries;
 mod explored;
 mod findings;
-pub mod laws;
 mod noted;
 mod race;
 mod same;

@@ -1,14 +1,20 @@
 //! What a search notes of the cases that are over.
-ghost use Rattle.std.specs.Prelude.{◌≡◌, ◌≤◌, IfOk, IfSome, length};
+ghost use Rattle.std.specs.Prelude.{◌≡◌, ◌≤◌, ◌<◌, true, IfOk, OnOk, length};
 ghost use Rattle.tc_entry.specs.declared.limits.TheConstants.{BEHAVIOURS};
+ghost use Rattle.tc_verdict.specs.declared.verdict.Verdict.TheVariants.{Error};
+ghost use Rattle.tc_table.specs.Case.{past_of};
+ghost use Rattle.tc_table.specs.History.{is_over};
+ghost use Rattle.tc_table.specs.Local.{overall};
+ghost use Rattle.tc_explore.specs.Course.{IsComplete};
 ghost use Rattle.tc_explore.specs.Found.{IsWitness};
-ghost use Rattle.tc_explore.specs.Inside.Going.{IsOn, AreNoted};
-ghost use Rattle.tc_explore.specs.Inside.Seen.{IsLonger, IsNoted};
+ghost use Rattle.tc_explore.specs.Told as told;
+ghost use Rattle.tc_explore.specs.Inside.Going.{IsOn, IsSteppedIfActive, AreNoted};
+ghost use Rattle.tc_explore.specs.Inside.Seen.{IsLonger, IsNoted, IsOpen, AreHeld};
 
 use crate::course::Course;
 use crate::findings::{Findings, reach};
 use crate::told::is_found;
-use crate::turns::{is_complete, step, step_all};
+use crate::turns::{step, step_all};
 use crate::witness::Witness;
 use std::alloc::Global;
 use tc_entry::Sequence;
@@ -16,22 +22,16 @@ use tc_step::Script;
 use tc_table::copied_entries;
 use tc_verdict::{NoMemory, Run};
 
-// The witness that a course is, if no run has a call left.
-fn witness_of(
-    alloc: Global,
-    scripts: &[Script],
-    course: &Course,
-) -> Result<Option<Witness>, NoMemory>
-    requires few { length scripts.now ≤ BEHAVIOURS }
+// The witness that a course is in which no run has a call left.
+fn witness_of(alloc: Global, scripts: &[Script], course: &Course) -> Result<Witness, NoMemory>
     requires on { IsOn scripts.now course.now }
-    ensures { IfOk result (λ witness. IfSome witness (λ w. IsWitness scripts.now w.history w.verdict)) }
+    requires complete { IsComplete scripts.now (past_of course.now) }
+    ensures witness { IfOk result (λ w. IsWitness scripts.now w.history w.verdict) }
+    ensures verdict { IfOk result (λ w. w.verdict ≡ overall (past_of course.now)) }
 {
-    if !is_complete(course, scripts) {
-        return Ok(None);
-    }
     let verdict = course.verdict();
     let history = Sequence::new(copied_entries(alloc, course.history())?);
-    Ok(Some(Witness { verdict, history }))
+    Ok(Witness { verdict, history })
 }
 
 // Adds a witness, if its verdict is new.
@@ -41,6 +41,7 @@ fn add_new(scripts: &[Script], witness: Witness, found: &mut Vec<Witness>) -> Re
     requires found { AreNoted scripts.now found.old.items }
     ensures found { AreNoted scripts.now found.new.items }
     ensures more_found { IsLonger found.old.items found.new.items }
+    ensures told { OnOk result (told.is_found found.new.items witness.verdict ≡ true) }
 {
     if is_found(found, witness.verdict) {
         return Ok(());
@@ -59,32 +60,51 @@ pub(crate) fn note(
 ) -> Result<(), NoMemory>
     requires few { length scripts.now ≤ BEHAVIOURS }
     requires on { IsOn scripts.now course }
+    requires over { is_over (past_of course) ≡ true }
     requires found { IsNoted scripts.now found.old }
     ensures found { IsNoted scripts.now found.new }
     ensures more_found { IsLonger found.old.witnesses.items found.new.witnesses.items }
+    ensures told { OnOk result (told.is_found found.new.witnesses.items (overall (past_of course)) ≡ true) }
 {
     reach(&mut found.reached, scripts, &course);
     if is_found(&found.witnesses, course.verdict()) {
         return Ok(());
     }
     let course = step_all(course, scripts)?;
-    match witness_of(alloc, scripts, &course)? {
-        None => Ok(()),
-        Some(witness) => add_new(scripts, witness, &mut found.witnesses),
-    }
+    let witness = witness_of(alloc, scripts, &course)?;
+    add_new(scripts, witness, &mut found.witnesses)
 }
 
-/// The end of a case in which no run can go on: each run that goes on waits, and the main component's Wake is a dynamic error.
-pub(crate) fn with_stuck(course: Course, scripts: &[Script]) -> Result<Course, NoMemory>
-    requires few { length scripts.now ≤ BEHAVIOURS }
+// The course with the next call of a run, if it goes on.
+#[tactic(auto, using(crate::proofs::Parking::active_rules))]
+fn step_if_active(course: Course, scripts: &[Script], run: Run) -> Result<Course, NoMemory>
+    requires within { run.0 < length scripts.now }
     requires on { IsOn scripts.now course }
-    ensures { IfOk result (IsOn scripts.now) }
+    ensures on { IfOk result (IsOn scripts.now) }
+    ensures parked { IfOk result (λ c. IsSteppedIfActive scripts.now (past_of course) (past_of c) run.0) }
+{
+    if !course.is_active(run) {
+        return Ok(course);
+    }
+    let next = step(course, scripts, run)?;
+    Ok(next)
+}
+
+/// The case in which each run that goes on has made its next call, and then the main one another. Where no run can go on, it is
+/// the end of the case: each of them waits, and the Wake of the main component is a dynamic error.
+#[tactic(auto, using(crate::proofs::Parking::parking_rules))]
+pub(crate) fn with_stuck(course: Course, scripts: &[Script]) -> Result<Course, NoMemory>
+    requires some { 1 ≤ length scripts.now }
+    requires few { length scripts.now ≤ BEHAVIOURS }
+    requires opened { IsOpen scripts.now course }
+    ensures on { IfOk result (IsOn scripts.now) }
+    ensures over { IfOk result (λ c. AreHeld scripts.now (past_of course) → is_over (past_of c) ≡ true) }
+    ensures error { IfOk result (λ c. AreHeld scripts.now (past_of course) → overall (past_of c) ≡ Error) }
 {
     let mut course = course;
     for run in 0..scripts.len() as u16 {
-        if course.comp_of(Run(run)).is_some() {
-            course = step(course, scripts, Run(run))?;
-        }
+        course = step_if_active(course, scripts, Run(run))?;
     }
-    step(course, scripts, Run(0))
+    let ended = step(course, scripts, Run(0))?;
+    Ok(ended)
 }

@@ -85,7 +85,7 @@ fn text_at(alloc: Global, history: &[Entry], at: usize) -> Result<Vec<u8>, NoMem
 }
 
 // Appends the line of the entries at a place, if one of both has an entry there; where memory is refused, a part of it.
-#[tactic(auto, unfolding(crate::specs::Race::row_at), using(tc_text::proofs::Showing::show_rules))]
+#[tactic(auto, unfolding(crate::specs::Race::row_at), using(tc_text::proofs::Lemmas::Showing::show_rules))]
 fn append_row_at(
     alloc: Global,
     out: &mut Vec<u8>,
@@ -104,7 +104,7 @@ fn append_row_at(
 }
 
 // Appends the first entries of both in two columns; where memory is refused, a part of them.
-#[tactic(auto, using(tc_text::proofs::Showing::show_rules))]
+#[tactic(auto, using(tc_text::proofs::Lemmas::Showing::show_rules))]
 fn append_first_rows(
     alloc: Global,
     out: &mut Vec<u8>,
@@ -120,7 +120,7 @@ fn append_first_rows(
 }
 
 // Appends whether there are more entries than are shown; where memory is refused, a part of it.
-#[tactic(auto, unfolding(crate::specs::Race::more_row), using(tc_text::proofs::Showing::show_rules))]
+#[tactic(auto, unfolding(crate::specs::Race::more_row), using(tc_text::proofs::Lemmas::Showing::show_rules))]
 fn append_more(out: &mut Vec<u8>, left: &[Entry], right: &[Entry]) -> Result<(), NoMemory>
     ensures { OnOk result (Shows (more_row left.now right.now) out.old.items out.new.items) }
 {
@@ -131,7 +131,7 @@ fn append_more(out: &mut Vec<u8>, left: &[Entry], right: &[Entry]) -> Result<(),
 }
 
 // Appends the first entries of both in two columns, and whether there are more; where memory is refused, a part of it.
-#[tactic(auto, unfolding(crate::specs::Race::rows), using(tc_text::proofs::Showing::show_rules))]
+#[tactic(auto, unfolding(crate::specs::Race::rows), using(tc_text::proofs::Lemmas::Showing::show_rules))]
 fn append_rows(
     alloc: Global,
     out: &mut Vec<u8>,
@@ -145,7 +145,7 @@ fn append_rows(
 }
 
 // Appends how far two witnesses go alike; where memory is refused, a part of it.
-#[tactic(auto, using(tc_text::proofs::Showing::show_rules))]
+#[tactic(auto, using(tc_text::proofs::Lemmas::Showing::show_rules))]
 fn append_alike(
     alloc: Global,
     out: &mut Vec<u8>,
@@ -166,7 +166,7 @@ fn append_alike(
 }
 
 // Appends the names of two verdicts in two columns; where memory is refused, a part of it.
-#[tactic(auto, using(tc_text::proofs::Showing::show_rules))]
+#[tactic(auto, using(tc_text::proofs::Lemmas::Showing::show_rules))]
 fn append_heads(
     alloc: Global,
     out: &mut Vec<u8>,
@@ -189,7 +189,7 @@ fn behind(history: &[Entry], count: usize) -> &[Entry]
 }
 
 // Appends two witnesses side by side behind so many entries; where memory is refused, a part of it.
-#[tactic(auto, using(tc_text::proofs::Showing::show_rules))]
+#[tactic(auto, using(tc_text::proofs::Lemmas::Showing::show_rules))]
 fn append_parting(
     alloc: Global,
     out: &mut Vec<u8>,
@@ -225,7 +225,7 @@ fn append_race(
 }
 
 /// Appends the first witness beside each other one, from where they part. Where memory is refused, a part of it.
-#[tactic(auto, using(tc_text::proofs::Showing::show_rules))]
+#[tactic(auto, using(tc_text::proofs::Lemmas::Showing::show_rules))]
 pub(crate) fn append_races(
     alloc: Global,
     out: &mut Vec<u8>,

@@ -6,10 +6,12 @@ ghost use Rattle.tc_table.specs.Case.{past_of};
 ghost use Rattle.tc_explore.specs.Inside.Going as going;
 ghost use Rattle.tc_explore.specs.Inside.Going.{IsOn, IsNext};
 ghost use Rattle.tc_explore.specs.Inside.Simulation as moves;
-ghost use Rattle.tc_explore.specs.Laws.{IsClosedAt, AreClosed, AllFound};
-ghost use Rattle.tc_explore.specs.Inside.Seen.{IsSeen, IsLonger, IsNoted, IsCallClosed, IsRunOfClosed, AreRunsClosed, IsCaseClosed};
+ghost use Rattle.tc_explore.specs.Laws.{AllFound};
+ghost use Rattle.tc_explore.specs.Course.{goes_on};
+ghost use Rattle.tc_table.specs.Answers.{answer};
+ghost use Rattle.tc_explore.specs.Inside.Seen.{IsClosedAt, AreClosed, IsSeen, IsLonger, IsNoted, IsOpen, IsState, IsFull, IsStillAt, AreStill, IsCallClosed, IsRunOfClosed, AreRunsClosed, IsCaseClosed};
 
-use crate::calm::{calmed, is_spent};
+use crate::calm::calmed;
 use crate::course::Course;
 use crate::entries::has_gone_on;
 use crate::findings::{Findings, reach};
@@ -39,12 +41,12 @@ pub(crate) struct Extent {
 }
 
 // Whether the state at this place is that of the course.
-#[tactic(auto, using(crate::proofs::Seeing::seeing_rules))]
+#[tactic(auto, using(crate::proofs::Seeing::seeing_rules, crate::proofs::Keeping::keeping_rules))]
 fn is_at(states: &[Course], at: usize, course: &Course, scripts: &[Script]) -> bool
     requires some { 1 ≤ length scripts.now }
     requires few { length scripts.now ≤ BEHAVIOURS }
     requires on { IsOn scripts.now course.now }
-    requires states { All (λ t. IsOn scripts.now t) states.now }
+    requires states { All (λ t. IsState scripts.now t) states.now }
     ensures { IsTrue result → IsSeen states.now (past_of course.now) }
 {
     if at >= states.len() {
@@ -53,24 +55,30 @@ fn is_at(states: &[Course], at: usize, course: &Course, scripts: &[Script]) -> b
     is_same(course, &states[at], scripts)
 }
 
-// Takes in the state of a course, and answers whether it is among those that are seen.
-#[tactic(auto, using(crate::proofs::Seeing::seeing_rules))]
+// Takes in the state of a course, and answers whether it is among those that are seen: so it is, but where as many as the limit
+// are met. A key that stands for another state as well is no hindrance.
+#[tactic(auto, using(crate::proofs::Seeing::seeing_rules, crate::proofs::Keeping::keeping_rules))]
 fn place(alloc: Global, scripts: &[Script], course: Course, met: &mut Met) -> Result<bool, NoMemory>
     requires some { 1 ≤ length scripts.now }
     requires few { length scripts.now ≤ BEHAVIOURS }
-    requires on { IsOn scripts.now course }
-    requires states { All (λ t. IsOn scripts.now t) met.old.states.items }
-    ensures states { OnOk result (All (λ t. IsOn scripts.now t) met.new.states.items) }
+    requires state { IsState scripts.now course }
+    requires states { All (λ t. IsState scripts.now t) met.old.states.items }
+    ensures states { OnOk result (All (λ t. IsState scripts.now t) met.new.states.items) }
     ensures longer { OnOk result (IsLonger met.old.states.items met.new.states.items) }
     ensures limit { met.new.limit ≡ met.old.limit }
     ensures within { length met.old.states.items ≤ met.old.limit → length met.new.states.items ≤ met.old.limit }
     ensures seen { IfOk result (λ is_seen. is_seen ≡ true → IsSeen met.new.states.items (past_of course)) }
+    ensures full { IfOk result (λ is_seen. is_seen ≡ false → IsFull met.old) }
 {
     let key = course.key(alloc)?;
-    if let Some(at) = met.keys.get_index_of(&key) {
-        return Ok(is_at(&met.states, at, &course, scripts));
+    let is_known = match met.keys.get_index_of(&key) {
+        Some(at) => is_at(&met.states, at, &course, scripts),
+        None => false,
+    };
+    if is_known {
+        return Ok(true);
     }
-    if met.states.len() >= met.limit || !is_same(&course, &course, scripts) {
+    if met.states.len() >= met.limit {
         return Ok(false);
     }
     met.keys.insert(key)?;
@@ -79,7 +87,7 @@ fn place(alloc: Global, scripts: &[Script], course: Course, met: &mut Met) -> Re
 }
 
 // The course with one more call; the course itself is kept.
-#[tactic(auto, using(crate::proofs::Closed::closed_rules, crate::proofs::Turning::turn_rules))]
+#[tactic(auto, using(crate::proofs::Closed::closed_rules, crate::proofs::Lemmas::Turning::turn_rules))]
 fn with_call(
     alloc: Global,
     scripts: &[Script],
@@ -96,7 +104,7 @@ fn with_call(
 }
 
 // Makes a call, and answers whether what it leads to is seen, or its verdict is found.
-#[tactic(auto, using(crate::proofs::Closed::closed_rules, crate::proofs::Seeing::seeing_rules))]
+#[tactic(auto, using(crate::proofs::Closed::closed_rules, crate::proofs::Seeing::seeing_rules, crate::proofs::Keeping::keeping_rules, crate::proofs::Keeping::open_next))]
 fn after_call(
     alloc: Global,
     scripts: &[Script],
@@ -108,36 +116,28 @@ fn after_call(
 ) -> Result<bool, NoMemory>
     requires some { 1 ≤ length scripts.now }
     requires few { length scripts.now ≤ BEHAVIOURS }
-    requires on { IsOn scripts.now course.now }
+    requires opened { IsOpen scripts.now course.now }
     requires turn { IsNext scripts.now course.now run op }
-    requires states { All (λ t. IsOn scripts.now t) met.old.states.items }
+    requires goes { goes_on (answer course.now.behaviours (past_of course.now) run.0 op) ≡ true }
+    requires states { All (λ t. IsState scripts.now t) met.old.states.items }
     requires found { IsNoted scripts.now found.old }
-    ensures states { OnOk result (All (λ t. IsOn scripts.now t) met.new.states.items) }
+    ensures states { OnOk result (All (λ t. IsState scripts.now t) met.new.states.items) }
     ensures more_states { OnOk result (IsLonger met.old.states.items met.new.states.items) }
     ensures found { OnOk result (IsNoted scripts.now found.new) }
     ensures more_found { OnOk result (IsLonger found.old.witnesses.items found.new.witnesses.items) }
+    ensures limit { OnOk result (met.new.limit ≡ met.old.limit) }
     ensures closed { IfOk result (λ is_closed. is_closed ≡ true → IsCallClosed scripts.now met.new found.new course.now run op) }
+    ensures full { IfOk result (λ is_closed. is_closed ≡ false → IsFull met.old) }
 {
     let next = with_call(alloc, scripts, course, run, op)?;
     if next.is_over() {
-        let verdict = next.verdict();
         note(alloc, scripts, next, found)?;
-        return Ok(is_found(&found.witnesses, verdict));
+        return Ok(true);
     }
     let calm = calmed(next, scripts)?;
     reach(&mut found.reached, scripts, &calm);
     let is_seen = place(alloc, scripts, calm, met)?;
     Ok(is_seen)
-}
-
-// Whether a call is an error, or changes something.
-fn is_loud(course: &Course, run: Run, op: &Op) -> bool
-    ensures { IsTrue result → moves.IsLoud course.now.behaviours (past_of course.now) run.0 op.now }
-{
-    if course.would(run, op).is_fault() {
-        return true;
-    }
-    !is_spent(course, op)
 }
 
 // What is known of the calls of a run, or of all: what they lead to is seen, and one that is no error goes on.
@@ -148,7 +148,7 @@ struct Tried {
 }
 
 // Makes the next call of a run.
-#[tactic(auto, using(crate::proofs::Closed::run_rules, crate::proofs::Seeing::seeing_rules))]
+#[tactic(auto, using(crate::proofs::Closed::run_rules, crate::proofs::Seeing::seeing_rules, crate::proofs::Keeping::keeping_rules))]
 fn try_run(
     alloc: Global,
     scripts: &[Script],
@@ -159,15 +159,18 @@ fn try_run(
 ) -> Result<Tried, NoMemory>
     requires few { length scripts.now ≤ BEHAVIOURS }
     requires within { run.0 < length scripts.now }
-    requires on { IsOn scripts.now course.now }
-    requires states { All (λ t. IsOn scripts.now t) met.old.states.items }
+    requires state { IsState scripts.now course.now }
+    requires states { All (λ t. IsState scripts.now t) met.old.states.items }
     requires found { IsNoted scripts.now found.old }
-    ensures states { OnOk result (All (λ t. IsOn scripts.now t) met.new.states.items) }
+    ensures states { OnOk result (All (λ t. IsState scripts.now t) met.new.states.items) }
     ensures more_states { OnOk result (IsLonger met.old.states.items met.new.states.items) }
     ensures found { OnOk result (IsNoted scripts.now found.new) }
     ensures more_found { OnOk result (IsLonger found.old.witnesses.items found.new.witnesses.items) }
+    ensures limit { OnOk result (met.new.limit ≡ met.old.limit) }
     ensures closed { IfOk result (λ t. t.is_closed ≡ true → IsRunOfClosed scripts.now met.new found.new course.now run.0) }
+    ensures full { IfOk result (λ t. t.is_closed ≡ false → IsFull met.old) }
     ensures goes_on { IfOk result (λ t. t.goes_on ≡ true → moves.GoesOn scripts.now (past_of course.now)) }
+    ensures still { IfOk result (λ t. t.goes_on ≡ false → IsStillAt scripts.now (past_of course.now) run.0) }
 {
     let Some(op) = next_call(course, scripts, run) else {
         return Ok(Tried {
@@ -179,12 +182,6 @@ fn try_run(
     if !has_gone_on(reply) {
         return Ok(Tried {
             is_closed: true,
-            goes_on: false,
-        });
-    }
-    if !is_loud(course, run, &op) {
-        return Ok(Tried {
-            is_closed: false,
             goes_on: false,
         });
     }
@@ -205,15 +202,18 @@ fn try_runs(
     found: &mut Findings,
 ) -> Result<Tried, NoMemory>
     requires few { length scripts.now ≤ BEHAVIOURS }
-    requires on { IsOn scripts.now course.now }
-    requires states { All (λ t. IsOn scripts.now t) met.old.states.items }
+    requires state { IsState scripts.now course.now }
+    requires states { All (λ t. IsState scripts.now t) met.old.states.items }
     requires found { IsNoted scripts.now found.old }
-    ensures states { OnOk result (All (λ t. IsOn scripts.now t) met.new.states.items) }
+    ensures states { OnOk result (All (λ t. IsState scripts.now t) met.new.states.items) }
     ensures more_states { OnOk result (IsLonger met.old.states.items met.new.states.items) }
     ensures found { OnOk result (IsNoted scripts.now found.new) }
     ensures more_found { OnOk result (IsLonger found.old.witnesses.items found.new.witnesses.items) }
+    ensures limit { OnOk result (met.new.limit ≡ met.old.limit) }
     ensures closed { IfOk result (λ t. t.is_closed ≡ true → AreRunsClosed scripts.now met.new found.new course.now (length scripts.now)) }
+    ensures full { IfOk result (λ t. t.is_closed ≡ false → IsFull met.new) }
     ensures goes_on { IfOk result (λ t. t.goes_on ≡ true → moves.GoesOn scripts.now (past_of course.now)) }
+    ensures still { IfOk result (λ t. t.goes_on ≡ false → AreStill scripts.now (past_of course.now) (length scripts.now)) }
 {
     let mut is_closed = true;
     let mut goes_on = false;
@@ -226,8 +226,8 @@ fn try_runs(
 }
 
 // Looks at the state of a course: makes the next call of each run, or ends the case where none goes on. It answers whether
-// what comes after the state is seen, or found.
-#[tactic(auto, using(crate::proofs::States::state_rules, crate::proofs::Closed::runs_rules, crate::proofs::Seeing::seeing_rules))]
+// what comes after the state is seen, or found: so it is, but where as many states as the limit are met.
+#[tactic(auto, using(crate::proofs::States::state_rules, crate::proofs::Closed::runs_rules, crate::proofs::Seeing::seeing_rules, crate::proofs::Keeping::keeping_rules, crate::proofs::Parking::held_if))]
 fn expand_course(
     alloc: Global,
     scripts: &[Script],
@@ -237,18 +237,17 @@ fn expand_course(
 ) -> Result<bool, NoMemory>
     requires some { 1 ≤ length scripts.now }
     requires few { length scripts.now ≤ BEHAVIOURS }
-    requires on { IsOn scripts.now course.now }
-    requires states { All (λ t. IsOn scripts.now t) met.old.states.items }
+    requires state { IsState scripts.now course.now }
+    requires states { All (λ t. IsState scripts.now t) met.old.states.items }
     requires found { IsNoted scripts.now found.old }
-    ensures states { OnOk result (All (λ t. IsOn scripts.now t) met.new.states.items) }
+    ensures states { OnOk result (All (λ t. IsState scripts.now t) met.new.states.items) }
     ensures more_states { OnOk result (IsLonger met.old.states.items met.new.states.items) }
     ensures found { OnOk result (IsNoted scripts.now found.new) }
     ensures more_found { OnOk result (IsLonger found.old.witnesses.items found.new.witnesses.items) }
+    ensures limit { OnOk result (met.new.limit ≡ met.old.limit) }
     ensures closed { IfOk result (λ is_closed. is_closed ≡ true → IsCaseClosed scripts.now met.new found.new course.now) }
+    ensures full { IfOk result (λ is_closed. is_closed ≡ false → IsFull met.new) }
 {
-    if course.is_over() || !course.is_active(Run(0)) || course.has_left(Run(0)) {
-        return Ok(false);
-    }
     let tried = try_runs(alloc, scripts, course, met, found)?;
     if !tried.is_closed {
         return Ok(false);
@@ -257,12 +256,16 @@ fn expand_course(
         return Ok(true);
     }
     let stuck = with_stuck(course.copied(alloc)?, scripts)?;
+    if is_found(&found.witnesses, Verdict::Error) {
+        reach(&mut found.reached, scripts, &stuck);
+        return Ok(true);
+    }
     note(alloc, scripts, stuck, found)?;
-    Ok(is_found(&found.witnesses, Verdict::Error))
+    Ok(true)
 }
 
 // Looks at the state at this place.
-#[tactic(auto, using(crate::proofs::States::place_rules, crate::proofs::Seeing::seeing_rules))]
+#[tactic(auto, using(crate::proofs::Seeing::seeing_rules, crate::proofs::Keeping::keeping_rules))]
 fn expand(
     alloc: Global,
     scripts: &[Script],
@@ -273,13 +276,15 @@ fn expand(
     requires some { 1 ≤ length scripts.now }
     requires few { length scripts.now ≤ BEHAVIOURS }
     requires within { at < length met.old.states.items }
-    requires states { All (λ t. IsOn scripts.now t) met.old.states.items }
+    requires states { All (λ t. IsState scripts.now t) met.old.states.items }
     requires found { IsNoted scripts.now found.old }
-    ensures states { OnOk result (All (λ t. IsOn scripts.now t) met.new.states.items) }
+    ensures states { OnOk result (All (λ t. IsState scripts.now t) met.new.states.items) }
     ensures more_states { OnOk result (IsLonger met.old.states.items met.new.states.items) }
     ensures found { OnOk result (IsNoted scripts.now found.new) }
     ensures more_found { OnOk result (IsLonger found.old.witnesses.items found.new.witnesses.items) }
+    ensures limit { OnOk result (met.new.limit ≡ met.old.limit) }
     ensures closed { IfOk result (λ is_closed. is_closed ≡ true → IsClosedAt scripts.now met.new.states.items found.new.witnesses.items at) }
+    ensures full { IfOk result (λ is_closed. is_closed ≡ false → IsFull met.new) }
 {
     let course = met.states[at].copied(alloc)?;
     let is_closed = expand_course(alloc, scripts, &course, met, found);
@@ -298,12 +303,14 @@ fn expand_all(
 ) -> Result<Extent, NoMemory>
     requires some { 1 ≤ length scripts.now }
     requires few { length scripts.now ≤ BEHAVIOURS }
-    requires states { All (λ t. IsOn scripts.now t) met.old.states.items }
+    requires limit { met.old.limit ≡ limit }
+    requires states { All (λ t. IsState scripts.now t) met.old.states.items }
     requires found { IsNoted scripts.now found.old }
     ensures more_states { OnOk result (IsLonger met.old.states.items met.new.states.items) }
     ensures found { OnOk result (IsNoted scripts.now found.new) }
     ensures closed { IfOk result (λ e. e.is_whole ≡ true → AreClosed scripts.now met.new.states.items found.new.witnesses.items) }
     ensures within { IfOk result (λ e. e.states ≤ limit) }
+    ensures full { IfOk result (λ e. e.is_whole ≡ false → e.states ≡ limit) }
 {
     let mut is_closed = true;
     for at in 0..limit {
@@ -323,7 +330,7 @@ fn expand_all(
 }
 
 // Makes the calls of all runs from each state that is met, within a limit, where none was met.
-#[tactic(auto, using(crate::proofs::States::complete_by, crate::proofs::Turning::turn_rules, crate::proofs::Seeing::seeing_rules))]
+#[tactic(auto, using(crate::proofs::States::complete_by, crate::proofs::Lemmas::Turning::turn_rules, crate::proofs::Seeing::seeing_rules, crate::proofs::Keeping::open_opening))]
 fn search_in(
     alloc: Global,
     scripts: &[Script],
@@ -337,6 +344,7 @@ fn search_in(
     ensures found { OnOk result (IsNoted scripts.now found.new) }
     ensures complete { IfOk result (λ e. e.is_whole ≡ true → AllFound scripts.now found.new.witnesses.items) }
     ensures within { IfOk result (λ e. e.states ≤ met.old.limit) }
+    ensures full { IfOk result (λ e. e.is_whole ≡ false → e.states ≡ met.old.limit) }
 {
     let limit = met.limit;
     let opening = Course::opening(alloc, scripts.len() as u16)?;
@@ -352,9 +360,9 @@ fn search_in(
     Ok(extent)
 }
 
-/// Makes the calls of all runs from each state that is met, within a limit. Where it comes to its end the verdict of each
-/// complete course is found.
-#[tactic(auto, using(crate::proofs::States::complete_by, crate::proofs::Turning::turn_rules, crate::proofs::Seeing::seeing_rules))]
+/// Makes the calls of all runs from each state that is met, within a limit. It comes to its end unless it meets the limit, and
+/// then the verdict of each complete course is found.
+#[tactic(auto, using(crate::proofs::States::complete_by, crate::proofs::Lemmas::Turning::turn_rules, crate::proofs::Seeing::seeing_rules))]
 pub(crate) fn search_all(
     alloc: Global,
     scripts: &[Script],
@@ -367,6 +375,7 @@ pub(crate) fn search_all(
     ensures found { OnOk result (IsNoted scripts.now found.new) }
     ensures complete { IfOk result (λ e. e.is_whole ≡ true → AllFound scripts.now found.new.witnesses.items) }
     ensures within { IfOk result (λ e. e.states ≤ limit) }
+    ensures full { IfOk result (λ e. e.is_whole ≡ false → e.states ≡ limit) }
 {
     let mut met = Met {
         states: Vec::new(alloc),

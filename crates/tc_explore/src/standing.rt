@@ -131,13 +131,6 @@ impl Standing {
         Some((comp, awaited))
     }
 
-    /// Whether its pass has ended.
-    pub(crate) fn has_left(&self) -> bool
-        ensures { result ≡ self.now.left }
-    {
-        self.left
-    }
-
     /// Whether both are on the same component, or on none.
     #[tactic(auto, using(crate::proofs::Sameness::same_rules))]
     pub(crate) fn is_on_same(&self, other: &Standing) -> bool

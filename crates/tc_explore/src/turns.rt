@@ -1,10 +1,12 @@
 //! The turns of runs.
-ghost use Rattle.std.specs.Prelude.{◌≡◌, ◌≤◌, ◌<◌, ◌↔◌, true, IfOk, IfNone, IfSome, IsTrue, length};
+ghost use Rattle.std.specs.Prelude.{◌≡◌, ◌≤◌, ◌<◌, true, IfOk, IfNone, IfSome, length};
 ghost use Rattle.tc_entry.specs.declared.limits.TheConstants.{BEHAVIOURS};
 ghost use Rattle.tc_table.specs.Answers as answers;
 ghost use Rattle.tc_table.specs.Case.{past_of};
+ghost use Rattle.tc_table.specs.History.{is_over};
+ghost use Rattle.tc_table.specs.Local.{overall};
 ghost use Rattle.tc_explore.specs.Course as courses;
-ghost use Rattle.tc_explore.specs.Inside.Going.{IsOn, IsNext, CannotGo};
+ghost use Rattle.tc_explore.specs.Inside.Going.{IsOn, IsNext, CannotGo, IsStepped};
 
 use crate::course::Course;
 use crate::entries::is_wake;
@@ -13,7 +15,7 @@ use tc_step::Script;
 use tc_verdict::{NoMemory, Run};
 
 // Whether the call would be a Wake that is parked again.
-#[tactic(auto, using(crate::proofs::Turning::other_not_idle))]
+#[tactic(auto, using(crate::proofs::Lemmas::Turning::other_not_idle))]
 fn is_idle(course: &Course, run: Run, op: &Op) -> bool
     ensures { result ≡ courses.is_idle_by op.now (answers.answer course.now.behaviours (past_of course.now) run.0 op.now) }
 {
@@ -27,7 +29,7 @@ fn is_idle(course: &Course, run: Run, op: &Op) -> bool
 }
 
 /// What the run calls next, if it can go on.
-#[tactic(auto, using(crate::proofs::Turning::turn_rules))]
+#[tactic(auto, using(crate::proofs::Lemmas::Turning::turn_rules))]
 pub(crate) fn next_call(course: &Course, scripts: &[Script], run: Run) -> Option<Op>
     requires on { IsOn scripts.now course.now }
     ensures some { IfSome result (λ op. IsNext scripts.now course.now run op) }
@@ -44,10 +46,12 @@ pub(crate) fn next_call(course: &Course, scripts: &[Script], run: Run) -> Option
 }
 
 /// The course with the next call of a run, if that can go on.
-#[tactic(auto, using(crate::proofs::Turning::turn_rules))]
+#[tactic(auto, using(crate::proofs::Lemmas::Turning::turn_rules, crate::proofs::LastCalls::step_rules))]
 pub(crate) fn step(course: Course, scripts: &[Script], run: Run) -> Result<Course, NoMemory>
+    requires within { run.0 < length scripts.now }
     requires on { IsOn scripts.now course }
     ensures on { IfOk result (IsOn scripts.now) }
+    ensures stepped { IfOk result (λ c. IsStepped scripts.now (past_of course) (past_of c) run.0) }
 {
     match next_call(&course, scripts, run) {
         None => Ok(course),
@@ -55,29 +59,19 @@ pub(crate) fn step(course: Course, scripts: &[Script], run: Run) -> Result<Cours
     }
 }
 
-/// Each run makes one more call, in the order of their numbers, if it can go on.
+/// Each run of a case that is over makes its last call, in the order of their numbers: it is answered Ended.
+#[tactic(auto, using(crate::proofs::LastCalls::ending_rules))]
 pub(crate) fn step_all(course: Course, scripts: &[Script]) -> Result<Course, NoMemory>
     requires few { length scripts.now ≤ BEHAVIOURS }
     requires on { IsOn scripts.now course }
-    ensures { IfOk result (IsOn scripts.now) }
+    requires over { is_over (past_of course) ≡ true }
+    ensures on { IfOk result (IsOn scripts.now) }
+    ensures complete { IfOk result (λ c. courses.IsComplete scripts.now (past_of c)) }
+    ensures verdict { IfOk result (λ c. overall (past_of c) ≡ overall (past_of course)) }
 {
     let mut course = course;
     for run in 0..scripts.len() as u16 {
         course = step(course, scripts, Run(run))?;
     }
     Ok(course)
-}
-
-/// Whether no run has a call left.
-pub(crate) fn is_complete(course: &Course, scripts: &[Script]) -> bool
-    requires few { length scripts.now ≤ BEHAVIOURS }
-    requires on { IsOn scripts.now course.now }
-    ensures { IsTrue result ↔ courses.IsComplete scripts.now (past_of course.now) }
-{
-    for run in 0..scripts.len() as u16 {
-        if course.turn(scripts, Run(run)).is_some() {
-            return false;
-        }
-    }
-    true
 }

@@ -38,7 +38,7 @@ fn append_words(
 }
 
 // Appends the line of a run, if one of its steps is not carried out; where memory is refused, a part of it.
-#[tactic(auto, unfolding(crate::specs::Unseen::unseen_among), using(tc_text::proofs::Showing::show_rules))]
+#[tactic(auto, unfolding(crate::specs::Unseen::unseen_among), using(tc_text::proofs::Lemmas::Showing::show_rules))]
 fn append_among(
     alloc: Global,
     out: &mut Vec<u8>,
@@ -58,7 +58,7 @@ fn append_among(
 
 /// Appends the lines of the runs of which some steps are carried out in no course that was looked at. Where memory is refused,
 /// a part of them.
-#[tactic(auto, unfolding(crate::specs::Unseen::unseen), using(tc_text::proofs::Showing::show_rules))]
+#[tactic(auto, unfolding(crate::specs::Unseen::unseen), using(tc_text::proofs::Lemmas::Showing::show_rules))]
 pub(crate) fn append_unseen(
     alloc: Global,
     out: &mut Vec<u8>,

@@ -91,7 +91,7 @@ fn append_words(
 }
 
 // Appends the line of a run, if it goes on and waits; where memory is refused, a part of it.
-#[tactic(auto, unfolding(crate::specs::Waits::wait), using(tc_text::proofs::Showing::show_rules))]
+#[tactic(auto, unfolding(crate::specs::Waits::wait), using(tc_text::proofs::Lemmas::Showing::show_rules))]
 fn append_wait(
     alloc: Global,
     out: &mut Vec<u8>,
@@ -118,7 +118,7 @@ fn append_wait(
 }
 
 // Appends the lines of all runs that go on and wait; where memory is refused, a part of them.
-#[tactic(auto, using(tc_text::proofs::Showing::show_rules))]
+#[tactic(auto, using(tc_text::proofs::Lemmas::Showing::show_rules))]
 fn append_waiting(
     alloc: Global,
     out: &mut Vec<u8>,
@@ -139,7 +139,7 @@ fn append_waiting(
 }
 
 /// Appends who waits for whom where a witness ends since no run can go on. Where memory is refused, a part of it.
-#[tactic(auto, unfolding(crate::specs::Waits::waits), using(tc_text::proofs::Showing::show_rules))]
+#[tactic(auto, unfolding(crate::specs::Waits::waits), using(tc_text::proofs::Lemmas::Showing::show_rules))]
 pub(crate) fn append_waits(
     alloc: Global,
     out: &mut Vec<u8>,

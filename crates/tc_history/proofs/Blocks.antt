@@ -7,8 +7,8 @@ use Rattle.tc_verdict.specs.Verdict.{name_of}
 use Rattle.tc_entry.specs.declared.entry.Entry.{Entry}
 use Rattle.tc_text.specs.Lines.{lines_of}
 use Rattle.tc_text.specs.Spelling.{op_text, reply_text}
-use Rattle.tc_text.proofs.Digits.{no_letter}
-use Rattle.tc_text.proofs.LinesOf.{some_line}
+use Rattle.tc_text.proofs.Lemmas.Digits.{no_letter}
+use Rattle.tc_text.proofs.Lemmas.LinesOf.{some_line}
 use Rattle.tc_history.specs.declared.header.Header.{Header}
 use Rattle.tc_history.specs.declared.read.Block.{Block}
 use Rattle.tc_history.specs.Block.{header_text, entry_text, end_text}

@@ -3,9 +3,9 @@ use Rattle.std.proofs.Common.{ℕ, ◌≡◌, ◌≢◌, ◌∙◌, ◌==◌, Bo
 use Rattle.std.specs.Fmt.{decimal}
 use Rattle.tc_text.specs.Lines.{lines_of}
 use Rattle.tc_text.specs.Reading.{EndsLine, EndsNumber}
-use Rattle.tc_text.proofs.LinesOf.{NoLf, no_lf-append, line_ended, first_line}
-use Rattle.tc_text.proofs.Naming.{name_plain}
-use Rattle.tc_text.proofs.Plain.{number_plain}
+use Rattle.tc_text.proofs.Lemmas.LinesOf.{NoLf, no_lf-append, line_ended, first_line}
+use Rattle.tc_text.proofs.Lemmas.Naming.{name_plain}
+use Rattle.tc_text.proofs.Lemmas.Plain.{number_plain}
 use Rattle.tc_history.specs.declared.header.Header.{Header}
 use Rattle.tc_history.specs.Block.{format_text, header_text}
 use Rattle.tc_history.specs.Inside.{IsSomeFormat}

@@ -17,8 +17,8 @@ use Rattle.tc_text.specs.Lines.{lines_of}
 use Rattle.tc_text.specs.Reading.{EndsMove, EndsLine, op_of}
 use Rattle.tc_text.specs.Spelling.{move_text, reply_text, IsReply}
 use Rattle.tc_entry.specs.Reply.{fault_name}
-use Rattle.tc_text.proofs.LinesOf.{NoLf, no_lf-append, line_ended, first_line, same_behind}
-use Rattle.tc_text.proofs.Plain.{number_plain, move_plain, some_move}
+use Rattle.tc_text.proofs.Lemmas.LinesOf.{NoLf, no_lf-append, line_ended, first_line, same_behind}
+use Rattle.tc_text.proofs.Lemmas.Plain.{number_plain, move_plain, some_move}
 use Rattle.tc_history.specs.Block.{entry_text, end_text, outcome_text}
 use Rattle.tc_history.specs.Text.{IsEntry, IsUnnamed}
 

@@ -4,5 +4,5 @@ pub mod Headers
 pub mod InnerLines
 pub mod Prefixes
 pub mod Texts
-pub mod WrittenBlocks
+pub mod Lemmas
 pub mod Taking

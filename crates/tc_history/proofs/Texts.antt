@@ -5,7 +5,7 @@ use Rattle.tc_text.specs.declared.fault.TextFault.{TextFault}
 use Rattle.tc_text.specs.declared.fault.TextFault.TheVariants as F
 use Rattle.tc_text.specs.declared.fault.TextKind.TheVariants as K
 use Rattle.tc_text.specs.Lines.{lines_of}
-use Rattle.tc_text.proofs.LinesOf.{no_line}
+use Rattle.tc_text.proofs.Lemmas.LinesOf.{no_line}
 use Rattle.tc_history.specs.declared.read.Block.{Block}
 use Rattle.tc_history.specs.Block.{entry_text, end_text}
 use Rattle.tc_history.specs.Text.{IsBlock, AreBlocks, AreHistories, IsHistoryFault, open_lines, block_lines, all_lines}

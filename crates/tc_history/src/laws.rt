@@ -8,7 +8,7 @@ ghost use Rattle.tc_history.specs.Written as laws;
 use tc_entry::{Comp, Entry, Group, Name, Op, Reply, Target};
 
 /// What is written of blocks is read as these blocks.
-#[tactic(auto, using(crate::proofs::WrittenBlocks::written_histories))]
+#[tactic(auto, using(crate::proofs::Lemmas::WrittenBlocks::written_histories))]
 pub fn written_is_read()
     ensures { laws.WrittenIsRead }
 {}

@@ -16,7 +16,7 @@ use Rattle.tc_case.specs.Merge.{is_other, is_late, is_verdict_call, head, after_
 use Rattle.tc_case.specs.Parts.{is_by, part}
 use Rattle.tc_merge.specs.OneCase.{AreByStarted, AreStartedOnce, AreOfOneCase, stops_when_late}
 use Rattle.tc_merge.proofs.InPlace.{follows_same, follows_more}
-use Rattle.tc_merge.proofs.Table.{log_of-beyond}
+use Rattle.tc_merge.proofs.Lemmas.Table.{log_of-beyond}
 
 -- the part of a history by run b, as it computes
 abbrev pub entries_by : List Entry → ℕ → List Entry

@@ -8,6 +8,8 @@ mod checks;
 #[cfg(test)]
 mod entries;
 #[cfg(test)]
+mod evidence;
+#[cfg(test)]
 mod histories;
 #[cfg(test)]
 mod merging;

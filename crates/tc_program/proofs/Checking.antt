@@ -1,24 +1,34 @@
 -- Histories, checked one after the other.
-use Rattle.std.proofs.Common.{ℕ, ◌≡◌, Bool, true, false, List, [], ◌∷◌, ◌++◌, ap, ◌∙◌, append_assoc}
+use Rattle.std.proofs.Common.{ℕ, ◌≡◌, Bool, true, false, List, [], ◌∷◌, ◌++◌, if◌then◌else◌, ap, refl, subst, ◌∙◌, append_assoc}
 use Rattle.std.proofs.lemmas.List.{append-nil}
 use Rattle.tc_text.specs.declared.fault.TextFault.{TextFault}
 use Rattle.tc_text.specs.declared.fault.TextFault.TheVariants as T
 use Rattle.tc_history.specs.declared.read.Block.{Block}
 use Rattle.tc_program.specs.declared.judge.Judgement.{Judgement}
+use Rattle.tc_program.specs.declared.judge.Judgement.TheVariants as J
 use Rattle.tc_history.specs.Text.{AreHistories, IsMadeOf, IsHistoryFault}
 use Rattle.tc_program.specs.declared.check.Checking.{Checking}
-use Rattle.tc_program.specs.Check.{IsJudgement, judges_legal, judgement_line, Checks, IsCheckOf, RefusesHistory}
-use Rattle.tc_program.specs.Inside.{Feeds, of_text}
+use Rattle.tc_program.specs.Check.{Checks, IsChecked, RefusesHistory, Says}
+use Rattle.tc_program.specs.Inside.{Feeds, IsJudgement, judges_legal, judgement_line, of_text}
 
 behind : (blocks more : List Block) (b : Block) → (blocks ++ b ∷ []) ++ more ≡ blocks ++ (b ∷ more)
 behind blocks more b = append_assoc blocks (b ∷ []) more
+
+-- what the table says of a block, by its judgement
+pub says_of : (b : Block) (j : Judgement) → IsJudgement b j → Says b (judgement_line j) (judges_legal j)
+says_of b (J.Legal name entries verdict) is = rw (is.2, is.3, is.4) (Says.right is.0 is.1)
+says_of b (J.OtherReply line given reply) is = rw is.line_is (Says.other_reply is.at given reply is.differs is.given_is)
+says_of b (J.OtherVerdict line given verdict) is = rw (is.3, is.4) (Says.other_verdict verdict is.0 is.1 is.2)
+
+says_so : (b : Block) (j : Judgement) (t : Bool) → judges_legal j ≡ t → IsJudgement b j → Says b (judgement_line j) t
+says_so b j t e is = subst (Says b (judgement_line j)) e (says_of b j is)
 
 -- one more block, for which something is printed
 pub printed_more : (blocks : List Block) (b : Block) (j : Judgement) (out out' : List ℕ) (t : Bool) → judges_legal j ≡ t → Feeds blocks out true → IsJudgement b j → out' ≡ out ++ judgement_line j → Feeds (blocks ++ b ∷ []) out' t
 printed_more blocks b j out out' true e before is added = λ more tail legal checks.
     let lines : out' ++ tail ≡ out ++ (judgement_line j ++ tail) = ap (λ x. x ++ tail) added ∙ append_assoc out (judgement_line j) tail in
-    rw (behind blocks more b, lines) (before (b ∷ more) (judgement_line j ++ tail) legal (Checks.goes_on b more j tail legal e is checks))
-printed_more blocks b j out out' false e before is added = λ more. rw (behind blocks more b, added) (before (b ∷ more) (judgement_line j) false (Checks.stops b more j e is))
+    rw (behind blocks more b, lines) (before (b ∷ more) (judgement_line j ++ tail) legal (Checks.goes_on b more (judgement_line j) tail legal (says_so b j true e is) checks))
+printed_more blocks b j out out' false e before is added = λ more. rw (behind blocks more b, added) (before (b ∷ more) (judgement_line j) false (Checks.stops b more (judgement_line j) (says_so b j false e is)))
 
 -- one more block, behind one that is not legal
 pub passed_more : (blocks : List Block) (b : Block) (out : List ℕ) → Feeds blocks out false → Feeds (blocks ++ b ∷ []) out false
@@ -30,12 +40,13 @@ whole blocks out false feeds = let all : Checks (blocks ++ []) out false = feeds
 
 -- what is printed for the histories of the text
 pub all_checked : (text : List ℕ) (c : Checking) → IsMadeOf (λ blocks (c : Checking). Feeds blocks c.out.items c.legal) text c
-    → ((all : List Block) → AreHistories text all → Feeds all c.out.items c.legal) → IsCheckOf text c.out.items c.legal
+    → ((all : List Block) → AreHistories text all → Feeds all c.out.items c.legal) → IsChecked text c.out.items (if c.legal then 0 else 3)
 all_checked text c so only = record {
   blocks = so.blocks;
   histories = so.histories;
-  checks = whole so.blocks c.out.items c.legal so.made;
-  only = λ others is. whole others c.out.items c.legal (only others is);
+  legal = c.legal;
+  checks = λ all is. whole all c.out.items c.legal (only all is);
+  status_is = refl;
 }
 
 -- a fault of the text is the command's

@@ -2,13 +2,13 @@
 use Rattle.std.proofs.Common.{ℕ, ◌≡◌, ◌∙◌, ◌+◌, ◌++◌, ◌&&◌, ◌||◌, Bool, true, false, List, [], ◌∷◌, Option, Some, None, Ok, All, ap, ap₂, refl, subst, sym, true≢false}
 use Rattle.std.proofs.lemmas.List.Elements.{All-cons, All-head, All-tail}
 use Rattle.std.specs.List.{AllZip, flat_map, list_any}
-use Rattle.std.specs.Prelude.{filter, if◌then◌else◌, option_map}
+use Rattle.std.specs.Prelude.{filter, if◌then◌else◌}
 use Rattle.std.specs.Str.{bytes_eq}
-use Rattle.tc_campaign.specs.Shard.{ShardView, has_place}
+use Rattle.tc_entry.specs.Shard.{ShardView, has_place}
 use Rattle.tc_campaign.specs.declared.case.Case.{Case}
 use Rattle.tc_campaign.specs.Choosing.{case_name, chosen, have_names, is_asked, named, placed}
 use Rattle.tc_step.specs.Steps.{ScriptView}
-use Rattle.tc_program.specs.Choosing.{RefusesChoice, RefusesScript, list_text, script_name, shard_of}
+use Rattle.tc_program.specs.Choosing.{RefusesChoice, RefusesScript, list_text, script_name}
 use Rattle.tc_program.specs.declared.fault.RunFault.{RunFault}
 use Rattle.tc_program.specs.declared.fault.RunFault.TheVariants as F
 use Rattle.tc_command.specs.declared.task.Choice.{Choice}
@@ -90,10 +90,10 @@ listed cs ks text each is = is ∙ same_lines cs ks each
 
 -- the chosen ones of test cases that were made of a script are ready to be run
 pub ready : (choice : Choice) (text : List ℕ) (all : CampaignView) (made ks : List (Case ScriptView)) → campaign text ≡ Ok all → All (λ c. IsCase c.1) all → AreCases all made
-    → have_names case_name choice.only.items made ≡ true → ks ≡ chosen case_name choice.only.items (option_map shard_of choice.shard) made → AreReady choice text ks
+    → have_names case_name choice.only.items made ≡ true → ks ≡ chosen case_name choice.only.items choice.shard made → AreReady choice text ks
 ready choice text all made ks spelled lawful each have are =
     let only = choice.only.items in
-    let shard = option_map shard_of choice.shard in record {
+    let shard = choice.shard in record {
       cases = chosen script_name only shard all;
       chosen = record { all = all; spelled = spelled; named = same_names only all made each ∙ have; are = refl };
       lawful = all_chosen (λ c. IsCase c.1) script_name only shard all lawful;

@@ -9,9 +9,9 @@ use Rattle.tc_command.specs.declared.task.Task.TheVariants as T
 use Rattle.tc_program.specs.declared.fault.RunFault.{RunFault}
 use Rattle.tc_program.specs.declared.fault.RunFault.TheVariants as F
 use Rattle.tc_program.specs.Input.{IsUnread}
-use Rattle.tc_program.specs.Inside.{IsMade, WritesTo}
+use Rattle.tc_program.specs.Inside.{Makes, Refuses, WritesTo}
 use Rattle.tc_program.specs.Limits.{limit_of}
-use Rattle.tc_program.specs.Made.{Does, Makes, Refuses}
+use Rattle.tc_program.specs.Made.{Does, IsMade}
 
 pub keeps_same : (held : Option (List ℕ)) → Keeps held held
 keeps_same None = tt
@@ -70,8 +70,13 @@ some_text (Err e) = ([], tt)
 pub silent_answer : (out out' told : List ℕ) (status : ℕ) → out ≡ out' → told ≡ [] → answer_of out told status ≡ answer_of out' [] status
 silent_answer out out' told status out_is told_is = ap₂ (λ o t. answer_of o t status) out_is told_is
 
+-- what is made of a text, where there is an answer, and where there is none
+made_either : (task : Task) (text : List ℕ) (r : Result Answer RunFault) → IfOk r (Makes task text) → IfErr r (Refuses task text) → IsMade task text r
+made_either task text (Ok a) done refused = done
+made_either task text (Err fault) done refused = refused
+
 -- what is made of a text for a task
 pub made_by : (task other : Task) (text : List ℕ) (made r : Result Answer RunFault) → task ≡ other → made ≡ r → IfOk r (Makes other text) → IfErr r (Refuses other text)
     → IsMade task text made
 made_by task other text made r is same done refused =
-    subst (λ x. IsMade task text x) (sym same) (subst (λ t. IsMade t text r) (sym is) (made_of (Makes other text) (Refuses other text) r done refused))
+    subst (λ x. IsMade task text x) (sym same) (subst (λ t. IsMade t text r) (sym is) (made_either other text r done refused))

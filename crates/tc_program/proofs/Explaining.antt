@@ -1,7 +1,7 @@
 -- What is told of a text that is refused.
 use Rattle.std.proofs.Common.{ℕ, ◌≡◌, List, Result, Ok, Err, IfOk, refl}
 use Rattle.std.specs.Global.{Vec}
-use Rattle.tc_explain.proofs.Showing.{shows_some}
+use Rattle.tc_explain.proofs.Lemmas.Showing.{shows_some}
 use Rattle.tc_command.specs.declared.task.Task.{Task}
 use Rattle.tc_program.specs.declared.fault.RunFault.{RunFault}
 use Rattle.tc_program.specs.Explained.{IsToldOf, notes_of, refusal_of}

@@ -27,7 +27,7 @@ use Rattle.tc_entry.specs.declared.reply.Reply.{Reply}
 use Rattle.tc_entry.specs.declared.reply.Reply.TheVariants as R
 use Rattle.tc_text.specs.Lines.{lines_of}
 use Rattle.tc_text.specs.Spelling.{AreComps, IsGroup, IsOp, IsReply, IsTarget, args_text, group_text, move_text, op_text, reply_text, start_text, target_text}
-use Rattle.tc_text.proofs.Digits.{both, spelled_digits}
+use Rattle.tc_text.proofs.Lemmas.Digits.{both, spelled_digits}
 use Rattle.tc_history.specs.declared.header.Header.{Header}
 use Rattle.tc_history.specs.declared.read.Block.{Block}
 use Rattle.tc_history.specs.Block.{end_text, entry_text, format_text, header_text}

@@ -7,6 +7,7 @@ pub mod Chosen
 pub mod Scripted
 pub mod Checking
 pub mod Exploring
+pub mod Faults
 pub mod WrittenHistories
 pub mod Reporting
 pub mod Inert

@@ -8,15 +8,16 @@ use Rattle.tc_entry.specs.declared.entry.Entry.{Entry}
 use Rattle.tc_entry.specs.declared.reply.Reply.{Reply}
 use Rattle.tc_text.specs.declared.fault.TextFault.{TextFault}
 use Rattle.tc_text.specs.declared.fault.TextFault.TheVariants as T
-use Rattle.tc_text.specs.MoveList.{Move, IsMadeOf, IsListFault}
+use Rattle.tc_text.specs.MoveList.{Move, IsMadeOf, IsMoveList, IsListFault}
 use Rattle.tc_text.specs.Spelling.{reply_text}
 use Rattle.tc_table.specs.Standing.{StandsFor}
-use Rattle.tc_table.proofs.Standing.{legal_for}
+use Rattle.tc_table.proofs.Lemmas.Standing.{legal_for}
 use Rattle.tc_table.specs.Local.{overall}
 use Rattle.tc_program.specs.declared.replay.Replaying.{Replaying}
 use Rattle.tc_program.specs.Inside.{ArePlayed, of_text}
-use Rattle.tc_program.specs.Replay.{move_of, reply_line, IsReplayOf, RefusesMoves}
+use Rattle.tc_program.specs.Replay.{move_of, reply_line, RefusesMoves, Replays}
 use Rattle.tc_report.specs.Report.{verdict_line}
+use Rattle.tc_report.specs.Status.{verdict_status}
 
 one_line : (h : List Entry) (e : Entry) → flat_map reply_line (h ++ e ∷ []) ≡ flat_map reply_line h ++ reply_line e
 one_line h e = flat_map-append reply_line h (e ∷ []) ∙ ap (λ l. flat_map reply_line h ++ l) (append-nil (reply_line e))
@@ -40,22 +41,18 @@ played_more n moves r r' m reply before same plays wrote =
     }
 
 pub all_played : (text out : List ℕ) (r : Replaying) (verdict : Verdict) → IsMadeOf ArePlayed text r → ((past : List Entry) → StandsFor r.state past → verdict ≡ overall past) →
-    out ≡ r.out.items ++ verdict_line verdict → IsReplayOf text out verdict
+    out ≡ r.out.items ++ verdict_line verdict → Replays text out (verdict_status verdict)
 all_played text out r verdict so is more =
     let played = so.made in
     let h = played.history in
     let right : verdict ≡ overall (reverse h) = is (reverse h) played.stands in
     record {
       behaviours = so.behaviours;
-      moves = so.moves;
-      list = so.list;
-      replayed = record {
-        history = h;
-        moves_are = played.moves_are;
-        legal = legal_for so.behaviours r.state (reverse h) played.behaviours played.stands;
-        out_is = more ∙ (ap (λ l. l ++ verdict_line verdict) played.lines ∙ ap (λ v. flat_map reply_line h ++ verdict_line v) right);
-        verdict_is = right;
-      };
+      history = h;
+      list = subst (IsMoveList text so.behaviours) (sym played.moves_are) so.list;
+      legal = legal_for so.behaviours r.state (reverse h) played.behaviours played.stands;
+      out_is = more ∙ (ap (λ l. l ++ verdict_line verdict) played.lines ∙ ap (λ v. flat_map reply_line h ++ verdict_line v) right);
+      status_is = ap verdict_status right;
     }
 
 -- a fault of the list is the command's

@@ -1,5 +1,6 @@
 -- The test cases of histories, one history after the other.
-use Rattle.std.proofs.Common.{ℕ, ◌≡◌, ◌∙◌, ◌+◌, ◌⊎◌, All, true, false, if◌then◌else◌, inl, inr, Option, Some, None, List, [], ◌∷◌, ◌++◌, length, map, reverse, refl, ap, sym, subst}
+use Rattle.std.proofs.Common.{ℕ, ◌≡◌, ◌∙◌, ◌+◌, All, true, false, if◌then◌else◌, Option, Some, None, List, [], ◌∷◌, ◌++◌, length, map, reverse, refl, ap, sym, subst}
+use Rattle.std.specs.List.{flat_map}
 use Rattle.std.specs.Prelude.{is_some}
 use Rattle.std.proofs.lemmas.List.{map-append}
 use Rattle.std.proofs.lemmas.List.Elements.{All-head, All-tail}
@@ -10,7 +11,7 @@ use Rattle.tc_history.specs.Text.{AreHistories, block_lines, header_of}
 use Rattle.tc_report.specs.declared.summary.Summary.{Summary}
 use Rattle.tc_report.specs.Status.{status_of_summaries}
 use Rattle.tc_report.specs.Summary.{block_summary, case_summary, summary_of}
-use Rattle.tc_report.proofs.Agreeing.{one_same}
+use Rattle.tc_report.proofs.Lemmas.Agreeing.{one_same}
 use Rattle.tc_report.specs.declared.results.Finished.{Finished}
 use Rattle.tc_report.specs.declared.results.Results.{Results}
 use Rattle.tc_report.specs.Histories.{histories_text}
@@ -18,16 +19,16 @@ use Rattle.tc_program.specs.declared.judge.Difference.{Difference}
 use Rattle.tc_program.specs.declared.judge.Judgement.{Judgement}
 use Rattle.tc_program.specs.declared.judge.Judgement.TheVariants as J
 use Rattle.tc_program.specs.declared.judge.Playing.{Playing}
-use Rattle.tc_program.specs.Check.{IsChecked, IsJudgement, RefusesHistory, judges_legal, judgement_line}
-use Rattle.tc_program.specs.Inside.{IsPlayed, IsPlayedTo, Summarizes}
+use Rattle.tc_program.specs.Check.{IsChecked, RefusesHistory, Says}
+use Rattle.tc_program.specs.Inside.{IsJudgement, IsPlayed, IsPlayedTo, Summarizes, WasRun, WereRun, illegal_line, judges_legal, judgement_line}
 use Rattle.tc_program.specs.declared.fault.RunFault.{RunFault}
 use Rattle.tc_program.specs.declared.fault.RunFault.TheVariants as F
 use Rattle.tc_command.specs.declared.task.ReportForm.{ReportForm}
-use Rattle.tc_program.specs.Report.{AreAllLegal, IsFoundIllegal, IsIllegal, IsReport, form_of, illegal_line, report_of}
+use Rattle.tc_program.specs.Report.{IsReport, form_of, reported}
 use Rattle.tc_program.specs.declared.reply.Answer.{Answer}
-use Rattle.tc_program.specs.WrittenHistories.{AreFoundLegal, WasRun, WereRun, found_legal, legal_cases, report_of_run}
+use Rattle.tc_program.specs.WrittenHistories.{AreFoundLegal, found_legal, legal_case}
 use Rattle.tc_program.proofs.Doing.{answer_of}
-use Rattle.tc_program.proofs.Checking.{passed_more, printed_more, whole}
+use Rattle.tc_program.proofs.Checking.{passed_more, printed_more, says_of, whole}
 use Rattle.tc_program.proofs.WrittenHistories.{IsRight, are_right, block_of, blocks_of, histories_of, no_difference, only_legal, said_of_written}
 
 -- a history that is judged legal is right
@@ -60,7 +61,7 @@ legal_more blocks b p j s ss ss' before played is legal says added =
 pub illegal_more : (blocks : List Block) (b : Block) (j : Judgement) (ss ss' : List Summary)
     → Summarizes blocks ss None → IsJudgement b j → judges_legal j ≡ false → Summarizes (blocks ++ b ∷ []) ss' (Some j)
 illegal_more blocks b j ss ss' before is illegal =
-    (illegal, (before.0.0, printed_more blocks b j before.0.0 (before.0.0 ++ judgement_line j) false illegal before.0.1 is refl))
+    ((b, is), illegal, (before.0.0, printed_more blocks b j before.0.0 (before.0.0 ++ judgement_line j) false illegal before.0.1 is refl))
 
 -- where no block is illegal so far
 pub legal_next : (o : Option Judgement) (blocks : List Block) (b : Block) (p : Playing) (j : Judgement) (s : Summary) (ss ss' : List Summary)
@@ -79,19 +80,7 @@ illegal_next (Some k) blocks b j ss ss' none before is illegal = absurd cc
 pub illegal_passed : (blocks : List Block) (b : Block) (ss : List Summary) (o : Option Judgement) (j : Judgement)
     → o ≡ Some j → Summarizes blocks ss o → Summarizes (blocks ++ b ∷ []) ss o
 illegal_passed blocks b ss None j is before = absurd cc
-illegal_passed blocks b ss (Some k) j is before = (before.0, (before.1.0, passed_more blocks b (before.1.0 ++ judgement_line k) before.1.1))
-
--- blocks of which none is illegal
-pub all_legal : (blocks : List Block) (ss : List Summary) → Summarizes blocks ss None → AreAllLegal blocks × (ss ≡ map block_summary blocks)
-all_legal blocks ss made = ((made.0.0, whole blocks made.0.0 true made.0.1), made.1)
-
--- blocks of which one is illegal
-pub found_illegal : (blocks : List Block) (ss : List Summary) (j : Judgement) → Summarizes blocks ss (Some j) → IsFoundIllegal blocks j
-found_illegal blocks ss j made = record {
-  illegal = made.0;
-  lines = made.1.0;
-  checks = whole blocks (made.1.0 ++ judgement_line j) false made.1.1;
-}
+illegal_passed blocks b ss (Some k) j is before = (before.0, before.1, (before.2.0, passed_more blocks b (before.2.0 ++ judgement_line k) before.2.1))
 
 -- ---- the steps of `report`
 
@@ -102,22 +91,21 @@ made_none ss lent o blocks none same made = subst (λ l. Summarizes blocks l Non
 pub legal_report : (form : ReportForm) (text : List ℕ) (blocks : List Block) (ss lent : List Summary) (o : Option Judgement) (a : Answer) → o ≡ None → lent ≡ ss → Summarizes blocks ss o
     → a.out ≡ form_of form text lent → a.told ≡ [] → a.status ≡ status_of_summaries lent → IsReport form text blocks a
 legal_report form text blocks ss lent o a none same made out told status =
-    let two = all_legal blocks lent (made_none ss lent o blocks none same made) in
-    let out_is : a.out ≡ form_of form text (map block_summary blocks) = out ∙ ap (form_of form text) two.1 in
-    let status_is : a.status ≡ status_of_summaries (map block_summary blocks) = status ∙ ap status_of_summaries two.1 in record {
-      legal = two.0;
-      answer_is = ap (λ x. answer_of x a.told a.status) out_is ∙ ap (λ x. answer_of (report_of form text blocks) x a.status) told
-          ∙ ap (λ x. answer_of (report_of form text blocks) [] x) status_is;
-    }
+    let made = made_none ss lent o blocks none same made in
+    let out_is : a.out ≡ form_of form text (map block_summary blocks) = out ∙ ap (form_of form text) made.1 in
+    let status_is : a.status ≡ status_of_summaries (map block_summary blocks) = status ∙ ap status_of_summaries made.1 in
+    IsReport.legal made.0.0 (whole blocks made.0.0 true made.0.1)
+    (ap (λ x. answer_of x a.told a.status) out_is ∙ ap (λ x. answer_of (form_of form text (map block_summary blocks)) x a.status) told
+    ∙ ap (λ x. answer_of (form_of form text (map block_summary blocks)) [] x) status_is)
 
 -- what is made of a text, one of whose histories is illegal
-pub illegal_report : (blocks : List Block) (ss : List Summary) (o : Option Judgement) (j : Judgement) (a : Answer) → o ≡ Some j → Summarizes blocks ss o
-    → a.out ≡ [] → a.told ≡ illegal_line j → a.status ≡ 3 → IsIllegal blocks a
-illegal_report blocks ss o j a some made out told status = record {
-  judgement = j;
-  found = found_illegal blocks ss j (subst (Summarizes blocks ss) some made);
-  answer_is = ap (λ x. answer_of x a.told a.status) out ∙ ap (λ x. answer_of [] x a.status) told ∙ ap (λ x. answer_of [] (illegal_line j) x) status;
-}
+pub illegal_report : (form : ReportForm) (text : List ℕ) (blocks : List Block) (ss : List Summary) (o : Option Judgement) (j : Judgement) (a : Answer) → o ≡ Some j → Summarizes blocks ss o
+    → a.out ≡ [] → a.told ≡ illegal_line j → a.status ≡ 3 → IsReport form text blocks a
+illegal_report form text blocks ss o j a some made out told status =
+    let made = subst (Summarizes blocks ss) some made in
+    let says = subst (Says made.0.0 (judgement_line j)) made.1 (says_of made.0.0 j made.0.1) in
+    IsReport.illegal made.0.0 made.2.0 (judgement_line j) says (whole blocks (made.2.0 ++ judgement_line j) false made.2.1)
+    (ap (λ x. answer_of x a.told a.status) out ∙ ap (λ x. answer_of [] x a.status) told ∙ ap (λ x. answer_of [] (illegal_line j) x) status)
 
 -- ---- histories that a run writes
 
@@ -129,28 +117,20 @@ summaries_written line (f ∷ fs) all =
     let rest = summaries_written (line + length (block_lines (block_of line f))) fs (All-tail WasRun f fs all) in
     rw (first, rest) refl
 
--- the report of what a run wrote
-pub written_reported : (form : ReportForm) (r : Results) (a : Answer) → WereRun r → IsReport form (histories_text r) (blocks_of 1 r.finished) a → a ≡ report_of_run form r
-written_reported form r a ran is =
-    let same = summaries_written 1 r.finished ran.each in
-    is.answer_is ∙ ap (λ ss. answer_of (form_of form (histories_text r) ss) [] (status_of_summaries ss)) same
-
--- none of it is illegal
-pub none_illegal : (r : Results) (a : Answer) → WereRun r → IsIllegal (blocks_of 1 r.finished) a → ⊥
-none_illegal r a ran ill =
-    let found = ill.found in
-    let is = (only_legal (blocks_of 1 r.finished) (found.lines ++ judgement_line ill.judgement) false (are_right 1 r.finished ran.each) found.checks).1 in
-    absurd cc
-
 checked_so : (r : Results) (a : Answer) → WereRun r → IsChecked (histories_text r) a.out a.status → a.told ≡ [] → a ≡ found_legal r
 checked_so r a ran is told =
-    let two = said_of_written r a.out is.legal ran (is.check.only (blocks_of 1 r.finished) (histories_of r ran)) in
+    let two = said_of_written r a.out is.legal ran (is.checks (blocks_of 1 r.finished) (histories_of r ran)) in
     let status_is : a.status ≡ 0 = is.status_is ∙ ap (λ t. if t then 0 else 3) two.1 in
-    ap (λ x. answer_of x a.told a.status) two.0 ∙ ap (λ x. answer_of (legal_cases r) x a.status) told ∙ ap (λ x. answer_of (legal_cases r) [] x) status_is
+    let lines = flat_map legal_case r.finished in
+    ap (λ x. answer_of x a.told a.status) two.0 ∙ ap (λ x. answer_of lines x a.status) told ∙ ap (λ x. answer_of lines [] x) status_is
 
-reported_so : (form : ReportForm) (r : Results) (a : Answer) → WereRun r → IsReport form (histories_text r) (blocks_of 1 r.finished) a ⊎ IsIllegal (blocks_of 1 r.finished) a → a ≡ report_of_run form r
-reported_so form r a ran (inl is) = written_reported form r a ran is
-reported_so form r a ran (inr ill) = absurd (none_illegal r a ran ill)
+-- the report of what a run wrote: none of it is illegal
+reported_so : (form : ReportForm) (r : Results) (a : Answer) → WereRun r → IsReport form (histories_text r) (blocks_of 1 r.finished) a
+    → a ≡ reported form (histories_text r) (map case_summary r.finished)
+reported_so form r a ran (IsReport.legal lines checks is) = is ∙ ap (reported form (histories_text r)) (summaries_written 1 r.finished ran.each)
+reported_so form r a ran (IsReport.illegal b lines line says checks is) =
+    let two = only_legal (blocks_of 1 r.finished) (lines ++ line) false (are_right 1 r.finished ran.each) checks in
+    absurd (cc two.1)
 
 refused_so : (r : Results) (fault : RunFault) → WereRun r → RefusesHistory (histories_text r) fault → fault ≡ F.NoMemory
 refused_so r (F.Text fault) ran refused = absurd (refused.1 (blocks_of 1 r.finished) (histories_of r ran))

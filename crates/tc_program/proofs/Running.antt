@@ -20,13 +20,13 @@ use Rattle.tc_report.specs.Live.{LiveState, closing_text, form_text, opening_tex
 use Rattle.tc_report.specs.Output.{LeavesPrefix}
 use Rattle.tc_report.specs.Progress.{IsToldBy, told_text}
 use Rattle.tc_report.specs.Status.{ending_status, results_status}
-use Rattle.tc_report.specs.Tally.{no_cases}
-use Rattle.tc_report.proofs.Pieces.{IsAt, Takes, all_at, all_written, begun, case_left, closing_left, ended_at, opening_left, status_at}
-use Rattle.tc_report.proofs.Telling.{nothing_of, told_is_prefix}
+use Rattle.tc_report.specs.Tally.{tally_of_cases}
+use Rattle.tc_report.proofs.Lemmas.Pieces.{IsAt, Takes, all_at, all_written, begun, case_left, closing_left, ended_at, opening_left, status_at}
+use Rattle.tc_report.proofs.Lemmas.Telling.{nothing_of, told_is_prefix}
 use Rattle.tc_campaign.specs.declared.case.Case.{Case}
 use Rattle.tc_campaign.specs.Outline.{outline_of}
 use Rattle.tc_campaign.specs.Campaign.{AreFinished, IsCalled, IsRunTo}
-use Rattle.tc_campaign.proofs.Keeping.{none_finished}
+use Rattle.tc_campaign.proofs.Lemmas.Keeping.{none_finished}
 use Rattle.tc_command.specs.declared.task.Form.{Form}
 use Rattle.tc_command.specs.declared.task.Form.TheVariants as Forms
 use Rattle.tc_command.specs.declared.task.RunOptions.{RunOptions}
@@ -120,7 +120,7 @@ module _ {B : Type 0} (outcome : B → PassState → Back → Type 0) (cases : L
 
     module _ {O : Type 0} (state : O → LiveState) (name : O → GName) (before after : O)
         (form_is : (state before).form ≡ form) (opening : Appends streams.before (state before).out (opening_text form))
-        (tally : (state before).tally ≡ no_cases) (worst : (state before).worst ≡ V.None)
+        (tally : (state before).tally ≡ tally_of_cases []) (worst : (state before).worst ≡ V.None)
         (finished : List Finished) (answer : Option CampaignEnd) (given : AreGiven outcome (Takes state name) cases options before after finished answer) where
       first : IsAt form streams.before [] (state before)
       first = begun form streams.before (state before) form_is opening tally worst

@@ -8,14 +8,14 @@ use Rattle.std.specs.Prelude.{slice_get}
 use Rattle.tc_verdict.specs.declared.verdict.Verdict.{Verdict}
 use Rattle.tc_step.specs.Steps.{ScriptView}
 use Rattle.tc_behaviour.specs.Acts.{Acts, MakesItsCalls}
-use Rattle.tc_behaviour.proofs.Running.{run_grown}
-use Rattle.tc_scripted.proofs.Spelled.{are_called, made_of_calls}
+use Rattle.tc_behaviour.proofs.Lemmas.Running.{run_grown}
+use Rattle.tc_scripted.proofs.Lemmas.Spelled.{are_called, made_of_calls}
 use Rattle.tc_script.specs.Law.{IsCase}
-use Rattle.tc_scripted.proofs.Reports.{report_is_course}
+use Rattle.tc_scripted.proofs.Lemmas.Reports.{report_is_course}
 use Rattle.tc_book.specs.Passes.{PassState}
 use Rattle.tc_exec.specs.declared.job.Back.{Back}
 use Rattle.tc_exec.specs.Case.{IsCaseReport, IsMadeOf}
-use Rattle.tc_exec.proofs.Logs.{logs_by}
+use Rattle.tc_exec.proofs.Lemmas.Logs.{logs_by}
 use Rattle.tc_report.specs.declared.form.Form.{Form as ReportForm}
 use Rattle.tc_report.specs.declared.results.CampaignEnd.{CampaignEnd}
 use Rattle.tc_report.specs.declared.results.Finished.{Finished}
@@ -34,8 +34,8 @@ use Rattle.tc_program.specs.Run.{IsLeft, IsRun, IsUnwritten}
 use Rattle.tc_program.specs.Choosing.{AreChosen}
 use Rattle.tc_program.specs.Program.{LeavesScript, RunsScript}
 use Rattle.tc_program.specs.Streams.{Streams}
-use Rattle.tc_program.specs.Scripted.{CaseView, IsScripted, names_of, scripts_of, script_outline}
-use Rattle.tc_program.specs.Inside.{IsCaseOf}
+use Rattle.tc_program.specs.Scripted.{CaseView, IsScripted, scripts_of, script_outline}
+use Rattle.tc_program.specs.Inside.{IsCaseOf, names_of}
 
 count : (c : CaseView) (k : Case ScriptView) → IsCaseOf c k → vec_len k.jobs ≡ length c.1
 count c k is = omega (arith, ap length is.jobs, length-map c.1 (λ b. b.1))

@@ -9,7 +9,7 @@ use Rattle.tc_report.specs.declared.results.CampaignEnd.{CampaignEnd}
 use Rattle.tc_report.specs.declared.results.Finished.{Finished}
 use Rattle.tc_report.specs.declared.progress.Progress.{Progress}
 use Rattle.tc_report.specs.Progress.{EndsTelling, state_of}
-use Rattle.tc_report.proofs.Telling.{AreSame, HasTold, Takes, all_told, ended_told, none_told, told_at_end}
+use Rattle.tc_report.proofs.Lemmas.Telling.{AreSame, HasTold, Takes, all_told, ended_told, none_told, told_at_end}
 use Rattle.tc_campaign.specs.declared.case.Case.{Case}
 use Rattle.tc_campaign.specs.Campaign.{IsCutShort, IsObserved}
 use Rattle.tc_command.specs.declared.task.RunOptions.{RunOptions}

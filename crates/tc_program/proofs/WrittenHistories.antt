@@ -1,5 +1,5 @@
 -- Written histories are legal.
-use Rattle.std.proofs.Common.{ℕ, ◌≡◌, ◌≢◌, ◌∙◌, ◌+◌, ◌<◌, Bool, true, false, All, inr, List, [], ◌∷◌, ◌++◌, length, reverse, take, drop, get_or, refl, ap, sym, arith}
+use Rattle.std.proofs.Common.{ℕ, ◌≡◌, ◌≢◌, ◌∙◌, ◌+◌, ◌<◌, Bool, true, false, All, inr, List, [], ◌∷◌, ◌++◌, length, reverse, take, drop, get_or, refl, ap, sym, arith, true≢false}
 use Rattle.std.specs.List.{AllZip, flat_map}
 use Rattle.std.proofs.lemmas.List.{reverse-append, take_more, take-append-drop}
 use Rattle.std.proofs.lemmas.List.Elements.{All-nil, All-cons, All-head, All-tail}
@@ -11,18 +11,16 @@ use Rattle.tc_table.specs.Check.{DiffersAt}
 use Rattle.tc_history.specs.declared.read.Block.{Block}
 use Rattle.tc_history.specs.Text.{AreBlocks, AreHistories, block_lines}
 use Rattle.tc_history.specs.Written.{text_of_blocks}
-use Rattle.tc_history.proofs.WrittenBlocks.{written_histories}
+use Rattle.tc_history.proofs.Lemmas.WrittenBlocks.{written_histories}
 use Rattle.tc_case.specs.Report.{IsOneHistory}
 use Rattle.tc_report.specs.declared.results.Finished.{Finished}
 use Rattle.tc_report.specs.declared.results.Results.{Results}
 use Rattle.tc_report.specs.Histories.{case_history, histories_text}
 use Rattle.tc_campaign.specs.Outline.{Outline}
 use Rattle.tc_campaign.specs.Campaign.{IsReported}
-use Rattle.tc_program.specs.declared.judge.Judgement.{Judgement}
-use Rattle.tc_program.specs.declared.judge.Judgement.TheVariants as J
-use Rattle.tc_program.specs.Check.{IsJudgement, Checks, judges_legal, judgement_line, legal_line}
-use Rattle.tc_program.specs.WrittenHistories.{WasRun, WereRun, legal_case, legal_cases, AreReported}
-use Rattle.tc_program.specs.Inside.{FitsItsTypes}
+use Rattle.tc_program.specs.Check.{Checks, Says, legal_line}
+use Rattle.tc_program.specs.WrittenHistories.{legal_case, AreReported}
+use Rattle.tc_program.specs.Inside.{FitsItsTypes, WasRun, WereRun}
 
 -- the block of a finished test case
 abbrev pub block_of : ℕ → Finished → Block
@@ -73,19 +71,19 @@ no_difference n (e ∷ es) at reply legal differs =
 abbrev pub IsRight : Block → Type 0
 IsRight b = IsLegal b.behaviours (reverse b.entries) × (b.verdict ≡ overall (reverse b.entries))
 
-no_other : (b : Block) (j : Judgement) → IsRight b → judges_legal j ≡ false → IsJudgement b j → ⊥
-no_other b (J.Legal name entries verdict) right other is = absurd cc
-no_other b (J.OtherReply line given reply) right other is = no_difference b.behaviours b.entries is.at reply right.0 is.differs
-no_other b (J.OtherVerdict line given verdict) right other is = is.2 (right.1 ∙ sym is.1)
+no_other : (b : Block) (line : List ℕ) (t : Bool) → IsRight b → t ≡ false → Says b line t → ⊥
+no_other b _ _ right other (Says.right ok verdict) = absurd (true≢false other)
+no_other b _ _ right other (Says.other_reply at given reply differs is) = no_difference b.behaviours b.entries at reply right.0 differs
+no_other b _ _ right other (Says.other_verdict v ok is differs) = differs (right.1 ∙ sym is)
 
 -- the line of a block that is found legal
 abbrev pub block_line : Block → List ℕ
 block_line b = legal_line b.name (length b.entries) b.verdict
 
-said_of_legal : (b : Block) (j : Judgement) → judges_legal j ≡ true → IsJudgement b j → judgement_line j ≡ block_line b
-said_of_legal b (J.Legal name entries verdict) legal is = rw (is.2, is.3, is.4) refl
-said_of_legal b (J.OtherReply line given reply) legal is = absurd cc
-said_of_legal b (J.OtherVerdict line given verdict) legal is = absurd cc
+said_of_legal : (b : Block) (line : List ℕ) (t : Bool) → t ≡ true → Says b line t → line ≡ block_line b
+said_of_legal b _ _ same (Says.right ok verdict) = refl
+said_of_legal b _ _ same (Says.other_reply at given reply differs is) = absurd (true≢false (sym same))
+said_of_legal b _ _ same (Says.other_verdict v ok is differs) = absurd (true≢false (sym same))
 
 abbrev pub AreRight : List Block → Type 0
 AreRight [] = Unit {0}
@@ -93,10 +91,10 @@ AreRight (b ∷ bs) = IsRight b × AreRight bs
 
 pub only_legal : (bs : List Block) (out : List ℕ) (legal : Bool) → AreRight bs → Checks bs out legal → (out ≡ flat_map block_line bs) × (legal ≡ true)
 only_legal _ _ _ all Checks.none = (refl, refl)
-only_legal _ _ _ all (Checks.goes_on b rest j out legal same is more) =
+only_legal _ _ _ all (Checks.goes_on b rest line out legal says more) =
     let two = only_legal rest out legal all.1 more in
-    (ap (λ l. l ++ out) (said_of_legal b j same is) ∙ ap (λ l. block_line b ++ l) two.0, two.1)
-only_legal _ _ _ all (Checks.stops b rest j other is) = absurd (no_other b j all.0 other is)
+    (ap (λ l. l ++ out) (said_of_legal b line true refl says) ∙ ap (λ l. block_line b ++ l) two.0, two.1)
+only_legal _ _ _ all (Checks.stops b rest line says) = absurd (no_other b line false all.0 refl says)
 
 pub are_right : (line : ℕ) (fs : List Finished) → All WasRun fs → AreRight (blocks_of line fs)
 are_right line [] all = tt
@@ -109,7 +107,7 @@ same_lines line [] = refl
 same_lines line (f ∷ fs) = ap (λ l. legal_case f ++ l) (same_lines (line + length (block_lines (block_of line f))) fs)
 
 -- what is said of these blocks
-pub said_of_written : (r : Results) (out : List ℕ) (legal : Bool) → WereRun r → Checks (blocks_of 1 r.finished) out legal → (out ≡ legal_cases r) × (legal ≡ true)
+pub said_of_written : (r : Results) (out : List ℕ) (legal : Bool) → WereRun r → Checks (blocks_of 1 r.finished) out legal → (out ≡ flat_map legal_case r.finished) × (legal ≡ true)
 said_of_written r out legal ran checks =
     let two = only_legal (blocks_of 1 r.finished) out legal (are_right 1 r.finished ran.each) checks in
     (two.0 ∙ same_lines 1 r.finished, two.1)

@@ -30,10 +30,6 @@ IsHelped s outcome = (text : List ℕ) ×
     ((Appends s.before s.after text × Keeps s.untold s.told × (outcome.status ≡ 0))
     ⊎ ((fault : RunFault) × LeavesUnwritten s.before s.after text fault × IsRefusal s.untold s.told (line_of fault) outcome))
 
--- the words are refused, and some text says why on standard error
-abbrev pub IsRefusedLine : Streams → Outcome → Type 0
-IsRefusedLine s outcome = (text : List ℕ) × IsRefusal s.untold s.told text outcome
-
 -- the words could not be had, for want of memory or since one is no text; the line says which, and takes no memory where it is the second
 abbrev pub IsUnread : IoKind → Option (List ℕ) → Option (List ℕ) → Outcome → Type 0
 IsUnread IoKinds.OutOfMemory untold told outcome = IsRefusal untold told (line_of F.NoMemory) outcome
@@ -44,7 +40,7 @@ IsUnread kind untold told outcome = (outcome.status ≡ 3) × IsTold untold told
 pub record IsNoTask (kind : ErrorKind) (streams : Streams) (Unwritten : Type 0) (outcome : Outcome) : Type 0 where
   pub help : kind ≡ Kinds.DisplayHelp → IsHelped streams outcome
   pub version : kind ≡ Kinds.DisplayVersion → IsHelped streams outcome
-  pub mistake : IsMistake kind → IsRefusedLine streams outcome × Unwritten
+  pub mistake : IsMistake kind → ((text : List ℕ) × IsRefusal streams.untold streams.told text outcome) × Unwritten
   pub memory : kind ≡ Kinds.OutOfMemory → IsRefusal streams.untold streams.told (line_of F.NoMemory) outcome × Unwritten
 
 -- the same of any words that are refused: of one that names nothing the line says so, and nothing was written

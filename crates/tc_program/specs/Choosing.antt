@@ -1,9 +1,7 @@
 -- The test cases of a script that are chosen.
-use Rattle.std.specs.Prelude.{ℕ, ◌≡◌, List, [], ◌∷◌, ◌++◌, Ok, Err, false, option_map, true}
+use Rattle.std.specs.Prelude.{ℕ, ◌≡◌, List, [], ◌∷◌, ◌++◌, Ok, Err, false, true}
 use Rattle.std.specs.List.{flat_map}
-use Rattle.tc_campaign.specs.Shard.{ShardView}
 use Rattle.tc_campaign.specs.Choosing.{chosen, have_names}
-use Rattle.tc_command.specs.Words.{ShardView as AskedShard}
 use Rattle.tc_command.specs.declared.task.Choice.{Choice}
 use Rattle.tc_script.specs.Campaign.{CampaignView, campaign}
 use Rattle.tc_script.specs.Names.{Word}
@@ -15,16 +13,12 @@ use Rattle.tc_program.specs.declared.fault.RunFault.TheVariants as F
 abbrev pub script_name : CaseView → Word
 script_name c = c.0
 
--- the shard that is asked for
-abbrev pub shard_of : AskedShard → ShardView
-shard_of s = record { place = s.place; shards = s.shards }
-
 -- these test cases are those that are chosen of the ones that the text spells, which have each name that is asked for
 pub record AreChosen (choice : Choice) (text : List ℕ) (cases : CampaignView) : Type 0 where
   pub all : CampaignView
   pub spelled : campaign text ≡ Ok all
   pub named : have_names script_name choice.only.items all ≡ true
-  pub are : cases ≡ chosen script_name choice.only.items (option_map shard_of choice.shard) all
+  pub are : cases ≡ chosen script_name choice.only.items choice.shard all
 
 -- a text is refused as a script; want of memory says nothing of it
 abbrev pub RefusesScript : List ℕ → RunFault → Type 0
@@ -37,10 +31,6 @@ abbrev pub RefusesChoice : Choice → List ℕ → RunFault → Type 0
 RefusesChoice choice text F.Only = (all : CampaignView) × (campaign text ≡ Ok all) × (have_names script_name choice.only.items all ≡ false)
 RefusesChoice choice text fault = RefusesScript text fault
 
--- the line of a test case in the list of the chosen ones
-abbrev pub name_line : CaseView → List ℕ
-name_line c = c.0 ++ (10 ∷ [])
-
--- the list of test cases
+-- the list of test cases: a line with the name of each
 abbrev pub list_text : CampaignView → List ℕ
-list_text cases = flat_map name_line cases
+list_text cases = flat_map (λ c. c.0 ++ (10 ∷ [])) cases

@@ -2,22 +2,14 @@
 use Rattle.std.specs.Prelude.{ℕ, ◌≡◌, ◌==◌, ◌≤◌, if◌then◌else◌, Bool, true, false, Ok, List, [], ◌++◌, length}
 use Rattle.std.specs.List.{AllZip, flat_map, list_any}
 use Rattle.tc_script.specs.Campaign.{CampaignView, campaign}
-use Rattle.tc_step.specs.Steps.{ScriptView}
-use Rattle.tc_explore.specs.declared.explored.Explored.{Explored}
 use Rattle.tc_explore.specs.Details.{details as of_details}
 use Rattle.tc_text.specs.Shown.{Shows}
-use Rattle.tc_explore.specs.Shown.{Shown}
 use Rattle.tc_explore.specs.Found.{AreWitnesses, AreLegal, AreReached}
 use Rattle.tc_explore.specs.Laws.{AllFound}
 use Rattle.tc_explore.specs.declared.explored.Ending.TheVariants as E
 use Rattle.tc_explore.specs.Told.{explored_line, explored_status, witnesses_text}
 use Rattle.tc_program.specs.declared.explore.ExploredCase.{ExploredCase}
 use Rattle.tc_program.specs.Scripted.{CaseView, scripts_of}
-
--- the details of a test case with these scripts, where they are asked for
-abbrev pub details_if : Bool → List ScriptView → Explored → List Shown
-details_if true scripts e = of_details scripts e
-details_if false scripts e = []
 
 -- a test case was explored, and each verdict that was found has a witness: a complete course of its scripts, which is legal;
 -- where the search says that it is complete, the verdict of each complete course of its scripts was found; of each run as many
@@ -30,7 +22,7 @@ pub record IsExplored (details : Bool) (states : ℕ) (c : CaseView) (e : Explor
   pub complete : e.explored.ending ≡ E.Complete → AllFound (scripts_of c.1) e.explored.found
   pub reached : AreReached (scripts_of c.1) e.explored.reached
   pub within : e.explored.states ≤ states
-  pub details_are : Shows (details_if details (scripts_of c.1) e.explored) [] e.details
+  pub details_are : Shows (if details then of_details (scripts_of c.1) e.explored else []) [] e.details
 
 -- what is written of a test case: its line and its details, or the histories of its witnesses
 abbrev pub told_of : Bool → ExploredCase → List ℕ

@@ -1,9 +1,16 @@
 -- What the functions inside of the program say, which no public clause names.
-use Rattle.std.specs.Prelude.{ℕ, ◌≡◌, ◌+◌, All, Bool, true, false, Option, Some, None, Result, Ok, Err, MatchResult, List, [], ◌∷◌, ◌++◌, length, map, reverse}
+use Rattle.std.specs.Prelude.{ℕ, ◌≡◌, ◌≢◌, ◌+◌, All, Bool, true, false, Option, Some, None, Result, Ok, Err, MatchResult, List, [], ◌∷◌, ◌++◌, length, map, reverse, codes, if◌then◌else◌, slice_index_or}
 use Rattle.std.specs.List.{AllZip, flat_map}
 use Rattle.tc_verdict.specs.declared.verdict.Verdict.{Verdict}
 use Rattle.tc_stream.specs.declared.input.InputFault.{InputFault}
 use Rattle.tc_stream.specs.declared.input.InputFault.TheVariants as I
+use Rattle.tc_stream.specs.Fault.{input_text, write_text}
+use Rattle.tc_verdict.specs.Words.{memory_text}
+use Rattle.tc_text.specs.TextKind.{kind_text}
+use Rattle.tc_line.specs.ScriptKind.{kind_text as script_kind_text}
+use Rattle.tc_command.specs.Words.{text_of}
+use Rattle.tc_command.specs.declared.word.WordFault.TheVariants as W
+use Rattle.tc_program.specs.Fault.{place_text}
 use Rattle.tc_entry.specs.Name.{IsName}
 use Rattle.tc_entry.specs.declared.entry.Entry.{Entry}
 use Rattle.tc_text.specs.declared.fault.TextFault.{TextFault}
@@ -14,8 +21,10 @@ use Rattle.tc_table.specs.Standing.{Kept, StandsFor}
 use Rattle.tc_table.specs.Legal.{IsLegal}
 use Rattle.tc_history.specs.declared.header.Header.{Header}
 use Rattle.tc_history.specs.declared.read.Block.{Block}
-use Rattle.tc_history.specs.Text.{AreEntries, header_of}
+use Rattle.tc_history.specs.Text.{AreEntries, IsHeader, header_of}
+use Rattle.tc_case.specs.Report.{IsOneHistory}
 use Rattle.tc_report.specs.declared.fault.OutFault.{OutFault}
+use Rattle.tc_report.specs.declared.results.Results.{Results}
 use Rattle.tc_report.specs.declared.results.CampaignEnd.{CampaignEnd}
 use Rattle.tc_report.specs.declared.results.Finished.{Finished}
 use Rattle.tc_report.specs.Observers.{AreTaken, IsEndedAt}
@@ -26,6 +35,9 @@ use Rattle.tc_campaign.specs.declared.case.Case.{Case}
 use Rattle.tc_campaign.specs.Campaign.{AreFinished, IsCalled, IsRunTo}
 use Rattle.tc_campaign.specs.Outline.{outline_of}
 use Rattle.tc_command.specs.declared.task.RunOptions.{RunOptions}
+use Rattle.tc_explore.specs.declared.explored.Explored.{Explored}
+use Rattle.tc_explore.specs.Details.{details as of_details}
+use Rattle.tc_explore.specs.Shown.{Shown}
 use Rattle.tc_program.specs.Limits.{worker_limit}
 use Rattle.tc_program.specs.declared.fault.RunFault.{RunFault}
 use Rattle.tc_program.specs.declared.fault.RunFault.TheVariants as F
@@ -34,9 +46,16 @@ use Rattle.tc_program.specs.declared.judge.Judgement.{Judgement}
 use Rattle.tc_program.specs.declared.judge.Playing.{Playing}
 use Rattle.tc_program.specs.declared.outcome.Outcome.{Outcome}
 use Rattle.tc_program.specs.declared.replay.Replaying.{Replaying}
-use Rattle.tc_program.specs.Check.{Checks, IsJudgement, IsOtherReply, judgement_line, judges_legal}
+use Rattle.tc_program.specs.Check.{Checks, legal_line, other_line}
+use Rattle.tc_program.specs.declared.judge.Judgement.TheVariants as J
+use Rattle.tc_table.specs.Check.{DiffersAt}
+use Rattle.tc_table.specs.Local.{overall}
+use Rattle.tc_text.specs.Spelling.{reply_text}
+use Rattle.tc_verdict.specs.Verdict.{name_of}
+use Rattle.tc_entry.specs.declared.reply.Reply.{Reply}
 use Rattle.tc_program.specs.Replay.{move_of, reply_line}
-use Rattle.tc_program.specs.Scripted.{CaseView, names_of, scripts_of}
+use Rattle.tc_program.specs.Scripted.{CaseView, scripts_of}
+use Rattle.tc_script.specs.Names.{Word}
 use Rattle.tc_program.specs.Streams.{Streams, held}
 use Rattle.std.specs.Io.KnownBytes.{Appends, Keeps}
 use Rattle.tc_stream.specs.Output.{AppendsPrefix}
@@ -47,12 +66,35 @@ use Rattle.tc_script.specs.Campaign.{CampaignView}
 use Rattle.tc_script.specs.Law.{IsCase}
 use Rattle.tc_program.specs.Answer.{IsRefused}
 use Rattle.tc_program.specs.Choosing.{AreChosen}
-use Rattle.tc_program.specs.Made.{Makes, Refuses}
+use Rattle.tc_program.specs.Made.{IsMade}
 use Rattle.tc_program.specs.Program.{IsDone}
 use Rattle.tc_program.specs.declared.reply.Answer.{Answer}
 use Rattle.tc_report.specs.declared.summary.Summary.{Summary}
 use Rattle.tc_report.specs.Summary.{block_summary}
 use Rattle.tc_program.specs.Give.{LeavesUnwritten}
+
+-- the number of the line of the input that has a fault, where it is one of a line
+abbrev pub line_number : RunFault → Option ℕ
+line_number (F.Text (T.At line kind)) = Some line
+line_number (F.Script fault) = Some fault.line
+line_number fault = None
+
+-- the words that name a fault
+abbrev pub words_of : RunFault → List ℕ
+words_of F.TooLong = input_text I.TooLong
+words_of F.Read = input_text I.Read
+words_of F.Write = write_text
+words_of F.NoMemory = memory_text
+words_of (F.Text (T.At line kind)) = kind_text kind
+words_of (F.Text T.NoMemory) = memory_text
+words_of (F.Script fault) = script_kind_text fault.kind
+words_of F.StopOn = text_of W.StopOn
+words_of F.Only = text_of W.Only
+
+-- the words behind the place, where there is one
+abbrev pub placed : Option ℕ → List ℕ → List ℕ
+placed None words = words
+placed (Some line) words = place_text line ++ words
 
 -- the fault for an input that could not be read whole
 abbrev pub of_input : InputFault → RunFault
@@ -65,6 +107,10 @@ abbrev pub of_text : TextFault → RunFault
 of_text (T.At line kind) = F.Text (T.At line kind)
 of_text T.NoMemory = F.NoMemory
 
+-- the names of behaviours
+abbrev pub names_of : List (Word × ScriptView) → List Word
+names_of bs = map (λ b. b.0) bs
+
 -- a test case is ready to be run: it has the names of this one, and its jobs are the scripts
 pub record IsCaseOf (c : CaseView) (ready : Case ScriptView) : Type 0 where
   pub name : ready.name ≡ c.0
@@ -75,6 +121,20 @@ pub record IsCaseOf (c : CaseView) (ready : Case ScriptView) : Type 0 where
 abbrev pub FitsItsTypes : Finished → Type 0
 FitsItsTypes f = IsName f.name × AreEntries 2 f.report.history
 
+-- a test case that was run to its end
+pub record WasRun (f : Finished) : Type 0 where
+  -- it has a name, and as many behaviours as a case may have
+  pub header : IsHeader (record { format = 2; name = f.name; behaviours = f.report.behaviours })
+  -- the numbers in its history are those of their types
+  pub entries : AreEntries 2 f.report.history
+  -- its report is one history of one thread
+  pub report : IsOneHistory f.report
+
+-- some test cases were run, each to its end
+pub record WereRun (r : Results) : Type 0 where
+  pub some : r.finished ≢ []
+  pub each : All WasRun r.finished
+
 -- these moves of a case of n behaviours are played: the state stands for their entries, and the lines of the replies are written
 pub record ArePlayed (n : ℕ) (moves : List Move) (r : Replaying) : Type 0 where
   pub history : List Entry
@@ -82,6 +142,32 @@ pub record ArePlayed (n : ℕ) (moves : List Move) (r : Replaying) : Type 0 wher
   pub behaviours : r.state.behaviours ≡ n
   pub stands : StandsFor r.state (reverse history)
   pub lines : r.out.items ≡ flat_map reply_line history
+
+-- of these entries below a first line, the one in this line is the first with another reply than the table's
+pub record IsOtherReply (n first_line : ℕ) (entries : List Entry) (line : ℕ) (given reply : Reply) : Type 0 where
+  pub at : ℕ
+  pub differs : DiffersAt n entries at reply
+  pub line_is : line ≡ first_line + at + 1
+  pub given_is : (d : Entry) → (slice_index_or entries at d).reply ≡ given
+
+-- what the table says of a history: each reply is the table's and the verdict is right, or the first other reply, or another verdict
+abbrev pub IsJudgement : Block → Judgement → Type 0
+IsJudgement b (J.Legal name entries verdict) =
+    IsLegal b.behaviours (reverse b.entries) × (b.verdict ≡ overall (reverse b.entries)) × (name ≡ b.name) × (entries ≡ length b.entries) × (verdict ≡ b.verdict)
+IsJudgement b (J.OtherReply line given reply) = IsOtherReply b.behaviours b.first_line b.entries line given reply
+IsJudgement b (J.OtherVerdict line given verdict) =
+    IsLegal b.behaviours (reverse b.entries) × (verdict ≡ overall (reverse b.entries)) × (b.verdict ≢ verdict) × (given ≡ b.verdict) × (line ≡ b.first_line + length b.entries + 1)
+
+-- whether it is the judgement of a legal history
+abbrev pub judges_legal : Judgement → Bool
+judges_legal (J.Legal name entries verdict) = true
+judges_legal judgement = false
+
+-- what is printed for a history
+abbrev pub judgement_line : Judgement → List ℕ
+judgement_line (J.Legal name entries verdict) = legal_line name entries verdict
+judgement_line (J.OtherReply line given reply) = other_line line (reply_text given) (reply_text reply)
+judgement_line (J.OtherVerdict line given verdict) = other_line line (name_of given) (name_of verdict)
 
 -- this state stands for the entries, each of whose replies is the table's, or this is their first difference
 abbrev pub IsPlayedTo : ℕ → ℕ → List Entry → Kept → Option Difference → Type 0
@@ -109,10 +195,19 @@ abbrev pub Feeds : List Block → List ℕ → Bool → Type 0
 Feeds blocks out true = (more : List Block) (tail : List ℕ) (legal : Bool) → Checks more tail legal → Checks (blocks ++ more) (out ++ tail) legal
 Feeds blocks out false = (more : List Block) → Checks (blocks ++ more) out false
 
+-- the line on standard error for a history that is not legal: that of `check`
+abbrev pub illegal_line : Judgement → List ℕ
+illegal_line j = codes "ttrun: " ++ judgement_line j
+
 -- these are the test cases of the blocks, each of which is found legal; or this is the judgement of the first that is not
 abbrev pub Summarizes : List Block → List Summary → Option Judgement → Type 0
 Summarizes blocks ss None = ((lines : List ℕ) × Feeds blocks lines true) × (ss ≡ map block_summary blocks)
-Summarizes blocks ss (Some j) = (judges_legal j ≡ false) × ((lines : List ℕ) × Feeds blocks (lines ++ judgement_line j) false)
+Summarizes blocks ss (Some j) =
+    ((b : Block) × IsJudgement b j) × (judges_legal j ≡ false) × ((lines : List ℕ) × Feeds blocks (lines ++ judgement_line j) false)
+
+-- the details of a test case with these scripts, where they are asked for
+abbrev pub details_if : Bool → List ScriptView → Explored → List Shown
+details_if asked scripts e = if asked then of_details scripts e else []
 
 -- the line of a test case in a list
 abbrev pub case_line : {B : Type 0} → Case B → List ℕ
@@ -131,9 +226,13 @@ pub record AreReady (choice : Choice) (text : List ℕ) (ready : List (Case Scri
   pub lawful : All (λ c. IsCase c.1) cases
   pub each : AllZip IsCaseOf cases ready
 
--- this is what a task makes of the text, or it refuses the text
-abbrev pub IsMade : Task → List ℕ → Result Answer RunFault → Type 0
-IsMade task text made = MatchResult made (Makes task text) (Refuses task text)
+-- the answer is what a task makes of the text
+abbrev pub Makes : Task → List ℕ → Answer → Type 0
+Makes task text a = IsMade task text (Ok a)
+
+-- a task refuses the text for this fault
+abbrev pub Refuses : Task → List ℕ → RunFault → Type 0
+Refuses task text fault = IsMade task text (Err fault)
 
 -- what is made of the text was written, whole or a prefix; or the text is refused, and nothing was
 abbrev pub WritesTo : Task → List ℕ → Option (List ℕ) → Option (List ℕ) → Result ℕ RunFault → Type 0

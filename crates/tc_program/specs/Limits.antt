@@ -9,10 +9,6 @@ limit_of (T.Check explains) = 16777216
 limit_of (T.Report form explains) = 16777216
 limit_of task = 1048576
 
--- the bytes of a script
-abbrev pub script_limit : ℕ
-script_limit = 1048576
-
 -- the workers of a test case
 abbrev pub worker_limit : ℕ
 worker_limit = 256

@@ -1,5 +1,5 @@
 -- What a task makes of its text, and what a call over a reader and a writer answers.
-use Rattle.std.specs.Prelude.{ℕ, ◌≡◌, ◌⊎◌, List, [], Option, Result, Ok, Err}
+use Rattle.std.specs.Prelude.{ℕ, ◌≡◌, ◌⊎◌, List, [], MatchResult, Option, Result, Ok, Err}
 use Rattle.std.specs.Io.KnownBytes.{Appends, Keeps}
 use Rattle.tc_stream.specs.Output.{AppendsPrefix}
 use Rattle.tc_command.specs.declared.task.Choice.{Choice}
@@ -21,29 +21,24 @@ use Rattle.tc_program.specs.Report.{IsReported}
 abbrev pub IsListed : Choice → List ℕ → Answer → Type 0
 IsListed choice text a = (cases : CampaignView) × AreChosen choice text cases × (a ≡ record { out = list_text cases; told = []; status = 0 })
 
--- the answer is what a task, other than a run, makes of the text
-abbrev pub Makes : Task → List ℕ → Answer → Type 0
-Makes (T.Replay explains) text a = Replays text a.out a.status × (a.told ≡ [])
-Makes (T.Check explains) text a = IsChecked text a.out a.status × (a.told ≡ [])
-Makes (T.Report form explains) text a = IsReported form text a
-Makes (T.Explore histories details states) text a = Explores histories details states text a.out a.status × (a.told ≡ [])
-Makes (T.List choice) text a = IsListed choice text a
-Makes (T.Run o) text a = ⊥
+-- an answer of which nothing is told, with such an output and status
+abbrev pub IsSilent : (List ℕ → ℕ → Type 0) → Answer → Type 0
+IsSilent Is a = Is a.out a.status × (a.told ≡ [])
 
--- a task refuses the text for this fault; for want of memory it may refuse any
-abbrev pub Refuses : Task → List ℕ → RunFault → Type 0
-Refuses (T.Replay explains) text fault = RefusesMoves text fault
-Refuses (T.Check explains) text fault = RefusesHistory text fault
-Refuses (T.Report form explains) text fault = RefusesHistory text fault
-Refuses (T.Explore histories details states) text fault = RefusesScript text fault
-Refuses (T.List choice) text fault = RefusesChoice choice text fault
-Refuses (T.Run o) text fault = RefusesChoice o.choice text fault
+-- the answer is what a task, other than a run, makes of the text; or the task refuses the text for this fault, and for want of memory any
+abbrev pub IsMade : Task → List ℕ → Result Answer RunFault → Type 0
+IsMade (T.Replay e) text made = MatchResult made (IsSilent (Replays text)) (RefusesMoves text)
+IsMade (T.Check e) text made = MatchResult made (IsSilent (IsChecked text)) (RefusesHistory text)
+IsMade (T.Report form e) text made = MatchResult made (IsReported form text) (RefusesHistory text)
+IsMade (T.Explore h d n) text made = MatchResult made (IsSilent (Explores h d n text)) (RefusesScript text)
+IsMade (T.List choice) text made = MatchResult made (IsListed choice text) (RefusesChoice choice text)
+IsMade (T.Run o) text made = MatchResult made (λ a. ⊥) (RefusesChoice o.choice text)
 
 -- what a call of a task over a reader and a writer answers: the status, and what is made of the input is written; or a fault: the writer
 -- failed, and a prefix of that is; or the input is refused, and nothing is
 abbrev pub Does : Task → Option (List ℕ) → Option (List ℕ) → Option (List ℕ) → Result ℕ RunFault → Type 0
 Does task input before after (Ok status) =
-    IsRead (limit_of task) input (λ text. (a : Answer) × Makes task text a × Appends before after a.out × (status ≡ a.status))
-Does task input before after (Err F.Write) = IsRead (limit_of task) input (λ text. (a : Answer) × Makes task text a × AppendsPrefix before after a.out)
+    IsRead (limit_of task) input (λ text. (a : Answer) × IsMade task text (Ok a) × Appends before after a.out × (status ≡ a.status))
+Does task input before after (Err F.Write) = IsRead (limit_of task) input (λ text. (a : Answer) × IsMade task text (Ok a) × AppendsPrefix before after a.out)
 Does task input before after (Err fault) =
-    (IsUnread (limit_of task) input fault ⊎ IsRead (limit_of task) input (λ text. Refuses task text fault)) × Keeps before after
+    (IsUnread (limit_of task) input fault ⊎ IsRead (limit_of task) input (λ text. IsMade task text (Err fault))) × Keeps before after

@@ -1,5 +1,5 @@
 -- What the program does with what it is asked for: what it writes, its statuses, and its lines on standard error.
-use Rattle.std.specs.Prelude.{ℕ, ◌≡◌, ◌⊎◌, List, Option}
+use Rattle.std.specs.Prelude.{ℕ, ◌≡◌, ◌⊎◌, List, Ok, Err, Option}
 use Rattle.std.specs.Io.KnownBytes.{Appends, Keeps}
 use Rattle.tc_stream.specs.Output.{AppendsPrefix}
 use Rattle.tc_script.specs.Campaign.{CampaignView}
@@ -16,7 +16,7 @@ use Rattle.tc_program.specs.Explained.{IsExplained}
 use Rattle.tc_program.specs.Fault.{line_of, of_output}
 use Rattle.tc_program.specs.Input.{IsRead, IsUnread}
 use Rattle.tc_program.specs.Limits.{limit_of}
-use Rattle.tc_program.specs.Made.{Makes, Refuses}
+use Rattle.tc_program.specs.Made.{IsMade}
 use Rattle.tc_program.specs.Run.{IsRun, IsUnwritten}
 use Rattle.tc_program.specs.Scripted.{script_outline, IsScripted}
 use Rattle.tc_program.specs.Streams.{Streams}
@@ -41,13 +41,13 @@ pub record LeavesScript (o : RunOptions) (text : List ℕ) (streams : Streams) (
 -- what the program does with the text of a task
 pub data IsDone (task : Task) (text : List ℕ) (s : Streams) (outcome : Outcome) : Type 0 where
   -- what is made of the text was written, and what is to be told of it told; the status is its
-  whole : (a : Answer) → Makes task text a → Appends s.before s.after a.out → IsTold s.untold s.told a.told outcome.told → outcome.status ≡ a.status
+  whole : (a : Answer) → IsMade task text (Ok a) → Appends s.before s.after a.out → IsTold s.untold s.told a.told outcome.told → outcome.status ≡ a.status
       → IsDone task text s outcome
   -- the writer failed: a prefix of it was written, and that is told
-  part : (a : Answer) → Makes task text a → AppendsPrefix s.before s.after a.out → IsRefusal s.untold s.told (line_of F.Write) outcome
+  part : (a : Answer) → IsMade task text (Ok a) → AppendsPrefix s.before s.after a.out → IsRefusal s.untold s.told (line_of F.Write) outcome
       → IsDone task text s outcome
   -- the text is refused: nothing was written, and why is told
-  refused : (fault : RunFault) → Refuses task text fault → Keeps s.before s.after → IsExplained task text fault s.untold s.told outcome
+  refused : (fault : RunFault) → IsMade task text (Err fault) → Keeps s.before s.after → IsExplained task text fault s.untold s.told outcome
       → IsDone task text s outcome
   -- a campaign was run, and its results were written whole or not
   run : (o : RunOptions) → task ≡ T.Run o → RunsScript o text s outcome ⊎ LeavesScript o text s outcome → IsDone task text s outcome

@@ -1,5 +1,5 @@
 -- What `report` writes of histories.
-use Rattle.std.specs.Prelude.{ℕ, ◌≡◌, ◌==◌, ◌&&◌, ◌||◌, ◌⊎◌, nat_le, Bool, false, true, List, [], ◌++◌, codes, map}
+use Rattle.std.specs.Prelude.{ℕ, ◌≡◌, ◌==◌, ◌&&◌, ◌||◌, nat_le, Bool, false, true, List, [], ◌++◌, codes, map}
 use Rattle.std.specs.List.{list_all}
 use Rattle.tc_command.specs.declared.command.TheConstants.{VERSION}
 use Rattle.tc_command.specs.declared.task.ReportForm.{ReportForm}
@@ -12,9 +12,8 @@ use Rattle.tc_report.specs.Csv.{csv_of}
 use Rattle.tc_report.specs.Junit.{junit_of}
 use Rattle.tc_report.specs.Status.{status_of_summaries}
 use Rattle.tc_report.specs.Summary.{block_summary}
-use Rattle.tc_program.specs.declared.judge.Judgement.{Judgement}
 use Rattle.tc_program.specs.declared.reply.Answer.{Answer}
-use Rattle.tc_program.specs.Check.{Checks, judgement_line, judges_legal}
+use Rattle.tc_program.specs.Check.{Checks, Says}
 
 -- the form of histories by their text and the summaries of their test cases
 abbrev pub form_of : ReportForm → List ℕ → List Summary → List ℕ
@@ -22,40 +21,26 @@ form_of Forms.Csv text ss = csv_of ss
 form_of Forms.Junit text ss = junit_of VERSION.now ss
 form_of Forms.Html text ss = page_of text
 
--- the form of these histories, which this text spells
-abbrev pub report_of : ReportForm → List ℕ → List Block → List ℕ
-report_of form text bs = form_of form text (map block_summary bs)
+-- what is answered for test cases: their form, and their status
+abbrev pub reported : ReportForm → List ℕ → List Summary → Answer
+reported form text ss = record { out = form_of form text ss; told = []; status = status_of_summaries ss }
 
--- `check` finds each of these histories legal
-abbrev pub AreAllLegal : List Block → Type 0
-AreAllLegal blocks = (lines : List ℕ) × Checks blocks lines true
+-- what is answered where a history is not legal: nothing is written, its line of `check` is told, and the status is 3
+abbrev pub unreported : List ℕ → Answer
+unreported line = record { out = []; told = codes "ttrun: " ++ line; status = 3 }
 
--- the histories of a text: `check` finds each legal, and the answer is their form and their status
-pub record IsReport (form : ReportForm) (text : List ℕ) (blocks : List Block) (a : Answer) : Type 0 where
-  pub legal : AreAllLegal blocks
-  pub answer_is : a ≡ record { out = report_of form text blocks; told = []; status = status_of_summaries (map block_summary blocks) }
+-- what is answered for the histories of a text: `check` finds each legal, or the last that it prints says that one is not
+pub data IsReport (form : ReportForm) (text : List ℕ) (blocks : List Block) (a : Answer) : Type 0 where
+  legal : (lines : List ℕ) → Checks blocks lines true
+      → a ≡ reported form text (map block_summary blocks) → IsReport form text blocks a
+  illegal : (b : Block) (lines line : List ℕ) → Says b line false
+      → Checks blocks (lines ++ line) false → a ≡ unreported line → IsReport form text blocks a
 
--- the line on standard error for a history that is not legal: that of `check`
-abbrev pub illegal_line : Judgement → List ℕ
-illegal_line j = codes "ttrun: " ++ judgement_line j
-
--- the last that `check` prints for these histories is that one of them is not legal
-pub record IsFoundIllegal (blocks : List Block) (j : Judgement) : Type 0 where
-  pub illegal : judges_legal j ≡ false
-  pub lines : List ℕ
-  pub checks : Checks blocks (lines ++ judgement_line j) false
-
--- the histories of a text, one of which is not legal: nothing is written, the line of `check` is told, and the status is 3
-pub record IsIllegal (blocks : List Block) (a : Answer) : Type 0 where
-  pub judgement : Judgement
-  pub found : IsFoundIllegal blocks judgement
-  pub answer_is : a ≡ record { out = []; told = illegal_line judgement; status = 3 }
-
--- the text is that of histories, and whatever histories it is of, this is made of them
+-- the text is that of histories, and whatever histories it is of, this is answered for them
 pub record IsReported (form : ReportForm) (text : List ℕ) (a : Answer) : Type 0 where
   pub blocks : List Block
   pub histories : AreHistories text blocks
-  pub made : (all : List Block) → AreHistories text all → IsReport form text all a ⊎ IsIllegal all a
+  pub made : (all : List Block) → AreHistories text all → IsReport form text all a
 
 -- a byte that an element of script data holds as it is, and that begins no tag: LF, or one from 32 to 126 but `<`, which is 60
 abbrev pub is_inert : ℕ → Bool

@@ -13,17 +13,13 @@ use Rattle.tc_campaign.specs.Outline.{Outline}
 abbrev pub CaseView : Type 0
 CaseView = Word × List (Word × ScriptView)
 
--- the names of behaviours
-abbrev pub names_of : List (Word × ScriptView) → List Word
-names_of bs = map (λ b. b.0) bs
-
 -- their scripts, without the names
 abbrev pub scripts_of : List (Word × ScriptView) → List ScriptView
 scripts_of bs = map (λ b. b.1) bs
 
 -- the outline of a test case: each behaviour is one job
 abbrev pub script_outline : CaseView → Outline
-script_outline c = record { name = c.0; names = names_of c.1; jobs = length c.1 }
+script_outline c = record { name = c.0; names = map (λ b. b.0) c.1; jobs = length c.1 }
 
 -- each behaviour of which the run was started got as many arguments as its script has parameters, and made the calls of its steps with a new
 -- pass of that run; the report is made of what these passes have logged, and each of its logs is that of the script of its run; and its

@@ -3,7 +3,7 @@ ghost use Rattle.std.specs.Prelude.{◌≡◌, IfOk, IfErr, OnErr, List, ℕ, ma
 ghost use Rattle.std.specs.IoError.{error_kind};
 ghost use Rattle.clap.specs.Values.{kind_of};
 ghost use Rattle.clap.specs.declared.error.kind.ErrorKind.TheVariants.{DisplayHelp, DisplayVersion, OutOfMemory};
-ghost use Rattle.tc_program.specs.Answer.{IsAnswered, IsHelped, IsMistake, IsRefusedLine, IsUnread};
+ghost use Rattle.tc_program.specs.Answer.{IsAnswered, IsHelped, IsMistake, IsUnread};
 ghost use Rattle.tc_program.specs.Fault.{line_of};
 ghost use Rattle.tc_program.specs.Inside.{ShowsNoTask, ShowsText};
 ghost use Rattle.tc_program.specs.Tell.{IsRefusal};
@@ -42,9 +42,9 @@ fn mistake_text(alloc: Global, error: &Error) -> Result<Vec<u8>, NoMemory> {
     }
 }
 
-/// The outcome of words that ask for no task: help or the version is written, and for refused words standard error says why, in clap's
-/// texts. Where memory was refused for the words, standard error says that.
-pub fn answer_no_task<W: Write, E: Write>(
+// The outcome of words that ask for no task: help or the version is written, and for refused words standard error says why, in clap's
+// texts. Where memory was refused for the words, standard error says that.
+fn answer_no_task<W: Write, E: Write>(
     alloc: Global,
     error: &Error,
     writer: &mut W,
@@ -52,7 +52,7 @@ pub fn answer_no_task<W: Write, E: Write>(
 ) -> Outcome
     ensures help { kind_of error.now ≡ DisplayHelp → IsHelped (held W.contents writer.old writer.new E.contents errors.old errors.new) result }
     ensures version { kind_of error.now ≡ DisplayVersion → IsHelped (held W.contents writer.old writer.new E.contents errors.old errors.new) result }
-    ensures refused { IsMistake (kind_of error.now) → IsRefusedLine (held W.contents writer.old writer.new E.contents errors.old errors.new) result }
+    ensures refused { IsMistake (kind_of error.now) → (text : List ℕ) × IsRefusal (E.contents errors.old) (E.contents errors.new) text result }
     ensures memory { kind_of error.now ≡ OutOfMemory → IsRefusal (E.contents errors.old) (E.contents errors.new) (line_of WithoutMemory) result }
     ensures unwritten { IsMistake (kind_of error.now) → writer.new ≡ writer.old }
     ensures wordless { kind_of error.now ≡ OutOfMemory → writer.new ≡ writer.old }
@@ -87,8 +87,8 @@ fn answer_refused<W: Write, E: Write>(
     }
 }
 
-/// The outcome of words that could not be had; standard error says why.
-pub fn answer_unread<E: Write>(alloc: Global, error: &io::Error, errors: &mut E) -> Outcome
+// The outcome of words that could not be had; standard error says why.
+fn answer_unread<E: Write>(alloc: Global, error: &io::Error, errors: &mut E) -> Outcome
     ensures { IsUnread (error_kind error.now) (E.contents errors.old) (E.contents errors.new) result }
 {
     if error.kind() == io::ErrorKind::OutOfMemory {

@@ -1,7 +1,7 @@
 //! The subcommand `check`.
-ghost use Rattle.std.specs.Prelude.{◌≡◌, [], Bool, IfOk, IfErr};
+ghost use Rattle.std.specs.Prelude.{◌≡◌, [], Bool, IfOk, IfErr, if◌then◌else◌};
 ghost use Rattle.tc_command.specs.declared.task.Task.TheVariants.{Check};
-ghost use Rattle.tc_program.specs.Check.{IsCheckOf, IsChecked, RefusesHistory};
+ghost use Rattle.tc_program.specs.Check.{IsChecked, RefusesHistory};
 ghost use Rattle.tc_program.specs.Inside.{Feeds, IsPlayed};
 ghost use Rattle.tc_program.specs.Made.{Does};
 
@@ -66,14 +66,22 @@ impl TakesHistories for Checking {
     }
 }
 
-// What is printed for the histories that the text spells, up to the first that is not legal, and whether all are; else
-// the text's first fault, or NoMemory. The text is read to its end also behind a history that is not legal.
-fn check_lines(alloc: Global, text: &[u8]) -> Result<(Vec<u8>, bool), RunFault>
-    ensures done { IfOk result (λ r. IsCheckOf text.now r.0.items r.1) }
+// The status where all histories are legal, and where one is not.
+fn status_of(legal: bool) -> u8
+    ensures { result ≡ (if legal then 0 else 3) }
+{
+    if legal { 0 } else { REFUSED }
+}
+
+// What is printed for the histories that the text spells, up to the first that is not legal, and the status; else the
+// text's first fault, or NoMemory. The text is read to its end also behind a history that is not legal.
+fn check_lines(alloc: Global, text: &[u8]) -> Result<(Vec<u8>, u8), RunFault>
+    ensures done { IfOk result (λ r. IsChecked text.now r.0.items r.1) }
     ensures refused { IfErr result (RefusesHistory text.now) }
 {
     let checking: Checking = read_history_into(alloc, text)?;
-    Ok((checking.out, checking.legal))
+    let status = status_of(checking.legal);
+    Ok((checking.out, status))
 }
 
 /// What `check` makes of a text of histories: which are legal, up to the first that is not, and the status 0 where all are,
@@ -82,11 +90,11 @@ pub(crate) fn check_text(alloc: Global, text: &[u8]) -> Result<Answer, RunFault>
     ensures done { IfOk result (λ a. IsChecked text.now a.out a.status × (a.told ≡ [])) }
     ensures refused { IfErr result (RefusesHistory text.now) }
 {
-    let (out, legal) = check_lines(alloc, text)?;
+    let (out, status) = check_lines(alloc, text)?;
     Ok(Answer {
         out: Sequence::new(out),
         told: Sequence::new(Vec::new(alloc)),
-        status: if legal { 0 } else { REFUSED },
+        status,
     })
 }
 

@@ -2,7 +2,8 @@
 ghost use Rattle.std.specs.Prelude.{◌≡◌, ◌++◌, OnOk};
 ghost use Rattle.tc_text.specs.Spelling.{reply_text};
 ghost use Rattle.tc_verdict.specs.Verdict.{name_of};
-ghost use Rattle.tc_program.specs.Check.{gives_text, judgement_line, legal_line, other_line};
+ghost use Rattle.tc_program.specs.Check.{gives_text, legal_line, other_line};
+ghost use Rattle.tc_program.specs.Inside.{judgement_line};
 
 use crate::fault::append_place;
 use crate::judge::Judgement;

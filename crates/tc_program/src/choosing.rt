@@ -1,30 +1,12 @@
 //! The test cases of a script that are chosen.
-ghost use Rattle.std.specs.Prelude.{◌≡◌, IfOk, IfErr, Some, option_map, true};
+ghost use Rattle.std.specs.Prelude.{◌≡◌, IfOk, IfErr, true};
 ghost use Rattle.tc_campaign.specs.Choosing.{case_name, chosen, have_names};
-ghost use Rattle.tc_program.specs.Choosing.{shard_of as spec_shard};
 ghost use Rattle.tc_program.specs.Inside.{RefusesNames};
 
 use crate::fault::RunFault;
 use std::alloc::Global;
-use tc_campaign::{Case, Shard, choose, have_all};
-use tc_command::{Choice, Shard as AskedShard};
-
-// The shard that is asked for.
-fn shard_of(shard: AskedShard) -> Option<Shard>
-    ensures { result ≡ Some (spec_shard shard) }
-{
-    Shard::new(shard.number(), shard.shards())
-}
-
-// The shard that is asked for, where one is.
-fn shard_in(shard: Option<AskedShard>) -> Option<Shard>
-    ensures { result ≡ option_map spec_shard shard }
-{
-    match shard {
-        Some(shard) => shard_of(shard),
-        None => None,
-    }
-}
+use tc_campaign::{Case, choose, have_all};
+use tc_command::Choice;
 
 /// The test cases of the names that are asked for, in their order, and of these those of the shard. Each name has to be that
 /// of a test case.
@@ -33,7 +15,7 @@ pub(crate) fn choose_cases<B: Drop>(
     cases: Vec<Case<B>>,
     choice: &Choice,
 ) -> Result<Vec<Case<B>>, RunFault>
-    ensures chosen { IfOk result (λ r. r.items ≡ chosen case_name choice.now.only.items (option_map spec_shard choice.now.shard) cases.items) }
+    ensures chosen { IfOk result (λ r. r.items ≡ chosen case_name choice.now.only.items choice.now.shard cases.items) }
     ensures named { IfOk result (λ r. have_names case_name choice.now.only.items cases.items ≡ true) }
     ensures refused { IfErr result (RefusesNames (have_names case_name choice.now.only.items cases.items)) }
 {
@@ -41,5 +23,5 @@ pub(crate) fn choose_cases<B: Drop>(
     if !have_all(cases.as_slice(), only) {
         return Err(RunFault::Only);
     }
-    Ok(choose(alloc, cases, only, shard_in(choice.shard))?)
+    Ok(choose(alloc, cases, only, choice.shard)?)
 }

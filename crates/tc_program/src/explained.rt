@@ -49,7 +49,7 @@ fn append_notes(
 }
 
 // Appends what is explained of the text, where something is.
-#[tactic(auto, using(tc_text::proofs::Showing::shows_none))]
+#[tactic(auto, using(tc_text::proofs::Lemmas::Showing::shows_none))]
 fn append_explained(
     alloc: Global,
     out: &mut Vec<u8>,

@@ -6,7 +6,8 @@ ghost use Rattle.tc_explore.specs.Details.{AreLegalOf};
 ghost use Rattle.tc_text.specs.Shown.{Shows};
 ghost use Rattle.tc_script.specs.Law.{IsCase};
 ghost use Rattle.tc_program.specs.Choosing.{RefusesScript};
-ghost use Rattle.tc_program.specs.Explore.{Explores, IsExplored, details_if, has_status as status_in, status_of_all, told_of};
+ghost use Rattle.tc_program.specs.Inside.{details_if};
+ghost use Rattle.tc_program.specs.Explore.{Explores, IsExplored, has_status as status_in, status_of_all, told_of};
 ghost use Rattle.tc_program.specs.Scripted.{scripts_of as scripts_in};
 
 use crate::fault::RunFault;
@@ -41,7 +42,7 @@ fn scripts_of(alloc: Global, case: CaseScript) -> Result<Vec<Script>, NoMemory>
 }
 
 // The details of a test case with these scripts, where they are asked for.
-#[tactic(auto, using(tc_text::proofs::Showing::shows_none))]
+#[tactic(auto, using(tc_text::proofs::Lemmas::Showing::shows_none))]
 fn details_of(
     alloc: Global,
     details: bool,

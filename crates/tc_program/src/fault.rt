@@ -2,7 +2,8 @@
 ghost use Rattle.std.specs.Prelude.{◌≡◌, ◌++◌, IfOk, OnOk, OnErr, Some};
 ghost use Rattle.std.specs.Io.{StartsWith};
 ghost use Rattle.tc_report.specs.Ending.{abort_text, aborted_line, is_aborted};
-ghost use Rattle.tc_program.specs.Fault.{fault_text, line_number, line_of, place_text, said, words_of};
+ghost use Rattle.tc_program.specs.Fault.{fault_text, line_of, place_text, said};
+ghost use Rattle.tc_program.specs.Inside.{line_number, of_input as spec_input, placed, words_of};
 
 use std::alloc::{AllocError, AllocFailed, Global};
 use std::fmt;
@@ -37,18 +38,14 @@ pub enum RunFault {
     Only,
 }
 
-impl From<InputFault> for RunFault {
-    ghost use Rattle.std.specs.Prelude.{◌≡◌};
-    ghost use Rattle.tc_program.specs.Inside.{of_input};
-
-    ghost from_gives = { λ fault r. r ≡ of_input fault };
-
-    fn from(fault: InputFault) -> RunFault {
-        match fault {
-            InputFault::TooLong => RunFault::TooLong,
-            InputFault::Read => RunFault::Read,
-            InputFault::NoMemory => RunFault::NoMemory,
-        }
+/// The fault for an input that was not read whole.
+pub(crate) fn of_input(fault: InputFault) -> RunFault
+    ensures { result ≡ spec_input fault }
+{
+    match fault {
+        InputFault::TooLong => RunFault::TooLong,
+        InputFault::Read => RunFault::Read,
+        InputFault::NoMemory => RunFault::NoMemory,
     }
 }
 
@@ -156,12 +153,16 @@ impl RunFault {
 impl fmt::Display for RunFault {
     ghost output = { λ f. Some (fault_text f) };
 
-    #[tactic(auto, unfolding(crate::specs::Fault::place_text))]
     fn fmt<W: fmt::Write>(&self, f: &mut fmt::Formatter<W>) -> fmt::Result {
-        let words = self.words();
-        match self.line() {
-            Some(line) => write!(f, "line {line}: {words}"),
-            None => f.write_str(words),
+        match self {
+            RunFault::TooLong => InputFault::TooLong.fmt(f),
+            RunFault::Read => InputFault::Read.fmt(f),
+            RunFault::Write => WriteFault.fmt(f),
+            RunFault::NoMemory => NoMemory.fmt(f),
+            RunFault::Text(fault) => fault.fmt(f),
+            RunFault::Script(fault) => fault.fmt(f),
+            RunFault::StopOn => f.write_str(WordFault::StopOn.text()),
+            RunFault::Only => f.write_str(WordFault::Only.text()),
         }
     }
 }
@@ -179,7 +180,7 @@ pub(crate) fn append_place(out: &mut Vec<u8>, line: usize) -> Result<(), NoMemor
 
 // Appends the text of the fault; where memory is refused, a part of it.
 fn append_fault(out: &mut Vec<u8>, fault: &RunFault) -> Result<(), NoMemory>
-    ensures ok { OnOk result (out.new.items ≡ out.old.items ++ fault_text fault.now) }
+    ensures ok { OnOk result (out.new.items ≡ out.old.items ++ placed (line_number fault.now) (words_of fault.now)) }
     ensures err { OnErr result (StartsWith out.new.items out.old.items) }
 {
     if let Some(line) = fault.line() {
@@ -190,7 +191,7 @@ fn append_fault(out: &mut Vec<u8>, fault: &RunFault) -> Result<(), NoMemory>
 
 // Appends the whole line; where memory is refused, a part of it.
 fn append_line(out: &mut Vec<u8>, fault: &RunFault) -> Result<(), NoMemory>
-    ensures ok { OnOk result (out.new.items ≡ out.old.items ++ line_of fault.now) }
+    ensures ok { OnOk result (out.new.items ≡ out.old.items ++ said (placed (line_number fault.now) (words_of fault.now))) }
     ensures err { OnErr result (StartsWith out.new.items out.old.items) }
 {
     append_text(out, "ttrun: ")?;

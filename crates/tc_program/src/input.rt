@@ -2,7 +2,7 @@
 ghost use Rattle.std.specs.Prelude.{◌≡◌, ◌≤◌, IfOk, IfErr, IfSome, length};
 ghost use Rattle.tc_program.specs.Input.{IsUnread};
 
-use crate::fault::RunFault;
+use crate::fault::{RunFault, of_input};
 use std::alloc::Global;
 use std::io::Read;
 use tc_stream::read_input;
@@ -17,5 +17,8 @@ pub(crate) fn read_text<R: Read>(
     ensures all { IfOk result (λ v. IfSome (R.remaining reader.old) (λ given. v.items ≡ given)) }
     ensures unread { IfErr result (IsUnread limit (R.remaining reader.old)) }
 {
-    Ok(read_input(alloc, reader, limit)?)
+    match read_input(alloc, reader, limit) {
+        Ok(text) => Ok(text),
+        Err(fault) => Err(of_input(fault)),
+    }
 }

@@ -4,8 +4,7 @@ ghost use Rattle.tc_history.specs.Text.{IsHeader};
 ghost use Rattle.tc_entry.specs.declared.entry.Entry.{Entry as AnyEntry};
 ghost use Rattle.tc_table.specs.Standing.{StandsFor};
 ghost use Rattle.tc_report.specs.Summary.{summary_of};
-ghost use Rattle.tc_program.specs.Check.{judges_legal};
-ghost use Rattle.tc_program.specs.Inside.{IsPlayed, JudgesPlayed, PlaysNext};
+ghost use Rattle.tc_program.specs.Inside.{IsPlayed, JudgesPlayed, PlaysNext, judges_legal};
 
 use std::alloc::Global;
 use tc_entry::Name;

@@ -1,9 +1,9 @@
 //! What the program's parts say together: each function changes nothing, and its contract is the law.
 ghost use Rattle.std.specs.Prelude.{All, List};
 ghost use Rattle.tc_campaign.specs.Outline.{Outline};
-ghost use Rattle.tc_program.specs.Inside.{FitsItsTypes};
+ghost use Rattle.tc_program.specs.Inside.{FitsItsTypes, WereRun};
 ghost use Rattle.tc_program.specs.Report.{HistoriesAreInert};
-ghost use Rattle.tc_program.specs.WrittenHistories.{AreFoundLegal, AreReported, WereRun};
+ghost use Rattle.tc_program.specs.WrittenHistories.{AreFoundLegal, AreReported};
 
 use tc_campaign::{Finished, Results};
 use tc_history::laws::entries_fit;
@@ -23,9 +23,9 @@ fn cases_fit(cases: &[Finished])
     }
 }
 
-/// The finished test cases of a campaign were run, each to its end; the names and the numbers in their histories are
-/// those of their types.
-pub fn were_run(results: &Results)
+// The finished test cases of a campaign were run, each to its end; the names and the numbers in their histories are
+// those of their types.
+fn were_run(results: &Results)
     ensures { (cases : List Outline) → AreReported cases results.now → WereRun results.now }
 {
     cases_fit(results.finished.as_slice());

@@ -1,7 +1,8 @@
 //! What is made of a text, and how it is given.
 ghost use Rattle.std.specs.Prelude.{List, ℕ};
 ghost use Rattle.tc_command.specs.declared.task.Task.{Task as AnyTask};
-ghost use Rattle.tc_program.specs.Inside.{GivesTo, IsMade, WritesTo};
+ghost use Rattle.tc_program.specs.Inside.{GivesTo, WritesTo};
+ghost use Rattle.tc_program.specs.Made.{IsMade};
 ghost use Rattle.tc_program.specs.Program.{IsDone};
 ghost use Rattle.tc_program.specs.Streams.{held};
 

@@ -4,7 +4,8 @@ ghost use Rattle.tc_text.specs.Spelling.{reply_text};
 ghost use Rattle.tc_command.specs.declared.task.Task.TheVariants.{Replay};
 ghost use Rattle.tc_program.specs.Inside.{ArePlayed};
 ghost use Rattle.tc_program.specs.Made.{Does};
-ghost use Rattle.tc_program.specs.Replay.{IsReplayOf, RefusesMoves, Replays};
+ghost use Rattle.tc_program.specs.Replay.{RefusesMoves, Replays};
+ghost use Rattle.tc_report.specs.Status.{verdict_status as spec_status};
 
 use crate::fault::RunFault;
 use crate::input::read_text;
@@ -55,7 +56,7 @@ impl TakesMoves for Replaying {
 
 // What is printed for the moves that the text spells, and the overall verdict; else the text's first fault, or NoMemory.
 fn replay_lines(alloc: Global, text: &[u8]) -> Result<(Vec<u8>, Verdict), RunFault>
-    ensures done { IfOk result (λ r. IsReplayOf text.now r.0.items r.1) }
+    ensures done { IfOk result (λ r. Replays text.now r.0.items (spec_status r.1)) }
     ensures refused { IfErr result (RefusesMoves text.now) }
 {
     let replaying: Replaying = read_moves_into(alloc, text)?;

@@ -3,8 +3,8 @@ ghost use Rattle.std.specs.Prelude.{◌≡◌, List, IfOk, IfErr, OnOk};
 ghost use Rattle.tc_history.specs.Text.{AreHistories, IsMadeOf};
 ghost use Rattle.tc_history.specs.declared.read.Block.{Block as AnyBlock};
 ghost use Rattle.tc_program.specs.Check.{RefusesHistory};
-ghost use Rattle.tc_program.specs.Inside.{IsPlayed, Summarizes};
-ghost use Rattle.tc_program.specs.Report.{IsReported, form_of, illegal_line};
+ghost use Rattle.tc_program.specs.Inside.{IsPlayed, Summarizes, illegal_line};
+ghost use Rattle.tc_program.specs.Report.{IsReported, form_of};
 
 use crate::check_lines::append_judgement;
 use crate::fault::RunFault;

@@ -1,13 +1,15 @@
 //! A run of a campaign: who is given its test cases, and what is written and told of it.
 ghost use Rattle.std.specs.Prelude.{◌≡◌, ◌≤◌, [], All, IfOk, IfErr, IfNone, IfSome, None, Some};
+ghost use Rattle.std.specs.Io.KnownBytes.{Appends};
 ghost use Rattle.std.specs.Vec.{vec_capacity, vec_len};
 ghost use Rattle.tc_verdict.specs.declared.verdict.Verdict.TheVariants.{None as NoVerdict};
 ghost use Rattle.tc_campaign.specs.Outline.{HasNames, outline_of};
 ghost use Rattle.tc_campaign.specs.Campaign.{IsCalled, IsRunTo};
-ghost use Rattle.tc_report.specs.Live.{HasWritten, HasWrittenPart, closing_text};
+ghost use Rattle.tc_report.specs.Live.{closing_text};
+ghost use Rattle.tc_report.specs.Output.{LeavesPrefix};
 ghost use Rattle.tc_report.specs.Progress.{IsToldBy, told_text};
 ghost use Rattle.tc_report.specs.Status.{ending_status};
-ghost use Rattle.tc_report.specs.Tally.{no_cases};
+ghost use Rattle.tc_report.specs.Tally.{tally_of_cases};
 ghost use Rattle.tc_program.specs.Give.{live_form as spec_form};
 ghost use Rattle.tc_program.specs.Inside.{WasTold};
 ghost use Rattle.tc_program.specs.Limits.{worker_limit};
@@ -23,8 +25,8 @@ use std::sync::Wait;
 use std::thread::Threads;
 use tc_book::Sequence;
 use tc_campaign::{
-    CampaignEnd, Case, Form as ReportForm, Kept, LiveWriter, Observer, OutFault, Progress, Results,
-    run_campaign_with, status_of, without_room,
+    CampaignEnd, Case, Kept, LiveWriter, Observer, OutFault, Progress, Results, run_campaign_with,
+    status_of, without_room,
 };
 use tc_command::RunOptions;
 use tc_entry::BEHAVIOURS;
@@ -162,10 +164,11 @@ fn close<W: Write>(
     live: &mut LiveWriter<'_, W>,
 ) -> Result<(CampaignEnd, u8), OutFault>
     ensures ended { IfOk result (λ r. ending ≡ Some r.0) }
-    ensures all { IfOk result (λ r. HasWritten W.contents live.old live.new (closing_text live.old.form live.old.tally r.0)) }
+    ensures all { IfOk result (λ r. Appends (W.contents live.old.writer.now) (W.contents live.new.writer.now)
+        (closing_text live.old.form live.old.tally r.0)) }
     ensures status { IfOk result (λ r. r.1 ≡ ending_status r.0 live.old.worst) }
     ensures cut { IfNone ending (live.new ≡ live.old) }
-    ensures part { IfSome ending (λ e. IfErr result (HasWrittenPart W.contents live.old live.new
+    ensures part { IfSome ending (λ e. IfErr result (LeavesPrefix (W.contents live.old.writer.now) (W.contents live.new.writer.now)
         (closing_text live.old.form live.old.tally e))) }
     ensures same { live.new.writer.ghost_name ≡ live.old.writer.ghost_name }
 {
@@ -189,7 +192,7 @@ where
     R: Threads + Wait + Copy + Send + 'static,
     requires names { All HasNames cases.items }
     requires form { spec_form options.now.live options.now.form ≡ Some live.old.form }
-    requires tally { live.old.tally ≡ no_cases }
+    requires tally { live.old.tally ≡ tally_of_cases [] }
     requires worst { live.old.worst ≡ NoVerdict }
     ensures done { IfOk result (IsRun outline_of (IsCalled B.outcome) cases.items options.now
         (held W.contents live.old.writer.now live.new.writer.now E.contents errors.old errors.new)) }
@@ -214,29 +217,6 @@ where
     }
 }
 
-// Runs the test cases, writes each in this form as it finishes, and answers what came of them.
-fn run_live<R, B: Callable, W: Write, E: Write>(
-    rt: &R,
-    alloc: Global,
-    cases: Vec<Case<B>>,
-    options: &RunOptions,
-    form: ReportForm,
-    writer: &mut W,
-    errors: &mut E,
-) -> Result<Outcome, OutFault>
-where
-    R: Threads + Wait + Copy + Send + 'static,
-    requires names { All HasNames cases.items }
-    requires form { spec_form options.now.live options.now.form ≡ Some form }
-    ensures done { IfOk result (IsRun outline_of (IsCalled B.outcome) cases.items options.now
-        (held W.contents writer.old writer.new E.contents errors.old errors.new)) }
-    ensures refused { IfErr result (IsUnwritten outline_of (IsCalled B.outcome) cases.items options.now
-        (held W.contents writer.old writer.new E.contents errors.old errors.new)) }
-{
-    let mut live = LiveWriter::new(alloc, form, writer);
-    write_live(rt, alloc, cases, options, &mut live, errors)
-}
-
 /// Runs the test cases, writes their results as they finish, where that is asked for and the form has it, or at the end, and
 /// answers what came of them. Test cases are told of as they finish where it is asked for, and a campaign that was aborted is.
 pub fn run_cases<R, B: Callable, W: Write, E: Write>(
@@ -257,7 +237,10 @@ where
     ensures workers { THREADS ≡ worker_limit }
 {
     match live_form(options.live, options.form) {
-        Some(form) => run_live(rt, alloc, cases, options, form, writer, errors),
+        Some(form) => {
+            let mut live = LiveWriter::new(alloc, form, writer);
+            write_live(rt, alloc, cases, options, &mut live, errors)
+        }
         None => run_whole(rt, alloc, cases, options, writer, errors),
     }
 }

@@ -7,7 +7,6 @@ ghost use Rattle.tc_program.specs.Choosing.{RefusesScript};
 ghost use Rattle.tc_program.specs.Input.{IsRead, IsUnread};
 ghost use Rattle.tc_verdict.specs.declared.verdict.Verdict.{Verdict as AnyVerdict};
 ghost use Rattle.tc_program.specs.declared.fault.RunFault.TheVariants.{StopOn};
-ghost use Rattle.tc_program.specs.Limits.{script_limit};
 
 use crate::fault::RunFault;
 use crate::input::read_text;
@@ -34,10 +33,10 @@ pub(crate) fn read_script(alloc: Global, text: &[u8]) -> Result<Campaign, RunFau
 
 /// The campaign that the input spells.
 pub fn take_script<R: Read>(alloc: Global, reader: &mut R) -> Result<Campaign, RunFault>
-    ensures spelled { IfOk result (λ c. IsRead script_limit (R.remaining reader.old) (λ text. campaign text ≡ Ok c)) }
+    ensures spelled { IfOk result (λ c. IsRead 1048576 (R.remaining reader.old) (λ text. campaign text ≡ Ok c)) }
     ensures lawful { IfOk result (λ c. All (λ t. IsCase t.1) c) }
-    ensures refused { IfErr result (λ fault. IsUnread script_limit (R.remaining reader.old) fault
-        ⊎ IsRead script_limit (R.remaining reader.old) (λ text. RefusesScript text fault)) }
+    ensures refused { IfErr result (λ fault. IsUnread 1048576 (R.remaining reader.old) fault
+        ⊎ IsRead 1048576 (R.remaining reader.old) (λ text. RefusesScript text fault)) }
 {
     let text = read_text(alloc, reader, LIMIT)?;
     read_script(alloc, text.as_slice())

@@ -15,7 +15,8 @@ use Rattle.tc_entry.specs.Name.{is_name_byte, IsName}
 use Rattle.tc_report.specs.declared.results.CaseEnd.{CaseEnd}
 use Rattle.tc_report.specs.declared.results.CaseEnd.TheVariants as C
 use Rattle.tc_report.specs.declared.summary.Summary.{Summary}
-use Rattle.tc_report.specs.Csv.{csv_line, counts_of, end_word, row_fields}
+use Rattle.tc_report.specs.Inside.{csv_line}
+use Rattle.tc_report.specs.Csv.{counts_of, end_word, row_fields}
 
 -- no byte of the field calls for quotes
 abbrev pub IsUnquoted : List ℕ → Type 0

@@ -1,5 +1,5 @@
 -- Texts of small results, computed from the definitions alone.
-use Rattle.std.proofs.Common.{ℕ, ◌≡◌, None, List, [], ◌∷◌, ◌++◌, codes, false, refl, arith}
+use Rattle.std.proofs.Common.{ℕ, ◌≡◌, None, List, [], ◌∷◌, ◌++◌, map, codes, false, refl, arith}
 use Rattle.std.specs.Fmt.{decimal}
 use Rattle.std.proofs.lemmas.Fmt.{decimal_digit}
 use Rattle.tc_verdict.specs.declared.verdict.Verdict.{Verdict}
@@ -17,11 +17,12 @@ use Rattle.tc_report.specs.declared.results.CampaignEnd.{CampaignEnd}
 use Rattle.tc_report.specs.declared.results.CampaignEnd.TheVariants as E
 use Rattle.tc_report.specs.declared.results.Finished.{Finished}
 use Rattle.tc_report.specs.declared.results.Results.{Results}
-use Rattle.tc_report.specs.Csv.{csv_text}
+use Rattle.tc_report.specs.Csv.{csv_of}
 use Rattle.tc_report.specs.Ending.{abort_text}
 use Rattle.tc_report.specs.Histories.{histories_text}
 use Rattle.tc_report.specs.Report.{report_text}
 use Rattle.tc_report.specs.Status.{results_status}
+use Rattle.tc_report.specs.Summary.{case_summary}
 
 abbrev call : Op → Reply → Entry
 call op reply = record { caller = record { 0 = 0 }; op = op; reply = reply }
@@ -68,7 +69,7 @@ report_of_a_stuck_case : report_text (results (stuck ∷ []) (E.StoppedAfter (co
     ++ codes "local 0 error\nlocal 1 none\nverdict error\ncases 1 none 0 pass 0 inconc 0 fail 0 error 1\nstopped after solo\n"
 report_of_a_stuck_case = simp (d0, d1)
 
-records_of_two_cases : csv_text (results (stuck ∷ case_of (codes "b") [] V.Pass ∷ []) E.Complete)
+records_of_two_cases : csv_of (map case_summary (stuck ∷ case_of (codes "b") [] V.Pass ∷ []))
     ≡ codes "testcase,components,none,pass,inconc,fail,error,verdict\nsolo,2,1,0,0,0,1,error\nb,2,1,1,0,0,0,pass\n"
 records_of_two_cases = simp (d0, d1, d2)
 

@@ -7,14 +7,8 @@ use Rattle.tc_verdict.specs.declared.verdict.Verdict.TheVariants as V
 use Rattle.tc_verdict.specs.Verdict.{name_of}
 use Rattle.tc_report.specs.declared.results.CaseEnd.{CaseEnd}
 use Rattle.tc_report.specs.declared.results.CaseEnd.TheVariants as C
-use Rattle.tc_report.specs.declared.results.Results.{Results}
 use Rattle.tc_report.specs.declared.summary.Summary.{Summary}
-use Rattle.tc_report.specs.Summary.{case_summary}
 use Rattle.tc_report.specs.Tally.{count_of}
-
--- fields with a comma between them, and LF
-abbrev pub csv_line : List (List ℕ) → List ℕ
-csv_line fields = join_with_byte 44 fields ++ (10 ∷ [])
 
 -- the header
 abbrev pub header_text : List ℕ
@@ -35,14 +29,10 @@ end_word (C.Aborted why) = codes "aborted"
 abbrev pub row_fields : Summary → List (List ℕ)
 row_fields s = s.name ∷ (map decimal (counts_of s.locals) ++ end_word s.ending ∷ [])
 
--- the line of a test case
+-- the line of a test case: its fields with a comma between them, and LF
 abbrev pub row_line : Summary → List ℕ
-row_line s = csv_line (row_fields s)
+row_line s = join_with_byte 44 (row_fields s) ++ (10 ∷ [])
 
 -- the header, and a line for each test case
 abbrev pub csv_of : List Summary → List ℕ
 csv_of ss = header_text ++ flat_map row_line ss
-
--- that of the finished test cases
-abbrev pub csv_text : Results → List ℕ
-csv_text r = csv_of (map case_summary r.finished)

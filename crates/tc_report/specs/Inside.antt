@@ -1,10 +1,10 @@
--- What a CSV writer over memory has written, which no public clause names.
-use Rattle.std.specs.Prelude.{ℕ, ◌≡◌, false, List, ◌++◌}
+-- What the functions inside say, which no public clause names.
+use Rattle.std.specs.Prelude.{ℕ, ◌≡◌, false, List, [], ◌∷◌, ◌++◌}
 use Rattle.std.specs.Global.{Vec}
 use Rattle.csv.specs.declared.writer.Writer.{Writer}
 use Rattle.csv.specs.Writing.{default_writer, writer_setup, fields_written, has_written, writer_under, writer_pending}
 use Rattle.tc_report.specs.Csv.{header_text}
-use Rattle.std.specs.List.{flat_map}
+use Rattle.std.specs.List.{flat_map, join_with_byte}
 use Rattle.tc_report.specs.declared.form.Form.{Form}
 use Rattle.tc_report.specs.declared.results.Finished.{Finished}
 use Rattle.tc_report.specs.Live.{opening_text, part_text}
@@ -23,6 +23,10 @@ pub record IsBetweenRecords (w : Writer (Vec ℕ)) : Type 0 where
 pub record IsStarted (w : Writer (Vec ℕ)) : Type 0 where
   pub between : IsBetweenRecords w
   pub header : written_by w ≡ header_text
+
+-- fields with a comma between them, and LF
+abbrev pub csv_line : List (List ℕ) → List ℕ
+csv_line fields = join_with_byte 44 fields ++ (10 ∷ [])
 
 -- what of a campaign's text stands up to the last of these test cases
 abbrev pub text_so_far : Form → List Finished → List ℕ

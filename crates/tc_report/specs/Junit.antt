@@ -10,10 +10,8 @@ use Rattle.tc_verdict.specs.Verdict.{level_of}
 use Rattle.tc_report.specs.declared.results.CaseEnd.{CaseEnd}
 use Rattle.tc_report.specs.declared.results.CaseEnd.TheVariants as C
 use Rattle.tc_report.specs.Report.{local_lines}
-use Rattle.tc_report.specs.declared.results.Results.{Results}
 use Rattle.tc_report.specs.declared.summary.Summary.{Summary}
 use Rattle.tc_report.specs.Status.{counted_as, verdict_status}
-use Rattle.tc_report.specs.Summary.{results_summaries}
 
 -- how many of the test cases count with this status: 1 is a failure, and 2 an error
 abbrev pub with_status : ℕ → List Summary → ℕ
@@ -67,7 +65,3 @@ case_element s = name_tag s.name ++ (end_element s.ending ++ locals_element s.lo
 -- one suite with all test cases
 abbrev pub junit_of : List ℕ → List Summary → List ℕ
 junit_of version ss = head_text ss ++ (version_text version ++ (flat_map case_element ss ++ codes "</testsuite>\n</testsuites>\n"))
-
--- the report of the results of a campaign
-abbrev pub junit_of_results : List ℕ → Results → List ℕ
-junit_of_results version r = junit_of version (results_summaries r)

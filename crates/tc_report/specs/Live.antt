@@ -1,5 +1,5 @@
 -- The text of a campaign that is written as its test cases finish.
-use Rattle.std.specs.Prelude.{ℕ, ◌≡◌, ◌+◌, ◌==◌, Bool, true, false, List, [], ◌++◌, Option, Some}
+use Rattle.std.specs.Prelude.{ℕ, ◌≡◌, ◌+◌, ◌==◌, Bool, true, false, List, [], ◌++◌, Option, Some, map}
 use Rattle.std.specs.Io.KnownBytes.{Appends}
 use Rattle.tc_verdict.specs.declared.verdict.Verdict.{Verdict}
 use Rattle.tc_verdict.specs.declared.verdict.Verdict.TheVariants as V
@@ -12,7 +12,7 @@ use Rattle.tc_report.specs.declared.results.CampaignEnd.{CampaignEnd}
 use Rattle.tc_report.specs.declared.results.Finished.{Finished}
 use Rattle.tc_report.specs.declared.results.Results.{Results}
 use Rattle.tc_report.specs.declared.results.Tally.{Tally}
-use Rattle.tc_report.specs.Csv.{csv_text, header_text, row_line}
+use Rattle.tc_report.specs.Csv.{csv_of, header_text, row_line}
 use Rattle.tc_report.specs.Ending.{ending_line}
 use Rattle.tc_report.specs.Histories.{case_history, histories_text}
 use Rattle.tc_report.specs.Output.{LeavesPrefix}
@@ -23,14 +23,13 @@ use Rattle.tc_report.specs.Tally.{tally_line}
 -- the text of the results in this form
 abbrev pub form_text : Form → Results → List ℕ
 form_text F.Text r = report_text r
-form_text F.Csv r = csv_text r
+form_text F.Csv r = csv_of (map case_summary r.finished)
 form_text F.History r = histories_text r
 
 -- what of it stands before the test cases
 abbrev pub opening_text : Form → List ℕ
-opening_text F.Text = []
 opening_text F.Csv = header_text
-opening_text F.History = []
+opening_text form = []
 
 -- what of it says one test case
 abbrev pub part_text : Form → Finished → List ℕ
@@ -41,8 +40,7 @@ part_text F.History f = case_history f
 -- what of it stands behind the test cases
 abbrev pub closing_text : Form → Tally → CampaignEnd → List ℕ
 closing_text F.Text tally ending = tally_line tally ++ ending_line ending
-closing_text F.Csv tally ending = []
-closing_text F.History tally ending = []
+closing_text form tally ending = []
 
 -- one where it is so, else none
 abbrev pub one_if : Bool → ℕ
@@ -59,15 +57,6 @@ tally_with t v = record {
   fail = t.fail + one_if (level_of v == level_of V.Fail);
   error = t.error + one_if (level_of v == level_of V.Error);
 }
-
-module _ {W : Type 0} (contents : W → Option (List ℕ)) (before after : LiveWriter W) where
-  -- a live writer has written this text whole
-  abbrev pub HasWritten : List ℕ → Type 0
-  HasWritten text = Appends (contents before.writer.now) (contents after.writer.now) text
-
-  -- by this fault a live writer has written a prefix of this text
-  abbrev pub HasWrittenPart : List ℕ → OutFault → Type 0
-  HasWrittenPart text fault = LeavesPrefix (contents before.writer.now) (contents after.writer.now) text fault
 
 -- where a live writer stands: its form, what its writer holds, the test cases that it has counted, their worst verdict, and
 -- why it has ended the campaign

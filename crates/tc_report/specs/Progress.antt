@@ -1,8 +1,7 @@
 -- What is told of test cases as they finish.
-use Rattle.std.specs.Prelude.{ℕ, ◌≡◌, ◌⊎◌, nat_lt, Bool, true, false, List, [], ◌∷◌, ◌++◌, Option, Some, None, Result, Ok, Err, codes}
+use Rattle.std.specs.Prelude.{ℕ, ◌≡◌, ◌⊎◌, nat_lt, if◌then◌else◌, Bool, true, false, List, [], ◌∷◌, ◌++◌, Option, Some, None, Result, Ok, Err, codes}
 use Rattle.std.specs.List.{flat_map}
 use Rattle.std.specs.Io.KnownBytes.{Appends, Keeps}
-use Rattle.tc_verdict.specs.declared.verdict.Verdict.{Verdict}
 use Rattle.tc_verdict.specs.Verdict.{name_of}
 use Rattle.tc_stream.specs.Output.{AppendsPrefix}
 use Rattle.tc_report.specs.declared.fault.OutFault.{OutFault}
@@ -14,32 +13,13 @@ use Rattle.tc_report.specs.Status.{verdict_status}
 abbrev pub told_line : Finished → List ℕ
 told_line f = f.name ++ (codes " " ++ (name_of f.report.verdict ++ (10 ∷ [])))
 
--- a test case with this overall verdict has failed: its status is not 0
-abbrev pub is_failed : Verdict → Bool
-is_failed v = nat_lt 0 (verdict_status v)
-
--- the line that names a test case again where it has failed
-abbrev pub named_again : Bool → Finished → List ℕ
-named_again false f = []
-named_again true f = codes "failed: " ++ told_line f
-
--- the same by its overall verdict
+-- the line that names a test case again where it has failed: where the status for its verdict is not 0
 abbrev pub failed_line : Finished → List ℕ
-failed_line f = named_again (is_failed f.report.verdict) f
+failed_line f = if nat_lt 0 (verdict_status f.report.verdict) then codes "failed: " ++ told_line f else []
 
--- what is told of these finished test cases, where anything is: a line of each as it finishes
-abbrev pub progress_text : Bool → List Finished → List ℕ
-progress_text false fs = []
-progress_text true fs = flat_map told_line fs
-
--- and behind them those that have failed once more
-abbrev pub failed_text : Bool → List Finished → List ℕ
-failed_text false fs = []
-failed_text true fs = flat_map failed_line fs
-
--- all that is told of these finished test cases
+-- what is told of these finished test cases, where anything is: a line of each as it finishes, and then those that have failed again
 abbrev pub told_text : Bool → List Finished → List ℕ
-told_text tells fs = progress_text tells fs ++ failed_text tells fs
+told_text tells fs = if tells then flat_map told_line fs ++ flat_map failed_line fs else []
 
 -- by this answer the text was told whole, or a prefix of it; there is a fault only where anything is told
 abbrev pub IsToldBy : Bool → Option (List ℕ) → Option (List ℕ) → List ℕ → Result (Unit {0}) OutFault → Type 0

@@ -13,7 +13,7 @@ use Rattle.tc_text.specs.Spelling.{op_text, reply_text}
 use Rattle.tc_case.specs.declared.run_log.RunLog.{RunLog}
 use Rattle.tc_report.specs.declared.results.Results.{Results}
 use Rattle.tc_report.specs.declared.results.Finished.{Finished}
-use Rattle.tc_report.specs.Tally.{tally_of, tally_line}
+use Rattle.tc_report.specs.Tally.{tally_line, tally_of_cases}
 use Rattle.tc_report.specs.Ending.{ending_line}
 
 -- a Wake is shown as the Wait with the same target
@@ -72,4 +72,4 @@ case_text f =
 
 -- each finished test case, the tally and the ending
 abbrev pub report_text : Results → List ℕ
-report_text r = flat_map case_text r.finished ++ (tally_line (tally_of r) ++ ending_line r.ending)
+report_text r = flat_map case_text r.finished ++ (tally_line (tally_of_cases r.finished) ++ ending_line r.ending)

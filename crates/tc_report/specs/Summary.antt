@@ -30,9 +30,8 @@ case_summary f = record { name = f.name; locals = f.report.locals; ending = C.Ov
 
 -- the test case that has no report, where there is one
 abbrev pub aborted_summary : CampaignEnd → List Summary
-aborted_summary E.Complete = []
-aborted_summary (E.StoppedAfter name) = []
 aborted_summary (E.Aborted name why) = record { name = name; locals = []; ending = C.Aborted why } ∷ []
+aborted_summary ending = []
 
 -- each finished test case, and the one that has no report
 abbrev pub results_summaries : Results → List Summary

@@ -4,7 +4,6 @@ use Rattle.std.specs.Fmt.{decimal}
 use Rattle.tc_verdict.specs.declared.verdict.Verdict.{Verdict}
 use Rattle.tc_verdict.specs.declared.verdict.Verdict.TheVariants as V
 use Rattle.tc_verdict.specs.Verdict.{level_of}
-use Rattle.tc_report.specs.declared.results.Results.{Results}
 use Rattle.tc_report.specs.declared.results.Finished.{Finished}
 use Rattle.tc_report.specs.declared.results.Tally.{Tally}
 
@@ -26,14 +25,6 @@ tally_of_cases fs = record {
   fail = cases_of V.Fail fs;
   error = cases_of V.Error fs;
 }
-
--- the finished test cases by their overall verdicts
-abbrev pub tally_of : Results → Tally
-tally_of r = tally_of_cases r.finished
-
--- the tally of no test case
-abbrev pub no_cases : Tally
-no_cases = tally_of_cases []
 
 -- the line of a tally
 abbrev pub tally_line : Tally → List ℕ

@@ -1,10 +1,10 @@
 //! Counting verdicts.
-ghost use Rattle.std.specs.Prelude.{◌≡◌, ◌+◌, IfSome};
+ghost use Rattle.std.specs.Prelude.{◌≡◌, ◌+◌, [], IfOk, IfSome};
 ghost use Rattle.tc_report.specs.Live.{one_if, tally_with};
-ghost use Rattle.tc_report.specs.Tally.{cases_of as spec_cases, count_of as spec_count, no_cases as spec_none, tally_of, tally_of_cases};
+ghost use Rattle.tc_report.specs.Tally.{cases_of as spec_cases, count_of as spec_count, tally_of_cases};
 
 use crate::results::{Finished, Results, Tally};
-use tc_entry::Verdict;
+use tc_entry::{NoMemory, Verdict};
 
 /// How many of the verdicts are this one.
 pub(crate) fn count_of(verdicts: &[Verdict], verdict: Verdict) -> usize
@@ -25,7 +25,7 @@ fn cases_of(cases: &[Finished], verdict: Verdict) -> usize
 
 /// The tally of no test case.
 pub(crate) fn no_cases() -> Tally
-    ensures { result ≡ spec_none }
+    ensures { result ≡ tally_of_cases [] }
 {
     Tally {
         cases: 0,
@@ -48,8 +48,8 @@ fn count_more(count: usize, more: bool) -> Option<usize>
     }
 }
 
-/// The tally with one test case more, of this overall verdict; none where a count is no number of the machine.
-pub(crate) fn with_case(tally: &Tally, verdict: Verdict) -> Option<Tally>
+// The tally with one test case more, of this overall verdict; none where a count is no number of the machine.
+fn with_verdict(tally: &Tally, verdict: Verdict) -> Option<Tally>
     ensures { IfSome result (λ t. t ≡ tally_with tally.now verdict) }
 {
     Some(Tally {
@@ -60,6 +60,16 @@ pub(crate) fn with_case(tally: &Tally, verdict: Verdict) -> Option<Tally>
         fail: count_more(tally.fail, verdict == Verdict::Fail)?,
         error: count_more(tally.error, verdict == Verdict::Error)?,
     })
+}
+
+/// The tally with this test case more; a count that is no number of the machine is more than there is memory for.
+pub(crate) fn with_case(tally: &Tally, case: &Finished) -> Result<Tally, NoMemory>
+    ensures { IfOk result (λ t. t ≡ tally_with tally.now case.now.report.verdict) }
+{
+    match with_verdict(tally, case.report.verdict) {
+        Some(tally) => Ok(tally),
+        None => Err(NoMemory),
+    }
 }
 
 // The tally of these test cases.
@@ -78,7 +88,7 @@ fn tally_cases(cases: &[Finished]) -> Tally
 
 /// Counts the finished test cases by their overall verdicts. It takes no memory.
 pub fn tally(results: &Results) -> Tally
-    ensures counts { result ≡ tally_of results.now }
+    ensures counts { result ≡ tally_of_cases results.now.finished }
     ensures all { result.none + result.pass + result.inconc + result.fail + result.error ≡ result.cases }
 {
     tally_cases(results.finished.as_slice())

@@ -5,6 +5,7 @@ ghost use Rattle.std.specs.List.{flat_map};
 ghost use Rattle.tc_report.specs.declared.results.CaseEnd.TheVariants as ends;
 ghost use Rattle.tc_report.specs.Output.{LeavesPrefix};
 ghost use Rattle.tc_report.specs.Junit as spec;
+ghost use Rattle.tc_report.specs.Summary.{results_summaries};
 ghost use Rattle.tc_report.specs.Status.{counted_as as spec_counted, verdict_status as spec_status};
 
 use crate::fault::OutFault;
@@ -211,7 +212,7 @@ pub fn junit_report(alloc: Global, version: &str, cases: &[Summary]) -> Result<V
 
 // The JUnit report of the results of a campaign.
 fn suite_of_results(alloc: Global, version: &str, results: &Results) -> Result<Vec<u8>, NoMemory>
-    ensures { IfOk result (λ v. v.items ≡ spec.junit_of_results version.now results.now) }
+    ensures { IfOk result (λ v. v.items ≡ spec.junit_of version.now (results_summaries results.now)) }
 {
     let cases = summaries_of_results(alloc, results)?;
     junit_report(alloc, version, cases.as_slice())
@@ -225,8 +226,8 @@ pub fn write_junit<W: Write>(
     results: &Results,
     writer: &mut W,
 ) -> Result<(), OutFault>
-    ensures all { OnOk result (Appends (W.contents writer.old) (W.contents writer.new) (spec.junit_of_results version.now results.now)) }
-    ensures part { IfErr result (LeavesPrefix (W.contents writer.old) (W.contents writer.new) (spec.junit_of_results version.now results.now)) }
+    ensures all { OnOk result (Appends (W.contents writer.old) (W.contents writer.new) (spec.junit_of version.now (results_summaries results.now))) }
+    ensures part { IfErr result (LeavesPrefix (W.contents writer.old) (W.contents writer.new) (spec.junit_of version.now (results_summaries results.now))) }
 {
     let text = suite_of_results(alloc, version, results)?;
     write_made(writer, text.as_slice())

@@ -2,7 +2,7 @@
 ghost use Rattle.tc_report.specs.Laws as laws;
 
 /// The summaries of the histories of results are those of the results.
-#[tactic(auto, using(crate::proofs::Agreeing::summaries_of_histories))]
+#[tactic(auto, using(crate::proofs::Lemmas::Agreeing::summaries_of_histories))]
 pub fn summaries_of_histories()
     ensures { laws.SummariesOfHistories }
 {}

@@ -1,10 +1,12 @@
 //! The text of a campaign, written as its test cases finish.
-ghost use Rattle.std.specs.Prelude.{◌≡◌, None, OnOk, OnErr, IfOk, IfErr};
+ghost use Rattle.std.specs.Prelude.{◌≡◌, [], None, OnOk, OnErr, IfOk, IfErr};
+ghost use Rattle.std.specs.Io.KnownBytes.{Appends};
 ghost use Rattle.tc_verdict.specs.declared.verdict.Verdict.TheVariants.{None as NoVerdict};
 ghost use Rattle.tc_verdict.specs.Verdict.{worse};
-ghost use Rattle.tc_report.specs.Live.{HasWritten, HasWrittenPart, Writes, closing_text as spec_closing, opening_text as spec_opening, part_text as spec_part, state_of, tally_with};
+ghost use Rattle.tc_report.specs.Live.{Writes, closing_text as spec_closing, opening_text as spec_opening, part_text as spec_part, state_of, tally_with};
 ghost use Rattle.tc_report.specs.Status.{ending_status as spec_status};
-ghost use Rattle.tc_report.specs.Tally.{no_cases as spec_none};
+ghost use Rattle.tc_report.specs.Output.{LeavesPrefix};
+ghost use Rattle.tc_report.specs.Tally.{tally_of_cases};
 
 use crate::counts::{no_cases, with_case};
 use crate::ending::append_ending;
@@ -86,7 +88,7 @@ impl<'a, W: Write> LiveWriter<'a, W> {
         ensures same { result.writer.ghost_name ≡ writer.entry.ghost_name }
         ensures now { result.writer.now ≡ writer.old }
         ensures form { result.form ≡ form }
-        ensures tally { result.tally ≡ spec_none }
+        ensures tally { result.tally ≡ tally_of_cases [] }
         ensures worst { result.worst ≡ NoVerdict }
         ensures fault { result.fault ≡ None }
     {
@@ -102,8 +104,10 @@ impl<'a, W: Write> LiveWriter<'a, W> {
 
     /// Writes what stands before the test cases.
     pub fn begin(&mut self) -> Result<(), OutFault>
-        ensures all { OnOk result (HasWritten W.contents self.old self.new (spec_opening self.old.form)) }
-        ensures part { IfErr result (HasWrittenPart W.contents self.old self.new (spec_opening self.old.form)) }
+        ensures all { OnOk result (Appends (W.contents self.old.writer.now) (W.contents self.new.writer.now)
+            (spec_opening self.old.form)) }
+        ensures part { IfErr result (LeavesPrefix (W.contents self.old.writer.now) (W.contents self.new.writer.now)
+            (spec_opening self.old.form)) }
         ensures form { self.new.form ≡ self.old.form }
         ensures tally { self.new.tally ≡ self.old.tally }
         ensures worst { self.new.worst ≡ self.old.worst }
@@ -116,8 +120,10 @@ impl<'a, W: Write> LiveWriter<'a, W> {
 
     // Writes the test case.
     fn write_part(&mut self, case: &Finished) -> Result<(), OutFault>
-        ensures all { OnOk result (HasWritten W.contents self.old self.new (spec_part self.old.form case.now)) }
-        ensures part { IfErr result (HasWrittenPart W.contents self.old self.new (spec_part self.old.form case.now)) }
+        ensures all { OnOk result (Appends (W.contents self.old.writer.now) (W.contents self.new.writer.now)
+            (spec_part self.old.form case.now)) }
+        ensures part { IfErr result (LeavesPrefix (W.contents self.old.writer.now) (W.contents self.new.writer.now)
+            (spec_part self.old.form case.now)) }
         ensures form { self.new.form ≡ self.old.form }
         ensures tally { self.new.tally ≡ self.old.tally }
         ensures worst { self.new.worst ≡ self.old.worst }
@@ -130,8 +136,10 @@ impl<'a, W: Write> LiveWriter<'a, W> {
 
     // Writes the test case, and counts it.
     fn write_case(&mut self, case: &Finished) -> Result<(), OutFault>
-        ensures all { OnOk result (HasWritten W.contents self.old self.new (spec_part self.old.form case.now)) }
-        ensures part { IfErr result (HasWrittenPart W.contents self.old self.new (spec_part self.old.form case.now)) }
+        ensures all { OnOk result (Appends (W.contents self.old.writer.now) (W.contents self.new.writer.now)
+            (spec_part self.old.form case.now)) }
+        ensures part { IfErr result (LeavesPrefix (W.contents self.old.writer.now) (W.contents self.new.writer.now)
+            (spec_part self.old.form case.now)) }
         ensures form { self.new.form ≡ self.old.form }
         ensures tally { OnOk result (self.new.tally ≡ tally_with self.old.tally case.now.report.verdict) }
         ensures worst { OnOk result (self.new.worst ≡ worse self.old.worst case.now.report.verdict) }
@@ -140,18 +148,19 @@ impl<'a, W: Write> LiveWriter<'a, W> {
         ensures fault { self.new.fault ≡ self.old.fault }
         ensures same { self.new.writer.ghost_name ≡ self.old.writer.ghost_name }
     {
-        let verdict = case.report.verdict;
-        let tally = with_case(&self.tally, verdict).ok_or(NoMemory)?;
+        let tally = with_case(&self.tally, case)?;
         self.write_part(case)?;
         self.tally = tally;
-        self.worst = worse_of(self.worst, verdict);
+        self.worst = worse_of(self.worst, case.report.verdict);
         Ok(())
     }
 
     /// Writes what stands behind the test cases, and answers the exit status for a campaign of them that ended so.
     pub fn end(&mut self, ending: &CampaignEnd) -> Result<u8, OutFault>
-        ensures all { OnOk result (HasWritten W.contents self.old self.new (spec_closing self.old.form self.old.tally ending.now)) }
-        ensures part { IfErr result (HasWrittenPart W.contents self.old self.new (spec_closing self.old.form self.old.tally ending.now)) }
+        ensures all { OnOk result (Appends (W.contents self.old.writer.now) (W.contents self.new.writer.now)
+            (spec_closing self.old.form self.old.tally ending.now)) }
+        ensures part { IfErr result (LeavesPrefix (W.contents self.old.writer.now) (W.contents self.new.writer.now)
+            (spec_closing self.old.form self.old.tally ending.now)) }
         ensures status { IfOk result (λ status. status ≡ spec_status ending.now self.old.worst) }
         ensures fault { self.new.fault ≡ self.old.fault }
         ensures same { self.new.writer.ghost_name ≡ self.old.writer.ghost_name }

@@ -2,7 +2,7 @@
 ghost use Rattle.std.specs.Prelude.{◌≡◌, ◌++◌, [], OnOk, OnErr, None};
 ghost use Rattle.std.specs.Io.KnownBytes.{Appends};
 ghost use Rattle.tc_stream.specs.Output.{AppendsPrefix};
-ghost use Rattle.tc_report.specs.Progress.{EndsTelling, Tells, failed_line, is_failed as spec_failed, state_of, told_line};
+ghost use Rattle.tc_report.specs.Progress.{EndsTelling, Tells, failed_line, state_of, told_line};
 
 use crate::fault::OutFault;
 use crate::observer::Observer;
@@ -11,16 +11,9 @@ use crate::results::Finished;
 use crate::status::verdict_status;
 use std::alloc::Global;
 use std::io::Write;
-use tc_entry::{NoMemory, Verdict};
+use tc_entry::NoMemory;
 use tc_text::append_text;
 use tc_verdict::name as name_of;
-
-// Whether a test case with this overall verdict has failed.
-fn is_failed(verdict: Verdict) -> bool
-    ensures { result ≡ spec_failed verdict }
-{
-    verdict_status(verdict) > 0
-}
 
 // Appends the line that tells of the test case.
 fn append_told(out: &mut Vec<u8>, case: &Finished) -> Result<(), NoMemory>
@@ -37,7 +30,7 @@ fn append_told(out: &mut Vec<u8>, case: &Finished) -> Result<(), NoMemory>
 fn append_failed(out: &mut Vec<u8>, case: &Finished) -> Result<(), NoMemory>
     ensures { OnOk result (out.new.items ≡ out.old.items ++ failed_line case.now) }
 {
-    if is_failed(case.report.verdict) {
+    if verdict_status(case.report.verdict) > 0 {
         append_text(out, "failed: ")?;
         append_told(out, case)?;
     }

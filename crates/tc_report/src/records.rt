@@ -5,7 +5,7 @@ ghost use Rattle.std.specs.Fmt.{IsBoundedDecimal, decimal};
 ghost use Rattle.std.specs.Io.KnownBytes.{Appends};
 ghost use Rattle.csv.specs.Records.{fields_of, partial_of};
 ghost use Rattle.tc_entry.specs.Name.{IsName};
-ghost use Rattle.tc_report.specs.Csv.{counts_of, csv_of, csv_text, end_word as spec_word, header_text, row_fields, row_line};
+ghost use Rattle.tc_report.specs.Csv.{counts_of, csv_of, end_word as spec_word, header_text, row_fields, row_line};
 ghost use Rattle.tc_report.specs.Summary.{case_summary};
 ghost use Rattle.tc_report.specs.Output.{LeavesPrefix};
 ghost use Rattle.tc_report.specs.Inside.{IsBetweenRecords, IsStarted, written_by};
@@ -173,7 +173,7 @@ pub(crate) fn case_row(alloc: Global, case: &Finished) -> Result<Vec<u8>, NoMemo
 
 // The CSV report of the results of a campaign.
 fn csv_of_results(alloc: Global, results: &Results) -> Result<Vec<u8>, NoMemory>
-    ensures { IfOk result (λ v. v.items ≡ csv_text results.now) }
+    ensures { IfOk result (λ v. v.items ≡ csv_of (map case_summary results.now.finished)) }
 {
     let cases = summaries_of_cases(alloc, results.finished.as_slice())?;
     csv_report(alloc, cases.as_slice())
@@ -182,8 +182,8 @@ fn csv_of_results(alloc: Global, results: &Results) -> Result<Vec<u8>, NoMemory>
 /// Writes the CSV report of the results of a campaign: a header, and a record for each finished test case in order. The text
 /// is made whole before anything is written.
 pub fn write_csv<W: Write>(alloc: Global, results: &Results, writer: &mut W) -> Result<(), OutFault>
-    ensures all { OnOk result (Appends (W.contents writer.old) (W.contents writer.new) (csv_text results.now)) }
-    ensures part { IfErr result (λ fault. LeavesPrefix (W.contents writer.old) (W.contents writer.new) (csv_text results.now) fault) }
+    ensures all { OnOk result (Appends (W.contents writer.old) (W.contents writer.new) (csv_of (map case_summary results.now.finished))) }
+    ensures part { IfErr result (λ fault. LeavesPrefix (W.contents writer.old) (W.contents writer.new) (csv_of (map case_summary results.now.finished)) fault) }
 {
     let text = csv_of_results(alloc, results)?;
     write_made(writer, text.as_slice())

@@ -1,5 +1,4 @@
 -- The lemmas of this crate.
 pub mod Giving
-pub mod Spelled
+pub mod Lemmas
 pub mod Logging
-pub mod Reports

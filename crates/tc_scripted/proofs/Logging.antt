@@ -19,7 +19,7 @@ use Rattle.tc_step.specs.declared.place.TargetPlace.{TargetPlace}
 use Rattle.tc_step.specs.Operation.{operation, target}
 use Rattle.tc_step.specs.Steps.{ScriptView}
 use Rattle.tc_table.specs.History.{created, ends_pass}
-use Rattle.tc_table.proofs.Deciding.{self_equal}
+use Rattle.tc_table.proofs.Lemmas.Deciding.{self_equal}
 use Rattle.tc_book.specs.Passes.{PassState, LeftState, has_ended, added, entry_of}
 use Rattle.tc_book.specs.Replies.{is_parked, suits}
 use Rattle.tc_exec.specs.declared.job.Back.{Back}
@@ -29,7 +29,7 @@ use Rattle.tc_behaviour.specs.Acts.{MakesItsCalls}
 use Rattle.tc_behaviour.specs.Calls.{Calls, HasCalled, bound_behind, ending}
 use Rattle.tc_behaviour.specs.Calls.HasCalled.{none, one_more}
 use Rattle.tc_explore.specs.Course.{Stand, after_own, as_list, call_of, is_idle, is_idle_by, is_wake, turn_on, wake_for, wake_if, wake_or}
-use Rattle.tc_explore.proofs.Turning.{other_not_idle}
+use Rattle.tc_explore.proofs.Lemmas.Turning.{other_not_idle}
 
 -- ---- a run and its own entries
 

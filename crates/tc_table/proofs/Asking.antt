@@ -15,9 +15,9 @@ use Rattle.tc_table.specs.History.{comp_of, created, ends_case}
 use Rattle.tc_table.specs.Standing.{Kept, StandsFor}
 use Rattle.tc_table.specs.Inside.Kept.{IsKept}
 use Rattle.tc_table.specs.Inside.Step.{asks, next_run, started_run, touched}
-use Rattle.tc_table.proofs.Deciding.{and_no, if_same}
+use Rattle.tc_table.proofs.Lemmas.Deciding.{and_no, if_same}
 use Rattle.tc_table.proofs.Elsewhere.{none_changed}
-use Rattle.tc_table.proofs.Keeping.{keeps_entry, stands_by}
+use Rattle.tc_table.proofs.Lemmas.Keeping.{keeps_entry, stands_by}
 use Rattle.tc_table.proofs.Settled.{settled_kept}
 
 -- what is known of an entry that asks or waits

@@ -7,7 +7,7 @@ use Rattle.tc_entry.specs.declared.limits.TheConstants.{COMPONENTS}
 use Rattle.tc_verdict.specs.declared.verdict.Verdict.{Verdict}
 use Rattle.tc_verdict.specs.declared.verdict.Verdict.TheVariants as V
 use Rattle.tc_verdict.specs.Verdict.{worse, level_of}
-use Rattle.tc_verdict.proofs.Order.{worse_later, worse_swap}
+use Rattle.tc_verdict.proofs.Lemmas.Order.{worse_later, worse_swap}
 use Rattle.tc_table.specs.declared.component_state.ComponentState.{ComponentState}
 use Rattle.tc_table.specs.Status.{is_running, is_killed, is_done}
 use Rattle.tc_table.specs.Inside.States.{any_running, none_running, any_killed, all_killed, any_alive, all_alive, any_done, none_lapsed, worst_local}

@@ -21,7 +21,7 @@ use Rattle.tc_table.specs.Waiting.{waiting, holds, waits_in_vain, is_still, is_s
 use Rattle.tc_table.specs.Faults.{fault, names, special_fault, start_fault, components}
 use Rattle.tc_table.specs.Answers.{answer, plain_answer, is_active, is_active_on, is_run_of, local_reply, wake_reply}
 use Rattle.tc_table.specs.Inside.Kept.{state_of, run_of}
-use Rattle.tc_table.proofs.Keeping.{all_exist_same}
+use Rattle.tc_table.proofs.Lemmas.Keeping.{all_exist_same}
 
 -- two histories of which the same is known
 pub record IsSame (p q : List Entry) : Type 0 where

@@ -6,7 +6,7 @@ use Rattle.std.proofs.lemmas.Bool.Decides.{nat_tests}
 use Rattle.tc_verdict.specs.declared.verdict.Verdict.{Verdict}
 use Rattle.tc_verdict.specs.declared.run.Run.{Run}
 use Rattle.tc_verdict.specs.Verdict.{level_of}
-use Rattle.tc_verdict.proofs.Order.{worse_left}
+use Rattle.tc_verdict.proofs.Lemmas.Order.{worse_left}
 use Rattle.tc_entry.specs.declared.comp.Comp.{Comp}
 use Rattle.tc_entry.specs.declared.entry.Entry.{Entry}
 use Rattle.tc_entry.specs.declared.op.Group.TheVariants as G
@@ -22,7 +22,7 @@ use Rattle.tc_table.specs.Phases.{start_in, halts_from_outside}
 use Rattle.tc_table.specs.Status.{is_running}
 use Rattle.tc_table.specs.Local.{gives, setting}
 use Rattle.tc_table.specs.Inside.Step.{next_state, next_phase, next_excused, next_local, touched, touched_by, touched_own, touches, IsSettled}
-use Rattle.tc_table.proofs.Deciding.{if_same}
+use Rattle.tc_table.proofs.Lemmas.Deciding.{if_same}
 
 -- what is known of an operation that does not touch component c
 record Spares (own : Option Comp) (op : Op) (c : ℕ) : Type 0 where

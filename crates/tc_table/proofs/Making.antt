@@ -24,15 +24,15 @@ use Rattle.tc_table.specs.Waiting.{waiting}
 use Rattle.tc_table.specs.Standing.{Kept, StandsFor}
 use Rattle.tc_table.specs.Inside.Kept.{IsKept, state_of, numbers_from}
 use Rattle.tc_table.specs.Inside.Step.{next_state, next_run, next_local}
-use Rattle.tc_table.proofs.KeptLemmas.{exists_if, exists_unless, components_kept}
-use Rattle.tc_table.proofs.Keeping.{stands_by}
-use Rattle.tc_table.proofs.Numbers.{numbers_from-more}
-use Rattle.tc_table.proofs.Steps.{state_step, run_step}
+use Rattle.tc_table.proofs.Lemmas.Kept.{exists_if, exists_unless, components_kept}
+use Rattle.tc_table.proofs.Lemmas.Keeping.{stands_by}
+use Rattle.tc_table.proofs.Lemmas.Numbers.{numbers_from-more}
+use Rattle.tc_table.proofs.Lemmas.Steps.{state_step, run_step}
 use Rattle.tc_table.proofs.Settled.{running_not_excused}
-use Rattle.tc_table.proofs.Fresh.{fresh_step}
+use Rattle.tc_table.proofs.Lemmas.Fresh.{fresh_step}
 use Rattle.tc_table.specs.Inside.Counts.{made_state}
-use Rattle.tc_table.proofs.Sound.{next}
-use Rattle.tc_table.proofs.Deciding.{other_comp}
+use Rattle.tc_table.proofs.Lemmas.Sound.{next}
+use Rattle.tc_table.proofs.Lemmas.Deciding.{other_comp}
 
 abbrev create : Run → Bool → Option (List ℕ) → Comp → Entry
 create caller alive name d = record { caller = caller; op = O.Create alive name; reply = R.Made d }

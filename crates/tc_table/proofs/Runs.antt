@@ -10,7 +10,7 @@ use Rattle.tc_table.specs.declared.run_state.RunState.{RunState}
 use Rattle.tc_entry.specs.Reply.{is_ok}
 use Rattle.tc_table.specs.History.{starts_run}
 use Rattle.tc_table.specs.Inside.Step.{next_run, started_run}
-use Rattle.tc_table.proofs.Deciding.{if_same, first_alone}
+use Rattle.tc_table.proofs.Lemmas.Deciding.{if_same, first_alone}
 
 not_started : (op : Op) (b : ℕ) → started_run op ≡ None → starts_run op b ≡ None
 not_started (O.Start c run args) b h = absurd cc

@@ -12,9 +12,9 @@ use Rattle.tc_table.specs.Status.{is_running}
 use Rattle.tc_table.specs.Answers.{answer}
 use Rattle.tc_table.specs.Inside.Kept.{IsKept, state_of}
 use Rattle.tc_table.specs.Inside.Step.{IsSettled}
-use Rattle.tc_table.proofs.KeptLemmas.{components_kept}
-use Rattle.tc_table.proofs.Sound.{next}
-use Rattle.tc_table.proofs.Steps.{phase_by}
+use Rattle.tc_table.proofs.Lemmas.Kept.{components_kept}
+use Rattle.tc_table.proofs.Lemmas.Sound.{next}
+use Rattle.tc_table.proofs.Lemmas.Steps.{phase_by}
 
 not_excused_by : (start halt was out old : Bool) → (was ≡ false → old ≡ false) → (not start && (halt || was)) ≡ false → (not start && (if was then old else (halt && out))) ≡ false
 not_excused_by true halt was out old f h = refl

@@ -23,7 +23,7 @@ use Rattle.tc_table.specs.Inside.States.{none_running, all_killed}
 use Rattle.tc_table.specs.Inside.Step.{next_state, next_phase, next_excused, next_local, halted, finds_none, finds, IsSettled}
 use Rattle.std.proofs.lemmas.List.{get_or_default}
 use Rattle.tc_table.proofs.Lists.{mapped_past}
-use Rattle.tc_table.proofs.Deciding.{if_same, and_no, and_left, and_right}
+use Rattle.tc_table.proofs.Lemmas.Deciding.{if_same, and_no, and_left, and_right}
 
 not_true : (a : Bool) → not a ≡ true → a ≡ false
 not_true true h = absurd cc

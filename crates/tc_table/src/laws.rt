@@ -3,43 +3,43 @@ ghost use Rattle.tc_table.specs.Laws as laws;
 ghost use Rattle.tc_table.specs.WorkedCases.{WorkedCases};
 
 /// After an entry that ends the case no component is alive, and every further call is answered Ended.
-#[tactic(auto, using(crate::proofs::LawsOfHistories::over_for_all))]
+#[tactic(auto, using(crate::proofs::Lemmas::LawsOfHistories::over_for_all))]
 pub fn over_for_all()
     ensures { laws.OverForAll }
 {}
 
 /// A component that was killed was halted.
-#[tactic(auto, using(crate::proofs::LawsOfHistories::killed_was_halted))]
+#[tactic(auto, using(crate::proofs::Lemmas::LawsOfHistories::killed_was_halted))]
 pub fn killed_was_halted()
     ensures { laws.KilledWasHalted }
 {}
 
 /// A caller that is not answered Ended is the running run of its component.
-#[tactic(auto, using(crate::proofs::LawsOfHistories::answered_is_running))]
+#[tactic(auto, using(crate::proofs::Lemmas::LawsOfHistories::answered_is_running))]
 pub fn answered_is_running()
     ensures { laws.AnsweredIsRunning }
 {}
 
 /// A run is on the same component at each of its entries and over the whole history.
-#[tactic(auto, using(crate::proofs::LawsOfHistories::same_component_later))]
+#[tactic(auto, using(crate::proofs::Lemmas::LawsOfHistories::same_component_later))]
 pub fn same_component_later()
     ensures { laws.SameComponentLater }
 {}
 
 /// Local verdicts are the same where the runs on a component are those of the whole history.
-#[tactic(auto, using(crate::proofs::LawsOfHistories::local_of_whole))]
+#[tactic(auto, using(crate::proofs::Lemmas::LawsOfHistories::local_of_whole))]
 pub fn local_of_whole()
     ensures { laws.LocalOfWhole }
 {}
 
 /// An entry that changes no component's phase, and whose caller goes on, wakes nobody.
-#[tactic(auto, using(crate::proofs::Quiet::quiet_wakes_nobody))]
+#[tactic(auto, using(crate::proofs::Lemmas::Quiet::quiet_wakes_nobody))]
 pub fn quiet_wakes_nobody()
     ensures { laws.QuietWakesNobody }
 {}
 
 /// A history that a case's state stands for is legal.
-#[tactic(auto, using(crate::proofs::Standing::stands_legal))]
+#[tactic(auto, using(crate::proofs::Lemmas::Standing::stands_legal))]
 pub fn stands_for_legal()
     ensures { laws.StandsForLegal }
 {}
@@ -51,19 +51,19 @@ pub fn worked_cases()
 {}
 
 /// Which runs an entry halts: those that are going on, and whose component it halts.
-#[tactic(auto, using(crate::proofs::Going::halted_by_entry))]
+#[tactic(auto, using(crate::proofs::Lemmas::Going::halted_by_entry))]
 pub fn halted_by_entry()
     ensures { laws.HaltedByEntry }
 {}
 
 /// An entry that is none of Stop, Kill, StopCase and Finish, and no error, halts nothing.
-#[tactic(auto, using(crate::proofs::Going::others_halt_nothing))]
+#[tactic(auto, using(crate::proofs::Lemmas::Going::others_halt_nothing))]
 pub fn others_halt_nothing()
     ensures { laws.OthersHaltNothing }
 {}
 
 /// Which run an entry starts.
-#[tactic(auto, using(crate::proofs::Going::started_by_entry))]
+#[tactic(auto, using(crate::proofs::Lemmas::Going::started_by_entry))]
 pub fn started_by_entry()
     ensures { laws.StartedByEntry }
 {}

@@ -48,7 +48,7 @@ impl Model for CaseState {
     ghost invariant = { λ s. (past : List Entry) × IsKept s.behaviours past s.states s.runs.items s.over };
 }
 
-#[tactic(auto, using(crate::proofs::KeptLemmas::kept_rules, crate::proofs::KeptLemmas::group_rules), unfolding(crate::specs::Standing::StandsFor))]
+#[tactic(auto, using(crate::proofs::Lemmas::Kept::kept_rules, crate::proofs::Lemmas::Kept::group_rules), unfolding(crate::specs::Standing::StandsFor))]
 impl CaseState {
     /// A case of so many behaviours, at its opening.
     pub fn new(alloc: Global, behaviours: u16) -> Result<CaseState, NoMemory>
@@ -128,7 +128,7 @@ impl CaseState {
     }
 
     /// The reply that `play` would give now.
-    #[tactic(auto, using(crate::proofs::KeptLemmas::kept_rules, crate::proofs::KeptLemmas::wait_rules), unfolding(crate::specs::Answers::answer, crate::specs::Faults::fault, crate::specs::Standing::StandsFor))]
+    #[tactic(auto, using(crate::proofs::Lemmas::Kept::kept_rules, crate::proofs::Lemmas::Kept::wait_rules), unfolding(crate::specs::Answers::answer, crate::specs::Faults::fault, crate::specs::Standing::StandsFor))]
     pub fn would(&self, caller: Run, op: &Op) -> Reply
         ensures { IsReply self.now caller op.now result }
     {
@@ -154,7 +154,7 @@ impl CaseState {
     }
 
     /// Whether a component is there and alive-type.
-    #[tactic(auto, using(crate::proofs::KeptLemmas::kind_rules), unfolding(crate::specs::Standing::StandsFor))]
+    #[tactic(auto, using(crate::proofs::Lemmas::Kept::kind_rules), unfolding(crate::specs::Standing::StandsFor))]
     pub fn is_alive_type(&self, comp: Comp) -> bool
         ensures { (past : List Entry) → StandsFor self.now past → result ≡ history.is_alive_type past comp.0 }
     {
@@ -167,7 +167,7 @@ impl CaseState {
     }
 
     /// The last run that was started on a component.
-    #[tactic(auto, using(crate::proofs::KeptLemmas::last_rules), unfolding(crate::specs::Standing::StandsFor))]
+    #[tactic(auto, using(crate::proofs::Lemmas::Kept::last_rules), unfolding(crate::specs::Standing::StandsFor))]
     pub fn last_run(&self, comp: Comp) -> Option<Run>
         ensures { (past : List Entry) → StandsFor self.now past → result ≡ phases.last_run past comp.0 }
     {
@@ -192,7 +192,7 @@ impl CaseState {
     }
 
     /// The worst of the local verdicts.
-    #[tactic(auto, using(crate::proofs::KeptLemmas::overall_rules), unfolding(crate::specs::Standing::StandsFor))]
+    #[tactic(auto, using(crate::proofs::Lemmas::Kept::overall_rules), unfolding(crate::specs::Standing::StandsFor))]
     pub fn overall(&self) -> Verdict
         ensures { (past : List Entry) → StandsFor self.now past → result ≡ verdicts.overall past }
     {
@@ -200,7 +200,7 @@ impl CaseState {
     }
 
     /// Whether the case is over.
-    #[tactic(auto, using(crate::proofs::Over::over_rules), unfolding(crate::specs::Standing::StandsFor))]
+    #[tactic(auto, using(crate::proofs::Lemmas::Over::over_rules), unfolding(crate::specs::Standing::StandsFor))]
     pub fn is_over(&self) -> bool
         ensures is { (past : List Entry) → StandsFor self.now past → result ≡ history.is_over past }
         ensures after { (past : List Entry) → StandsFor self.now past → OnTrue result (legal.IsAllOver self.now.behaviours past) }

@@ -50,7 +50,7 @@ pub fn copied_entries(alloc: Global, history: &[Entry]) -> Result<Vec<Entry>, No
     Ok(all)
 }
 
-#[tactic(auto, using(crate::proofs::Standing::stands_legal))]
+#[tactic(auto, using(crate::proofs::Lemmas::Standing::stands_legal))]
 impl Table {
     /// A case of so many behaviours, at its opening.
     pub fn new(alloc: Global, behaviours: u16) -> Result<Table, NoMemory>

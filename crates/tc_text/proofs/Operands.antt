@@ -12,7 +12,7 @@ use Rattle.tc_entry.specs.declared.op.Target.TheVariants as T
 use Rattle.tc_entry.specs.declared.op.Op.TheVariants as O
 use Rattle.tc_text.specs.Spelling.{group_text, target_text, args_text, IsComp, IsGroup, IsTarget, AreComps, start_text}
 use Rattle.tc_text.specs.Reading.{EndsNumber, EndsMove}
-use Rattle.tc_text.proofs.Digits.{digit_first, no_letter}
+use Rattle.tc_text.proofs.Lemmas.Digits.{digit_first, no_letter}
 
 -- what reading a number tells: it is the number of each spelling that the text begins with
 abbrev pub IsThatNumber : List ℕ → ℕ → List ℕ → Type 0

@@ -4,7 +4,7 @@ use Rattle.std.proofs.lemmas.List.{append-nil, length-append}
 use Rattle.tc_text.specs.Lines.{lines_of}
 use Rattle.tc_entry.specs.Limits.{IsBehaviours}
 use Rattle.tc_text.specs.MoveList.{Move, behaviours_line, move_line, list_lines, IsMove, AreMoves, IsMoveList, IsMadeOf, IsBadFirstLine, IsBadMove}
-use Rattle.tc_text.proofs.LinesOf.{some_line}
+use Rattle.tc_text.proofs.Lemmas.LinesOf.{some_line}
 
 -- the moves are the ones read, and those that the rest spells
 pub record Remains (moves : List Move) (rest : List ℕ) (all : List Move) : Type 0 where

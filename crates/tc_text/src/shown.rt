@@ -20,7 +20,7 @@ fn printable(byte: u8) -> u8
 
 /// Appends a line with these words behind two spaces, a question mark for each byte that is not from 32 to 126. Where
 /// memory is refused, a part of it.
-#[tactic(auto, using(crate::proofs::Showing::line_rules))]
+#[tactic(auto, using(crate::proofs::Lemmas::Showing::line_rules))]
 pub fn append_line(out: &mut Vec<u8>, words: &[u8]) -> Result<(), NoMemory>
     ensures { OnOk result (AddsLine out.old.items out.new.items) }
 {

@@ -16,8 +16,8 @@ use Rattle.tc_table.specs.Phases.{last_run, phase, start_in}
 use Rattle.tc_table.specs.Status.{is_running}
 use Rattle.tc_table.specs.Answers.{answer, is_active}
 use Rattle.tc_table.specs.Legal.{IsLegal}
-use Rattle.tc_table.proofs.Going.{halted_by_entry, started_by_entry, starts_still, last_on_it, last_stands}
-use Rattle.tc_table.proofs.Sound.{plain_if, no_special, start_in_range, starts_fresh}
+use Rattle.tc_table.proofs.Lemmas.Going.{halted_by_entry, started_by_entry, starts_still, last_on_it, last_stands}
+use Rattle.tc_table.proofs.Lemmas.Sound.{plain_if, no_special, start_in_range, starts_fresh}
 use Rattle.tc_board.specs.declared.record.Record.{Record}
 use Rattle.tc_board.specs.declared.record.Record.TheVariants.{Unbegun, Open}
 use Rattle.tc_words.specs.Words.{record_at, record_for, left_by, closing, is_closed, starts_on, last_on, run_before, carried, carried_to, AreTold}

@@ -15,8 +15,8 @@ use Rattle.tc_table.specs.Phases.{start_in}
 use Rattle.tc_table.specs.Answers.{is_active}
 use Rattle.tc_table.specs.Laws.{may_halt}
 use Rattle.tc_table.specs.Legal.{IsLegal}
-use Rattle.tc_table.proofs.Going.{halted_by_entry, started_by_entry, others_halt_nothing}
-use Rattle.tc_table.proofs.Sound.{starts_fresh}
+use Rattle.tc_table.proofs.Lemmas.Going.{halted_by_entry, started_by_entry, others_halt_nothing}
+use Rattle.tc_table.proofs.Lemmas.Sound.{starts_fresh}
 use Rattle.tc_board.specs.declared.record.Record.{Record}
 use Rattle.tc_board.specs.declared.record.Record.TheVariants.{Open}
 use Rattle.tc_words.specs.Words.{record_at, record_for, is_closed, carried, carried_to, carried_to_newest, closing, earlier, AreTold, StayClosed}

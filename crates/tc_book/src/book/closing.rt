@@ -1,7 +1,13 @@
 //! The close of a case, on the value behind the lock.
-ghost use Rattle.std.specs.Prelude.{◌≡◌, IfOk, IfErr, map};
+ghost use Rattle.std.specs.Prelude.{◌≡◌, ◌≤◌, true, IfOk, IfErr, length, map, reverse};
+ghost use Rattle.tc_entry.specs.declared.limits.TheConstants.{BEHAVIOURS};
+ghost use Rattle.tc_table.specs.History.{is_over};
+ghost use Rattle.tc_table.specs.Legal.{IsLegal};
+ghost use Rattle.tc_table.specs.Standing.{StandsFor};
 ghost use Rattle.tc_case.specs.declared.closed.CloseFault.TheVariants as faults;
-ghost use Rattle.tc_book.specs.Closing.{run_log, merged, IsMerged};
+ghost use Rattle.tc_case.specs.Merge.{logged};
+ghost use Rattle.tc_book.specs.Closing.{run_log, merged, IsMerged, IsWhole};
+ghost use Rattle.tc_book.specs.Inside.{AreLogs, IsJoined};
 ghost use Rattle.tc_case.specs.Report.{IsOneHistory};
 
 use crate::book::Book;
@@ -11,10 +17,11 @@ use crate::left::Left;
 use crate::parts::logs_by_run;
 use crate::report::report;
 use std::alloc::Global;
+use std::snapshot::Snapshot;
 use tc_case::{CloseFault, Closed, RunLog};
-use tc_entry::Entry;
+use tc_entry::{Args, Comp, Entry, Sequence};
 use tc_merge::merge;
-use tc_table::{CheckFault, replay};
+use tc_table::{CaseState, CheckFault, replay};
 use tc_verdict::NoMemory;
 
 /// The log of each run that left.
@@ -28,7 +35,98 @@ fn run_logs(alloc: Global, lefts: Vec<Left>) -> Result<Vec<RunLog>, NoMemory>
     Ok(logs)
 }
 
-#[tactic(auto, using(crate::proofs::Reporting::whole_logged, crate::proofs::Skipping::starts_same))]
+/// The report of a case that is over, where each of these lists is its run's part of the history.
+fn report_of_parts(
+    alloc: Global,
+    state: &CaseState,
+    history: Vec<Entry>,
+    starts: &[Option<(Comp, Args)>],
+    parts: Vec<Sequence<Entry>>,
+    lefts: Snapshot<Vec<Left>>,
+) -> Result<Closed, CloseFault>
+    requires some { 1 ≤ state.now.behaviours }
+    requires few { state.now.behaviours ≤ BEHAVIOURS }
+    requires stands { StandsFor state.now (reverse history.items) }
+    requires legal { IsLegal state.now.behaviours (reverse history.items) }
+    requires over { is_over (reverse history.items) ≡ true }
+    requires joined { IsJoined state.now.behaviours starts.now history.items lefts.value.items }
+    requires logs { AreLogs state.now.behaviours parts.items lefts.value.items }
+    requires as_long { length history.items ≡ logged (map run_log lefts.value.items) }
+    ensures whole { IfOk result (λ _. IsWhole state.now.behaviours history.items lefts.value.items) }
+    ensures torn { IfErr result (λ f. f ≡ faults.Torn → IsWhole state.now.behaviours history.items lefts.value.items → ⊥) }
+    ensures behaviours { IfOk result (λ c. c.behaviours ≡ state.now.behaviours) }
+    ensures history { IfOk result (λ c. c.history ≡ history.items) }
+    ensures report { IfOk result (λ c. IsOneHistory c) }
+{
+    let _ = lefts;
+    let behaviours = parts.len() as u16;
+    match are_calls(alloc, behaviours, &parts, &history) {
+        Ok(true) => match report(alloc, state, history, starts, parts) {
+            Ok(closed) => Ok(closed),
+            Err(NoMemory) => Err(CloseFault::NoMemory),
+        },
+        Ok(false) => Err(CloseFault::Torn),
+        Err(NoMemory) => Err(CloseFault::NoMemory),
+    }
+}
+
+/// The report of a case by its history, which is legal, and by the logs that came back.
+fn report_of_logs(
+    alloc: Global,
+    state: &CaseState,
+    history: Vec<Entry>,
+    starts: &[Option<(Comp, Args)>],
+    logs: Vec<RunLog>,
+    lefts: Snapshot<Vec<Left>>,
+) -> Result<Closed, CloseFault>
+    requires some { 1 ≤ state.now.behaviours }
+    requires few { state.now.behaviours ≤ BEHAVIOURS }
+    requires as_many { length starts.now ≡ state.now.behaviours }
+    requires stands { StandsFor state.now (reverse history.items) }
+    requires legal { IsLegal state.now.behaviours (reverse history.items) }
+    requires joined { IsJoined state.now.behaviours starts.now history.items lefts.value.items }
+    requires logs { logs.items ≡ map run_log lefts.value.items }
+    ensures whole { IfOk result (λ _. IsWhole state.now.behaviours history.items lefts.value.items) }
+    ensures torn { IfErr result (λ f. f ≡ faults.Torn → IsWhole state.now.behaviours history.items lefts.value.items → ⊥) }
+    ensures behaviours { IfOk result (λ c. c.behaviours ≡ state.now.behaviours) }
+    ensures history { IfOk result (λ c. c.history ≡ history.items) }
+    ensures report { IfOk result (λ c. IsOneHistory c) }
+{
+    if !state.is_over() || !have_together(&logs, history.len()) {
+        return Err(CloseFault::Torn);
+    }
+    match logs_by_run(alloc, logs, starts.len() as u16) {
+        Ok(parts) => report_of_parts(alloc, state, history, starts, parts, lefts),
+        Err(NoMemory) => Err(CloseFault::NoMemory),
+    }
+}
+
+/// The report of a case by its merged history and by the logs that came back.
+fn report_of_merged(
+    alloc: Global,
+    history: Vec<Entry>,
+    starts: &[Option<(Comp, Args)>],
+    logs: Vec<RunLog>,
+    lefts: Snapshot<Vec<Left>>,
+) -> Result<Closed, CloseFault>
+    requires some { 1 ≤ length starts.now }
+    requires few { length starts.now ≤ BEHAVIOURS }
+    requires joined { IsJoined (length starts.now) starts.now history.items lefts.value.items }
+    requires logs { logs.items ≡ map run_log lefts.value.items }
+    ensures legal { IfOk result (λ _. IsLegal (length starts.now) (reverse history.items)) }
+    ensures whole { IfOk result (λ _. IsWhole (length starts.now) history.items lefts.value.items) }
+    ensures torn { IfErr result (λ f. f ≡ faults.Torn → IsLegal (length starts.now) (reverse history.items) → IsWhole (length starts.now) history.items lefts.value.items → ⊥) }
+    ensures behaviours { IfOk result (λ c. c.behaviours ≡ length starts.now) }
+    ensures history { IfOk result (λ c. c.history ≡ history.items) }
+    ensures report { IfOk result (λ c. IsOneHistory c) }
+{
+    match replay(alloc, starts.len() as u16, &history) {
+        Ok(state) => report_of_logs(alloc, &state, history, starts, logs, lefts),
+        Err(CheckFault::Differs { .. }) => Err(CloseFault::Torn),
+        Err(CheckFault::NoMemory) => Err(CloseFault::NoMemory),
+    }
+}
+
 impl Book {
     /// The report of the case, where the merge of its history with the logs of what came back is legal, what came back is
     /// whole by it, and the word of each run agrees with its log.
@@ -43,30 +141,12 @@ impl Book {
         if !are_placed(behaviours, &self.starts, &lefts) || !all_agreed(&self.words, &lefts) {
             return Err(CloseFault::Torn);
         }
+        let came_back = Snapshot::of(&lefts);
         let Ok(logs) = run_logs(alloc, lefts) else {
             return Err(CloseFault::NoMemory);
         };
-        let Ok(history) = merge(alloc, self.table.history(), &logs) else {
-            return Err(CloseFault::NoMemory);
-        };
-        let state = match replay(alloc, behaviours, &history) {
-            Ok(state) => state,
-            Err(CheckFault::Differs { .. }) => return Err(CloseFault::Torn),
-            Err(CheckFault::NoMemory) => return Err(CloseFault::NoMemory),
-        };
-        if !state.is_over() || !have_together(&logs, history.len()) {
-            return Err(CloseFault::Torn);
-        }
-        let Ok(parts) = logs_by_run(alloc, logs, behaviours) else {
-            return Err(CloseFault::NoMemory);
-        };
-        match are_calls(alloc, behaviours, &parts, &history) {
-            Ok(true) => {}
-            Ok(false) => return Err(CloseFault::Torn),
-            Err(NoMemory) => return Err(CloseFault::NoMemory),
-        }
-        match report(alloc, &state, history, &self.starts, parts) {
-            Ok(closed) => Ok(closed),
+        match merge(alloc, self.table.history(), &logs) {
+            Ok(history) => report_of_merged(alloc, history, &self.starts, logs, came_back),
             Err(NoMemory) => Err(CloseFault::NoMemory),
         }
     }

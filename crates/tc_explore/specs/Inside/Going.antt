@@ -1,9 +1,9 @@
 -- What only the code of the search needs: no public clause rests on a word of this file.
-use Rattle.std.specs.Prelude.{ℕ, ◌==◌, List, ◌≡◌, ◌<◌, length, slice_index_or, if◌then◌else◌}
+use Rattle.std.specs.Prelude.{ℕ, ◌==◌, ◌⊎◌, List, ◌∷◌, ◌≡◌, true, false, ◌<◌, length, slice_index_or, if◌then◌else◌}
 use Rattle.tc_verdict.specs.declared.run.Run.{Run}
 use Rattle.tc_entry.specs.declared.entry.Entry.{Entry}
 use Rattle.tc_entry.specs.declared.op.Op.{Op}
-use Rattle.tc_table.specs.Answers.{answer}
+use Rattle.tc_table.specs.Answers.{answer, is_active}
 use Rattle.tc_explore.specs.Course.{Stand, next, stand, one_more_if, carried, IsTurn, IsCourse}
 use Rattle.tc_step.specs.Steps.{ScriptView}
 use Rattle.tc_table.specs.Case.{Case, past_of}
@@ -30,6 +30,17 @@ IsNext scripts t run op = IsTurn scripts (past_of t) (taken t.behaviours (past_o
 -- run b has no call left, or only a Wake that would be parked again
 abbrev pub CannotGo : List ScriptView → List Entry → ℕ → Type 0
 CannotGo scripts past b = (e : Entry) → e.caller.0 ≡ b → IsTurn scripts past e → ⊥
+
+-- the next call of run b is made, if it can go on
+abbrev pub IsStepped : List ScriptView → List Entry → List Entry → ℕ → Type 0
+IsStepped scripts before after b =
+    ((after ≡ before) × CannotGo scripts before b)
+    ⊎ ((e : Entry) × (after ≡ e ∷ before) × (e.caller.0 ≡ b) × IsTurn scripts before e)
+
+-- so it is, if it goes on
+abbrev pub IsSteppedIfActive : List ScriptView → List Entry → List Entry → ℕ → Type 0
+IsSteppedIfActive scripts before after b =
+    ((after ≡ before) × (is_active before b ≡ false)) ⊎ ((is_active before b ≡ true) × IsStepped scripts before after b)
 
 -- what is kept of each run is what the entries say
 pub record IsKept (t : Case) (standings : List Stand) : Type 0 where

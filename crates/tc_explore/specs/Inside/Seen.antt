@@ -1,27 +1,28 @@
 -- The states that a search has seen.
-use Rattle.std.specs.Prelude.{ℕ, ◌≡◌, ◌<◌, true, None, Option, Some, List, ◌∷◌, ◌++◌, ◌+◌, false, slice_get}
+use Rattle.std.specs.Prelude.{ℕ, ◌≡◌, ◌<◌, ◌≤◌, true, None, Option, Some, List, ◌∷◌, ◌++◌, ◌+◌, false, length, slice_get}
 use Rattle.tc_verdict.specs.declared.run.Run.{Run}
 use Rattle.tc_entry.specs.declared.comp.Comp.{Comp}
 use Rattle.tc_entry.specs.declared.entry.Entry.{Entry}
 use Rattle.tc_entry.specs.declared.op.Op.{Op}
 use Rattle.tc_entry.specs.declared.phase.Phase.{Phase}
 use Rattle.tc_entry.specs.declared.phase.Phase.TheVariants as P
+use Rattle.tc_entry.specs.Reply.{is_fault}
 use Rattle.tc_step.specs.Steps.{ScriptView}
 use Rattle.tc_table.specs.Case.{Case, past_of}
 use Rattle.tc_table.specs.History.{is_alive_type, is_over}
 use Rattle.tc_table.specs.Phases.{phase_if_any}
 use Rattle.tc_table.specs.Local.{overall}
 use Rattle.tc_table.specs.Faults.{components}
-use Rattle.tc_table.specs.Answers.{is_active}
+use Rattle.tc_table.specs.Answers.{answer, is_active}
 use Rattle.tc_explore.specs.declared.witness.Witness.{Witness}
 use Rattle.tc_explore.specs.declared.findings.Findings.{Findings}
 use Rattle.tc_explore.specs.declared.search.Met.{Met}
 use Rattle.tc_explore.specs.Found.{AreReached}
 use Rattle.tc_explore.specs.Told.{is_found}
 use Rattle.tc_explore.specs.Course.{stand, goes_on, IsTurn, IsCourse}
-use Rattle.tc_explore.specs.Inside.Going.{taken, AreNoted}
+use Rattle.tc_explore.specs.Inside.Going.{taken, IsOn, AreNoted}
 use Rattle.tc_explore.specs.Inside.Alike.{IsAlike}
-use Rattle.tc_explore.specs.Inside.Simulation.{IsFor, IsCovered, IsClosedFor, IsClosed}
+use Rattle.tc_explore.specs.Inside.Simulation.{is_spent, IsFor, IsCovered, IsClosedFor, IsClosed}
 
 -- the same is known after both, and no run that goes on has a Wake to come
 pub record IsSame (p q : List Entry) : Type 0 where
@@ -56,6 +57,58 @@ pub record HasSame (n : ℕ) (p q : List Entry) : Type 0 where
   pub kinds : HasSameKinds p q
   pub comps : HasSameComps n p q
   pub stands : HasSameStands n p q
+
+-- no run has a Wake to come
+abbrev pub HasNoWake : List Entry → Type 0
+HasNoWake past = (b : ℕ) → (stand past b).wake ≡ None
+
+-- a case at a course of these scripts that is not over, and in which no run has a Wake to come
+pub record IsOpen (scripts : List ScriptView) (t : Case) : Type 0 where
+  pub on : IsOn scripts t
+  pub going : is_over (past_of t) ≡ false
+  pub no_wake : HasNoWake (past_of t)
+
+-- the next call of run b, if it goes on and is no error, changes something
+abbrev pub IsCalmAt : List ScriptView → List Entry → ℕ → Type 0
+IsCalmAt scripts past b =
+    (e : Entry) → e.caller.0 ≡ b → IsTurn scripts past e → goes_on e.reply ≡ true → is_fault e.reply ≡ false → is_spent past e.op ≡ false
+
+-- so it is of each run
+abbrev pub IsCalm : List ScriptView → List Entry → Type 0
+IsCalm scripts past = (b : ℕ) → b < length scripts → IsCalmAt scripts past b
+
+-- the call of run b, if it goes on and is no error, changes something
+abbrev pub IsLoudAt : ℕ → List Entry → ℕ → Op → Type 0
+IsLoudAt n past b op = goes_on (answer n past b op) ≡ true → is_fault (answer n past b op) ≡ false → is_spent past op ≡ false
+
+-- the course is as long as it was, and so it is of the next call of run b
+abbrev pub IsCalmAfter : List ScriptView → Case → Case → ℕ → Type 0
+IsCalmAfter scripts before after b = (past_of after ≡ past_of before) × IsCalmAt scripts (past_of before) b
+
+-- a state that a search keeps
+pub record IsState (scripts : List ScriptView) (t : Case) : Type 0 where
+  pub opened : IsOpen scripts t
+  pub calm : IsCalm scripts (past_of t)
+
+-- as many states as the limit are met
+abbrev pub IsFull : Met → Type 0
+IsFull met = met.limit ≤ length met.states.items
+
+-- the next call of run b, if it goes on, is an error
+abbrev pub IsStillAt : List ScriptView → List Entry → ℕ → Type 0
+IsStillAt scripts past b = (e : Entry) → e.caller.0 ≡ b → IsTurn scripts past e → goes_on e.reply ≡ true → is_fault e.reply ≡ true
+
+-- so it is of each of n runs
+abbrev pub AreStill : List ScriptView → List Entry → ℕ → Type 0
+AreStill scripts past n = (b : ℕ) → b < n → IsStillAt scripts past b
+
+-- the next call of run b does not go on
+abbrev pub IsHeldAt : List ScriptView → List Entry → ℕ → Type 0
+IsHeldAt scripts past b = (e : Entry) → e.caller.0 ≡ b → IsTurn scripts past e → goes_on e.reply ≡ false
+
+-- so it is of each run
+abbrev pub AreHeld : List ScriptView → List Entry → Type 0
+AreHeld scripts past = (b : ℕ) → b < length scripts → IsHeldAt scripts past b
 
 -- one of these states is that after r
 abbrev pub IsSeen : List Case → List Entry → Type 0
@@ -111,3 +164,11 @@ AreRunsClosed scripts met found t n = (b : ℕ) → b < n → IsRunOfClosed scri
 -- whatever comes after a case is seen, or its verdict is found
 abbrev pub IsCaseClosed : List ScriptView → Met → Findings → Case → Type 0
 IsCaseClosed scripts met found t = IsClosed scripts (IsSeen met.states.items) found.witnesses.items (past_of t)
+
+-- whatever comes after the state at this place is one of them, or its verdict is found
+abbrev pub IsClosedAt : List ScriptView → List Case → List Witness → ℕ → Type 0
+IsClosedAt scripts states found i = (t : Case) → slice_get states i ≡ Some t → IsClosed scripts (IsSeen states) found (past_of t)
+
+-- whatever comes after one of these states is one of them, or its verdict is found
+abbrev pub AreClosed : List ScriptView → List Case → List Witness → Type 0
+AreClosed scripts states found = (i : ℕ) → IsClosedAt scripts states found i

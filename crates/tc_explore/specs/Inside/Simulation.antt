@@ -21,7 +21,7 @@ use Rattle.tc_table.specs.History.{comps, comp_of, is_alive_type, is_over}
 use Rattle.tc_table.specs.Phases.{phase, phase_if_any}
 use Rattle.tc_table.specs.Local.{overall}
 use Rattle.tc_table.specs.Faults.{fault}
-use Rattle.tc_table.specs.Answers.{answer, is_active}
+use Rattle.tc_table.specs.Answers.{is_active}
 use Rattle.tc_explore.specs.declared.witness.Witness.{Witness}
 use Rattle.tc_explore.specs.Course.{Stand, stand, goes_on, steps_in, script_of, call_of, IsTurn, IsCourse}
 use Rattle.tc_explore.specs.Told.{is_found}
@@ -55,10 +55,6 @@ is_met q op = false
 -- the call would change nothing but its caller's place
 abbrev pub is_spent : List Entry → Op → Bool
 is_spent q op = is_quiet (overall q) op || (is_late q op || is_met q op)
-
--- the call of run b is an error, or changes something
-abbrev pub IsLoud : ℕ → List Entry → ℕ → Op → Type 0
-IsLoud n q b op = is_fault (answer n q b op) ≡ false → is_spent q op ≡ false
 
 -- the call of run b would change nothing, and is no error
 pub record IsQuietAt (n : ℕ) (q : List Entry) (b : ℕ) (op : Op) : Type 0 where

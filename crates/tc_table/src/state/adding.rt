@@ -13,10 +13,10 @@ use crate::step::{asks, take_in, take_in_caller, take_in_runs};
 use tc_entry::{Comp, Entry};
 use tc_verdict::NoMemory;
 
-#[tactic(auto, using(crate::proofs::KeptLemmas::kept_rules, crate::proofs::Settled::settled_rules), unfolding(crate::specs::Standing::StandsFor))]
+#[tactic(auto, using(crate::proofs::Lemmas::Kept::kept_rules, crate::proofs::Settled::settled_rules), unfolding(crate::specs::Standing::StandsFor))]
 impl CaseState {
     /// Takes in an entry that makes no component, by a run on component own.
-    #[tactic(auto, using(crate::proofs::KeptLemmas::kept_rules, crate::proofs::Settled::settled_rules), unfolding(crate::specs::Standing::StandsFor))]
+    #[tactic(auto, using(crate::proofs::Lemmas::Kept::kept_rules, crate::proofs::Settled::settled_rules), unfolding(crate::specs::Standing::StandsFor))]
     pub(crate) fn add(&mut self, own: Option<Comp>, entry: &Entry)
         requires legal { IsReply self.old entry.now.caller entry.now.op entry.now.reply }
         requires on { (past : List Entry) → StandsFor self.old past → own ≡ history.comp_of past entry.now.caller.0 }
@@ -30,7 +30,7 @@ impl CaseState {
     }
 
     /// Takes in an entry that asks or waits, without an error.
-    #[tactic(auto, using(crate::proofs::KeptLemmas::kept_rules, crate::proofs::Settled::settled_rules), unfolding(crate::specs::Standing::StandsFor))]
+    #[tactic(auto, using(crate::proofs::Lemmas::Kept::kept_rules, crate::proofs::Settled::settled_rules), unfolding(crate::specs::Standing::StandsFor))]
     pub(crate) fn ask(&mut self, entry: &Entry)
         requires legal { IsReply self.old entry.now.caller entry.now.op entry.now.reply }
         requires asks { step.asks entry.now.op ≡ true }
@@ -42,7 +42,7 @@ impl CaseState {
     }
 
     /// Takes in an entry that makes a component.
-    #[tactic(auto, using(crate::proofs::KeptLemmas::kept_rules, crate::proofs::Settled::settled_rules), unfolding(crate::specs::Standing::StandsFor))]
+    #[tactic(auto, using(crate::proofs::Lemmas::Kept::kept_rules, crate::proofs::Settled::settled_rules), unfolding(crate::specs::Standing::StandsFor))]
     pub(crate) fn make(&mut self, entry: &Entry, comp: Comp) -> Result<(), NoMemory>
         requires legal { IsReply self.old entry.now.caller entry.now.op entry.now.reply }
         requires makes { history.created entry.now.op entry.now.reply ≡ Some comp }

@@ -12,10 +12,10 @@ use crate::state::CaseState;
 use tc_entry::{Comp, Fault, Op, Reply};
 use tc_verdict::Run;
 
-#[tactic(auto, using(crate::proofs::KeptLemmas::kept_rules), unfolding(crate::specs::Standing::StandsFor))]
+#[tactic(auto, using(crate::proofs::Lemmas::Kept::kept_rules), unfolding(crate::specs::Standing::StandsFor))]
 impl CaseState {
     /// The reply to a wake.
-    #[tactic(auto, using(crate::proofs::KeptLemmas::kept_rules, crate::proofs::KeptLemmas::wait_rules), unfolding(crate::specs::Standing::StandsFor))]
+    #[tactic(auto, using(crate::proofs::Lemmas::Kept::kept_rules, crate::proofs::Lemmas::Kept::wait_rules), unfolding(crate::specs::Standing::StandsFor))]
     pub(crate) fn wake_reply(&self, caller: Run, awaited: Awaited) -> Reply
         requires { tests.all_below (faults.target_names awaited.target) (length self.now.states) ≡ true }
         ensures { (past : List Entry) → StandsFor self.now past → result ≡ answers.wake_reply past caller.0 awaited }
@@ -30,7 +30,7 @@ impl CaseState {
     }
 
     /// The reply to a call that is no error, by a run on component own.
-    #[tactic(auto, using(crate::proofs::KeptLemmas::kept_rules, crate::proofs::KeptLemmas::wait_rules), unfolding(crate::specs::Standing::StandsFor))]
+    #[tactic(auto, using(crate::proofs::Lemmas::Kept::kept_rules, crate::proofs::Lemmas::Kept::wait_rules), unfolding(crate::specs::Standing::StandsFor))]
     pub(crate) fn plain_answer(&self, caller: Run, own: Comp, op: &Op) -> Reply
         requires on { (past : List Entry) → StandsFor self.now past → history.comp_of past caller.0 ≡ Some own }
         requires within { own.0 < length self.now.states }

@@ -10,7 +10,7 @@ use crate::state::CaseState;
 use tc_entry::{Comp, Fault, Group, Op, Target, may_create};
 use tc_verdict::Run;
 
-#[tactic(auto, using(crate::proofs::KeptLemmas::kept_rules, crate::proofs::KeptLemmas::below_rules), unfolding(crate::specs::Standing::StandsFor))]
+#[tactic(auto, using(crate::proofs::Lemmas::Kept::kept_rules, crate::proofs::Lemmas::Kept::below_rules), unfolding(crate::specs::Standing::StandsFor))]
 impl CaseState {
     /// Whether all these components exist.
     pub(crate) fn all_exist(&self, comps: &[Comp]) -> bool
@@ -42,7 +42,7 @@ impl CaseState {
     }
 
     /// The error of a Start of this component with this run.
-    #[tactic(auto, using(crate::proofs::KeptLemmas::kept_rules), unfolding(crate::specs::Faults::start_fault, crate::specs::Standing::StandsFor))]
+    #[tactic(auto, using(crate::proofs::Lemmas::Kept::kept_rules), unfolding(crate::specs::Faults::start_fault, crate::specs::Standing::StandsFor))]
     pub(crate) fn start_fault(&self, comp: Comp, run: Run) -> Option<Fault>
         requires { comp.0 < length self.now.states }
         ensures { (past : List Entry) → StandsFor self.now past → result ≡ faults.start_fault self.now.behaviours past comp.0 run.0 }
@@ -65,7 +65,7 @@ impl CaseState {
     }
 
     /// The dynamic error of a call, if it is one.
-    #[tactic(auto, using(crate::proofs::KeptLemmas::kept_rules, crate::proofs::KeptLemmas::below_rules), unfolding(crate::specs::Faults::fault, crate::specs::Standing::StandsFor))]
+    #[tactic(auto, using(crate::proofs::Lemmas::Kept::kept_rules, crate::proofs::Lemmas::Kept::below_rules), unfolding(crate::specs::Faults::fault, crate::specs::Standing::StandsFor))]
     pub(crate) fn fault(&self, caller: Run, op: &Op) -> Option<Fault>
         ensures known { is_none result ≡ true → tests.all_below (faults.names op.now) (length self.now.states) ≡ true }
         ensures is { (past : List Entry) → StandsFor self.now past → result ≡ faults.fault self.now.behaviours past caller.0 op.now }

@@ -12,7 +12,7 @@ use crate::state::CaseState;
 use tc_entry::{Comp, Target};
 use tc_verdict::Run;
 
-#[tactic(auto, using(crate::proofs::KeptLemmas::kept_rules, crate::proofs::KeptLemmas::group_rules, crate::proofs::KeptLemmas::below_rules), unfolding(crate::specs::Standing::StandsFor))]
+#[tactic(auto, using(crate::proofs::Lemmas::Kept::kept_rules, crate::proofs::Lemmas::Kept::group_rules, crate::proofs::Lemmas::Kept::below_rules), unfolding(crate::specs::Standing::StandsFor))]
 impl CaseState {
     pub(crate) fn exists(&self, comp: Comp) -> bool
         ensures { result ≡ tests.all_below (comp ∷ []) (length self.now.states) }

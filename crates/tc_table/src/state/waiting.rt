@@ -13,7 +13,7 @@ use crate::state::CaseState;
 use tc_entry::{Comp, Phase};
 use tc_verdict::Run;
 
-#[tactic(auto, using(crate::proofs::KeptLemmas::kept_rules), unfolding(crate::specs::Standing::StandsFor))]
+#[tactic(auto, using(crate::proofs::Lemmas::Kept::kept_rules), unfolding(crate::specs::Standing::StandsFor))]
 impl CaseState {
     /// The component of a run that is going on.
     pub(crate) fn active_on(&self, caller: Run) -> Option<Comp>
@@ -38,7 +38,7 @@ impl CaseState {
     }
 
     /// Whether what is awaited has come.
-    #[tactic(auto, using(crate::proofs::KeptLemmas::kept_rules, crate::proofs::KeptLemmas::wait_rules), unfolding(crate::specs::Waiting::holds, crate::specs::Standing::StandsFor))]
+    #[tactic(auto, using(crate::proofs::Lemmas::Kept::kept_rules, crate::proofs::Lemmas::Kept::wait_rules), unfolding(crate::specs::Waiting::holds, crate::specs::Standing::StandsFor))]
     pub(crate) fn holds(&self, awaited: Awaited) -> bool
         requires { tests.all_below (faults.target_names awaited.target) (length self.now.states) ≡ true }
         ensures { (past : List Entry) → StandsFor self.now past → result ≡ waits.holds past awaited }
@@ -51,7 +51,7 @@ impl CaseState {
     }
 
     /// Whether a run waits for what has not come.
-    #[tactic(auto, using(crate::proofs::KeptLemmas::kept_rules, crate::proofs::KeptLemmas::wait_rules), unfolding(crate::specs::Standing::StandsFor))]
+    #[tactic(auto, using(crate::proofs::Lemmas::Kept::kept_rules, crate::proofs::Lemmas::Kept::wait_rules), unfolding(crate::specs::Standing::StandsFor))]
     pub(crate) fn waits_in_vain(&self, run: Run) -> bool
         ensures { (past : List Entry) → StandsFor self.now past → result ≡ waits.waits_in_vain past (waits.waiting past run.0) }
     {
@@ -67,7 +67,7 @@ impl CaseState {
     }
 
     /// Whether a run is going on, and does not wait in vain.
-    #[tactic(auto, using(crate::proofs::KeptLemmas::kept_rules, crate::proofs::KeptLemmas::wait_rules), unfolding(crate::specs::Inside::States::goes_on, crate::specs::Standing::StandsFor))]
+    #[tactic(auto, using(crate::proofs::Lemmas::Kept::kept_rules, crate::proofs::Lemmas::Kept::wait_rules), unfolding(crate::specs::Inside::States::goes_on, crate::specs::Standing::StandsFor))]
     pub(crate) fn goes_on(&self, run: Run) -> bool
         ensures { (past : List Entry) → StandsFor self.now past → result ≡ tests.goes_on past run.0 }
     {

@@ -1,7 +1,7 @@
 use Rattle.std.proofs.Common.{◌∙◌, ◌+◌, ◌++◌, ◌∷◌, ap, sym, subst, drop}
 use Rattle.std.proofs.lemmas.List.{append-nil}
 use Rattle.tc_step.specs.Steps.{AreBound}
-use Rattle.tc_behaviour.proofs.Running.{so_far_none, so_far_more, step_at}
+use Rattle.tc_behaviour.proofs.Lemmas.Running.{so_far_none, so_far_more, step_at}
 use Rattle.tc_behaviour.proofs.behaviour.make_calls.Goals as goal
 
 pub loop-step-init : goal.loop-step-init

@@ -1,4 +1,4 @@
-use Rattle.tc_campaign.proofs.Keeping.{unrun_run, unrun_torn}
+use Rattle.tc_campaign.proofs.Lemmas.Keeping.{unrun_run, unrun_torn}
 use Rattle.tc_campaign.proofs.campaign.without_room.Goals as goal
 
 pub returns-clause-run : goal.returns-clause-run

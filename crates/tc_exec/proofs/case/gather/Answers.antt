@@ -1,5 +1,5 @@
 use Rattle.std.proofs.Common.{◌≡◌, [], ◌∷◌, ◌++◌, ap, ◌∙◌}
-use Rattle.tc_exec.proofs.Calls.{neither, main_left, main_called, main_started}
+use Rattle.tc_exec.proofs.Lemmas.Calls.{neither, main_left, main_called, main_started}
 use Rattle.tc_exec.proofs.case.gather.Goals as goal
 
 pub returns-clause-called : goal.returns-clause-called

@@ -1,6 +1,6 @@
 use Rattle.std.proofs.Common.{◌∷◌}
 use Rattle.tc_exec.specs.Inside.{jobs_of, runs_of}
-use Rattle.tc_exec.proofs.Calls.{numbered, report_called, report_made, torn_handed}
+use Rattle.tc_exec.proofs.Lemmas.Calls.{numbered, report_called, report_made, torn_handed}
 use Rattle.tc_exec.proofs.case.run_made.Goals as goal
 
 pub returns-clause-called : goal.returns-clause-called

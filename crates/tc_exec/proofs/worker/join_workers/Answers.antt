@@ -1,6 +1,6 @@
 use Rattle.std.proofs.Common.{arith}
 use Rattle.tc_exec.proofs.Lists.{passed}
-use Rattle.tc_exec.proofs.Calls.{neither, left_by, joined, first_kept}
+use Rattle.tc_exec.proofs.Lemmas.Calls.{neither, left_by, joined, first_kept}
 use Rattle.tc_exec.proofs.worker.join_workers.Goals as goal
 
 pub loop-worker-preserved : goal.loop-worker-preserved

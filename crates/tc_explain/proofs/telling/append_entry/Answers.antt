@@ -6,7 +6,7 @@ use Rattle.tc_explain.specs.Notes.{Broken}
 use Rattle.tc_explain.specs.Replies.{entry_stop, is_whole}
 use Rattle.tc_explain.specs.Explanation.{stop_note}
 use Rattle.tc_text.specs.Shown.{Shows}
-use Rattle.tc_text.proofs.Showing.{on_ok, shows_one}
+use Rattle.tc_text.proofs.Lemmas.Showing.{on_ok, shows_one}
 use Rattle.tc_explain.proofs.telling.append_entry.Goals as goal
 
 pub returns-then-is_whole : goal.returns-then-is_whole

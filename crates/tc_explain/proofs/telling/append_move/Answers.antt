@@ -7,7 +7,7 @@ use Rattle.tc_explain.specs.Notes.{Broken}
 use Rattle.tc_explain.specs.Slots.{may_end, walk}
 use Rattle.tc_explain.specs.Explanation.{stop_note}
 use Rattle.tc_text.specs.Shown.{Shows}
-use Rattle.tc_text.proofs.Showing.{on_ok, shows_one}
+use Rattle.tc_text.proofs.Lemmas.Showing.{on_ok, shows_one}
 use Rattle.tc_explain.proofs.telling.append_move.Goals as goal
 
 pub returns-then-is_move : goal.returns-then-is_move

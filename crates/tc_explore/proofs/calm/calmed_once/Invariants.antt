@@ -1,6 +1,10 @@
-use Rattle.tc_explore.specs.Inside.Going.{IsOn}
-use Rattle.tc_explore.specs.Inside.Seen.{StandsOn}
+use Rattle.std.proofs.Common.{◌≡◌, false}
+use Rattle.tc_explore.proofs.Keeping.{AreCalmAfter}
+use Rattle.tc_explore.specs.Inside.Seen.{IsOpen, StandsOn}
 use Rattle.tc_explore.proofs.calm.calmed_once.Given as goal
 
 abbrev pub invariant-loop-run : goal.invariant-loop-run
-invariant-loop-run l = IsOn l.scripts l.course × StandsOn l.scripts l.initial.course l.course
+invariant-loop-run l =
+    IsOpen l.scripts l.course
+    × StandsOn l.scripts l.initial.course l.course
+    × (l.went_on ≡ false → AreCalmAfter l.scripts l.initial.course l.course l.run)

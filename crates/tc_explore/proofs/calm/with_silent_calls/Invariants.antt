@@ -1,6 +1,10 @@
-use Rattle.tc_explore.specs.Inside.Going.{IsOn}
-use Rattle.tc_explore.specs.Inside.Seen.{StandsOn}
+use Rattle.std.proofs.Common.{◌≡◌, false}
+use Rattle.tc_table.specs.Case.{past_of}
+use Rattle.tc_explore.specs.Inside.Seen.{IsOpen, StandsOn}
 use Rattle.tc_explore.proofs.calm.with_silent_calls.Given as goal
 
 abbrev pub invariant-loop : goal.invariant-loop
-invariant-loop l = IsOn l.scripts l.course × StandsOn l.scripts l.initial.course l.course
+invariant-loop l =
+    IsOpen l.scripts l.course
+    × StandsOn l.scripts l.initial.course l.course
+    × (l.went_on ≡ false → past_of l.course ≡ past_of l.initial.course)

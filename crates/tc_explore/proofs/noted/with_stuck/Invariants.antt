@@ -1,5 +1,8 @@
+use Rattle.tc_table.specs.Case.{past_of}
 use Rattle.tc_explore.specs.Inside.Going.{IsOn}
+use Rattle.tc_explore.specs.Inside.Seen.{AreHeld}
+use Rattle.tc_explore.proofs.Parking.{AreParked}
 use Rattle.tc_explore.proofs.noted.with_stuck.Given as goal
 
 abbrev pub invariant-loop-run : goal.invariant-loop-run
-invariant-loop-run l = IsOn l.scripts l.course
+invariant-loop-run l = IsOn l.scripts l.course × (AreHeld l.scripts (past_of l.initial.course) → AreParked l.scripts l.initial.course l.course l.run)

@@ -2,7 +2,7 @@ use Rattle.std.proofs.Common.{OnOk, ◌∷◌, ◌∙◌, ap, drop, subst}
 use Rattle.tc_explore.specs.Race.{rows}
 use Rattle.tc_text.specs.Shown.{Shows}
 use Rattle.tc_explore.specs.Shown.{Alike, Heads}
-use Rattle.tc_text.proofs.Showing.{on_ok, shows_before}
+use Rattle.tc_text.proofs.Lemmas.Showing.{on_ok, shows_before}
 use Rattle.tc_explore.proofs.race.append_parting.Goals as goal
 
 pub returns : goal.returns

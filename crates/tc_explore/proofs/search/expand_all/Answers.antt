@@ -1,6 +1,6 @@
-use Rattle.std.proofs.Common.{rules, ◌≡◌, ◌+◌, ◌<◌, ◌≤◌, ℕ, true, length}
-use Rattle.tc_explore.specs.Laws.{IsClosedAt}
-use Rattle.tc_explore.proofs.Closed.{longer_then}
+use Rattle.std.proofs.Common.{rules, ◌≡◌, ◌+◌, ◌<◌, ◌≤◌, ℕ, true, false, length, ◌∙◌}
+use Rattle.tc_explore.specs.Inside.Seen.{IsClosedAt, IsFull}
+use Rattle.tc_explore.proofs.Closed.{full_longer, longer_then}
 use Rattle.tc_explore.proofs.States.{closed_ats_more, closed_ats_all}
 use Rattle.tc_explore.proofs.search.expand_all.Goals as goal
 use Rattle.tc_explore.proofs.search.expand_all.Goals.{then-is_closed, else-is_closed}
@@ -17,12 +17,18 @@ loop-at-preserved c =
           let now : c.in_ok-is_one_closed.is_one_closed ≡ true = search rules in
           closed_ats_more c.args.scripts.now c.loop-at.met.states.items c.expand.new.met.states.items c.loop-at.found.witnesses.items c.expand.new.found.witnesses.items c.loop-at.at is.more_states is.more_found within (was.4 before) (is.closed now)
       | else-is_closed w ↦ λ h. absurd cc
+    ] in
+    let full : c.if-is_closed.is_closed ≡ false → IsFull c.expand.new.met = elim c.if-is_closed.branch [
+      | then-is_closed w ↦ λ h. let now : c.in_ok-is_one_closed.is_one_closed ≡ false = search rules in is.full now
+      | else-is_closed w ↦ λ h. let before : c.loop-at.is_closed ≡ false = search rules in full_longer c.loop-at.met c.expand.new.met is.more_states is.limit (was.6 before)
     ] in (
       is.states,
       longer_then c.args.met.now.states.items c.loop-at.met.states.items c.expand.new.met.states.items was.1 is.more_states,
       is.found,
       longer_then c.args.found.now.witnesses.items c.loop-at.found.witnesses.items c.expand.new.found.witnesses.items was.3 is.more_found,
       closed,
+      is.limit ∙ was.5,
+      full,
     )
 
 pub returns-then-is_closed-2-clause-closed : goal.returns-then-is_closed-2-clause-closed

@@ -1,19 +1,41 @@
-use Rattle.std.proofs.Common.{rules, ◌≡◌, true, false}
+use Rattle.std.proofs.Common.{rules, ◌≡◌, ◌∙◌, true, false, reverse, ap, sym, subst}
 use Rattle.tc_verdict.specs.declared.verdict.Verdict.TheVariants as V
 use Rattle.tc_table.specs.Case.{past_of}
-use Rattle.tc_table.specs.History.{is_over}
-use Rattle.tc_table.specs.Answers.{is_active}
-use Rattle.tc_explore.specs.Course.{stand}
 use Rattle.tc_explore.specs.Told.{is_found}
-use Rattle.tc_explore.proofs.States.{closed_stuck}
+use Rattle.tc_explore.specs.Inside.Seen.{AreHeld}
+use Rattle.tc_explore.proofs.Parking.{held_if}
+use Rattle.tc_explore.proofs.States.{closed_going, closed_stuck, closed_error}
 use Rattle.tc_explore.proofs.search.expand_course.Goals as goal
+
+pub returns-then-tried-clause-closed : goal.returns-then-tried-clause-closed
+returns-then-tried-clause-closed c h =
+    let closed : c.in_ok-tried.tried.is_closed ≡ true = search rules in
+    let goes : c.in_ok-tried.tried.goes_on ≡ true = search rules in
+    closed_going c.args.scripts.now c.try_runs.new.met.states.items c.try_runs.new.found.witnesses.items c.args.course.now c.requires.state (c.in_ok-tried.ensures.closed closed) (c.in_ok-tried.ensures.goes_on goes)
+
+pub returns-then-is_found-clause-closed : goal.returns-then-is_found-clause-closed
+returns-then-is_found-clause-closed c h =
+    let closed : c.in_ok-tried.tried.is_closed ≡ true = search rules in
+    let error : is_found c.try_runs.new.found.witnesses.items V.Error ≡ true = search rules in
+    closed_error c.args.scripts.now c.try_runs.new.met.states.items c.try_runs.new.found.witnesses.items c.args.course.now c.requires.state (c.in_ok-tried.ensures.closed closed) error
+
+pub note-requires-clause-over : goal.note-requires-clause-over
+note-requires-clause-over c =
+    let closed : c.in_ok-tried.tried.is_closed ≡ true = search rules in
+    let stays : c.in_ok-tried.tried.goes_on ≡ false = search rules in
+    let none : is_found c.try_runs.new.found.witnesses.items V.Error ≡ false = search rules in
+    let past : past_of c.in_ok-copied.field-0 ≡ past_of c.args.course.now = ap reverse c.in_ok-copied.ensures.entries in
+    let held : AreHeld c.args.scripts.now (past_of c.in_ok-copied.field-0) = subst (AreHeld c.args.scripts.now) (sym past)
+    (held_if c.args.scripts.now c.try_runs.new.met.states.items c.try_runs.new.found.witnesses.items (past_of c.args.course.now) c.requires.state.opened.on.course (c.in_ok-tried.ensures.still stays) (c.in_ok-tried.ensures.closed closed) none) in
+    c.in_ok-stuck.ensures.over held
 
 pub returns-clause-closed : goal.returns-clause-closed
 returns-clause-closed c h =
-    let past = past_of c.args.course.now in
-    let going : is_over (past_of c.args.course.now) ≡ false = search rules in
-    let main : is_active (past_of c.args.course.now) 0 ≡ true = search rules in
-    let stays : (stand (past_of c.args.course.now) 0).left ≡ false = search rules in
     let closed : c.in_ok-tried.tried.is_closed ≡ true = search rules in
-    let error : is_found c.note.new.found.witnesses.items V.Error ≡ true = search rules in
-    closed_stuck c.args.scripts.now c.try_runs.new.met.states.items c.try_runs.new.found.witnesses.items c.note.new.found.witnesses.items c.args.course.now c.requires.on going main stays (c.in_ok-tried.ensures.closed closed) c.in_ok-note.ensures.more_found error
+    let stays : c.in_ok-tried.tried.goes_on ≡ false = search rules in
+    let none : is_found c.try_runs.new.found.witnesses.items V.Error ≡ false = search rules in
+    let past : past_of c.in_ok-copied.field-0 ≡ past_of c.args.course.now = ap reverse c.in_ok-copied.ensures.entries in
+    let held : AreHeld c.args.scripts.now (past_of c.in_ok-copied.field-0) = subst (AreHeld c.args.scripts.now) (sym past)
+    (held_if c.args.scripts.now c.try_runs.new.met.states.items c.try_runs.new.found.witnesses.items (past_of c.args.course.now) c.requires.state.opened.on.course (c.in_ok-tried.ensures.still stays) (c.in_ok-tried.ensures.closed closed) none) in
+    let error : is_found c.note.new.found.witnesses.items V.Error ≡ true = ap (is_found c.note.new.found.witnesses.items) (sym (c.in_ok-stuck.ensures.error held)) ∙ c.in_ok-note.ensures.told in
+    closed_stuck c.args.scripts.now c.try_runs.new.met.states.items c.try_runs.new.found.witnesses.items c.note.new.found.witnesses.items c.args.course.now c.requires.state (c.in_ok-tried.ensures.closed closed) c.in_ok-note.ensures.more_found error

@@ -3,7 +3,7 @@ use Rattle.std.proofs.lemmas.Option.{slice_get_past, slice_get-get_or}
 use Rattle.tc_text.specs.Shown.{Shows}
 use Rattle.tc_explore.specs.Shown.{Unseen}
 use Rattle.tc_explore.specs.Unseen.{unseen_among, unseen_if_any}
-use Rattle.tc_text.proofs.Showing.{on_ok, shows_none, shows_one}
+use Rattle.tc_text.proofs.Lemmas.Showing.{on_ok, shows_none, shows_one}
 use Rattle.tc_explore.proofs.unseen.append_among.Goals as goal
 
 pub returns-then-before-steps : goal.returns-then-before-steps

@@ -1,7 +1,7 @@
 use Rattle.std.proofs.Common.{◌≡◌, ◌∙◌, ◌++◌, ◌∷◌, false, true, ap, sym, refl, arith}
 use Rattle.std.specs.Fmt.{decimal}
-use Rattle.tc_text.proofs.LinesOf.{same_behind}
-use Rattle.tc_text.proofs.MoveLines.{ends_line}
+use Rattle.tc_text.proofs.Lemmas.LinesOf.{same_behind}
+use Rattle.tc_text.proofs.Lemmas.MoveLines.{ends_line}
 use Rattle.tc_history.proofs.InnerLines.{ends_at}
 use Rattle.tc_history.proofs.Headers.{behind_space}
 use Rattle.tc_history.proofs.header.take_behaviours.Goals as goal

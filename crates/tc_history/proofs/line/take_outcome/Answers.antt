@@ -1,6 +1,6 @@
 use Rattle.std.proofs.Common.{◌≡◌, ◌∙◌, ◌++◌, sym}
 use Rattle.tc_text.specs.Spelling.{reply_text}
-use Rattle.tc_text.proofs.MoveLines.{ends_reply}
+use Rattle.tc_text.proofs.Lemmas.MoveLines.{ends_reply}
 use Rattle.tc_history.proofs.InnerLines.{begins_with_outcome, behind_arrow, ends_at, outcome_spelled, same_lines}
 use Rattle.tc_history.proofs.line.take_outcome.Goals as goal
 

@@ -2,7 +2,7 @@ use Rattle.std.proofs.Common.{◌≡◌, ◌<◌, length, arith, rules}
 use Rattle.std.proofs.lemmas.Grind.{common_steps}
 use Rattle.std.proofs.lemmas.List.{nil_from_length}
 use Rattle.tc_text.specs.declared.fault.TextFault.TheVariants as F
-use Rattle.tc_text.proofs.LinesOf.{not_empty}
+use Rattle.tc_text.proofs.Lemmas.LinesOf.{not_empty}
 use Rattle.tc_history.specs.Text.{IsHistoryFault}
 use Rattle.tc_history.proofs.Texts.{no_histories}
 use Rattle.tc_history.proofs.Taking.{made_none, made_more, made_all, made_only, made_bad, made_refused}

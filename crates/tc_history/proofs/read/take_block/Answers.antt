@@ -1,7 +1,7 @@
 use Rattle.std.proofs.Common.{◌≡◌, ◌<◌, length, refl, arith}
 use Rattle.std.proofs.lemmas.Grind.{common_steps}
 use Rattle.std.proofs.lemmas.List.{nil_from_length}
-use Rattle.tc_text.proofs.LinesOf.{not_empty}
+use Rattle.tc_text.proofs.Lemmas.LinesOf.{not_empty}
 use Rattle.tc_history.proofs.Blocks.{bad_start, never_start}
 use Rattle.tc_history.proofs.Taking.{open_none, open_more, is_taken, bad_line, never_bad, cut_off, never_cut_off}
 use Rattle.tc_history.proofs.read.take_block.Goals as goal

@@ -1,7 +1,7 @@
 use Rattle.std.proofs.Common.{◌≡◌, ◌∙◌, ◌∷◌, [], ◌++◌, length, arith, ap, refl}
 use Rattle.std.proofs.lemmas.List.{length-set}
 use Rattle.tc_case.specs.Merge.{end_of}
-use Rattle.tc_merge.proofs.Table.{end_of-last, has-none, has-last, has-all}
+use Rattle.tc_merge.proofs.Lemmas.Table.{end_of-last, has-none, has-last, has-all}
 use Rattle.tc_merge.proofs.by_run.logs_by_run.Goals as goal
 
 pub loop-log-init : goal.loop-log-init

@@ -1,6 +1,6 @@
 use Rattle.std.proofs.Common.{◌≡◌, ◌≤◌, length}
 use Rattle.tc_case.specs.Merge.{end_of, log_of}
-use Rattle.tc_merge.proofs.Table.{HasAfter}
+use Rattle.tc_merge.proofs.Lemmas.Table.{HasAfter}
 use Rattle.tc_merge.proofs.by_run.logs_by_run.Given as goal
 
 abbrev pub invariant-loop-log : goal.invariant-loop-log

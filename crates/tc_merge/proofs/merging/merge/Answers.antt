@@ -4,7 +4,7 @@ use Rattle.tc_merge.specs.Inside.{Has}
 use Rattle.tc_case.specs.Merge.{is_other, in_place, late, log_of, end_of}
 use Rattle.tc_case.specs.Parts.{part}
 use Rattle.tc_merge.proofs.PartOfMerge.{merge-is, part-merge}
-use Rattle.tc_merge.proofs.Kept.{others-merge}
+use Rattle.tc_merge.proofs.Lemmas.Kept.{others-merge}
 use Rattle.tc_merge.proofs.Length.{length-merge}
 use Rattle.tc_merge.proofs.merging.merge.Goals as goal
 

@@ -1,4 +1,4 @@
-use Rattle.tc_program.specs.Inside.{IsMade}
+use Rattle.tc_program.specs.Made.{IsMade}
 use Rattle.tc_program.proofs.Doing.{made_by}
 use Rattle.tc_program.proofs.carry_out.do_text.Goals.{in-Replay, in-Check, in-Report, in-Explore, in-List}
 use Rattle.tc_program.proofs.carry_out.do_text.Goals as goal

@@ -1,6 +1,6 @@
 use Rattle.std.proofs.Common.{inl, inr, subst, sym}
 use Rattle.tc_program.specs.Fault.{line_of}
-use Rattle.tc_program.specs.Made.{Refuses}
+use Rattle.tc_program.specs.Inside.{Refuses}
 use Rattle.tc_program.specs.Program.{IsDone}
 use Rattle.tc_program.specs.Streams.{held}
 use Rattle.tc_program.specs.Tell.{IsRefusal}

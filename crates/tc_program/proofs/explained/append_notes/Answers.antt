@@ -1,6 +1,6 @@
 use Rattle.std.proofs.Common.{rules, ◌≡◌, ◌++◌}
 use Rattle.tc_explain.specs.Explanation.{explanation}
-use Rattle.tc_explain.proofs.Showing.{shows_after}
+use Rattle.tc_explain.proofs.Lemmas.Showing.{shows_after}
 use Rattle.tc_program.proofs.explained.append_notes.Goals as goal
 
 pub returns : goal.returns

@@ -1,7 +1,7 @@
 use Rattle.std.proofs.Common.{All, List, ◌∷◌, subst}
 use Rattle.std.proofs.lemmas.List.Elements.{All-head, All-tail}
 use Rattle.tc_script.specs.Law.{IsCase}
-use Rattle.tc_campaign.proofs.Running.{done_more}
+use Rattle.tc_campaign.proofs.Lemmas.Running.{done_more}
 use Rattle.tc_program.specs.Scripted.{CaseView}
 use Rattle.tc_program.proofs.Exploring.{done_all}
 use Rattle.tc_program.proofs.explore.explore_cases.Goals as goal

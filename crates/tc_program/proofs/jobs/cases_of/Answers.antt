@@ -1,4 +1,4 @@
-use Rattle.tc_campaign.proofs.Running.{done_more}
+use Rattle.tc_campaign.proofs.Lemmas.Running.{done_more}
 use Rattle.tc_program.proofs.jobs.cases_of.Goals as goal
 
 pub loop-name-preserved : goal.loop-name-preserved

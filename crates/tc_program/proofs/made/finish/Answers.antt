@@ -1,5 +1,5 @@
 use Rattle.std.proofs.Common.{subst}
-use Rattle.tc_program.specs.Inside.{IsMade}
+use Rattle.tc_program.specs.Made.{IsMade}
 use Rattle.tc_program.specs.Program.{IsDone}
 use Rattle.tc_program.proofs.Doing.{keeps_same}
 use Rattle.tc_program.proofs.made.finish.Goals as goal

@@ -1,4 +1,4 @@
-use Rattle.std.proofs.Common.{◌≡◌, ◌∙◌, None, Some, ap, inl, inr, refl}
+use Rattle.std.proofs.Common.{◌≡◌, ◌∙◌, None, Some, ap, refl}
 use Rattle.tc_report.specs.Status.{status_of_summaries}
 use Rattle.tc_program.proofs.Reporting.{illegal_report, legal_report}
 use Rattle.tc_program.proofs.report.report_text.Goals as goal
@@ -17,9 +17,9 @@ returns-in-None-clause-done c =
     record {
       blocks = so.blocks;
       histories = so.histories;
-      made = λ all are. inl (legal_report c.args.form c.args.text.now all c.in_ok-summaries.field-0.summaries.items c.as_slice.result.now c.in_ok-summaries.field-0.illegal _
+      made = λ all are. legal_report c.args.form c.args.text.now all c.in_ok-summaries.field-0.summaries.items c.as_slice.result.now c.in_ok-summaries.field-0.illegal _
           none same (c.in_ok-summaries.ensures.only all are) (c.new.ensures ∙ c.in_ok-form_text-in-None.ensures) (c.new-in-None-2.ensures ∙ c.new-in-None.ensures.items)
-          (c.worst_status.ensures ∙ ap status_of_summaries both));
+          (c.worst_status.ensures ∙ ap status_of_summaries both);
     }
 
 pub returns-clause-done : goal.returns-clause-done
@@ -31,6 +31,6 @@ returns-clause-done c =
     record {
       blocks = so.blocks;
       histories = so.histories;
-      made = λ all are. inr (illegal_report all c.in_ok-summaries.field-0.summaries.items c.in_ok-summaries.field-0.illegal c.in-Some.judgement _
-          some (c.in_ok-summaries.ensures.only all are) (c.new-in-Some-2.ensures ∙ c.new-in-Some.ensures.items) (c.new-in-Some-3.ensures ∙ c.in_ok-illegal_text-in-Some.ensures) refl);
+      made = λ all are. illegal_report c.args.form c.args.text.now all c.in_ok-summaries.field-0.summaries.items c.in_ok-summaries.field-0.illegal c.in-Some.judgement _
+          some (c.in_ok-summaries.ensures.only all are) (c.new-in-Some-2.ensures ∙ c.new-in-Some.ensures.items) (c.new-in-Some-3.ensures ∙ c.in_ok-illegal_text-in-Some.ensures) refl;
     }

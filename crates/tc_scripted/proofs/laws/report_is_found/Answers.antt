@@ -1,4 +1,4 @@
-use Rattle.tc_scripted.proofs.Reports.{report_is_found}
+use Rattle.tc_scripted.proofs.Lemmas.Reports.{report_is_found}
 use Rattle.tc_scripted.proofs.laws.report_is_found.Goals as goal
 
 pub returns : goal.returns

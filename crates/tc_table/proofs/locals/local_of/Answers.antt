@@ -1,7 +1,7 @@
 use Rattle.std.proofs.Common.{◌≡◌, ◌∙◌, Some}
 use Rattle.tc_table.specs.Local.{local}
-use Rattle.tc_table.proofs.Standing.{stands_legal}
-use Rattle.tc_table.proofs.Numbered.{local_there}
+use Rattle.tc_table.proofs.Lemmas.Standing.{stands_legal}
+use Rattle.tc_table.proofs.Lemmas.Numbered.{local_there}
 use Rattle.tc_table.proofs.locals.local_of.Goals as goal
 
 pub returns-in-Some : goal.returns-in-Some

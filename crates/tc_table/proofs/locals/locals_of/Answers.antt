@@ -3,8 +3,8 @@ use Rattle.std.proofs.lemmas.Grind.{common_steps}
 use Rattle.std.specs.List.{range_with_len}
 use Rattle.tc_table.specs.Faults.{components}
 use Rattle.tc_table.specs.Local.{local}
-use Rattle.tc_table.proofs.Standing.{stands_legal}
-use Rattle.tc_table.proofs.Numbered.{comps_numbered, local_more}
+use Rattle.tc_table.proofs.Lemmas.Standing.{stands_legal}
+use Rattle.tc_table.proofs.Lemmas.Numbered.{comps_numbered, local_more}
 use Rattle.tc_table.proofs.locals.locals_of.Goals as goal
 
 pub loop-comp-preserved : goal.loop-comp-preserved

@@ -1,7 +1,7 @@
 use Rattle.std.proofs.Common.{◌≡◌, ◌<◌, length, arith}
 use Rattle.std.proofs.lemmas.Grind.{common_steps}
 use Rattle.std.proofs.lemmas.List.{nil_from_length}
-use Rattle.tc_text.proofs.LinesOf.{not_empty}
+use Rattle.tc_text.proofs.Lemmas.LinesOf.{not_empty}
 use Rattle.tc_text.proofs.SoFar.{bad_first, made_none, made_more, made_all, made_only, made_bad, no_list}
 use Rattle.tc_text.proofs.move_list.read_moves_into.Goals as goal
 

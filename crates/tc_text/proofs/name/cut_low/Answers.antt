@@ -1,4 +1,4 @@
-use Rattle.tc_text.proofs.Naming.{no_low_take}
+use Rattle.tc_text.proofs.Lemmas.Naming.{no_low_take}
 use Rattle.tc_text.proofs.name.cut_low.Goals as goal
 
 pub loop-place-preserved : goal.loop-place-preserved

@@ -1,5 +1,5 @@
 use Rattle.std.proofs.Common.{◌∙◌, arith}
-use Rattle.tc_text.proofs.Digits.{counted_more, never_large, all_digits, that_number, never_wrong, spelled}
+use Rattle.tc_text.proofs.Lemmas.Digits.{counted_more, never_large, all_digits, that_number, never_wrong, spelled}
 use Rattle.tc_text.proofs.number.take_number.Goals as goal
 
 pub returns-then-number-gt4294967295-clause-only : goal.returns-then-number-gt4294967295-clause-only

@@ -1,5 +1,5 @@
 use Rattle.std.proofs.Common.{length, ◌-◌}
-use Rattle.tc_text.proofs.Digits.{Counted}
+use Rattle.tc_text.proofs.Lemmas.Digits.{Counted}
 use Rattle.tc_text.proofs.number.take_number.Given as goal
 
 abbrev pub invariant-loop-digit : goal.invariant-loop-digit

@@ -1,7 +1,7 @@
 use Rattle.std.proofs.Common.{◌∙◌, [], sym, inl, refl, arith, rules}
 use Rattle.std.proofs.lemmas.List.{append-nil}
 use Rattle.std.proofs.lemmas.Grind.{common_steps}
-use Rattle.tc_text.proofs.MoveLines.{ends_reply}
+use Rattle.tc_text.proofs.Lemmas.MoveLines.{ends_reply}
 use Rattle.tc_text.proofs.reply.read_reply.Goals as goal
 
 pub returns-in-None-clause-only : goal.returns-in-None-clause-only

@@ -2,7 +2,7 @@ use Rattle.std.proofs.Common.{◌≡◌, arith}
 use Rattle.std.proofs.lemmas.Grind.{common_steps}
 use Rattle.tc_verdict.specs.declared.verdict.Verdict.TheVariants as V
 use Rattle.tc_verdict.specs.Verdict.{worst}
-use Rattle.tc_verdict.proofs.Order.{worst_take, worst_is_greatest, worst_is_member}
+use Rattle.tc_verdict.proofs.Lemmas.Order.{worst_take, worst_is_greatest, worst_is_member}
 use Rattle.tc_verdict.proofs.verdict.worst.Goals as goal
 
 pub loop-verdict-preserved : goal.loop-verdict-preserved

@@ -1,5 +1,5 @@
 use Rattle.std.proofs.Common.{rules}
-use Rattle.tc_behaviour.proofs.Running.{run_grown}
+use Rattle.tc_behaviour.proofs.Lemmas.Running.{run_grown}
 use Rattle.tc_behaviour.proofs.behaviour.ScriptBehaviour.run.Goals as goal
 
 pub make_calls-made-requires : goal.make_calls-made-requires

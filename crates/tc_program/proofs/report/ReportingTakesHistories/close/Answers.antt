@@ -1,6 +1,6 @@
 use Rattle.std.proofs.Common.{◌≡◌, true, false}
 use Rattle.std.specs.Prelude.{is_some}
-use Rattle.tc_program.specs.Check.{judges_legal}
+use Rattle.tc_program.specs.Inside.{judges_legal}
 use Rattle.tc_program.proofs.Reporting.{illegal_next, legal_next}
 use Rattle.tc_program.proofs.report.ReportingTakesHistories.close.Goals as goal
 

@@ -1,4 +1,4 @@
-use Rattle.tc_table.proofs.Keeping.{keeps_entry, stands_by}
+use Rattle.tc_table.proofs.Lemmas.Keeping.{keeps_entry, stands_by}
 use Rattle.tc_table.proofs.Settled.{settled_kept}
 use Rattle.tc_table.specs.Standing.{StandsFor}
 use Rattle.tc_table.proofs.state.CaseState.add.Goals as goal

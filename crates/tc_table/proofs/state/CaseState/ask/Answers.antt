@@ -1,5 +1,5 @@
 use Rattle.tc_table.proofs.Asking.{keeps_asking}
-use Rattle.tc_table.proofs.Keeping.{stands_by}
+use Rattle.tc_table.proofs.Lemmas.Keeping.{stands_by}
 use Rattle.tc_table.specs.Standing.{StandsFor}
 use Rattle.tc_table.proofs.state.CaseState.ask.Goals as goal
 use Rattle.std.proofs.Common.{◌∷◌}

@@ -1,6 +1,6 @@
 use Rattle.std.proofs.Common.{refl, rules}
 use Rattle.tc_table.specs.Standing.{StandsFor}
-use Rattle.tc_table.proofs.Over.{on_over, over_rules}
+use Rattle.tc_table.proofs.Lemmas.Over.{on_over, over_rules}
 use Rattle.tc_table.proofs.state.CaseState.is_over.Goals as goal
 
 pub returns-clause-after : goal.returns-clause-after

@@ -1,5 +1,5 @@
 use Rattle.std.proofs.Common.{arith}
-use Rattle.tc_table.proofs.Stuck.{stuck_if_none, not_stuck_run}
+use Rattle.tc_table.proofs.Lemmas.Stuck.{stuck_if_none, not_stuck_run}
 use Rattle.tc_table.specs.Standing.{StandsFor}
 use Rattle.tc_table.proofs.state.CaseState.is_stuck.Goals as goal
 

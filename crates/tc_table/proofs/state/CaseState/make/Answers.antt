@@ -2,7 +2,7 @@ use Rattle.std.proofs.Common.{◌≡◌, ◌++◌, ◌∷◌, [], arith}
 use Rattle.std.proofs.lemmas.Grind.{common_steps}
 use Rattle.tc_table.specs.History.{is_alive_create}
 use Rattle.tc_table.specs.Inside.Counts.{made_state}
-use Rattle.tc_table.proofs.Keeping.{stands_by}
+use Rattle.tc_table.proofs.Lemmas.Keeping.{stands_by}
 use Rattle.tc_table.proofs.Making.{makes_entry}
 use Rattle.tc_table.specs.Standing.{StandsFor}
 use Rattle.tc_table.proofs.state.CaseState.make.Goals as goal

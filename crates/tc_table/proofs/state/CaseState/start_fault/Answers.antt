@@ -1,7 +1,7 @@
 use Rattle.std.proofs.Common.{rules}
 use Rattle.tc_table.specs.Faults.{start_fault}
 use Rattle.tc_table.specs.Standing.{StandsFor}
-use Rattle.tc_table.proofs.KeptLemmas.{kept_rules}
+use Rattle.tc_table.proofs.Lemmas.Kept.{kept_rules}
 use Rattle.tc_table.proofs.state.CaseState.start_fault.Goals as goal
 
 pub returns-then-run-eq0 : goal.returns-then-run-eq0

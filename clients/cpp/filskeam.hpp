@@ -1,0 +1,914 @@
+// Behaviours in C++, judged by the component table of `ttrun serve`. C++17 and POSIX; link with -pthread.
+//
+//     filskeam::Server server;
+//     auto result = server.run("t_heater", [](filskeam::Run& run) {
+//         int heater = run.create("heater");
+//         run.start(heater, "probe", [](filskeam::Run& probe) { probe.set_verdict("fail", "too hot"); });
+//         run.wait_done(heater);
+//     }, std::chrono::seconds(30));
+//
+// A behaviour is a function of a `Run`, on which it makes its calls. Each runs on a thread of its own, and the table is told
+// when it returns. A call of a run that was stopped throws `Ended`, which is no std::exception: let it pass. A thread that
+// does not return is left behind; it may still use its `Run`, whose calls throw `Ended`.
+#pragma once
+
+#include <fcntl.h>
+#include <poll.h>
+#include <spawn.h>
+#include <sys/socket.h>
+#include <sys/wait.h>
+#include <unistd.h>
+
+#include <algorithm>
+#include <array>
+#include <atomic>
+#include <cerrno>
+#include <chrono>
+#include <condition_variable>
+#include <csignal>
+#include <cstdio>
+#include <cstdlib>
+#include <cstring>
+#include <exception>
+#include <functional>
+#include <map>
+#include <memory>
+#include <mutex>
+#include <optional>
+#include <stdexcept>
+#include <string>
+#include <string_view>
+#include <thread>
+#include <type_traits>
+#include <utility>
+#include <vector>
+
+extern char** environ;
+
+namespace filskeam {
+
+using Seconds = std::chrono::duration<double>;
+
+// The run was stopped or killed, or the test case is over.
+class Ended {
+public:
+    explicit Ended(std::string text) : text_(std::move(text)) {}
+    virtual ~Ended() = default;
+    const char* what() const noexcept { return text_.c_str(); }
+
+private:
+    std::string text_;
+};
+
+// The call was a dynamic error, which has ended the test case.
+class DynamicError : public Ended {
+    using Ended::Ended;
+};
+
+// The server has ended, or wrote what it may not write.
+class ServerEnded : public Ended {
+    using Ended::Ended;
+};
+
+// The server refused a line of this run. It has changed nothing.
+class Refused : public std::runtime_error {
+    using std::runtime_error::runtime_error;
+};
+
+// There is no program to start.
+class NoProgram : public std::runtime_error {
+    using std::runtime_error::runtime_error;
+};
+
+// What is known of a test case: it is there whatever its behaviours did.
+struct Result {
+    std::string name;
+    // The overall verdict; error where the server ended before it told one.
+    std::string verdict;
+    // Who made the verdict, by which call, and the reason that was given.
+    std::string why;
+    // The local verdicts by component, and the names of the components, empty where one has none.
+    std::map<int, std::string> locals;
+    std::map<int, std::string> names;
+    // The block of evidence that the server wrote. Its last line is missing where the server ended early.
+    std::string evidence;
+    // What behaviours threw, and which have not returned.
+    std::vector<std::string> raised;
+    std::vector<std::string> hung;
+    bool is_timed_out = false;
+    // Why the server ended inside the test case; empty where it did not.
+    std::string fault;
+};
+
+namespace detail {
+
+inline constexpr std::array<std::string_view, 5> verdicts{"none", "pass", "inconc", "fail", "error"};
+inline constexpr int most_behaviours = 256;
+inline constexpr std::size_t most_of_a_remark = 200;
+inline constexpr std::size_t most_of_a_line = 1000;
+
+inline std::size_t rank(std::string_view verdict) {
+    return static_cast<std::size_t>(std::find(verdicts.begin(), verdicts.end(), verdict) - verdicts.begin());
+}
+
+inline bool is_letter(char it) { return (it >= 'a' && it <= 'z') || (it >= 'A' && it <= 'Z'); }
+inline bool is_digit(char it) { return it >= '0' && it <= '9'; }
+
+inline const std::string& checked_name(const std::string& word) {
+    bool is_name = !word.empty() && word.size() <= 32 && is_letter(word[0]) && word != "all" && word != "any" && word != "mtc" && word != "self";
+    for (char it : word) is_name = is_name && (is_letter(it) || is_digit(it) || it == '_');
+    if (!is_name) throw std::invalid_argument("'" + word + "' is no name");
+    return word;
+}
+
+// The text as a remark can hold it: other bytes as escapes, white space as one space, cut where it is too long.
+inline std::string plain(std::string_view text) {
+    std::string out;
+    bool is_space = false;
+    for (char it : text) {
+        auto byte = static_cast<unsigned char>(it);
+        if (byte == ' ' || (byte >= 9 && byte <= 13)) {
+            is_space = !out.empty();
+            continue;
+        }
+        if (is_space) out += ' ';
+        is_space = false;
+        std::array<char, 5> escape{};
+        std::snprintf(escape.data(), escape.size(), "\\x%02x", static_cast<unsigned>(byte));
+        out += byte > 32 && byte < 127 ? std::string(1, it) : std::string(escape.data());
+    }
+    return out.size() <= most_of_a_remark ? out : out.substr(0, most_of_a_remark - 2) + "..";
+}
+
+// A line inside evidence: a naming (b), an entry (e), a remark (#) or a refused line (!).
+struct Line {
+    char kind;
+    int run;
+    std::string text;
+    std::string reply;
+};
+
+inline std::optional<int> take_number(std::string_view& text) {
+    std::size_t size = 0;
+    int number = 0;
+    for (; size < text.size() && size < 6 && is_digit(text[size]); ++size) number = 10 * number + (text[size] - '0');
+    if (size == 0 || size == 6 || text.size() == size || text[size] != ' ') return std::nullopt;
+    text.remove_prefix(size + 1);
+    return number;
+}
+
+inline std::optional<Line> parsed(std::string_view text) {
+    bool is_naming = text.substr(0, 10) == "behaviour ";
+    if (is_naming) text.remove_prefix(10);
+    auto run = take_number(text);
+    if (!run || text.empty()) return std::nullopt;
+    if (is_naming) return Line{'b', *run, std::string(text), ""};
+    bool is_plain = std::all_of(text.begin(), text.end(), [](char it) { return it >= 32 && it < 127; });
+    if (text.size() > 2 && text.size() <= 2 + most_of_a_remark && is_plain && (text[0] == '#' || text[0] == '!') && text[1] == ' ')
+        return Line{text[0], *run, std::string(text.substr(2)), ""};
+    auto arrow = text.find(" -> ");
+    if (arrow == std::string_view::npos) return std::nullopt;
+    return Line{'e', *run, std::string(text.substr(0, arrow)), std::string(text.substr(arrow + 4))};
+}
+
+inline std::vector<std::string> words_of(const std::string& text) {
+    std::vector<std::string> words;
+    std::size_t at = 0;
+    for (auto end = text.find(' '); end != std::string::npos; end = text.find(' ', at)) {
+        words.push_back(text.substr(at, end - at));
+        at = end + 1;
+    }
+    words.push_back(text.substr(at));
+    return words;
+}
+
+inline bool is_error(const std::string& reply) { return reply.rfind("error ", 0) == 0; }
+
+inline bool is_made(const std::string& reply) {
+    return reply.size() > 5 && reply.size() < 10 && reply.rfind("made ", 0) == 0 && std::all_of(reply.begin() + 5, reply.end(), is_digit);
+}
+
+// Whether the table may reply so to this call.
+inline bool suits(const std::string& call, const std::string& reply) {
+    const std::string verb = words_of(call)[0];
+    if (reply == "ended" || is_error(reply)) return true;
+    if (verb == "create") return is_made(reply);
+    if (verb == "getverdict") return rank(reply) < verdicts.size();
+    if (verb == "wait") return reply == "matched" || reply == "parked";
+    if (verb == "wake") return reply == "matched";
+    if (verb == "running" || verb == "alive" || verb == "done" || verb == "killed") return reply == "true" || reply == "false";
+    return reply == "ok";
+}
+
+inline bool ends_case(const Line& line) {
+    bool is_end = line.text == "stopcase" || line.text == "stop 0" || line.text == "kill 0" || (line.run == 0 && line.text == "finish");
+    return is_error(line.reply) || (is_end && line.reply == "ok");
+}
+
+// Whether somebody may have been stopped by this entry, or be done.
+inline bool may_halt(const Line& line) {
+    const std::string verb = words_of(line.text)[0];
+    return is_error(line.reply) || (line.reply == "ok" && (verb == "finish" || verb == "stop" || verb == "kill" || verb == "stopcase"));
+}
+
+// What the lines of a test case say: names, local verdicts, and the entry that made the overall verdict.
+class Findings {
+public:
+    explicit Findings(const std::vector<std::string>& texts) {
+        for (const auto& text : texts)
+            if (auto line = parsed(text)) take(*line);
+    }
+
+    std::string overall() const {
+        std::string worst = "none";
+        for (const auto& [component, verdict] : locals)
+            if (rank(verdict) > rank(worst)) worst = verdict;
+        return worst;
+    }
+
+    std::map<int, std::string> locals{{0, "none"}};
+    std::map<int, std::string> names{{0, "mtc"}};
+    std::string why = "no behaviour set a verdict";
+
+private:
+    void take(const Line& line) {
+        if (line.kind == 'b') behaviours_[line.run] = line.text;
+        if (line.kind == '#') said_[line.run] = line.text;
+        if (line.kind != 'e') return;
+        const auto words = words_of(line.text);
+        if (words[0] == "create" && is_made(line.reply)) {
+            int made = std::atoi(line.reply.c_str() + 5);
+            locals[made] = "none";
+            names[made] = words.size() > 2 ? words.back() : "";
+        } else if (words[0] == "start" && line.reply == "ok") {
+            component_of_.emplace(std::atoi(words[2].c_str()), std::atoi(words[1].c_str()));
+        }
+        judge(line, words);
+        said_.erase(line.run);
+    }
+
+    void judge(const Line& line, const std::vector<std::string>& words) {
+        std::string given = "none";
+        if (is_error(line.reply) || (line.text == "stopcase" && line.reply == "ok")) given = "error";
+        else if (words[0] == "setverdict" && line.reply == "ok") given = words[1];
+        auto component = component_of_.find(line.run);
+        if (component == component_of_.end()) return;
+        if (rank(given) > rank(overall())) why = reason(line, component->second);
+        auto& local = locals[component->second];
+        if (rank(given) > rank(local)) local = given;
+    }
+
+    std::string reason(const Line& line, int component) {
+        std::string place = "mtc";
+        if (component != 0) place = "component " + std::to_string(component) + (names[component].empty() ? "" : " " + names[component]);
+        auto said = said_.find(line.run);
+        return "run " + std::to_string(line.run) + " " + behaviours_[line.run] + " on " + place + ": " + line.text +
+               (line.reply == "ok" ? "" : " -> " + line.reply) + (said == said_.end() ? "" : ": " + said->second);
+    }
+
+    std::map<int, std::string> behaviours_;
+    std::map<int, int> component_of_{{0, 0}};
+    std::map<int, std::string> said_;
+};
+
+// A server that runs: lines go in, lines come out.
+class Program {
+public:
+    Program(const std::vector<std::string>& command, Seconds grace) : grace_(grace) {
+        std::array<int, 2> in{}, out{};
+        errors_ = std::tmpfile();
+        // Lines go through a socket, since a write to a pipe that nobody reads is a signal to the whole process.
+        if (errors_ == nullptr || socketpair(AF_UNIX, SOCK_STREAM | SOCK_CLOEXEC, 0, in.data()) != 0 || pipe2(out.data(), O_CLOEXEC) != 0)
+            throw NoProgram("there are no pipes: " + std::string(std::strerror(errno)));
+        int error = spawn(command, in[1], out[1]);
+        close(in[1]);
+        close(out[1]);
+        in_ = in[0];
+        out_ = out[0];
+        if (error != 0) {
+            release();
+            throw NoProgram(command[0] + " cannot be started: " + std::strerror(error));
+        }
+    }
+
+    Program(const Program&) = delete;
+    Program& operator=(const Program&) = delete;
+    ~Program() { finish(); }
+
+    // Gives it lines, unless it takes none for so long. One that has ended is noticed by who reads.
+    void write(std::string_view text, std::optional<Seconds> limit = std::nullopt) {
+        if (limit && !is_ready(in_, POLLOUT, *limit)) return;
+        while (!text.empty()) {
+            auto size = send(in_, text.data(), text.size(), MSG_NOSIGNAL);
+            if (size < 0 && errno == EINTR) continue;
+            if (size <= 0) return;
+            text.remove_prefix(static_cast<std::size_t>(size));
+        }
+    }
+
+    // The next line, without its line feed; nothing at the end, also where the last line is cut.
+    std::optional<std::string> read() {
+        auto end = kept_.find('\n');
+        while (end == std::string::npos && kept_.size() < most_of_a_line) {
+            std::array<char, 4096> chunk;
+            auto size = ::read(out_, chunk.data(), chunk.size());
+            if (size < 0 && errno == EINTR) continue;
+            if (size <= 0) return std::nullopt;
+            kept_.append(chunk.data(), static_cast<std::size_t>(size));
+            end = kept_.find('\n');
+        }
+        std::string line = kept_.substr(0, end);
+        kept_.erase(0, end == std::string::npos ? kept_.size() : end + 1);
+        return line;
+    }
+
+    // How it ended, by its own last line.
+    std::string how_it_ended() {
+        if (!wait_for(grace_)) return "the server has closed its output";
+        std::string told, line;
+        std::rewind(errors_);
+        for (int it = std::fgetc(errors_); it != EOF; it = std::fgetc(errors_)) {
+            if (it != '\n') line += static_cast<char>(it);
+            else told = std::exchange(line, "");
+        }
+        if (!line.empty()) told = line;
+        std::string how = WIFSIGNALED(status_) ? "signal " + std::to_string(WTERMSIG(status_)) : "status " + std::to_string(WEXITSTATUS(status_));
+        return "the server ended with " + how + (told.empty() ? "" : ": " + told);
+    }
+
+    void kill() {
+        std::lock_guard<std::mutex> hold(waiting_);
+        if (!is_waited_) ::kill(pid_, SIGKILL);
+    }
+
+    // Ends its input, and waits for its end: its status, 3 where it was a signal.
+    int finish() {
+        if (in_ >= 0) {
+            shutdown(in_, SHUT_WR);
+            if (!wait_for(grace_)) {
+                kill();
+                wait_for(Seconds(60));
+            }
+            release();
+        }
+        return WIFEXITED(status_) && WEXITSTATUS(status_) <= 3 ? WEXITSTATUS(status_) : 3;
+    }
+
+private:
+    int spawn(const std::vector<std::string>& command, int in, int out) {
+        std::vector<char*> words;
+        for (const auto& it : command) words.push_back(const_cast<char*>(it.c_str()));
+        words.push_back(nullptr);
+        posix_spawn_file_actions_t actions;
+        posix_spawnattr_t attributes;
+        posix_spawn_file_actions_init(&actions);
+        posix_spawnattr_init(&attributes);
+        posix_spawn_file_actions_adddup2(&actions, in, 0);
+        posix_spawn_file_actions_adddup2(&actions, out, 1);
+        posix_spawn_file_actions_adddup2(&actions, fileno(errors_), 2);
+        // In a group of its own, Ctrl-C at a terminal ends the bench alone.
+        posix_spawnattr_setflags(&attributes, POSIX_SPAWN_SETPGROUP);
+        int error = posix_spawnp(&pid_, words[0], &actions, &attributes, words.data(), environ);
+        posix_spawn_file_actions_destroy(&actions);
+        posix_spawnattr_destroy(&attributes);
+        return error;
+    }
+
+    static bool is_ready(int file, short event, Seconds limit) {
+        pollfd asked{file, event, 0};
+        return poll(&asked, 1, static_cast<int>(limit.count() * 1000)) > 0;
+    }
+
+    bool wait_for(Seconds limit) {
+        const auto deadline = std::chrono::steady_clock::now() + limit;
+        while (true) {
+            {
+                std::lock_guard<std::mutex> hold(waiting_);
+                if (!is_waited_) is_waited_ = waitpid(pid_, &status_, WNOHANG) != 0;
+                if (is_waited_) return true;
+            }
+            if (std::chrono::steady_clock::now() > deadline) return false;
+            std::this_thread::sleep_for(std::chrono::milliseconds(2));
+        }
+    }
+
+    void release() {
+        close(in_);
+        close(out_);
+        std::fclose(errors_);
+        in_ = out_ = -1;
+    }
+
+    Seconds grace_;
+    std::FILE* errors_ = nullptr;
+    int in_ = -1;
+    int out_ = -1;
+    pid_t pid_ = -1;
+    int status_ = 0;
+    bool is_waited_ = false;
+    std::mutex waiting_;
+    std::string kept_;
+};
+
+class Case;
+
+}  // namespace detail
+
+// A component by its number, or "all"; where a status is asked or waited for, also "any".
+class Target {
+public:
+    Target(int component) : word_(std::to_string(component)) {
+        if (component < 0) throw std::invalid_argument(word_ + " is no component");
+    }
+    Target(const char* group) : word_(group) {
+        if (word_ != "all" && word_ != "any") throw std::invalid_argument("'" + word_ + "' is no group: there are all and any");
+    }
+    const std::string& word() const { return word_; }
+
+private:
+    std::string word_;
+};
+
+class Run;
+using Behaviour = std::function<void(Run&)>;
+
+// A run of a behaviour, which makes its calls on it: only the behaviour's own thread may. `log` is free to all.
+class Run {
+public:
+    Run(const Run&) = delete;
+    Run& operator=(const Run&) = delete;
+
+    int me() const { return me_; }
+    std::string text() const { return "run " + std::to_string(number_) + " " + behaviour_; }
+
+    // Creates a component, and returns its number; an alive-type one may be started again after its behaviour.
+    int create(const std::string& name = "", bool alive = false) {
+        std::string words = alive ? "create alive" : "create";
+        if (!name.empty()) words += " named " + detail::checked_name(name);
+        return std::atoi(call(words).c_str() + 5);
+    }
+
+    // Starts a behaviour, by its name in the evidence. The arguments are components, which the table is told.
+    void start(int component, const std::string& name, Behaviour behaviour, const std::vector<int>& arguments = {});
+
+    void stop(const Target& group) { call("stop " + without_any(group)); }
+    void kill(const Target& group) { call("kill " + without_any(group)); }
+
+    // Ends the test case with the verdict error, and this behaviour.
+    [[noreturn]] void stop_case(const std::string& reason = "") {
+        call("stopcase", reason);
+        throw Ended("the test case was stopped");
+    }
+
+    bool running(const Target& target) { return is("running", target); }
+    bool alive(const Target& target) { return is("alive", target); }
+    bool done(const Target& target) { return is("done", target); }
+    bool killed(const Target& target) { return is("killed", target); }
+
+    // Waits; with a limit, false if the time passed before.
+    void wait_done(const Target& target) { call("wait done " + target.word()); }
+    void wait_killed(const Target& target) { call("wait killed " + target.word()); }
+    bool wait_done(const Target& target, Seconds limit) { return wait("done", target, limit); }
+    bool wait_killed(const Target& target, Seconds limit) { return wait("killed", target, limit); }
+
+    // Makes the local verdict this one, if it is worse than the old. The reason goes into the evidence.
+    void set_verdict(const std::string& verdict, const std::string& reason = "") {
+        if (detail::rank(verdict) >= 4) throw std::invalid_argument("'" + verdict + "' is no verdict to set: there are none, pass, inconc and fail");
+        call("setverdict " + verdict, reason);
+    }
+
+    std::string get_verdict() { return call("getverdict"); }
+
+    // Puts a remark into the evidence. Any thread may.
+    void log(const std::string& text);
+
+    // Throws Ended if this run was stopped: for long loops. It asks the table only after something was stopped.
+    void check();
+
+    // Sleeps, and throws Ended as soon as this run is stopped.
+    void sleep(Seconds limit);
+
+private:
+    friend class detail::Case;
+
+    Run(std::shared_ptr<detail::Case> bench, int number, std::string behaviour, int me)
+        : case_(std::move(bench)), number_(number), me_(me), behaviour_(std::move(behaviour)) {}
+
+    static const std::string& without_any(const Target& group) {
+        if (group.word() == "any") throw std::invalid_argument("'any' is no group to stop or kill");
+        return group.word();
+    }
+
+    bool is(const std::string& status, const Target& target) { return call(status + " " + target.word()) == "true"; }
+    bool wait(const std::string& status, const Target& target, Seconds limit);
+    std::string remark(const std::string& text) const {
+        const std::string plain = detail::plain(text);
+        return plain.empty() ? "" : std::to_string(number_) + " # " + plain + "\n";
+    }
+
+    void check_thread() const {
+        if (std::this_thread::get_id() != thread_) throw std::logic_error("the calls of " + text() + " are its own thread's: another may only log");
+    }
+
+    std::string call(const std::string& words, const std::string& reason = "") {
+        check_thread();
+        return ask(words, remark(reason));
+    }
+
+    // Writes these lines and a call, and waits for its answer.
+    std::string ask(const std::string& words, const std::string& before) {
+        std::lock_guard<std::timed_mutex> hold(calling_);
+        return exchange(words, before, std::nullopt);
+    }
+
+    std::string exchange(const std::string& words, const std::string& before, std::optional<Seconds> limit);
+    std::string heard(std::optional<Seconds> limit);
+    bool expects(const detail::Line& line);
+    void take(const detail::Line& line);
+    void answer(const std::string& text);
+    void stop_case_from_outside(const std::string& reason, Seconds limit);
+
+    std::shared_ptr<detail::Case> case_;
+    const int number_;
+    const int me_;
+    const std::string behaviour_;
+    std::thread::id thread_;
+    bool is_started_ = false;
+    std::atomic<bool> is_done_{false};
+    std::atomic<bool> is_parked_{false};
+    long seen_ = 0;
+    std::timed_mutex calling_;
+    std::mutex answering_;
+    std::condition_variable answered_;
+    std::string asked_;
+    std::optional<std::string> answer_;
+};
+
+namespace detail {
+
+// What a fault and a refused line are told as, beside the replies of the table.
+inline const std::string lost = "! lost ";
+inline const std::string refused = "! refused ";
+
+// A test case while it runs. Each thread of it keeps it alive.
+class Case : public std::enable_shared_from_this<Case> {
+public:
+    Case(std::string name, Program& program, Seconds grace) : name_(std::move(name)), program_(&program), grace_(grace) {}
+
+    // Runs the main behaviour, and closes the test case once it is over or late.
+    Result play(const std::string& behaviour, Behaviour main, std::optional<Seconds> timeout) {
+        auto run = new_run(behaviour, 0);
+        send("case " + name_ + " " + std::to_string(most_behaviours) + "\n" + naming(*run));
+        std::thread reader([self = shared_from_this()] { self->read(); });
+        begin(run, std::move(main));
+        auto is_over = [&] { return is_over_ || run->is_done_ || !fault_.empty(); };
+        bool is_timed_out = !await(is_over, timeout);
+        if (is_timed_out) stop("the test case took longer than it may");
+        await([&] { return going_on().empty(); }, grace_);
+        for (const auto& it : locked([&] { return going_on(); })) hung_.push_back(it->text());
+        close();
+        reader.join();
+        Result found = result(is_timed_out);
+        locked([&] { runs_.clear(); });  // each of them keeps the test case alive
+        return found;
+    }
+
+    std::shared_ptr<Run> new_run(const std::string& behaviour, int component) {
+        std::lock_guard<std::mutex> hold(news_);
+        if (is_closed_) throw Ended("the test case is closed");
+        int number = static_cast<int>(runs_.size());
+        runs_.push_back(std::shared_ptr<Run>(new Run(shared_from_this(), number, checked_name(behaviour), component)));
+        return runs_.back();
+    }
+
+    // The line that names its behaviour. One more than there may be is named by nobody: the table says what is wrong.
+    std::string naming(const Run& run) const {
+        return run.number_ < most_behaviours ? "behaviour " + std::to_string(run.number_) + " " + run.behaviour_ + "\n" : "";
+    }
+
+    void begin(const std::shared_ptr<Run>& run, Behaviour behaviour) {
+        std::lock_guard<std::mutex> hold(news_);
+        run->is_started_ = true;
+        std::thread([self = shared_from_this(), run, behaviour = std::move(behaviour)] { self->behave(*run, behaviour); }).detach();
+    }
+
+    // Writes lines, unless the test case is closed.
+    void send(const std::string& lines, std::optional<Seconds> limit = std::nullopt) {
+        std::unique_lock<std::timed_mutex> hold(sending_, std::defer_lock);
+        if (limit && !hold.try_lock_for(*limit)) return;
+        if (!limit) hold.lock();
+        const std::string fault = locked([&] { return fault_; });
+        if (!fault.empty()) throw ServerEnded(fault);
+        if (is_closed_) throw Ended("the test case is closed");
+        program_->write(lines, limit);
+    }
+
+    // How many entries there are that may have stopped somebody.
+    long changes() {
+        return locked([&] { return changes_; });
+    }
+
+    // Waits until there are more; false if the time passed before.
+    bool await_change(long seen, std::chrono::steady_clock::time_point deadline) {
+        std::unique_lock<std::mutex> hold(news_);
+        return told_.wait_until(hold, deadline, [&] { return changes_ != seen; });
+    }
+
+private:
+    template <typename Get>
+    std::invoke_result_t<Get> locked(Get get) {
+        std::lock_guard<std::mutex> hold(news_);
+        return get();
+    }
+
+    template <typename Is>
+    bool await(Is is_so, std::optional<Seconds> limit) {
+        std::unique_lock<std::mutex> hold(news_);
+        if (limit) return told_.wait_for(hold, *limit, is_so);
+        told_.wait(hold, is_so);
+        return true;
+    }
+
+    // Runs a behaviour to its end, which the table is told.
+    void behave(Run& run, const Behaviour& behaviour) {
+        run.thread_ = std::this_thread::get_id();
+        try {
+            behaviour(run);
+            run.call("finish");
+        } catch (const DynamicError& error) {
+            note(run, "DynamicError: " + std::string(error.what()), false);
+        } catch (const Ended&) {
+        } catch (const std::exception& error) {
+            note(run, error.what(), true);
+        } catch (...) {
+            note(run, "what it threw is no std::exception", true);
+        }
+        std::lock_guard<std::mutex> hold(news_);
+        run.is_done_ = true;
+        told_.notify_all();
+    }
+
+    // Keeps what a behaviour threw, and ends the test case.
+    void note(Run& run, const std::string& text, bool stops) {
+        locked([&] { raised_.push_back(run.text() + ": " + text); });
+        if (!stops) return;
+        try {
+            run.stop_case(text);
+        } catch (const Ended&) {
+        } catch (const std::exception&) {
+        }
+    }
+
+    // The runs that were started and have not returned; for who holds the news.
+    std::vector<std::shared_ptr<Run>> going_on() const {
+        std::vector<std::shared_ptr<Run>> found;
+        for (const auto& it : runs_)
+            if (it->is_started_ && !it->is_done_) found.push_back(it);
+        return found;
+    }
+
+    // Hands each answer to the run that asked, to the end of the test case.
+    void read() {
+        while (locked([&] { return !is_ended_ && fault_.empty(); })) {
+            auto line = program_->read();
+            if (!line) return lose(program_->how_it_ended());
+            if (!take(*line)) {
+                program_->kill();
+                return lose("the server wrote what it may not write here: " + plain(*line));
+            }
+        }
+    }
+
+    bool take(const std::string& text) {
+        auto line = parsed(text);
+        std::shared_ptr<Run> run;
+        if (line) run = locked([&] { return line->run < static_cast<int>(runs_.size()) ? runs_[static_cast<std::size_t>(line->run)] : nullptr; });
+        bool is_right = false;
+        if (lines_.empty()) is_right = text == "evidence 1 " + name_ + " " + std::to_string(most_behaviours);
+        else if (!run) is_right = is_closed_ && text == "end " + Findings(lines_).overall();
+        else is_right = line->kind == 'b' || line->kind == '#' || run->expects(*line);
+        if (is_right) {
+            lines_.push_back(text);
+            spread(line, run.get(), text.rfind("end ", 0) == 0);
+        }
+        return is_right;
+    }
+
+    // Tells of a line: first everybody of what it changes, then its run of the answer.
+    void spread(const std::optional<Line>& line, Run* run, bool is_end) {
+        if (is_end || (line && line->kind == 'e' && may_halt(*line))) {
+            std::lock_guard<std::mutex> hold(news_);
+            ++changes_;
+            is_ended_ = is_end;
+            is_over_ = is_over_ || (line && ends_case(*line));
+            told_.notify_all();
+        }
+        if (run != nullptr) run->take(*line);
+    }
+
+    // Tells everybody that there is no server any more. The first reason counts.
+    void lose(const std::string& fault) {
+        std::lock_guard<std::mutex> hold(news_);
+        if (fault_.empty()) fault_ = fault;
+        ++changes_;
+        told_.notify_all();
+        for (const auto& run : runs_) run->answer(lost + fault_);
+    }
+
+    // Ends the test case through the table, with the verdict error, in place of a run that does not wait in it.
+    void stop(const std::string& reason) {
+        std::string hanging;
+        for (const auto& it : locked([&] { return going_on(); }))
+            if (!it->is_parked_) hanging += (hanging.empty() ? "" : ", ") + it->text();
+        const auto deadline = std::chrono::steady_clock::now() + grace_;
+        auto is_over = [&] { return is_over_ || !fault_.empty(); };
+        while (!await(is_over, Seconds(0.01)) && std::chrono::steady_clock::now() < deadline)
+            for (const auto& run : locked([&] { return going_on(); }))
+                if (!locked(is_over)) run->stop_case_from_outside(reason + "; not returned: " + hanging, grace_);
+    }
+
+    // Asks for the last line. A server that does not write it is killed.
+    void close() {
+        if (sending_.try_lock_for(grace_)) {
+            is_closed_ = true;
+            program_->write("end\n", grace_);
+            sending_.unlock();
+        }
+        if (await([&] { return is_ended_ || !fault_.empty(); }, grace_)) return;
+        lose("the server does not answer");
+        program_->kill();
+        std::lock_guard<std::timed_mutex> hold(sending_);  // who still writes is done with the program now
+        is_closed_ = true;
+    }
+
+    Result result(bool is_timed_out) {
+        std::lock_guard<std::mutex> hold(news_);
+        Findings findings(lines_);
+        std::string evidence;
+        for (const auto& line : lines_) evidence += line + "\n";
+        std::string verdict = is_ended_ ? lines_.back().substr(4) : "error";
+        std::string why = fault_.empty() ? findings.why : fault_;
+        return Result{name_, verdict, why, findings.locals, findings.names, evidence, raised_, hung_, is_timed_out, fault_};
+    }
+
+    const std::string name_;
+    Program* program_;
+    const Seconds grace_;
+    // Tells of an end, of a fault and of changes. Who holds it writes nothing: the server may wait for its reader.
+    std::mutex news_;
+    std::condition_variable told_;
+    std::timed_mutex sending_;
+    std::vector<std::shared_ptr<Run>> runs_;
+    std::vector<std::string> lines_;
+    std::vector<std::string> raised_;
+    std::vector<std::string> hung_;
+    bool is_over_ = false;
+    bool is_ended_ = false;
+    std::atomic<bool> is_closed_{false};
+    long changes_ = 0;
+    std::string fault_;
+};
+
+}  // namespace detail
+
+inline void Run::start(int component, const std::string& name, Behaviour behaviour, const std::vector<int>& arguments) {
+    check_thread();
+    if (!behaviour) throw std::invalid_argument("a start needs a function");
+    if (arguments.size() > 4) throw std::invalid_argument("a start has at most 4 arguments; let the function keep others");
+    std::string rest;
+    for (int it : arguments) rest += " " + Target(it).word();
+    const std::string on = Target(component).word();
+    auto run = case_->new_run(name, component);
+    ask("start " + on + " " + std::to_string(run->number_) + rest, case_->naming(*run));
+    case_->begin(run, std::move(behaviour));
+}
+
+inline void Run::log(const std::string& text) {
+    const std::string line = remark(text);
+    if (!line.empty()) case_->send(line);
+}
+
+inline void Run::check() {
+    check_thread();
+    const long changes = case_->changes();
+    if (changes == seen_) return;
+    call("getverdict");
+    seen_ = changes;
+}
+
+inline void Run::sleep(Seconds limit) {
+    const auto deadline = std::chrono::steady_clock::now() + std::chrono::duration_cast<std::chrono::steady_clock::duration>(limit);
+    check();
+    while (case_->await_change(seen_, deadline)) check();
+}
+
+// It asks whenever something may have changed: the table knows no time.
+inline bool Run::wait(const std::string& status, const Target& target, Seconds limit) {
+    const auto deadline = std::chrono::steady_clock::now() + std::chrono::duration_cast<std::chrono::steady_clock::duration>(limit);
+    while (true) {
+        const long changes = case_->changes();
+        if (is(status, target)) return true;
+        if (!case_->await_change(changes, deadline)) return false;
+    }
+}
+
+// The same as `ask`, for who holds the lock of the calls, and may wait for so long.
+inline std::string Run::exchange(const std::string& words, const std::string& before, std::optional<Seconds> limit) {
+    {
+        std::lock_guard<std::mutex> hold(answering_);
+        asked_ = words;
+    }
+    case_->send(before + std::to_string(number_) + " " + words + "\n", limit);
+    const std::string found = heard(limit);
+    if (found.rfind(detail::lost, 0) == 0) throw ServerEnded(found.substr(detail::lost.size()));
+    if (found.rfind(detail::refused, 0) == 0) throw Refused("the server refused a line of " + text() + ": " + found.substr(detail::refused.size()));
+    if (found == "ended") throw Ended(text() + " is not going on");
+    if (detail::is_error(found)) throw DynamicError(words + " -> " + found);
+    return found;
+}
+
+inline std::string Run::heard(std::optional<Seconds> limit) {
+    std::unique_lock<std::mutex> hold(answering_);
+    auto is_there = [&] { return answer_.has_value(); };
+    if (!limit) answered_.wait(hold, is_there);
+    else if (!answered_.wait_for(hold, *limit, is_there)) throw ServerEnded("the server does not answer");
+    std::string found = std::move(*answer_);
+    answer_.reset();
+    return found;
+}
+
+inline bool Run::expects(const detail::Line& line) {
+    std::lock_guard<std::mutex> hold(answering_);
+    if (asked_.empty()) return false;
+    const std::string wanted = is_parked_ ? "wake" + asked_.substr(4) : asked_;
+    return line.kind == '!' || (line.text == wanted && detail::suits(wanted, line.reply));
+}
+
+inline void Run::take(const detail::Line& line) {
+    if (line.kind == '!') answer(detail::refused + line.text);
+    else if (line.kind == 'e' && line.reply == "parked") is_parked_ = true;
+    else if (line.kind == 'e') answer(line.reply);
+}
+
+inline void Run::answer(const std::string& text) {
+    std::lock_guard<std::mutex> hold(answering_);
+    asked_.clear();
+    is_parked_ = false;
+    answer_ = text;
+    answered_.notify_one();
+}
+
+// Stops the test case in place of the behaviour, unless it waits or is just making a call.
+inline void Run::stop_case_from_outside(const std::string& reason, Seconds limit) {
+    std::unique_lock<std::timed_mutex> hold(calling_, std::defer_lock);
+    if (is_done_ || is_parked_ || !hold.try_lock_for(Seconds(0.05))) return;
+    try {
+        exchange("stopcase", remark(reason), limit);
+    } catch (const Ended&) {
+    } catch (const Refused&) {
+    }
+}
+
+// `ttrun serve`, which judges test cases one after the other. Where it has ended, the next test case starts it again.
+class Server {
+public:
+    // The program is what FILSKEAM_TTRUN names, else `ttrun` on the path, unless a command is given. A behaviour that does
+    // not return for so long after the end of its test case is left behind.
+    explicit Server(std::vector<std::string> command = {}, Seconds grace = Seconds(5)) : command_(std::move(command)), grace_(grace) {
+        const char* named = std::getenv("FILSKEAM_TTRUN");
+        if (command_.empty()) command_ = {named != nullptr && *named != 0 ? named : "ttrun", "serve"};
+    }
+
+    Server(const Server&) = delete;
+    Server& operator=(const Server&) = delete;
+    ~Server() { close(); }
+
+    // Runs a test case. After the limit it is stopped, with the verdict error.
+    Result run(const std::string& name, Behaviour main, std::optional<Seconds> limit = std::nullopt) {
+        std::lock_guard<std::mutex> hold(judging_);
+        detail::checked_name(name);
+        if (!program_) program_ = std::make_unique<detail::Program>(command_, grace_);
+        auto result = std::make_shared<detail::Case>(name, *program_, grace_)->play("main", std::move(main), limit);
+        if (!result.fault.empty()) {
+            close();
+            status_ = 3;
+        }
+        return result;
+    }
+
+    // Ends it. The status is 0, 1 or 2 by the worst verdict, and 3 where it ended early or refused a line.
+    int close() {
+        if (program_) status_ = std::max(status_, program_->finish());
+        program_.reset();
+        return status_;
+    }
+
+private:
+    std::vector<std::string> command_;
+    Seconds grace_;
+    std::unique_ptr<detail::Program> program_;
+    int status_ = 0;
+    std::mutex judging_;
+};
+
+}  // namespace filskeam

@@ -1,0 +1,446 @@
+"""Runs, test cases and the server: what a bench is written with."""
+from __future__ import annotations
+
+import functools
+import queue
+import threading
+import time
+from typing import Callable, Dict, List, NoReturn, Optional, Sequence, Tuple, Union
+
+from .errors import DynamicError, Ended, Refused, ServerEnded
+from .evidence import VERDICTS, Findings, Line, Raised, Result, ends_case, may_halt, parsed, suits
+from .program import Program, find_program
+from .words import Behaviour, Group, component_word, name_of, name_word, plain_text, told
+
+# How many behaviours a test case may start, the main one among them.
+MOST_BEHAVIOURS = 256
+MOST_ARGUMENTS = 4
+# How many seconds behaviours have, once their test case is over, to return; and the server, to answer or to end.
+GRACE = 5.0
+
+
+class Run:
+    """A run of a behaviour, which makes its calls on it: only the behaviour's own thread may. `log` is free to all.
+
+    `me` is its component. Components are known by their numbers, which `create` returns. A call raises `Ended` if the run
+    was stopped, `DynamicError` if the table replies an error, and `ValueError` for a word that no call has.
+    """
+
+    def __init__(self, case: Case, number: int, behaviour: str, me: int) -> None:
+        self.number, self.behaviour, self.me = number, behaviour, me
+        self.thread: Optional[threading.Thread] = None
+        self.is_done = False
+        self._case = case
+        self._calling = threading.Lock()
+        self._answers: queue.SimpleQueue = queue.SimpleQueue()
+        self._asked = ""
+        self._is_parked = False
+        self._seen = 0
+
+    def __str__(self) -> str:
+        return f"run {self.number} {self.behaviour}"
+
+    def create(self, name: Optional[str] = None, alive: bool = False) -> int:
+        """Creates a component: an alive-type one may be started again after its behaviour."""
+        words = ["create"] + ["alive"] * alive + ([] if name is None else ["named", name_word(name, "a component")])
+        return int(self._call(" ".join(words)).split()[1])
+
+    def start(self, component: int, behaviour: Behaviour, *arguments: int, **others: object) -> None:
+        """Starts a function on a component, as behaviour(run, *arguments, **others).
+
+        The arguments are at most four components, which the table is told. It is not told of the others."""
+        words = [component_word(it) for it in (component, *arguments)]
+        if not callable(behaviour):
+            raise ValueError(f"{behaviour!r} is no function")
+        if len(arguments) > MOST_ARGUMENTS:
+            raise ValueError(f"a start has at most {MOST_ARGUMENTS} arguments; hand others over by name")
+        self._check_thread()
+        run = self._case._new_run(behaviour, component)
+        self._ask(" ".join(["start", words[0], str(run.number), *words[1:]]), self._case._naming(run))
+        self._case._begin(run, functools.partial(behaviour, run, *arguments, **others))
+
+    def stop(self, group: Group) -> None:
+        """Stops a component, or "all" parallel ones."""
+        self._call(f"stop {component_word(group, ('all',))}")
+
+    def kill(self, group: Group) -> None:
+        """Kills a component, or "all" parallel ones."""
+        self._call(f"kill {component_word(group, ('all',))}")
+
+    def stop_case(self, reason: object = "") -> NoReturn:
+        """Ends the test case with the verdict error, and this behaviour."""
+        self._call("stopcase", reason)
+        raise Ended("the test case was stopped")
+
+    def running(self, target: Group) -> bool:
+        """Whether a component, "any" or "all" parallel ones are running."""
+        return self._is("running", target)
+
+    def alive(self, target: Group) -> bool:
+        """Whether a component, "any" or "all" parallel ones are alive."""
+        return self._is("alive", target)
+
+    def done(self, target: Group) -> bool:
+        """Whether a component, "any" or "all" parallel ones are done."""
+        return self._is("done", target)
+
+    def killed(self, target: Group) -> bool:
+        """Whether a component, "any" or "all" parallel ones are killed."""
+        return self._is("killed", target)
+
+    def wait_done(self, target: Group, timeout: Optional[float] = None) -> bool:
+        """Waits until a component, "any" or "all" parallel ones are done; False if the seconds passed before."""
+        return self._wait("done", target, timeout)
+
+    def wait_killed(self, target: Group, timeout: Optional[float] = None) -> bool:
+        """Waits until a component, "any" or "all" parallel ones are killed; False if the seconds passed before."""
+        return self._wait("killed", target, timeout)
+
+    def set_verdict(self, verdict: str, reason: object = "") -> None:
+        """Makes the local verdict this one, if it is worse than the old. The reason goes into the evidence."""
+        if verdict not in VERDICTS[:4]:
+            raise ValueError(f"{verdict!r} is no verdict to set: there are none, pass, inconc and fail")
+        self._call(f"setverdict {verdict}", reason)
+
+    def get_verdict(self) -> str:
+        """The local verdict."""
+        return self._call("getverdict")
+
+    def log(self, text: object) -> None:
+        """Puts a remark into the evidence. Any thread may."""
+        self._case._send(*self._remark(text))
+
+    def check(self) -> None:
+        """Raises `Ended` if this run was stopped: for long loops. It asks the table only after something was stopped."""
+        self._check_thread()
+        changes = self._case._changes
+        if changes != self._seen:
+            self._call("getverdict")
+            self._seen = changes
+
+    def sleep(self, seconds: float) -> None:
+        """Sleeps, and raises `Ended` as soon as this run is stopped."""
+        deadline = time.monotonic() + seconds
+        self.check()
+        while self._case._await_change(self._seen, deadline):
+            self.check()
+
+    def _is(self, status: str, target: Group) -> bool:
+        return self._call(f"{status} {component_word(target, ('any', 'all'))}") == "true"
+
+    def _wait(self, status: str, target: Group, timeout: Optional[float]) -> bool:
+        """With a time-out it asks whenever something may have changed: the table knows no time."""
+        if timeout is None:
+            self._call(f"wait {status} {component_word(target, ('any', 'all'))}")
+            return True
+        deadline = time.monotonic() + timeout
+        while True:
+            changes = self._case._changes
+            if self._is(status, target):
+                return True
+            if not self._case._await_change(changes, deadline):
+                return False
+
+    def _remark(self, text: object) -> List[str]:
+        plain = plain_text(text)
+        return [f"{self.number} # {plain}"] if plain else []
+
+    def _check_thread(self) -> None:
+        if threading.current_thread() is not self.thread:
+            raise RuntimeError(f"the calls of {self} are its own thread's: another may only log")
+
+    def _call(self, words: str, reason: object = "") -> str:
+        self._check_thread()
+        return self._ask(words, self._remark(reason))
+
+    def _ask(self, words: str, before: Sequence[str] = ()) -> str:
+        """Writes these lines and a call, and waits for its answer."""
+        with self._calling:
+            return self._exchange(words, before)
+
+    def _exchange(self, words: str, before: Sequence[str], seconds: Optional[float] = None) -> str:
+        """The same, for who holds the lock of the calls, and may wait for so long."""
+        self._asked = words
+        self._case._send(*before, f"{self.number} {words}", seconds=seconds)
+        answer = self._answers.get(timeout=seconds)
+        if isinstance(answer, BaseException):
+            raise answer
+        if answer == "ended":
+            raise Ended(f"{self} is not going on")
+        if answer.startswith("error "):
+            raise DynamicError(f"{words} -> {answer}")
+        return answer
+
+    def _expects(self, line: Line) -> bool:
+        """Whether the entry, or the refused line, answers what was asked."""
+        wanted = "wake" + self._asked[4:] if self._is_parked else self._asked
+        return wanted != "" if line.kind == "!" else line.text == wanted and suits(wanted, line.reply)
+
+    def _take(self, line: Line) -> None:
+        """Takes a line of this run."""
+        if line.kind == "!":
+            self._answer(Refused(f"the server refused a line of {self}: {line.text}"))
+        elif line.kind == "->" and line.reply == "parked":
+            self._is_parked = True
+        elif line.kind == "->":
+            self._answer(line.reply)
+
+    def _answer(self, answer: Union[str, BaseException]) -> None:
+        self._asked, self._is_parked = "", False
+        self._answers.put(answer)
+
+    def _stop_case_from_outside(self, reason: str, seconds: float) -> None:
+        """Stops the test case in place of the behaviour, unless it waits or is just making a call."""
+        if self.is_done or self._is_parked or not self._calling.acquire(timeout=0.05):
+            return
+        try:
+            self._exchange("stopcase", self._remark(reason), seconds)
+        except (Ended, Refused, queue.Empty):
+            pass
+        finally:
+            self._calling.release()
+
+
+class Case:
+    """A test case: its name and its main behaviour. `run` runs it, once."""
+
+    def __init__(self, name: str, main: Behaviour, timeout: Optional[float] = None, server: Optional[Server] = None) -> None:
+        self.name, self.main, self.timeout, self.server = name_word(name, "a test case"), main, timeout, server
+        self._runs: Dict[int, Run] = {}
+        self._lines: List[str] = []
+        self._raised: List[Raised] = []
+        self._hung: Tuple[str, ...] = ()
+        self._is_over = self._is_ended = self._is_timed_out = False
+        self._fault = ""
+        # How many entries there are that may have stopped somebody.
+        self._changes = 0
+        # Tells of an end, of a fault and of these entries. Who holds it writes nothing: the server may wait for its reader.
+        self._news = threading.Condition()
+        self._sending = threading.Lock()
+        self._is_closed = False
+
+    def run(self) -> Result:
+        """Runs it: on the given server, or on one of its own. Nothing that a behaviour does makes it raise."""
+        if self._runs:
+            raise RuntimeError(f"test case {self.name} was run before: make a new one")
+        if self.server is not None:
+            return self.server._judge(self)
+        with Server() as server:
+            return server._judge(self)
+
+    def _play(self, program: Program, grace: float) -> None:
+        """Runs the main behaviour, and closes the test case once it is over, late, or interrupted."""
+        self._program, self._grace = program, grace
+        main = self._new_run(self.main, 0)
+        self._send(f"case {self.name} {MOST_BEHAVIOURS}", *self._naming(main))
+        reader = threading.Thread(target=self._read, name=f"{self.name} reader", daemon=True)
+        reader.start()
+        reason = "the bench was interrupted"
+        try:
+            self._begin(main, functools.partial(self.main, main))
+            self._is_timed_out = not self._await(lambda: self._is_over or main.is_done or self._fault, self.timeout)
+            reason = f"the test case took longer than {self.timeout} s"
+        finally:
+            self._stop(reason)
+            self._await(lambda: not self._going_on(), grace)
+            self._hung = tuple(str(run) for run in self._going_on())
+            self._close()
+            reader.join(grace)
+
+    def _result(self) -> Result:
+        """What is known at the end."""
+        findings = Findings(self._lines)
+        fault = self._fault or ("" if self._is_ended else "the bench was interrupted twice")
+        verdict = self._lines[-1].split()[1] if self._is_ended else "error"
+        evidence = "".join(f"{line}\n" for line in self._lines)
+        return Result(self.name, verdict, fault or findings.why, findings.locals, findings.names, evidence, tuple(self._raised),
+                      self._hung, self._is_timed_out, fault)
+
+    # What runs do
+
+    def _new_run(self, behaviour: Behaviour, component: int) -> Run:
+        with self._news:
+            run = Run(self, len(self._runs), name_of(behaviour), component)
+            self._runs[run.number] = run
+        return run
+
+    def _naming(self, run: Run) -> List[str]:
+        """The line that names its behaviour. One more than there may be is named by nobody: the table says what is wrong."""
+        return [f"behaviour {run.number} {run.behaviour}"] if run.number < MOST_BEHAVIOURS else []
+
+    def _begin(self, run: Run, behaviour: Callable[[], object]) -> None:
+        run.thread = threading.Thread(target=self._behave, args=(run, behaviour), name=f"{self.name} {run}", daemon=True)
+        run.thread.start()
+
+    def _behave(self, run: Run, behaviour: Callable[[], object]) -> None:
+        """Runs a behaviour to its end, which the table is told."""
+        try:
+            behaviour()
+            run._call("finish")
+        except BaseException as raised:
+            self._note(run, raised)
+        finally:
+            with self._news:
+                run.is_done = True
+                self._news.notify_all()
+
+    def _note(self, run: Run, raised: BaseException) -> None:
+        """Keeps what a behaviour raised, and ends the test case unless it was told of its own end."""
+        if not isinstance(raised, Ended) or isinstance(raised, DynamicError):
+            self._raised.append(Raised(run.number, run.behaviour, raised))
+        if not isinstance(raised, Ended):
+            try:
+                run.stop_case(told(raised))
+            except (Ended, Refused):
+                pass
+
+    def _going_on(self) -> List[Run]:
+        """The runs that were started and have not returned."""
+        return [run for run in list(self._runs.values()) if run.thread is not None and not run.is_done]
+
+    def _send(self, *lines: str, seconds: Optional[float] = None) -> None:
+        """Writes lines, unless the test case is closed."""
+        if not self._sending.acquire(timeout=-1 if seconds is None else seconds):
+            return
+        try:
+            if self._fault:
+                raise ServerEnded(self._fault)
+            if self._is_closed:
+                raise Ended("the test case is closed")
+            self._program.write("".join(f"{line}\n" for line in lines).encode(), seconds)
+        finally:
+            self._sending.release()
+
+    # What the reader does
+
+    def _read(self) -> None:
+        """Hands each answer to the run that asked, to the end of the test case."""
+        while not self._is_ended and not self._fault:
+            line = self._program.read()
+            if line is None:
+                self._lose(self._program.how_it_ended())
+                return
+            if not self._take(line):
+                self._program.kill()
+                self._lose(f"the server wrote what it may not write here: {line[:100]!r}")
+                return
+
+    def _take(self, text: str) -> bool:
+        """Takes a line, if it may stand here."""
+        line = parsed(text)
+        run = self._runs.get(line.run) if line else None
+        if not self._lines:
+            is_right = text == f"evidence 1 {self.name} {MOST_BEHAVIOURS}"
+        elif line is None or run is None:
+            is_right = self._is_closed and text == f"end {Findings(self._lines).overall()}"
+        else:
+            is_right = line.kind in ("behaviour", "#") or run._expects(line)
+        if is_right:
+            self._lines.append(text)
+            self._spread(line, run, text)
+        return is_right
+
+    def _spread(self, line: Optional[Line], run: Optional[Run], text: str) -> None:
+        """Tells of a line: first everybody of what it changes, then its run of the answer."""
+        if text.startswith("end ") or line is not None and may_halt(line):
+            with self._news:
+                self._changes += 1
+                self._is_ended = text.startswith("end ")
+                self._is_over = self._is_over or line is not None and ends_case(line)
+                self._news.notify_all()
+        if line is not None and run is not None:
+            run._take(line)
+
+    def _lose(self, fault: str) -> None:
+        """Tells everybody that there is no server any more. The first reason counts."""
+        with self._news:
+            self._fault = self._fault or fault
+            self._changes += 1
+            self._news.notify_all()
+            for run in self._runs.values():
+                run._answer(ServerEnded(fault))
+
+    # What the bench does
+
+    def _await(self, is_so: Callable[[], object], seconds: Optional[float]) -> bool:
+        """Waits until it is so; False if the seconds passed before."""
+        with self._news:
+            return bool(self._news.wait_for(is_so, seconds))
+
+    def _await_change(self, seen: int, deadline: float) -> bool:
+        """Waits until something may have been stopped; False if the deadline passed before."""
+        with self._news:
+            return self._news.wait_for(lambda: self._changes != seen, max(0.0, deadline - time.monotonic()))
+
+    def _stop(self, reason: str) -> None:
+        """Ends the test case through the table, with the verdict error, in place of a run that does not wait in it."""
+        hanging = ", ".join(str(run) for run in self._going_on() if not run._is_parked)
+        deadline = time.monotonic() + self._grace
+        while not self._is_over and not self._fault and time.monotonic() < deadline:
+            for run in self._going_on():
+                if not self._is_over:
+                    run._stop_case_from_outside(f"{reason}; not returned: {hanging}", self._grace)
+            self._await(lambda: self._is_over, 0.01)
+
+    def _close(self) -> None:
+        """Asks for the last line. A server that does not write it is killed."""
+        if self._sending.acquire(timeout=self._grace):
+            self._is_closed = True
+            self._program.write(b"end\n", self._grace)
+            self._sending.release()
+        if not self._await(lambda: self._is_ended or self._fault, self._grace):
+            self._lose("the server does not answer")
+            self._program.kill()
+
+
+class Server:
+    """`ttrun serve`, which judges test cases one after the other. Where it has ended, the next test case starts it again."""
+
+    def __init__(self, command: Optional[Sequence[str]] = None, evidence: Optional[str] = None, grace: float = GRACE) -> None:
+        """The command is `ttrun serve`, unless another is given. The evidence of each test case is appended to the file.
+
+        A behaviour that does not return for `grace` seconds after the end of its test case is left behind."""
+        self._command = list(command) if command is not None else [find_program(), "serve"]
+        if evidence is not None:  # a file that cannot be written is told before a test case is run
+            open(evidence, "a", encoding="ascii").close()
+        self._evidence, self._grace = evidence, grace
+        self._program: Optional[Program] = None
+        self._status = 0
+        self._judging = threading.Lock()
+
+    def run(self, name: str, main: Behaviour, timeout: Optional[float] = None) -> Result:
+        """Runs a test case. After so many seconds it is stopped, with the verdict error."""
+        return Case(name, main, timeout, self).run()
+
+    def close(self) -> int:
+        """Ends it. The status is 0, 1 or 2 by the worst verdict, and 3 where it ended early or refused a line."""
+        if self._program is not None:
+            self._status = max(self._status, self._program.close())
+            self._program = None
+        return self._status
+
+    def __enter__(self) -> Server:
+        return self
+
+    def __exit__(self, *_: object) -> None:
+        self.close()
+
+    def _judge(self, case: Case) -> Result:
+        """Runs a test case, and keeps its evidence, even if the bench is interrupted."""
+        with self._judging:
+            self._program = self._program or Program(self._command, self._grace)
+            try:
+                case._play(self._program, self._grace)
+            finally:
+                result = case._result()
+                self._keep(result)
+                if result.fault:
+                    self.close()
+                    self._status = 3
+        return result
+
+    def _keep(self, result: Result) -> None:
+        """Appends the evidence to the file. A block without its end would spoil the file: it goes into another beside it."""
+        if self._evidence is not None:
+            with open(self._evidence + ".cut" * bool(result.fault), "a", encoding="ascii") as file:
+                file.write(result.evidence)

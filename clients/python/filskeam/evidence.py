@@ -1,0 +1,173 @@
+"""Evidence: its lines, what they say together, and the result of a test case."""
+from __future__ import annotations
+
+import re
+from dataclasses import dataclass
+from typing import Dict, List, Optional, Sequence, Tuple, Union
+
+from .words import told
+
+VERDICTS = ("none", "pass", "inconc", "fail", "error")
+
+
+def worst(verdicts: Sequence[str]) -> str:
+    """The worst of these verdicts."""
+    return max(verdicts, key=VERDICTS.index, default="none")
+
+
+@dataclass(frozen=True)
+class Line:
+    """A line inside evidence: a naming (`behaviour`), an entry (`->`), a remark (`#`) or a refused line (`!`)."""
+
+    kind: str
+    run: int
+    text: str
+    reply: str = ""
+
+
+_NAMING = re.compile(r"behaviour ([0-9]+) ([A-Za-z0-9_]+)")
+_SAID = re.compile(r"([0-9]+) ([#!]) ([ -~]{1,200})")
+_ENTRY = re.compile(r"([0-9]+) ([a-z][a-zA-Z0-9_ ]*) -> ([a-z][a-z0-9 -]*)")
+
+
+def parsed(text: str) -> Optional[Line]:
+    """The line that the text spells."""
+    naming, said, entry = _NAMING.fullmatch(text), _SAID.fullmatch(text), _ENTRY.fullmatch(text)
+    if naming:
+        return Line("behaviour", int(naming[1]), naming[2])
+    if said:
+        return Line(said[2], int(said[1]), said[3])
+    return Line("->", int(entry[1]), entry[2], entry[3]) if entry else None
+
+
+_SUITS = {
+    "create": "made [0-9]+", "getverdict": "|".join(VERDICTS), "wait": "matched|parked", "wake": "matched",
+    **dict.fromkeys(("start", "stop", "kill", "stopcase", "setverdict", "finish"), "ok"),
+    **dict.fromkeys(("running", "alive", "done", "killed"), "true|false"),
+}
+
+
+def suits(call: str, reply: str) -> bool:
+    """Whether the table may reply so to this call."""
+    return re.fullmatch(f"{_SUITS[call.split()[0]]}|ended|error [a-z-]+", reply) is not None
+
+
+def ends_case(line: Line) -> bool:
+    """Whether the test case is over behind this entry."""
+    is_end = line.text in ("stopcase", "stop 0", "kill 0") or line.run == 0 and line.text == "finish"
+    return line.reply.startswith("error ") or is_end and line.reply == "ok"
+
+
+def may_halt(line: Line) -> bool:
+    """Whether somebody may have been stopped by this entry, or be done."""
+    return line.reply.startswith("error ") or line.text.split()[0] in ("finish", "stop", "kill", "stopcase") and line.reply == "ok"
+
+
+class Findings:
+    """What the lines of a test case say: names, local verdicts, and the entry that made the overall verdict."""
+
+    def __init__(self, texts: Sequence[str]) -> None:
+        self.behaviours: Dict[int, str] = {}
+        self.names: Dict[int, str] = {0: "mtc"}
+        self.locals: Dict[int, str] = {0: "none"}
+        self.why = "no behaviour set a verdict"
+        self._component_of: Dict[int, int] = {0: 0}
+        self._said: Dict[int, str] = {}
+        for text in texts:
+            line = parsed(text)
+            if line is not None:
+                self._take(line)
+
+    def overall(self) -> str:
+        """The worst of the local verdicts."""
+        return worst(list(self.locals.values()))
+
+    def _take(self, line: Line) -> None:
+        """Takes the next line."""
+        if line.kind == "behaviour":
+            self.behaviours[line.run] = line.text
+        elif line.kind == "#":
+            self._said[line.run] = line.text
+        elif line.kind == "->":
+            words = line.text.split()
+            if words[0] == "create" and line.reply.startswith("made "):
+                made = int(line.reply[5:])
+                self.locals[made], self.names[made] = "none", words[-1] if "named" in words else ""
+            elif words[0] == "start" and line.reply == "ok":
+                self._component_of.setdefault(int(words[2]), int(words[1]))
+            self._judge(line, words)
+            self._said.pop(line.run, None)
+
+    def _judge(self, line: Line, words: List[str]) -> None:
+        """Adds what the entry gives its caller's component."""
+        given = "none"
+        if line.reply.startswith("error ") or (line.text, line.reply) == ("stopcase", "ok"):
+            given = "error"
+        elif words[0] == "setverdict" and line.reply == "ok":
+            given = words[1]
+        component = self._component_of.get(line.run)
+        if component is None:
+            return
+        if VERDICTS.index(given) > VERDICTS.index(self.overall()):
+            self.why = self._why(line, component)
+        self.locals[component] = worst([self.locals[component], given])
+
+    def _why(self, line: Line, component: int) -> str:
+        """Who made the entry, which, and what was said right before it."""
+        who = f"run {line.run} {self.behaviours.get(line.run, '')}".rstrip()
+        place = "mtc" if component == 0 else f"component {component} {self.names[component]}".rstrip()
+        reply = "" if line.reply == "ok" else f" -> {line.reply}"
+        reason = f": {self._said[line.run]}" if line.run in self._said else ""
+        return f"{who} on {place}: {line.text}{reply}{reason}"
+
+
+@dataclass(frozen=True)
+class Raised:
+    """What a behaviour raised."""
+
+    run: int
+    behaviour: str
+    exception: BaseException
+
+    def __str__(self) -> str:
+        return f"run {self.run} {self.behaviour}: {told(self.exception)}"
+
+
+@dataclass(frozen=True)
+class Result:
+    """What is known of a test case: it is there whatever its behaviours did."""
+
+    name: str
+    # The overall verdict; error where the server ended before it told one.
+    verdict: str
+    # Who made the verdict, by which call, and the reason that was given.
+    why: str
+    # The local verdicts by component, and the names of the components, empty where one has none.
+    locals: Dict[int, str]
+    names: Dict[int, str]
+    # The block of evidence that the server wrote. Its last line is missing where the server ended early.
+    evidence: str
+    raised: Tuple[Raised, ...] = ()
+    # The behaviours that had not returned when the test case was closed. Their threads are left behind.
+    hung: Tuple[str, ...] = ()
+    is_timed_out: bool = False
+    # Why the server ended inside the test case; empty where it did not.
+    fault: str = ""
+
+    def local(self, which: Union[int, str]) -> str:
+        """The local verdict of a component, or the worst of those with this name."""
+        found = [verdict for number, verdict in self.locals.items() if which in (number, self.names[number])]
+        if not found:
+            raise KeyError(f"test case {self.name} has no component {which!r}")
+        return worst(found)
+
+    def report(self, most: int = 20) -> str:
+        """Who, why, what was raised, the local verdicts, and the last entries."""
+        lines = [f"test case {self.name}: {self.verdict}", f"why: {self.why}"]
+        lines += ["the test case took longer than it may"] * self.is_timed_out
+        lines += [f"has not returned: {it}" for it in self.hung]
+        lines += [f"raised by {it}" for it in self.raised]
+        lines += [f"local {f'{number} {self.names[number]}'.rstrip()}: {verdict}" for number, verdict in self.locals.items()]
+        entries = self.evidence.splitlines()
+        lines += ["evidence:" if len(entries) <= most else f"evidence, the last {most} of {len(entries)} lines:"]
+        return "\n".join(lines + [f"  {it}" for it in entries[-most:]])

@@ -1,0 +1,87 @@
+"""The program `ttrun serve`: where it is, its pipes, its end."""
+from __future__ import annotations
+
+import io
+import os
+import select
+import shutil
+import subprocess
+import tempfile
+from typing import Optional, Sequence
+
+from .errors import NoProgram
+
+# No line of evidence is as long.
+MOST_BYTES_OF_A_LINE = 1000
+
+
+def find_program() -> str:
+    """The program: what FILSKEAM_TTRUN names, `ttrun` on the path, or the wrapper of the checkout that this file is in."""
+    named = os.environ.get("FILSKEAM_TTRUN")
+    if named:
+        return named
+    wrapper = os.path.join(os.path.dirname(os.path.abspath(__file__)), *[os.pardir] * 3, "ttrun")
+    found = shutil.which("ttrun") or shutil.which(os.path.normpath(wrapper))
+    if found is None:
+        raise NoProgram("there is no ttrun: let FILSKEAM_TTRUN name the program, or put it on the path")
+    return found
+
+
+class Program:
+    """A server that runs: lines go in, lines come out."""
+
+    def __init__(self, command: Sequence[str], grace: float) -> None:
+        self._grace = grace
+        self._errors = tempfile.TemporaryFile()
+        try:
+            # In a session of its own, Ctrl-C at a terminal ends the bench, which then closes the test case.
+            self._process = subprocess.Popen(list(command), bufsize=0, stdin=subprocess.PIPE, stdout=subprocess.PIPE,
+                                             stderr=self._errors, start_new_session=True)
+        except OSError as error:
+            self._errors.close()
+            raise NoProgram(f"{command[0]} cannot be started: {error.strerror}") from error
+        self._output = io.BufferedReader(self._process.stdout)
+
+    def write(self, text: bytes, seconds: Optional[float] = None) -> None:
+        """Gives it lines, unless it takes none for so many seconds. One that has ended is noticed by who reads."""
+        pipe = self._process.stdin.fileno()
+        try:
+            if seconds is None or select.select([], [pipe], [], seconds)[1]:
+                while text:
+                    text = text[os.write(pipe, text):]
+        except OSError:
+            pass
+
+    def read(self) -> Optional[str]:
+        """The next line, without its line feed; None at the end, also where the last line is cut."""
+        line = self._output.readline(MOST_BYTES_OF_A_LINE)
+        if len(line) < MOST_BYTES_OF_A_LINE and not line.endswith(b"\n"):
+            return None
+        return line.decode("latin-1").rstrip("\n")
+
+    def how_it_ended(self) -> str:
+        """How it ended, by its own last line."""
+        try:
+            status = self._process.wait(self._grace)
+        except subprocess.TimeoutExpired:
+            return "the server has closed its output"
+        self._errors.seek(0)
+        told = self._errors.read().decode("utf-8", "replace").strip().splitlines()
+        how = f"signal {-status}" if status < 0 else f"status {status}"
+        return f"the server ended with {how}" + (f": {told[-1]}" if told else "")
+
+    def kill(self) -> None:
+        """Ends it at once."""
+        self._process.kill()
+
+    def close(self) -> int:
+        """Ends its input, and waits for its end: its status, 3 where it was a signal."""
+        self._process.stdin.close()
+        try:
+            status = self._process.wait(self._grace)
+        except subprocess.TimeoutExpired:
+            self.kill()
+            status = self._process.wait()
+        self._output.close()
+        self._errors.close()
+        return status if 0 <= status <= 3 else 3

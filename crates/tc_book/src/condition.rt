@@ -1,0 +1,63 @@
+//! Where one run of a case waits.
+ghost use Rattle.std.specs.Prelude.{◌≡◌, IsTrue};
+ghost use Rattle.std.specs.Sync.Mutex.{mutex_guard_value};
+ghost use Rattle.tc_book.specs.Inside.{goes_on, lacks};
+
+use crate::logged_book::LoggedBook;
+use crate::until::{Lack, Until};
+use std::sync::{Condvar, MutexGuard, Wait};
+use tc_verdict::Run;
+
+/// Where one run of a case waits behind the lock, and is told.
+#[derive(Drop)]
+pub(crate) struct Condition {
+    run: Run,
+    changed: Condvar,
+}
+
+impl Condition {
+    pub(crate) fn new(run: Run) -> Condition
+        ensures { result.run ≡ run }
+    {
+        Condition {
+            run,
+            changed: Condvar::new(),
+        }
+    }
+
+    /// The run that waits here.
+    pub(crate) fn run(&self) -> Run
+        ensures { result ≡ self.now.run }
+    {
+        self.run
+    }
+
+    /// The book, once the run goes on that waits for this. The look by which it goes on and the sleep before are of one hold.
+    pub(crate) fn wait<'b, R: Wait>(
+        &self,
+        rt: &R,
+        book: MutexGuard<'b, LoggedBook>,
+        until: Until,
+    ) -> MutexGuard<'b, LoggedBook>
+        ensures { IsTrue (goes_on (mutex_guard_value result).book self.now.run until) }
+    {
+        let run = self.run;
+        self.changed
+            .wait_while(rt, book, |book| book.waits(run, until))
+    }
+
+    /// Waits for ever, since by the book in this hold the run lacks what it would go on with, and that can't come.
+    pub(crate) fn stay<R: Wait>(self, rt: &R, book: MutexGuard<'_, LoggedBook>, lack: Lack)
+        requires { IsTrue (lacks (mutex_guard_value book).book self.run lack) }
+        ensures { ⊥ }
+    {
+        self.changed.wait_while(rt, book, |_| true);
+    }
+
+    /// Tells the run, if it waits and may go on now.
+    pub(crate) fn tell(&self, book: &LoggedBook) {
+        if book.wakes(self.run) {
+            self.changed.notify_all();
+        }
+    }
+}

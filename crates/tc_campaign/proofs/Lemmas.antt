@@ -1,0 +1,3 @@
+-- The lemmas that other crates cite.
+pub mod Keeping
+pub mod Running

@@ -1,0 +1,86 @@
+-- What a campaign leaves with an observer that has room for all its test cases, and one that has no room for them.
+use Rattle.std.proofs.Common.{ℕ, zero, suc, ◌≡◌, ◌≤◌, ◌∷◌, [], List, Option, Some, length, map, take, arith, inl, inr, refl, sym, subst}
+use Rattle.std.specs.Prelude.{IfSome, slice_get}
+use Rattle.std.specs.Vec.{vec_capacity}
+use Rattle.std.proofs.lemmas.List.Elements.{All-nil}
+use Rattle.std.proofs.lemmas.Slice.Zip.{AllZip-long}
+use Rattle.tc_verdict.specs.declared.verdict.Verdict.{Verdict}
+use Rattle.tc_book.specs.Passes.{PassState}
+use Rattle.tc_exec.specs.declared.job.Back.{Back}
+use Rattle.tc_report.specs.declared.kept.Kept.{Kept}
+use Rattle.tc_report.specs.declared.results.CampaignEnd.{CampaignEnd}
+use Rattle.tc_report.specs.declared.results.Finished.{Finished}
+use Rattle.tc_report.specs.Kept.{Keeps}
+use Rattle.tc_report.specs.Observers.{AreTaken, IsEndedAt}
+use Rattle.tc_report.proofs.Lemmas.Keeping.{are_kept, never_ended}
+use Rattle.tc_campaign.specs.declared.case.Case.{Case}
+use Rattle.tc_campaign.specs.Outline.{outline_of}
+use Rattle.tc_campaign.specs.Campaign.{AreFinished, HasBehaviours, IsCalled, IsCutShort, IsObserved, IsRunTo, IsTornAt}
+use Rattle.tc_campaign.specs.Inside.{IsUnrun}
+
+take_short : {A : Type 0} (n : ℕ) (xs : List A) → length (take n xs) ≤ length xs
+take_short zero xs = omega arith
+take_short (suc n) [] = omega arith
+take_short (suc n) (x ∷ xs) = omega (arith, take_short n xs)
+
+module _ {B : Type 0} (outcome : B → PassState → Back → Type 0) (cases : List (Case B)) (stop_on : Option Verdict) (threads : ℕ) where
+  pub none_finished : AreFinished outline_of (IsCalled outcome) cases stop_on threads []
+  none_finished = record {
+    names = tt;
+    better = All-nil _;
+    reports = tt;
+    calls = tt;
+    named = All-nil _;
+    threads_are = All-nil _;
+    behaviours = All-nil HasBehaviours;
+  }
+
+  module _ (before after : Kept) (none : before.finished.items ≡ []) (room : length cases ≤ vec_capacity before.finished) (finished : List Finished)
+      (each : AreFinished outline_of (IsCalled outcome) cases stop_on threads finished) where
+    fits : length finished ≤ vec_capacity before.finished
+    fits =
+        let same = AllZip-long (IsCalled outcome) (take (length finished) cases) finished each.calls in
+        omega (arith, same, take_short (length finished) cases, room)
+
+    -- where there is room for all test cases, the finished ones are kept
+    pub all_are_kept : AreTaken Keeps finished before after → after.finished.items ≡ finished
+    all_are_kept taken = are_kept finished before after none fits taken
+
+    -- and the campaign is not ended for want of room
+    pub not_ended : IsEndedAt Keeps finished before after → ⊥
+    not_ended ended = never_ended finished before after none fits ended
+
+  module _ (before after : Kept) (none : before.finished.items ≡ []) (room : length cases ≤ vec_capacity before.finished) where
+    pub not_cut : IsCutShort outcome cases stop_on threads Keeps before after → ⊥
+    not_cut cut = not_ended before after none room cut.finished cut.each cut.ended
+
+    module _ (answer : Option CampaignEnd) (ending : CampaignEnd) (is : answer ≡ Some ending)
+        (observed : IfSome answer (IsObserved outcome cases stop_on threads Keeps before after)) where
+      seen : IsObserved outcome cases stop_on threads Keeps before after ending
+      seen = subst (λ a. IfSome a (IsObserved outcome cases stop_on threads Keeps before after)) is observed
+
+      same : seen.finished ≡ after.finished.items
+      same = sym (all_are_kept before after none room seen.finished seen.run.each seen.taken)
+
+      pub kept_run : IsRunTo outline_of (IsCalled outcome) cases stop_on threads after.finished.items ending
+      kept_run = subst (λ fs. IsRunTo outline_of (IsCalled outcome) cases stop_on threads fs ending) same seen.run
+
+      pub kept_torn : IsTornAt outcome (slice_get cases (length after.finished.items)) ending
+      kept_torn = subst (λ fs. IsTornAt outcome (slice_get cases (length fs)) ending) same seen.torn
+
+module _ {B : Type 0} (outcome : B → PassState → Back → Type 0) (finished : List Finished) (ending : CampaignEnd) (none : finished ≡ []) where
+  -- a campaign that was not run for want of room
+  pub unrun_run : (cases : List (Case B)) (stop_on : Option Verdict) (threads : ℕ) → IsUnrun (map outline_of cases) ending
+      → IsRunTo outline_of (IsCalled outcome) cases stop_on threads finished ending
+  unrun_run cases stop_on threads is = subst (λ fs. IsRunTo outline_of (IsCalled outcome) cases stop_on threads fs ending) (sym none) (go cases is)
+    where
+      go : (cs : List (Case B)) → IsUnrun (map outline_of cs) ending → IsRunTo outline_of (IsCalled outcome) cs stop_on threads [] ending
+      go [] is = rw is (record { each = none_finished outcome [] stop_on threads; last = (tt, refl); why = inl tt })
+      go (c ∷ cs) is = rw is (record { each = none_finished outcome (c ∷ cs) stop_on threads; last = (tt, refl); why = inr (refl, refl) })
+
+  pub unrun_torn : (cases : List (Case B)) → IsUnrun (map outline_of cases) ending → IsTornAt outcome (slice_get cases (length finished)) ending
+  unrun_torn cases is = subst (λ fs. IsTornAt outcome (slice_get cases (length fs)) ending) (sym none) (go cases is)
+    where
+      go : (cs : List (Case B)) → IsUnrun (map outline_of cs) ending → IsTornAt outcome (slice_get cs 0) ending
+      go [] is = rw is tt
+      go (c ∷ cs) is = rw is tt

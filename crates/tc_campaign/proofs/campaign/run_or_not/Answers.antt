@@ -1,4 +1,0 @@
-use Rattle.tc_campaign.proofs.campaign.run_or_not.Goals as goal
-
-pub returns-in-Err-clause-run : goal.returns-in-Err-clause-run
-returns-in-Err-clause-run g c = c.without_room.ensures.run c.args.stop_on c.args.threads

@@ -1,0 +1,68 @@
+-- What only the writer and the reader of one block say.
+use Rattle.std.specs.Prelude.{ℕ, ◌≡◌, ◌+◌, ◌<◌, ◌≤◌, false, true, Bool, Option, None, Some, List, [], ◌∷◌, ◌++◌, length, map}
+use Rattle.std.specs.Borrow.{Bor}
+use Rattle.tc_verdict.specs.declared.run.Run.{Run}
+use Rattle.tc_verdict.specs.declared.verdict.Verdict.{Verdict}
+use Rattle.tc_text.specs.Shown.{is_plain}
+use Rattle.tc_text.specs.Lines.{lines_of}
+use Rattle.tc_history.specs.Block.{end_text}
+use Rattle.tc_evidence.specs.declared.header.Kind.{Kind}
+use Rattle.tc_evidence.specs.declared.header.Kind.TheVariants as K
+use Rattle.tc_evidence.specs.declared.line.Line.{Line}
+use Rattle.tc_evidence.specs.declared.line.Line.TheVariants as L
+use Rattle.tc_evidence.specs.Line.{line_text}
+use Rattle.tc_evidence.specs.Sentence.{IsSentence}
+use Rattle.tc_evidence.specs.Text.{IsLine, AreLines}
+
+-- no byte but those from 32 to 126
+abbrev pub ArePlain : List ℕ → Type 0
+ArePlain [] = Unit {0}
+ArePlain (b ∷ bs) = (is_plain b ≡ true) × ArePlain bs
+
+-- the text does not begin with a byte from 32 to 126
+abbrev pub NoPlainFirst : List ℕ → Type 0
+NoPlainFirst text = (b : ℕ) (rest : List ℕ) → text ≡ b ∷ rest → is_plain b ≡ false
+
+-- the line is no entry
+abbrev pub IsNoEntry : Line → Type 0
+IsNoEntry (L.Entry e) = ⊥
+IsNoEntry _ = Unit {0}
+
+-- what a run says, as a line
+abbrev pub line_said : Bool → Run → List ℕ → Line
+line_said false run sentence = L.Remark run sentence
+line_said true run sentence = L.Refused run sentence
+
+-- the line is what a run of the case says
+abbrev pub IsSaidBy : ℕ → Line → Type 0
+IsSaidBy n (L.Remark run sentence) = (run.0 < n) × IsSentence sentence
+IsSaidBy n (L.Refused run sentence) = (run.0 < n) × IsSentence sentence
+IsSaidBy n _ = ⊥
+
+-- the line is no entry, and may come in evidence of n behaviours after these lines
+abbrev pub IsNote : ℕ → List Line → Line → Type 0
+IsNote n before l = IsNoEntry l × IsLine K.Evidence n before l
+
+-- the first line spells this one, which is one that may come, and no other that may
+pub record IsNext (may : Line → Type 0) (text : List ℕ) (l : Line) (rest : List ℕ) : Type 0 where
+  pub spelled : lines_of text ≡ line_text l ∷ lines_of rest
+  pub fits : may l
+  pub less : length rest < length text
+  pub only : (m : Line) (others : List (List ℕ)) → may m → lines_of text ≡ line_text m ∷ others → (l ≡ m) × (lines_of rest ≡ others)
+
+-- the first line spells none that may come
+abbrev pub IsNone : (Line → Type 0) → List ℕ → Type 0
+IsNone may text = (m : Line) (others : List (List ℕ)) → may m → lines_of text ≡ line_text m ∷ others → ⊥
+
+-- the line that may come which the first line spells, and what stands behind it, if it spells one
+abbrev pub IsFound : (Line → Type 0) → List ℕ → Option (Line × Bor (List ℕ)) → Type 0
+IsFound may text None = IsNone may text
+IsFound may text (Some r) = IsNext may text r.0 r.1.now
+
+-- the text begins with lines that may come inside a block and with a last line, and the rest begins with the next line
+pub record AreTaken (kind : Kind) (n : ℕ) (text : List ℕ) (inside : List Line) (v : Verdict) (rest : List ℕ) : Type 0 where
+  pub right : AreLines kind n [] inside
+  pub lines : lines_of text ≡ map line_text inside ++ end_text v ∷ lines_of rest
+  pub room : length inside + 1 + length rest ≤ length text
+  -- and it begins with no others
+  pub only : (ls : List Line) (w : Verdict) (others : List (List ℕ)) → AreLines kind n [] ls → lines_of text ≡ map line_text ls ++ end_text w ∷ others → (inside ≡ ls) × (v ≡ w) × (lines_of rest ≡ others)

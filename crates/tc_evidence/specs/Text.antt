@@ -1,0 +1,135 @@
+-- Texts of histories and evidence, and what is wrong with other texts.
+use Rattle.std.specs.Prelude.{ℕ, ◌≡◌, ◌≢◌, ◌<◌, ◌≤◌, ◌+◌, ◌⊎◌, false, List, [], ◌∷◌, ◌++◌, length, map}
+use Rattle.tc_verdict.specs.declared.verdict.Verdict.{Verdict}
+use Rattle.tc_entry.specs.Limits.{IsBehaviours}
+use Rattle.tc_entry.specs.Name.{IsName}
+use Rattle.tc_text.specs.declared.fault.TextFault.{TextFault}
+use Rattle.tc_text.specs.declared.fault.TextFault.TheVariants as F
+use Rattle.tc_text.specs.declared.fault.TextKind.{TextKind}
+use Rattle.tc_text.specs.declared.fault.TextKind.TheVariants as T
+use Rattle.tc_text.specs.Lines.{lines_of}
+use Rattle.tc_history.specs.Block.{end_text}
+use Rattle.tc_history.specs.Text.{IsEntry}
+use Rattle.tc_evidence.specs.declared.block.Block.{Block}
+use Rattle.tc_evidence.specs.declared.header.Header.{Header}
+use Rattle.tc_evidence.specs.declared.header.Kind.{Kind}
+use Rattle.tc_evidence.specs.declared.header.Kind.TheVariants as K
+use Rattle.tc_evidence.specs.declared.line.Line.{Line}
+use Rattle.tc_evidence.specs.declared.line.Line.TheVariants as L
+use Rattle.tc_evidence.specs.Line.{is_met, line_text}
+use Rattle.tc_evidence.specs.Sentence.{IsSentence}
+use Rattle.tc_evidence.specs.Block.{header_text}
+
+-- the format of a block's entries; those of evidence are spelled as in format 2
+abbrev pub format_of : Kind → ℕ
+format_of K.History1 = 1
+format_of K.History2 = 2
+format_of K.Evidence = 2
+
+-- the name of run k's behaviour: only in evidence, for a run of the case, and before any line about that run
+pub record IsNaming (kind : Kind) (n : ℕ) (before : List Line) (k : ℕ) (name : List ℕ) : Type 0 where
+  pub evidence : kind ≡ K.Evidence
+  pub few : k < n
+  pub name_is : IsName name
+  pub first : is_met k before ≡ false
+
+-- what run k said: only in evidence, by a run of the case
+pub record IsSaying (kind : Kind) (n k : ℕ) (sentence : List ℕ) : Type 0 where
+  pub evidence : kind ≡ K.Evidence
+  pub few : k < n
+  pub sentence_is : IsSentence sentence
+
+-- a line that may come inside a block of this kind and n behaviours, after these lines
+abbrev pub IsLine : Kind → ℕ → List Line → Line → Type 0
+IsLine kind n before (L.Named run name) = IsNaming kind n before run.0 name
+IsLine kind n before (L.Entry e) = IsEntry (format_of kind) e
+IsLine kind n before (L.Remark run sentence) = IsSaying kind n run.0 sentence
+IsLine kind n before (L.Refused run sentence) = IsSaying kind n run.0 sentence
+
+-- lines that may come inside a block, one after the other, after these lines
+abbrev pub AreLines : Kind → ℕ → List Line → List Line → Type 0
+AreLines kind n before [] = Unit {0}
+AreLines kind n before (l ∷ ls) = IsLine kind n before l × AreLines kind n (before ++ l ∷ []) ls
+
+-- a name, a number of behaviours that a case may have, and a kind for it: format 1 of histories has at most 64
+pub record IsHeader (h : Header) : Type 0 where
+  pub name_is : IsName h.name
+  pub few : IsBehaviours h.behaviours
+  pub kind_fits : h.kind ≡ K.History1 → h.behaviours ≤ 64
+
+-- a block whose first line is the line of this number
+pub record IsBlock (line : ℕ) (b : Block) : Type 0 where
+  pub header : IsHeader b.header
+  pub inside : AreLines b.header.kind b.header.behaviours [] b.lines
+  pub first : b.first_line ≡ line
+
+-- a first line and lines inside, which no line ends yet
+abbrev pub open_lines : Header → List Line → List (List ℕ)
+open_lines h lines = header_text h ∷ map line_text lines
+
+-- the lines of a block
+abbrev pub block_lines : Block → List (List ℕ)
+block_lines b = open_lines b.header b.lines ++ end_text b.verdict ∷ []
+
+-- the lines of blocks, one block after the other
+abbrev pub all_lines : List Block → List (List ℕ)
+all_lines [] = []
+all_lines (b ∷ bs) = block_lines b ++ all_lines bs
+
+-- blocks whose first one begins in the line of this number
+abbrev pub AreBlocks : ℕ → List Block → Type 0
+AreBlocks line [] = Unit {0}
+AreBlocks line (b ∷ bs) = IsBlock line b × AreBlocks (line + length (block_lines b)) bs
+
+-- the text is that of these blocks, and there is one
+pub record AreEvidence (text : List ℕ) (blocks : List Block) : Type 0 where
+  pub some : blocks ≢ []
+  pub fits : AreBlocks 1 blocks
+  pub lines : lines_of text ≡ all_lines blocks
+
+-- some blocks, and then, in the line of this number, no first line of a block
+pub record IsBadHeader (text : List ℕ) (line : ℕ) : Type 0 where
+  pub blocks : List Block
+  pub bad_line : List ℕ
+  pub others : List (List ℕ)
+  pub fits : AreBlocks 1 blocks
+  pub lines : lines_of text ≡ all_lines blocks ++ bad_line ∷ others
+  pub number : line ≡ length (all_lines blocks) + 1
+  pub bad : (h : Header) → IsHeader h → bad_line ≢ header_text h
+
+-- some blocks, a first line and some lines inside, and then, in the line of this number, neither a line that may come nor the end of the block
+pub record IsBadLine (text : List ℕ) (line : ℕ) : Type 0 where
+  pub blocks : List Block
+  pub header : Header
+  pub inside : List Line
+  pub bad_line : List ℕ
+  pub others : List (List ℕ)
+  pub fits : AreBlocks 1 blocks
+  pub header_is : IsHeader header
+  pub right : AreLines header.kind header.behaviours [] inside
+  pub lines : lines_of text ≡ all_lines blocks ++ (open_lines header inside ++ bad_line ∷ others)
+  pub number : line ≡ length (all_lines blocks) + (length inside + 2)
+  pub no_line : (l : Line) → IsLine header.kind header.behaviours inside l → bad_line ≢ line_text l
+  pub no_end : (v : Verdict) → bad_line ≢ end_text v
+
+-- some blocks, a first line and some lines inside, and nothing more
+pub record IsOpen (text : List ℕ) : Type 0 where
+  pub blocks : List Block
+  pub header : Header
+  pub inside : List Line
+  pub fits : AreBlocks 1 blocks
+  pub header_is : IsHeader header
+  pub right : AreLines header.kind header.behaviours [] inside
+  pub lines : lines_of text ≡ all_lines blocks ++ open_lines header inside
+
+-- the first fault of the text is of this kind and in this line
+abbrev pub IsEvidenceFaultAt : List ℕ → ℕ → TextKind → Type 0
+IsEvidenceFaultAt text line T.Early = ((lines_of text ≡ []) ⊎ IsOpen text) × (line ≡ length (lines_of text) + 1)
+IsEvidenceFaultAt text line T.FirstLine = IsBadHeader text line
+IsEvidenceFaultAt text line T.Entry = IsBadLine text line
+IsEvidenceFaultAt text line T.Move = ⊥
+
+-- what a fault says of the text; want of memory says nothing
+abbrev pub IsEvidenceFault : List ℕ → TextFault → Type 0
+IsEvidenceFault text (F.At line kind) = IsEvidenceFaultAt text line kind
+IsEvidenceFault text F.NoMemory = Unit {0}

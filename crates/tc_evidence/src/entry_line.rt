@@ -1,0 +1,67 @@
+//! The line of an entry, and the last line of a block.
+ghost use Rattle.std.specs.Prelude.{◌≡◌, ◌<◌, ◌↔◌, ◌∷◌, ℕ, List, length, IfSome, IsTrue};
+ghost use Rattle.tc_verdict.specs.declared.verdict.Verdict.{Verdict as AnyVerdict};
+ghost use Rattle.tc_entry.specs.declared.entry.Entry.{Entry as AnyEntry};
+ghost use Rattle.tc_entry.specs.declared.reply.Reply.{Reply as AnyReply};
+ghost use Rattle.tc_text.specs.Lines.{lines_of};
+ghost use Rattle.tc_text.specs.Inside.{TakesLine};
+ghost use Rattle.tc_text.specs.Spelling.{IsReply};
+ghost use Rattle.tc_history.specs.Block.{end_text, entry_text, outcome_text};
+ghost use Rattle.tc_history.specs.Text.{IsEntry, IsUnnamed};
+ghost use Rattle.tc_evidence.specs.Text.{format_of};
+
+use crate::header::Kind;
+use tc_entry::{Entry, Op, Reply, Verdict};
+use tc_text::{after, take_line_end, take_move, take_reply, take_verdict};
+
+/// The overall verdict, where the first line is the last one of a block, and what stands behind that line.
+pub(crate) fn take_end_line(text: &[u8]) -> Option<(Verdict, &[u8])>
+    ensures spelled { IfSome result (λ r. lines_of text.now ≡ end_text r.0 ∷ lines_of r.1.now) }
+    ensures less { IfSome result (λ r. length r.1.now < length text.now) }
+    ensures only { (v : AnyVerdict) (others : List (List ℕ)) → lines_of text.now ≡ end_text v ∷ others → TakesLine result v others }
+{
+    let rest = after(text, b"end ")?;
+    let (verdict, rest) = take_verdict(rest)?;
+    let rest = take_line_end(rest)?;
+    Some((verdict, rest))
+}
+
+// The reply behind a move, and what stands behind the line, which it ends.
+fn take_outcome(text: &[u8]) -> Option<(Reply, &[u8])>
+    ensures spelled { IfSome result (λ r. lines_of text.now ≡ outcome_text r.0 ∷ lines_of r.1.now) }
+    ensures fits { IfSome result (λ r. IsReply r.0) }
+    ensures less { IfSome result (λ r. length r.1.now < length text.now) }
+    ensures only { (r : AnyReply) (others : List (List ℕ)) → IsReply r → lines_of text.now ≡ outcome_text r ∷ others
+        → TakesLine result r others }
+{
+    let rest = after(text, b" -> ")?;
+    let (reply, rest) = take_reply(rest)?;
+    let rest = take_line_end(rest)?;
+    Some((reply, rest))
+}
+
+// Whether an entry of a block of this kind may have the operation.
+fn may_call(kind: Kind, op: &Op) -> bool
+    ensures { IsTrue result ↔ (format_of kind ≡ 1 → IsUnnamed op.now) }
+{
+    match op {
+        Op::Create { name: Some(_), .. } => kind != Kind::History1,
+        _ => true,
+    }
+}
+
+/// The entry of a block of this kind that the first line spells, and what stands behind that line.
+pub(crate) fn take_entry(kind: Kind, text: &[u8]) -> Option<(Entry, &[u8])>
+    ensures spelled { IfSome result (λ r. lines_of text.now ≡ entry_text r.0 ∷ lines_of r.1.now) }
+    ensures fits { IfSome result (λ r. IsEntry (format_of kind) r.0) }
+    ensures less { IfSome result (λ r. length r.1.now < length text.now) }
+    ensures only { (e : AnyEntry) (others : List (List ℕ)) → IsEntry (format_of kind) e → lines_of text.now ≡ entry_text e ∷ others
+        → TakesLine result e others }
+{
+    let ((caller, op), rest) = take_move(text)?;
+    if !may_call(kind, &op) {
+        return None;
+    }
+    let (reply, rest) = take_outcome(rest)?;
+    Some((Entry { caller, op, reply }, rest))
+}

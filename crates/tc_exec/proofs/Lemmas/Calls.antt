@@ -1,0 +1,171 @@
+-- What workers left, one after another.
+use Rattle.std.proofs.Common.{ℕ, zero, suc, ◌≡◌, ◌≢◌, ◌<◌, ◌+◌, ◌==◌, ◌||◌, inl, inr, Bool, true, false, Some, None, Result, Ok, Err, IfOk, List, [], ◌∷◌, ◌++◌, All, length, get_or, map, reverse, refl, sym, ap, ◌∙◌, arith}
+use Rattle.std.proofs.lemmas.Bool.Decides.{nat_tests}
+use Rattle.std.proofs.lemmas.List.Elements.{All-get_or}
+use Rattle.tc_entry.specs.declared.entry.Entry.{Entry}
+use Rattle.tc_table.specs.History.{comp_of}
+use Rattle.tc_case.specs.declared.closed.Closed.{Closed}
+use Rattle.tc_book.specs.Closing.{IsFitting, IsWhole}
+use Rattle.tc_book.specs.Starts.{start_of}
+use Rattle.tc_book.specs.Inside.{comp_by}
+use Rattle.tc_book.proofs.Lemmas.PartOf.{comp_is}
+use Rattle.tc_verdict.specs.declared.run.Run.{Run}
+use Rattle.tc_book.specs.Passes.{PassState, LeftState}
+use Rattle.tc_exec.specs.declared.handed.Handed.{Handed}
+use Rattle.tc_exec.specs.declared.job.Back.{Back}
+use Rattle.tc_case.specs.declared.refusal.CaseError.{CaseError}
+use Rattle.tc_case.specs.declared.refusal.CaseError.TheVariants.{NoMemory, Torn}
+use Rattle.tc_exec.specs.declared.job.Ending.{Ending}
+use Rattle.tc_exec.specs.declared.job.Ending.TheVariants as E
+use Rattle.tc_exec.specs.Case.{AreCalled, IsHandedBack, IsMadeOf}
+use Rattle.tc_exec.specs.Workers.{IsWorked, WasCalled, WasCalledFor, IsLeftBy, AreLeftBy, opening}
+use Rattle.tc_exec.specs.Inside.{is_starved}
+
+-- memory was refused neither before nor now
+pub neither : (before now after : Bool) → after ≡ (before || now) → after ≡ false → (before ≡ false) × (now ≡ false)
+neither false false after is none = (refl, refl)
+neither true now after is none = absurd cc
+neither false true after is none = absurd cc
+
+came_back : (e : Ending) → is_starved e ≡ false → e ≡ E.Returned
+came_back E.Returned none = refl
+came_back E.Starved none = absurd cc
+
+-- one more that was left keeps the first
+pub first_kept : (d : LeftState) (old now after : List LeftState) (x : LeftState) → (0 < length old → (0 < length now) × (get_or now 0 d ≡ get_or old 0 d)) → after ≡ now ++ x ∷ [] →
+    0 < length old → (0 < length after) × (get_or after 0 d ≡ get_or old 0 d)
+first_kept d old [] after x was is some = absurd (omega (arith, (was some).0))
+first_kept d old (n ∷ now) after x was is some = rw is (omega arith, (was some).1)
+
+module _ {B : Type 0} (outcome : B → PassState → Back → Type 0) where
+  -- what a worker handed back whose behaviour was not refused memory
+  pub left_by : (run : Run) (b : B) (h : Handed) → is_starved h.ending ≡ false → IsWorked run (outcome b) h → IsLeftBy outcome run b h.left
+  left_by run b h none (inl unstarted) = inl (ap (λ m. let x : Handed = record { left = m.left; ending = E.Returned } in x) unstarted)
+  left_by run b h none (inr w) =
+      let called = w.called in
+      inr (record {
+        pass = w.pass;
+        own = w.own;
+        new = w.new;
+        main = w.main;
+        called = record { back = called.back; outcome_of = called.outcome_of; left = called.left; ending = sym (came_back h.ending none) ∙ called.ending };
+      })
+
+  pushed : (runs : List Run) (bs : List B) (ls : List LeftState) (run : Run) (b : B) (l : LeftState) →
+      AreLeftBy outcome runs bs ls → IsLeftBy outcome run b l → AreLeftBy outcome (runs ++ run ∷ []) (bs ++ b ∷ []) (ls ++ l ∷ [])
+  pushed [] [] [] run b l all one = (one, tt)
+  pushed (_ ∷ runs) (_ ∷ bs) (_ ∷ ls) run b l all one = (all.0, pushed runs bs ls run b l all.1 one)
+  pushed [] [] (_ ∷ ls) run b l all one = absurd all
+  pushed [] (_ ∷ bs) ls run b l all one = absurd all
+  pushed (_ ∷ runs) [] ls run b l all one = absurd all
+  pushed (_ ∷ runs) (_ ∷ bs) [] run b l all one = absurd all
+
+  over : {A W : Type 0} (f : W → A) (xs : List A) (ws : List W) (w : W) → (xs ++ map f ws) ++ f w ∷ [] ≡ xs ++ map f (ws ++ w ∷ [])
+  over f [] [] w = refl
+  over f [] (v ∷ ws) w = ap (λ q. f v ∷ q) (over f [] ws w)
+  over f (x ∷ xs) ws w = ap (λ q. x ∷ q) (over f xs ws w)
+
+  -- one worker more was joined
+  pub joined : {W : Type 0} (run : W → Run) (behaviour : W → B) (runs : List Run) (bs : List B) (ls : List LeftState) (ws : List W) (w : W) (l : LeftState) (after : List LeftState) →
+      AreLeftBy outcome (runs ++ map run ws) (bs ++ map behaviour ws) ls → IsLeftBy outcome (run w) (behaviour w) l → after ≡ ls ++ l ∷ [] →
+      AreLeftBy outcome (runs ++ map run (ws ++ w ∷ [])) (bs ++ map behaviour (ws ++ w ∷ [])) after
+  joined run behaviour runs bs ls ws w l after all one is =
+      rw (is, ← over run runs ws w, ← over behaviour bs ws w)
+      (pushed (runs ++ map run ws) (bs ++ map behaviour ws) ls (run w) (behaviour w) l all one)
+
+  -- what run k left
+  pub at : (runs : List Run) (bs : List B) (ls : List LeftState) → AreLeftBy outcome runs bs ls → (k : ℕ) (run : Run) (b : B) (l : LeftState) → k < length bs →
+      IsLeftBy outcome (get_or runs k run) (get_or bs k b) (get_or ls k l) × (k < length runs) × (k < length ls)
+  at [] [] [] all k run b l below = absurd (omega arith)
+  at (_ ∷ runs) (_ ∷ bs) (_ ∷ ls) all zero run b l below = (all.0, omega arith, omega arith)
+  at (_ ∷ runs) (_ ∷ bs) (_ ∷ ls) all (suc k) run b l below = let h = at runs bs ls all.1 k run b l (omega arith) in (h.0, omega (arith, h.1), omega (arith, h.2))
+  at [] [] (_ ∷ ls) all k run b l below = absurd all
+  at [] (_ ∷ bs) ls all k run b l below = absurd all
+  at (_ ∷ runs) [] ls all k run b l below = absurd all
+  at (_ ∷ runs) (_ ∷ bs) [] all k run b l below = absurd all
+
+  pub unstarted_comp : (b : ℕ) → 0 < b → comp_by b None ≡ None
+  unstarted_comp b above = let k : (b == 0) ≡ false = grind (arith, nat_tests) in rw k refl
+
+  -- a started run above 0 was not left unstarted
+  of_one : (history : List Entry) (run : Run) (b : B) (l : LeftState) → IsLeftBy outcome run b l → 0 < run.0 → IsFitting history l → comp_of (reverse history) run.0 ≢ None →
+      WasCalledFor run (outcome b)
+  of_one history run b l (inr w) above fits started =
+      record { pass = w.pass; own = w.own; new = w.new; main = w.main; back = w.called.back; outcome_of = w.called.outcome_of }
+  of_one history run b l (inl e) above fits started =
+      let left : l ≡ record { run = run; log = []; started = None } = ap (λ h. h.left) e in
+      let own : l.run ≡ run = ap (λ m. m.run) left in
+      let none : l.started ≡ None = ap (λ m. m.started) left in
+      let known : l.started ≡ start_of (reverse history) l.run.0 = fits.started (rw own above) in
+      let start : start_of (reverse history) run.0 ≡ None = rw (← own) (sym known ∙ none) in
+      absurd (started (comp_is (reverse history) run.0 ∙ (rw start (unstarted_comp run.0 above))))
+
+  pub all_called : (history : List Entry) (runs : List Run) (bs : List B) (ls : List LeftState) →
+      AreLeftBy outcome runs bs ls → ((k : ℕ) (run : Run) → k < length runs → (get_or runs k run).0 ≡ k) → All (IsFitting history) ls →
+      ((b : B) → WasCalledFor (record { 0 = 0 }) (outcome (get_or bs 0 b))) →
+      (k : ℕ) (b : B) → k < length bs → comp_of (reverse history) k ≢ None → WasCalledFor (record { 0 = k }) (outcome (get_or bs k b))
+  all_called history runs bs ls all numbered fits main zero b below started = main b
+  all_called history runs bs ls all numbered fits main (suc k) b below started =
+      let l : LeftState = record { run = record { 0 = 0 }; log = []; started = None } in
+      let h = at runs bs ls all (suc k) (record { 0 = 0 }) b l below in
+      let number = numbered (suc k) (record { 0 = 0 }) h.1 in
+      let same : get_or runs (suc k) (record { 0 = 0 }) ≡ record { 0 = suc k } = ap (λ m. let r : Run = record { 0 = m } in r) number in
+      let c = of_one history (get_or runs (suc k) (record { 0 = 0 })) (get_or bs (suc k) b) (get_or ls (suc k) l) h.0 (rw number (omega arith)) (All-get_or (IsFitting history) ls (suc k) l h.2 fits) (rw number started) in
+      rw (← same) c
+
+  -- what the main behaviour left, as the first of all
+  pub main_left : (p : PassState) (b : B) (h : Handed) → p ≡ opening → WasCalled (outcome b p) h →
+      is_starved h.ending ≡ false → AreLeftBy outcome (record { 0 = 0 } ∷ []) (b ∷ []) (h.left ∷ [])
+  main_left p b h is called none =
+      let own : p.run ≡ record { 0 = 0 } = ap (λ q. q.run) is in
+      let new : p.log ≡ [] = ap (λ q. q.log) is in
+      (left_by (record { 0 = 0 }) b h none (inr (record { pass = p; own = own; new = new; main = λ _. is; called = called })), tt)
+
+  pub main_called : (p : PassState) (b : B) (h : Handed) → p ≡ opening → WasCalled (outcome b p) h → WasCalledFor (record { 0 = 0 }) (outcome b)
+  main_called p b h is called =
+      let own : p.run ≡ record { 0 = 0 } = ap (λ q. q.run) is in
+      let new : p.log ≡ [] = ap (λ q. q.log) is in
+      record { pass = p; own = own; new = new; main = λ _. is; back = called.back; outcome_of = called.outcome_of }
+
+  -- run 0, and then the others from 1 on
+  pub numbered : (runs : List Run) → ((k : ℕ) (run : Run) → k < length runs → (get_or runs k run).0 ≡ k + 1) →
+      (k : ℕ) (run : Run) → k < length (let r : List Run = record { 0 = 0 } ∷ runs in r) → (get_or (let r : List Run = record { 0 = 0 } ∷ runs in r) k run).0 ≡ k
+  numbered runs h zero run below = refl
+  numbered runs h (suc k) run below = h k run (omega arith) ∙ omega arith
+
+  -- what the main behaviour left is not that of a run that was never started
+  pub main_started : (p : PassState) (b : B) (h : Handed) → WasCalled (outcome b p) h → (ls taken : List LeftState) (l : LeftState) → taken ≡ h.left ∷ [] →
+      (0 < length taken → get_or ls 0 l ≡ get_or taken 0 l) → (get_or ls 0 l).started ≢ None
+  main_started p b h called ls taken l is first started =
+      let found : get_or ls 0 l ≡ h.left = first (rw is (omega arith)) ∙ (rw is refl) in
+      let bad : Some (called.back.pass.me, called.back.pass.args) ≡ None = sym called.left.started ∙ ap (λ m. m.started) (sym found) ∙ started in
+      absurd cc
+
+  -- a report is made only where memory was refused to no behaviour
+  pub report_called : (result : Result Closed CaseError) (starved : Bool) (runs : List Run) (bs : List B) (ls : List LeftState) →
+      (starved ≡ true → result ≡ Err NoMemory) → (starved ≡ false → AreLeftBy outcome runs bs ls) →
+      ((k : ℕ) (run : Run) → k < length runs → (get_or runs k run).0 ≡ k) →
+      ((b : B) → WasCalledFor (record { 0 = 0 }) (outcome (get_or bs 0 b))) →
+      IfOk result (λ c. IsWhole c.behaviours c.history ls) → IfOk result (AreCalled outcome bs)
+  report_called (Ok c) false runs bs ls refused all number main whole = all_called c.history runs bs ls (all refl) number whole.fitting main
+  report_called (Ok c) true runs bs ls refused all number main whole = let bad = refused refl in absurd cc
+  report_called (Err e) starved runs bs ls refused all number main whole = tt
+
+  pub report_made : (result : Result Closed CaseError) (starved : Bool) (runs : List Run) (bs : List B) (ls : List LeftState) →
+      (starved ≡ true → result ≡ Err NoMemory) → (starved ≡ false → AreLeftBy outcome runs bs ls) →
+      ((k : ℕ) (run : Run) → k < length runs → (get_or runs k run).0 ≡ k) →
+      (starved ≡ false → (l : LeftState) → (get_or ls 0 l).started ≢ None) →
+      IfOk result (λ c. IsWhole c.behaviours c.history ls) → IfOk result (IsMadeOf outcome bs)
+  report_made (Ok c) false runs bs ls refused all number main whole = record { runs = runs; lefts = ls; numbered = number; left = all refl; main = main refl; whole = whole }
+  report_made (Ok c) true runs bs ls refused all number main whole = let bad = refused refl in absurd cc
+  report_made (Err e) starved runs bs ls refused all number main whole = tt
+
+  -- where a case is torn, memory was refused to no behaviour
+  pub torn_handed : (result : Result Closed CaseError) (starved : Bool) (runs : List Run) (bs : List B) (ls : List LeftState) →
+      (starved ≡ true → result ≡ Err NoMemory) → (starved ≡ false → AreLeftBy outcome runs bs ls) →
+      ((k : ℕ) (run : Run) → k < length runs → (get_or runs k run).0 ≡ k) →
+      (starved ≡ false → (l : LeftState) → (get_or ls 0 l).started ≢ None) →
+      result ≡ Err Torn → IsHandedBack outcome bs
+  torn_handed result false runs bs ls refused all number main torn = record { runs = runs; lefts = ls; numbered = number; left = all refl; main = main refl }
+  torn_handed (Err e) true runs bs ls refused all number main torn = let bad = refused refl in absurd cc
+  torn_handed (Ok c) true runs bs ls refused all number main torn = absurd cc

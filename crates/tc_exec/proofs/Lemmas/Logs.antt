@@ -1,0 +1,75 @@
+-- The logs of a report are those of the behaviours' passes.
+use Rattle.std.proofs.Common.{ℕ, zero, suc, ◌≡◌, ◌≢◌, ◌∙◌, ◌<◌, ◌≤◌, inl, inr, Option, Some, None, List, [], All, length, get_or, reverse, refl, sym, ap, subst, arith}
+use Rattle.std.proofs.lemmas.List.Elements.{All-append, All-cons, All-nil, All-get_or}
+use Rattle.tc_verdict.specs.declared.run.Run.{Run}
+use Rattle.tc_entry.specs.declared.comp.Comp.{Comp}
+use Rattle.tc_entry.specs.declared.entry.Entry.{Entry}
+use Rattle.tc_table.specs.History.{comp_of}
+use Rattle.tc_case.specs.declared.closed.Closed.{Closed}
+use Rattle.tc_book.specs.Closing.{IsFitting}
+use Rattle.tc_case.specs.Parts.{part, log_if, logs_below}
+use Rattle.tc_book.specs.Passes.{PassState, LeftState}
+use Rattle.tc_book.specs.Starts.{start_of}
+use Rattle.tc_case.specs.Report.{IsOneHistory}
+use Rattle.tc_book.proofs.Lemmas.PartOf.{comp_is}
+use Rattle.tc_exec.specs.declared.job.Back.{Back}
+use Rattle.tc_exec.specs.Workers.{IsLeftBy}
+use Rattle.tc_exec.specs.Case.{IsMadeOf}
+use Rattle.tc_exec.specs.Logs.{IsLogBy, AreLogsBy}
+use Rattle.tc_exec.proofs.Lemmas.Calls.{at, unstarted_comp}
+
+module _ {B : Type 0} (outcome : B → PassState → Back → Type 0) (own : (b : B) (p : PassState) (k : Back) → outcome b p k → k.pass.run ≡ p.run) where
+  -- the log of a run on a component, by what the run left
+  of_left : (history : List Entry) (run : Run) (b : B) (l : LeftState) (c : Comp) → IsLeftBy outcome run b l → IsFitting history l →
+      (run.0 ≡ 0 → l.started ≢ None) → comp_of (reverse history) run.0 ≡ Some c →
+      IsLogBy (outcome b) history (record { run = run; comp = c; entries = part history run.0 })
+  of_left history run b l c (inr w) fits main on =
+      let same : l.run ≡ run = w.called.left.run ∙ own b w.pass w.called.back w.called.outcome_of ∙ w.own in
+      record { left = l; made = w; entries = sym (fits.part ∙ ap (λ r. part history r.0) same); started = λ above. fits.started (rw same above) ∙ ap (λ r. start_of (reverse history) r.0) same }
+  of_left history run b l c (inl e) fits main on =
+      let left : l ≡ record { run = run; log = []; started = None } = ap (λ h. h.left) e in
+      let same : l.run ≡ run = ap (λ m. m.run) left in
+      let none : l.started ≡ None = ap (λ m. m.started) left in
+      absurd (unstarted run.0 refl same none)
+    where
+      unstarted : (k : ℕ) → run.0 ≡ k → l.run ≡ run → l.started ≡ None → ⊥
+      unstarted zero is same none = main is none
+      unstarted (suc k) is same none =
+          let above : 0 < run.0 = omega (arith, is) in
+          let start : start_of (reverse history) run.0 ≡ None = sym (ap (λ r. start_of (reverse history) r.0) same) ∙ sym (fits.started (rw same above)) ∙ none in
+          let bad : Some c ≡ None = sym on ∙ comp_is (reverse history) run.0 ∙ (rw start (unstarted_comp outcome run.0 above)) in
+          absurd cc
+
+  log_one : (history : List Entry) (runs : List Run) (bs : List B) (ls : List LeftState) (behaviours : ℕ) (k : ℕ) (b : B) (o : Option Comp) →
+      ((k : ℕ) (b : B) (c : Comp) → k < behaviours → comp_of (reverse history) k ≡ Some c → IsLogBy (outcome (get_or bs k b)) history (record { run = record { 0 = k }; comp = c; entries = part history k })) →
+      k < behaviours → comp_of (reverse history) k ≡ o → All (λ l. IsLogBy (outcome (get_or bs l.run.0 b)) history l) (log_if o history k)
+  log_one history runs bs ls behaviours k b None each below is = All-nil (λ l. IsLogBy (outcome (get_or bs l.run.0 b)) history l)
+  log_one history runs bs ls behaviours k b (Some c) each below is =
+      All-cons (λ l. IsLogBy (outcome (get_or bs l.run.0 b)) history l) (record { run = record { 0 = k }; comp = c; entries = part history k }) [] (each k b c below is)
+      (All-nil (λ l. IsLogBy (outcome (get_or bs l.run.0 b)) history l))
+
+  logs_up_to : (history : List Entry) (bs : List B) (behaviours n : ℕ) (b : B) → n ≤ behaviours →
+      ((k : ℕ) (b : B) (c : Comp) → k < behaviours → comp_of (reverse history) k ≡ Some c → IsLogBy (outcome (get_or bs k b)) history (record { run = record { 0 = k }; comp = c; entries = part history k })) →
+      All (λ l. IsLogBy (outcome (get_or bs l.run.0 b)) history l) (logs_below history n)
+  logs_up_to history bs behaviours zero b most each = All-nil (λ l. IsLogBy (outcome (get_or bs l.run.0 b)) history l)
+  logs_up_to history bs behaviours (suc n) b most each =
+      All-append (λ l. IsLogBy (outcome (get_or bs l.run.0 b)) history l) (logs_below history n) (log_if (comp_of (reverse history) n) history n)
+      (logs_up_to history bs behaviours n b (omega (arith, most)) each)
+      (log_one history [] bs [] behaviours n b (comp_of (reverse history) n) each (omega (arith, most)) refl)
+
+  -- the log of a run that was started is that of the behaviour of its number
+  pub log_of_run : (c : Closed) (bs : List B) → IsMadeOf outcome bs c → (k : ℕ) (b : B) (comp : Comp) → k < length bs → comp_of (reverse c.history) k ≡ Some comp →
+      IsLogBy (outcome (get_or bs k b)) c.history (record { run = record { 0 = k }; comp = comp; entries = part c.history k })
+  log_of_run c bs made k b comp below on =
+      let l : LeftState = record { run = record { 0 = 0 }; log = []; started = None } in
+      let h = at outcome made.runs bs made.lefts made.left k (record { 0 = 0 }) b l below in
+      let same : get_or made.runs k (record { 0 = 0 }) ≡ record { 0 = k } = ap (λ m. let r : Run = record { 0 = m } in r) (made.numbered k (record { 0 = 0 }) h.1) in
+      let left : IsLeftBy outcome (record { 0 = k }) (get_or bs k b) (get_or made.lefts k l) = subst (λ r. IsLeftBy outcome r (get_or bs k b) (get_or made.lefts k l)) same h.0 in
+      of_left c.history (record { 0 = k }) (get_or bs k b) (get_or made.lefts k l) comp left (All-get_or (IsFitting c.history) made.lefts k l h.2 made.whole.fitting)
+      (λ zero_is. rw zero_is (made.main l)) on
+
+  -- where each behaviour hands back a pass of its own run
+  pub logs_by : (c : Closed) (bs : List B) → IsOneHistory c → c.behaviours ≡ length bs → IsMadeOf outcome bs c → AreLogsBy outcome bs c
+  logs_by c bs one count made b =
+      subst (All (λ l. IsLogBy (outcome (get_or bs l.run.0 b)) c.history l)) (sym one.logs)
+      (logs_up_to c.history bs (length bs) c.behaviours b (omega (arith, count)) (log_of_run c bs made))

@@ -1,0 +1,281 @@
+-- The states that a search keeps: no such case is over, no run has a Wake to come, and each call that goes on changes something.
+use Rattle.std.proofs.Common.{ℕ, ◌≡◌, ◌<◌, ◌≤◌, ◌+◌, ◌==◌, ◌&&◌, ◌||◌, inl, inr, not, nat_lt, Bool, true, false, Option, Some, None, List, [], ◌∷◌, length, reverse, refl, ap, sym, subst, ◌∙◌, arith}
+use Rattle.std.proofs.lemmas.Bool.Decides.{nat_tests}
+use Rattle.tc_verdict.specs.declared.run.Run.{Run}
+use Rattle.tc_entry.specs.declared.comp.Comp.{Comp}
+use Rattle.tc_entry.specs.declared.entry.Entry.{Entry}
+use Rattle.tc_entry.specs.declared.op.Op.{Op}
+use Rattle.tc_entry.specs.declared.op.Op.TheVariants as O
+use Rattle.tc_entry.specs.declared.op.Target.TheVariants as T
+use Rattle.tc_entry.specs.declared.phase.Phase.TheVariants as P
+use Rattle.tc_entry.specs.declared.reply.Reply.{Reply}
+use Rattle.tc_entry.specs.declared.reply.Reply.TheVariants as R
+use Rattle.tc_entry.specs.Reply.{is_ended, is_fault}
+use Rattle.tc_step.specs.Steps.{ScriptView}
+use Rattle.tc_table.specs.Case.{Case, past_of}
+use Rattle.tc_table.specs.History.{comp_of, started_on, first_some, is_comp, is_finish, is_stop_of, is_kill_of, is_stop_case, halts, ends_case, ends_pass, is_over}
+use Rattle.tc_table.specs.Phases.{phase}
+use Rattle.tc_table.specs.Answers.{answer, is_active, is_active_on, is_run_of}
+use Rattle.tc_table.specs.Legal.{IsLegal}
+use Rattle.tc_table.proofs.Lemmas.Deciding.{equal_if}
+use Rattle.tc_table.proofs.Lemmas.Sound.{plain_if}
+use Rattle.tc_table.proofs.Lemmas.Going.{halted_by_entry}
+use Rattle.tc_explore.specs.Course.{Stand, stand, goes_on, after_other_by, ends, IsTurn, IsCourse}
+use Rattle.tc_explore.specs.Inside.Going.{taken, IsOn, CannotGo}
+use Rattle.tc_explore.specs.Inside.Simulation.{is_spent, IsSilent}
+use Rattle.tc_explore.specs.Inside.Seen.{IsSame, HasNoWake, IsOpen, IsCalmAt, IsCalm, IsLoudAt, IsCalmAfter, IsState}
+use Rattle.tc_explore.proofs.Legality.{course_legal}
+use Rattle.tc_explore.proofs.Lemmas.Standings.{has_turn, stand_own, stand_other, stand_comp, stand_unstarted, wake_after_other}
+use Rattle.tc_explore.proofs.Simulation.{unchanged_quiet, unchanged_wait}
+use Rattle.tc_explore.proofs.Leaving.{running_on}
+use Rattle.tc_explore.proofs.Late.{late_reply, late_halts, met_for}
+use Rattle.tc_explore.proofs.Places.{Spent, how_spent, kept_left, neither}
+use Rattle.tc_explore.proofs.Closing.{not_ended, answer_inactive, or_left, loud_sets_no_wake}
+use Rattle.tc_explore.proofs.Closed.{same_entry}
+
+pub on_not_ended : (r : Reply) → goes_on r ≡ true → is_ended r ≡ false
+on_not_ended R.Ended h = absurd cc
+on_not_ended _ h = refl
+
+-- ---- one more entry
+
+no_wake_next : (past : List Entry) (e : Entry) → goes_on e.reply ≡ true → HasNoWake past → HasNoWake (e ∷ past)
+no_wake_next past e on h b = by_test (e.caller.0 == b) refl
+  where
+    by_test : (t : Bool) → (e.caller.0 == b) ≡ t → (stand (e ∷ past) b).wake ≡ None
+    by_test true k = ap (λ (s : Stand). s.wake) (stand_own past e b (equal_if e.caller.0 b k)) ∙ loud_sets_no_wake e.op e.reply on
+    by_test false k =
+        let other : stand (e ∷ past) b ≡ after_other_by (stand past b).comp e b (stand past b) = rw k refl in
+        ap (λ (s : Stand). s.wake) other ∙ (wake_after_other (stand past b).comp (started_on e b) e b (stand past b) refl ∙ h b)
+
+-- a call of which nobody can tell that it was made ends no case
+silent_no_case : (scripts : List ScriptView) (q : List Entry) (e : Entry) → IsCourse scripts (e ∷ q) → is_fault e.reply ≡ false → is_ended e.reply ≡ false → IsSilent q e.caller.0 e.op → ends_case e ≡ false
+silent_no_case scripts q e cq plain goes (inl spent) = by_kind (how_spent q e.op spent)
+  where
+    by_kind : Spent q e.op → ends_case e ≡ false
+    by_kind (inl quiet) = or_left (ends_case e) _ ((unchanged_quiet q e quiet plain).no_halt 0)
+    by_kind (inr (inl late)) =
+        let is = plain_if (length scripts) q e.caller.0 e.op e.reply goes plain cq.0.reply in
+        (late_halts q q e late (is.is ∙ late_reply q q e.caller.0 e.op late)).no_case
+    by_kind (inr (inr met)) =
+        let m = met_for q e.op met in
+        or_left (ends_case e) _ ((unchanged_wait q e (O.Wake m.for_kill (T.One m.comp)) (record { killed = m.for_kill; target = T.One m.comp; waits = m.waits; wakes = refl }) plain).no_halt 0)
+silent_no_case scripts q e cq plain goes (inr end) = rw (end.finish, end.not_main, plain, goes) refl
+
+module _ (scripts : List ScriptView) (t u : Case) (run : Run) (op : Op) where
+  pub open_silent : IsOpen scripts t → IsOn scripts u → IsTurn scripts (past_of t) (taken t.behaviours (past_of t) run op) → is_fault (answer t.behaviours (past_of t) run.0 op) ≡ false →
+      goes_on (answer t.behaviours (past_of t) run.0 op) ≡ true → IsSilent (past_of t) run.0 op → past_of u ≡ taken t.behaviours (past_of t) run op ∷ past_of t → IsOpen scripts u
+  open_silent o on turn plain goes silent is =
+      let none : ends_case (taken t.behaviours (past_of t) run op) ≡ false =
+      silent_no_case scripts (past_of t) (taken t.behaviours (past_of t) run op) (turn, o.on.course) plain (on_not_ended (answer t.behaviours (past_of t) run.0 op) goes) silent in
+      record {
+        on = on;
+        going = ap is_over is ∙ rw (none, o.going) refl;
+        no_wake = λ b. ap (λ x. (stand x b).wake) is ∙ no_wake_next (past_of t) (taken t.behaviours (past_of t) run op) goes o.no_wake b;
+      }
+
+  -- a call that goes on, after which the case is not over
+  pub open_next : IsOpen scripts t → IsOn scripts u → goes_on (answer t.behaviours (past_of t) run.0 op) ≡ true → past_of u ≡ taken t.behaviours (past_of t) run op ∷ past_of t → is_over (past_of u) ≡ false →
+      IsOpen scripts u
+  open_next o on goes is going = record {
+    on = on;
+    going = going;
+    no_wake = λ b. ap (λ x. (stand x b).wake) is ∙ no_wake_next (past_of t) (taken t.behaviours (past_of t) run op) goes o.no_wake b;
+  }
+
+pub open_opening : (scripts : List ScriptView) (t : Case) → IsOn scripts t → past_of t ≡ [] → IsOpen scripts t
+open_opening scripts t on is = record { on = on; going = ap is_over is; no_wake = λ b. ap (λ x. (stand x b).wake) is }
+
+pub on_open : (scripts : List ScriptView) (t : Case) → IsOpen scripts t → IsOn scripts t
+on_open scripts t o = o.on
+
+pub open_state : (scripts : List ScriptView) (t : Case) → IsState scripts t → IsOpen scripts t
+open_state scripts t s = s.opened
+
+pub on_state : (scripts : List ScriptView) (t : Case) → IsState scripts t → IsOn scripts t
+on_state scripts t s = s.opened.on
+
+pub open_same : (scripts : List ScriptView) (t u : Case) → u.behaviours ≡ t.behaviours → u.history ≡ t.history → IsOpen scripts t → IsOpen scripts u
+open_same scripts t u n h o =
+    let past : past_of u ≡ past_of t = ap reverse h in
+    record {
+      on = record { behaviours = n ∙ o.on.behaviours; course = subst (IsCourse scripts) (sym past) o.on.course };
+      going = ap is_over past ∙ o.going;
+      no_wake = subst HasNoWake (sym past) o.no_wake;
+    }
+
+-- a copy of a state is one
+pub state_same : (scripts : List ScriptView) (t u : Case) → u.behaviours ≡ t.behaviours → u.history ≡ t.history → IsState scripts t → IsState scripts u
+state_same scripts t u n h s = record { opened = open_same scripts t u n h s.opened; calm = subst (IsCalm scripts) (sym (let past : past_of u ≡ past_of t = ap reverse h in past)) s.calm }
+
+pub same_self : (past : List Entry) → HasNoWake past → IsSame past past
+same_self past h = record {
+  alike = record { comps_same = refl; phase_same = λ c. refl; kind_same = λ c. refl; comp_same = λ b. refl; overall_same = refl };
+  stands = λ b act. (refl, h b);
+}
+
+pub state_self : (scripts : List ScriptView) (t : Case) → IsState scripts t → IsSame (past_of t) (past_of t)
+state_self scripts t s = same_self (past_of t) s.opened.no_wake
+
+pub ruleset keeping_rules = (on_open, open_state, on_state, open_same, state_same, state_self)
+
+pub ruleset call_rules = (on_open, open_silent, on_not_ended)
+
+-- ---- no call is left of which nobody can tell that it was made
+
+pub calm_none : (scripts : List ScriptView) (t : Case) (b : ℕ) → CannotGo scripts (past_of t) b → IsCalmAfter scripts t t b
+calm_none scripts t b cannot = (refl, λ e own turn goes plain. absurd (cannot e own turn))
+
+pub calm_loud : (scripts : List ScriptView) (t : Case) (run : Run) (op : Op) → IsTurn scripts (past_of t) (taken t.behaviours (past_of t) run op) → IsLoudAt t.behaviours (past_of t) run.0 op → IsCalmAfter scripts t t run.0
+calm_loud scripts t run op turn loud = (
+  refl,
+  λ e own mine.
+      let same : e ≡ taken t.behaviours (past_of t) run op = same_entry scripts (past_of t) e (taken t.behaviours (past_of t) run op) mine turn own in
+      subst (λ x. goes_on x.reply ≡ true → is_fault x.reply ≡ false → is_spent (past_of t) x.op ≡ false) (sym same) loud,
+)
+
+-- a course that is as long as it was, and one more of which so it is
+pub calm_then : (scripts : List ScriptView) (t u v : Case) (b : ℕ) → past_of u ≡ past_of t → IsCalmAfter scripts u v b → IsCalmAfter scripts t v b
+calm_then scripts t u v b same h = (h.0 ∙ same, subst (λ p. IsCalmAt scripts p b) same h.1)
+
+-- after the calls of k runs the course is as long as it was, and none of them has such a call
+abbrev pub AreCalmAfter : List ScriptView → Case → Case → ℕ → Type 0
+AreCalmAfter scripts t v k = (past_of v ≡ past_of t) × ((b : ℕ) → b < k → IsCalmAt scripts (past_of t) b)
+
+pub calm_more : (scripts : List ScriptView) (t u v : Case) (k : ℕ) → AreCalmAfter scripts t u k → IsCalmAfter scripts u v k → AreCalmAfter scripts t v (k + 1)
+calm_more scripts t u v k h last = (last.0 ∙ h.0, λ b less. by_place b less (nat_lt b k) refl)
+  where
+    by_place : (b : ℕ) → b < k + 1 → (s : Bool) → nat_lt b k ≡ s → IsCalmAt scripts (past_of t) b
+    by_place b less true j = h.1 b (grind (arith, nat_tests))
+    by_place b less false j =
+        let same : k ≡ b = grind (arith, nat_tests) in
+        subst (λ p. IsCalmAt scripts p b) h.0 (subst (IsCalmAt scripts (past_of u)) same last.1)
+
+pub calm_all : (scripts : List ScriptView) (t v : Case) (k : ℕ) → length scripts ≤ k → AreCalmAfter scripts t v k → IsCalm scripts (past_of v)
+calm_all scripts t v k whole h b near = subst (λ p. IsCalmAt scripts p b) (sym h.0) (h.1 b (omega arith))
+
+pub state_of : (scripts : List ScriptView) (t : Case) → IsOpen scripts t → IsCalm scripts (past_of t) → IsState scripts t
+state_of scripts t o calm = record { opened = o; calm = calm }
+
+pub ruleset calm_rules = (calm_then, state_of)
+
+-- ---- runs that go on
+
+ends_none : (o : Option Comp) (e : Entry) (c : Comp) → o ≡ Some c → is_ended e.reply ≡ false → halts (Some c) e c.0 ≡ false → ends o e ≡ false
+unfolding ends_pass
+ends_none o e c same goes none = subst (λ x. ends x e ≡ false) (sym same) (neither (is_ended e.reply) (halts (Some c) e c.0) goes none)
+
+-- the pass of a run that goes on has not ended
+pub active_stays : (scripts : List ScriptView) (past : List Entry) (b : ℕ) → IsCourse scripts past → is_active past b ≡ true → (stand past b).left ≡ false
+active_stays scripts [] b course act = refl
+active_stays scripts (e ∷ past) b course act = by_comp (active_stays scripts past b course.1) (comp_of past b) refl
+  where
+    legal : IsLegal (length scripts) (e ∷ past)
+    legal = course_legal scripts (e ∷ past) course
+
+    and_both : (x y : Bool) → (x && not y) ≡ true → (x ≡ true) × (y ≡ false)
+    and_both true false h = (refl, refl)
+    and_both true true h = absurd cc
+    and_both false y h = absurd cc
+
+    never_left : (o w : Option Comp) (s : Stand) → started_on e b ≡ w → (after_other_by o e b s).left ≡ s.left
+    never_left (Some c) w s k = refl
+    never_left None (Some c) s k = rw k refl
+    never_left None None s k = rw k refl
+
+    by_comp : (is_active past b ≡ true → (stand past b).left ≡ false) → (o : Option Comp) → comp_of past b ≡ o → (stand (e ∷ past) b).left ≡ false
+    by_comp ih None none = by_caller (e.caller.0 == b) refl
+      where
+        by_caller : (t : Bool) → (e.caller.0 == b) ≡ t → (stand (e ∷ past) b).left ≡ false
+        by_caller true k =
+            let t = has_turn scripts past e.caller.0 e.op course.0.turn in
+            let some : comp_of past e.caller.0 ≡ Some t.me = sym (stand_comp scripts past e.caller.0 course.1) ∙ t.on in
+            let here : comp_of past b ≡ Some t.me = ap (comp_of past) (sym (equal_if e.caller.0 b k)) ∙ some in
+            absurd cc
+        by_caller false k =
+            let other : stand (e ∷ past) b ≡ after_other_by (stand past b).comp e b (stand past b) = rw k refl in
+            ap (λ (s : Stand). s.left) other
+            ∙ (never_left (stand past b).comp (started_on e b) (stand past b) refl
+            ∙ ap (λ (s : Stand). s.left) (stand_unstarted scripts past b course.1 none))
+    by_comp ih (Some c) some = by_caller (e.caller.0 == b) refl
+      where
+        were : (is_active past b ≡ true) × (halts (comp_of past e.caller.0) e c.0 ≡ false)
+        were = and_both (is_active past b) (halts (comp_of past e.caller.0) e c.0) (sym (halted_by_entry (length scripts) past e b c legal some) ∙ act)
+
+        before : (stand past b).left ≡ false
+        before = ih were.0
+
+        on : (stand past b).comp ≡ Some c
+        on = stand_comp scripts past b course.1 ∙ some
+
+        by_caller : (t : Bool) → (e.caller.0 == b) ≡ t → (stand (e ∷ past) b).left ≡ false
+        by_caller true k =
+            let own : e.caller.0 ≡ b = equal_if e.caller.0 b k in
+            let mine : comp_of past e.caller.0 ≡ Some c = ap (comp_of past) own ∙ some in
+            let act_e : is_active past e.caller.0 ≡ true = ap (is_active past) own ∙ were.0 in
+            let goes : is_ended e.reply ≡ false = ap is_ended course.0.reply ∙ not_ended (length scripts) past e.caller.0 e.op c act_e mine in
+            let none : halts (Some c) e c.0 ≡ false = subst (λ o. halts o e c.0 ≡ false) mine were.1 in
+            ap (λ (s : Stand). s.left) (stand_own past e b own) ∙ (kept_left e (stand past b) (ends_none (stand past b).comp e c on goes none) ∙ before)
+        by_caller false k = ap (λ (s : Stand). s.left) (stand_other past e b c k on) ∙ before
+
+pub comp_main : (past : List Entry) → comp_of past 0 ≡ Some (record { 0 = 0 })
+comp_main [] = refl
+comp_main (e ∷ past) = ap (λ o. first_some o (started_on e 0)) (comp_main past)
+
+main_only : (past : List Entry) (e : Entry) → is_active past 0 ≡ true → is_active past e.caller.0 ≡ true → is_comp (comp_of past e.caller.0) 0 ≡ true → (e.caller.0 == 0) ≡ true
+unfolding is_active
+main_only past e main act here = by_comp (comp_of past e.caller.0) refl here
+  where
+    main_runs : is_run_of 0 (phase past 0) ≡ true
+    main_runs = ap (is_active_on past 0) (sym (comp_main past)) ∙ main
+
+    by_comp : (o : Option Comp) → comp_of past e.caller.0 ≡ o → is_comp o 0 ≡ true → (e.caller.0 == 0) ≡ true
+    by_comp None k h = absurd cc
+    by_comp (Some c) k h =
+        let runs : phase past c.0 ≡ P.Running e.caller = running_on past e c act k in
+        let main_too : phase past 0 ≡ P.Running e.caller = ap (phase past) (sym (equal_if c.0 0 h)) ∙ runs in
+        ap (is_run_of 0) (sym main_too) ∙ main_runs
+
+halts_by : (r f w n s k m c : Bool) → (r ≡ false → c ≡ true → m ≡ true) → (not r && (f || w || (n && m) || s || k)) ≡ false →
+    ((not r && (f || w || (n && m) || s || k)) || (not r && ((n && c) || s || k))) ≡ false
+halts_by true f w n s k m c only h = refl
+halts_by false true w n s k m c only h = absurd cc
+halts_by false false true n s k m c only h = absurd cc
+halts_by false false false true s k true c only h = absurd cc
+halts_by false false false true true k false c only h = absurd cc
+halts_by false false false true false true false c only h = absurd cc
+halts_by false false false true false false false true only h = let no = only refl refl in absurd cc
+halts_by false false false true false false false false only h = refl
+halts_by false false false false true k m c only h = absurd cc
+halts_by false false false false false true m c only h = absurd cc
+halts_by false false false false false false m c only h = refl
+
+-- an entry that ends no case does not halt the main component
+no_main_halt : (n : ℕ) (past : List Entry) (e : Entry) → IsLegal n (e ∷ past) → is_active past 0 ≡ true → ends_case e ≡ false → halts (comp_of past e.caller.0) e 0 ≡ false
+no_main_halt n past e legal main none =
+    halts_by (is_ended e.reply) (is_fault e.reply) (is_stop_case e.op) (is_finish e.op) (is_stop_of e.op 0) (is_kill_of e.op 0) (e.caller.0 == 0) (is_comp (comp_of past e.caller.0) 0) only none
+  where
+    only : is_ended e.reply ≡ false → is_comp (comp_of past e.caller.0) 0 ≡ true → (e.caller.0 == 0) ≡ true
+    only goes here = by_active (is_active past e.caller.0) refl
+      where
+        by_active : (t : Bool) → is_active past e.caller.0 ≡ t → (e.caller.0 == 0) ≡ true
+        by_active true k = main_only past e main k here
+        by_active false k = let off : is_ended e.reply ≡ true = ap is_ended (legal.0 ∙ answer_inactive n past e.caller.0 e.op k) in absurd cc
+
+main_begins : is_active [] 0 ≡ true
+unfolding is_active phase
+main_begins = refl
+
+-- while a case is not over its main run goes on
+pub main_goes : (scripts : List ScriptView) (past : List Entry) → IsCourse scripts past → is_over past ≡ false → is_active past 0 ≡ true
+main_goes scripts [] course going = main_begins
+main_goes scripts (e ∷ past) course going =
+    let both = or_both (ends_case e) (is_over past) going in
+    let before = main_goes scripts past course.1 both.1 in
+    let legal = course_legal scripts (e ∷ past) course in
+    halted_by_entry (length scripts) past e 0 (record { 0 = 0 }) legal (comp_main past)
+    ∙ rw (before, no_main_halt (length scripts) past e legal before both.0) refl
+  where
+    or_both : (a b : Bool) → (a || b) ≡ false → (a ≡ false) × (b ≡ false)
+    or_both true b h = absurd cc
+    or_both false b h = (refl, h)

@@ -1,0 +1,130 @@
+-- The last calls of a case that is over: they are answered Ended, and behind them no run has a call left.
+use Rattle.std.proofs.Common.{ℕ, ◌≡◌, ◌<◌, ◌≤◌, ◌+◌, ◌==◌, ◌||◌, inl, inr, nat_lt, Bool, true, false, Option, Some, None, List, ◌∷◌, length, refl, ap, sym, subst, ◌∙◌, arith}
+use Rattle.std.proofs.lemmas.Bool.Decides.{nat_tests}
+use Rattle.tc_verdict.specs.declared.run.Run.{Run}
+use Rattle.tc_entry.specs.declared.comp.Comp.{Comp}
+use Rattle.tc_entry.specs.declared.entry.Entry.{Entry}
+use Rattle.tc_entry.specs.declared.op.Op.{Op}
+use Rattle.tc_entry.specs.declared.reply.Reply.TheVariants as R
+use Rattle.tc_step.specs.Steps.{ScriptView}
+use Rattle.tc_table.specs.Case.{Case, past_of}
+use Rattle.tc_table.specs.History.{started_on, ends_case, ends_pass, is_over}
+use Rattle.tc_table.specs.Local.{overall}
+use Rattle.tc_table.specs.Answers.{answer}
+use Rattle.tc_table.proofs.Lemmas.Deciding.{equal_if}
+use Rattle.tc_table.proofs.Lemmas.Over.{all_over}
+use Rattle.tc_explore.specs.Course.{Stand, stand, after_own, after_other_by, turn, turn_on, steps_in, script_of, is_idle_by, IsTurn, IsCourse, IsComplete}
+use Rattle.tc_explore.specs.Inside.Going.{taken, IsOn, CannotGo, IsStepped}
+use Rattle.tc_explore.proofs.Legality.{course_legal}
+use Rattle.tc_explore.proofs.Alike.{alike_unchanged}
+use Rattle.tc_explore.proofs.Simulation.{unchanged_ended}
+use Rattle.tc_explore.proofs.Lemmas.Standings.{has_turn, stand_own}
+
+-- ---- one step
+
+pub stepped_none : (scripts : List ScriptView) (t : Case) (b : ℕ) → CannotGo scripts (past_of t) b → IsStepped scripts (past_of t) (past_of t) b
+stepped_none scripts t b cannot = inl (refl, cannot)
+
+pub stepped_one : (scripts : List ScriptView) (t u : Case) (run : Run) (op : Op) → IsTurn scripts (past_of t) (taken t.behaviours (past_of t) run op) → past_of u ≡ taken t.behaviours (past_of t) run op ∷ past_of t →
+    IsStepped scripts (past_of t) (past_of u) run.0
+stepped_one scripts t u run op turn is = inr (taken t.behaviours (past_of t) run op, is, refl, turn)
+
+pub ruleset step_rules = (stepped_none, stepped_one)
+
+-- ---- after the end
+
+turn_left : (scripts : List ScriptView) (past : List Entry) (b : ℕ) (me : Comp) → (stand past b).comp ≡ Some me → (stand past b).left ≡ true → turn scripts past b ≡ None
+unfolding turn
+turn_left scripts past b me on left = rw (on, left) refl
+
+pub turn_by : (scripts : List ScriptView) (p q : List Entry) (b : ℕ) → stand p b ≡ stand q b → turn scripts p b ≡ turn scripts q b
+unfolding turn
+turn_by scripts p q b same = ap (λ (s : Stand). turn_on s.comp (steps_in (script_of scripts b)) s) same
+
+or_true : (t : Bool) → (t || true) ≡ true
+or_true true = refl
+or_true false = refl
+
+own_done : (scripts : List ScriptView) (q : List Entry) (e : Entry) → IsTurn scripts q e → e.reply ≡ R.Ended → turn scripts (e ∷ q) e.caller.0 ≡ None
+unfolding ends_pass
+own_done scripts q e mine r =
+    let t = has_turn scripts q e.caller.0 e.op mine.turn in
+    let own = stand_own q e e.caller.0 refl in
+    let left : (after_own e (stand q e.caller.0)).left ≡ true = rw (t.on, r) (or_true (stand q e.caller.0).left) in
+    turn_left scripts (e ∷ q) e.caller.0 t.me (ap (λ (s : Stand). s.comp) own ∙ t.on) (ap (λ (s : Stand). s.left) own ∙ left)
+
+other_done : (scripts : List ScriptView) (q : List Entry) (e : Entry) (b : ℕ) → (e.caller.0 == b) ≡ false → e.reply ≡ R.Ended → turn scripts (e ∷ q) b ≡ turn scripts q b
+other_done scripts q e b other r = turn_by scripts (e ∷ q) q b (rw other (by_comp (stand q b).comp))
+  where
+    none : started_on e b ≡ None
+    none = rw r refl
+
+    by_comp : (o : Option Comp) → after_other_by o e b (stand q b) ≡ stand q b
+    by_comp (Some c) = refl
+    by_comp None = rw none refl
+
+no_turn : (scripts : List ScriptView) (past : List Entry) (b : ℕ) → ((op : Op) → answer (length scripts) past b op ≡ R.Ended) → CannotGo scripts past b → turn scripts past b ≡ None
+no_turn scripts past b ended cannot = by_turn (turn scripts past b) refl
+  where
+    by_turn : (o : Option Op) → turn scripts past b ≡ o → o ≡ None
+    by_turn None k = refl
+    by_turn (Some op) k =
+        let not_idle : is_idle_by op (answer (length scripts) past b op) ≡ false = rw (ended op) refl in
+        absurd (cannot (record { caller = record { 0 = b }; op = op; reply = answer (length scripts) past b op }) refl (record { turn = k; reply = refl; not_idle = not_idle }))
+
+-- the case is over still, with the verdict that it had, and neither run b nor who had no call left has one
+pub record IsOverAfter (scripts : List ScriptView) (p q : List Entry) (b : ℕ) : Type 0 where
+  pub over : is_over q ≡ true
+  pub verdict : overall q ≡ overall p
+  pub done : turn scripts q b ≡ None
+  pub others : (k : ℕ) → turn scripts p k ≡ None → turn scripts q k ≡ None
+
+over_entry : (scripts : List ScriptView) (p : List Entry) (e : Entry) (b : ℕ) → IsCourse scripts p → is_over p ≡ true → e.caller.0 ≡ b → IsTurn scripts p e → IsOverAfter scripts p (e ∷ p) b
+over_entry scripts p e b course over own mine = record {
+  over = rw (none, over) refl;
+  verdict = (alike_unchanged (length scripts) p e (course_legal scripts (e ∷ p) (mine, course)) (unchanged_ended p e r)).overall_same;
+  done = ap (turn scripts (e ∷ p)) (sym own) ∙ own_done scripts p e mine r;
+  others = λ k had. by_caller k had (e.caller.0 == k) refl;
+}
+  where
+    r : e.reply ≡ R.Ended
+    r = mine.reply ∙ (all_over (length scripts) p (course_legal scripts p course) over).ended e.caller.0 e.op
+
+    none : ends_case e ≡ false
+    none = rw r refl
+
+    by_caller : (k : ℕ) → turn scripts p k ≡ None → (t : Bool) → (e.caller.0 == k) ≡ t → turn scripts (e ∷ p) k ≡ None
+    by_caller k had true j = ap (turn scripts (e ∷ p)) (sym (equal_if e.caller.0 k j)) ∙ own_done scripts p e mine r
+    by_caller k had false j = other_done scripts p e k j r ∙ had
+
+over_step : (scripts : List ScriptView) (p q : List Entry) (b : ℕ) → IsCourse scripts p → is_over p ≡ true → IsStepped scripts p q b → IsOverAfter scripts p q b
+over_step scripts p q b course over (inl h) =
+    let ended = (all_over (length scripts) p (course_legal scripts p course) over).ended in
+    subst (λ r. IsOverAfter scripts p r b) (sym h.0) (record { over = over; verdict = refl; done = no_turn scripts p b (λ op. ended b op) h.1; others = λ k none. none })
+over_step scripts p q b course over (inr s) = subst (λ x. IsOverAfter scripts p x b) (sym s.1) (over_entry scripts p s.0 b course over s.2 s.3)
+
+-- so many runs have no call left after the end of a case
+pub record AreOver (scripts : List ScriptView) (t u : Case) (n : ℕ) : Type 0 where
+  pub over : is_over (past_of u) ≡ true
+  pub verdict : overall (past_of u) ≡ overall (past_of t)
+  pub done : (b : ℕ) → b < n → turn scripts (past_of u) b ≡ None
+
+pub over_more : (scripts : List ScriptView) (t u v : Case) (n : ℕ) → IsOn scripts u → AreOver scripts t u n → IsStepped scripts (past_of u) (past_of v) n → AreOver scripts t v (n + 1)
+over_more scripts t u v n on h step =
+    let s = over_step scripts (past_of u) (past_of v) n on.course h.over step in
+    record { over = s.over; verdict = s.verdict ∙ h.verdict; done = λ b less. by_place s b less (nat_lt b n) refl }
+  where
+    by_place : IsOverAfter scripts (past_of u) (past_of v) n → (b : ℕ) → b < n + 1 → (t : Bool) → nat_lt b n ≡ t → turn scripts (past_of v) b ≡ None
+    by_place s b less true k = s.others b (h.done b (grind (arith, nat_tests)))
+    by_place s b less false k = let same : n ≡ b = grind (arith, nat_tests) in subst (λ x. turn scripts (past_of v) x ≡ None) same s.done
+
+pub over_none : (scripts : List ScriptView) (t : Case) → is_over (past_of t) ≡ true → AreOver scripts t t 0
+over_none scripts t over = record { over = over; verdict = refl; done = λ b less. absurd (omega arith) }
+
+pub over_complete : (scripts : List ScriptView) (t u : Case) (n : ℕ) → length scripts ≤ n → AreOver scripts t u n → IsComplete scripts (past_of u)
+over_complete scripts t u n whole h b near = h.done b (omega arith)
+
+pub over_verdict : (scripts : List ScriptView) (t u : Case) (n : ℕ) → AreOver scripts t u n → overall (past_of u) ≡ overall (past_of t)
+over_verdict scripts t u n h = h.verdict
+
+pub ruleset ending_rules = (over_more, over_none, over_complete, over_verdict)

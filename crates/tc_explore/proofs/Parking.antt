@@ -1,0 +1,415 @@
+-- A case in which no run can go on: each that is running is parked, and the main component's Wake is an error.
+use Rattle.std.proofs.Common.{ℕ, ◌≡◌, ◌<◌, ◌≤◌, ◌+◌, ◌==◌, ◌⊎◌, inl, inr, nat_lt, if◌then◌else◌, Bool, true, false, Option, Some, None, List, [], ◌∷◌, length, slice_get, refl, ap, sym, subst, ◌∙◌, arith}
+use Rattle.std.specs.List.{list_all}
+use Rattle.std.proofs.lemmas.Bool.Decides.{nat_tests}
+use Rattle.tc_verdict.specs.declared.run.Run.{Run}
+use Rattle.tc_verdict.specs.declared.verdict.Verdict.TheVariants as V
+use Rattle.tc_entry.specs.declared.comp.Comp.{Comp}
+use Rattle.tc_entry.specs.declared.entry.Entry.{Entry}
+use Rattle.tc_entry.specs.declared.op.Op.{Op}
+use Rattle.tc_entry.specs.declared.op.Op.TheVariants as O
+use Rattle.tc_entry.specs.declared.op.Target.{Target}
+use Rattle.tc_entry.specs.declared.phase.Phase.{Phase}
+use Rattle.tc_entry.specs.declared.phase.Phase.TheVariants as P
+use Rattle.tc_entry.specs.declared.reply.Reply.{Reply}
+use Rattle.tc_entry.specs.declared.reply.Reply.TheVariants as R
+use Rattle.tc_entry.specs.declared.reply.Fault.{Fault}
+use Rattle.tc_entry.specs.declared.reply.Fault.TheVariants as F
+use Rattle.tc_entry.specs.Reply.{is_ended, is_fault}
+use Rattle.tc_step.specs.Steps.{ScriptView}
+use Rattle.tc_table.specs.Case.{Case, past_of}
+use Rattle.tc_table.specs.History.{comps, comp_of, started_on, is_alive_type, is_over}
+use Rattle.tc_table.specs.Phases.{phase, last_run, was_killed, was_halted}
+use Rattle.tc_table.specs.Local.{overall}
+use Rattle.tc_table.specs.Waiting.{holds, waiting, waits_in_vain, is_still, is_stuck}
+use Rattle.tc_table.specs.Faults.{fault}
+use Rattle.tc_table.specs.Answers.{answer, plain_answer, is_active, is_run_of}
+use Rattle.tc_table.specs.Legal.{IsLegal}
+use Rattle.tc_table.proofs.Lemmas.Deciding.{self_equal, equal_if}
+use Rattle.tc_table.proofs.Lemmas.Going.{last_on_it}
+use Rattle.tc_table.proofs.Lemmas.Steps.{phase_by}
+use Rattle.tc_explore.specs.declared.witness.Witness.{Witness}
+use Rattle.tc_explore.specs.Course.{Stand, stand, goes_on, after_other_by, is_wake, call_of, turn, steps_in, script_of, IsTurn, IsCourse}
+use Rattle.tc_explore.specs.Told.{is_found}
+use Rattle.tc_explore.specs.Inside.Alike.{IsAlike}
+use Rattle.tc_explore.specs.Inside.Going.{IsOn, IsStepped, IsSteppedIfActive}
+use Rattle.tc_explore.specs.Inside.Simulation.{is_quiet}
+use Rattle.tc_explore.specs.Inside.Seen.{HasNoWake, IsOpen, IsRunClosed, AreStill, AreHeld}
+use Rattle.tc_explore.proofs.Legality.{course_legal}
+use Rattle.tc_explore.proofs.Alike.{ChangesNothing, holds_alike, active_alike, fault_alike, alike_unchanged, overall_next}
+use Rattle.tc_explore.proofs.Simulation.{unchanged_wait, some_if}
+use Rattle.tc_explore.proofs.Places.{not_ending}
+use Rattle.tc_explore.proofs.Lemmas.Turning.{other_not_idle}
+use Rattle.tc_explore.proofs.Lemmas.Standings.{turn_of, never_wake, stand_own, stand_other, stand_comp, run_in_range}
+use Rattle.tc_explore.proofs.Closing.{not_ended, answer_plain, answer_fault, quiet_reply, parks_wait, fault_of_wait, error_is_worst}
+use Rattle.tc_explore.proofs.Keeping.{active_stays, main_goes, comp_main}
+use Rattle.tc_explore.proofs.LastCalls.{turn_by}
+
+-- ---- who is held
+
+parked_if : (r : Reply) → goes_on r ≡ false → is_ended r ≡ false → r ≡ R.Parked
+parked_if R.Parked h k = refl
+parked_if R.Ended h k = absurd cc
+parked_if _ h k = absurd cc
+
+-- the next call of run b is a Wait for what has not come
+pub record IsWaitAt (scripts : List ScriptView) (q : List Entry) (b : ℕ) : Type 0 where
+  pub killed : Bool
+  pub target : Target
+  pub turn : turn scripts q b ≡ Some (O.Wait killed target)
+  pub no_fault : fault (length scripts) q b (O.Wait killed target) ≡ None
+  pub unmet : holds q (record { killed = killed; target = target }) ≡ false
+
+wait_if : (scripts : List ScriptView) (q : List Entry) (b : ℕ) → 1 ≤ length scripts → IsCourse scripts q → HasNoWake q → AreHeld scripts q → is_active q b ≡ true → IsWaitAt scripts q b
+wait_if scripts q b some course no_wake held act = by_fault (fault (length scripts) q b op) refl
+  where
+    on : (c : Comp) × (comp_of q b ≡ Some c)
+    on = some_if q b act
+
+    op : Op
+    op = call_of on.0 (stand q b).bound (slice_get (steps_in (script_of scripts b)) (stand q b).called)
+
+    calls : turn scripts q b ≡ Some op
+    calls = turn_of scripts q b op (record { me = on.0; on = stand_comp scripts q b course ∙ on.1; stays = active_stays scripts q b course act; calls = rw (no_wake b) refl })
+
+    plain : is_wake op ≡ false
+    plain = never_wake on.0 (stand q b).bound (slice_get (steps_in (script_of scripts b)) (stand q b).called)
+
+    near : b < length scripts
+    near = run_in_range (length scripts) q b on.0 some (course_legal scripts q course) on.1
+
+    stays : goes_on (answer (length scripts) q b op) ≡ false
+    stays = held b near (record { caller = record { 0 = b }; op = op; reply = answer (length scripts) q b op }) refl
+        (record { turn = calls; reply = refl; not_idle = other_not_idle op (answer (length scripts) q b op) plain })
+
+    parks : answer (length scripts) q b op ≡ R.Parked
+    parks = parked_if (answer (length scripts) q b op) stays (not_ended (length scripts) q b op on.0 act on.1)
+
+    by_wait : fault (length scripts) q b op ≡ None → (k : Bool) (t : Target) → op ≡ O.Wait k t → plain_answer q b op ≡ R.Parked → IsWaitAt scripts q b
+    by_wait none k t is waits = record {
+      killed = k;
+      target = t;
+      turn = calls ∙ ap Some is;
+      no_fault = ap (fault (length scripts) q b) (sym is) ∙ none;
+      unmet = by_holds (holds q (record { killed = k; target = t })) (ap (plain_answer q b) (sym is) ∙ waits);
+    }
+      where
+        by_holds : (s : Bool) → (if s then R.Matched else R.Parked) ≡ R.Parked → s ≡ false
+        by_holds true h = absurd cc
+        by_holds false h = refl
+
+    by_quiet : fault (length scripts) q b op ≡ None → plain_answer q b op ≡ R.Parked → (s : Bool) → is_quiet (overall q) op ≡ s → IsWaitAt scripts q b
+    by_quiet none waits true k =
+        let goes : goes_on (plain_answer q b op) ≡ true = (quiet_reply (overall q) q b op on.0 on.1 k).0 in
+        let off : goes_on (plain_answer q b op) ≡ false = ap goes_on waits in
+        absurd cc
+    by_quiet none waits false k =
+        let w = parks_wait (overall q) q b op plain k waits in
+        by_wait none w.0 w.1 w.2 waits
+
+    by_fault : (o : Option Fault) → fault (length scripts) q b op ≡ o → IsWaitAt scripts q b
+    by_fault None k = by_quiet k (sym (answer_plain (length scripts) q b op act k) ∙ parks) (is_quiet (overall q) op) refl
+    by_fault (Some f) k = let no : R.Fault f ≡ R.Parked = sym (answer_fault (length scripts) q b op f act k) ∙ parks in absurd cc
+
+-- ---- who is parked
+
+-- in r, which is like q, run b waits for what has not come
+pub record IsParkedIn (scripts : List ScriptView) (q r : List Entry) (b : ℕ) : Type 0 where
+  pub killed : Bool
+  pub target : Target
+  pub wake : (stand r b).wake ≡ Some (O.Wake killed target)
+  pub stays : (stand r b).left ≡ false
+  pub waits : waiting r b ≡ Some (record { killed = killed; target = target })
+  pub no_fault : fault (length scripts) q b (O.Wait killed target) ≡ None
+  pub unmet : holds q (record { killed = killed; target = target }) ≡ false
+
+-- k runs of t are parked in u, if they go on, and the others stand as they did
+pub record AreParked (scripts : List ScriptView) (t u : Case) (k : ℕ) : Type 0 where
+  pub alike : IsAlike (past_of u) (past_of t)
+  pub parked : (b : ℕ) → b < k → is_active (past_of t) b ≡ true → IsParkedIn scripts (past_of t) (past_of u) b
+  pub later : (b : ℕ) → k ≤ b → stand (past_of u) b ≡ stand (past_of t) b
+
+pub parked_none : (scripts : List ScriptView) (t : Case) → AreParked scripts t t 0
+parked_none scripts t = record {
+  alike = record { comps_same = refl; phase_same = λ c. refl; kind_same = λ c. refl; comp_same = λ b. refl; overall_same = refl };
+  parked = λ b less. absurd (omega arith);
+  later = λ b less. refl;
+}
+
+pub parked_skip : (scripts : List ScriptView) (t u : Case) (k : ℕ) → is_active (past_of u) k ≡ false → AreParked scripts t u k → AreParked scripts t u (k + 1)
+parked_skip scripts t u k off h = record { alike = h.alike; parked = λ b less act. by_place b less act (nat_lt b k) refl; later = λ b less. h.later b (omega arith) }
+  where
+    by_place : (b : ℕ) → b < k + 1 → is_active (past_of t) b ≡ true → (s : Bool) → nat_lt b k ≡ s → IsParkedIn scripts (past_of t) (past_of u) b
+    by_place b less act true j = h.parked b (grind (arith, nat_tests)) act
+    by_place b less act false j =
+        let same : b ≡ k = grind (arith, nat_tests) in
+        let on : is_active (past_of u) k ≡ true = ap (is_active (past_of u)) (sym same) ∙ (active_alike h.alike b ∙ act) in
+        absurd cc
+
+alike_then : (p q r : List Entry) → IsAlike p q → IsAlike q r → IsAlike p r
+alike_then p q r a b = record {
+  comps_same = a.comps_same ∙ b.comps_same;
+  phase_same = λ c. a.phase_same c ∙ b.phase_same c;
+  kind_same = λ c. a.kind_same c ∙ b.kind_same c;
+  comp_same = λ c. a.comp_same c ∙ b.comp_same c;
+  overall_same = a.overall_same ∙ b.overall_same;
+}
+
+-- one run more makes its Wait
+module _ (scripts : List ScriptView) (q r : List Entry) (e : Entry) (b : ℕ) (own : e.caller.0 ≡ b) (mine : IsTurn scripts r e) (cq : IsCourse scripts q) (cr : IsCourse scripts r)
+    (act : is_active q b ≡ true) (a : IsAlike r q) (same : stand r b ≡ stand q b) (w : IsWaitAt scripts q b) where
+  op_is : e.op ≡ O.Wait w.killed w.target
+  op_is =
+      let was : turn scripts r e.caller.0 ≡ Some e.op = mine.turn in
+      let is : turn scripts r e.caller.0 ≡ Some (O.Wait w.killed w.target) = ap (turn scripts r) own ∙ (turn_by scripts r q b same ∙ w.turn) in
+      let some : Some e.op ≡ Some (O.Wait w.killed w.target) = sym was ∙ is in
+      cc
+
+  act_r : is_active r b ≡ true
+  act_r = active_alike a b ∙ act
+
+  parks : answer (length scripts) r b (O.Wait w.killed w.target) ≡ R.Parked
+  parks =
+      answer_plain (length scripts) r b (O.Wait w.killed w.target) act_r (fault_alike a (length scripts) b (O.Wait w.killed w.target) ∙ w.no_fault)
+      ∙ rw (holds_alike a (record { killed = w.killed; target = w.target }), w.unmet) refl
+
+  reply_is : e.reply ≡ R.Parked
+  reply_is = mine.reply ∙ (ap (λ x. answer (length scripts) r x e.op) own ∙ (ap (answer (length scripts) r b) op_is ∙ parks))
+
+  unchanged : ChangesNothing r e
+  unchanged =
+      unchanged_wait r e (O.Wake w.killed w.target) (record { killed = w.killed; target = w.target; waits = op_is; wakes = refl }) (rw reply_is refl)
+
+  after : IsAlike (e ∷ r) q
+  after = alike_then (e ∷ r) r q (alike_unchanged (length scripts) r e (course_legal scripts (e ∷ r) (mine, cr)) unchanged) a
+
+  on : (c : Comp) × (comp_of r b ≡ Some c)
+  on = some_if r b act_r
+
+  here : comp_of r e.caller.0 ≡ Some on.0
+  here = ap (comp_of r) own ∙ on.1
+
+  now_parked : IsParkedIn scripts q (e ∷ r) b
+  now_parked = record {
+    killed = w.killed;
+    target = w.target;
+    wake = ap (λ (s : Stand). s.wake) (stand_own r e b own) ∙ rw (op_is, reply_is) refl;
+    stays =
+        ap (λ (s : Stand). s.left) (stand_own r e b own)
+        ∙ rw (ap (λ (s : Stand). s.left) same ∙ active_stays scripts q b cq act, not_ending r e (stand r b).comp on.0 unchanged (stand_comp scripts r b cr ∙ on.1) here (rw reply_is refl)) refl;
+    waits = rw (own, self_equal b, op_is, reply_is) refl;
+    no_fault = w.no_fault;
+    unmet = w.unmet;
+  }
+
+  still_parked : (c : ℕ) → (e.caller.0 == c) ≡ false → is_active q c ≡ true → IsParkedIn scripts q r c → IsParkedIn scripts q (e ∷ r) c
+  still_parked c other act_c p =
+      let on_c = some_if r c (active_alike a c ∙ act_c) in
+      let stands : stand (e ∷ r) c ≡ stand r c = stand_other r e c on_c.0 other (stand_comp scripts r c cr ∙ on_c.1) in
+      record {
+        killed = p.killed;
+        target = p.target;
+        wake = ap (λ (s : Stand). s.wake) stands ∙ p.wake;
+        stays = ap (λ (s : Stand). s.left) stands ∙ p.stays;
+        waits = rw other p.waits;
+        no_fault = p.no_fault;
+        unmet = p.unmet;
+      }
+
+  stands_on : (c : ℕ) → (e.caller.0 == c) ≡ false → stand (e ∷ r) c ≡ stand r c
+  stands_on c other = rw other (by_comp (stand r c).comp)
+    where
+      none : started_on e c ≡ None
+      none = unchanged.no_run c
+
+      by_comp : (o : Option Comp) → after_other_by o e c (stand r c) ≡ stand r c
+      by_comp (Some d) = refl
+      by_comp None = rw none refl
+
+unequal : (x y z : ℕ) → x ≡ y → (y ≡ z → ⊥) → (x == z) ≡ false
+unequal x y z h k = by_test (x == z) refl
+  where
+    by_test : (t : Bool) → (x == z) ≡ t → t ≡ false
+    by_test false j = refl
+    by_test true j = absurd (k (sym h ∙ equal_if x z j))
+
+parked_entry : (scripts : List ScriptView) (t u v : Case) (e : Entry) (k : ℕ) → past_of v ≡ e ∷ past_of u → e.caller.0 ≡ k → IsTurn scripts (past_of u) e → IsOpen scripts t → IsOn scripts u → is_active (past_of t) k ≡ true →
+    AreParked scripts t u k → IsWaitAt scripts (past_of t) k → AreParked scripts t v (k + 1)
+parked_entry scripts t u v e k is own mine o on act h w = record {
+  alike = subst (λ x. IsAlike x q) (sym is) (after scripts q r e k own mine o.on.course on.course act h.alike same w);
+  parked = λ b less act_b. subst (λ x. IsParkedIn scripts q x b) (sym is) (by_place b less act_b (nat_lt b k) refl);
+  later = λ b far. subst (λ x. stand x b ≡ stand q b) (sym is)
+      (stands_on scripts q r e k own mine o.on.course on.course act h.alike same w b (unequal e.caller.0 k b own (λ x. omega (arith, x, far))) ∙ h.later b (omega (arith, far)));
+}
+  where
+    q : List Entry
+    q = past_of t
+
+    r : List Entry
+    r = past_of u
+
+    same : stand r k ≡ stand q k
+    same = h.later k (omega arith)
+
+    by_place : (b : ℕ) → b < k + 1 → is_active q b ≡ true → (s : Bool) → nat_lt b k ≡ s → IsParkedIn scripts q (e ∷ r) b
+    by_place b less act_b true j =
+        let near : b < k = grind (arith, nat_tests) in
+        still_parked scripts q r e k own mine o.on.course on.course act h.alike same w b (unequal e.caller.0 k b own (λ x. omega (arith, x, near))) act_b (h.parked b near act_b)
+    by_place b less act_b false j =
+        let is_k : k ≡ b = grind (arith, nat_tests) in
+        subst (IsParkedIn scripts q (e ∷ r)) is_k (now_parked scripts q r e k own mine o.on.course on.course act h.alike same w)
+
+pub parked_more : (scripts : List ScriptView) (t u v : Case) (k : ℕ) → 1 ≤ length scripts → IsOpen scripts t → AreHeld scripts (past_of t) → IsOn scripts u → is_active (past_of u) k ≡ true → AreParked scripts t u k →
+    IsStepped scripts (past_of u) (past_of v) k → AreParked scripts t v (k + 1)
+parked_more scripts t u v k some o held on act h step = by_step step
+  where
+    q : List Entry
+    q = past_of t
+
+    r : List Entry
+    r = past_of u
+
+    act_q : is_active q k ≡ true
+    act_q = sym (active_alike h.alike k) ∙ act
+
+    w : IsWaitAt scripts q k
+    w = wait_if scripts q k some o.on.course o.no_wake held act_q
+
+    same : stand r k ≡ stand q k
+    same = h.later k (omega arith)
+
+    by_step : ((past_of v ≡ r) × ((e : Entry) → e.caller.0 ≡ k → IsTurn scripts r e → ⊥)) ⊎ ((e : Entry) × (past_of v ≡ e ∷ r) × (e.caller.0 ≡ k) × IsTurn scripts r e) → AreParked scripts t v (k + 1)
+    by_step (inl s) =
+        let reply = answer (length scripts) r k (O.Wait w.killed w.target) in
+        let waits : reply ≡ R.Parked =
+        answer_plain (length scripts) r k (O.Wait w.killed w.target) act (fault_alike h.alike (length scripts) k (O.Wait w.killed w.target) ∙ w.no_fault)
+        ∙ rw (holds_alike h.alike (record { killed = w.killed; target = w.target }), w.unmet) refl in
+        absurd (s.1 (record { caller = record { 0 = k }; op = O.Wait w.killed w.target; reply = reply }) refl (record { turn = turn_by scripts r q k same ∙ w.turn; reply = refl; not_idle = rw waits refl }))
+    by_step (inr s) = parked_entry scripts t u v s.0 k s.1 s.2 s.3 o on act_q h w
+
+-- one run more, whether it goes on or not
+pub parked_next : (scripts : List ScriptView) (t u v : Case) (k : ℕ) → 1 ≤ length scripts → IsOpen scripts t → AreHeld scripts (past_of t) → IsOn scripts u → AreParked scripts t u k →
+    IsSteppedIfActive scripts (past_of u) (past_of v) k → AreParked scripts t v (k + 1)
+parked_next scripts t u v k some o held is_on h (inl s) =
+    let p = parked_skip scripts t u k s.1 h in
+    record {
+      alike = subst (λ x. IsAlike x (past_of t)) (sym s.0) p.alike;
+      parked = λ b less act. subst (λ x. IsParkedIn scripts (past_of t) x b) (sym s.0) (p.parked b less act);
+      later = λ b far. subst (λ x. stand x b ≡ stand (past_of t) b) (sym s.0) (p.later b far);
+    }
+parked_next scripts t u v k some o held is_on h (inr s) = parked_more scripts t u v k some o held is_on s.0 h s.1
+
+pub active_none : (scripts : List ScriptView) (t : Case) (b : ℕ) → is_active (past_of t) b ≡ false → IsSteppedIfActive scripts (past_of t) (past_of t) b
+active_none scripts t b off = inl (refl, off)
+
+pub active_one : (scripts : List ScriptView) (t u : Case) (b : ℕ) → is_active (past_of t) b ≡ true → IsStepped scripts (past_of t) (past_of u) b → IsSteppedIfActive scripts (past_of t) (past_of u) b
+active_one scripts t u b on step = inr (on, step)
+
+pub ruleset active_rules = (active_none, active_one)
+
+-- ---- the end
+
+running_by : (k : Bool) (last : Option Run) (h a : Bool) (r : Run) → phase_by k last h a ≡ P.Running r → last ≡ Some r
+running_by true last h a r e = absurd cc
+running_by false None h a r e = absurd cc
+running_by false (Some b) false a r e = cc
+running_by false (Some b) true true r e = absurd cc
+running_by false (Some b) true false r e = absurd cc
+
+phase_running : (past : List Entry) (c : ℕ) (r : Run) → phase past c ≡ P.Running r → last_run past c ≡ Some r
+unfolding phase
+phase_running past c r h = running_by (was_killed past c) (last_run past c) (was_halted past c) (is_alive_type past c) r h
+
+active_if : (past : List Entry) (b : ℕ) (c : Comp) → comp_of past b ≡ Some c → is_run_of b (phase past c.0) ≡ true → is_active past b ≡ true
+unfolding is_active
+active_if past b c e h = rw e h
+
+all_true : (f : ℕ → Bool) (xs : List ℕ) → ((x : ℕ) → f x ≡ true) → list_all f xs ≡ true
+all_true f [] h = refl
+all_true f (x ∷ xs) h = rw (h x, all_true f xs h)
+
+stuck_if : (n : ℕ) (past : List Entry) → 1 ≤ n → IsLegal n past → ((b : ℕ) → b < n → is_active past b ≡ true → waits_in_vain past (waiting past b) ≡ true) → is_stuck past ≡ true
+unfolding is_stuck
+stuck_if n past some legal all = all_true (λ c. is_still past (phase past c)) (comps past) (λ c. still_at c (phase past c) refl)
+  where
+    still_at : (c : ℕ) (p : Phase) → phase past c ≡ p → is_still past p ≡ true
+    still_at c (P.Running r) k =
+        let on = last_on_it n past c r (omega arith) legal (phase_running past c r k) in
+        all r.0 on.1 (active_if past r.0 (record { 0 = c }) on.0 (ap (is_run_of r.0) k ∙ self_equal r.0))
+    still_at c P.Inactive k = refl
+    still_at c P.Stopped k = refl
+    still_at c P.Killed k = refl
+
+-- after a Fault the case is over, with error
+fault_ends : (n : ℕ) (q : List Entry) (e : Entry) (f : Fault) → IsLegal n (e ∷ q) → e.reply ≡ R.Fault f → (is_over (e ∷ q) ≡ true) × (overall (e ∷ q) ≡ V.Error)
+fault_ends n q e f legal is = (rw is refl, overall_next n q e legal ∙ rw is (error_is_worst (overall q)))
+
+pub stuck_end : (scripts : List ScriptView) (t u v : Case) (n : ℕ) → 1 ≤ length scripts → length scripts ≤ n → IsOpen scripts t → IsOn scripts u → AreParked scripts t u n → IsStepped scripts (past_of u) (past_of v) 0 →
+    (is_over (past_of v) ≡ true) × (overall (past_of v) ≡ V.Error)
+stuck_end scripts t u v n some whole o on h step = by_step step
+  where
+    q : List Entry
+    q = past_of t
+
+    r : List Entry
+    r = past_of u
+
+    main_q : is_active q 0 ≡ true
+    main_q = main_goes scripts q o.on.course o.going
+
+    main : is_active r 0 ≡ true
+    main = active_alike h.alike 0 ∙ main_q
+
+    p : IsParkedIn scripts q r 0
+    p = h.parked 0 (omega (arith, some, whole)) main_q
+
+    calls : turn scripts r 0 ≡ Some (O.Wake p.killed p.target)
+    calls = turn_of scripts r 0 (O.Wake p.killed p.target) (record { me = record { 0 = 0 }; on = stand_comp scripts r 0 on.course ∙ comp_main r; stays = p.stays; calls = rw p.wake refl })
+
+    stuck : is_stuck r ≡ true
+    stuck = stuck_if (length scripts) r some (course_legal scripts r on.course) (λ b near act.
+        let w = h.parked b (omega arith) (sym (active_alike h.alike b) ∙ act) in
+        rw (w.waits, holds_alike h.alike (record { killed = w.killed; target = w.target }), w.unmet) refl)
+
+    no_fault : fault (length scripts) r 0 (O.Wake p.killed p.target) ≡ None
+    no_fault = fault_alike h.alike (length scripts) 0 (O.Wake p.killed p.target) ∙ (sym (fault_of_wait (length scripts) q 0 p.killed p.target) ∙ p.no_fault)
+
+    error : answer (length scripts) r 0 (O.Wake p.killed p.target) ≡ R.Fault F.Stuck
+    error =
+        answer_plain (length scripts) r 0 (O.Wake p.killed p.target) main no_fault
+        ∙ rw (holds_alike h.alike (record { killed = p.killed; target = p.target }), p.unmet, stuck) refl
+
+    stuck_entry : (e : Entry) → past_of v ≡ e ∷ r → e.caller.0 ≡ 0 → IsTurn scripts r e → (is_over (past_of v) ≡ true) × (overall (past_of v) ≡ V.Error)
+    stuck_entry e is own mine =
+        let was : turn scripts r e.caller.0 ≡ Some e.op = mine.turn in
+        let now : turn scripts r e.caller.0 ≡ Some (O.Wake p.killed p.target) = ap (turn scripts r) own ∙ calls in
+        let some_op : Some e.op ≡ Some (O.Wake p.killed p.target) = sym was ∙ now in
+        let op_is : e.op ≡ O.Wake p.killed p.target = cc in
+        let reply_is : e.reply ≡ R.Fault F.Stuck = mine.reply ∙ (ap (λ x. answer (length scripts) r x e.op) own ∙ (ap (answer (length scripts) r 0) op_is ∙ error)) in
+        let ends = fault_ends (length scripts) r e F.Stuck (course_legal scripts (e ∷ r) (mine, on.course)) reply_is in
+        (ap is_over is ∙ ends.0, ap overall is ∙ ends.1)
+
+    by_step : ((past_of v ≡ r) × ((e : Entry) → e.caller.0 ≡ 0 → IsTurn scripts r e → ⊥)) ⊎ ((e : Entry) × (past_of v ≡ e ∷ r) × (e.caller.0 ≡ 0) × IsTurn scripts r e) → (is_over (past_of v) ≡ true) × (overall (past_of v) ≡ V.Error)
+    by_step (inl s) =
+        let reply = answer (length scripts) r 0 (O.Wake p.killed p.target) in
+        absurd (s.1 (record { caller = record { 0 = 0 }; op = O.Wake p.killed p.target; reply = reply }) refl (record { turn = calls; reply = refl; not_idle = rw error refl }))
+    by_step (inr s) = stuck_entry s.0 s.1 s.2 s.3
+
+-- ---- where none goes on, and no error is found
+
+pub held_if : (scripts : List ScriptView) (states : List Case) (found : List Witness) (q : List Entry) → IsCourse scripts q → AreStill scripts q (length scripts) →
+    ((b : ℕ) → b < length scripts → IsRunClosed scripts states found q b) → is_found found V.Error ≡ false → AreHeld scripts q
+held_if scripts states found q course still closed none b near e own mine = by_goes (goes_on e.reply) refl
+  where
+    by_reply : goes_on e.reply ≡ true → (r : Reply) → e.reply ≡ r → is_fault r ≡ true → ⊥
+    by_reply k (R.Fault f) is h =
+        let ends = fault_ends (length scripts) q e f (course_legal scripts (e ∷ q) (mine, course)) is in
+        let told : is_found found V.Error ≡ true = ap (is_found found) (sym ends.1) ∙ (closed b near e own mine k).over ends.0 in
+        absurd cc
+    by_reply k _ is h = absurd cc
+
+    by_goes : (s : Bool) → goes_on e.reply ≡ s → s ≡ false
+    by_goes false k = refl
+    by_goes true k = absurd (by_reply k e.reply refl (still b near e own mine k))
+
+pub ruleset parking_rules = (parked_none)

@@ -1,0 +1,28 @@
+-- The text of a fault, by its place and its words.
+use Rattle.std.proofs.Common.{ℕ, ◌≡◌, ◌∙◌, List, ◌++◌, codes, ap, refl, append_assoc}
+use Rattle.std.specs.Fmt.{decimal}
+use Rattle.tc_text.specs.TextKind.{kind_text}
+use Rattle.tc_text.specs.declared.fault.TextFault.TheVariants as T
+use Rattle.tc_line.specs.ScriptKind.{kind_text as script_kind_text}
+use Rattle.tc_program.specs.declared.fault.RunFault.{RunFault}
+use Rattle.tc_program.specs.declared.fault.RunFault.TheVariants as F
+use Rattle.tc_program.specs.Fault.{fault_text, place_text}
+use Rattle.tc_program.specs.Inside.{line_number, placed, words_of}
+
+-- the number of a line, and the words behind it
+at_place : (line : ℕ) (words : List ℕ) → place_text line ++ words ≡ codes "line " ++ (decimal line ++ (codes ": " ++ words))
+unfolding place_text
+at_place line words =
+    append_assoc (codes "line ") (decimal line ++ codes ": ") words
+    ∙ ap (λ l. codes "line " ++ l) (append_assoc (decimal line) (codes ": ") words)
+
+pub by_parts : (fault : RunFault) → placed (line_number fault) (words_of fault) ≡ fault_text fault
+by_parts F.TooLong = refl
+by_parts F.Read = refl
+by_parts F.Write = refl
+by_parts F.NoMemory = refl
+by_parts (F.Text (T.At line kind)) = at_place line (kind_text kind)
+by_parts (F.Text T.NoMemory) = refl
+by_parts (F.Script fault) = at_place fault.line (script_kind_text fault.kind)
+by_parts F.StopOn = refl
+by_parts F.Only = refl

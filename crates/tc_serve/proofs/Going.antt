@@ -1,0 +1,26 @@
+-- A test case that goes on, and the text that grows by what is appended.
+use Rattle.std.proofs.Common.{◌≡◌, ◌∙◌, ◌+◌, ◌++◌, ℕ, List, ap, append_assoc, add-one}
+use Rattle.tc_evidence.specs.declared.line.Line.{Line}
+use Rattle.tc_serve.specs.declared.open_case.OpenCase.{OpenCase}
+use Rattle.tc_serve.specs.Inside.{Adds, GoesOn}
+use Rattle.tc_serve.specs.Played.{Played, woken, woken_once}
+
+pub adds_more : (a b c x y z : List ℕ) → Adds a b x y → Adds b c y z → Adds a c x z
+adds_more a b c x y z first second = record {
+  text = first.text ++ second.text;
+  grows = second.grows ∙ (ap (λ l. l ++ second.text) first.grows ∙ append_assoc a first.text second.text);
+  appends = second.appends ∙ (ap (λ l. l ++ second.text) first.appends ∙ append_assoc x first.text second.text);
+}
+
+pub goes_more : (o o' : OpenCase) (p q r : Played) (x y z : List ℕ) → GoesOn o p q x y → GoesOn o' q r y z → GoesOn o' p r x z
+goes_more o o' p q r x y z first second = record { kept = second.kept; adds = adds_more _ _ _ x y z first.adds second.adds }
+
+-- one more run is woken, where it may go on
+pub woken_next : (n : ℕ) (lines : List Line) (k : ℕ) → woken n lines (k + 1) ≡ woken_once n (woken n lines k) k
+woken_next n lines k = ap (λ i. woken n lines i) (add-one k)
+
+pub wakes_one : (o o' : OpenCase) (p : Played) (lines : List Line) (k : ℕ) (x y z : List ℕ) → GoesOn o p (record p { lines = woken p.behaviours lines k }) x y →
+    GoesOn o' (record p { lines = woken p.behaviours lines k }) (record p { lines = woken_once p.behaviours (woken p.behaviours lines k) k }) y z →
+    GoesOn o' p (record p { lines = woken p.behaviours lines (k + 1) }) x z
+wakes_one o o' p lines k x y z first second =
+    rw woken_next (goes_more o o' p _ _ x y z first second)

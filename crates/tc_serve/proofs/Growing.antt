@@ -1,0 +1,80 @@
+-- A line adds to the text, and changes none of it.
+use Rattle.std.proofs.Common.{ℕ, ◌≡◌, ◌∙◌, inl, inr, if◌then◌else◌, zero, suc, Bool, true, false, Option, Some, None, List, [], ◌∷◌, ◌++◌, reverse, ap, sym, subst, append_assoc}
+use Rattle.std.specs.List.{flat_map}
+use Rattle.std.proofs.lemmas.List.{append-nil, reverse-append}
+use Rattle.std.proofs.lemmas.List.Concat.{flat_map-append}
+use Rattle.tc_table.specs.declared.awaited.Awaited.{Awaited}
+use Rattle.tc_table.specs.Local.{overall}
+use Rattle.tc_table.specs.Waiting.{waiting}
+use Rattle.tc_history.specs.Block.{end_text}
+use Rattle.tc_evidence.specs.declared.line.Line.{Line}
+use Rattle.tc_evidence.specs.declared.line.Line.TheVariants as L
+use Rattle.tc_evidence.specs.Block.{ended}
+use Rattle.tc_evidence.specs.Line.{entries_of, line_text}
+use Rattle.tc_serve.specs.Laws.{TextGrows}
+use Rattle.tc_serve.specs.Played.{Played, called, is_parked, past_of, wake_op, woken, woken_from}
+use Rattle.tc_serve.specs.Stand.{Stand, block, lines_text, open_text, opening, stand_text, with_current}
+use Rattle.tc_serve.proofs.Changes.{Changes, changes}
+use Rattle.tc_serve.proofs.Trying.{grows, one_block}
+
+-- one text begins with the other
+abbrev Grows : List ℕ → List ℕ → Type 0
+Grows before after = (more : List ℕ) × (after ≡ before ++ more)
+
+grows_not : (a : List ℕ) → Grows a a
+grows_not a = ([], sym (append-nil a))
+
+grows_on : (a b c : List ℕ) → Grows a b → Grows b c → Grows a c
+grows_on a b c p q = (p.0 ++ q.0, q.1 ∙ (ap (λ (l : List ℕ). l ++ q.0) p.1 ∙ append_assoc a p.0 q.0))
+
+one_line : (l : Line) (lines : List Line) → Grows (lines_text lines) (lines_text (l ∷ lines))
+one_line l lines = (
+  ended (line_text l),
+  ap (flat_map (λ x. ended (line_text x))) (reverse-append (l ∷ []) lines)
+      ∙ (flat_map-append (λ x. ended (line_text x)) (reverse lines) (l ∷ []) ∙ ap (λ (x : List ℕ). lines_text lines ++ x) (append-nil (ended (line_text l)))),
+)
+
+one_wake : (n : ℕ) (lines : List Line) (b : ℕ) (o : Option Awaited) → Grows (lines_text lines) (lines_text (woken_from n lines b o))
+one_wake n lines b None = grows_not (lines_text lines)
+one_wake n lines b (Some a) = by_test (is_parked (called n lines (record { 0 = b }) (wake_op a)).reply)
+  where
+    by_test : (t : Bool) → Grows (lines_text lines) (lines_text (if t then lines else L.Entry (called n lines (record { 0 = b }) (wake_op a)) ∷ lines))
+    by_test true = grows_not (lines_text lines)
+    by_test false = one_line (L.Entry (called n lines (record { 0 = b }) (wake_op a))) lines
+
+wakes : (n : ℕ) (lines : List Line) (k : ℕ) → Grows (lines_text lines) (lines_text (woken n lines k))
+wakes n lines zero = grows_not (lines_text lines)
+wakes n lines (suc k) = grows_on _ _ _ (wakes n lines k) (one_wake n (woken n lines k) k (waiting (entries_of (woken n lines k)) k))
+
+-- the open test case has other lines
+with_lines : (s : Stand) (p : Played) (ls : List Line) → s.current ≡ Some p → Grows (lines_text p.lines) (lines_text ls) → Grows (stand_text s) (stand_text (with_current s (record p { lines = ls })))
+with_lines s p ls some more = (more.0, grows s p ls more.0 some more.1)
+
+open_is : (s : Stand) (c : Option Played) → s.current ≡ c → flat_map block (reverse s.closed) ++ open_text c ≡ stand_text s
+open_is s c is = ap (λ (x : Option Played). flat_map block (reverse s.closed) ++ open_text x) (sym is)
+
+grown : (s t : Stand) → Changes s t → Grows (stand_text s) (stand_text t)
+grown s t (inl opens) =
+    let others = flat_map block (reverse s.closed) in
+    let head = opening (record { name = opens.name; behaviours = opens.behaviours; lines = [] }) in
+    subst (λ (x : Stand). Grows (stand_text s) (stand_text x)) opens.is
+    (head, ap (λ (l : List ℕ). l ++ head) (sym (append-nil others) ∙ open_is s None opens.none))
+grown s t (inr (inl adds)) =
+    subst (λ (x : Stand). Grows (stand_text s) (stand_text x)) adds.is (with_lines s adds.case (adds.line ∷ adds.case.lines) adds.some (one_line adds.line adds.case.lines))
+grown s t (inr (inr (inl moves))) =
+    let p = moves.case in
+    let call = L.Entry (called p.behaviours p.lines moves.caller moves.op) in
+    subst (λ (x : Stand). Grows (stand_text s) (stand_text x)) moves.is
+    (with_lines s p (woken p.behaviours (call ∷ p.lines) p.behaviours) moves.some (grows_on _ _ _ (one_line call p.lines) (wakes p.behaviours (call ∷ p.lines) p.behaviours)))
+grown s t (inr (inr (inr closes))) =
+    let p = closes.case in
+    let others = flat_map block (reverse s.closed) in
+    let text = ended (end_text (overall (past_of p))) in
+    subst (λ (x : Stand). Grows (stand_text s) (stand_text x)) closes.is (
+      text,
+      append-nil (flat_map block (reverse (p ∷ s.closed)))
+          ∙ (one_block s.closed p ∙ (sym (append_assoc others (opening p) text) ∙ ap (λ (l : List ℕ). l ++ text) (open_is s (Some p) closes.some))),
+    )
+
+pub text_grows : TextGrows
+text_grows s t by = grown s t (changes s t by)

@@ -1,0 +1,62 @@
+-- All that is served is legal, and nobody is woken for nothing.
+use Rattle.std.proofs.Common.{ℕ, ◌≡◌, ◌&&◌, inl, inr, not, if◌then◌else◌, zero, suc, Bool, true, false, Option, Some, None, List, [], ◌∷◌, ◌++◌, MatchOption, refl, ap, sym, subst}
+use Rattle.tc_verdict.specs.declared.run.Run.{Run}
+use Rattle.tc_entry.specs.declared.entry.Entry.{Entry}
+use Rattle.tc_entry.specs.declared.op.Op.{Op}
+use Rattle.tc_table.specs.declared.awaited.Awaited.{Awaited}
+use Rattle.tc_table.specs.Legal.{IsLegal}
+use Rattle.tc_table.specs.Waiting.{waiting}
+use Rattle.tc_evidence.specs.declared.line.Line.{Line}
+use Rattle.tc_evidence.specs.declared.line.Line.TheVariants as L
+use Rattle.tc_evidence.specs.Line.{entries_of, entry_of}
+use Rattle.tc_serve.specs.Laws.{IsSound, NoIdleWake, ServedIsSound, StandIsSound}
+use Rattle.tc_serve.specs.Played.{Played, after_call, called, is_parked, is_wake, may_ask, moved, wake_op, woken, woken_from}
+use Rattle.tc_serve.specs.Stand.{Stand}
+use Rattle.tc_serve.proofs.Changes.{Changes, changes}
+
+-- the entries among the lines are legal, and no wake is replied parked
+record Sound (n : ℕ) (lines : List Line) : Type 0 where
+  legal : IsLegal n (entries_of lines)
+  wakes : NoIdleWake (entries_of lines)
+
+one_woken : (n : ℕ) (lines : List Line) (b : ℕ) (o : Option Awaited) → Sound n lines → Sound n (woken_from n lines b o)
+one_woken n lines b None so = so
+one_woken n lines b (Some a) so = by_test (is_parked (called n lines (record { 0 = b }) (wake_op a)).reply) refl
+  where
+    by_test : (t : Bool) → is_parked (called n lines (record { 0 = b }) (wake_op a)).reply ≡ t → Sound n (if t then lines else L.Entry (called n lines (record { 0 = b }) (wake_op a)) ∷ lines)
+    by_test true parked = so
+    by_test false goes = record { legal = (refl, so.legal); wakes = (λ _. goes, so.wakes) }
+
+all_woken : (n : ℕ) (lines : List Line) (k : ℕ) → Sound n lines → Sound n (woken n lines k)
+all_woken n lines zero so = so
+all_woken n lines (suc k) so = one_woken n (woken n lines k) k (waiting (entries_of (woken n lines k)) k) (all_woken n lines k so)
+
+no_wake : (a b : Bool) → (not a && b) ≡ true → a ≡ true → ⊥
+no_wake true b may wake = absurd cc
+no_wake false b may wake = absurd cc
+
+made : (p : Played) (caller : Run) (op : Op) → may_ask p caller op ≡ true → Sound p.behaviours p.lines → Sound p.behaviours (moved p caller op).lines
+made p caller op may so = all_woken p.behaviours (after_call p caller op) p.behaviours (record { legal = (refl, so.legal); wakes = (λ wake. absurd (no_wake (is_wake op) _ may wake), so.wakes) })
+
+noted : (n : ℕ) (lines : List Line) (l : Line) → entry_of l ≡ [] → Sound n lines → Sound n (l ∷ lines)
+noted n lines l none so =
+    let same : entries_of lines ≡ entries_of (l ∷ lines) = sym (ap (λ (es : List Entry). es ++ entries_of lines) none) in
+    record { legal = subst (IsLegal n) same so.legal; wakes = subst NoIdleWake same so.wakes }
+
+current : (s : Stand) (p : Played) → s.current ≡ Some p → StandIsSound s → IsSound p
+current s p some so = subst (λ (c : Option Played). MatchOption c (Unit {0}) IsSound) some so.current
+
+next : (s t : Stand) → StandIsSound s → Changes s t → StandIsSound t
+next s t so (inl opens) = subst StandIsSound opens.is (record { closed = so.closed; current = record { legal = tt; wakes = tt } })
+next s t so (inr (inl adds)) =
+    let p = current s adds.case adds.some so in
+    let one = noted adds.case.behaviours adds.case.lines adds.line adds.note (record { legal = p.legal; wakes = p.wakes }) in
+    subst StandIsSound adds.is (record { closed = so.closed; current = record { legal = one.legal; wakes = one.wakes } })
+next s t so (inr (inr (inl moves))) =
+    let p = current s moves.case moves.some so in
+    let one = made moves.case moves.caller moves.op moves.may (record { legal = p.legal; wakes = p.wakes }) in
+    subst StandIsSound moves.is (record { closed = so.closed; current = record { legal = one.legal; wakes = one.wakes } })
+next s t so (inr (inr (inr closes))) = subst StandIsSound closes.is (record { closed = (current s closes.case closes.some so, so.closed); current = tt })
+
+pub served_is_sound : ServedIsSound
+served_is_sound = record { first = record { closed = tt; current = tt }; next = λ s t so by. next s t so (changes s t by) }

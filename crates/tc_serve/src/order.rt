@@ -1,0 +1,109 @@
+//! What a line asks for.
+ghost use Rattle.std.specs.Prelude.{◌≡◌, ◌<◌, ◌^◌, ◌++◌, ℕ, List, codes, false, Some, None, IfSome, IfOk, MatchOption};
+ghost use Rattle.std.specs.Fmt.{decimal};
+ghost use Rattle.tc_entry.specs.Limits.{IsBehaviours};
+ghost use Rattle.tc_entry.specs.Name.{IsName};
+ghost use Rattle.tc_evidence.specs.Line.{naming_text, said_text};
+ghost use Rattle.tc_evidence.specs.Sentence.{IsSentence};
+ghost use Rattle.tc_serve.specs.Order.{case_text, order_text, IsOrder};
+ghost use Rattle.tc_serve.specs.Inside.{IsNoRemark};
+ghost use Rattle.tc_serve.specs.declared.order.Order.{Order as AnyOrder};
+ghost use Rattle.tc_serve.specs.declared.order.Order.TheVariants as orders;
+
+use std::alloc::Global;
+use tc_entry::{Name, NoMemory, Op, Run};
+use tc_evidence::Sentence;
+use tc_text::{after, as_behaviours, read_move, read_number, take_name, take_number};
+
+/// What a line asks for.
+#[derive(Drop)]
+pub enum Order {
+    /// Opens a test case of this name, with so many behaviours.
+    Case { name: Name, behaviours: u16 },
+    /// Names the behaviour of a run.
+    Named { run: Run, name: Name },
+    /// Makes this call of this run.
+    Move { caller: Run, op: Op },
+    /// Says something for a run.
+    Remark { run: Run, sentence: Sentence },
+    /// Closes the test case.
+    End,
+}
+
+// The test case that the line opens.
+fn read_case(text: &[u8]) -> Option<(Name, u16)>
+    ensures spelled { IfSome result (λ r. text.now ≡ case_text r.0 r.1) }
+    ensures fits { IfSome result (λ r. IsName r.0 × IsBehaviours r.1) }
+    ensures only { (name : List ℕ) (n : ℕ) → IsName name → IsBehaviours n → text.now ≡ case_text name n → result ≡ Some (name, n) }
+{
+    let rest = after(text, b"case ")?;
+    let (name, rest) = take_name(rest)?;
+    let rest = after(rest, b" ")?;
+    let number = read_number(rest)?;
+    Some((name, as_behaviours(number)?))
+}
+
+// The name of a run's behaviour that the line spells.
+fn read_naming(text: &[u8]) -> Option<(Run, Name)>
+    ensures spelled { IfSome result (λ r. text.now ≡ naming_text r.0.0 r.1) }
+    ensures fits { IfSome result (λ r. (r.0.0 < 2 ^ 16) × IsName r.1) }
+    ensures only { (k : ℕ) (name : List ℕ) → k < 2 ^ 16 → IsName name → text.now ≡ naming_text k name → result ≡ Some (record { 0 = k }, name) }
+{
+    let rest = after(text, b"behaviour ")?;
+    let (number, rest) = take_number(rest)?;
+    let rest = after(rest, b" ")?;
+    let name = Name::of_bytes(rest)?;
+    let number = u16::try_from(number).ok()?;
+    Some((Run(number), name))
+}
+
+// The run that makes a remark in the line, and what it says, which may be no sentence.
+fn read_remark(text: &[u8]) -> Option<(Run, &[u8])>
+    ensures spelled { IfSome result (λ r. text.now ≡ said_text false r.0.0 r.1.now) }
+    ensures fits { IfSome result (λ r. r.0.0 < 2 ^ 16) }
+    ensures only { (k : ℕ) (sentence : List ℕ) → k < 2 ^ 16 → text.now ≡ said_text false k sentence
+        → MatchOption result ⊥ (λ r. (r.0.0 ≡ k) × (r.1.now ≡ sentence)) }
+{
+    let (number, rest) = take_number(text)?;
+    let sentence = after(rest, b" # ")?;
+    let number = u16::try_from(number).ok()?;
+    Some((Run(number), sentence))
+}
+
+// What the line asks for, where it is no remark.
+fn read_other(text: &[u8]) -> Option<Order>
+    ensures spelled { IfSome result (λ o. text.now ≡ order_text o) }
+    ensures fits { IfSome result IsOrder }
+    ensures only { (o : AnyOrder) → IsOrder o → IsNoRemark o → text.now ≡ order_text o → result ≡ Some o }
+{
+    if let Some((caller, op)) = read_move(text) {
+        return Some(Order::Move { caller, op });
+    }
+    if let Some((run, name)) = read_naming(text) {
+        return Some(Order::Named { run, name });
+    }
+    if let Some((name, behaviours)) = read_case(text) {
+        return Some(Order::Case { name, behaviours });
+    }
+    let rest = after(text, b"end")?;
+    if rest.is_empty() {
+        Some(Order::End)
+    } else {
+        None
+    }
+}
+
+/// What the line asks for. None where it asks for nothing.
+pub fn read_order(alloc: Global, text: &[u8]) -> Result<Option<Order>, NoMemory>
+    ensures spelled { IfOk result (λ found. IfSome found (λ o. text.now ≡ order_text o)) }
+    ensures fits { IfOk result (λ found. IfSome found IsOrder) }
+    ensures only { (o : AnyOrder) → IsOrder o → text.now ≡ order_text o → IfOk result (λ found. found ≡ Some o) }
+{
+    let Some((run, bytes)) = read_remark(text) else {
+        return Ok(read_other(text));
+    };
+    match Sentence::of_bytes(alloc, bytes)? {
+        Some(sentence) => Ok(Some(Order::Remark { run, sentence })),
+        None => Ok(None),
+    }
+}

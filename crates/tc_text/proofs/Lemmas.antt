@@ -1,0 +1,7 @@
+-- The lemmas that other crates cite.
+pub mod Digits
+pub mod LinesOf
+pub mod MoveLines
+pub mod Naming
+pub mod Plain
+pub mod Showing

@@ -1,0 +1,85 @@
+-- The first line of a text, read as a move.
+use Rattle.std.proofs.Common.{◌≡◌, ◌≢◌, ◌∙◌, ◌<◌, ◌^◌, inl, inr, ℕ, List, ◌∷◌, ◌++◌, codes, sym, ap, refl, arith}
+use Rattle.std.specs.Fmt.{decimal}
+use Rattle.tc_entry.specs.declared.op.Op.{Op}
+use Rattle.tc_text.specs.Spelling.{move_text, IsOp}
+use Rattle.tc_text.specs.Lines.{lines_of}
+use Rattle.tc_entry.specs.Limits.{IsBehaviours}
+use Rattle.tc_text.specs.MoveList.{Move, move_line, behaviours_line, IsMove}
+use Rattle.tc_text.specs.Reading.{EndsNumber, EndsMove, EndsReply, EndsLine}
+use Rattle.tc_text.proofs.Operands.{ends_nothing, IsThatNumber}
+use Rattle.tc_text.proofs.Lemmas.LinesOf.{line_ended, first_line}
+use Rattle.tc_text.proofs.Lemmas.Plain.{move_plain, behaviours_plain, some_behaviours, some_move}
+
+-- a line may end behind a move
+pub ends_line : (rest behind : List ℕ) → EndsLine rest behind → EndsMove rest
+ends_line rest behind (inl last) = rw last.0 ends_nothing
+ends_line rest behind (inr more) = rw more (record {
+  number = λ b after e. let same : ◌≡◌ {A = ℕ} 10 b = first_is 10 b behind after e in omega (arith, same);
+  word = λ b after e. let same : ◌≡◌ {A = ℕ} 10 32 = first_is 10 32 behind (b ∷ after) e in absurd (omega (arith, same));
+})
+  where
+    first_is : (x y : ℕ) (xs ys : List ℕ) → x ∷ xs ≡ y ∷ ys → x ≡ y
+    first_is x y xs ys e = cc
+
+-- and behind a reply
+pub ends_reply : (rest behind : List ℕ) → EndsLine rest behind → EndsReply rest
+ends_reply rest behind (inl last) = rw last.0 (record { number = λ b after e. absurd cc; no_space = λ after e. cc })
+ends_reply rest behind (inr more) = record { number = (ends_line rest behind (inr more)).number; no_space = λ after e. let same : ◌≡◌ {A = ℕ} 10 32 = let whole = sym more ∙ e in cc in omega (arith, same) }
+
+pub move_spelled : (text rest behind : List ℕ) (m : Move) → text ≡ move_text m.0.0 m.1 ++ rest → IsMove m → EndsLine rest behind → lines_of text ≡ move_line m ∷ lines_of behind
+move_spelled text rest behind m spelled fits ends = ap lines_of spelled ∙ line_ended (move_line m) rest behind (some_move m.0.0 m.1 fits.0) (move_plain m.0.0 m.1 fits.0 fits.1) ends
+
+-- no move
+pub never_move : (text : List ℕ) → ((run : ℕ) (op : Op) (rest : List ℕ) → run < 2 ^ 16 → IsOp op → EndsMove rest → text ≡ move_text run op ++ rest → ⊥)
+    → (m : Move) (others : List (List ℕ)) → IsMove m → lines_of text ≡ move_line m ∷ others → ⊥
+never_move text never m others fits lines =
+    let begins = first_line text (move_line m) others lines in
+    never m.0.0 m.1 begins.rest fits.0 fits.1 (ends_line begins.rest begins.behind begins.ends) begins.parts
+
+-- what is read is that, and the end of the line and these lines stand behind it
+pub record IsThat {A : Type 0} (one that : A) (rest : List ℕ) (others : List (List ℕ)) : Type 0 where
+  pub same : one ≡ that
+  pub behind : List ℕ
+  pub ends : EndsLine rest behind
+  pub lines : lines_of behind ≡ others
+
+ends_at : (x y behind : List ℕ) → x ≡ y → EndsLine y behind → EndsLine x behind
+ends_at x y behind e ends = rw e ends
+
+pub that_line : (text rest : List ℕ) (one : Move) → ((run : ℕ) (op : Op) (after : List ℕ) → run < 2 ^ 16 → IsOp op → EndsMove after → text ≡ move_text run op ++ after → (one ≡ (record { 0 = run }, op)) × (rest ≡ after))
+    → (m : Move) (others : List (List ℕ)) → IsMove m → lines_of text ≡ move_line m ∷ others → IsThat one m rest others
+that_line text rest one only m others fits lines =
+    let begins = first_line text (move_line m) others lines in
+    let two = only m.0.0 m.1 begins.rest fits.0 fits.1 (ends_line begins.rest begins.behind begins.ends) begins.parts in
+    record { same = two.0; behind = begins.behind; ends = ends_at rest begins.rest begins.behind two.1 begins.ends; lines = begins.lines }
+
+-- ---- the first line of a list
+
+behaviours_assoc : (n : ℕ) (rest : List ℕ) → behaviours_line n ++ rest ≡ codes "behaviours " ++ (decimal n ++ rest)
+behaviours_assoc n rest = refl
+
+pub behaviours_spelled : (text behind rest end : List ℕ) (n : ℕ) → text ≡ codes "behaviours " ++ behind → behind ≡ decimal n ++ rest → IsBehaviours n → EndsLine rest end → lines_of text ≡ behaviours_line n ∷ lines_of end
+behaviours_spelled text behind rest end n word number few ends =
+    ap lines_of (word ∙ ap (λ l. codes "behaviours " ++ l) number ∙ sym (behaviours_assoc n rest)) ∙ line_ended (behaviours_line n) rest end (some_behaviours n) (behaviours_plain n few) ends
+
+behind_word : (xs ys : List ℕ) → codes "behaviours " ++ xs ≡ codes "behaviours " ++ ys → xs ≡ ys
+behind_word xs ys e = cc
+
+pub no_word : (text : List ℕ) → ((after : List ℕ) → text ≢ codes "behaviours " ++ after) → (n : ℕ) (others : List (List ℕ)) → lines_of text ≡ behaviours_line n ∷ others → ⊥
+no_word text none n others lines =
+    let begins = first_line text (behaviours_line n) others lines in
+    none (decimal n ++ begins.rest) (begins.parts ∙ behaviours_assoc n begins.rest)
+
+pub no_behaviours : (text behind : List ℕ) → text ≡ codes "behaviours " ++ behind → ((n : ℕ) (rest : List ℕ) → n < 2 ^ 32 → EndsNumber rest → behind ≡ decimal n ++ rest → ⊥) → (n : ℕ) (others : List (List ℕ)) → IsBehaviours n → lines_of text ≡ behaviours_line n ∷ others → ⊥
+no_behaviours text behind word never n others few lines =
+    let begins = first_line text (behaviours_line n) others lines in
+    let low = few.1 in
+    never n begins.rest (omega (arith, low)) (ends_line begins.rest begins.behind begins.ends).number (behind_word behind _ (sym word ∙ begins.parts ∙ behaviours_assoc n begins.rest))
+
+pub that_first : (text behind rest : List ℕ) (number : ℕ) → text ≡ codes "behaviours " ++ behind → IsThatNumber behind number rest → (n : ℕ) (others : List (List ℕ)) → IsBehaviours n → lines_of text ≡ behaviours_line n ∷ others → IsThat number n rest others
+that_first text behind rest number word only n others few lines =
+    let begins = first_line text (behaviours_line n) others lines in
+    let low = few.1 in
+    let two = only n begins.rest (omega (arith, low)) (ends_line begins.rest begins.behind begins.ends).number (behind_word behind _ (sym word ∙ begins.parts ∙ behaviours_assoc n begins.rest)) in
+    record { same = two.0; behind = begins.behind; ends = ends_at rest begins.rest begins.behind two.1 begins.ends; lines = begins.lines }

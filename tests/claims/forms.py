@@ -1,0 +1,48 @@
+"""The form of what is written: decisions with their reasons and consequences, changes of a kind, links on one line."""
+from __future__ import annotations
+
+import re
+from typing import Iterator, List
+
+from documents import Document
+
+PARTS = ["Decision", "Reason", "Consequence"]
+KINDS = ("Added", "Changed", "Fixed", "Removed")
+FEWEST_DECISIONS, FEWEST_VERSIONS = 40, 13
+BOLD = re.compile(r"- \*\*(\w+)\.\*\* \S")
+
+
+def decisions(document: Document) -> Iterator[str]:
+    """Decisions that do not have just their three lines, in this order."""
+    titles = [title for _, title, depth in document.headings() if depth == 3]
+    for title in titles:
+        lines = [line for _, line in document.section(title) if line]
+        found = [it[1] for it in map(BOLD.match, lines) if it]
+        if found != PARTS or not lines[0].startswith(f"- **{PARTS[0]}.**"):
+            yield f"{document.path}: {title}: its lines are {found}, where {PARTS} are wanted"
+    if len(titles) < FEWEST_DECISIONS:
+        yield f"{document.path}: {len(titles)} decisions, where there are no fewer than {FEWEST_DECISIONS}"
+
+
+def changes(document: Document) -> Iterator[str]:
+    """Entries of a version that are of no kind, or not in the order of the kinds."""
+    versions = [title for _, title, depth in document.headings() if depth == 2]
+    for version in versions:
+        if not re.fullmatch(r"\d+\.\d+\.\d+, \d{4}-\d\d-\d\d", version):
+            yield f"{document.path}: {version} is no version and its day"
+        entries = [line for _, line in document.section(version) if line and not line.startswith("  ")]
+        kinds = [it[1] if it else "" for it in map(BOLD.match, entries)]
+        yield from (f"{document.path}: {version}: {entry[:60]}.. is none of {', '.join(KINDS)}" for entry, kind in zip(entries, kinds)
+                    if kind not in KINDS)
+        known = [it for it in kinds if it in KINDS]
+        if known != sorted(known, key=KINDS.index):
+            yield f"{document.path}: {version}: the entries are not in the order {', '.join(KINDS)}"
+    if len(versions) < FEWEST_VERSIONS:
+        yield f"{document.path}: {len(versions)} versions, where there are no fewer than {FEWEST_VERSIONS}"
+
+
+def broken_links(documents: List[Document]) -> Iterator[str]:
+    """Links whose text goes over the end of a line, where nobody looks for what they lead to."""
+    for document in documents:
+        text = re.sub(r"(?ms)^```.*?^```", "", "\n".join(document.lines))
+        yield from (f"{document.path}: {it[0]!r}" for it in re.finditer(r"\[[^\]\n]*\n[^\]\n]*\]\(", text))

@@ -1,0 +1,273 @@
+"""The public calls of the libraries: where each is refused memory, or made with none.
+
+A call that can answer that memory was refused has each of its growths refused in turn, and one that cannot is made with every growth
+refused. crates/refused_memory names its calls where a refusal begins, and in the rows of those that take no memory; what it does not make
+stands in tests/hostile/whole.py, each with a reason. `python3 tests/claims/memory.py` prints the public calls and where each is made;
+with --plant each is taken out of its list in turn, and is to be missed.
+"""
+from __future__ import annotations
+
+import os
+import re
+import sys
+from collections import defaultdict
+from typing import Dict, Iterable, Iterator, List, NamedTuple, Set, Tuple
+
+sys.dont_write_bytecode = True
+TOP = os.path.dirname(os.path.dirname(os.path.dirname(os.path.abspath(__file__))))
+sys.path.append(os.path.join(TOP, "tests", "hostile"))
+
+from sources import files_below
+from whole import REFUSED_BY_THE_PROGRAM, UNREFUSED, UNTRIED, WITHOUT_ALLOCATOR
+
+PROGRAM = os.path.join("crates", "refused_memory", "src")
+# What the toolchain's library answers where memory is refused, and clap, whose error may be that.
+REFUSALS = {"NoMemory", "AllocError", "AllocFailed", "Error"}
+# What tells of a refusal though it is no Result: a campaign that was aborted, a behaviour that was starved, a task that ended so. Only a
+# call that is passed an allocator or a handle makes one of it.
+TELLING = {"Results", "CampaignEnd", "Back", "Outcome"}
+HEAD = re.compile(r"^( *)(pub )?(?:const |unsafe )*fn (\w+)\s*(?=[<(])")
+TYPE = re.compile(r"(?ms)^(pub )?(struct|enum|trait) (\w+)(.*?)^[};]")
+IMPL = re.compile(r"^(?:unsafe )?(?:impl|pub trait|trait)\b")
+USE = re.compile(r"(?ms)^pub use ([^;]*);")
+MODULE = re.compile(r"(?m)^pub mod (\w+);")
+CALLED = re.compile(r"\b(\w+)(?:::<[^(]*?>)?\(")
+# A function of the program; where a refusal begins, each growth by `begin_each`, up to its end; a row of a call that takes no memory.
+FUNCTION = re.compile(r"(?ms)^ *(?:pub(?:\(crate\))? )?fn (\w+)(.*?)(?=^ *(?:pub(?:\(crate\))? )?fn |\Z)")
+REGION = re.compile(r'(?s)\.begin(_each)?\(\s*"([^"]*)",?\s*\)(.*?)\.end\(\)')
+ROW = re.compile(r'(?s)\.holds\(\s*"([\w:]+)",(.*?)\);\n')
+
+
+class Call(NamedTuple):
+    """A public call: its crate, the type or trait that it is of, or none, its name, and its head."""
+
+    crate: str
+    owner: str
+    name: str
+    head: str
+
+    @property
+    def path(self) -> str:
+        """As it is named in a list."""
+        return f"{self.owner}::{self.name}" if self.owner else self.name
+
+
+def text_of(path: str) -> str:
+    """The text of a file, by its path from the top; none where there is no such file."""
+    whole = os.path.join(TOP, path)
+    if not os.path.isfile(whole):
+        return ""
+    with open(whole, encoding="utf-8") as file:
+        return file.read()
+
+
+def libraries() -> List[str]:
+    """The libraries, without the crates of tests."""
+    names = re.findall(r"(?m)^(\w+):", text_of("crates.txt"))
+    return [it for it in names if not it.endswith("_tests") and text_of(f"crates/{it}/src/lib.rt")]
+
+
+def used(text: str) -> Iterator[Tuple[List[str], str]]:
+    """What a file passes on: the modules that lead there, and the name."""
+    for tree in USE.findall(text):
+        path, brace, names = re.sub(r"\s", "", tree).partition("::{")
+        modules = path.split("::")
+        for name in names.rstrip("}").split(",") if brace else [modules.pop()]:
+            if name:
+                yield [it for it in modules if it != "crate"], name
+
+
+def file_of(crate: str, modules: List[str]) -> str:
+    """The file of a module of a crate."""
+    return f"crates/{crate}/src/{'/'.join(modules) if modules else 'lib'}.rt"
+
+
+def reachable(crate: str, modules: List[str]) -> Iterator[Tuple[str, str]]:
+    """The names that a public module offers, each with its file; `*` for all of a file."""
+    text = text_of(file_of(crate, modules))
+    if modules:
+        yield file_of(crate, modules), "*"
+    for path, name in used(text):
+        if text_of(file_of(crate, path)):
+            yield file_of(crate, path), name
+    for name in MODULE.findall(text):
+        yield from reachable(crate, [*modules, name])
+
+
+def heads(text: str) -> Iterator[Tuple[str, bool, bool, str, str]]:
+    """Each function of a file: what it is of, whether that is an impl of a trait, whether it is public, its name and its head."""
+    owner, of_trait, lines = "", False, text.split("\n")
+    for at, line in enumerate(lines):
+        block = IMPL.match(line)
+        if block:
+            words = re.sub(r"<[^<>]*>", "", re.sub(r"<[^<>]*>", "", " ".join(lines[at:at + 4]).partition("{")[0]))
+            names = re.findall(r"\w+", words.split(" for ")[-1].partition("where")[0].partition(":")[0])
+            owner, of_trait = next(it for it in names if it not in ("impl", "pub", "trait", "unsafe")), " for " in words
+        elif line.startswith("}"):
+            owner, of_trait = "", False
+        found = HEAD.match(line)
+        if found:
+            rest = re.split(r"(?m)^\s+(?:requires|ensures)\b|\{\s*$|;\s*$", "\n".join(lines[at:at + 14]), maxsplit=1)[0]
+            yield owner if found[1] else "", of_trait, bool(found[2]), found[3], " ".join(rest.split())
+
+
+def surface() -> List[Call]:
+    """The public calls of all libraries, as they can be named from the root of each, but those of their traits, which are what their
+    implementors make of them, and their laws, which do nothing."""
+    found: Dict[Call, None] = {}
+    for crate in libraries():
+        offered: Dict[str, Set[str]] = defaultdict(set)
+        for file, name in reachable(crate, []):
+            offered[file].add(name)
+        names = {name for all_of in offered.values() for name in all_of}
+        types = {it[2] for file, kinds in offered.items() if "*" in kinds for it in TYPE.findall(text_of(file)) if it[0]} | names
+        for path in files_below(os.path.join(TOP, "crates", crate, "src"), ".rt"):
+            file = os.path.relpath(path, TOP)
+            for owner, of_trait, is_public, name, head in heads(text_of(file)):
+                is_offered = bool({name, "*"} & offered[file]) if not owner else owner in types
+                if is_offered and is_public and not of_trait and not file.endswith("/laws.rt"):
+                    found[Call(crate, owner, name, head)] = None
+    return list(found)
+
+
+def faults() -> Set[str]:
+    """The types by which a call can answer that memory was refused: that, and each that has one of them in it as a cause."""
+    found, texts = set(REFUSALS), []
+    for crate in libraries():
+        for path in files_below(os.path.join(TOP, "crates", crate, "src"), ".rt"):
+            texts += [(it[2], it[3]) for it in TYPE.findall(text_of(os.path.relpath(path, TOP))) if it[1] == "enum"]
+    while True:
+        more = {name for name, body in texts if set(re.findall(r"\w+", re.sub(r"//.*", "", body))) & found} - found
+        if not more:
+            return found
+        found |= more
+
+
+def can_be_refused(call: Call, causes: Set[str]) -> bool:
+    """Whether a call can answer that memory was refused."""
+    taken, _, answer = call.head.rpartition(") -> ")
+    error = answer.partition("Result<")[2]
+    tells = set(re.findall(r"\w+", answer)) & TELLING and re.search(r"\b(?:alloc|rt):", taken)
+    return bool(set(re.findall(r"\w+", error)) & causes or tells)
+
+
+class Lists:
+    """The calls that crates/refused_memory names, each with its files, and what each of its functions calls."""
+
+    def __init__(self) -> None:
+        self.refused: Dict[str, List[str]] = defaultdict(list)
+        self.quiet: Dict[str, List[str]] = defaultdict(list)
+        self.makes: Dict[str, Set[str]] = defaultdict(set)
+        self.faults: List[str] = []
+        texts = {os.path.basename(it): text_of(os.path.relpath(it, TOP)) for it in files_below(os.path.join(TOP, PROGRAM), ".rt")}
+        functions = [(file, *it) for file, text in texts.items() for it in FUNCTION.findall(text)]
+        for _, name, body in functions:
+            self.makes[name] |= set(CALLED.findall(body))
+        unfed: Set[str] = set()
+        for file, _, body in functions:
+            unfed |= self.read_regions(file, body)
+        for file, name, body in functions:
+            self.read_rows(file, name, body, unfed)
+
+    def read_regions(self, file: str, body: str) -> Set[str]:
+        """Where a refusal begins, up to its end. What is called where each growth is refused."""
+        unfed: Set[str] = set()
+        for each, names, region in REGION.findall(body):
+            made = self.all_made(set(CALLED.findall(region)))
+            unfed |= made if each else set()
+            for name in names.replace("\\", " ").split():
+                (self.quiet if each else self.refused)[name].append(file)
+                if name.split("::")[-1] not in made:
+                    self.faults.append(f"{file}: {name} is not called where a refusal begins that names it")
+        return unfed
+
+    def read_rows(self, file: str, function: str, body: str, unfed: Set[str]) -> None:
+        """The rows of a function that take in what a call answers, which is made where each growth is refused."""
+        regions = "".join(region for each, _, region in REGION.findall(body) if each)
+        for name, row in ROW.findall(body if function in unfed else regions):
+            self.quiet[name].append(file)
+            if not re.search(rf"\b{name.split('::')[-1]}\(", row):
+                self.faults.append(f"{file}: {name} is not called in the row that names it")
+
+    def all_made(self, names: Set[str]) -> Set[str]:
+        """What is called, and what the functions of the program call that are."""
+        found, more = set(names), set(names)
+        while more:
+            more = {it for name in more for it in self.makes.get(name, ())} - found
+            found |= more
+        return found
+
+
+def meant(path: str, calls: List[Call]) -> List[Call]:
+    """The public calls that a list names: as `call` or `Type::call`, with the crate before it where two have the same."""
+    return [it for it in calls if path in (it.path, f"{it.crate}::{it.path}")]
+
+
+def misnamed(names: Iterable[str], calls: List[Call], exempt: bool) -> Iterator[str]:
+    """Names of a list that are no public call, or of several; an exemption may be of several that are alike."""
+    for name in names:
+        count = len(meant(name, calls))
+        if not count or (count > 1 and not exempt):
+            yield f"{name} is the name of {count} public calls"
+
+
+def holds_allocator(call: Call) -> bool:
+    """Whether what a call is handed may hold an allocator, by its head and by the fields of its type."""
+    texts = [text_of(os.path.relpath(it, TOP)) for it in files_below(os.path.join(TOP, "crates", call.crate, "src"), ".rt")]
+    fields = "".join(body for text in texts for _, _, name, body in TYPE.findall(text) if name == call.owner)
+    taken = call.head.partition(" -> ")[0]
+    taken += fields if re.search(r"\bself\b", taken) else ""
+    return bool(re.search(r"\b(?:alloc|rt):|\b(?:Vec|Box|Arc|Sequence|String)\b|: (?:Read|Write)\b", taken))
+
+
+def unlisted() -> Iterator[str]:
+    """Public calls that stand in no list, and what the lists name wrongly."""
+    yield from unlisted_in(surface(), faults(), Lists())
+
+
+def unlisted_in(calls: List[Call], causes: Set[str], lists: Lists) -> Iterator[str]:
+    """The same of these calls and these lists; the causes are the types that tell of a refusal."""
+    yield from lists.faults
+    for name in WITHOUT_ALLOCATOR:
+        yield from (f"{it.crate}: {it.path} is handed an allocator" for it in meant(name, calls) if holds_allocator(it))
+    for title, made, exemptions, wanted in (("memory is refused in turn to", [*lists.refused, *REFUSED_BY_THE_PROGRAM], UNREFUSED, True),
+                                            ("no memory is given to", list(lists.quiet), UNTRIED, False)):
+        exempt = [it for names, _ in exemptions for it in names]
+        yield from misnamed(made, calls, False)
+        yield from misnamed(exempt, calls, True)
+        yield from (f"{it} is exempt, and made" for it in exempt if it in made)
+        listed = {it for name in [*made, *exempt] for it in meant(name, calls)}
+        for call in calls:
+            if can_be_refused(call, causes) is wanted and call not in listed:
+                yield f"{call.crate}: {call.path} stands in no list of the calls that {title}"
+            if call in listed and wanted and not can_be_refused(call, causes):
+                yield f"{call.crate}: {call.path} cannot answer that memory was refused"
+
+
+def missed_nowhere() -> Iterator[str]:
+    """The calls of the program's lists that nobody misses where they are taken out: there are to be none."""
+    calls, causes, lists = surface(), faults(), Lists()
+    for made, wanted in ((lists.refused, True), (lists.quiet, False)):
+        for name in [it for it in made if any(can_be_refused(call, causes) is wanted for call in meant(it, calls))]:
+            files = made.pop(name)
+            if not any(name.split("::")[-1] in it for it in unlisted_in(calls, causes, lists)):
+                yield name
+            made[name] = files
+
+
+def main() -> int:
+    """Prints the public calls; with --plant, which calls of the lists nobody misses."""
+    if "--plant" in sys.argv:
+        found = list(missed_nowhere())
+        print("\n".join(found) or "each call is missed where it is taken out of its list")
+        return 1 if found else 0
+    causes, lists = faults(), Lists()
+    for call in surface():
+        kind, where = ("refused", lists.refused) if can_be_refused(call, causes) else ("quiet", lists.quiet)
+        files = [file for name in (call.path, f"{call.crate}::{call.path}") for file in where.get(name, [])]
+        print(f"{call.crate:14} {call.path:34} {kind:8} {' '.join(sorted(set(files)))}".rstrip())
+    return 0
+
+
+if __name__ == "__main__":
+    sys.exit(main())

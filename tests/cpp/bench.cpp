@@ -1,0 +1,202 @@
+// Benches in C++ for the tests: each case by its name, `bench CASE COMMAND..`; what is found is printed line by line.
+#include <csignal>
+#include <cstdlib>
+#include <ctime>
+#include <functional>
+#include <iostream>
+#include <map>
+#include <random>
+#include <string>
+#include <vector>
+
+#include "filskeam.hpp"
+
+using filskeam::Ended;
+using filskeam::Result;
+using filskeam::Run;
+using filskeam::Seconds;
+using filskeam::Server;
+
+namespace {
+
+const Seconds grace(0.4);
+
+void show(const Result& result) {
+    std::cout << "verdict " << result.verdict << "\nwhy " << result.why << "\nfault " << result.fault << "\ntimed out " << result.is_timed_out << "\n";
+    for (const auto& [component, verdict] : result.locals) std::cout << "local " << component << " " << result.names.at(component) << " " << verdict << "\n";
+    for (const auto& it : result.raised) std::cout << "raised " << it << "\n";
+    for (const auto& it : result.hung) std::cout << "hung " << it << "\n";
+    std::cout << "evidence\n" << result.evidence << "done\n";
+}
+
+void hang(Run& run) {
+    run.set_verdict("pass");
+    std::this_thread::sleep_for(std::chrono::seconds(1000));
+}
+
+// A main behaviour that starts this one, and waits for it.
+filskeam::Behaviour alone(filskeam::Behaviour behaviour) {
+    return [behaviour](Run& run) {
+        int worker = run.create("worker");
+        run.start(worker, "worker", behaviour, {run.me()});
+        run.wait_done(worker);
+    };
+}
+
+void raises(Server& server) {
+    show(server.run("t", alone([](Run&) { throw std::runtime_error("no answer\nof 10.0.0.7"); })));
+    show(server.run("t", alone([](Run&) { throw 7; })));
+    show(server.run("t", [](Run& run) { run.stop(7); }));
+    show(server.run("t", alone([](Run& run) { run.stop_case("enough"); })));
+}
+
+void watchdog(Server& server) {
+    show(server.run("t", [](Run& run) {
+        int pump = run.create("pump"), dog = run.create("watchdog", true);
+        run.start(pump, "stuck", hang);
+        run.start(dog, "watch", [pump](Run& it) {
+            it.sleep(Seconds(0.1));
+            it.set_verdict("inconc", "the device is stuck");
+            it.kill(pump);
+        });
+        run.wait_done("all");
+    }));
+}
+
+void late(Server& server) {
+    server.run("warm", [](Run&) {});
+    show(server.run("t", alone(hang), Seconds(0.5)));
+    show(server.run("t", hang, Seconds(0.5)));
+    show(server.run("t", [](Run& run) { while (true) run.sleep(Seconds(0.01)); }, Seconds(0.5)));
+    show(server.run("t", [](Run& run) { run.set_verdict("pass"); }, Seconds(20)));
+}
+
+void waits(Server& server) {
+    show(server.run("t", [](Run& run) {
+        int it = run.create();
+        std::string found = run.wait_done(it, Seconds(0.05)) ? "held" : "late";
+        run.start(it, "worker", [](Run& worker) { worker.sleep(Seconds(0.3)); });
+        found += run.wait_done("any", Seconds(0.02)) ? " held" : " late";
+        found += run.wait_done(it, Seconds(20)) ? " held" : " late";
+        run.log(found);
+    }));
+}
+
+void stops(Server& server) {
+    show(server.run("t", [](Run& run) {
+        std::atomic<int> turns{0}, ended{0};
+        for (int at = 0; at < 2; ++at) {
+            run.start(run.create(), at == 0 ? "looping" : "stubborn", [&turns, &ended, at](Run& it) {
+                try {
+                    while (true) {
+                        try {
+                            at == 0 ? it.check() : void(it.get_verdict());
+                            ++turns;
+                            if (at == 1) throw std::runtime_error("caught");
+                        } catch (const std::exception&) {
+                        }
+                    }
+                } catch (const Ended&) {
+                    ++ended;
+                    throw;
+                }
+            });
+        }
+        while (turns < 300) std::this_thread::sleep_for(std::chrono::milliseconds(1));
+        run.stop("all");
+        while (ended < 2) std::this_thread::sleep_for(std::chrono::milliseconds(1));
+        run.set_verdict("pass");
+    }, Seconds(20)));
+}
+
+void words(Server& server) {
+    show(server.run("t", [](Run& run) {
+        const std::vector<std::function<void()>> wrong = {
+            [&] { run.set_verdict("passed"); }, [&] { run.set_verdict("error"); }, [&] { run.create("9a"); }, [&] { run.create("a b"); },
+            [&] { run.create("all"); }, [&] { run.create(std::string(33, 'a')); }, [&] { run.stop("any"); }, [&] { run.kill("every"); },
+            [&] { run.running(-1); }, [&] { run.start(1, "a-b", hang); }, [&] { run.start(1, "five", hang, {0, 0, 0, 0, 0}); },
+            [&] { run.start(1, "nothing", nullptr); },
+        };
+        int found = 0;
+        for (const auto& call : wrong) try { call(); } catch (const std::invalid_argument&) { ++found; }
+        run.log(std::to_string(found) + " of " + std::to_string(wrong.size()));
+        run.log("");
+        run.log(" \t");
+        run.log("81 \xc2\xb0" "C\n" + std::string(300, 'x'));
+        int refused = 0;
+        std::thread([&] { try { run.get_verdict(); } catch (const std::logic_error&) { ++refused; } }).join();
+        run.log(std::to_string(refused) + " call of another thread");
+    }));
+}
+
+// The server ends in the middle, or writes nonsense; the next test case has a new one. Nothing here may be ended by SIGPIPE.
+void loses(Server& server) {
+    show(server.run("t", [](Run& run) {
+        for (int at = 0; at < 5; ++at) run.start(run.create(), "worker", [](Run& it) { while (true) it.get_verdict(); });
+        while (true) run.get_verdict();
+    }, Seconds(1)));
+    show(server.run("t", [](Run& run) { for (int at = 0; at < 2000; ++at) run.log(std::string(200, 'x')); run.set_verdict("pass"); }, Seconds(1)));
+}
+
+// Random calls; `left` is how many more behaviours there may be.
+void random_behaviour(Run& run, std::shared_ptr<std::atomic<int>> left, unsigned seed) {
+    std::mt19937 chance(seed * 1000 + static_cast<unsigned>(run.me()));
+    for (int at = 0, most = run.me() == 0 ? 60 : 8; at < most; ++at) {
+        unsigned what = chance() % 100;
+        int target = static_cast<int>(chance() % 30);
+        if (what < 40 && left->fetch_sub(1) > 0) {
+            int made = run.create(what % 2 == 0 ? "pump" : "", what % 3 == 0);
+            run.start(made, "worker", [left, seed](Run& it) { random_behaviour(it, left, seed); }, {run.me()});
+            if (what < 5) run.wait_done(made);
+        } else if (what < 60) run.set_verdict(what % 2 == 0 ? "pass" : "inconc", what % 3 == 0 ? "a reason" : "");
+        else if (what < 70) run.log("remark " + std::to_string(what));
+        else if (what == 71 && target < run.me()) run.set_verdict("fail", "drawn");
+        else if (what == 72 && seed % 3 == 0) throw std::runtime_error("drawn");
+        else if (what == 73 && seed % 3 == 0) run.alive(target);
+        else run.get_verdict();
+    }
+    if (run.me() == 0) run.wait_done("all");
+}
+
+void random_cases(Server& server) {
+    for (unsigned seed = 0; seed < 10; ++seed) {
+        auto left = std::make_shared<std::atomic<int>>(39);
+        show(server.run("t", [left, seed](Run& run) { random_behaviour(run, left, seed); }, Seconds(60)));
+    }
+}
+
+// Test cases one after the other, none of which may leave anything behind.
+void leaves(Server& server) {
+    for (int at = 0; at < 20; ++at) server.run("t", alone([](Run& run) { run.set_verdict("pass", "a reason"); }));
+}
+
+void speed(Server& server) {
+    for (int callers : {1, 8}) {
+        const int calls = 2000 / callers;
+        const auto began = std::chrono::steady_clock::now();
+        auto result = server.run("t", [callers, calls](Run& run) {
+            for (int at = 0; at < callers; ++at) run.start(run.create(), "busy", [calls](Run& it) { for (int call = 0; call < calls; ++call) it.get_verdict(); });
+            run.wait_done("all");
+        });
+        const Seconds took = std::chrono::steady_clock::now() - began;
+        std::cout << "rate " << callers << " " << static_cast<int>(2000 / took.count()) << " " << result.verdict << "\n";
+    }
+}
+
+}  // namespace
+
+int main(int count, char** words_given) {
+    const std::map<std::string, void (*)(Server&)> cases = {
+        {"raises", raises}, {"watchdog", watchdog}, {"late", late}, {"waits", waits}, {"stops", stops},
+        {"words", words}, {"loses", loses}, {"random", random_cases}, {"leaves", leaves}, {"speed", speed},
+    };
+    int status = 0;
+    {
+        Server server(std::vector<std::string>(words_given + 2, words_given + count), grace);
+        cases.at(words_given[1])(server);
+        status = server.close();
+    }
+    std::cout << "status " << status << std::endl;
+    if (words_given[1] == std::string("leaves")) return 0;
+    std::_Exit(0);  // threads that hang are left behind
+}

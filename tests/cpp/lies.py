@@ -1,0 +1,65 @@
+#!/usr/bin/env python3
+"""Plants each bug into a copy of the C++ client, and shows that the test named with it fails: run it before a release.
+
+usage: tests/cpp/lies.py [--only WORD]
+
+It is no part of the gate. Each test that is named passes without the bug, which is shown first. The last line is
+'N passed, M failed'.
+"""
+from __future__ import annotations
+
+import os
+import sys
+from typing import Dict, List, Tuple
+
+sys.dont_write_bytecode = True
+HERE = os.path.dirname(os.path.abspath(__file__))
+TESTS_FOLDER = os.path.dirname(HERE)
+sys.path.insert(0, os.path.join(TESTS_FOLDER, "serve"))
+
+from planting import Ground, Lie, show
+
+HEADER = "filskeam.hpp"
+LIES = (
+    Lie("ended_is_an_exception", HEADER, "class Ended {\npublic:\n    explicit Ended(std::string text) : text_(std::move(text)) {}\n    virtual ~Ended() = default;\n"
+        "    const char* what() const noexcept {", "class Ended : public std::exception {\npublic:\n    explicit Ended(std::string text) : text_(std::move(text)) {}\n"
+        "    const char* what() const noexcept override {", "a_stop_is_learnt_of"),
+    Lie("an_exception_does_not_stop_the_case", HEADER, "            run.stop_case(text);\n", "            run.call(\"finish\");\n",
+        "what_a_behaviour_throws_stops_the_case"),
+    Lie("an_exception_has_no_remark", HEADER, "            run.stop_case(text);\n", "            run.stop_case();\n", "what_a_behaviour_throws_stops_the_case"),
+    Lie("a_dynamic_error_is_not_kept", HEADER, "            note(run, \"DynamicError: \" + std::string(error.what()), false);\n", "            (void)error;\n",
+        "what_a_behaviour_throws_stops_the_case"),
+    Lie("a_time_out_stops_only_the_main_component", HEADER, "exchange(\"stopcase\"", "exchange(\"stop 0\"", "a_case_past_its_time_out"),
+    Lie("who_hangs_is_not_named", HEADER, "hung_.push_back(it->text());", "(void)it;", "a_watchdog_kills_who_hangs"),
+    Lie("check_asks_each_time", HEADER, "    if (changes == seen_) return;\n", "", "a_stop_is_learnt_of"),
+    Lie("check_never_asks", HEADER, "    if (changes == seen_) return;\n", "    if (changes >= 0) return;\n", "a_stop_is_learnt_of"),
+    Lie("a_wait_that_is_late_holds", HEADER, "if (!case_->await_change(changes, deadline)) return false;", "if (!case_->await_change(changes, deadline)) return true;",
+        "waits_with_a_time_out"),
+    Lie("verdicts_are_not_checked", HEADER, "if (detail::rank(verdict) >= 4)", "if (verdict.empty())", "wrong_words_are_not_sent"),
+    Lie("names_are_not_checked", HEADER, "if (!is_name) throw", "if (word.empty()) throw", "wrong_words_are_not_sent"),
+    Lie("any_thread_may_call", HEADER, "if (std::this_thread::get_id() != thread_) throw", "if (number_ < 0) throw", "wrong_words_are_not_sent"),
+    Lie("remarks_are_cut_late", HEADER, "out.substr(0, most_of_a_remark - 2)", "out.substr(0, most_of_a_remark - 1)", "wrong_words_are_not_sent"),
+    Lie("a_signal_ends_the_bench", HEADER, "send(in_, text.data(), text.size(), MSG_NOSIGNAL)", "send(in_, text.data(), text.size(), 0)",
+        "a_server_that_ends_or_writes_nonsense"),
+    Lie("half_a_line_is_evidence", HEADER, "            if (size <= 0) return std::nullopt;\n            kept_", "            if (size <= 0 && kept_.empty()) return std::nullopt;\n"
+        "            if (size <= 0) break;\n            kept_", "a_server_that_ends_or_writes_nonsense"),
+    Lie("the_first_line_is_told", HEADER, "else told = std::exchange(line, \"\");", "else if (auto it_was = std::exchange(line, \"\"); told.empty()) told = it_was;",
+        "a_server_that_ends_or_writes_nonsense"),
+    Lie("any_reply_is_believed", HEADER, "line.text == wanted && detail::suits(wanted, line.reply)", "line.text == wanted", "a_server_that_ends_or_writes_nonsense"),
+    Lie("any_end_is_believed", HEADER, "is_closed_ && text == \"end \" + Findings(lines_).overall()", "text.rfind(\"end \", 0) == 0",
+        "a_server_that_ends_or_writes_nonsense"),
+    Lie("the_header_is_not_compared", HEADER, "is_right = text == \"evidence 1 \" + name_", "is_right = !text.empty() || text == \"evidence 1 \" + name_",
+        "a_server_that_ends_or_writes_nonsense"),
+    Lie("a_local_verdict_is_the_last", HEADER, "if (rank(given) > rank(local)) local = given;", "local = given;", "random_cases_are_legal"),
+    Lie("a_test_case_keeps_itself", HEADER, "        locked([&] { runs_.clear(); });", "        locked([&] { runs_.push_back(runs_[0]); });", "nothing_is_left_behind"),
+)
+
+
+def command(copy: str, test: str) -> Tuple[List[str], Dict[str, str]]:
+    """Runs a test over this client."""
+    return [os.path.join(HERE, "run.py"), "--only", test], {"FILSKEAM_CPP": copy}
+
+
+if __name__ == "__main__":
+    sources = os.path.join(os.path.dirname(TESTS_FOLDER), "clients", "cpp")
+    sys.exit(show("the C++ client", Ground(sources, command), LIES))

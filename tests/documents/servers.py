@@ -1,0 +1,336 @@
+"""The pipelines that the documents show: read as their servers would, and their commands run job by job, each in a clean checkout."""
+from __future__ import annotations
+
+import fnmatch
+import os
+import re
+import shutil
+import subprocess
+from dataclasses import dataclass, field
+from typing import Callable, Dict, Iterator, List, Optional, Tuple
+
+from blocks import PIPELINES, WORST, hold_left, step
+from room import SHELLS, TOP, VERDICTS, Ran, Room, hold
+from documents import Block, read
+from yaml_reader import read_yaml
+
+DOCUMENTS = (PIPELINES, "docs/titan.md")
+FEWEST_TEXTS = 3
+SHARDS = 4
+MADE = "make-report"
+# The shard whose limit of time ends it behind its first test case; it lacks the other one.
+CUT, LACKING = "2/4", "t_waits"
+# What stands behind `uses:`, without its version.
+ACTIONS = ("actions/checkout", "actions/cache", "actions/upload-artifact", "actions/download-artifact")
+LEFT = ["run.history", "run.html", "run.xml"]
+
+
+# A file that a server keeps: its content, and whether it may be run.
+Files = Dict[str, Tuple[bytes, int]]
+# What stands in a checkout, of which the wrapper builds the program in a job that needs it: a copy, which is counted.
+SOURCES = {"crates.txt": "ttrun:\n", "crates/ttrun/src/main.rt": "//! The program.\n", ".gitignore": "out/\n",
+           "tools/first_build.py": """import os, shutil, sys
+shutil.copy2(os.environ["PROGRAM"], os.path.join(sys.argv[1], "crates/ttrun/out/ttrun"))
+open(os.environ["BUILDS"], "a").write("built\\n")
+"""}
+VALUES = {"vars.RATTLE": "a toolchain", "hashFiles('crates/**')": "a sum"}
+
+
+@dataclass
+class Done:
+    """What a job gave: how it ended, what it printed, and the files that the server kept."""
+
+    status: int = 0
+    output: str = ""
+    kept: Files = field(default_factory=dict)
+
+
+class Server:
+    """A server with one repository, which it checks out for each job, and the shell that it uses."""
+
+    def __init__(self, folder: str, program: str, shell: str, cut: str) -> None:
+        self.folder, self.program, self.shell, self.cut = folder, program, SHELLS[shell], cut
+        self.builds = os.path.join(folder, "builds")
+        self.cache: Dict[str, Files] = {}
+        self.origin = Room(os.path.join(folder, "origin", "it"), program)
+        self.origin.write(MADE, step("Shards", "run.html").text)
+        for name, text in SOURCES.items():
+            self.origin.write(name, text)
+        self.origin.commit()
+        self.jobs = 0
+
+    def checkout(self, files: Files) -> Room:
+        """A clean checkout, with these files."""
+        self.jobs += 1
+        room = Room(os.path.join(self.folder, f"job{self.jobs}", "it"), self.program)
+        shutil.rmtree(room.folder)
+        subprocess.run(["git", "clone", "--quiet", self.origin.folder, room.folder], check=True)
+        put(room, files)
+        return room
+
+    def run(self, room: Room, text: str, **more: str) -> Ran:
+        """Runs commands; the limit of time ends the shard that is to be cut. No TTRUN names the program."""
+        return room.shell(self.shell, text, **{"CUT": self.cut, "TTRUN": "", "PROGRAM": self.program, "BUILDS": self.builds, **more})
+
+    def count(self) -> int:
+        """How often the program was built."""
+        if not os.path.exists(self.builds):
+            return 0
+        with open(self.builds, encoding="utf-8") as file:
+            return len(file.read().splitlines())
+
+
+def put(room: Room, files: Files) -> None:
+    """Puts files into a checkout, which are older than all that stands there."""
+    for name, (content, mode) in files.items():
+        os.makedirs(os.path.dirname(room.path(name)), exist_ok=True)
+        with open(room.path(name), "wb") as file:
+            file.write(content)
+        os.chmod(room.path(name), mode)
+        os.utime(room.path(name), (1_000_000_000, 1_000_000_000))
+
+
+def collected(room: Room, patterns: List[str]) -> Files:
+    """The files that match, or are below a folder that is named; what git has is none of them."""
+    tracked = subprocess.run(["git", "ls-files"], cwd=room.folder, capture_output=True, text=True, check=True).stdout.split()
+    found: Files = {}
+    for name in room.files():
+        if name not in tracked and any(fnmatch.fnmatch(name, it) or name.startswith(it.rstrip("/") + "/") for it in patterns):
+            with open(room.path(name), "rb") as file:
+                found[name] = file.read(), os.stat(room.path(name)).st_mode & 0o777
+    return found
+
+
+def block_with(language: str, word: str) -> Block:
+    """The block of the document in which a word stands."""
+    found = [it for it in read(TOP, PIPELINES).blocks() if it.language == language and word in it.text]
+    hold(len(found) == 1, f"{PIPELINES} has {len(found)} blocks with {word}")
+    return found[0]
+
+
+def gitlab_job(server: Server, job: Dict, kept: Files, **names: str) -> Done:
+    """A job of GitLab: all lines of its script in one shell."""
+    hold(set(job) <= {"stage", "script", "artifacts", "cache", "parallel", "when", "needs"}, f"{sorted(job)}")
+    room = server.checkout(kept)
+    cache = job.get("cache", {})
+    put(room, server.cache.get(str(cache.get("key")), {}))
+    ran = server.run(room, "".join(f"{it.rstrip()}\n" for it in job["script"]), **names)
+    done = Done(ran.status, ran.output)
+    if cache:
+        server.cache[cache["key"]] = collected(room, cache["paths"])
+    artifacts = job.get("artifacts", {})
+    if ran.status == 0 or artifacts.get("when") == "always":
+        reports = list(artifacts.get("reports", {}).values())
+        done.kept = collected(room, artifacts.get("paths", []) + reports)
+        hold(all(it in done.kept for it in reports), f"there is no {reports}: {ran}")
+    return done
+
+
+def gitlab(server: Server) -> Tuple[List[int], Optional[Done]]:
+    """The pipeline of GitLab: how each shard ended, and the job of the report."""
+    text = read_yaml(block_with("yaml", ".gitlab-ci.yml").text)
+    stages = text.pop("stages")
+    hold(all(it["stage"] in stages for it in text.values()), f"stages that are not in {stages}")
+    kept: Files = {}
+    ends: Dict[str, List[Done]] = {}
+    for stage in stages:
+        has_failed = any(it.status for done in ends.values() for it in done)
+        for name, job in text.items():
+            if job["stage"] != stage or has_failed and job.get("when") != "always":
+                continue
+            count = int(job.get("parallel", 1))
+            shards = [{"CI_NODE_INDEX": str(it), "CI_NODE_TOTAL": str(count)} for it in range(1, count + 1)]
+            ends[name] = [gitlab_job(server, job, dict(kept), **it) for it in shards]
+            for done in ends[name]:
+                kept.update(done.kept)
+    return [it.status for it in ends["campaign"]], ends["report"][0]
+
+
+def filled(text: str, names: Dict[str, str]) -> str:
+    """A text of GitHub's with the values of its expressions."""
+    return re.sub(r"\$\{\{ *([^}]*?) *\}\}", lambda it: {**VALUES, **names}[it[1]], text)
+
+
+def github_job(server: Server, job: Dict, store: Dict[str, Files], names: Dict[str, str]) -> Done:
+    """A job of GitHub: each step in a shell of its own, and after a failure only those that come always."""
+    room: Optional[Room] = None
+    done, saving = Done(), []
+    for it in job["steps"]:
+        if done.status and it.get("if") != "always()":
+            continue
+        action = it.get("uses", "").partition("@")[0]
+        hold(action in ACTIONS or "run" in it, f"{it}")
+        if action == "actions/checkout":
+            room = server.checkout({})
+        elif action == "actions/cache":
+            saving.append((filled(it["with"]["key"], names), it["with"]["path"]))
+            put(room, server.cache.get(saving[-1][0], {}))
+        elif action == "actions/upload-artifact":
+            found = collected(room, filled(it["with"]["path"], names).split("\n"))
+            hold(found, f"nothing is there to be kept: {it}")
+            # It keeps no rights.
+            store[filled(it["with"]["name"], names)] = {name: (content, 0o644) for name, (content, _) in found.items()}
+            done.kept.update(found)
+        elif action == "actions/download-artifact":
+            for name, files in store.items():
+                if fnmatch.fnmatch(name, it["with"]["pattern"]):
+                    put(room, files)
+        else:
+            ran = server.run(room, filled(it["run"], names))
+            done.output += ran.output
+            done.status = done.status or ran.status
+    for key, path in saving:
+        if not done.status and key not in server.cache:
+            server.cache[key] = collected(room, [path])
+    return done
+
+
+def github(server: Server) -> Tuple[List[int], Optional[Done]]:
+    """The workflow of GitHub."""
+    jobs = read_yaml(block_with("yaml", ".github/workflows").text)["jobs"]
+    needs = [(name, job.get("needs")) for name, job in jobs.items()]
+    hold(needs == [("program", None), ("campaign", "program"), ("report", "campaign")], f"{needs}")
+    store: Dict[str, Files] = {}
+    hold(github_job(server, jobs["program"], store, {}).status == 0, "the program is built")
+    strategy = jobs["campaign"]["strategy"]
+    hold(strategy["fail-fast"] == "false", "a shard that fails ends the others")
+    ends = [github_job(server, jobs["campaign"], store, {"matrix.shard": it}).status for it in strategy["matrix"]["shard"]]
+    if any(ends) and jobs["report"].get("if") != "always()":
+        return ends, None
+    return ends, github_job(server, jobs["report"], store, {})
+
+
+def commands(text: str) -> Iterator[Tuple[bool, str]]:
+    """The commands of a part of a pipeline of Jenkins, and whether a failure of each is caught."""
+    for found in re.finditer(r"(?P<caught>catchError\([^)]*\) \{\s*)?\bsh (?:'''(?P<long>.*?)'''|'(?P<short>[^'\n]*)')", text, re.DOTALL):
+        yield found["caught"] is not None, (found["long"] or found["short"]).replace("\\\n", "")
+
+
+def jenkins_part(server: Server, room: Room, text: str, **names: str) -> Done:
+    """The commands of a stage of Jenkins, up to the first that fails and is not caught."""
+    done = Done()
+    for is_caught, command in commands(text):
+        ran = server.run(room, command + "\n", **names)
+        done.output += ran.output
+        done.status = done.status or ran.status
+        if ran.status and not is_caught:
+            break
+    return done
+
+
+def jenkins(server: Server) -> Tuple[List[int], Optional[Done]]:
+    """The pipeline of Jenkins, whose language is not read here but for its commands and what they leave."""
+    text = block_with("groovy", "Jenkinsfile").text
+    hold(all(text.count(one) == text.count(other) for one, other in ("{}", "()")) and text.count("'") % 2 == 0, "brackets")
+    built, _, campaign = text.partition("stage('campaign')")
+    campaign, _, report = campaign.partition("stage('report')")
+    room = server.checkout({})
+    hold(jenkins_part(server, room, built).status == 0, "the program is built")
+    program = collected(room, re.search(r"stash name: 'program', includes: '([^']*)'", built)[1].split(", "))
+    shards = re.findall(r"'(\d+)'", re.search(r"values ([^}]*)", campaign)[1])
+    ends, parts = [], {}
+    for shard in shards:
+        room = server.checkout(program if "unstash 'program'" in campaign else {})
+        done = jenkins_part(server, room, campaign, SHARD=shard)
+        ends.append(done.status)
+        parts.update(collected(room, [re.search(r'stash .*includes: "([^"]*)"', campaign)[1].replace("${SHARD}", shard)]))
+    hold(f"1..{len(shards)}" in report, "not all parts are put together")
+    # The files come behind the first command, which clears the folder of the run before.
+    clearing, _, rest = report.partition("unstash 'program'")
+    room = server.checkout({"part.7.history": (b"of the run before\n", 0o644)})
+    hold(jenkins_part(server, room, clearing).status == 0 and "part.7.history" not in room.files(), "the folder is not cleared")
+    put(room, {**program, **parts})
+    done = jenkins_part(server, room, rest)
+    always = rest.partition("always {")[2]
+    names = [it for found in re.findall(r"(?:artifacts|testResults): '([^']*)'", always) for it in found.split(", ")]
+    done.kept = collected(room, names)
+    return ends, done
+
+
+Pipeline = Callable[[Server], Tuple[List[int], Optional[Done]]]
+
+
+def hold_report(server: Server, done: Done, cases: List[str], status: int) -> None:
+    """Holds the job of the report to a status, and to what it keeps of these test cases."""
+    hold(done is not None and done.status == status, f"the report ends otherwise: {done}")
+    hold(all(it in done.kept for it in LEFT), f"{sorted(done.kept)} are kept")
+    room = server.checkout({name: it for name, it in done.kept.items() if name in LEFT})
+    hold_left(room, LEFT, cases, status)
+    hold(server.count() == 1, f"the program was built {server.count()} times")
+
+
+def all_shards_end(room: str, program: str, shell: str, pipeline: Pipeline) -> str:
+    """The campaign fails, and no shard runs out of time."""
+    server = Server(os.path.join(room, f"{shell}-whole"), program, shell, "none")
+    ends, done = pipeline(server)
+    hold(ends == [0] * SHARDS, f"{ends}")
+    hold_report(server, done, list(VERDICTS), WORST)
+    if shell != "jenkins":  # whose agents keep what they have built
+        pipeline(server)
+        hold(server.count() == 1, "the next run builds again what the cache has")
+    return f"{server.jobs} checkouts"
+
+
+def a_shard_runs_out_of_time(room: str, program: str, shell: str, pipeline: Pipeline) -> str:
+    """The report comes all the same, has what had finished, and names what had not."""
+    server = Server(os.path.join(room, f"{shell}-late"), program, shell, CUT)
+    ends, done = pipeline(server)
+    hold(ends == [0, 1, 0, 0], f"the shard that was cut fails, and no other: {ends}")
+    hold_report(server, done, [it for it in VERDICTS if it != LACKING], 3)
+    hold(f"< {LACKING}\n" in done.output, f"{LACKING} is not named: {done.output}")
+    return f"{LACKING} is named"
+
+
+def github_whole(room: str, program: str) -> str:
+    return all_shards_end(room, program, "github", github)
+
+
+def github_late(room: str, program: str) -> str:
+    return a_shard_runs_out_of_time(room, program, "github", github)
+
+
+def gitlab_whole(room: str, program: str) -> str:
+    return all_shards_end(room, program, "gitlab", gitlab)
+
+
+def gitlab_late(room: str, program: str) -> str:
+    return a_shard_runs_out_of_time(room, program, "gitlab", gitlab)
+
+
+def jenkins_whole(room: str, program: str) -> str:
+    return all_shards_end(room, program, "jenkins", jenkins)
+
+
+def jenkins_late(room: str, program: str) -> str:
+    return a_shard_runs_out_of_time(room, program, "jenkins", jenkins)
+
+
+def texts() -> List[Tuple[str, Block]]:
+    """Each text of YAML that a document shows."""
+    found = [(it, block) for it in DOCUMENTS for block in read(TOP, it).blocks() if block.language == "yaml"]
+    hold(len(found) >= FEWEST_TEXTS, f"{len(found)} texts of YAML")
+    return found
+
+
+def every_yaml_is_read(_: str, __: str) -> str:
+    count = 0
+    for path, block in texts():
+        value = read_yaml(block.text)
+        hold(isinstance(value, dict) and value, f"{path}:{block.line}: no map")
+        count += len(value)
+    return f"{count} keys"
+
+
+def every_yaml_as_another_reader_has_it(_: str, __: str) -> Optional[str]:
+    try:
+        import yaml
+    except ImportError:
+        return None
+    for path, block in texts():
+        theirs = yaml.load(block.text, Loader=yaml.BaseLoader)
+        hold(read_yaml(block.text) == theirs, f"{path}:{block.line}: PyYAML has {theirs}")
+    return f"PyYAML {yaml.__version__}"
+
+
+TESTS = (every_yaml_is_read, every_yaml_as_another_reader_has_it, github_whole, github_late, gitlab_whole, gitlab_late, jenkins_whole,
+         jenkins_late)

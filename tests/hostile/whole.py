@@ -1,0 +1,54 @@
+"""The public calls that crates/refused_memory does not make, and why: the whole program makes them, or another call that it makes.
+
+tests/claims/memory.py holds these lists and those of the program to the calls that there are.
+"""
+from __future__ import annotations
+
+from typing import Tuple
+
+Exempt = Tuple[Tuple[str, ...], str]
+
+# Each growth of these is refused in turn by the sweeps of the whole program, which goes through them in each of its tasks.
+REFUSED_BY_THE_PROGRAM = ("explain", "html_page", "read_task", "answer", "carry_out", "tc_program::replay",
+                          "check", "take_script", "run_cases", "give", "fault_line", "abort_line", "Progress::end")
+# The tasks by which nothing else refuses these calls each growth: in the gate too each one is refused.
+EACH = ("--explain", "--html")
+# These can answer that memory was refused, and are refused none by themselves.
+UNREFUSED: Tuple[Exempt, ...] = (
+    (("read_counted",), "read_input is this call over a reader that is counted"),
+    (("read_moves_into",), "read_moves is this call for a list"),
+    (("read_history_into",), "read_history is this call for a list"),
+    (("append_line",), "explain makes it"),
+    (("read_line", "read_words"), "read_campaign makes them"),
+    (("CaseState::play_entry",), "replay and replay_check make it"),
+    (("Words::new", "Book::new"), "open_case makes them"),
+    (("Book::record", "Book::call"), "the calls on a pass make them"),
+    (("Look::close", "Book::close", "locals_of"), "close_case makes them"),
+    (("Kept::with_room", "without_room"), "run_campaign makes them"),
+    (("take_block", "Sentence::of_bytes"), "read_evidence makes them"),
+    (("append_first_line", "append_end"), "append_whole_block makes them"),
+    (("read_evidence", "append_whole_block", "Block::history"), "no program reads or writes evidence yet"),
+    (("OpenCase::new", "OpenCase::name_run", "OpenCase::remark", "OpenCase::refuse", "OpenCase::play", "read_order", "Server::close",
+      "Server::step"), "no program answers lines yet"),
+    (("stop_word",), "it is handed no allocator: its one fault is that the word names no verdict"),
+)
+# What these are handed holds no allocator, so that they can ask for no memory; memory.py looks at their heads.
+WITHOUT_ALLOCATOR = (
+    "SlowReader::new", "InputFault::text", "WriteFault::text", "Shard::new", "Shard::place", "Shard::shards", "Shard::has",
+    "WordFault::text", "Step::operation", "Step::is_bound", "Place::is_bound", "Place::map", "GroupPlace::map", "TargetPlace::map",
+    "Places::new", "Places::push", "Places::as_slice", "Script::is_script", "ScriptKind::text", "read_reference", "is_comment", "is_word",
+    "Keyword::text", "read_keyword", "read_verdict", "tc_line::read_name", "Lines::new", "Lines::next", "awaited_line",
+)
+# These take no memory, and are not made with every growth refused by themselves.
+UNTRIED: Tuple[Exempt, ...] = (
+    (WITHOUT_ALLOCATOR, "they are handed no allocator"),
+    (("OpenCase::may", "OpenCase::may_say", "OpenCase::may_name", "OpenCase::overall", "OpenCase::counted", "Server::new"),
+     "no program answers lines yet"),
+    (("CountedReader::new", "CountedWriter::new", "NarrowWriter::new", "LiveWriter::new", "Progress::new", "Script::new", "ScriptJob::new",
+      "Kept::into_results"), "they put together what they are handed"),
+    (("write_whole", "write_counted", "write_abort"), "the memory that their writer takes is the writer's"),
+    (("Words::record_of", "Words::follow"), "Book::word_of, Book::wake and Book::leave make them"),
+    (("Line::is_about", "Sentence::bytes"), "they only look at what they are lent"),
+    (("Words::carried_to",), "it only looks at what it is lent; Book::record makes it"),
+    (("counts",), "it compares a word with the settings of a log, one by one; close_case makes it"),
+)

@@ -1,0 +1,201 @@
+"""Words: what is refused before it is sent, remarks, names, and what a result says."""
+from __future__ import annotations
+
+import functools
+from typing import Callable, List, Tuple
+
+from filskeam import Case, Run
+from kit import Place, hold, holds_word, legal, named, raises, same, test
+
+
+def nothing(run: Run) -> None:
+    """A behaviour without calls."""
+
+
+WRONG: Tuple[Callable[[Run], object], ...] = (
+    lambda run: run.set_verdict("passed"), lambda run: run.set_verdict("error"), lambda run: run.set_verdict("pass\n0 finish"),
+    lambda run: run.set_verdict(None), lambda run: run.create("9a"), lambda run: run.create("a b"), lambda run: run.create(""),
+    lambda run: run.create("all"), lambda run: run.create("mtc"), lambda run: run.create("a" * 33), lambda run: run.create("b\n"),
+    lambda run: run.create(7), lambda run: run.create("\u00e4"), lambda run: run.stop("any"), lambda run: run.kill("self"), lambda run: run.stop(-1),
+    lambda run: run.stop(True), lambda run: run.kill(1.0), lambda run: run.kill(None), lambda run: run.wait_done(4_294_967_296),
+    lambda run: run.wait_done("1"), lambda run: run.wait_killed("every", timeout=1), lambda run: run.running("0\n0 finish"),
+    lambda run: run.alive([1]), lambda run: run.done("none"), lambda run: run.killed(""), lambda run: run.start("any", nothing),
+    lambda run: run.start(1, 7), lambda run: run.start(1, nothing, "x"), lambda run: run.start(1, nothing, 0, 0, 0, 0, 0),
+)
+
+
+@test
+def wrong_words_are_not_sent(place: Place) -> None:
+    """Each is a ValueError that names the word; the evidence has nothing of it."""
+    found: List[str] = []
+
+    def main(run: Run) -> None:
+        for call in WRONG:
+            found.append(str(raises(ValueError, lambda: call(run))))
+
+    with place.server() as server:
+        result = server.run("t_words", main)
+        same((result.verdict, legal(result).entries), ("none", ["0 finish -> ok"]))
+        same(server.close(), 0, "the status:")
+    same(found[0], "'passed' is no verdict to set: there are none, pass, inconc and fail")
+    same(found[13], "'any' is not a component's number or 'all'")
+    for name in ("t-bad", "", "all", "a" * 33, "t\n", None):
+        holds_word(f"a test case cannot be called {name!r}", str(raises(ValueError, lambda: Case(name, nothing))))
+    place.reach("wrong words", len(found) + 6, 36)
+
+
+@test
+def a_word_that_nobody_catches_stops_the_case(place: Place) -> None:
+    """It is an exception as any other: the evidence says which word, and where."""
+    with place.server() as server:
+        result = server.run("t_word", WRONG[0])
+    same((result.verdict, result.raised[0].run), ("error", 0))
+    holds_word("stopcase: ValueError: 'passed' is no verdict to set: there are none, pass, inconc and fail (word_tests.py:", result.why)
+    legal(result)
+    place.reach("entries", len(legal(result).entries), 1)
+
+
+REMARKS = (
+    ("too hot", "too hot"), (81, "81"), ("", None), ("   ", None), ("a\nb\r\n\tc", "a b c"), ("81 \u00b0C", r"81 \xb0C"), ("\u20ac", r"\u20ac"),
+    ("\x1b[31mred\x00\x7f", r"\x1b[31mred\x00\x7f"), ("# -> ok", "# -> ok"), ("x" * 200, "x" * 200), ("x" * 201, "x" * 198 + ".."),
+    ("\u00e4" * 60, r"\xe4" * 49 + r"\x" + ".."), ("\ud800", r"\ud800"), (b"\xff\n", r"b'\xff\n'"), (None, "None"), ("~", "~"),
+)
+
+
+@test
+def remarks_are_cut_and_cleaned(place: Place) -> None:
+    """Other bytes are escapes, white space is one space, and a long text is cut."""
+
+    def main(run: Run) -> None:
+        for text, _ in REMARKS:
+            run.log(text)
+            run.set_verdict("pass", text)
+
+    with place.server() as server:
+        result = server.run("t_remarks", main)
+        same(server.close(), 0, "the status:")
+    wanted = [(0, plain) for _, plain in REMARKS for _ in range(2) if plain is not None]
+    same(legal(result).remarks, wanted)
+    place.reach("remarks", len(wanted), 28)
+
+
+class Sampler:
+    """A behaviour that is an object."""
+
+    def __call__(self, run: Run, *_: int) -> None:
+        run.set_verdict("pass")
+
+    def _method(self, run: Run) -> None:
+        run.set_verdict("pass")
+
+
+@test
+def one_function_is_many_behaviours(place: Place) -> None:
+    """Each start is a run of its own, named by its function, whatever that is."""
+    got: List[Tuple[Tuple[int, ...], str]] = []
+
+    def probe(run: Run, *components: int, word: str = "") -> None:
+        got.append((components, word))
+
+    def all(run: Run) -> None:
+        run.set_verdict("pass")
+
+    def a_name_that_is_longer_than_a_name_may_be(run: Run) -> None:
+        run.set_verdict("pass")
+
+    others = (lambda run: None, Sampler(), Sampler()._method, functools.partial(functools.partial(probe), word="p"), all,
+              a_name_that_is_longer_than_a_name_may_be)
+
+    def main(run: Run) -> None:
+        comps = [run.create() for _ in range(4 + len(others))]
+        for at in range(4):
+            run.start(comps[at], probe, *comps[:at], run.me, word=f"w{at}")
+        for comp, other in zip(comps[4:], others):
+            run.start(comp, other)
+        run.wait_done("all")
+
+    with place.server() as server:
+        result = server.run("t_functions", main)
+    same(result.verdict, "pass")
+    names = ["main", *["probe"] * 4, "lambda", "Sampler", "method", "probe", "all_", "a_name_that_is_longer_than_a_nam"]
+    same(named(legal(result)), list(enumerate(names)))
+    same(sorted(got), [((), "p"), ((0,), "w0"), ((1, 0), "w1"), ((1, 2, 0), "w2"), ((1, 2, 3, 0), "w3")])
+    hold("0 start 4 4 1 2 3 0 -> ok" in legal(result).entries, "the arguments are not in the evidence")
+    place.reach("behaviours", len(names), 11)
+
+
+@test
+def local_verdicts_by_component_and_name(place: Place) -> None:
+    """Also of components with one name, without a name, never started, and started again."""
+
+    def sets(run: Run, *, verdict: str) -> None:
+        run.set_verdict(verdict)
+
+    def main(run: Run) -> None:
+        a, b, c = run.create("pump", alive=True), run.create("pump"), run.create()
+        run.create("spare")
+        for comp, verdict in ((a, "pass"), (b, "inconc"), (c, "none"), (a, "fail")):
+            run.start(comp, sets, verdict=verdict)
+            run.wait_done(comp)
+        run.set_verdict("pass")
+
+    with place.server() as server:
+        result = server.run("t_locals", main)
+    same(result.locals, {0: "pass", 1: "fail", 2: "inconc", 3: "none", 4: "none"})
+    same(result.names, {0: "mtc", 1: "pump", 2: "pump", 3: "", 4: "spare"})
+    same([result.local(it) for it in (0, "mtc", 1, 2, "pump", 3, "spare")], ["pass", "pass", "fail", "inconc", "fail", "none", "none"])
+    for wrong in ("valve", 5):
+        holds_word(f"test case t_locals has no component {wrong!r}", str(raises(KeyError, lambda: result.local(wrong))))
+    same(result.why, "run 4 sets on component 1 pump: setverdict fail")
+    hold("local 1 pump: fail" in result.report() and "local 3: none" in result.report(), result.report())
+    place.reach("components", len(result.locals), 5)
+
+
+def said(run: Run, *calls: Tuple[str, ...]) -> None:
+    """Sets verdicts with reasons, and says remarks between them."""
+    for words in calls:
+        run.log(*words) if len(words) == 1 and words[0] not in ("none", "pass", "inconc", "fail") else run.set_verdict(*words)
+
+
+WHY = (
+    ((), "no behaviour set a verdict"),
+    ((("none",),), "no behaviour set a verdict"),
+    ((("pass",), ("pass", "again")), "run 0 main on mtc: setverdict pass"),
+    ((("pass",), ("fail", "first"), ("fail", "second"), ("inconc", "third")), "run 0 main on mtc: setverdict fail: first"),
+    ((("inconc", "one"), ("fail",)), "run 0 main on mtc: setverdict fail"),
+    ((("fail", "x: y -> z"),), "run 0 main on mtc: setverdict fail: x: y -> z"),
+)
+
+
+@test
+def why_is_the_first_that_made_the_verdict(place: Place) -> None:
+    """With the reason that was given with it, and no other."""
+    with place.server() as server:
+        for calls, why in WHY:
+
+            def main(run: Run) -> None:
+                said(run, *calls)
+
+            result = server.run("t_why", main)
+            same(result.why, why)
+            same(result.report().splitlines()[:2], [f"test case t_why: {result.verdict}", f"why: {why}"])
+        result = server.run("t_stop", lambda run: run.stop_case("enough"))
+        same((result.why, result.raised), ("run 0 lambda on mtc: stopcase: enough", ()))
+    place.reach("reasons", len(WHY) + 1, 7)
+
+
+@test
+def a_report_shows_the_last_entries(place: Place) -> None:
+    """As many as are asked for, and how many there are."""
+
+    def main(run: Run) -> None:
+        for _ in range(50):
+            run.get_verdict()
+
+    with place.server() as server:
+        result = server.run("t_report", main)
+    lines = result.report().splitlines()
+    same(lines[3], "evidence, the last 20 of 54 lines:")
+    same(lines[4:], [f"  {it}" for it in result.evidence.splitlines()[-20:]])
+    same(result.report(100).splitlines()[3:], ["evidence:", *(f"  {it}" for it in result.evidence.splitlines())])
+    place.reach("lines", len(lines), 24)

@@ -1,0 +1,82 @@
+"""Calls of a server: a text in, or line by line over pipes."""
+from __future__ import annotations
+
+import os
+import select
+import signal
+import subprocess
+from dataclasses import dataclass
+from typing import List, Sequence
+
+SECONDS = 30
+
+
+@dataclass
+class Ran:
+    """What a server gave. A status below 0 is the signal that ended it."""
+
+    output: bytes
+    errors: bytes
+    status: int
+
+
+def served(command: Sequence[str], given: bytes) -> Ran:
+    """Serves a whole text."""
+    ran = subprocess.run(list(command), input=given, stdout=subprocess.PIPE, stderr=subprocess.PIPE, timeout=SECONDS, check=False)
+    return Ran(ran.stdout, ran.stderr, ran.returncode)
+
+
+class Pipe:
+    """A server whose lines come one by one."""
+
+    def __init__(self, command: Sequence[str]) -> None:
+        pipes = {"stdin": subprocess.PIPE, "stdout": subprocess.PIPE, "stderr": subprocess.PIPE}
+        self.process = subprocess.Popen(list(command), bufsize=0, start_new_session=True, **pipes)
+
+    def write(self, text: bytes) -> None:
+        """Gives it these bytes."""
+        self.process.stdin.write(text)
+
+    def read(self, seconds: float) -> bytes:
+        """What it has written, as soon as there is something; nothing where nothing comes for so long."""
+        ready, _, _ = select.select([self.process.stdout], [], [], seconds)
+        return os.read(self.process.stdout.fileno(), 65536) if ready else b""
+
+    def read_all_of(self, size: int) -> bytes:
+        """So many bytes, or those that came in time."""
+        text = b""
+        while len(text) < size:
+            more = self.read(SECONDS)
+            if not more:
+                break
+            text += more
+        return text
+
+    def ended(self) -> Ran:
+        """Ends the input, and waits for the end."""
+        output, errors = self.process.communicate(timeout=SECONDS)
+        return Ran(output, errors, self.process.returncode)
+
+    def __enter__(self) -> Pipe:
+        return self
+
+    def __exit__(self, *_: object) -> None:
+        if self.process.poll() is None:
+            os.killpg(self.process.pid, signal.SIGKILL)
+            self.process.wait()
+        for stream in (self.process.stdin, self.process.stdout, self.process.stderr):
+            stream.close()
+
+
+def difference(wanted: Ran, came: Ran) -> List[str]:
+    """What is not as it is wanted."""
+    faults = []
+    for name, one, other in (("standard output", wanted.output, came.output), ("standard error", wanted.errors, came.errors)):
+        if one != other:
+            both = [text.split(b"\n") for text in (one, other)]
+            at = next((at for at, pair in enumerate(zip(*both)) if pair[0] != pair[1]), min(map(len, both)))
+            shown = [lines[at][:200] if at < len(lines) else None for lines in both]
+            faults.append(f"{name}, line {at + 1}: wanted {shown[0]!r}, came {shown[1]!r}")
+    if wanted.status != came.status:
+        faults.append(f"status: wanted {wanted.status}, came {came.status}")
+    return faults
