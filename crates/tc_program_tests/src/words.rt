@@ -76,7 +76,8 @@ fn append_names(out: &mut String, choice: &Choice) -> Result<(), Fail> {
 fn append_choice(out: &mut String, choice: &Choice) -> Result<(), Fail> {
     append_names(out, choice)?;
     if let Some(shard) = choice.shard {
-        write!(out, " --shard={}/{}", shard.number(), shard.shards())?;
+        let number = shard.place().saturating_add(1);
+        write!(out, " --shard={number}/{}", shard.shards())?;
     }
     Ok(())
 }
