@@ -91,7 +91,7 @@ def made() -> Dict[str, str]:
     files = {"page/viewer.html": text}
     if os.path.isdir(os.path.join(TOP, CRATE)):
         files[f"{CRATE}/src/head.rt"] = constant("HEAD", "What a page has before the histories.", head + MARK)
-        files[f"{CRATE}/src/tail.rt"] = constant("TAIL", "What a page has behind the histories.", tail)
+        files[f"{CRATE}/src/tail.rt"] = constant("TAIL", "What a page has after the histories.", tail)
     return files
 
 

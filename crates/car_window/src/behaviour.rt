@@ -15,9 +15,9 @@ pub(crate) enum Part {
     Lead,
     /// Closes the window.
     Motor,
-    /// Judges whether the window stands so, when the motor is done.
+    /// Judges whether the window is in this state, when the motor is done.
     Judge { wanted: Stand },
-    /// The same, but looks at once: whoever is first decides what is seen.
+    /// The same, but looks at once: what is seen depends on which run is first.
     HastyJudge { wanted: Stand },
 }
 
@@ -74,7 +74,7 @@ fn lead<R: Wait>(rt: &R, pass: &mut Pass) -> Result<(), Halt> {
     pass.wait_done(rt, Target::All)
 }
 
-/// Moves the window until it stands still.
+/// Moves the window until it stops.
 pub(crate) fn close(window: &Window) {
     for _ in 0..CLOSED {
         if !window.step() {
@@ -91,7 +91,7 @@ fn judge<R: Wait>(rt: &R, pass: &mut Pass, window: &Window, wanted: Stand) -> Re
     judge_now(pass, window, wanted)
 }
 
-/// Sets pass if the window stands where it should and has been as far as it should, else fail.
+/// Sets pass if the window is where it should and has been as far as it should, otherwise fail.
 fn judge_now(pass: &mut Pass, window: &Window, wanted: Stand) -> Result<(), Halt> {
     pass.set_verdict(if window.stand() == wanted {
         UserVerdict::Pass

@@ -10,7 +10,7 @@ use std::sync::{Arc, Wait};
 use tc_campaign::Case;
 use tc_entry::{Name, NoMemory};
 
-/// Where the way of a window is blocked.
+/// What blocks the way of a window, and at which step.
 const OBSTACLE: u64 = 5;
 
 /// What is wanted of a window on a free way.

@@ -22,7 +22,7 @@ use tc_entry::BEHAVIOURS;
 const WORKERS: u16 = BEHAVIOURS as u16;
 
 /// Runs the campaign on this bench and writes its report, each test case as it finishes; names those that did not pass.
-/// Answers the exit status.
+/// Returns the exit status.
 fn run_on<R: Threads + Wait + Copy + Send + 'static, W: Write, E: Write>(
     rt: &R,
     alloc: Global,
@@ -39,7 +39,7 @@ fn run_on<R: Threads + Wait + Copy + Send + 'static, W: Write, E: Write>(
     Ok(status)
 }
 
-/// Judges the windows. Answers the exit status.
+/// Judges the windows. Returns the exit status.
 fn run<R: Threads + Wait + Copy + Send + 'static, W: Write, E: Write>(
     rt: &R,
     alloc: Global,

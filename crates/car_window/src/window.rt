@@ -4,17 +4,17 @@ use std::sync::atomic::{AtomicU64, Ordering};
 /// How many steps there are from open to closed.
 pub(crate) const CLOSED: u64 = 8;
 
-/// Where a window stands that is open.
+/// The step at which a window is open.
 pub(crate) const OPEN: u64 = 0;
 
-/// Where a window stands, and how far it has been closed at most, in steps.
+/// How far a window is closed, and how far it has been closed at most, in steps.
 #[derive(Clone, Copy, PartialEq, Eq, Debug)]
 pub(crate) struct Stand {
     pub(crate) position: u64,
     pub(crate) farthest: u64,
 }
 
-/// A window that a motor closes. Where it meets something in its way it opens again; a broken one closes on.
+/// A window that a motor closes. If it meets something in its way it opens again; a broken one closes on.
 #[derive(Drop)]
 pub(crate) struct Window {
     position: AtomicU64,
@@ -34,7 +34,7 @@ impl Window {
         }
     }
 
-    /// Where it stands, and how far it has been closed at most.
+    /// How far it is closed, and how far it has been closed at most.
     pub(crate) fn stand(&self) -> Stand {
         Stand {
             position: self.position.load(Ordering::SeqCst),
@@ -42,7 +42,7 @@ impl Window {
         }
     }
 
-    /// Moves it by a step; says whether it goes on.
+    /// Moves it by a step; says whether it continues.
     pub(crate) fn step(&self) -> bool {
         let position = self.position.load(Ordering::SeqCst);
         if position >= CLOSED {

@@ -23,12 +23,12 @@ fn lead_calls<R: Wait>(rt: &R, pass: &mut Pass) -> Result<(), Halt> {
 /// From how many degrees on the device is in danger.
 const TOO_HOT: u32 = 90;
 
-/// How hot the device is, in degrees: here always the same, where a test would ask its device.
+/// How hot the device is, in degrees: here always the same; a test would ask its device.
 fn degrees() -> u32 {
     40
 }
 
-/// Ends the test case if the device is too hot to go on.
+/// Ends the test case if the device is too hot to continue.
 pub(crate) fn guard<R: Wait>(rt: &R, pass: &mut Pass, degrees: u32) -> Result<(), Halt> {
     if degrees < TOO_HOT {
         return Ok(());

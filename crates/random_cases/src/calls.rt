@@ -61,7 +61,7 @@ fn act<R: Wait>(
     }
 }
 
-/// A call that is a dynamic error, whoever makes it.
+/// A call that is a dynamic error for every caller.
 pub(crate) fn err<R: Wait>(rt: &R, pass: &mut Pass, random: &mut Random) -> Result<(), Halt> {
     match random.below(3) {
         0 => pass.stop(rt, Group::One(Comp(2_000))),
@@ -70,7 +70,7 @@ pub(crate) fn err<R: Wait>(rt: &R, pass: &mut Pass, random: &mut Random) -> Resu
     }
 }
 
-/// A behaviour of so many random calls.
+/// A behaviour of that many random calls.
 pub(crate) fn behave<R: Wait>(
     rt: &R,
     pass: &mut Pass,

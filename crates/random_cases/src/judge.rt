@@ -8,7 +8,7 @@ use tc_entry::{BEHAVIOURS, Comp, Entry, Op, Reply, Run, UserVerdict, Verdict};
 use tc_table::replay_check;
 use tc_verdict::overwrite;
 
-/// How many entries a case of so many behaviours has at least; one of a few may end soon after its starts.
+/// How many entries a case of that many behaviours has at least; one of a few may end soon after its starts.
 fn least(behaviours: u16) -> usize {
     match usize::from(behaviours) {
         BEHAVIOURS => 200,
@@ -59,7 +59,7 @@ pub(crate) fn are_counted(history: &[Entry], locals: &[Verdict]) -> bool {
     true
 }
 
-/// What is wrong with the report of a case of so many behaviours, if anything is.
+/// What is wrong with the report of a case of that many behaviours, if anything is.
 pub(crate) fn complaint(alloc: Global, behaviours: u16, closed: &Closed) -> Option<&'static str>
     requires some { 1 ≤ behaviours }
     requires few { behaviours ≤ BEHAVIOURS }

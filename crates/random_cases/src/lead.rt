@@ -5,7 +5,7 @@ use std::sync::Wait;
 use tc_book::{Halt, Pass};
 use tc_entry::{Args, Comp, Group, Run, Target};
 
-/// Starts a run on its component, or each eighth anew on the first, whose run it stops.
+/// Starts a run on its component, or each eighth again on the first, whose run it stops.
 fn start_run<R: Wait>(
     rt: &R,
     pass: &mut Pass,

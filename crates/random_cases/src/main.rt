@@ -20,8 +20,8 @@ use std::sync::Wait;
 use std::thread::Threads;
 use std::{env, io};
 
-/// The status: 0 where all is well, 1 where a report is not as it should be or too little was met, 3 where the words ask
-/// for nothing.
+/// The status: 0 if all is well, 1 if a report is not as it should be or too little was met, 3 if the words ask for
+/// nothing.
 fn run<R: Threads + Wait + Print + Eprint + Copy + Send + 'static>(
     rt: &R,
     alloc: Global,

@@ -30,7 +30,7 @@ impl Row {
         Row { what, met, floor }
     }
 
-    /// How often it has to be met in so many cases: nothing is asked of fewer than 40.
+    /// How often it has to be met in that many cases: nothing is asked of fewer than 40.
     fn floor_of(&self, cases: u32) -> u64 {
         u64::from(cases / 40).saturating_mul(self.floor)
     }
@@ -84,7 +84,7 @@ impl Met {
         ]
     }
 
-    /// Prints what was met on standard error, and on standard output whether that is enough for so many cases, which
+    /// Prints what was met on standard error, and on standard output whether that is enough for that many cases, which
     /// is answered too.
     pub(crate) fn tell<R: Print + Eprint>(&self, rt: &R, cases: u32) -> io::Result<bool> {
         let mut is_enough = true;

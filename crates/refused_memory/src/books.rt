@@ -45,7 +45,8 @@ const CALLS: &str = "behaviours 2
 0 create
 ";
 
-/// Lists of which the last call is refused memory: the end of a case, and waits in vain, each of which is parked before.
+/// Lists of calls, of which the last runs out of memory: the end of a case, and waits in vain, each of which is parked
+/// before.
 const LAST: [&str; 5] = [
     "behaviours 2\n0 stopcase\n",
     "behaviours 2\n0 create\n0 start 1 1\n1 stopcase\n",
@@ -54,7 +55,8 @@ const LAST: [&str; 5] = [
     "behaviours 2\n0 create alive\n0 wait killed all\n",
 ];
 
-/// Fewer calls than this ask for the verdict before that one, none, one, two and so on: behind one of them its log is full.
+/// Fewer calls than this ask for the verdict before that one, none, one, two and so on: after one of them its log is
+/// full.
 const ASKED: usize = 9;
 
 /// What the run of this ticket leaves.
@@ -88,7 +90,7 @@ pub(crate) struct Opened {
     pub(crate) other: Option<Pass>,
 }
 
-/// Creates a component. Why it is not created; none where it is.
+/// Creates a component. Why it is not created; none if it is.
 fn create_on<R: Wait>(rt: &R, pass: &mut Pass, alive: bool, name: &Option<Name>) -> Option<Halt> {
     match name {
         Some(name) => pass.create_named(rt, alive, name.copy()).err(),
@@ -96,7 +98,7 @@ fn create_on<R: Wait>(rt: &R, pass: &mut Pass, alive: bool, name: &Option<Name>)
     }
 }
 
-/// Asks for a status. Why there is no answer; none where there is.
+/// Asks for a status. Why there is no answer; none if there is.
 fn ask_on<R: Wait>(rt: &R, pass: &mut Pass, op: &Op) -> Option<Halt> {
     match op {
         Op::Running(target) => pass.running(rt, *target).err(),
@@ -107,7 +109,7 @@ fn ask_on<R: Wait>(rt: &R, pass: &mut Pass, op: &Op) -> Option<Halt> {
     }
 }
 
-/// Waits. Why it is in vain; none where it is not.
+/// Waits. Why it is in vain; none if it is not.
 fn wait_on<R: Wait>(rt: &R, pass: &mut Pass, killed: bool, target: Target) -> Option<Halt> {
     let waited = if killed {
         pass.wait_killed(rt, target)
@@ -117,7 +119,7 @@ fn wait_on<R: Wait>(rt: &R, pass: &mut Pass, killed: bool, target: Target) -> Op
     waited.err()
 }
 
-/// Makes a call; none of those that a pass does not have. Why it is not answered; none where it is.
+/// Makes a call; none of those that a pass does not have. Why it is not answered; none if it is.
 pub(crate) fn call_on<R: Wait>(rt: &R, pass: &mut Pass, op: &Op) -> Option<Halt> {
     match op {
         Op::Create { alive, name } => create_on(rt, pass, *alive, name),
@@ -138,7 +140,7 @@ pub(crate) trait IsCalled: Like + Sized {
     /// A new case.
     fn new(alloc: Global) -> Option<Self>;
 
-    /// Makes a call of a run, if it has a pass. Why it is not answered; none where it is.
+    /// Makes a call of a run, if it has a pass. Why it is not answered; none if it is.
     fn call<R: Wait>(&mut self, rt: &R, run: Run, op: &Op) -> Option<Halt>;
 
     /// Takes the pass of run 1 once it was started.
@@ -200,7 +202,7 @@ impl IsCalled for Opened {
     }
 }
 
-/// Asks for the verdict of a run so many times.
+/// Asks for the verdict of a run that many times.
 fn ask<R: Wait, C: IsCalled>(rt: &R, case: &mut C, run: Run, times: usize) {
     for _ in 0..times {
         let _ = case.call(rt, run, &Op::GetVerdict);
@@ -215,7 +217,7 @@ fn call_all<R: Wait, C: IsCalled>(rt: &R, case: &mut C, moves: &[(Run, Op)]) {
     }
 }
 
-/// The case, closed behind a call that was made and these calls.
+/// The case, closed after a call that was made and these calls.
 fn closed_behind<R: Wait, C: IsCalled + Drop>(
     rt: &R,
     alloc: Global,
@@ -245,7 +247,7 @@ impl Like for Opened {
     }
 }
 
-/// The case behind these calls.
+/// The case after these calls.
 pub(crate) fn opened_behind<R: Wait, C: IsCalled + Drop>(
     rt: &R,
     alloc: Global,
@@ -289,7 +291,7 @@ fn call_beside<R: Wait, C: IsCalled>(
     )
 }
 
-/// Whether two cases close alike, behind a call that was made and these calls.
+/// Whether two cases close alike, after a call that was made and these calls.
 fn close_alike<R: Wait, C: IsCalled + Drop>(
     rt: &R,
     alloc: Global,
@@ -303,7 +305,7 @@ fn close_alike<R: Wait, C: IsCalled + Drop>(
     matches!(judged(closed, wanted, ""), Outcome::Right)
 }
 
-/// The call in two cases, behind so many that ask for the verdict of its run, and before the calls behind it.
+/// The call in two cases, after as many calls that ask for the verdict of its run, and before the calls after it.
 fn call_in_both<R: Wait, C: IsCalled + Drop>(
     rt: &R,
     alloc: Global,
@@ -327,7 +329,7 @@ fn call_in_both<R: Wait, C: IsCalled + Drop>(
     }
 }
 
-/// The call in a place, behind those before it and before those behind it.
+/// The call in a place, after those before it and before those after it.
 fn call_in<R: Wait, C: IsCalled + Drop>(
     rt: &R,
     alloc: Global,
@@ -343,7 +345,7 @@ fn call_in<R: Wait, C: IsCalled + Drop>(
     Some(call_in_both(rt, alloc, opened, other, first, behind, asked, refusal))
 }
 
-/// Each of the calls, behind those before it and before those behind it, in a case beside one that is refused nothing.
+/// Each of the calls, after those before it and before those after it, in a case next to one that is refused nothing.
 pub(crate) fn call<R: Wait>(
     rt: &R,
     alloc: Global,
@@ -354,7 +356,7 @@ pub(crate) fn call<R: Wait>(
     call_in::<R, Opened>(rt, alloc, list.moves.as_slice(), place, 0, refusal)
 }
 
-/// The last call of each list, behind none, one, two and so on that ask for the verdict.
+/// The last call of each list, after none, one, two and so on that ask for the verdict.
 pub(crate) fn call_last<R: Wait>(
     rt: &R,
     alloc: Global,
@@ -394,19 +396,19 @@ fn merged(alloc: Global, closed: &Closed, refusal: &mut Refusal) -> Outcome {
     merge_logs(alloc, kept.as_slice(), closed, refusal)
 }
 
-/// A case behind all calls.
+/// A case after all calls.
 fn opened_behind_all<R: Wait, C: IsCalled + Drop>(rt: &R, alloc: Global) -> Option<C> {
     let list = calls(alloc)?;
     opened_behind(rt, alloc, list.moves.as_slice())
 }
 
-/// The close of a case behind all calls.
+/// The close of a case after all calls.
 fn closed_behind_all<R: Wait, C: IsCalled + Drop>(rt: &R, alloc: Global) -> Option<Closed> {
     let case: C = opened_behind_all(rt, alloc)?;
     case.closed(rt, alloc).ok()
 }
 
-/// The close of a case, which is to be this one.
+/// The close of a case, which must be this one.
 fn close_one<R: Wait>(
     rt: &R,
     alloc: Global,
@@ -421,7 +423,7 @@ fn close_one<R: Wait>(
     Some(answered_as(&answer, wanted, "a case is closed otherwise"))
 }
 
-/// The close of a case behind all calls, and the merge of its logs.
+/// The close of a case after all calls, and the merge of its logs.
 pub(crate) fn close<R: Wait>(
     rt: &R,
     alloc: Global,

@@ -36,7 +36,7 @@ end
 end
 ";
 
-/// A component that is started anew keeps its verdict; each run of it is waited for.
+/// A component that is started again keeps its verdict; each run of it is waited for.
 const RESTARTED: &str = "testcase t_fail
 behaviour main
 create p alive
@@ -80,7 +80,7 @@ fn next_script(campaign: &mut Campaign) -> Option<(Name, Name, Script)> {
     Some((name, behaviour, script))
 }
 
-/// The next test case, of its first behaviour alone.
+/// The next test case, with only its first behaviour.
 fn next_case<R: Wait + Copy + Send + 'static>(
     rt: &R,
     alloc: Global,
@@ -129,7 +129,7 @@ fn behave(pass: Pass) -> Back {
     Back::after(pass, made)
 }
 
-/// The answer to the run of a test case of that behaviour alone, with a growth refused where that is asked for.
+/// The answer to the run of a test case of only that behaviour, with a growth refused if that is asked for.
 fn answer_of_one<R: Threads + Wait + Copy + Send + 'static>(
     rt: &R,
     alloc: Global,
@@ -236,7 +236,7 @@ fn run_restarted<R: Threads + Wait + Copy + Send + 'static>(
     if are_made { Some(outcome) } else { None }
 }
 
-/// Whether a campaign was aborted at this test case for want of memory.
+/// Whether a campaign was aborted at this test case because memory ran out.
 fn is_aborted_at(ending: &CampaignEnd, wanted: &Name) -> bool {
     match ending {
         CampaignEnd::Aborted { name, why } => name.same(wanted) && *why == CaseError::NoMemory,
@@ -267,7 +267,7 @@ fn judged(results: &Results, wanted: &Results) -> Outcome {
     }
 }
 
-/// The results of the two test cases, with a growth refused where that is asked for.
+/// The results of the two test cases, with a growth refused if that is asked for.
 fn results_of_two<R: Threads + Wait + Copy + Send + 'static>(
     rt: &R,
     alloc: Global,
@@ -315,7 +315,7 @@ fn write_cases<R: Threads + Wait + Copy + Send + 'static>(
     Ok((ending, status))
 }
 
-/// The answer to a campaign that is written to this, with a growth refused where that is asked for.
+/// The answer to a campaign that is written to this, with a growth refused if that is asked for.
 fn live_answer<R: Threads + Wait + Copy + Send + 'static>(
     rt: &R,
     alloc: Global,
@@ -355,7 +355,7 @@ fn live_as(answer: &LiveAnswer, out: &[u8], status: u8, wanted: &[u8]) -> Outcom
     }
 }
 
-/// The run of a campaign that is written to this as its test cases finish, beside one that is refused nothing.
+/// The run of a campaign that is written to this as its test cases finish, next to one that is refused nothing.
 fn run_live_beside<R: Threads + Wait + Copy + Send + 'static>(
     rt: &R,
     alloc: Global,
@@ -387,7 +387,7 @@ fn are_chosen<R: Wait + Copy + Send + 'static>(
     chosen.len() == 1 && chosen.iter().all(|case| case.name.same(wanted))
 }
 
-/// What came of the choice of a shard, which has the test case of this name alone.
+/// What came of the choice of a shard, which has only the test case of this name.
 fn chosen_as<R: Wait + Copy + Send + 'static>(
     answer: &Result<Vec<Case<ScriptJob<R>>>, NoMemory>,
     wanted: &Name,

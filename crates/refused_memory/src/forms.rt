@@ -92,7 +92,7 @@ fn write(
     }
 }
 
-/// Writes the form of results in this place to a writer that has room for it, beside one that is refused nothing.
+/// Writes the form of results in this place to a writer that has room for it, next to one that is refused nothing.
 fn write_beside(
     alloc: Global,
     place: usize,
@@ -139,7 +139,7 @@ fn make_summary(alloc: Global, block: &Block, state: &CaseState, refusal: &mut R
     judged(answer, summary_of_state(alloc, &block.name, state), OTHER)
 }
 
-/// The summary of a state behind this history.
+/// The summary of a state after this history.
 fn make_summary_behind(alloc: Global, block: &Block, refusal: &mut Refusal) -> Option<Outcome> {
     let mut state = CaseState::new(alloc, 200).ok()?;
     let is_played = play_all(&mut state, block.entries.as_slice());

@@ -9,13 +9,13 @@ use tc_book::{Halt, Left, Pass, Ticket, open_case};
 use tc_entry::{Args, Comp, Op, Run};
 use tc_exec::Back;
 
-/// A case behind the first calls.
+/// A case after the first calls.
 fn opened_behind_first<R: Wait, C: IsCalled + Drop>(rt: &R, alloc: Global) -> Option<C> {
     let list = calls(alloc)?;
     opened_behind(rt, alloc, list.moves.as_slice().get(..10)?)
 }
 
-/// What the main run leaves, with no growth given where that is asked for.
+/// What the main run leaves, with no growth given if that is asked for.
 fn left_by_main<R: Wait>(rt: &R, opened: Opened, refuses: bool, refusal: &mut Refusal) -> Left {
     if refuses {
         refusal.begin_each("Pass::leave Back::after");
@@ -36,7 +36,7 @@ fn hold_left(told: &mut Refusal, left: &Left, log: usize) {
     told.end();
 }
 
-/// What is asked of a pass and of its hand, beside those of another case with the same calls.
+/// What is asked of a pass and of its hand, next to those of another case with the same calls.
 fn hold_pass(told: &mut Refusal, pass: &Pass, other: &Pass) {
     told.begin_each("Pass::run Pass::me Pass::args Pass::is_ended");
     told.holds(
@@ -59,7 +59,7 @@ fn hold_opened<R: Wait>(rt: &R, told: &mut Refusal, opened: &Opened) {
     told.end();
 }
 
-/// What is asked of two cases behind the same calls, and of what the first leaves.
+/// What is asked of two cases after the same calls, and of what the first leaves.
 fn ask_both<R: Wait>(rt: &R, opened: Opened, other: &Opened, told: &mut Refusal) -> Outcome {
     hold_opened(rt, told, other);
     hold_pass(told, &opened.main, &other.main);
@@ -89,7 +89,7 @@ fn left_as(left: &Left, wanted: &Left) -> Outcome {
     )
 }
 
-/// The leave of a pass behind the first calls.
+/// The leave of a pass after the first calls.
 pub(crate) fn leave<R: Wait>(rt: &R, alloc: Global, refusal: &mut Refusal) -> Option<Outcome> {
     let opened: Option<Opened> = opened_behind_first(rt, alloc);
     let (opened, other) = opened.zip(opened_behind_first(rt, alloc))?;

@@ -1,4 +1,4 @@
-//! What is told apart from another of its kind, and how an answer with a growth refused is judged by it.
+//! What two values of a kind show, and how an answer with a growth refused is judged by it.
 use crate::outcome::{Outcome, refused_if, right_if};
 use tc_book::{CloseFault, Closed, RunLog};
 use tc_entry::{Comp, Entry, NoMemory, Op, Run, Sequence, Verdict};
@@ -10,9 +10,9 @@ use tc_stream::InputFault;
 use tc_table::{CaseState, CheckFault, Table};
 use tc_text::{MoveList, TextFault};
 
-/// What is told apart from another of its kind.
+/// Values of a kind that are compared by what they show.
 pub(crate) trait Like {
-    /// Whether both tell the same.
+    /// Whether both show the same.
     fn is_like(&self, other: &Self) -> bool;
 }
 
@@ -73,7 +73,7 @@ impl Like for MoveList {
     }
 }
 
-/// Whether two tables tell the same of a component.
+/// Whether two tables say the same about a component.
 fn are_alike_at(left: &Table, right: &Table, comp: Comp) -> bool {
     left.phase_of(comp) == right.phase_of(comp)
         && left.is_alive_type(comp) == right.is_alive_type(comp)
@@ -93,7 +93,7 @@ impl Like for Table {
     }
 }
 
-/// Whether two states tell the same of a component.
+/// Whether two states say the same about a component.
 fn are_states_alike_at(left: &CaseState, right: &CaseState, comp: Comp) -> bool {
     left.phase_of(comp) == right.phase_of(comp)
         && left.is_alive_type(comp) == right.is_alive_type(comp)
@@ -182,7 +182,7 @@ impl Like for Explored {
 
 /// Why a call fails.
 pub(crate) trait Cause {
-    /// Whether it is that memory was refused.
+    /// Whether it is that memory ran out.
     fn is_of_memory(&self) -> bool;
 }
 

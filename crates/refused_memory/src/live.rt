@@ -28,7 +28,7 @@ fn write_case(
     }
 }
 
-/// Has the opening, the test case or the closing written. The status, where it is the closing.
+/// Has the opening, the test case or the closing written. The status, if it is the closing.
 fn write(
     live: &mut LiveWriter<'_, Vec<u8>>,
     place: usize,
@@ -72,7 +72,7 @@ fn is_like(left: &LiveWriter<'_, Vec<u8>>, right: &LiveWriter<'_, Vec<u8>>) -> b
         && left.fault == right.fault
 }
 
-/// Has a piece written with a growth refused, and then again, beside a writer that is refused nothing.
+/// Has a piece written with a growth refused, and then again, next to a writer that is refused nothing.
 fn write_beside(
     alloc: Global,
     live: &mut LiveWriter<'_, Vec<u8>>,
@@ -99,7 +99,7 @@ fn begins(alloc: Global, live: &mut LiveWriter<'_, Vec<u8>>) -> bool {
     live.begin().is_ok() && write_in(alloc, live, 1).is_ok()
 }
 
-/// A piece in a form, behind a test case, beside a writer that is refused nothing.
+/// A piece in a form, after a test case, next to a writer that is refused nothing.
 fn make_beside(
     alloc: Global,
     form: Form,
@@ -117,7 +117,7 @@ fn make_beside(
     }
 }
 
-/// The opening, a test case and the closing in each form, behind a test case; there is room for what is written.
+/// The opening, a test case and the closing in each form, after a test case; there is room for what is written.
 pub(crate) fn make(alloc: Global, place: usize, refusal: &mut Refusal) -> Option<Outcome> {
     let form = *FORMS.get(place / 3)?;
     let mut text = Vec::with_capacity(alloc, 10_000).ok()?;

@@ -77,10 +77,10 @@ const KINDS: [(Kind, &str); 20] = [
     (Kind::Quiet, "calls that take no memory"),
 ];
 
-/// More calls of a kind, and more growths of a call, there are not.
+/// No kind has more calls, and no call more growths.
 const MOST: u16 = 10_000;
 
-/// What comes of a call with one of its growths refused; none where there is no call in this place.
+/// What comes of a call with one of its growths refused; none if there is no call in this place.
 fn make<R: Threads + Wait + Copy + Send + 'static>(
     rt: &R,
     alloc: Global,
@@ -181,7 +181,7 @@ fn run_kind<R: Threads + Wait + Copy + Send + Print + Eprint + 'static>(
     Ok(sum.wrong.is_none())
 }
 
-/// Says where there is no library that refuses.
+/// Says that no library refuses memory, if so.
 fn tell_unheard<R: Eprint>(rt: &R, refusal: &Refusal) -> io::Result<()> {
     if refusal.is_heard() {
         return Ok(());

@@ -10,7 +10,7 @@ use tc_board::Board;
 use tc_book::open_case;
 use tc_entry::BEHAVIOURS;
 
-/// How many hands a new board has; none where memory is refused.
+/// How many hands a new board has; none if memory runs out.
 fn hands_of_board(alloc: Global, behaviours: u16) -> Option<usize>
     requires some { 1 ≤ behaviours }
     requires few { behaviours ≤ BEHAVIOURS }
@@ -19,7 +19,7 @@ fn hands_of_board(alloc: Global, behaviours: u16) -> Option<usize>
     Some(hands.len())
 }
 
-/// How many tickets a new case has, whose pass has called nothing; none where memory is refused.
+/// How many tickets a new case has, whose pass has called nothing; none if memory runs out.
 fn tickets_of_case(alloc: Global, behaviours: u16) -> Option<usize>
     requires some { 1 ≤ behaviours }
     requires few { behaviours ≤ BEHAVIOURS }
@@ -32,7 +32,7 @@ fn tickets_of_case(alloc: Global, behaviours: u16) -> Option<usize>
     })
 }
 
-/// What came of so many hands or tickets, of which there are so many with ample memory.
+/// What came of that many hands or tickets, of which there are that many with ample memory.
 fn counted(found: Option<usize>, ample: Option<usize>, wanted: usize) -> Outcome {
     match found {
         Some(count) => right_if(count == wanted, "there are more or fewer than are wanted"),

@@ -5,13 +5,13 @@
 pub enum Outcome {
     /// It answers as with ample memory.
     Right,
-    /// It answers that memory was refused, all is as before, and made again it answers as if it had been made once.
+    /// It answers that memory ran out, all is as before, and made again it answers as if it had been made once.
     Refused,
     /// It is neither.
     Wrong(&'static str),
 }
 
-/// Right where it is so, else wrong for this reason.
+/// Right if it is so, otherwise wrong for this reason.
 pub(crate) fn right_if(is_right: bool, why: &'static str) -> Outcome {
     if is_right {
         Outcome::Right
@@ -20,7 +20,7 @@ pub(crate) fn right_if(is_right: bool, why: &'static str) -> Outcome {
     }
 }
 
-/// Refused where all is as it should be, else wrong for this reason.
+/// Refused if all is as it should be, otherwise wrong for this reason.
 pub(crate) fn refused_if(is_right: bool, why: &'static str) -> Outcome {
     if is_right {
         Outcome::Refused
@@ -41,7 +41,7 @@ pub struct Sum {
 }
 
 impl Sum {
-    /// Counts an outcome; nothing may be told as refused where nothing was.
+    /// Counts an outcome; nothing may be counted as refused if nothing was.
     pub(crate) fn count(&mut self, call: &'static str, outcome: Outcome, was_refused: bool) {
         match outcome {
             Outcome::Right if was_refused => self.absorbed = self.absorbed.saturating_add(1),

@@ -98,7 +98,7 @@ fn new_book(alloc: Global) -> Option<Book> {
     }
 }
 
-/// Creates a component, starts run 1 on it where that is asked for, and waits for it. The answer to the wait.
+/// Creates a component, starts run 1 on it if that is asked for, and waits for it. The answer to the wait.
 fn create_and_wait(book: &mut Book, starts: bool) -> Option<Reply> {
     book.record(Run(0), CREATE).ok()?;
     if starts {
@@ -126,7 +126,8 @@ fn wake_stuck(book: &mut Book, refusal: &mut Refusal) -> Outcome {
     )
 }
 
-/// What comes of the wakes of a wait that goes on waiting, and then is matched, and of the leave of the run that it waited for.
+/// What comes of the wakes of a wait that keeps waiting, and then is matched, and of the leave of the run that it
+/// waited for.
 fn wake_matched(book: &mut Book, refusal: &mut Refusal) -> Outcome {
     refusal.begin_each("Book::wake Book::leave Book::call_wake");
     let asleep = book.wake(Run(0), false, FIRST);
@@ -140,7 +141,7 @@ fn wake_matched(book: &mut Book, refusal: &mut Refusal) -> Outcome {
     right_if(is_right, "a matched wait is woken otherwise")
 }
 
-/// The wake of a wait that was parked, which is stuck or is to be matched.
+/// The wake of a wait that was parked, which is stuck or must be matched.
 fn wake_in(book: &mut Book, starts: bool, refusal: &mut Refusal) -> Option<Outcome> {
     let parked = create_and_wait(book, starts)?;
     if !matches!(parked, Reply::Parked) {
@@ -153,7 +154,7 @@ fn wake_in(book: &mut Book, starts: bool, refusal: &mut Refusal) -> Option<Outco
     })
 }
 
-/// The wake of a wait that is stuck; or the wakes of one that goes on waiting, and then is matched.
+/// The wake of a wait that is stuck; or the wakes of one that keeps waiting, and then is matched.
 fn wake(alloc: Global, starts: bool, refusal: &mut Refusal) -> Option<Outcome> {
     let mut book = new_book(alloc)?;
     wake_in(&mut book, starts, refusal)
@@ -214,7 +215,7 @@ fn set_late(
     )
 }
 
-/// The calls of these hands, of which one is shut where that is asked for.
+/// The calls of these hands, of which one is shut if that is asked for.
 fn call_hands(
     board: &Board,
     keeper: &mut Keeper,

@@ -1,8 +1,8 @@
-//! Which growth of memory is refused to a call. The library that refuses is told by growths that nothing else asks for.
+//! Which growth of memory a call is refused. Growths that nothing else asks for say it to the library that refuses.
 use crate::outcome::{Outcome, right_if};
 use std::alloc::Global;
 
-/// What is asked for in a growth that ends all refusals. It is given only where none was refused since the last was begun.
+/// What is asked for in a growth that ends all refusals. It is given only if none was refused since the last was begun.
 const MARK: usize = 0x100_0000_0000;
 
 /// So much more refuses each growth from then on.
@@ -19,7 +19,7 @@ pub struct Refusal {
     is_wrong: bool,
 }
 
-/// So many bytes, where they are given. Not inline, so that the growth is not taken for one that nothing needs.
+/// That many bytes, if they are given. Not inline, so that the growth is not taken for one that nothing needs.
 #[inline(never)]
 fn given(alloc: Global, bytes: usize) -> Option<Vec<u8>> {
     Vec::with_capacity(alloc, bytes).ok()
@@ -70,7 +70,7 @@ impl Refusal {
         self.tell(MARK + 1 + EACH);
     }
 
-    /// Tells the library, if there is one.
+    /// Says it to the library, if there is one.
     fn tell(&self, bytes: usize) {
         if self.is_heard {
             let _ = given(self.alloc, bytes);
@@ -89,7 +89,7 @@ impl Refusal {
         self.is_met
     }
 
-    /// The calls to which memory was refused last, or the first that answered otherwise.
+    /// The calls to which memory ran out last, or the first that answered otherwise.
     pub(crate) fn call(&self) -> &'static str {
         self.call
     }

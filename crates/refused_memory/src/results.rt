@@ -24,7 +24,7 @@ fn entries(alloc: Global) -> Option<Vec<Entry>> {
     first_entries(alloc, blocks.as_slice())
 }
 
-/// The log of the main run alone.
+/// The log of only the main run.
 fn logs(alloc: Global) -> Option<Vec<RunLog>> {
     let entries = Sequence::new(entries(alloc)?);
     let log = RunLog {
@@ -48,7 +48,7 @@ fn report(alloc: Global) -> Option<CaseReport> {
     })
 }
 
-/// The name of the main behaviour alone.
+/// The name of only the main behaviour.
 fn names(alloc: Global) -> Option<Vec<Name>> {
     let name = Name::read("main")?;
     vec![in alloc; name].ok()
@@ -64,13 +64,13 @@ pub(crate) fn finished(alloc: Global) -> Option<Finished> {
     })
 }
 
-/// The test case that finished alone.
+/// Only the test case that finished.
 fn all_finished(alloc: Global) -> Option<Vec<Finished>> {
     let case = finished(alloc)?;
     vec![in alloc; case].ok()
 }
 
-/// The results of a campaign of one test case, which was aborted behind it.
+/// The results of a campaign of one test case, which was aborted after it.
 pub(crate) fn results(alloc: Global) -> Option<Results> {
     let (name, finished) = Name::read("second").zip(all_finished(alloc))?;
     Some(Results {

@@ -10,14 +10,14 @@ use tc_entry::BEHAVIOURS;
 use tc_exec::{Back, CaseError, CaseReport, Job, run_case};
 use tc_report::{CampaignEnd, Results};
 
-/// So many jobs with so many workers are refused for this reason.
+/// That many jobs with that many workers are refused for this reason.
 const REFUSED: [(usize, u16, CaseError); 3] = [
     (0, 1, CaseError::NoBehaviours),
     (BEHAVIOURS + 1, 1, CaseError::TooManyBehaviours),
     (3, 1, CaseError::NoThread),
 ];
 
-/// What came of a test case that is to be refused for this reason.
+/// What came of a test case that must be refused for this reason.
 fn refused_as(answer: &Result<CaseReport, CaseError>, wanted: CaseError) -> Outcome {
     match answer {
         Err(CaseError::NoMemory) => Outcome::Refused,
@@ -26,8 +26,8 @@ fn refused_as(answer: &Result<CaseReport, CaseError>, wanted: CaseError) -> Outc
     }
 }
 
-/// The answer to the run of so many jobs that do nothing, with so many workers. The boxes are made where they are run, since
-/// a function that hands out a boxed closure fails the gate.
+/// The answer to the run of that many jobs that do nothing, with that many workers. The boxes are made if they are run,
+/// since a function that hands out a boxed closure fails the gate.
 fn answer_of_idle<R: Threads + Wait + Copy + Send + 'static>(
     rt: &R,
     alloc: Global,

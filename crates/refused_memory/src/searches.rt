@@ -1,4 +1,4 @@
-//! The search for verdicts, and what is told of it.
+//! The search for verdicts, and what is printed about it.
 ghost use Rattle.std.specs.Prelude.{◌≤◌, length};
 ghost use Rattle.tc_entry.specs.declared.limits.TheConstants.{BEHAVIOURS};
 ghost use Rattle.tc_explore.specs.Details.{AreLegalOf};
@@ -34,7 +34,7 @@ end
 end
 ";
 
-/// So many states are looked at.
+/// That many states are looked at.
 const STATES: usize = 1_000;
 
 /// The test case.
@@ -80,7 +80,7 @@ fn ask(explored: &Explored, told: &mut Refusal) -> Outcome {
     told.held()
 }
 
-/// What is told of a search.
+/// What is printed about a search.
 #[derive(Clone, Copy)]
 enum Told {
     Line,
@@ -88,7 +88,7 @@ enum Told {
     Details,
 }
 
-/// Appends what is told.
+/// Appends what is printed.
 fn append(
     alloc: Global,
     out: &mut Vec<u8>,
@@ -109,7 +109,7 @@ fn append(
     }
 }
 
-/// What is told, with a growth refused, behind what stands there, beside the same with none.
+/// What is printed, with a growth refused, after what is there, next to the same with none.
 fn tell(
     alloc: Global,
     told: Told,
@@ -129,7 +129,7 @@ fn tell(
     appended(answer, out.as_slice(), wanted.as_slice())
 }
 
-/// What is told of this search.
+/// What is printed about this search.
 fn tell_of(
     alloc: Global,
     told: Told,

@@ -10,7 +10,7 @@ use tc_entry::{BEHAVIOURS, Entry, NoMemory, Op, Reply, Run, Sequence};
 use tc_table::{CaseState, Table, copied_entries, replay, replay_check};
 use tc_text::{MoveList, read_moves};
 
-/// Moves of all kinds, so many that each list of a table grows more than once.
+/// Moves of all kinds, enough that each list of a table grows more than once.
 pub const MOVES: &str = "behaviours 8
 0 create alive named pump
 0 create
@@ -114,7 +114,7 @@ fn play_all<T: Plays>(on: &mut T, moves: &[(Run, Op)]) -> bool {
     true
 }
 
-/// That of a new case, behind these moves.
+/// That of a new case, after these moves.
 fn played<T: Plays + Drop>(alloc: Global, moves: &[(Run, Op)]) -> Option<T> {
     let mut on = T::begin(alloc, BEHAVIOURS as u16).ok()?;
     if play_all(&mut on, moves) {
@@ -129,7 +129,7 @@ pub(crate) fn moves(alloc: Global) -> Option<MoveList> {
     read_moves(alloc, MOVES.as_bytes()).ok()
 }
 
-/// That of a new case, behind all moves.
+/// That of a new case, after all moves.
 pub(crate) fn played_all<T: Plays + Drop>(alloc: Global) -> Option<T> {
     let list = moves(alloc)?;
     played(alloc, list.moves.as_slice())
@@ -160,7 +160,7 @@ pub(crate) fn open<T: Plays + Drop>(
     Some(judged(answer, T::begin(alloc, behaviours), "a new case is another"))
 }
 
-/// Plays a move with a growth refused, and then again, beside one that is refused nothing.
+/// Plays a move with a growth refused, and then again, next to one that is refused nothing.
 fn play_beside<T: Plays>(
     on: &mut T,
     other: &mut T,
@@ -184,7 +184,7 @@ fn play_beside<T: Plays>(
     )
 }
 
-/// The move in a place, behind those before it.
+/// The move in a place, after those before it.
 fn play_in<T: Plays + Drop>(
     alloc: Global,
     moves: &[(Run, Op)],
@@ -197,7 +197,7 @@ fn play_in<T: Plays + Drop>(
     Some(play_beside(&mut on, &mut other, *run, op, refusal))
 }
 
-/// Each of the moves, behind those before it.
+/// Each of the moves, after those before it.
 pub(crate) fn play<T: Plays + Drop>(
     alloc: Global,
     place: usize,
@@ -215,13 +215,13 @@ fn copy_one<T: Plays + Drop>(alloc: Global, one: &T, refusal: &mut Refusal) -> O
     answered_as(&answer, one, "a copy is another")
 }
 
-/// A copy, behind all moves.
+/// A copy, after all moves.
 fn copy<T: Plays + Drop>(alloc: Global, refusal: &mut Refusal) -> Option<Outcome> {
     let one: T = played_all(alloc)?;
     Some(copy_one(alloc, &one, refusal))
 }
 
-/// Makes room for so many moves on a table, beside one that stays as it is.
+/// Makes room for that many moves on a table, next to one that stays as it is.
 fn make_room_beside(
     table: &mut Table,
     other: &Table,
@@ -276,7 +276,7 @@ fn replay_one(alloc: Global, checked: &[Entry], refusal: &mut Refusal) -> Outcom
     judged(answer, ample, "a history leaves another state")
 }
 
-/// The check or the replay of the history in a place, of which the first alone is legal.
+/// The check or the replay of the history in a place, of which only the first is legal.
 fn judge_in(
     alloc: Global,
     history: &[Entry],
@@ -325,7 +325,7 @@ fn copy_entries(alloc: Global, entries: &[Entry], refusal: &mut Refusal) -> Outc
     copied_as(&answer, entries)
 }
 
-/// Pushes the last of a history behind the entries before it.
+/// Pushes the last of a history after the entries before it.
 fn push_last(
     entries: &mut Sequence<Entry>,
     history: &[Entry],
@@ -350,14 +350,14 @@ fn push_last(
     )
 }
 
-/// The last entry of a history behind a list of those before it.
+/// The last entry of a history after a list of those before it.
 fn push_on(alloc: Global, history: &[Entry], refusal: &mut Refusal) -> Option<Outcome> {
     let (last, before) = history.split_last()?;
     let mut entries: Sequence<Entry> = Sequence::new(copied_entries(alloc, before).ok()?);
     Some(push_last(&mut entries, history, before, last, refusal))
 }
 
-/// A copy of the history of the moves, or its last entry behind those before it.
+/// A copy of the history of the moves, or its last entry after those before it.
 fn copy_history(alloc: Global, pushes: bool, refusal: &mut Refusal) -> Option<Outcome> {
     let table: Table = played_all(alloc)?;
     if pushes {
@@ -376,7 +376,7 @@ pub(crate) fn make_state(alloc: Global, place: usize, refusal: &mut Refusal) -> 
     }
 }
 
-/// A copy of a table and of a history, and an entry behind those of a list.
+/// A copy of a table and of a history, and an entry after those of a list.
 pub(crate) fn copy_in(alloc: Global, place: usize, refusal: &mut Refusal) -> Option<Outcome> {
     match place {
         0 => copy::<Table>(alloc, refusal),
@@ -386,8 +386,8 @@ pub(crate) fn copy_in(alloc: Global, place: usize, refusal: &mut Refusal) -> Opt
     }
 }
 
-/// Plays a move, with no growth given but to a create, where there is room for it. Whether the answer is right, and there is
-/// room then too; none where memory is refused.
+/// Plays a move, with no growth given but to a create, if there is room for it. Whether the answer is right, and there
+/// is room then too; none if memory runs out.
 fn play_one_in_room(table: &mut Table, run: Run, op: &Op, refusal: &mut Refusal) -> Option<bool> {
     let wanted = Ok(table.would(run, op));
     if matches!(op, Op::Create { .. }) {
@@ -401,7 +401,7 @@ fn play_one_in_room(table: &mut Table, run: Run, op: &Op, refusal: &mut Refusal)
     Some(is_made && reply == wanted)
 }
 
-/// Plays each of the moves. Whether all answers are right; none where memory is refused.
+/// Plays each of the moves. Whether all answers are right; none if memory runs out.
 fn play_all_in_room(table: &mut Table, moves: &[(Run, Op)], refusal: &mut Refusal) -> Option<bool> {
     let mut is_right = true;
     for (run, op) in moves {
@@ -411,7 +411,7 @@ fn play_all_in_room(table: &mut Table, moves: &[(Run, Op)], refusal: &mut Refusa
     Some(is_right)
 }
 
-/// What came of a table that is to be that of these moves.
+/// What came of a table that must be that of these moves.
 fn played_as(alloc: Global, table: &Table, moves: &[(Run, Op)], is_right: bool) -> Option<Outcome> {
     let whole: Table = played(alloc, moves)?;
     Some(right_if(
@@ -420,7 +420,7 @@ fn played_as(alloc: Global, table: &Table, moves: &[(Run, Op)], is_right: bool) 
     ))
 }
 
-/// Each of these moves but the creates, behind those before it, where there is room for it.
+/// Each of these moves but the creates, after those before it, if there is room for it.
 fn play_these_in_room(
     alloc: Global,
     moves: &[(Run, Op)],
@@ -431,13 +431,13 @@ fn play_these_in_room(
     played_as(alloc, &table, moves, is_right)
 }
 
-/// Each of the moves but the creates, behind those before it, where there is room for it.
+/// Each of the moves but the creates, after those before it, if there is room for it.
 pub(crate) fn play_in_room(alloc: Global, refusal: &mut Refusal) -> Option<Outcome> {
     let list = moves(alloc)?;
     play_these_in_room(alloc, list.moves.as_slice(), refusal)
 }
 
-/// What is asked of a table and of a state behind the same moves, of which one more would be replied so.
+/// What is asked of a table and of a state after the same moves, of which one more would be replied so.
 fn hold_replies(told: &mut Refusal, table: &Table, state: &CaseState, moves: &[(Run, Op)]) {
     for (run, op) in moves {
         told.holds(
@@ -447,7 +447,7 @@ fn hold_replies(told: &mut Refusal, table: &Table, state: &CaseState, moves: &[(
     }
 }
 
-/// What is asked of two tables and of two states behind the same moves.
+/// What is asked of two tables and of two states after the same moves.
 fn hold_alike(told: &mut Refusal, tables: (&Table, &Table), states: (&CaseState, &CaseState)) {
     let (one, other) = tables;
     told.holds(
@@ -483,14 +483,14 @@ CaseState::would",
     told.held()
 }
 
-/// What is asked of tables and states behind these moves.
+/// What is asked of tables and states after these moves.
 fn ask_behind(alloc: Global, moves: &[(Run, Op)], told: &mut Refusal) -> Option<Outcome> {
     let (one, other): (Table, Table) = played(alloc, moves).zip(played(alloc, moves))?;
     let (state, copy): (CaseState, CaseState) = played(alloc, moves).zip(played(alloc, moves))?;
     Some(ask_all((&one, &other), (&state, &copy), moves, told))
 }
 
-/// What is asked of tables and states behind the first moves.
+/// What is asked of tables and states after the first moves.
 pub(crate) fn ask(alloc: Global, told: &mut Refusal) -> Option<Outcome> {
     let list = moves(alloc)?;
     ask_behind(alloc, list.moves.as_slice().get(..12)?, told)

@@ -52,7 +52,7 @@ end
 end
 ";
 
-/// Whether two behaviours that were taken out are the last, and whether they differ; none where they are the same.
+/// Whether two behaviours that were taken out are the last, and whether they differ; none if they are the same.
 fn compared_behaviours(
     left: &Option<(Name, Script)>,
     right: &Option<(Name, Script)>,
@@ -86,7 +86,7 @@ fn are_like_scripts(left: &mut CaseScript, right: &mut CaseScript) -> bool {
     false
 }
 
-/// Whether two test cases that were taken out are the last, and whether they differ; none where they are the same.
+/// Whether two test cases that were taken out are the last, and whether they differ; none if they are the same.
 fn compared_cases(
     left: &mut Option<(Name, CaseScript)>,
     right: &mut Option<(Name, CaseScript)>,
@@ -195,7 +195,7 @@ enum Text<'a> {
     Aborted(CaseError),
 }
 
-/// Appends the text, under this name where it has one.
+/// Appends the text, under this name if it has one.
 fn append(out: &mut Vec<u8>, text: &Text, name: &Name) -> Result<(), NoMemory> {
     match text {
         Text::Move(run, op) => write_move(out, *run, op),
@@ -209,10 +209,10 @@ fn append(out: &mut Vec<u8>, text: &Text, name: &Name) -> Result<(), NoMemory> {
     }
 }
 
-/// What stands before a text that is appended: so little that a text of several pieces wants more than one growth.
+/// What is before a text that is appended: so little that a text of several pieces wants more than one growth.
 pub(crate) const HEAD: &[u8] = b"#";
 
-/// A text behind what stands there.
+/// A text after what is there.
 fn written(alloc: Global, text: &Text, name: &Name) -> Option<Vec<u8>> {
     let mut out = HEAD.to_vec(alloc).ok()?;
     if append(&mut out, text, name).is_ok() {
@@ -241,7 +241,7 @@ fn append_as(
     refused_if(is_kept && is_written, "a refused writer leaves a part")
 }
 
-/// What came of a writer that was to leave this behind what stood there, or where memory is refused a part of it.
+/// What came of a writer that was to leave this after what was there, or if memory runs out a part of it.
 pub(crate) fn appended(answer: Result<(), NoMemory>, out: &[u8], wanted: &[u8]) -> Outcome {
     match answer {
         Ok(()) => right_if(out == wanted, "a text is written otherwise"),
@@ -266,7 +266,7 @@ fn append_part_as(
     appended(answer, out.as_slice(), wanted)
 }
 
-/// Appends a text behind what stands there, of which a part may be left or nothing.
+/// Appends a text after what is there, of which a part may be left or nothing.
 fn append_one(
     alloc: Global,
     text: &Text,
@@ -290,7 +290,7 @@ fn append_block(alloc: Global, refusal: &mut Refusal) -> Option<Outcome> {
     append_one(alloc, &Text::Block(entries), false, refusal)
 }
 
-/// The writer in a place behind those of moves.
+/// The writer in a place after those of moves.
 fn append_other(
     alloc: Global,
     moves: &[(Run, Op)],

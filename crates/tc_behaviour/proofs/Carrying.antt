@@ -1,4 +1,4 @@
--- What the answer to a step's call says of the pass behind it.
+-- What the answer to a step's call says of the pass after it.
 use Rattle.std.proofs.Common.{ℕ, ◌≡◌, ◌∙◌, inl, inr, ◌++◌, Bool, true, false, not, is_ok, Option, List, [], ◌∷◌, length, Result, Ok, Err, refl, sym, ap}
 use Rattle.std.proofs.lemmas.List.Folds.{list_any-append}
 use Rattle.std.proofs.lemmas.Bool.{or_left, or_right}
@@ -134,7 +134,7 @@ fault_ends : (own : Comp) (run : Run) (op : Op) (f : Fault) → ends_pass own (e
 unfolding ends_pass
 fault_ends own run op f = refl
 
--- a create that was answered Ended, or by a dynamic error
+-- a create that was replied Ended, or by a dynamic error
 halted_at : (alive : Bool) (name : Option (List ℕ)) (made : List Comp) (p q : PassState) (r : Reply) → bound_behind (S.Create alive name) r (p.args ++ made) ≡ p.args ++ made
     → ends_pass p.me (entry_of p.run (O.Create alive name) r) ≡ true → q ≡ added p (O.Create alive name) r → IsStepped (S.Create alive name) (p.args ++ made) p (q.args ++ made) q r
 halted_at alive name made p q r same ends is = record {

@@ -17,7 +17,7 @@ abbrev pub Calls : List Comp → Step → PassState → PassState → Reply → 
 Calls bound (S.Wait killed t) before after reply = Waits killed (target before.me bound t) before after reply × (is_parked reply ≡ false)
 Calls bound s before after reply = after ≡ added before (operation before.me bound s) reply
 
--- the components that are bound behind a step: a Create binds what it made
+-- the components that are bound after a step: a Create binds what it made
 abbrev pub bound_behind : Step → Reply → List Comp → List Comp
 bound_behind (S.Create alive name) (R.Made c) bound = bound ++ c ∷ []
 bound_behind _ _ bound = bound
@@ -43,7 +43,7 @@ pub record IsRun (steps : List Step) (before after : PassState) (how : Ending) :
   pub bound : List Comp
   -- the steps before these were called, in order
   pub called : HasCalled steps before left bound after
-  -- how it came back goes by whether the pass has ended, and by whether steps are left
+  -- how it came back depends on whether the pass has ended, and by whether steps are left
   pub ending_is : how ≡ ending (has_ended after) left
 
 -- the run, its component and its arguments are the same, and the log has grown

@@ -13,12 +13,12 @@ use Rattle.tc_exec.specs.declared.job.Ending.{Ending}
 use Rattle.tc_exec.specs.declared.job.Ending.TheVariants as E
 use Rattle.tc_behaviour.specs.Calls.{Calls, bound_behind, HasCalled}
 
--- a call was carried out unless memory was refused
+-- a call was carried out unless memory ran out
 abbrev pub is_refused : {A : Type 0} → Result A Halt → Bool
 is_refused (Err H.NoMemory) = true
 is_refused _ = false
 
--- a call was carried out, and this holds of its reply; or memory was refused, and this holds
+-- a call was carried out, and this holds of its reply; or memory ran out, and this holds
 abbrev pub Carried : (Reply → Type 0) → Type 0 → Result (Unit {0}) NoMemory → Type 0
 Carried P same (Ok u) = (reply : Reply) × P reply
 Carried P same (Err e) = same
@@ -37,8 +37,8 @@ pub record IsStepped (s : Step) (bound : List Comp) (before : PassState) (bound-
   pub binds : bound-new ≡ bound_behind s reply bound
   pub counts : has_ended after ≡ false → length bound-new ≡ count_after (length bound) s
 
--- the call of a step, on this pass and where these components were made before: it was carried out, and the pass and what was made are
--- those behind it; or memory was refused, and nothing changed
+-- the call of a step, on this pass and with these components made before it. It was carried out, and this is the pass
+-- and what was made after it; or memory ran out, and nothing changed.
 abbrev pub IsCarriedOut : Step → PassState → List Comp → PassState → List Comp → Result (Unit {0}) NoMemory → Type 0
 IsCarriedOut s before made after made-new result =
     Carried (IsStepped s (before.args ++ made) before (after.args ++ made-new) after) ((after ≡ before) × (made-new ≡ made)) result

@@ -17,11 +17,13 @@ use tc_verdict::NoMemory;
 pub trait Behaviour {
     ghost script: { Self → ScriptView };
 
-    /// Makes the call of each step in order, and hands back the pass: Returned after the last step and once the pass has
-    /// ended (a call was answered Ended or by a dynamic error, stopped or killed the run's own component or the main one,
-    /// or stopped the test case), Starved where memory was refused.
+    /// Makes the call of each step in order, and hands back the pass. It comes back Returned after the last step, and
+    /// once the pass has ended. A pass ends by a call that was replied Ended or by a dynamic error, that stopped or
+    /// killed the run's own component or the main one, or that stopped the test case. It comes back Starved if memory
+    /// ran out.
     ///
-    /// Where the pass has another number of arguments than the script has parameters, it makes no call and comes back Returned.
+    /// If the pass has another number of arguments than the script has parameters, it makes no call and comes back
+    /// Returned.
     fn run<R: Wait>(self, rt: &R, alloc: Global, pass: Pass) -> Back
         ensures other_count { length pass.args ≢ (script self).parameters → (result.pass ≡ pass) × (result.ending ≡ endings.Returned) }
         ensures calls { length pass.args ≡ (script self).parameters → IsRun (script self).steps pass result.pass result.ending }

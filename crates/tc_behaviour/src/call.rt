@@ -15,7 +15,7 @@ use tc_entry::{Comp, Name, Target};
 use tc_step::{Status, Step};
 use tc_verdict::NoMemory;
 
-/// Whether a call was carried out; it was, too, where it was answered Ended or by a dynamic error.
+/// Whether a call was carried out; it was, too, if it was replied Ended or by a dynamic error.
 fn carried_out<T: Drop>(answer: Result<T, Halt>) -> Result<(), NoMemory>
     ensures { is_ok result ≡ not (is_refused answer) }
 {
@@ -82,7 +82,7 @@ fn wait<R: Wait>(rt: &R, pass: &mut Pass, killed: bool, target: Target) -> Resul
 }
 
 #[tactic(auto, using(crate::proofs::Carrying::plain_step, crate::proofs::Carrying::wait_step))]
-/// Makes the call of a step. It answers whether the call was carried out.
+/// Makes the call of a step. It returns whether the call was carried out.
 pub(crate) fn call<R: Wait>(
     rt: &R,
     pass: &mut Pass,

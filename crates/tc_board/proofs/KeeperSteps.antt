@@ -197,14 +197,14 @@ pub takes_back_at : (id other k : ℕ) (v w : View) (records : List Record) (lis
     → Joins Holds id v other w (taken_back v w) spent_view
 takes_back_at id other k v w records lists answers is is' = subst (λ (z : View × View). Joins Holds id z.0 other z.1 (taken_back z.0 z.1) spent_view) (λ i. (sym is i, sym is' i)) (takes_back id other k records lists answers)
 
--- what the look after a join tells of the hand
+-- what the look after a join says about the hand
 pub seen_agrees : (slots k found : ℕ) (me me' : Seated) (records : List Record) (lists : List AnswerList) (answers : List Answer) → me ≡ (keeper_view records (lists ++ list k answers ∷ []), [])
     → was_seen (step slots k 0 0 none) me found me' → (r : Record) × (slice_get records k ≡ Some r) × Agrees r answers
 seen_agrees slots k found me me' records lists answers is told =
     let t = (subst (λ (m : Seated). was_seen (step slots k 0 0 none) m found me') is told).1 (length lists) (list k answers) (at_last lists (list k answers) (length lists) refl) refl in
     (t.0, elem_got records k t.0 t.1, t.2.1)
 
--- what a close tells of the hands that the keeper has
+-- what a close says about the hands that the keeper has
 pub counts_gathered : (slots k found : ℕ) (me : Seated) (result : UserVerdict) → result ≡ verdict_of found → Counts (step slots k 8 0 none) me found
     → (l : AnswerList) → Contains me.0.lists l → l.run ≡ k → given result ≡ worst_of (carried_by me.0.records k) l.answers
 counts_gathered slots k found me result is counts l there run = let at = contained_at me.0.lists l there in ap given is ∙ counts at.0 l at.1 run

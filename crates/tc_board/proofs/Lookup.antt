@@ -40,6 +40,6 @@ module _ {A : Type 0} where
   pub got_end : (l : List A) (a b : A) (j : ℕ) → slice_get (l ++ a ∷ []) j ≡ Some b → ((j < length l) × (slice_get l j ≡ Some b)) ⊎ ((j ≡ length l) × (a ≡ b))
   got_end l a b j e = ⊎_elim (λ t. inl (t.0, elem_got l j b t.1)) inr (at_end l a b j (got_elem (l ++ a ∷ []) j b e))
 
-  -- what a list contains stands somewhere in it
+  -- what a list contains is somewhere in it
   pub contained_at : (l : List A) (a : A) → Contains l a → (p : ℕ) × (get_elem? l p ≡ some a)
   contained_at l a c = (c.0, at_index l c.0 a c.1 (sym c.2))

@@ -29,7 +29,7 @@ same_records rows k r before after a b was = map-set record_of rows k (row r aft
 pub stays_at : (rows : List Row) (k seat : ℕ) (new : Row) (l : AnswerList) → l.run ≢ k → IsAt rows seat l → IsAt (set rows k new) seat l
 stays_at rows k seat new l other there = (there.0, set_else rows k l.run new other ∙ there.1)
 
--- the list of run k stands at one seat alone
+-- the list of run k is at one seat only
 pub other_run : (rows : List Row) (k a seat : ℕ) (r : Record) (answers : List Answer) (l : AnswerList) → get_elem? rows k ≡ some (row r answers a) → seat ≢ a → IsAt rows seat l → l.run ≢ k
 other_run rows k a seat r answers l was apart there is = apart (sym (ap (λ (y : Row). y.seat) (some-injective _ _ (sym (ap (get_elem? rows) is ∙ was) ∙ there.1))))
 
@@ -57,14 +57,14 @@ words_fit s h k word new less fits j r e = let wide = h.as_many in ⊎_elim
     (λ t. subst (Fits r.record_is r.answers) (sym (get_or-set_other s.words k j word 0 t.0)) (h.each_word j r t.1))
     (at_set h.rows k j new r e)
 
--- the same where no word changes
+-- the same if no word changes
 pub words_stay : (s : Board) (h : Holds s) (k : ℕ) (new : Row) → Fits new.record_is new.answers (get_or s.words k 0) → (j : ℕ) (r : Row) → get_elem? (set h.rows k new) j ≡ some r → Fits r.record_is r.answers (get_or s.words j 0)
 words_stay s h k new fits j r e = ⊎_elim
     (λ t. subst (λ (z : ℕ × Row). Fits z.1.record_is z.1.answers (get_or s.words z.0 0)) (λ i. (sym t.0 i, t.1 i)) fits)
     (λ t. h.each_word j r t.1)
     (at_set h.rows k j new r e)
 
--- each list stands in the next views, where the changed one does and the others do
+-- each list is in the next views, if the changed one does and the others do
 pub lists_stand : (rows : List Row) (views views' : List View) (k : ℕ) (new : Row) → ((j : ℕ) (r : Row) → get_elem? rows j ≡ some r → Stands views j r) → Stands views' k new
     → ((j : ℕ) (r : Row) → j ≢ k → Stands views j r → Stands views' j r) → (j : ℕ) (r : Row) → get_elem? (set rows k new) j ≡ some r → Stands views' j r
 lists_stand rows views views' k new old here there j r e = ⊎_elim
@@ -72,7 +72,7 @@ lists_stand rows views views' k new old here there j r e = ⊎_elim
     (λ t. there j r t.0 (old j r t.1))
     (at_set rows k j new r e)
 
--- a list stands on where a seat's next view has it if the view before had it
+-- a list is on where a seat's next view has it if the view before had it
 pub stands_on : (views : List View) (seat j : ℕ) (v w : View) (r : Row) → get_elem? views seat ≡ some v → ((p : ℕ) (l : AnswerList) → l.run ≡ j → get_elem? v.lists p ≡ some l → (q : ℕ) × (get_elem? w.lists q ≡ some l))
     → Stands views j r → Stands (set views seat w) j r
 stands_on views seat j v w r at keeps_it stands = by_seat (ℕ_discrete r.seat seat)

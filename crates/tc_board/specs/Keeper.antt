@@ -21,7 +21,7 @@ pub record KeeperView : Type 0 where
 abbrev pub IsOpen : List Record → ℕ → Type 0
 IsOpen records run = (carried : UserVerdict) × (slice_get records run ≡ Some (Open carried))
 
--- the verdict that a word was begun with, by its record: none where it was not begun
+-- the verdict that a word was begun with, by its record: none if it was not begun
 abbrev pub carried_in : Option Record → UserVerdict
 carried_in (Some (Open carried)) = carried
 carried_in (Some (Closed carried counted)) = carried
@@ -32,8 +32,8 @@ carried_in prelude.None = None
 abbrev pub carried_by : List Record → ℕ → UserVerdict
 carried_by records run = carried_in (slice_get records run)
 
--- what the close of a run's word gives: the worst of the verdict that it was begun with and of the settings that were
--- taken, by each list of answers of the run that was taken back
+-- what the close of a run's word gives: the worst of the verdict that it was begun with and of the settings taken, by
+-- each list of answers of the run that was taken back
 abbrev pub CountsTaken : KeeperView → ℕ → UserVerdict → Type 0
 CountsTaken k run counted =
     (list : AnswerList) → Contains k.gathered list → list.run ≡ run → given counted ≡ worst_of (carried_by k.records run) list.answers

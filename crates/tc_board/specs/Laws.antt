@@ -7,7 +7,7 @@ use Rattle.tc_board.specs.declared.record.Record.TheVariants.{Open, Closed}
 use Rattle.tc_board.specs.declared.record.Record.{Record}
 use Rattle.tc_board.specs.Rule.{Fits}
 
--- where a word is open, no call of its hand was answered that it is closed: no setting is lost while its run goes on
+-- where a word is open, no call of its hand was answered that it is closed: no setting is lost while its run continues
 abbrev pub OpenIsNeverShut : Type 0
 OpenIsNeverShut =
     (carried : UserVerdict) (answers : List Answer) (word i : ℕ) → Fits (Open carried) answers word → slice_get answers i ≢ Some Shut

@@ -47,7 +47,7 @@ impl Hand {
         self.run.copy()
     }
 
-    /// Whether the word was begun. Where it was, the hand has met it and may set and get.
+    /// Whether the word was begun. If it was, the hand has met it and may set and get.
     pub fn meet(&mut self, board: &Board) -> bool
         requires { self.old.board ≡ board.now }
         ensures answer { MatchBool result (self.new ≡ answered self.old Met) (self.new ≡ self.old) }
@@ -77,7 +77,7 @@ impl Hand {
         }
     }
 
-    /// The worst verdict so far: none where the word is closed.
+    /// The worst verdict so far: none if the word is closed.
     #[tactic(auto, using(crate::proofs::Numbers::read_answer))]
     pub fn get(&mut self, board: &Board) -> Option<UserVerdict>
         requires board { self.old.board ≡ board.now }

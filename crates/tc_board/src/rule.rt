@@ -3,8 +3,8 @@ use crate::answer::AnswerList;
 use crate::record::Record;
 use atomic_table::{Seat, TableRule};
 
-/// What a seat of the table knows: the answers that stand in its view, and at the keeper's seat the record of each
-/// word. No value of it is made: a clause reads an array as a list of any length.
+/// What a seat of the table knows: the answers that are in its view, and at the keeper's seat the record of each word.
+/// No value of it is made: a clause reads an array as a list of any length.
 pub(crate) struct View {
     pub lists: [AnswerList; 0],
     pub is_keeper: bool,

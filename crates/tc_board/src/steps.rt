@@ -1,4 +1,4 @@
-//! The kinds of step, by what each tells its caller.
+//! The kinds of step, by what each shows its caller.
 ghost use Rattle.tc_board.specs.Inside.Seats.{split_off, left_over, taken_back, spent_view};
 ghost use Rattle.tc_board.specs.Inside.Steps.{was_set, was_got, was_met, was_opened, was_closed, was_seen};
 

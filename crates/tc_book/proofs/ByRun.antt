@@ -1,4 +1,4 @@
--- The logs of a case by the numbers of their runs, and what is left of them behind a part of a history.
+-- The logs of a case by the numbers of their runs, and what is left of them after a part of a history.
 use Rattle.std.proofs.Common.{ℕ, ◌≡◌, ◌<◌, ◌+◌, ◌==◌, ◌↔◌, if◌then◌else◌, true, List, [], ◌∷◌, ◌++◌, length, get_or, take, drop, set, refl, sym, ap, ◌∙◌, subst, arith, add-one, append_assoc, eq-eqb, inl, inr}
 use Rattle.std.specs.List.{All}
 use Rattle.std.specs.Borrow.{Bor}
@@ -51,7 +51,7 @@ pub after_all : (parts : List (List Entry)) (logs : List RunLog) (n : ℕ) (log 
 after_all parts [] n log none has b below = has b below
 after_all parts (l ∷ logs) n log none has b below = absurd (omega arith)
 
--- behind this history so much is left of the parts
+-- after this history so much is left of the parts
 abbrev pub AreLeft : List (List Entry) → List (Bor (List Entry)) → List Entry → Type 0
 AreLeft parts rests h = (b : ℕ) (d : Bor (List Entry)) → b < length parts → get_or parts b [] ≡ part h b ++ (get_or rests b d).now
 

@@ -44,7 +44,7 @@ kept_at_opening n m h started places count room words same none some few as_many
 abbrev entry : Run → Op → Reply → Entry
 entry caller op reply = record { caller = caller; op = op; reply = reply }
 
--- the words before an entry were told by the entries before it
+-- the words before an entry follow from the entries before it
 pub told_before : (t t' : Case) (words : List Record) (caller : Run) (op : Op) (reply : Reply) → t'.behaviours ≡ t.behaviours → t'.history ≡ t.history ++ entry caller op reply ∷ [] →
     AreTold t.behaviours (past_of t) words → AreTold t'.behaviours (earlier (past_of t')) words
 told_before t t' words caller op reply same added told = rw (same, added, reverse-append t.history (entry caller op reply ∷ [])) told

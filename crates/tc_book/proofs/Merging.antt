@@ -20,7 +20,7 @@ use Rattle.tc_book.proofs.Reporting.{no_others, whole_logged}
 use Rattle.tc_book.proofs.Skipping.{filter-reverse}
 use Rattle.tc_book.proofs.Wholeness.{log_of_fits, merged_starts}
 
--- the merge asks for the log of each run alone
+-- the merge asks only for the log of each run
 join : (a a' b b' c c' : List Entry) (e : Entry) → a ≡ a' → b ≡ b' → c ≡ c' → a ++ (e ∷ b ++ c) ≡ a' ++ (e ∷ b' ++ c')
 join a a' b b' c c' e p q r = rw (p, q, r) refl
 

@@ -41,7 +41,7 @@ filter-reverse (e ∷ es) =
     by_test true = sym (reverse-append (e ∷ []) (filter is_other es))
     by_test false = append-nil (reverse (filter is_other es))
 
--- two histories that differ in entries of verdict calls alone have the same starts
+-- two histories that differ only in entries of verdict calls have the same starts
 pub starts_same : (starts : List (Option (Comp × List Comp))) (h k : List Entry) → filter is_other h ≡ filter is_other k → KnowsStarts starts (reverse k) → KnowsStarts starts (reverse h)
 starts_same starts h k same known b =
     known b ∙ (sym (start_of_others (reverse k) b)

@@ -13,7 +13,7 @@ use Rattle.tc_table.proofs.Lemmas.Differing.{later_legal, parted}
 use Rattle.tc_book.proofs.Lemmas.PartOf.{comp_known}
 use Rattle.tc_book.proofs.Lemmas.Starting.{starts_below}
 
--- what is known of a history behind so many of its entries, each of which was by a run that was started
+-- what is known of a history after that many of its entries, each of which was by a run that was started
 pub record IsBehind (n : ℕ) (starts : List (Option (Comp × List Comp))) (past : List Entry) : Type 0 where
   pub as_many : length starts ≡ n
   pub known : KnowsStarts starts past

@@ -19,7 +19,7 @@ pub sum_below-zero : (f : ℕ → ℕ) (n : ℕ) → ((k : ℕ) → k < n → f 
 sum_below-zero f zero h = refl
 sum_below-zero f (suc n) h = omega (arith, sum_below-zero f n (λ k q. h k (omega arith)), h n (omega arith))
 
--- f at b alone
+-- f at b only
 abbrev pub only : ℕ → (ℕ → ℕ) → ℕ → ℕ
 only b f k = cond (b == k) (f k) 0
 

@@ -1,4 +1,4 @@
--- What came back is whole by the merged history, where it is one of each run and its logs are the parts of that history.
+-- What came back is whole by the merged history, if it is one of each run and its logs are the parts of that history.
 use Rattle.std.proofs.Common.{ℕ, zero, suc, ◌≡◌, ◌+◌, ◌<◌, ◌≤◌, ◌==◌, cond, if◌then◌else◌, Bool, true, false, Option, List, [], ◌∷◌, length, reverse, map, sum_by, count_by, get_or, refl, sym, ap, ◌∙◌, subst, arith, eq-eqb}
 use Rattle.std.specs.List.{All}
 use Rattle.std.proofs.lemmas.Bool.Decides.{nat_tests}

@@ -28,7 +28,7 @@ pub record IsOneEach (n : ℕ) (lefts : List LeftState) : Type 0 where
 pub record IsFitting (history : List Entry) (l : LeftState) : Type 0 where
   -- its log is its part
   pub part : l.log ≡ part history l.run.0
-  -- above run 0 its component and arguments are those of its Start that was replied Ok, none where there is no such
+  -- above run 0 its component and arguments are those of its Start that was replied Ok, none if there is no such
   pub started : 0 < l.run.0 → l.started ≡ start_of (reverse history) l.run.0
   -- the log of a run that was never started is empty
   pub unstarted : comp_of (reverse history) l.run.0 ≡ None → l.log ≡ []
@@ -48,7 +48,7 @@ pub record IsWhole (n : ℕ) (history : List Entry) (lefts : List LeftState) : T
   -- the history is as long as the logs together
   pub as_long : length history ≡ sum_by (λ l. length l.log) lefts
 
--- the log of a run that left; the merge asks for its run and its entries alone
+-- the log of a run that left; the merge asks only for its run and its entries
 abbrev pub run_log : LeftState → RunLog
 run_log l = record { run = l.run; comp = record { 0 = 0 }; entries = l.log }
 
@@ -56,8 +56,8 @@ run_log l = record { run = l.run; comp = record { 0 = 0 }; entries = l.log }
 abbrev pub merged : List Entry → List LeftState → List Entry
 merged history lefts = merge history (map run_log lefts)
 
--- The word of a run agrees with the run's log. Where it was begun, it was closed, and its close counted what it was begun with
--- and exactly the settings of the log that were replied Ok.
+-- The word of a run agrees with the run's log. If it was begun, it was closed, and its close counted what it was begun
+-- with and exactly the settings of the log that were replied Ok.
 abbrev pub Agrees : Record → List Entry → Type 0
 Agrees Unbegun log = Unit {0}
 Agrees word log = Counts word log

@@ -5,7 +5,7 @@ use Rattle.tc_entry.specs.Reply.{fault_name}
 use Rattle.tc_book.specs.declared.halt.Halt.{Halt}
 use Rattle.tc_book.specs.declared.halt.Halt.TheVariants as H
 
--- why a call was not answered by its value: in the words of its reply, where there is one
+-- why a call was not answered by its value: in the words of its reply, if there is one
 abbrev pub halt_text : Halt → List ℕ
 halt_text H.Ended = codes "ended"
 halt_text (H.Fault fault) = codes "error " ++ fault_name fault

@@ -21,8 +21,8 @@ found_by V.Inconc = Found U.Inconc ∷ []
 found_by V.Fail = Found U.Fail ∷ []
 found_by V.Error = []
 
--- what the hand was answered for an entry: a setting replied Ok was taken, a get found its reply, and a call replied Ended found
--- the word closed; for any other entry the hand is not asked
+-- what the hand was answered for an entry: a setting replied Ok was taken, a get found its reply, and a call replied
+-- Ended found the word closed. For any other entry the hand is not asked.
 abbrev pub answer_in : Op → Reply → List Answer
 answer_in (O.SetVerdict v) R.Ok = Taken v ∷ []
 answer_in (O.SetVerdict v) R.Ended = Shut ∷ []

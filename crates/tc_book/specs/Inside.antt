@@ -30,7 +30,7 @@ use Rattle.tc_book.specs.declared.until.Until.TheVariants as U
 use Rattle.tc_book.specs.declared.until.Lack.{Lack}
 use Rattle.tc_book.specs.declared.until.Lack.TheVariants as L
 
--- one where it is so
+-- one if it is so
 abbrev pub one_if : Bool → ℕ
 one_if b = if b then 1 else 0
 
@@ -87,8 +87,8 @@ pub record ArePlaced (n : ℕ) (starts : List (Option (Comp × List Comp))) (lef
   pub one_each : IsOneEach n lefts
   pub each : All (IsPlaced starts) lefts
 
--- What came back of a case with this merged history, before it is known whether it is whole: it is one of each run as these
--- starts have it, they are the starts of the history, and the history is a merge of itself if it is whole.
+-- What came back of a case with this merged history, before it is known whether it is whole. It is one of each run as
+-- these starts have it, and they are the starts of the history. If it is whole, the history is a merge of itself.
 pub record IsJoined (n : ℕ) (starts : List (Option (Comp × List Comp))) (history : List Entry) (lefts : List LeftState) : Type 0 where
   pub placed : ArePlaced n starts lefts
   pub known : KnowsStarts starts (reverse history)
@@ -104,8 +104,8 @@ abbrev pub StartsBelow : Op → Reply → ℕ → Type 0
 StartsBelow (O.Start c run args) R.Ok n = run.0 < n
 StartsBelow _ _ n = Unit {0}
 
--- What a book keeps: its history is legal and has no entries of verdict calls, what it knows of starts is the history's, the
--- words are told by it, and there is room for every place.
+-- What a book keeps. Its history is legal and has no entries of verdict calls. What it knows of starts is the
+-- history's, the words follow from it, and there is room for every place.
 pub record IsKept (n : ℕ) (past : List Entry) (starts : List (Option (Comp × List Comp))) (places : List Places) (count room : ℕ) (words : List Record) : Type 0 where
   pub some : 1 ≤ n
   pub few : n ≤ BEHAVIOURS
@@ -143,12 +143,12 @@ is_halt R.Ended = true
 is_halt (R.Fault f) = true
 is_halt _ = false
 
--- who waits for this goes on: its run was started, or the case is over; or its Wake would not be parked again
+-- a run that waits for this continues: its run was started, or the case is over; or its Wake would not be parked again
 abbrev pub goes_on : OpenCase → Run → Until → Bool
 goes_on b run U.Start = is_some (start_of (past_of b) run.0) || is_over (past_of b)
 goes_on b run (U.Wake killed target) = not (is_parked (reply_to b run (O.Wake killed target)))
 
--- a run that waits goes on; of one that does not wait there is nothing to say
+-- a run that waits continues; of one that does not wait there is nothing to say
 abbrev pub wakes : OpenCase → Run → Option Until → Bool
 wakes b run (Some until) = goes_on b run until
 wakes b run None = false
@@ -160,7 +160,8 @@ lacks b run L.PlaceForWake = not (has_wake b run)
 lacks b run L.PlaceForLeaving = not (has_leave b run)
 lacks b run L.Word = is_some (start_of (past_of b) run.0)
 
--- who waits for the start of run b is answered so after these entries: by its start, or by none where the case is over without
+-- a run that waits for the start of run b is answered so after these entries: by its start, or by none if the case is
+-- over without one
 pub record IsAwaitedIn (n : ℕ) (past : List Entry) (b : ℕ) (start : Option (Comp × List Comp)) : Type 0 where
   pub legal : IsLegal n past
   pub first : start ≡ start_of past b

@@ -10,8 +10,8 @@ use Rattle.tc_book.specs.declared.places.Places.{Places}
 use Rattle.tc_book.specs.Replies.{is_parked}
 use Rattle.tc_table.specs.Answers.{answer}
 
--- a case that is open: how many behaviours it has, its entries without those of verdict calls, the oldest first, the places
--- that are kept for each run, and what was done with the word of each run
+-- a case that is open: how many behaviours it has, its entries without those of verdict calls, the oldest first, the
+-- places kept for each run, and what was done with each run's word
 pub record OpenCase : Type 0 where
   pub behaviours : ℕ
   pub history : List Entry
@@ -35,7 +35,7 @@ reply_to b run op = answer b.behaviours (past_of b) run.0 op
 abbrev pub with_entry : OpenCase → Run → Op → Reply → List Entry
 with_entry b run op reply = b.history ++ record { caller = run; op = op; reply = reply } ∷ []
 
--- nothing is kept for a run that there is not
+-- nothing is kept for a run that does not exist
 abbrev pub no_place : Places
 no_place = record { leave = false; wake = false }
 
@@ -55,7 +55,7 @@ has_leave b run = (places_at b.places run).leave
 abbrev pub has_wake : OpenCase → Run → Bool
 has_wake b run = (places_at b.places run).wake
 
--- the places once a call of the run got this reply: where it is parked, one is kept for its Wake
+-- the places once a call of the run got this reply: if it is parked, one is kept for its Wake
 abbrev pub places_after : OpenCase → Run → Reply → List Places
 places_after b run r = if is_parked r then set b.places run.0 (record (places_at b.places run) { wake = true }) else b.places
 

@@ -42,14 +42,15 @@ entry_of run op reply = record { caller = run; op = op; reply = reply }
 abbrev pub added : PassState → Op → Reply → PassState
 added p op reply = record p { log = p.log ++ entry_of p.run op reply ∷ [] }
 
--- the answer of a call by the reply that its entry got: the value said, or Ended, or the dynamic error; or that nothing changed for want of memory
+-- the answer of a call by the reply that its entry got: the value said, or Ended, or the dynamic error; or that memory
+-- ran out and nothing changed
 abbrev pub By : {A : Type 0} → (A → Reply) → (Reply → Type 0) → Type 0 → Result A Halt → Type 0
 By said P same (Ok a) = P (said a)
 By said P same (Err H.Ended) = P R.Ended
 By said P same (Err (H.Fault f)) = P (R.Fault f)
 By said P same (Err H.NoMemory) = same
 
--- an ended pass answers Ended from itself; else the answer is by the reply that was got
+-- an ended pass answers Ended from itself; otherwise the answer is by the reply that was got
 pub record IsAnswered {A : Type 0} (said : A → Reply) (P : Reply → Type 0) (before after : PassState) (result : Result A Halt) : Type 0 where
   pub ended : has_ended before ≡ true → (after ≡ before) × (result ≡ Err H.Ended)
   pub heard : has_ended before ≡ false → By said P (after ≡ before) result
@@ -58,7 +59,7 @@ pub record IsAnswered {A : Type 0} (said : A → Reply) (P : Reply → Type 0) (
 abbrev pub IsCall : {A : Type 0} → (A → Reply) → Op → PassState → PassState → Result A Halt → Type 0
 IsCall said op before after result = IsAnswered said (λ r. after ≡ added before op r) before after result
 
--- a wait adds its Wait, and where that is parked one Wake, with the reply that was got
+-- a wait adds its Wait, and if that is parked one Wake, with the reply that was got
 abbrev pub Waits : Bool → Target → PassState → PassState → Reply → Type 0
 Waits killed target p q r =
     (q ≡ added p (O.Wait killed target) r) ⊎ (q ≡ added (added p (O.Wait killed target) R.Parked) (O.Wake killed target) r)

@@ -39,7 +39,7 @@ is_of_wait R.Matched = true
 is_of_wait R.Parked = true
 is_of_wait _ = false
 
--- the reply is of the kind that the operation gets where it is neither Ended nor an error
+-- the reply is of the kind that the operation gets if it is neither Ended nor an error
 abbrev pub suits_plainly : Op → Reply → Bool
 suits_plainly (O.Create alive name) r = is_made r
 suits_plainly (O.Running t) r = is_answer r

@@ -13,7 +13,7 @@ abbrev pub starts_with : Op → ℕ → Option (Comp × List Comp)
 starts_with (O.Start c run args) b = if run.0 == b then Some (c, args) else None
 starts_with _ b = None
 
--- the same, where the reply is Ok
+-- the same, if the reply is Ok
 abbrev pub start_in : Op → Reply → ℕ → Option (Comp × List Comp)
 start_in op reply b = if is_ok reply then starts_with op b else None
 

@@ -1,4 +1,4 @@
--- Who wakes by an entry.
+-- The runs that an entry wakes.
 use Rattle.std.specs.Prelude.{ℕ, ◌≡◌, Bool}
 use Rattle.tc_verdict.specs.declared.run.Run.{Run}
 use Rattle.tc_entry.specs.declared.op.Op.TheVariants as O
@@ -12,7 +12,8 @@ use Rattle.tc_book.specs.Starts.{start_of}
 abbrev pub WouldPark : OpenCase → Run → Bool → Target → Type 0
 WouldPark b run killed target = reply_to b run (O.Wake killed target) ≡ R.Parked
 
--- who waited still waits: the Wake that would be parked again still would be, no run is started, and the case is over if it was
+-- a run that waited still waits: the Wake that would be parked again still would be, no run is started, and the case is
+-- over if it was
 pub record NobodyWakes (before after : OpenCase) : Type 0 where
   pub parked : (run : Run) (killed : Bool) (target : Target) → WouldPark before run killed target → WouldPark after run killed target
   pub starts : (b : ℕ) → start_of (past_of after) b ≡ start_of (past_of before) b

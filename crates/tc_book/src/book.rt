@@ -29,9 +29,8 @@ use tc_table::Table;
 use tc_verdict::{NoMemory, Run, UserVerdict};
 use tc_words::Words;
 
-/// What the lock of a case holds: the component table with its history, what each run was started with,
-/// the places in the history that are kept for each run, and what was done with the word of each run. The history has
-/// no entries of verdict calls.
+/// What the lock of a case holds: the component table with its history, what each run was started with, the places kept
+/// for each run in the history, and the record of each run's word. The history has no entries of verdict calls.
 ///
 /// Contracts see the number of behaviours, the history, the places and the words.
 #[derive(Drop)]
@@ -84,7 +83,7 @@ fn opening_places(alloc: Global, behaviours: u16) -> Result<Vec<Places>, NoMemor
 
 type Opening = (Table, Vec<Option<(Comp, Args)>>, Vec<Places>);
 
-/// What a book keeps at its opening, but for the words.
+/// What a book keeps at its opening, except for the words.
 fn at_opening(alloc: Global, behaviours: u16) -> Result<Opening, NoMemory>
     requires some { 1 ≤ behaviours }
     requires few { behaviours ≤ BEHAVIOURS }
@@ -132,8 +131,8 @@ impl Book {
         }
     }
 
-    /// Adds a call to the history, and answers its reply. The word of a run that it starts is begun, and those of the runs
-    /// that it halts are closed.
+    /// Adds a call to the history, and returns its reply. The word of a run that it starts is begun, and those of the
+    /// runs that it halts are closed.
     pub fn record(&mut self, run: Run, op: Op) -> Result<Reply, NoMemory>
         requires other { is_verdict_call op ≡ false }
         ensures behaviours { self.new.behaviours ≡ self.old.behaviours }

@@ -130,7 +130,7 @@ fn open_with(
     Ok((shared, pass, tickets))
 }
 
-/// Opens a case of so many behaviours: its shared book, the pass of run 0, and the tickets of the other runs.
+/// Opens a case of that many behaviours: its shared book, the pass of run 0, and the tickets of the other runs.
 pub fn open_case(alloc: Global, behaviours: u16) -> Result<(Shared, Pass, Vec<Ticket>), NoMemory>
     requires some { 1 ≤ behaviours }
     requires few { behaviours ≤ BEHAVIOURS }
@@ -148,7 +148,7 @@ pub fn open_case(alloc: Global, behaviours: u16) -> Result<(Shared, Pass, Vec<Ti
     opened
 }
 
-/// Closes a case in one hold of its lock: its report, where each run's pass came back whole.
+/// Closes a case in one hold of its lock: its report, if each run's pass came back whole.
 pub fn close_case<R: Wait>(
     rt: &R,
     alloc: Global,

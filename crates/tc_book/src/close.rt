@@ -86,7 +86,7 @@ pub(crate) fn are_placed(behaviours: u16, starts: &[Option<(Comp, Args)>], lefts
     is_one_each(lefts, behaviours) && all_placed(starts, lefts)
 }
 
-/// Whether the logs have so many entries together.
+/// Whether the logs have that many entries together.
 pub(crate) fn have_together(logs: &[RunLog], count: usize) -> bool
     ensures { IsTrue result ↔ (count ≡ logged logs.now) }
 {

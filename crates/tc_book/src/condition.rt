@@ -1,4 +1,4 @@
-//! Where one run of a case waits.
+//! The condition that one run of a case waits on.
 ghost use Rattle.std.specs.Prelude.{◌≡◌, IsTrue};
 ghost use Rattle.std.specs.Sync.Mutex.{mutex_guard_value};
 ghost use Rattle.tc_book.specs.Inside.{goes_on, lacks};
@@ -8,7 +8,7 @@ use crate::until::{Lack, Until};
 use std::sync::{Condvar, MutexGuard, Wait};
 use tc_verdict::Run;
 
-/// Where one run of a case waits behind the lock, and is told.
+/// What one run of a case waits on under the lock, until it is woken.
 #[derive(Drop)]
 pub(crate) struct Condition {
     run: Run,
@@ -32,7 +32,8 @@ impl Condition {
         self.run
     }
 
-    /// The book, once the run goes on that waits for this. The look by which it goes on and the sleep before are of one hold.
+    /// The book, once the run continues that waits for this. The look by which it continues and the sleep before are of
+    /// one hold.
     pub(crate) fn wait<'b, R: Wait>(
         &self,
         rt: &R,
@@ -46,7 +47,7 @@ impl Condition {
             .wait_while(rt, book, |book| book.waits(run, until))
     }
 
-    /// Waits for ever, since by the book in this hold the run lacks what it would go on with, and that can't come.
+    /// Waits for ever, since by the book in this hold the run lacks what it would continue with, and that can't come.
     pub(crate) fn stay<R: Wait>(self, rt: &R, book: MutexGuard<'_, LoggedBook>, lack: Lack)
         requires { IsTrue (lacks (mutex_guard_value book).book self.run lack) }
         ensures { ⊥ }
@@ -54,7 +55,7 @@ impl Condition {
         self.changed.wait_while(rt, book, |_| true);
     }
 
-    /// Tells the run, if it waits and may go on now.
+    /// Wakes the run, if it waits and can continue now.
     pub(crate) fn tell(&self, book: &LoggedBook) {
         if book.wakes(self.run) {
             self.changed.notify_all();

@@ -1,4 +1,4 @@
-//! Where the runs of a case wait.
+//! The conditions that the runs of a case wait on.
 ghost use Rattle.std.specs.Prelude.{◌≡◌, false, IfSome};
 
 use crate::condition::Condition;
@@ -6,12 +6,12 @@ use crate::logged_book::LoggedBook;
 use std::alloc::Global;
 use tc_verdict::{NoMemory, Run};
 
-/// That each run was told that waits and may go on, if there was one.
+/// That each run was woken that waits and can continue, if there was one.
 #[derive(Drop)]
 pub(crate) struct Told(());
 
 impl Told {
-    /// Nobody had to be told.
+    /// Nobody had to be woken.
     pub(crate) fn nobody(anyone: bool) -> Told
         requires { anyone ≡ false }
     {
@@ -20,7 +20,7 @@ impl Told {
     }
 }
 
-/// A condition for each run of a case, on which it waits behind the lock.
+/// A condition for each run of a case, on which it waits under the lock.
 #[derive(Drop)]
 pub(crate) struct Conditions {
     of_runs: Vec<Condition>,
@@ -35,7 +35,7 @@ impl Conditions {
         Ok(Conditions { of_runs })
     }
 
-    /// Where a run waits; none for a run that there is not.
+    /// The condition of a run; none for a run that does not exist.
     pub(crate) fn of(&self, run: Run) -> Option<&Condition>
         ensures { IfSome result (λ c. c.now.run ≡ run) }
     {
@@ -45,7 +45,7 @@ impl Conditions {
         }
     }
 
-    /// Tells each run that waits and may go on now.
+    /// Wakes each run that waits and can continue now.
     pub(crate) fn tell(&self, book: &LoggedBook) -> Told {
         for condition in &self.of_runs {
             condition.tell(book);

@@ -14,7 +14,7 @@ pub enum Halt {
     Ended,
     /// A dynamic error, which ends the case.
     Fault(Fault),
-    /// Memory was refused: nothing was recorded, nothing has changed, and the call may be made again.
+    /// Memory ran out: nothing was recorded, nothing has changed, and the call may be made again.
     NoMemory,
 }
 

@@ -61,7 +61,7 @@ impl Left {
         &self.log
     }
 
-    /// The component and the arguments of the pass that left; none where the run was never started.
+    /// The component and the arguments of the pass that left; none if the run was never started.
     pub fn started(&self) -> Option<(Comp, &[Comp])>
         ensures { MatchOption result (self.now.started ≡ None) (λ s. self.now.started ≡ Some (s.0, s.1.now)) }
     {

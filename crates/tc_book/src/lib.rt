@@ -1,4 +1,4 @@
-//! The book of a test case behind its lock: passes, their logs, and the close that compares them.
+//! The book of a test case under its lock: passes, their logs, and the close that compares them.
 #![tactic(auto)]
 
 mod book;

@@ -41,7 +41,7 @@ impl Model for Log {
     ghost invariant = { λ l. (l.ended ≡ ended_by l.own l.entries.items) × IsHandOf l.hand l.run.0 l.entries.items };
 }
 
-/// Adds an entry in its place to those of a run on component own, and answers whether one of them has ended the run.
+/// Adds an entry in its place to those of a run on component own, and returns whether one of them has ended the run.
 fn add_to(entries: &mut Vec<Entry>, own: Comp, ended: bool, entry: Entry) -> bool
     requires ended { ended ≡ ended_by own entries.old.items }
     requires room { vec_len entries.old < vec_capacity entries.old }
@@ -138,7 +138,7 @@ impl Log {
         self.ended = add_to(&mut self.entries, self.own, self.ended, entry);
     }
 
-    /// Sets a verdict by one step of the run's hand, adds the entry in its place, and answers its reply.
+    /// Sets a verdict by one step of the run's hand, adds the entry in its place, and returns its reply.
     pub(crate) fn set_verdict(&mut self, value: UserVerdict) -> Reply
         requires room { 1 ≤ self.old.room }
         ensures run { self.new.run ≡ self.old.run }
@@ -157,7 +157,7 @@ impl Log {
         reply
     }
 
-    /// Gets the verdict by one step of the run's hand, adds the entry in its place, and answers its reply.
+    /// Gets the verdict by one step of the run's hand, adds the entry in its place, and returns its reply.
     pub(crate) fn get_verdict(&mut self) -> Reply
         requires room { 1 ≤ self.old.room }
         ensures run { self.new.run ≡ self.old.run }
@@ -176,7 +176,7 @@ impl Log {
         reply
     }
 
-    /// The entries alone.
+    /// Only the entries.
     pub(crate) fn into_entries(self) -> Vec<Entry>
         ensures { result.items ≡ self.entries }
     {

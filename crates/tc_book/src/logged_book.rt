@@ -1,4 +1,4 @@
-//! The book behind the lock. Whatever is added to its history is added to the log of its caller in the same call.
+//! The book under the lock. Whatever is added to its history is added to the log of its caller in the same call.
 ghost use Rattle.std.specs.Prelude.{◌≡◌, ◌≢◌, ◌≤◌, ◌+◌, true, false, IfOk, OnOk, OnErr, IfErr, IfSome, IfNone, OnSome, IsTrue, IsFalse, Some, None, is_none, not, replicate, set, slice_index_or};
 ghost use Rattle.tc_entry.specs.declared.op.Op.TheVariants as ops;
 ghost use Rattle.tc_entry.specs.declared.reply.Reply.TheVariants as replies;
@@ -42,7 +42,7 @@ impl Unstarted {
     }
 }
 
-/// A book, each of whose entries is in the log of its caller as well, and what each run waits for behind the lock.
+/// A book, each of whose entries is in the log of its caller as well, and what each run waits for under the lock.
 #[derive(Drop)]
 pub(crate) struct LoggedBook {
     book: Book,
@@ -50,7 +50,7 @@ pub(crate) struct LoggedBook {
 }
 
 impl LoggedBook {
-    /// A book of a case of so many behaviours, in which no run waits.
+    /// A book of a case of that many behaviours, in which no run waits.
     pub(crate) fn new(alloc: Global, book: Book, behaviours: u16) -> Result<LoggedBook, NoMemory>
         ensures book { IfOk result (λ b. b.book ≡ book) }
         ensures none { IfOk result (λ b. b.waiting.items ≡ replicate behaviours None) }
@@ -69,7 +69,7 @@ impl LoggedBook {
         }
     }
 
-    /// Whether a run waits and may go on now.
+    /// Whether a run waits and can continue now.
     pub(crate) fn wakes(&self, run: Run) -> bool
         ensures { result ≡ wakes self.now.book run (slice_index_or self.now.waiting.items run.0 None) }
     {
@@ -79,7 +79,7 @@ impl LoggedBook {
         }
     }
 
-    /// Whether a run waits on behind the lock; then it is noted what it waits for.
+    /// Whether a run waits on under the lock; then it is noted what it waits for.
     pub(crate) fn waits(&mut self, run: Run, until: Until) -> bool
         ensures book { self.new.book ≡ self.old.book }
         ensures waits { result ≡ not (goes_on self.old.book run until) }
@@ -93,8 +93,8 @@ impl LoggedBook {
         waits
     }
 
-    /// Adds a call of the log's run to the history and to the log, with the places for its Wake and the Finish.
-    /// Answers its reply, and whom to wake.
+    /// Adds a call of the log's run to the history and to the log, with the places for its Wake and the Finish. Returns
+    /// its reply, and whom to wake.
     pub(crate) fn call(&mut self, op: Op, log: &mut Log) -> Result<(Reply, WakeUp), NoMemory>
         requires other { is_verdict_call op ≡ false }
         requires going_on { is_closed log.old ≡ false }

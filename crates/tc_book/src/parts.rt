@@ -8,7 +8,7 @@ use tc_case::RunLog;
 use tc_entry::{Entry, Sequence};
 use tc_verdict::NoMemory;
 
-// So many empty parts.
+// That many empty parts.
 #[tactic(auto, using(crate::proofs::Lemmas::PartOf::none_more))]
 fn no_parts(alloc: Global, count: u16) -> Result<Vec<Sequence<Entry>>, NoMemory>
     ensures len { IfOk result (λ v. length v.items ≡ count) }
@@ -21,7 +21,7 @@ fn no_parts(alloc: Global, count: u16) -> Result<Vec<Sequence<Entry>>, NoMemory>
     Ok(parts)
 }
 
-/// The log of each of so many runs, at the place of its number. No entry is copied.
+/// The log of each of that many runs, at the place of its number. No entry is copied.
 pub(crate) fn logs_by_run(
     alloc: Global,
     mut logs: Vec<RunLog>,

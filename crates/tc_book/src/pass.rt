@@ -51,7 +51,7 @@ fn heard(reply: Reply) -> Result<Reply, Halt>
 }
 
 impl Pass {
-    /// The pass of a run with its log, in which nothing stands yet.
+    /// The pass of a run with its log, in which nothing is yet.
     pub(crate) fn new(shared: Shared, log: Log, args: Args) -> Pass
         requires empty { log.entries ≡ [] }
         requires room { 1 ≤ log.room }
@@ -89,14 +89,14 @@ impl Pass {
     }
 
     /// The run's hand on the verdict board: it met the word of the run, and then had the answers of the log's verdict
-    /// entries, so no step on the word is without its entry, and no entry without its step.
+    /// entries. So each step on the word has its entry, and each entry its step.
     pub fn hand(&self) -> &Hand
         ensures { IsHandOf result.now self.now.run.0 self.now.log }
     {
         self.log.hand()
     }
 
-    /// Whether the run has ended: then each call is answered Ended, and nothing is recorded.
+    /// Whether the run has ended: then each call is replied Ended, and nothing is recorded.
     pub fn is_ended(&self) -> bool
         ensures { result ≡ has_ended self.now }
     {
@@ -135,8 +135,8 @@ impl Pass {
         self.make(rt, alive, None)
     }
 
-    /// Creates a component, ordinary or alive-type, with a name (ES 201 873-1, the create operation). The name stands in the
-    /// log, the report and the history; several components may have the same, and no call takes it for a component.
+    /// Creates a component, ordinary or alive-type, with a name (ES 201 873-1, the create operation). The name is in
+    /// the log, the report and the history; several components may have the same, and no call takes it for a component.
     pub fn create_named<R: Wait>(&mut self, rt: &R, alive: bool, name: Name) -> Result<Comp, Halt>
         ensures { IsCall replies.Made (ops.Create alive (Some name)) self.old self.new result }
     {
@@ -276,7 +276,7 @@ impl Pass {
         self.wait(rt, true, target)
     }
 
-    /// Records a Wait, and where that is parked a Wake.
+    /// Records a Wait, and if that is parked a Wake.
     fn wait<R: Wait>(&mut self, rt: &R, killed: bool, target: Target) -> Result<(), Halt>
         ensures { IsWait killed target self.old self.new result }
     {

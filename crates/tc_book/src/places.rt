@@ -22,7 +22,7 @@ fn size_of(places: Places) -> usize
     usize::from(places.leave) + usize::from(places.wake)
 }
 
-/// The places of a run, none where there is no such run.
+/// The places of a run, none if there is no such run.
 pub(crate) fn places_of(all: &[Places], run: Run) -> Places
     ensures { result ≡ places_at all.now run }
 {
@@ -33,7 +33,7 @@ pub(crate) fn places_of(all: &[Places], run: Run) -> Places
     all.get(usize::from(run.0)).copied().unwrap_or(none)
 }
 
-/// Changes the places of a run, and answers how many are kept then.
+/// Changes the places of a run, and returns how many are kept then.
 #[tactic(auto, using(crate::proofs::Totals::total_bound, crate::proofs::Totals::one_at_most, crate::proofs::Totals::total_set, crate::proofs::Totals::no_place_beyond))]
 pub(crate) fn put(all: &mut Vec<Places>, count: usize, run: Run, now: Places) -> usize
     requires counted { count ≡ total all.old.items }

@@ -50,7 +50,7 @@ fn logs_of(
     Ok(logs)
 }
 
-/// The report of a case that is over, by its history and what is kept after it, where its logs have all its entries.
+/// The report of a case that is over, by its history and what is kept after it, if its logs have all its entries.
 #[tactic(auto, using(crate::proofs::Reporting::one_history, crate::proofs::Reporting::logs_known))]
 pub(crate) fn report(
     alloc: Global,

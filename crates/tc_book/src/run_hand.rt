@@ -40,21 +40,21 @@ impl RunHand {
         RunHand { board, hand }
     }
 
-    /// The hand alone.
+    /// Only the hand.
     pub(crate) fn hand(&self) -> &Hand
         ensures { result.now ≡ self.now }
     {
         &self.hand
     }
 
-    /// Whether the word of the run was begun; where it was, the hand has met it.
+    /// Whether the word of the run was begun; if it was, the hand has met it.
     pub(crate) fn meet(&mut self) -> bool
         ensures { MatchBool result (self.new ≡ answered self.old Met) (self.new ≡ self.old) }
     {
         self.hand.meet(&self.board)
     }
 
-    /// Sets a verdict on the word of the run, in one step, and answers the reply of the setting.
+    /// Sets a verdict on the word of the run, in one step, and returns the reply of the setting.
     pub(crate) fn set(&mut self, value: UserVerdict) -> Reply
         requires met { self.old.answers ≢ [] }
         ensures answer { Says (ops.SetVerdict value) result self.old self.new }

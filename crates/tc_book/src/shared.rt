@@ -59,7 +59,7 @@ impl Look<'_> {
         self.book.has_place(run)
     }
 
-    /// The report of the case, by the book as it is and by what came back. The case goes on.
+    /// The report of the case, by the book as it is and by what came back. The case continues.
     pub fn close(&self, alloc: Global, lefts: Vec<Left>) -> Result<Closed, CloseFault>
         ensures whole { IfOk result (λ _. IsMerged self.now lefts.items) }
         ensures torn { IfErr result (λ f. f ≡ faults.Torn → IsMerged self.now lefts.items → ⊥) }
@@ -78,7 +78,7 @@ pub struct Shared {
 }
 
 impl Shared {
-    /// The owner of a book of a case of so many behaviours, at its opening.
+    /// The owner of a book of a case of that many behaviours, at its opening.
     pub(crate) fn new(alloc: Global, book: Book, behaviours: u16) -> Result<Shared, NoMemory> {
         let held = Held {
             book: Mutex::new(LoggedBook::new(alloc, book, behaviours)?),
@@ -98,7 +98,7 @@ impl Shared {
         }
     }
 
-    /// The book, once the run goes on that waits for this. Nobody tells a run that there is not.
+    /// The book, once the run continues that waits for this. A run that does not exist is never woken.
     fn wait<R: Wait>(&self, rt: &R, run: Run, until: Until) -> MutexGuard<'_, LoggedBook>
         ensures { IsTrue (goes_on (mutex_guard_value result).book run until) }
     {
@@ -109,7 +109,7 @@ impl Shared {
         }
     }
 
-    /// Records a call of the log's run in the history and in the log, and tells each run that may go on by it.
+    /// Records a call of the log's run in the history and in the log, and wakes each run that can continue by it.
     pub(crate) fn record<R: Wait>(&self, rt: &R, op: Op, log: &mut Log) -> Result<Reply, NoMemory>
         requires other { is_verdict_call op ≡ false }
         requires going_on { is_closed log.old ≡ false }

@@ -9,7 +9,7 @@ use std::alloc::Global;
 use tc_entry::{Args, Comp, Op, Reply};
 use tc_verdict::{NoMemory, Run};
 
-/// A list of so many runs, none of them started.
+/// A list of that many runs, none of them started.
 #[tactic(auto, using(crate::proofs::Lemmas::Starting::none_more))]
 pub(crate) fn no_starts(alloc: Global, count: u16) -> Result<Vec<Option<(Comp, Args)>>, NoMemory>
     ensures len { IfOk result (λ v. length v.items ≡ count) }

@@ -58,8 +58,8 @@ impl Ticket {
         self.run
     }
 
-    /// The pass of the run once it was started, or what it leaves once the case is over without. Which of them it is, and what the
-    /// pass was started with, is said of the book behind the lock alone.
+    /// The pass of the run once it was started, or what it leaves once the case is over without that. Only clauses of
+    /// the book under the lock say which of them it is, and what the pass was started with.
     pub fn await_start<R: Wait>(self, rt: &R) -> Result<Pass, Left>
         ensures pass { IfOk result (λ p. (p.run ≡ self) × (p.log ≡ [])) }
         ensures above { IfOk result (λ p. 0 < p.run.0) }

@@ -1,8 +1,8 @@
-//! What a run waits for behind the lock, and what it may lack.
+//! What a run waits for under the lock, and what it may lack.
 
 use tc_entry::Target;
 
-/// What a run waits for behind the lock.
+/// What a run waits for under the lock.
 #[derive(Clone, Copy, Debug, PartialEq, Eq)]
 pub(crate) enum Until {
     /// Its start, or the end of the case.
@@ -11,7 +11,7 @@ pub(crate) enum Until {
     Wake { killed: bool, target: Target },
 }
 
-/// What a run lacks that can't go on.
+/// What a run lacks that can't continue.
 #[derive(Clone, Copy)]
 pub(crate) enum Lack {
     /// A place in the history for its Wake.

@@ -1,10 +1,10 @@
-//! Who is told of a change.
+//! The runs that a change wakes.
 ghost use Rattle.std.specs.Prelude.{◌≡◌};
 
 use crate::conditions::{Conditions, Told};
 use crate::logged_book::LoggedBook;
 
-/// Whether somebody who waits may go on. It is no `Drop`: who gets one gives it to those that wait.
+/// Whether somebody who waits can continue. It is no `Drop`: its holder gives it to those that wait.
 pub(crate) struct WakeUp {
     anyone: bool,
 }
@@ -16,7 +16,7 @@ impl WakeUp {
         WakeUp { anyone }
     }
 
-    /// Wakes each run that waits and may go on now, where there may be one.
+    /// Wakes each run that waits and can continue now, if there may be one.
     pub(crate) fn give(self, waiting: &Conditions, book: &LoggedBook) -> Told {
         let WakeUp { anyone } = self;
         if anyone {

@@ -30,7 +30,7 @@ slice_get-seam : {A : Type 0} (xs ys : List A) → slice_get (xs ++ ys) (length 
 slice_get-seam [] ys = refl
 slice_get-seam (x ∷ xs) ys = slice_get-seam xs ys
 
--- the element behind that part
+-- the element after that part
 pub slice_get-behind : {A B : Type 0} (R : A → B → Type 0) (all done rest : List A) (ys : List B) → all ≡ done ++ rest → AllZip R done ys → slice_get all (length ys) ≡ slice_get rest 0
 slice_get-behind R all done rest ys prefix each =
     ap (λ l. slice_get l (length ys)) prefix ∙ ap (slice_get (done ++ rest)) (AllZip-long R done ys each) ∙ slice_get-seam done rest
@@ -38,7 +38,7 @@ slice_get-behind R all done rest ys prefix each =
 length_front : {A : Type 0} (xs : List A) (x : A) → length (xs ++ x ∷ []) - 1 ≡ length xs
 length_front xs x = omega (arith, length-append xs (x ∷ []))
 
--- all but the last
+-- all except the last
 pub take-front : {A : Type 0} (xs : List A) (x : A) → take (length (xs ++ x ∷ []) - 1) (xs ++ x ∷ []) ≡ xs
 take-front xs x = ap (λ n. take n (xs ++ x ∷ [])) (length_front xs x) ∙ take-append_seam xs (x ∷ [])
 

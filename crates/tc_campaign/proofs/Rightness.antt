@@ -25,7 +25,7 @@ each_of cases stop_on _ _ (stopped finished f c left so is met) =
 each_of cases stop_on _ _ (cut finished f c left so is) =
     AllZip-begin IsOf cases (so.done ++ c ∷ []) left (finished ++ f ∷ []) (simp append_assoc so.prefix) (AllZip-pushed IsOf so.done finished c f so.each is)
 
--- all but the last are better than stop_on
+-- all except the last are better than stop_on
 each_better : (cases : List Outline) (stop_on : Option Verdict) (finished : List Finished) (answer : Option CampaignEnd) → IsRun cases stop_on finished answer
     → All (λ f. IsBetter stop_on f.report.verdict) (take (length finished - 1) finished)
 each_better cases stop_on finished _ (complete _ so) = All-take (λ f. IsBetter stop_on f.report.verdict) (length finished - 1) finished so.better

@@ -30,26 +30,29 @@ IsReported c f = IsCaseReport (c.jobs) f.report
 abbrev pub HasBehaviours : Finished → Type 0
 HasBehaviours f = IsBehaviours f.report.behaviours
 
--- the jobs of a finished case are those of this case: each of which the run was started was called, with a new pass of that run, and the report is
--- made of what the passes that they handed back have logged
+-- the jobs of a finished case are those of this case. Each of which the run was started was called, with a new pass of
+-- that run, and the report is made of what the passes handed back have logged.
 abbrev pub IsCalled : {B : Type 0} → (B → PassState → Back → Type 0) → Case B → Finished → Type 0
 IsCalled outcome c f = AreCalled outcome c.jobs.items f.report × IsMadeOf outcome c.jobs.items f.report
 
--- the last finished case, and the first that is not finished, agree with the ending: the campaign stopped after the last
--- finished case exactly where that one is stop_on or worse; else it was aborted at the next case, or no case is left
+-- the last finished case, and the first that is not finished, agree with the ending. The campaign stopped after the
+-- last finished case exactly if that one is stop_on or worse; otherwise it was aborted at the next case, or no case is
+-- left.
 abbrev pub IsEnding : Option Verdict → Option Finished → Option Outline → CampaignEnd → Type 0
 IsEnding stop_on last next (E.StoppedAfter name) = IsSomeAnd last (λ f. (name ≡ f.name) × IsMet stop_on f.report.verdict)
 IsEnding stop_on last next (E.Aborted name why) = IfSome last (λ f. IsBetter stop_on f.report.verdict) × IsSomeAnd next (λ c. name ≡ c.name)
 IsEnding stop_on last next E.Complete = IfSome last (λ f. IsBetter stop_on f.report.verdict) × IsNone next
 
--- a run of this case with so many worker threads can be refused so: where they are too few for 1 to 256 behaviours, by NoThread alone
+-- a run of this case with that many worker threads can be refused so: if they are too few for 1 to 256 behaviours, only
+-- by NoThread
 abbrev pub IsRefusal : ℕ → CaseError → Outline → Type 0
 IsRefusal threads C.NoBehaviours c = c.jobs ≡ 0
 IsRefusal threads C.TooManyBehaviours c = BEHAVIOURS < c.jobs
 IsRefusal threads C.NoThread c = (1 < c.jobs) × (c.jobs ≤ BEHAVIOURS)
 IsRefusal threads why c = IsBehaviours c.jobs × (c.jobs ≤ threads + 1)
 
--- where a run of this case is refused for what its jobs handed back, each was called, was not refused memory, and handed it back
+-- where a run of this case is refused for what its jobs handed back, each was called, did not run out of memory, and
+-- handed it back
 abbrev pub IsTorn : {B : Type 0} → (B → PassState → Back → Type 0) → CaseError → Case B → Type 0
 IsTorn outcome C.Torn c = IsHandedBack outcome c.jobs.items
 IsTorn outcome why c = ⊤
@@ -59,7 +62,8 @@ abbrev pub IsWhy : ℕ → Option Outline → CampaignEnd → Type 0
 IsWhy threads next (E.Aborted name why) = IfSome next (IsRefusal threads why)
 IsWhy threads next ending = ⊤
 
--- where the campaign was aborted for what the jobs of the next case handed back, each was called, was not refused memory, and handed it back
+-- where the campaign was aborted for what the jobs of the next case handed back, each was called, did not run out of
+-- memory, and handed it back
 abbrev pub IsTornAt : {B : Type 0} → (B → PassState → Back → Type 0) → Option (Case B) → CampaignEnd → Type 0
 IsTornAt outcome next (E.Aborted name why) = IfSome next (IsTorn outcome why)
 IsTornAt outcome next ending = ⊤
@@ -79,12 +83,12 @@ module _ {C : Type 0} (outline : C → Outline) (called : C → Finished → Typ
     -- each report is of its own case, whose jobs were called
     pub reports : AllZip IsReported (take (length finished) (map outline cases)) finished
     pub calls : AllZip called (take (length finished) cases) finished
-    -- each has a name for each behaviour, and a worker thread for each but that of run 0
+    -- each has a name for each behaviour, and a worker thread for each except that of run 0
     pub named : All (λ f. length f.names ≡ f.report.behaviours) finished
     pub threads_are : All (λ f. f.report.behaviours ≤ threads + 1) finished
     pub behaviours : All HasBehaviours finished
 
-  -- these test cases were finished, and the campaign ended so behind them; it may have had no room for its reports
+  -- these test cases were finished, and the campaign ended so after them; it may have had no room for its reports
   pub record IsRunTo (finished : List Finished) (ending : CampaignEnd) : Type 0 where
     pub each : AreFinished finished
     pub last : IsEnding stop_on (slice_get finished (length finished - 1)) (slice_get (map outline cases) (length finished)) ending

@@ -5,11 +5,11 @@ use Rattle.std.specs.Str.{bytes_eq}
 use Rattle.tc_campaign.specs.declared.case.Case.{Case}
 use Rattle.tc_entry.specs.Shard.{IsShard, ShardView, has_place}
 
--- the name is asked for; where none is, each is
+-- the name is asked for; if none is, each is
 abbrev pub is_asked : List (List ℕ) → List ℕ → Bool
 is_asked only name = (length only == 0) || list_any (λ word. bytes_eq word name) only
 
--- those of the shard, where the first stands at this place
+-- those of the shard, if the first is at this place
 abbrev pub placed : {C : Type 0} → ShardView → ℕ → List C → List C
 placed s place [] = []
 placed s place (c ∷ cs) = if has_place s place then c ∷ placed s (place + 1) cs else placed s (place + 1) cs
@@ -36,7 +36,7 @@ module _ {C : Type 0} (name_of : C → List ℕ) where
 abbrev pub case_name : {B : Type 0} → Case B → List ℕ
 case_name c = c.name
 
--- of so many shards one has the test case at this place, and no other has it
+-- of that many shards one has the test case at this place, and no other has it
 pub record IsInOne (shards place : ℕ) : Type 0 where
   pub holder : ShardView
   pub is_shard : IsShard holder
@@ -44,6 +44,6 @@ pub record IsInOne (shards place : ℕ) : Type 0 where
   pub has : has_place holder place ≡ true
   pub alone : (s : ShardView) → IsShard s → s.shards ≡ shards → has_place s place ≡ true → s.place ≡ holder.place
 
--- all shards of so many, one at least, have each test case exactly once
+-- all shards of that many, one at least, have each test case exactly once
 abbrev pub ShardsAreAll : Type 0
 ShardsAreAll = (shards : ℕ) → 0 < shards → (place : ℕ) → IsInOne shards place

@@ -24,7 +24,7 @@ use Rattle.tc_campaign.specs.Campaign.{IsCalled, IsOfCase, IsRefusal, IsTorn, Is
 abbrev pub IsNamed : Finished → Type 0
 IsNamed f = length f.names ≡ f.report.behaviours
 
--- a finished case has a worker thread for each behaviour but that of run 0
+-- a finished case has a worker thread for each behaviour except that of run 0
 abbrev pub HasThreads : ℕ → Finished → Type 0
 HasThreads threads f = f.report.behaviours ≤ threads + 1
 
@@ -64,7 +64,7 @@ pub record IsSoFar (cases : List Outline) (stop_on : Option Verdict) (left : Lis
   pub each : AllZip IsOf done finished
   pub better : All (λ f. IsBetter stop_on f.report.verdict) finished
 
--- how a run ends: with an ending, or with none where the observer ended it at the last case
+-- how a run ends: with an ending, or with none if the observer ended it at the last case
 pub data IsRun (cases : List Outline) (stop_on : Option Verdict) : List Finished → Option CampaignEnd → Type 0 where
   complete : (finished : List Finished) → IsSoFar cases stop_on [] finished → IsRun cases stop_on finished (Some E.Complete)
   aborted : (finished : List Finished) (c : Outline) (left : List Outline) (ending : CampaignEnd)
@@ -75,7 +75,7 @@ pub data IsRun (cases : List Outline) (stop_on : Option Verdict) : List Finished
   cut : (finished : List Finished) (f : Finished) (c : Outline) (left : List Outline)
       → IsSoFar cases stop_on (c ∷ left) finished → IsOf c f → IsRun cases stop_on (finished ++ f ∷ []) None
 
--- how a campaign ends that runs none of these cases for want of memory
+-- how a campaign ends that runs none of these cases because memory ran out
 abbrev pub IsUnrun : List Outline → CampaignEnd → Type 0
 IsUnrun [] ending = ending ≡ E.Complete
 IsUnrun (c ∷ left) ending = ending ≡ E.Aborted c.name C.NoMemory
@@ -88,8 +88,8 @@ pub record IsFinished {B : Type 0} (outcome : B → PassState → Back → Type 
 
 module _ {B O : Type 0} (outcome : B → PassState → Back → Type 0) (takes : O → Finished → O → Bool → Type 0)
     (stop_on : Option Verdict) (threads : ℕ) where
-  -- what the run of one test case leaves: it was finished and taken, and the campaign goes on, or stops behind it; or it was refused;
-  -- or it was finished, and the observer has ended the campaign
+  -- what the run of one test case leaves. It was finished and taken, and the campaign continues, or stops after it; or
+  -- it was refused; or it was finished, and the observer has ended the campaign.
   abbrev pub IsStep : Case B → O → O → Step → Type 0
   IsStep c before after S.GoesOn = (f : Finished) × IsFinished outcome threads c f × IsBetter stop_on f.report.verdict × takes before f after true
   IsStep c before after (S.Stops ending) =

@@ -1,4 +1,4 @@
--- Test cases but for what their jobs do.
+-- Test cases without what their jobs do.
 use Rattle.std.specs.Prelude.{ℕ, ◌≡◌, List}
 use Rattle.std.specs.Vec.{vec_len}
 use Rattle.tc_campaign.specs.declared.case.Case.{Case}

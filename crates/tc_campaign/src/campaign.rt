@@ -36,7 +36,7 @@ fn ended(
     }
 }
 
-/// Runs a test case. Where it is refused, the campaign is aborted at its name.
+/// Runs a test case. If it is refused, the campaign is aborted at its name.
 fn finish<R: Threads + Wait + Copy + Send + 'static, B: Callable>(
     rt: &R,
     alloc: Global,
@@ -53,7 +53,7 @@ fn finish<R: Threads + Wait + Copy + Send + 'static, B: Callable>(
     ended(name, names, answer)
 }
 
-/// Runs a test case and gives its report to the observer, before the next one begins; says how the campaign goes on.
+/// Runs a test case and gives its report to the observer, before the next one begins; says how the campaign continues.
 fn run_next<R: Threads + Wait + Copy + Send + 'static, B: Callable, O: Observer>(
     rt: &R,
     alloc: Global,
@@ -78,8 +78,8 @@ fn run_next<R: Threads + Wait + Copy + Send + 'static, B: Callable, O: Observer>
     }
 }
 
-/// Runs the test cases up to the last by the stopping rule, or the first that is refused, or the one at which the observer
-/// ends the campaign; says how the campaign ended, where the observer did not end it.
+/// Runs the test cases up to the last by the stopping rule, or the first that is refused, or the one at which the
+/// observer ends the campaign. Says how the campaign ended, if the observer did not end it.
 fn run_all<R: Threads + Wait + Copy + Send + 'static, B: Callable, O: Observer>(
     rt: &R,
     alloc: Global,
@@ -101,11 +101,11 @@ fn run_all<R: Threads + Wait + Copy + Send + 'static, B: Callable, O: Observer>(
     Some(CampaignEnd::Complete)
 }
 
-/// Runs the test cases of a campaign one after the other, and gives the report of each to the observer before the next one
-/// begins; no report is kept here, so that the campaign takes the memory of one test case.
+/// Runs the test cases of a campaign one after the other, and gives the report of each to the observer before the next
+/// one begins. No report is kept here, so the campaign takes the memory of one test case.
 ///
-/// It is run as by `run_campaign`, but that the observer may end it: then there is no answer, and no further test case is
-/// run. Else the answer is how it ended.
+/// It is run as by `run_campaign`, except that the observer may end it: then there is no answer, and no further test
+/// case is run. Otherwise the answer is how it ended.
 pub fn run_campaign_with<R: Threads + Wait + Copy + Send + 'static, B: Callable, O: Observer>(
     rt: &R,
     alloc: Global,
@@ -146,7 +146,7 @@ fn unrun<B: Callable>(alloc: Global, cases: Vec<Case<B>>) -> Results
 }
 
 /// The results of a campaign that has no room for its reports: none of its test cases is run, and it is aborted at the
-/// first of them, where there is one.
+/// first of them, if there is one.
 pub fn without_room<B: Callable>(alloc: Global, cases: Vec<Case<B>>) -> Results
     ensures none { result.finished ≡ [] }
     ensures run { (stop_on : Option AnyVerdict) (threads : ℕ)
@@ -182,11 +182,11 @@ fn run_kept<R: Threads + Wait + Copy + Send + 'static, B: Callable>(
 /// Runs the test cases of a campaign one after the other (ES 201 873-1, the execute statement), as by `run_campaign_with`
 /// with an observer that keeps them, a `Kept`.
 ///
-/// Each finished test case has the report of its own jobs. A test case whose verdict is `stop_on` or worse is the last. A
-/// test case that is refused ends the campaign, and the finished test cases stay. The room for all reports is made first;
-/// where it is refused the campaign is aborted at the first test case, with NoMemory. A campaign of no test cases is
-/// complete, and takes no memory. Each test case may have so many worker threads. Campaigns and their stopping rule are
-/// this project's own.
+/// Each finished test case has the report of its own jobs. A test case whose verdict is `stop_on` or worse is the last.
+/// A test case that is refused ends the campaign, and the finished test cases stay. The room for all reports is made
+/// first; if it is refused the campaign is aborted at the first test case, with NoMemory. A campaign of no test cases
+/// is complete, and takes no memory. Each test case may have that many worker threads. Campaigns and their stopping
+/// rule are this project's own.
 pub fn run_campaign<R: Threads + Wait + Copy + Send + 'static, B: Callable>(
     rt: &R,
     alloc: Global,

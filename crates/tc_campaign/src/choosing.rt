@@ -14,7 +14,7 @@ fn is_same(name: &Name, other: &Name) -> bool
     name.bytes() == other.bytes()
 }
 
-// Whether the name is asked for; where none is, each is.
+// Whether the name is asked for; if none is, each is.
 fn is_asked(only: &[Name], name: &Name) -> bool
     ensures { result ≡ spec_asked only.now name.now }
 {
@@ -61,7 +61,7 @@ fn sharded<B: Drop>(
     Ok(taken)
 }
 
-/// The test cases whose names are asked for, in their order, and of these the ones in the shard; where no name is asked
+/// The test cases whose names are asked for, in their order, and of these the ones in the shard; if no name is asked
 /// for all of them, and without a shard all of these.
 pub fn choose<B: Drop>(
     alloc: Global,

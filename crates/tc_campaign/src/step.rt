@@ -1,7 +1,7 @@
-//! How a campaign goes on behind a test case.
+//! How a campaign continues after a test case.
 use tc_report::CampaignEnd;
 
-/// How a campaign goes on behind a test case.
+/// How a campaign continues after a test case.
 #[derive(Drop)]
 pub(crate) enum Step {
     /// With the next test case.

@@ -18,7 +18,7 @@ fn is_met(stop_on: Option<Verdict>, verdict: Verdict) -> bool
     }
 }
 
-/// How the campaign ends after this test case, where it is the last by the stopping rule.
+/// How the campaign ends after this test case, if it is the last by the stopping rule.
 pub(crate) fn stop_after(stop_on: Option<Verdict>, case: &Finished) -> Option<CampaignEnd>
     ensures stopped { IfSome result (λ ending. (ending ≡ StoppedAfter case.now.name) × IsMet stop_on case.now.report.verdict) }
     ensures better { IfNone result (IsBetter stop_on case.now.report.verdict) }

@@ -12,7 +12,7 @@ use tc_campaign::{
     CampaignEnd, Case, Results, run_campaign, status_of, tally, write_abort, write_text,
 };
 
-/// Checks the report of an aborted campaign, and what is told of it.
+/// Checks the report of an aborted campaign, and what is printed about it.
 fn is_aborted<R: Abort>(
     rt: &R,
     alloc: Global,

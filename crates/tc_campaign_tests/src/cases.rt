@@ -39,7 +39,7 @@ impl Counts {
         self.begun.load(Ordering::SeqCst)
     }
 
-    /// Whether so many have begun, and each of them has ended.
+    /// Whether that many have begun, and each of them has ended.
     fn are(&self, count: u64) -> bool {
         self.begun.fetch_add(1, Ordering::SeqCst) == count
             && self.ended.load(Ordering::SeqCst) == count
@@ -54,7 +54,7 @@ pub(crate) enum Does {
     Starves,
     /// Hands back the pass of another case.
     Exchanges(Pass),
-    /// Counts itself, and sets pass if so many have begun before it and have ended, else fail.
+    /// Counts itself, and sets pass if that many have begun before it and have ended, otherwise fail.
     Counts(u64, Counts),
 }
 
@@ -104,7 +104,7 @@ fn add(names: &mut Vec<Name>, jobs: &mut Vec<Does>, text: &str, does: Does) -> R
     Ok(jobs.push(does)?)
 }
 
-/// Adds the first behaviour, if there is one, and so many that return.
+/// Adds the first behaviour, if there is one, and as many that return.
 fn add_all(
     names: &mut Vec<Name>,
     jobs: &mut Vec<Does>,
@@ -120,7 +120,7 @@ fn add_all(
     Ok(())
 }
 
-/// A test case of so many behaviours behind the first.
+/// A test case of that many behaviours after the first.
 pub(crate) fn case_of<R: Abort>(
     rt: &R,
     alloc: Global,

@@ -1,5 +1,5 @@
-//! What a test found, held beside what is wanted. Each check is a call: the branches of an assertion are proved once here, and
-//! not anew at each place.
+//! What a test found, held next to what is wanted. Each check is a call: the branches of an assertion are proved once
+//! here, and not again at each place.
 use std::fmt::Debug;
 use std::process::Abort;
 

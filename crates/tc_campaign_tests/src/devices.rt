@@ -35,7 +35,7 @@ pub(crate) fn text_of(alloc: Global, form: Form, results: &Results) -> Result<Ve
     Ok(out)
 }
 
-/// Writes the results to a writer that fails behind this part of their text, which is so long.
+/// Writes the results to a writer that fails after this part of their text, which is so long.
 fn fail_behind<R: Abort>(
     rt: &R,
     alloc: Global,

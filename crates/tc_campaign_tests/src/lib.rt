@@ -1,5 +1,5 @@
-//! The tests of reports (`tc_report`), of campaigns and of scripted behaviours (`tc_campaign`, `tc_behaviour`), in a crate of
-//! their own: a check of them proves no library once more. What the built program shows stands in `tests/program`.
+//! The tests of reports (`tc_report`), of campaigns and of scripted behaviours (`tc_campaign`, `tc_behaviour`), in a
+//! crate of their own: a check of them proves no library again. What the built program shows is in `tests/program`.
 #![tactic(auto)]
 
 #[cfg(test)]

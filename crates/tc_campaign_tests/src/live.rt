@@ -95,7 +95,7 @@ fn add_length(ends: &mut Vec<usize>, live: &LiveWriter<'_, Flushed>) -> Result<(
     Ok(ends.push(live.writer.taken.len())?)
 }
 
-/// Adds where the text ends behind its opening, each test case and its closing.
+/// Adds where the text ends after its opening, each test case and its closing.
 fn add_ends(
     alloc: Global,
     ends: &mut Vec<usize>,
@@ -111,7 +111,7 @@ fn add_ends(
     add_length(ends, live)
 }
 
-/// Writes the pieces to a writer that is flushed behind each.
+/// Writes the pieces to a writer that is flushed after each.
 fn flush_each_piece<R: Abort>(rt: &R, alloc: Global, form: Form) -> Result<(), Fail> {
     let mut writer = Flushed::new(alloc, usize::MAX);
     let mut ends = Vec::new(alloc);
@@ -131,7 +131,7 @@ fn flush_each_piece<R: Abort>(rt: &R, alloc: Global, form: Form) -> Result<(), F
     Ok(())
 }
 
-// At each flush the text ends behind a test case: no flush comes late, and none is left out.
+// At each flush the text ends after a test case: no flush comes late, and none is left out.
 #[test]
 fn each_piece_is_flushed(rt: HostRuntime) -> Result<(), Fail> {
     for form in FORMS {

@@ -142,7 +142,7 @@ impl Write for Flushing {
 /// How a campaign ended that was written as its test cases finished, and its exit status; or why it was not written whole.
 type LiveAnswer = Result<(CampaignEnd, u8), OutFault>;
 
-/// Writes what stands behind the test cases of a campaign that ended so; without an ending the writer has ended it.
+/// Writes what follows the test cases of a campaign that ended so; without an ending the writer has ended it.
 fn close<W: Write>(ending: Option<CampaignEnd>, live: &mut LiveWriter<'_, W>) -> LiveAnswer {
     let Some(ending) = ending else {
         return Err(live.fault.unwrap_or(OutFault::NoMemory));
@@ -211,7 +211,7 @@ fn a_live_campaign_is_written_case_by_case(rt: HostRuntime) -> Result<(), Fail> 
     Ok(())
 }
 
-/// Writes the table to a writer that fails behind this part of it; so many test cases begin.
+/// Writes the table to a writer that fails after this part of it; that many test cases begin.
 fn fail_behind<R: Abort + Threads + Wait + Copy + Send + 'static>(
     rt: &R,
     alloc: Global,
@@ -253,7 +253,7 @@ fn no_case_begins_behind_a_write_fault(rt: HostRuntime) -> Result<(), Fail> {
     Ok(())
 }
 
-/// Runs these test cases with one that writes their table, and tells of them on this writer.
+/// Runs these test cases with one that writes their table, and reports them on this writer.
 fn tell_cases<R: Threads + Wait + Copy + Send + 'static, B: Callable, W: Write>(
     rt: &R,
     alloc: Global,
@@ -270,7 +270,7 @@ fn tell_cases<R: Threads + Wait + Copy + Send + 'static, B: Callable, W: Write>(
     (ending, told)
 }
 
-/// What comes of three test cases, of which the second fails, that are told of and whose table goes to this writer.
+/// What comes of three test cases, of which the second fails, that are printed of and whose table goes to this writer.
 fn tell<R: Abort + Threads + Wait + Copy + Send + 'static, W: Write>(
     rt: &R,
     alloc: Global,
@@ -286,7 +286,7 @@ fn tell<R: Abort + Threads + Wait + Copy + Send + 'static, W: Write>(
     Ok((close(ending, &mut live), told))
 }
 
-// A campaign whose table can't be written is told of up to the test case at which that was found.
+// A campaign whose table can't be written is printed of up to the test case at which that was found.
 #[test]
 fn a_campaign_that_is_cut_short_is_told_of(rt: HostRuntime) -> Result<(), Fail> {
     let written = HEADER.len() + "a,1,0,1,0,0,0,pass\n".len();

@@ -1,4 +1,4 @@
-//! What is told of test cases as they finish, to a writer that fails.
+//! What is printed about test cases as they finish, to a writer that fails.
 ghost use Rattle.std.specs.Prelude.{⊤};
 
 use crate::checks::is;
@@ -33,7 +33,7 @@ impl Observer for Counting {
     }
 }
 
-/// Tells of each test case.
+/// Reports each test case.
 fn tell_each<E: Write>(
     alloc: Global,
     progress: &mut Progress<'_, Counting, E>,
@@ -44,7 +44,7 @@ fn tell_each<E: Write>(
     Ok(())
 }
 
-/// Tells of the test cases, and says how many were taken, and what came of it.
+/// Reports the test cases, and says how many were taken, and what came of it.
 fn tell<E: Write>(alloc: Global, writer: &mut E) -> Result<(usize, Result<(), OutFault>), Fail> {
     let mut counting = Counting { taken: 0 };
     let mut failed = Vec::new(alloc);
@@ -54,7 +54,7 @@ fn tell<E: Write>(alloc: Global, writer: &mut E) -> Result<(usize, Result<(), Ou
     Ok((counting.taken, told))
 }
 
-/// Tells a writer that fails at this byte, if it comes to it: a prefix is told, and all test cases are taken.
+/// Reports to a writer that fails at this byte, if it comes to it: a prefix is printed, and all test cases are taken.
 fn tell_in_vain<R: Abort>(
     rt: &R,
     alloc: Global,

@@ -75,7 +75,7 @@ abbrev pub head_at_start : (ℕ → List Entry) → Option Run → List Entry
 head_at_start log (Some run) = head (log run.0)
 head_at_start log None = []
 
--- At the opening stand the verdict entries at the head of run 0's log. After each entry stand first the verdict entries
+-- At the opening come the verdict entries at the head of run 0's log. After each entry come first the verdict entries
 -- that follow it in its caller's log, and then those at the head of the log of the run that it starts.
 abbrev pub in_place : (ℕ → List Entry) → List Entry → List Entry
 in_place log [] = head (log 0)
@@ -87,6 +87,6 @@ unfoldable pub late : (ℕ → List Entry) → ℕ → List Entry
 late log zero = []
 late log (suc b) = late log b ++ filter is_late (log b)
 
--- the merge: what stands in its place, and at the end what was replied Ended
+-- the merge: what is in its place, and at the end what was replied Ended
 unfoldable pub merge : List Entry → List RunLog → List Entry
 merge history logs = in_place (log_of logs) (reverse history) ++ late (log_of logs) (end_of logs)

@@ -26,10 +26,11 @@ pub struct Closed {
 /// Why a case was not closed.
 #[derive(Clone, Copy, PartialEq, Eq, Debug, Error)]
 pub enum CloseFault {
-    /// What came back is not whole: not one of each run, a log that its run's word has not counted, a reply that is not the
-    /// table's, the case not over, a log that is not its run's part, or an entry of a run that was started only behind it.
+    /// What came back is not whole. There is not one of each run; or a log that its run's word has not counted, or that
+    /// is not its run's part; or a reply that is not the table's. Or there is an entry before its run's start, or the
+    /// case is not over.
     Torn,
-    /// Memory was refused.
+    /// Memory ran out.
     NoMemory,
 }
 

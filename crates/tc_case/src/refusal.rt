@@ -16,7 +16,7 @@ pub enum CaseError {
     NoBehaviours,
     /// There are more than 256 behaviours.
     TooManyBehaviours,
-    /// Memory was refused, to the executor or to a behaviour.
+    /// Memory ran out, in the executor or in a behaviour.
     NoMemory,
     /// A behaviour could not be given a thread; no behaviour was called.
     NoThread,

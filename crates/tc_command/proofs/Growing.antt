@@ -20,12 +20,12 @@ grows_by_one {old} adds local is =
       local = adds.globals ∙ (ap (λ b. (out-Command old).has_globals || b) local ∙ or-false (out-Command old).has_globals);
     }
 
--- the rows that are left are the next one and those behind it
+-- the rows that are left are the next one and those after it
 pub next_row : (rows : List OptionRow) (i : ℕ) (d : OptionRow) (app : App) → i < length rows
     → with_rows (drop i rows) app ≡ with_rows (drop (i + 1) rows) (with_rule app (rule_of_row (get_or rows i d)))
 next_row rows i d app lt = simp unary_clauses (ap (λ left. with_rows left app) (drop-cons rows i d lt))
 
--- the subcommands that are left are the next one and those behind it
+-- the subcommands that are left are the next one and those after it
 pub next_subcommand : (subs : List Subcommand) (i : ℕ) (d : Subcommand) (app : App) → i < length subs
     → with_each (drop i subs) app ≡ with_each (drop (i + 1) subs) (with_subcommand app (app_of_subcommand (get_or subs i d)).top)
 next_subcommand subs i d app lt = simp unary_clauses (ap (λ left. with_each left app) (drop-cons subs i d lt))

@@ -35,6 +35,6 @@ no_words f id is = ap (λ o. unwrap_or o []) (sym is ∙ raw_values-rows f id)
 pub first_word : (f : Found) (id : Text) → first_value f id ≡ first_of id (rows_of f)
 first_word f id = first_value-rows f id
 
--- where all words are names, each is one
+-- if all words are names, each is one
 pub name_at : (words : List (Bor Text)) (i : ℕ) (d : Bor Text) → i < length words → All IsName (map (λ w. w.now) words) → IsName (get_or words i d).now
 name_at words i d within all = subst IsName (get_or-map (λ (w : Bor Text). w.now) words i d d.now within) (all i d.now (subst (λ n. i < n) (sym (length-map words (λ (w : Bor Text). w.now))) within))

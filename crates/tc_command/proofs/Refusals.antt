@@ -35,7 +35,7 @@ module _ (app : App) (words : List Text) (found : Option (Text × List Row)) (is
   pub task_read : (task : Task) → IsTaken (line_of found) task → IsReading words (Ok task)
   task_read task taken = (faults_are ∙ taken.0, subst (λ line. Asks line task) line_is taken.1)
 
-  -- what is told of its options is why the words are refused
+  -- what is known of its options is why the words are refused
   pub refusal_read : (refusal : Refusal) (refused : Refused) → IsRefusedBy (line_of found) refusal → IsToldBy refusal refused → IsReading words (Err refused)
   refusal_read (R.Conflict first second) (Told.Line e) why told = subst (λ k. HasKind k e) (sym (faults_are ∙ why)) (inr (inl told))
   refusal_read (R.Conflict first second) (Told.Word f) why told = absurd told

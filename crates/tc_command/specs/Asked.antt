@@ -35,7 +35,7 @@ is_from_words source = false
 abbrev pub is_given : List Row → Text → Bool
 is_given rows option = is_from_words (option_and_then (λ r. r.source) (find (λ r. bytes_eq r.id option) rows))
 
--- the words behind all uses of the option
+-- the words after all uses of the option
 abbrev pub words_of : Text → List Row → List Text
 words_of option rows = unwrap_or (all_of option rows) []
 
@@ -52,7 +52,7 @@ abbrev pub line_of : Option (Text × List Row) → Subcommand × List Row
 line_of None = (S.Run, [])
 line_of (Some p) = (subcommand_named p.0, p.1)
 
--- options of which each two do not stand together
+-- options of which each two exclude each other
 abbrev pub apart : Subcommand → List (Text × Text)
 apart S.Run =
     (codes "csv", codes "history") ∷ (codes "csv", codes "junit") ∷ (codes "history", codes "junit")
@@ -73,7 +73,7 @@ form_of rows =
     else (if is_given rows (codes "history") then form.History
     else (if is_given rows (codes "junit") then form.Junit else form.Text))
 
--- the form that the options of `report` ask for, where they ask for one
+-- the form that the options of `report` ask for, if they ask for one
 abbrev pub report_form_of : List Row → Option ReportForm
 report_form_of rows =
     if is_given rows (codes "csv") then Some report_form.Csv
@@ -85,13 +85,14 @@ abbrev pub lacks_form : Subcommand → List Row → Bool
 lacks_form S.Report rows = is_none (report_form_of rows)
 lacks_form subcommand rows = false
 
--- why options are refused; none where they are taken
+-- why options are refused; none if they are taken
 abbrev pub option_faults : Subcommand × List Row → Kinds
 option_faults line =
     if list_any (are_both line.1) (apart line.0) then ArgumentConflict ∷ []
     else (if lacks_form line.0 line.1 then MissingRequiredArgument ∷ [] else [])
 
--- why the words are refused, as the kinds of the first fault, or that they ask for help or the version; none where they are taken
+-- why the words are refused, as the kinds of the first fault, or that they ask for help or the version; none if they
+-- are taken
 abbrev pub faults : List Text → Kinds
 faults words = or_else (fault_of ttrun words) (option_faults (line_of (subcommand_of ttrun words)))
 
@@ -129,8 +130,8 @@ HasBadWord rows W.Only =
     IsGood IsShardOf (first_of (codes "shard") rows) × IsGood IsRuleOf (first_of (codes "stop-on") rows)
     × (All IsName (words_of (codes "only") rows) → ⊥)
 
--- what the words are read as: the task that they ask for; or clap's error, of the kind of their first fault; or, where there is none, a word
--- behind an option that names nothing
+-- what the words are read as: the task that they ask for; or clap's error, of the kind of their first fault; or, if
+-- there is none, a word after an option that names nothing
 abbrev pub IsReading : List Text → Result Task Refused → Type 0
 IsReading words (Ok task) = (faults words ≡ []) × Asks (line_of (subcommand_of ttrun words)) task
 IsReading words (Err (R.Line e)) = HasKind (faults words) e

@@ -11,7 +11,7 @@ flag_rule name = record (new_rule name) { long = Some name; action = Some SetTru
 abbrev pub word_rule : Text → Rule
 word_rule name = record (new_rule name) { long = Some name; action = Some Set; value_names = 1 }
 
--- an option of this name, which takes one word, and may stand again and again
+-- an option of this name, which takes one word, and may be again and again
 abbrev pub words_rule : Text → Rule
 words_rule name = record (new_rule name) { long = Some name; action = Some Append; value_names = 1 }
 
@@ -42,10 +42,10 @@ check = with_rules (new_app (codes "check")) (flag_rule (codes "explain") ∷ []
 abbrev pub replay : App
 replay = with_rules (new_app (codes "replay")) (flag_rule (codes "explain") ∷ [])
 
--- a command that tells its version
+-- a command that prints its version
 abbrev pub with_version : App → App
 with_version app = record app { top = record app.top { has_version = true } }
 
--- the program's command tells its version, and has these five subcommands
+-- the program's command prints its version, and has these five subcommands
 abbrev pub ttrun : App
 ttrun = with_subcommand (with_subcommand (with_subcommand (with_subcommand (with_subcommand (with_version (new_app (codes "ttrun"))) run.top) explore.top) check.top) report.top) replay.top

@@ -19,14 +19,14 @@ use Rattle.tc_command.specs.declared.refusal.Refusal.TheVariants as R
 use Rattle.tc_command.specs.declared.task.Task.{Task}
 use Rattle.tc_command.specs.declared.word.WordFault.{WordFault}
 
--- options are refused for this reason; want of memory says nothing of them
+-- options are refused for this reason; if memory runs out, nothing is said about them
 abbrev pub IsRefusedBy : Subcommand × List Row → Refusal → Type 0
 IsRefusedBy line (R.Conflict first second) = option_faults line ≡ ArgumentConflict ∷ []
 IsRefusedBy line R.NoForm = option_faults line ≡ MissingRequiredArgument ∷ []
 IsRefusedBy line (R.Word fault) = (option_faults line ≡ []) × HasBadWord line.1 fault
 IsRefusedBy line R.NoMemory = Unit {0}
 
--- two options clash, where some do
+-- two options clash, if some do
 abbrev pub IsClash : Bool → Refusal → Type 0
 IsClash some (R.Conflict first second) = some ≡ true
 IsClash some refusal = ⊥
@@ -47,14 +47,14 @@ IsWordRefused rows refusal = ⊥
 abbrev pub IsTaken : Subcommand × List Row → Task → Type 0
 IsTaken line task = (option_faults line ≡ []) × Asks line task
 
--- the refusal is told: by an error of its kind, or as a word that names nothing
+-- how the refusal is said: by an error of its kind, or as a word that names nothing
 abbrev pub IsToldBy : Refusal → Refused → Type 0
 IsToldBy (R.Conflict first second) (Told.Line e) = kind_of e ≡ ArgumentConflict
 IsToldBy R.NoForm (Told.Line e) = kind_of e ≡ MissingRequiredArgument
 IsToldBy (R.Word fault) (Told.Word f) = f ≡ fault
 IsToldBy refusal refused = ⊥
 
--- an option of this name, which takes so many words
+-- an option of this name, which takes that many words
 abbrev pub rule_taking : Takes → Text → Rule
 rule_taking T.Nothing name = flag_rule name
 rule_taking (T.Word word) name = word_rule name
@@ -91,11 +91,11 @@ with_each (s ∷ ss) app = with_each ss (with_subcommand app (app_of_subcommand 
 abbrev pub looks_like_file : Text → Bool
 looks_like_file word = list_any (λ b. (b == 46) || (b == 47)) word
 
--- the word, where it looks like the path of a file
+-- the word, if it looks like the path of a file
 abbrev pub if_file : Text → Option Text
 if_file word = if looks_like_file word then Some word else None
 
--- the first word behind the program's name, where it looks like the path of a file
+-- the first word after the program's name, if it looks like the path of a file
 abbrev pub stray_file : List Text → Option Text
 stray_file [] = None
 stray_file (program ∷ []) = None

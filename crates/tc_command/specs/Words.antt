@@ -1,4 +1,4 @@
--- The words behind options, and what they name.
+-- The words after options, and what they name.
 use Rattle.std.specs.Prelude.{ℕ, ◌≡◌, ◌≤◌, ◌<◌, ◌+◌, ◌^◌, List, ◌∷◌, ◌++◌, Option, Some, None, codes}
 use Rattle.std.specs.Fmt.{decimal}
 use Rattle.clap.specs.Words.{Text}
@@ -26,7 +26,7 @@ IsShardOf = IsNamed IsShardWord
 abbrev pub IsRuleOf : Option Text → Option Verdict → Type 0
 IsRuleOf = IsNamed (λ word v. word ≡ name_of v)
 
--- so many states are looked at: those that the word names, from 1 to a million; without a word a hundred thousand
+-- that many states are looked at: those that the word names, from 1 to a million; without a word a hundred thousand
 abbrev pub IsStatesOf : Option Text → ℕ → Type 0
 IsStatesOf None n = n ≡ 100000
 IsStatesOf (Some word) n = (1 ≤ n) × (n ≤ 1000000) × (word ≡ decimal n)

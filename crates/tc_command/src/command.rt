@@ -31,7 +31,7 @@ shards, K from 1 to N, has those whose place, from 0, is K - 1 modulo N.
 --list stands with --only and --shard alone, and --junit not with --live.
 Status: 0 for none and pass, 1 for inconc and fail, 2 for error, 3 for an abort or a refusal.";
 
-// The words that an option takes, by what the help calls one: none, one, or one each time that the option stands.
+// The words that an option takes, by what the help calls one: none, one, or one each time that the option is given.
 #[derive(Clone, Copy)]
 enum Takes {
     Nothing,
@@ -142,7 +142,7 @@ fn option<'a>(alloc: Global, name: &'a str, word: &'a str, help: &'a str) -> Arg
         .action(ArgAction::Set)
 }
 
-// An option that takes one word, and may stand again and again.
+// An option that takes one word, and may be again and again.
 fn repeated_option<'a>(alloc: Global, name: &'a str, word: &'a str, help: &'a str) -> Arg<'a>
     ensures rule { rule_of result ≡ words_rule name.entry.now }
     ensures local { result.global ≡ false }

@@ -26,7 +26,7 @@ use tc_entry::Name;
 pub enum Refused {
     /// They ask for help or for the version, or the command line is refused, or memory was.
     Line(Error),
-    /// A word behind an option names nothing.
+    /// The value of an option names nothing.
     Word(WordFault),
 }
 
@@ -41,7 +41,7 @@ impl From<Error> for Refused {
     }
 }
 
-// Options of which each two do not stand together.
+// Options of which each two exclude each other.
 fn apart(subcommand: Subcommand) -> &'static [(&'static str, &'static str)]
     ensures { (rows : List Row) → list_any (λ p. are_both rows (p.0.now, p.1.now)) result.now ≡ list_any (are_both rows) (spec_apart subcommand) }
 {
@@ -89,7 +89,7 @@ fn refuse_both(
     Ok(())
 }
 
-// The word of this option, the first where it has more.
+// The word of this option, the first if it has more.
 #[tactic(auto, using(crate::proofs::Options::first_word))]
 fn word_of<'a>(options: &ArgMatches<'a>, id: &str) -> Option<&'a str>
     ensures { option_copied result ≡ first_of id.now (rows_of (found_of options.now)) }
@@ -112,7 +112,7 @@ fn form(options: &ArgMatches<'_>) -> Form
     }
 }
 
-// The form that the options of `report` ask for, where they ask for one.
+// The form that the options of `report` ask for, if they ask for one.
 fn report_form(options: &ArgMatches<'_>) -> Option<ReportForm>
     ensures { result ≡ report_form_of (rows_of (found_of options.now)) }
 {
@@ -290,10 +290,10 @@ fn read_by<'a>(
     }
 }
 
-/// What the words ask for, the first of which is the program's name; with no further word it is `run`.
-/// An error of the kind DisplayHelp answers words that ask for help, one of the kind DisplayVersion words that ask for the
-/// version, any other one words that are refused. Words of which each option may stand, and one behind an option names
-/// nothing, are refused for that word.
+/// What the words ask for, the first of which is the program's name; with no further word it is `run`. An error of the
+/// kind DisplayHelp answers words that ask for help, one of the kind DisplayVersion words that ask for the version, any
+/// other one words that are refused. Words of which each option may be, and one after an option names nothing, are
+/// refused for that word.
 pub fn read_task(alloc: Global, words: &[String]) -> Result<Task, Refused>
     ensures { IsReading (map string_bytes words.entry.now) result }
 {

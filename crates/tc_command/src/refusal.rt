@@ -17,9 +17,9 @@ pub(crate) enum Refusal {
     Conflict(&'static str, &'static str),
     /// `report` without a form.
     NoForm,
-    /// A word behind an option names nothing.
+    /// The value of an option names nothing.
     Word(WordFault),
-    /// Memory was refused.
+    /// Memory ran out.
     NoMemory,
 }
 
@@ -56,7 +56,7 @@ impl From<WordFault> for Refusal {
     }
 }
 
-// The error that tells of options that do not stand together, with the usage of the command.
+// The error that names options that exclude each other, with the usage of the command.
 fn conflict_error(
     alloc: Global,
     command: &mut Command<'_>,
@@ -69,7 +69,7 @@ fn conflict_error(
     command.error(ErrorKind::ArgumentConflict, text.as_str())
 }
 
-/// The refusal as it is told: as a word that names nothing, or by an error with the usage of the command.
+/// The refusal as it is said: as a word that names nothing, or by an error with the usage of the command.
 pub(crate) fn told_of(
     alloc: Global,
     command: &mut Command<'_>,

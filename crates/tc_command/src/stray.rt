@@ -17,7 +17,7 @@ fn looks_like_file(word: &str) -> bool
         .any(|byte| *byte == b'.' || *byte == b'/')
 }
 
-// The first word behind the program's name, where it looks like the path of a file: it has a dot or a slash.
+// The first word after the program's name, if it looks like the path of a file: it has a dot or a slash.
 fn stray_file(words: &[String]) -> Option<&str>
     ensures { option_map (λ w. w.now) result ≡ spec_stray (map string_bytes words.now) }
 {
@@ -40,7 +40,7 @@ fn file_error(alloc: Global, command: &mut Command<'_>, word: &str) -> Result<Er
     command.error(ErrorKind::InvalidSubcommand, text.as_str())
 }
 
-/// The error for words that are refused, with a tip where a file stands in place of a subcommand; its kind stays.
+/// The error for words that are refused, with a tip where a file is instead of a subcommand; its kind stays.
 pub(crate) fn with_tip(
     alloc: Global,
     command: &mut Command<'_>,

@@ -42,7 +42,7 @@ pub struct RunOptions {
     pub form: Form,
     /// Whether each test case is written as it finishes.
     pub live: bool,
-    /// Whether each test case is told of as it finishes.
+    /// Whether each test case is reported as it finishes.
     pub progress: bool,
     /// The stopping rule: a test case with this verdict, or a worse one, is the last.
     pub stop_on: Option<Verdict>,
@@ -52,7 +52,7 @@ pub struct RunOptions {
     pub explains: bool,
 }
 
-/// What the program is asked for. A task that explains says behind the line of a fault what stands there.
+/// What the program is asked for. A task that explains says after the line of a fault what is there.
 #[derive(Debug, Drop, PartialEq, Eq)]
 pub enum Task {
     /// Replay a list of moves.
@@ -72,8 +72,8 @@ pub enum Task {
         form: ReportForm,
         explains: bool,
     },
-    /// Explore a campaign: whether the histories of the witnesses are written or details told, and at how many states of a
-    /// test case it looks at most.
+    /// Explore a campaign: whether the histories of the witnesses are written or details printed, and at how many
+    /// states of a test case it looks at most.
     Explore {
         histories: bool,
         details: bool,

@@ -1,4 +1,4 @@
-//! The words behind options, and what they name.
+//! The words after options, and what they name.
 ghost use Rattle.std.specs.Prelude.{◌≡◌, ◌≤◌, All, IfOk, IfErr, IfSome, IfNone, map, option_copied, ℕ};
 ghost use Rattle.std.specs.Fmt.{decimal};
 ghost use Rattle.tc_entry.specs.Name.{IsName};
@@ -13,10 +13,10 @@ use tc_entry::{Name, Shard};
 use tc_text::{read_number, take_number};
 use tc_verdict::{Verdict, read_name};
 
-/// At how many states of a test case `explore` looks where no word says it.
+/// At how many states of a test case `explore` looks if no word says it.
 const STATES: usize = 100_000;
 
-/// The option behind which a word names nothing.
+/// The option after which a word names nothing.
 #[derive(Clone, Copy, Debug, PartialEq, Eq)]
 pub enum WordFault {
     /// `--stop-on`.
@@ -56,7 +56,7 @@ fn read_shard(word: &str) -> Option<Shard>
     Shard::new(number, read_number(rest)?)
 }
 
-/// The shard of the word of `--shard`, where there is one.
+/// The shard of the word of `--shard`, if there is one.
 pub(crate) fn shard(word: Option<&str>) -> Result<Option<Shard>, WordFault>
     ensures taken { IfOk result (IsShardOf (option_copied word.entry)) }
     ensures refused { IfErr result (λ f. (f ≡ fault.Shard) × IsBad IsShardOf (option_copied word.entry)) }
@@ -70,7 +70,7 @@ pub(crate) fn shard(word: Option<&str>) -> Result<Option<Shard>, WordFault>
     }
 }
 
-/// The verdict of the word of `--stop-on`, where there is one.
+/// The verdict of the word of `--stop-on`, if there is one.
 pub(crate) fn stop_on(word: Option<&str>) -> Result<Option<Verdict>, WordFault>
     ensures taken { IfOk result (IsRuleOf (option_copied word.entry)) }
     ensures refused { IfErr result (λ f. (f ≡ fault.StopOn) × IsBad IsRuleOf (option_copied word.entry)) }

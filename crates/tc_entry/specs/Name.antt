@@ -2,7 +2,7 @@
 use Rattle.std.specs.Prelude.{◌≢◌, ◌==◌, ◌||◌, ℕ, ◌≤◌, Bool, List, length, codes, IsTrue, All, IfSome, slice_get}
 use Rattle.std.specs.Char.{is_ascii_alphabetic, is_ascii_alphanumeric}
 
--- a byte that may stand in a name: a letter, a digit or `_`
+-- a byte that may be in a name: a letter, a digit or `_`
 abbrev pub is_name_byte : ℕ → Bool
 is_name_byte b = is_ascii_alphanumeric b || (b == 95)
 

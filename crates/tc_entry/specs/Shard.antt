@@ -1,7 +1,7 @@
 -- A shard of a campaign, as contracts see it.
 use Rattle.std.specs.Prelude.{ℕ, ◌⊎◌, ◌≡◌, ◌==◌, ◌<◌, ◌%◌, Bool}
 
--- one of so many shards, by its place among them, which counts from 0
+-- one of that many shards, by its place among them, which counts from 0
 pub record ShardView : Type 0 where
   pub place : ℕ
   pub shards : ℕ
@@ -10,7 +10,7 @@ pub record ShardView : Type 0 where
 abbrev pub IsShard : ShardView → Type 0
 IsShard s = s.place < s.shards
 
--- of so many shards none has this number, which counts from 1
+-- of that many shards none has this number, which counts from 1
 abbrev pub HasNoShard : ℕ → ℕ → Type 0
 HasNoShard number of = (number ≡ 0) ⊎ (of < number)
 

@@ -50,7 +50,7 @@ impl Args {
         }
     }
 
-    /// Adds a component, unless there are `ARGUMENTS`: then it answers false and nothing is changed.
+    /// Adds a component, unless there are `ARGUMENTS`: then it returns false and nothing is changed.
     pub fn push(&mut self, comp: Comp) -> bool
         ensures pushed { OnTrue result (self.new ≡ self.old ++ comp ∷ []) }
         ensures full { OnFalse result (self.new ≡ self.old) }

@@ -1,4 +1,4 @@
-//! The entries of a test case's history: who called, which operation, and the reply.
+//! The entries of a test case's history: the caller, the operation, and the reply.
 #![tactic(auto)]
 
 mod args;

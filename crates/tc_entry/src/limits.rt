@@ -14,14 +14,14 @@ pub const ARGUMENTS: usize = 4;
 /// The most bytes of a name.
 pub const NAME_BYTES: usize = 32;
 
-/// Whether a test case may have so many behaviours.
+/// Whether a test case may have that many behaviours.
 pub fn is_behaviours(number: usize) -> bool
     ensures { IsTrue result ↔ IsBehaviours number }
 {
     1 <= number && number <= BEHAVIOURS
 }
 
-/// Whether a test case of so many components may have one more.
+/// Whether a test case of that many components may have one more.
 pub fn may_create(components: usize) -> bool
     ensures { IsTrue result ↔ (components < 1000) }
 {

@@ -24,11 +24,11 @@ pub enum Group {
 
 /// An operation of a behaviour (ES 201 873-1, test component operations and verdict operations).
 ///
-/// `Wait` and `Wake` are this project's own: a wait on done or killed is a `Wait`, and, where that is
-/// parked, a later `Wake`. `Finish` is the end of a behaviour. `StopCase` is the standard's testcase.stop.
+/// `Wait` and `Wake` are this project's own: a wait on done or killed is a `Wait`, and, if that is parked, a later
+/// `Wake`. `Finish` is the end of a behaviour. `StopCase` is the standard's testcase.stop.
 #[derive(PartialEq, Eq, Debug, Drop)]
 pub enum Op {
-    /// Makes a component, alive-type or ordinary; a name is for whoever reads the report, and refers to nothing.
+    /// Makes a component, alive-type or ordinary; a name is for a reader of the report, and refers to nothing.
     Create { alive: bool, name: Option<Name> },
     Start { comp: Comp, run: Run, args: Args },
     Stop(Group),
@@ -46,7 +46,7 @@ pub enum Op {
 }
 
 impl Group {
-    /// Whether the component of this number is of the group: `All` is all parallel components, that is all but 0.
+    /// Whether the component of this number is of the group: `All` is all parallel components, that is all except 0.
     pub fn is_of(self, comp: u32) -> bool
         ensures { result ≡ group.is_of self comp }
     {

@@ -25,7 +25,7 @@ impl Model for Shard {
 }
 
 impl Shard {
-    /// The shard of this number, which counts from 1, of so many; none where no shard has it.
+    /// The shard of this number, which counts from 1, of that many; none if no shard has it.
     pub fn new(number: u32, of: u32) -> Option<Shard>
         ensures some { IfSome result (λ s. IsShard s × (number ≡ s.place + 1) × (of ≡ s.shards)) }
         ensures none { IfNone result (HasNoShard number of) }

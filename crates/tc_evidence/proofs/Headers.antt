@@ -27,7 +27,7 @@ header_spelled text r1 r2 r3 r4 behind h word named space number ends header =
     ap lines_of (word ∙ (ap (λ l. kind_text h.kind ++ l) (named ∙ ap (λ l. h.name ++ l) (space ∙ ap (λ l. 32 ∷ l) number)) ∙ sym (header_assoc h r4)))
     ∙ line_ended (header_text h) r4 behind (some_kind h.kind (h.name ++ (32 ∷ decimal h.behaviours))) (plain_no_lf (header_text h) (quiet_plain (header_text h) (header_quiet h header))) ends
 
--- the text is that of a header, and a line's end stands behind it
+-- the text is that of a header, and a line's end is after it
 pub record BeginsWithHeader (text : List ℕ) (h : Header) (others : List (List ℕ)) : Type 0 where
   pub rest : List ℕ
   pub behind : List ℕ

@@ -27,7 +27,7 @@ IsNoEndLine text = (v : Verdict) (others : List (List ℕ)) → lines_of text �
 abbrev pub IsNoHeaderLine : List ℕ → Type 0
 IsNoHeaderLine text = (h : Header) (others : List (List ℕ)) → IsHeader h → lines_of text ≡ header_text h ∷ others → ⊥
 
--- what reading a first line tells: it is that of this block or verdict
+-- what reading a first line shows: it is that of this block or verdict
 abbrev pub IsThatHeader : List ℕ → Header → List ℕ → Type 0
 IsThatHeader text h rest = (g : Header) (others : List (List ℕ)) → IsHeader g → lines_of text ≡ header_text g ∷ others → (h ≡ g) × (lines_of rest ≡ others)
 
@@ -158,7 +158,7 @@ bad_start text some none =
 
 -- ---- a block: its first line, and what comes inside
 
--- the lines of a block, and others behind them
+-- the lines of a block, and others after them
 block_and : (b : Block) (others : List (List ℕ)) → block_lines b ++ others ≡ header_text b.header ∷ (map line_text b.lines ++ end_text b.verdict ∷ others)
 block_and b others = ap (λ l. header_text b.header ∷ l) (append_assoc (map line_text b.lines) (end_text b.verdict ∷ []) others)
 
@@ -195,7 +195,7 @@ is_taken text rest after line h inside v lines header only less taken = record {
       (same_block h line inside v c that.header_is (sym is.first) three.0 three.1, three.2);
 }
 
--- a fault behind a first line
+-- a fault after a first line
 pub bad_behind : (text rest : List ℕ) (line : ℕ) (h : Header) (fault : TextFault) → lines_of text ≡ header_text h ∷ lines_of rest → IsHeader h → IsInsideFault h.kind h.behaviours rest (line + 1) fault → IsBlockFault text line fault
 bad_behind text rest line h (F.At at T.Early) lines header bad = record { header = h; behind = rest; header_is = header; lines = lines; bad = bad }
 bad_behind text rest line h (F.At at T.Entry) lines header bad = record { header = h; behind = rest; header_is = header; lines = lines; bad = bad }

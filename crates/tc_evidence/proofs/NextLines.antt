@@ -25,7 +25,7 @@ low k n few small = omega (arith, few, small)
 
 -- ---- what a run says
 
--- reading what a run says tells that the first line is no other such line
+-- reading what a run says shows that the first line is no other such line
 abbrev pub IsThatSaid : ℕ → List ℕ → Run → Bool → List ℕ → List ℕ → Type 0
 IsThatSaid n text run refused bytes rest = (r : Bool) (k : ℕ) (sentence : List ℕ) (others : List (List ℕ)) → k < n → ArePlain sentence → lines_of text ≡ said_text r k sentence ∷ others →
     (run.0 ≡ k) × (refused ≡ r) × (bytes ≡ sentence) × (lines_of rest ≡ others)
@@ -115,7 +115,7 @@ note_of_said n before text none (Some r) is = record { spelled = is.spelled; fit
     only_by (L.Remark run sentence) others fits lines = is.only (L.Remark run sentence) others (fits.1.few, fits.1.sentence_is) lines
     only_by (L.Refused run sentence) others fits lines = is.only (L.Refused run sentence) others (fits.1.few, fits.1.sentence_is) lines
 
--- reading a name tells that the first line is no other name
+-- reading a name shows that the first line is no other name
 abbrev pub IsThatNaming : ℕ → List ℕ → Run × List ℕ → List ℕ → Type 0
 IsThatNaming n text p rest = (k : ℕ) (name : List ℕ) (others : List (List ℕ)) → k < n → IsName name → lines_of text ≡ naming_text k name ∷ others → (p ≡ (record { 0 = k }, name)) × (lines_of rest ≡ others)
 

@@ -49,7 +49,7 @@ naming_spelled text r1 r2 r3 r4 behind k name word number space named ends fits 
     ap lines_of (word ∙ (ap (λ l. codes "behaviour " ++ l) (number ∙ ap (λ l. decimal k ++ l) (space ∙ ap (λ l. 32 ∷ l) named)) ∙ sym (naming_assoc k name r4)))
     ∙ line_ended (naming_text k name) r4 behind (λ e. cc) (plain_no_lf (naming_text k name) (quiet_plain (naming_text k name) (naming_quiet k name fits is))) ends
 
--- the text is that of a name, and a line's end stands behind it
+-- the text is that of a name, and a line's end is after it
 pub record BeginsWithNaming (text : List ℕ) (k : ℕ) (name : List ℕ) (others : List (List ℕ)) : Type 0 where
   pub rest : List ℕ
   pub behind : List ℕ
@@ -103,7 +103,7 @@ said_spelled text r1 r2 r3 behind refused k sentence number mark said ends fits 
     ap lines_of (number ∙ (ap (λ l. decimal k ++ l) (mark ∙ ap (λ l. mark_text refused ++ l) said) ∙ sym (said_assoc refused k sentence r3)))
     ∙ line_ended (said_text refused k sentence) r3 behind (some_said refused k sentence fits) (plain_no_lf (said_text refused k sentence) (said_plain refused k sentence fits (all_plain sentence plain))) ends
 
--- the text is that of what a run says, and a line's end stands behind it
+-- the text is that of what a run says, and a line's end is after it
 pub record BeginsWithSaid (text : List ℕ) (refused : Bool) (k : ℕ) (sentence : List ℕ) (others : List (List ℕ)) : Type 0 where
   pub rest : List ℕ
   pub behind : List ℕ
@@ -132,7 +132,7 @@ ends_plain rest behind (inr more) = λ b after e. let same : ◌≡◌ {A = ℕ}
 unplain : (b : ℕ) → is_plain b ≡ true → is_plain b ≡ false → ⊥
 unplain b is other = let e = sym is ∙ other in cc
 
--- a text has one place before which all bytes are from 32 to 126, and behind which none or another comes first
+-- a text has one place before which all bytes are from 32 to 126, and after which none or another comes first
 pub same_plain : (sentence rest before after : List ℕ) → ArePlain sentence → NoPlainFirst rest → ArePlain before → NoPlainFirst after → sentence ++ rest ≡ before ++ after → (before ≡ sentence) × (after ≡ rest)
 same_plain [] rest [] after all ends all' ends' e = (refl, sym e)
 same_plain [] rest (b ∷ bs) after all ends all' ends' e = absurd (unplain b all'.0 (ends b (bs ++ after) e))
@@ -156,7 +156,7 @@ digits_high (d ∷ ds) all = let two = both (is_ascii_digit d) (all_ascii_digits
     high : (b : ℕ) → is_ascii_digit b ≡ true → 48 ≤ b
     high b digit = grind (arith, nat_tests)
 
--- behind two numbers that end with a space the same comes
+-- after two numbers that end with a space the same comes
 behind_numbers : (n m : ℕ) (xs ys : List ℕ) → n < 2 ^ 32 → m < 2 ^ 32 → decimal n ++ (32 ∷ xs) ≡ decimal m ++ (32 ∷ ys) → xs ≡ ys
 behind_numbers n m xs ys one two e =
     let cut = same_cut (decimal n) (32 ∷ xs) (decimal m) (32 ∷ ys) (digits_high (decimal n) (spelled_digits n one).0) (space_ends xs) (digits_high (decimal m) (spelled_digits m two).0) (space_ends ys) e in

@@ -54,7 +54,7 @@ pub record IsNext (may : Line → Type 0) (text : List ℕ) (l : Line) (rest : L
 abbrev pub IsNone : (Line → Type 0) → List ℕ → Type 0
 IsNone may text = (m : Line) (others : List (List ℕ)) → may m → lines_of text ≡ line_text m ∷ others → ⊥
 
--- the line that may come which the first line spells, and what stands behind it, if it spells one
+-- the line that may come which the first line spells, and what follows it, if it spells one
 abbrev pub IsFound : (Line → Type 0) → List ℕ → Option (Line × Bor (List ℕ)) → Type 0
 IsFound may text None = IsNone may text
 IsFound may text (Some r) = IsNext may text r.0 r.1.now

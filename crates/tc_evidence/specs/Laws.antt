@@ -1,4 +1,4 @@
--- Laws of evidence: what it says beside a history, and what bytes it has.
+-- Laws of evidence: what it says next to a history, and what bytes it has.
 use Rattle.std.specs.Prelude.{ℕ, ◌≡◌, ◌↔◌, ◌==◌, ◌||◌, ◌&&◌, not, Bool, true, List, [], ◌∷◌, ◌++◌, if◌then◌else◌, map, reverse}
 use Rattle.std.specs.List.{list_all}
 use Rattle.tc_verdict.specs.declared.verdict.Verdict.{Verdict}
@@ -86,5 +86,5 @@ pub record BytesOfEvidence : Type 0 where
   -- neither a first nor a last line has a `<`
   pub first_bytes : (h : Header) → IsHeader h → list_all is_quiet_byte (header_text h) ≡ true
   pub last_bytes : (v : Verdict) → list_all is_quiet_byte (end_text v) ≡ true
-  -- nor has a line inside, but for a remark and a refused line
+  -- nor has a line inside, except a remark and a refused line
   pub line_bytes : (kind : Kind) (n : ℕ) (before : List Line) (l : Line) → IsBehaviours n → IsLine kind n before l → (IsSaid l → ⊥) → list_all is_quiet_byte (line_text l) ≡ true

@@ -13,7 +13,7 @@ use Rattle.tc_evidence.specs.declared.line.Line.TheVariants as L
 abbrev pub naming_text : ℕ → List ℕ → List ℕ
 naming_text run name = codes "behaviour " ++ (decimal run ++ (codes " " ++ name))
 
--- what stands between a run and its sentence: a remark has `#`, a refused line `!`
+-- what is between a run and its sentence: a remark has `#`, a refused line `!`
 abbrev pub mark_text : Bool → List ℕ
 mark_text false = codes " # "
 mark_text true = codes " ! "

@@ -47,7 +47,7 @@ pub record IsBadStart (text : List ℕ) : Type 0 where
   pub lines : lines_of text ≡ bad_line ∷ others
   pub bad : (h : Header) → IsHeader h → bad_line ≢ header_text h
 
--- a first line, and behind it a fault
+-- a first line, and after it a fault
 pub record IsBadBehind (text : List ℕ) (first : ℕ) (fault : TextFault) : Type 0 where
   pub header : Header
   pub behind : List ℕ

@@ -129,7 +129,7 @@ IsEvidenceFaultAt text line T.FirstLine = IsBadHeader text line
 IsEvidenceFaultAt text line T.Entry = IsBadLine text line
 IsEvidenceFaultAt text line T.Move = ⊥
 
--- what a fault says of the text; want of memory says nothing
+-- what a fault says of the text; if memory runs out, nothing is said
 abbrev pub IsEvidenceFault : List ℕ → TextFault → Type 0
 IsEvidenceFault text (F.At line kind) = IsEvidenceFaultAt text line kind
 IsEvidenceFault text F.NoMemory = Unit {0}

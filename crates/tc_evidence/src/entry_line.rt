@@ -14,7 +14,7 @@ use crate::header::Kind;
 use tc_entry::{Entry, Op, Reply, Verdict};
 use tc_text::{after, take_line_end, take_move, take_reply, take_verdict};
 
-/// The overall verdict, where the first line is the last one of a block, and what stands behind that line.
+/// The overall verdict, if the first line is the last one of a block, and what follows that line.
 pub(crate) fn take_end_line(text: &[u8]) -> Option<(Verdict, &[u8])>
     ensures spelled { IfSome result (λ r. lines_of text.now ≡ end_text r.0 ∷ lines_of r.1.now) }
     ensures less { IfSome result (λ r. length r.1.now < length text.now) }
@@ -26,7 +26,7 @@ pub(crate) fn take_end_line(text: &[u8]) -> Option<(Verdict, &[u8])>
     Some((verdict, rest))
 }
 
-// The reply behind a move, and what stands behind the line, which it ends.
+// The reply after a move, and what follows the line, which it ends.
 fn take_outcome(text: &[u8]) -> Option<(Reply, &[u8])>
     ensures spelled { IfSome result (λ r. lines_of text.now ≡ outcome_text r.0 ∷ lines_of r.1.now) }
     ensures fits { IfSome result (λ r. IsReply r.0) }
@@ -50,7 +50,7 @@ fn may_call(kind: Kind, op: &Op) -> bool
     }
 }
 
-/// The entry of a block of this kind that the first line spells, and what stands behind that line.
+/// The entry of a block of this kind that the first line spells, and what follows that line.
 pub(crate) fn take_entry(kind: Kind, text: &[u8]) -> Option<(Entry, &[u8])>
     ensures spelled { IfSome result (λ r. lines_of text.now ≡ entry_text r.0 ∷ lines_of r.1.now) }
     ensures fits { IfSome result (λ r. IsEntry (format_of kind) r.0) }

@@ -22,7 +22,7 @@ pub enum Kind {
     History1,
     /// A history of format 2.
     History2,
-    /// Evidence: beside entries it has names of behaviours, remarks and refused lines.
+    /// Evidence: next to entries it has names of behaviours, remarks and refused lines.
     Evidence,
 }
 
@@ -37,7 +37,7 @@ pub struct Header {
     pub behaviours: u16,
 }
 
-// Whether a block of so many behaviours may be of this kind.
+// Whether a block of that many behaviours may be of this kind.
 fn may_have(kind: Kind, behaviours: u16) -> bool
     ensures { IsTrue result ↔ (kind ≡ kinds.History1 → behaviours ≤ 64) }
 {
@@ -47,7 +47,7 @@ fn may_have(kind: Kind, behaviours: u16) -> bool
     }
 }
 
-// The kind that the text begins with the words of, and what stands behind them.
+// The kind that the text begins with the words of, and what follows them.
 fn take_kind(text: &[u8]) -> Option<(Kind, &[u8])>
     ensures spelled { IfSome result (λ r. text.now ≡ kind_text r.0 ++ r.1.now) }
     ensures only { (k : AnyKind) (rest : List ℕ) → text.now ≡ kind_text k ++ rest → Takes result k rest }
@@ -63,8 +63,8 @@ fn take_kind(text: &[u8]) -> Option<(Kind, &[u8])>
     }
 }
 
-// The number of behaviours behind the name, where a block of this kind may have so many, and what stands behind the line,
-// which it ends.
+// The number of behaviours after the name, if a block of this kind may have that many, and what follows the line, which
+// it ends.
 fn take_behaviours(kind: Kind, text: &[u8]) -> Option<(u16, &[u8])>
     ensures spelled { IfSome result (λ r. (rest : List ℕ) × (text.now ≡ 32 ∷ (decimal r.0 ++ rest)) × EndsLine rest r.1.now) }
     ensures fits { IfSome result (λ r. IsBehaviours r.0 × (kind ≡ kinds.History1 → r.0 ≤ 64)) }
@@ -82,7 +82,7 @@ fn take_behaviours(kind: Kind, text: &[u8]) -> Option<(u16, &[u8])>
     Some((behaviours, rest))
 }
 
-/// What the first line says, where it is the first one of a block, and what stands behind that line.
+/// What the first line says, if it is the first one of a block, and what follows that line.
 pub(crate) fn take_first_line(text: &[u8]) -> Option<(Header, &[u8])>
     ensures spelled { IfSome result (λ r. lines_of text.now ≡ header_text r.0 ∷ lines_of r.1.now) }
     ensures fits { IfSome result (λ r. IsHeader r.0) }

@@ -16,7 +16,7 @@ use std::alloc::Global;
 use tc_entry::{Name, NoMemory, Run};
 use tc_text::{after, is_plain, take_line_end, take_name, take_number};
 
-// The number of a run of the case that the text begins with, and what stands behind it.
+// The number of a run of the case that the text begins with, and what follows it.
 fn take_run(behaviours: u16, text: &[u8]) -> Option<(Run, &[u8])>
     ensures spelled { IfSome result (λ r. text.now ≡ decimal r.0.0 ++ r.1.now) }
     ensures few { IfSome result (λ r. (r.0.0 < behaviours) × (r.0.0 < 2 ^ 16)) }
@@ -31,7 +31,7 @@ fn take_run(behaviours: u16, text: &[u8]) -> Option<(Run, &[u8])>
     }
 }
 
-// The run and the name of its behaviour that the first line spells, and what stands behind that line.
+// The run and the name of its behaviour that the first line spells, and what follows that line.
 fn take_naming(behaviours: u16, text: &[u8]) -> Option<((Run, Name), &[u8])>
     ensures spelled { IfSome result (λ r. lines_of text.now ≡ naming_text r.0.0.0 r.0.1 ∷ lines_of r.1.now) }
     ensures fits { IfSome result (λ r. (r.0.0.0 < behaviours) × IsName r.0.1) }
@@ -47,7 +47,7 @@ fn take_naming(behaviours: u16, text: &[u8]) -> Option<((Run, Name), &[u8])>
     Some(((run, name), rest))
 }
 
-// The mark that the text begins with, whether it is that of a refused line, and what stands behind it.
+// The mark that the text begins with, whether it is that of a refused line, and what follows it.
 fn take_mark(text: &[u8]) -> Option<(bool, &[u8])>
     ensures spelled { IfSome result (λ r. text.now ≡ mark_text r.0 ++ r.1.now) }
     ensures only { (refused : Bool) (rest : List ℕ) → text.now ≡ mark_text refused ++ rest → Takes result refused rest }
@@ -75,7 +75,7 @@ fn cut_plain(text: &[u8]) -> (&[u8], &[u8])
     text.split_at(text.len())
 }
 
-// The run that says something in the first line, whether that is a refused line, what it says, and what stands behind that
+// The run that says something in the first line, whether that is a refused line, what it says, and what follows that
 // line.
 fn take_said(behaviours: u16, text: &[u8]) -> Option<((Run, bool, &[u8]), &[u8])>
     ensures spelled { IfSome result (λ r. lines_of text.now ≡ said_text r.0.1 r.0.0.0 r.0.2.now ∷ lines_of r.1.now) }
@@ -107,7 +107,7 @@ fn say(alloc: Global, run: Run, refused: bool, bytes: &[u8]) -> Result<Option<Li
     }
 }
 
-// What a run of the case says in the first line, as a line, and what stands behind that line.
+// What a run of the case says in the first line, as a line, and what follows that line.
 fn take_said_line(
     alloc: Global,
     behaviours: u16,
@@ -124,7 +124,7 @@ fn take_said_line(
     }
 }
 
-// The line that names the run's behaviour, and what stands behind it, unless a line before is about the run.
+// The line that names the run's behaviour, and what follows it, unless a line before is about the run.
 fn name_run<'a>(before: &[Line], naming: (Run, Name), rest: &'a [u8]) -> Option<(Line, &'a [u8])>
     ensures { MatchOption result (met naming.0.0 before.now ≡ true)
         (λ r. (met naming.0.0 before.now ≡ false) × (r.0 ≡ lines.Named naming.0 naming.1) × (r.1.now ≡ rest.now)) }
@@ -136,7 +136,7 @@ fn name_run<'a>(before: &[Line], naming: (Run, Name), rest: &'a [u8]) -> Option<
     Some((Line::Named { run, name }, rest))
 }
 
-/// The line of evidence that is no entry and may come after these lines, which the first line spells, and what stands behind
+/// The line of evidence that is no entry and may come after these lines, which the first line spells, and what follows
 /// that line.
 pub(crate) fn take_note<'a>(
     alloc: Global,

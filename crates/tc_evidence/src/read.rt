@@ -19,7 +19,8 @@ use std::alloc::Global;
 use tc_entry::{NoMemory, Sequence, Verdict};
 use tc_text::{TextFault, TextKind};
 
-// The line that may come inside such a block after these lines, which the first line spells, and what stands behind that line.
+// The line that may come inside such a block after these lines, which the first line spells, and what follows that
+// line.
 fn take_line<'a>(
     alloc: Global,
     kind: Kind,
@@ -38,7 +39,8 @@ fn take_line<'a>(
     }
 }
 
-// Takes the lines inside a block that the text begins with, and its last line; gives the verdict, and what stands behind them.
+// Takes the lines inside a block that the text begins with, and its last line; gives the verdict, and what follows
+// them.
 fn take_lines<'a>(
     alloc: Global,
     kind: Kind,
@@ -71,7 +73,7 @@ fn take_lines<'a>(
     Err(TextFault::at(line, TextKind::Early))
 }
 
-/// Takes the block that the text begins with, whose first line has this number; gives what stands behind it.
+/// Takes the block that the text begins with, whose first line has this number; gives what follows it.
 pub fn take_block(
     alloc: Global,
     text: &[u8],
@@ -131,8 +133,8 @@ fn take_blocks(alloc: Global, blocks: &mut Sequence<Block>, text: &[u8]) -> Resu
     Ok(())
 }
 
-/// The blocks that the text spells, histories and evidence in any order, else its first fault; NoMemory may stand in place of
-/// either.
+/// The blocks that the text spells, histories and evidence in any order, otherwise its first fault; NoMemory may come
+/// instead.
 pub fn read_evidence(alloc: Global, text: &[u8]) -> Result<Sequence<Block>, TextFault>
     ensures ok { IfOk result (λ blocks. AreEvidence text.now blocks) }
     ensures fault { IfErr result (λ e. IsEvidenceFault text.now e) }

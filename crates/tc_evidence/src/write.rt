@@ -24,7 +24,7 @@ fn words_of(kind: Kind) -> &'static str
     }
 }
 
-/// Appends the first line of a block; where memory is refused, a part of it.
+/// Appends the first line of a block; if memory runs out, a part of it.
 pub fn append_first_line(out: &mut Vec<u8>, header: &Header) -> Result<(), NoMemory>
     ensures ok { OnOk result (out.new.items ≡ out.old.items ++ ended (header_text header.now)) }
     ensures err { OnErr result (StartsWith out.new.items out.old.items) }
@@ -37,7 +37,7 @@ pub fn append_first_line(out: &mut Vec<u8>, header: &Header) -> Result<(), NoMem
     Ok(())
 }
 
-// Appends the name of a run's behaviour, without the line's end; where memory is refused, a part of it.
+// Appends the name of a run's behaviour, without the line's end; if memory runs out, a part of it.
 fn append_naming(out: &mut Vec<u8>, run: Run, name: &Name) -> Result<(), NoMemory>
     ensures ok { OnOk result (out.new.items ≡ out.old.items ++ naming_text run.0 name.now) }
     ensures err { OnErr result (StartsWith out.new.items out.old.items) }
@@ -49,7 +49,7 @@ fn append_naming(out: &mut Vec<u8>, run: Run, name: &Name) -> Result<(), NoMemor
     Ok(())
 }
 
-// Appends an entry, without the line's end; where memory is refused, a part of it.
+// Appends an entry, without the line's end; if memory runs out, a part of it.
 fn append_entry(out: &mut Vec<u8>, entry: &Entry) -> Result<(), NoMemory>
     ensures ok { OnOk result (out.new.items ≡ out.old.items ++ entry_text entry.now) }
     ensures err { OnErr result (StartsWith out.new.items out.old.items) }
@@ -59,14 +59,14 @@ fn append_entry(out: &mut Vec<u8>, entry: &Entry) -> Result<(), NoMemory>
     write_reply(out, &entry.reply)
 }
 
-// What stands between a run and its sentence.
+// What is between a run and its sentence.
 fn mark_of(refused: bool) -> &'static str
     ensures { result.now ≡ mark_text refused }
 {
     if refused { " ! " } else { " # " }
 }
 
-// Appends what a run says, without the line's end; where memory is refused, a part of it.
+// Appends what a run says, without the line's end; if memory runs out, a part of it.
 fn append_said(
     out: &mut Vec<u8>,
     run: Run,
@@ -82,7 +82,7 @@ fn append_said(
     Ok(())
 }
 
-// Appends the line without its end; where memory is refused, a part of it.
+// Appends the line without its end; if memory runs out, a part of it.
 fn append_words(out: &mut Vec<u8>, line: &Line) -> Result<(), NoMemory>
     ensures ok { OnOk result (out.new.items ≡ out.old.items ++ line_text line.now) }
     ensures err { OnErr result (StartsWith out.new.items out.old.items) }
@@ -95,7 +95,7 @@ fn append_words(out: &mut Vec<u8>, line: &Line) -> Result<(), NoMemory>
     }
 }
 
-/// Appends a line inside a block; where memory is refused, a part of it.
+/// Appends a line inside a block; if memory runs out, a part of it.
 pub fn append_line(out: &mut Vec<u8>, line: &Line) -> Result<(), NoMemory>
     ensures ok { OnOk result (out.new.items ≡ out.old.items ++ ended (line_text line.now)) }
     ensures err { OnErr result (StartsWith out.new.items out.old.items) }
@@ -105,7 +105,7 @@ pub fn append_line(out: &mut Vec<u8>, line: &Line) -> Result<(), NoMemory>
     Ok(())
 }
 
-// Appends each line; where memory is refused, a part of them.
+// Appends each line; if memory runs out, a part of them.
 fn append_lines(out: &mut Vec<u8>, lines: &[Line]) -> Result<(), NoMemory>
     ensures ok { OnOk result (out.new.items ≡ out.old.items ++ flat_map (λ l. ended (line_text l)) lines.now) }
     ensures err { OnErr result (StartsWith out.new.items out.old.items) }
@@ -116,7 +116,7 @@ fn append_lines(out: &mut Vec<u8>, lines: &[Line]) -> Result<(), NoMemory>
     Ok(())
 }
 
-/// Appends the last line of a block; where memory is refused, a part of it.
+/// Appends the last line of a block; if memory runs out, a part of it.
 pub fn append_end(out: &mut Vec<u8>, verdict: Verdict) -> Result<(), NoMemory>
     ensures ok { OnOk result (out.new.items ≡ out.old.items ++ ended (end_text verdict)) }
     ensures err { OnErr result (StartsWith out.new.items out.old.items) }
@@ -127,7 +127,7 @@ pub fn append_end(out: &mut Vec<u8>, verdict: Verdict) -> Result<(), NoMemory>
     Ok(())
 }
 
-/// Appends the text of a block. Where memory is refused, nothing is appended.
+/// Appends the text of a block. If memory runs out, nothing is appended.
 pub fn append_whole_block(
     out: &mut Vec<u8>,
     header: &Header,

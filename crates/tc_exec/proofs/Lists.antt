@@ -17,7 +17,7 @@ passed done x xs ys all whole first = over done ∙ (rw (← first) whole)
     over [] = refl
     over (z ∷ zs) = ap (λ q. z ∷ q) (over zs)
 
--- nothing stands behind a first part that is as long as the whole
+-- nothing is after a first part that is as long as the whole
 pub whole : {A : Type 0} (xs ys all : List A) → xs ++ ys ≡ all → length xs ≡ length all → xs ≡ all
 whole xs [] all is long = sym (append-nil xs) ∙ is
 whole xs (y ∷ ys) all is long = absurd (omega (arith, long, ap length is, length-append xs (y ∷ ys)))

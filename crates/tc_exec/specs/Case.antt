@@ -18,9 +18,9 @@ abbrev pub WasStartedIn : List Entry → RunLog → Type 0
 WasStartedIn history log = 0 < log.run.0 → (args : List Comp) × (start_of (reverse history) log.run.0 ≡ Some (log.comp, args))
 
 -- The report of a case of n behaviours. It has one history of one thread, in which each reply is the component table's
--- at that point, and the logs are the parts of this history; once an entry has ended the case no component is alive; the
--- verdict is the worst of the local verdicts. A behaviour other than that of run 0 has a log only where a Start of its run
--- was replied Ok. That these logs are those of the passes that the behaviours handed back is IsMadeOf.
+-- at that point, and the logs are the parts of this history. Once an entry has ended the case no component is alive.
+-- The verdict is the worst of the local verdicts. A behaviour other than that of run 0 has a log only if a Start of its
+-- run was replied Ok. That these logs are those of the passes that the behaviours handed back is IsMadeOf.
 pub record IsCaseReport (n : ℕ) (c : Closed) : Type 0 where
   -- the history, the logs, the local verdicts and the overall verdict
   pub one_history : IsOneHistory c
@@ -34,8 +34,9 @@ pub record IsCaseReport (n : ℕ) (c : Closed) : Type 0 where
 abbrev pub AreCalled : {B : Type 0} → (B → PassState → Back → Type 0) → List B → Closed → Type 0
 AreCalled outcome jobs c = (k : ℕ) (b : _) → k < length jobs → comp_of (reverse c.history) k ≢ None → WasCalledFor (record { 0 = k }) (outcome (slice_index_or jobs k b))
 
--- What a report was made of: each behaviour was called with a new pass of its run, was not refused memory, and the pass that it handed back
--- has left, or its run was never started; and what they left is whole, so that the logs of the report are the logs of these passes.
+-- What a report was made of. Each behaviour was called with a new pass of its run, did not run out of memory, and the
+-- pass that it handed back has left, or its run was never started. What they left is whole, so the logs of the report
+-- are the logs of these passes.
 pub record IsMadeOf {B : Type 0} (outcome : B → PassState → Back → Type 0) (jobs : List B) (c : Closed) : Type 0 where
   pub runs : List Run
   pub lefts : List LeftState
@@ -46,8 +47,8 @@ pub record IsMadeOf {B : Type 0} (outcome : B → PassState → Back → Type 0)
   pub main : (l : LeftState) → (slice_index_or lefts 0 l).started ≢ None
   pub whole : IsWhole c.behaviours c.history lefts
 
--- What was handed back of a case, whole or not: each behaviour was called with a new pass of its run, was not refused memory, and the pass
--- that it handed back has left, or its run was never started.
+-- What was handed back of a case, whole or not. Each behaviour was called with a new pass of its run, did not run out
+-- of memory, and the pass that it handed back has left; or its run was never started.
 pub record IsHandedBack {B : Type 0} (outcome : B → PassState → Back → Type 0) (jobs : List B) : Type 0 where
   pub runs : List Run
   pub lefts : List LeftState

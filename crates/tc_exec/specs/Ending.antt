@@ -5,7 +5,8 @@ use Rattle.tc_book.specs.declared.halt.Halt.TheVariants as H
 use Rattle.tc_exec.specs.declared.job.Ending.{Ending}
 use Rattle.tc_exec.specs.declared.job.Ending.TheVariants as E
 
--- why a behaviour comes back after its calls, of which all were made or one was answered by a halt: Starved where memory was refused
+-- why a behaviour comes back after its calls, of which all were made or one was answered by a halt: Starved if memory
+-- ran out
 abbrev pub ending_after : Result (Unit {0}) Halt → Ending
 ending_after (Err H.NoMemory) = E.Starved
 ending_after _ = E.Returned

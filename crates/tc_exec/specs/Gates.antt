@@ -1,4 +1,5 @@
--- Who was asked before the workers were made. A gate says by `asks` what one question does to it, and how it is answered.
+-- The questions that a gate was asked before the workers were made. A gate says by `asks` what one question does to it,
+-- and how it is answered.
 use Rattle.std.specs.Prelude.{ℕ, ◌≡◌, ◌+◌, ◌<◌, Bool, true, List, [], ◌∷◌, ◌++◌, length, slice_index_or}
 use Rattle.tc_verdict.specs.declared.run.Run.{Run}
 
@@ -8,7 +9,8 @@ module _ {G : Type 0} (asks : G → Run → G → Bool → Type 0) where
   AreAllowed [] before after = after ≡ before
   AreAllowed (run ∷ runs) before after = (between : G) × asks before run between true × AreAllowed runs between after
 
-  -- the gate was asked about some of these runs, the first of them, each once, in their order; all but the last were allowed
+  -- the gate was asked about some of these runs, the first of them, each once, in their order; all except the last were
+  -- allowed
   pub record IsAskedUpTo (runs : List Run) (before after : G) : Type 0 where
     pub asked : List Run
     pub last : Run
@@ -31,7 +33,8 @@ module _ {G : Type 0} (asks : G → Run → G → Bool → Type 0) where
     pub others : AreOthers n runs
     pub each : AreAllowed asks runs before after
 
-  -- of n behaviours the gate was asked about some runs from 1 on, each once, in their order, and allowed all but the last
+  -- of n behaviours the gate was asked about some runs from 1 on, each once, in their order, and allowed all except the
+  -- last
   pub record IsStopped (n : ℕ) (before after : G) : Type 0 where
     pub runs : List Run
     pub others : AreOthers n runs

@@ -20,7 +20,7 @@ abbrev pub handed_on : Result Closed CloseFault → Result Closed CaseError
 handed_on (Ok c) = Ok c
 handed_on (Err fault) = Err (of_close fault)
 
--- memory was refused to the behaviour
+-- memory ran out in the behaviour
 abbrev pub is_starved : Ending → Bool
 is_starved E.Starved = true
 is_starved E.Returned = false
@@ -46,7 +46,8 @@ abbrev pub KeepsFirst : List LeftState → List LeftState → Type 0
 KeepsFirst before after = (d : LeftState) → 0 < length before → slice_index_or after 0 d ≡ slice_index_or before 0 d
 
 module _ {B : Type 0} (outcome : B → PassState → Back → Type 0) where
-  -- unless memory was refused to a behaviour, what was gathered is what the workers of these runs left, each with its own behaviour
+  -- unless memory ran out in a behaviour, what was gathered is what the workers of these runs left, each with its own
+  -- behaviour
   abbrev pub Gathers : List Run → List B → Gathered → Type 0
   Gathers runs behaviours g = g.starved ≡ false → AreLeftBy outcome runs behaviours g.lefts.items
 

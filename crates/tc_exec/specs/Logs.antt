@@ -9,9 +9,9 @@ use Rattle.tc_exec.specs.declared.job.Back.{Back}
 use Rattle.tc_exec.specs.declared.job.Ending.TheVariants as E
 use Rattle.tc_exec.specs.Workers.{WasStarted}
 
--- The log is that of a pass of its run: new when the behaviour was called with it, on the component and with the arguments of the
--- run's Start; the behaviour was not refused memory, and the log is what the pass that it handed back has logged, with a
--- Finish behind where that pass had not ended.
+-- The log is that of a pass of its run, which was new when the behaviour was called with it, on the component and with
+-- the arguments of the run's Start. The behaviour did not run out of memory. The log is what the pass that it handed
+-- back has logged, and then a Finish if that pass had not ended.
 pub record IsLogBy (outcome : PassState → Back → Type 0) (history : List Entry) (l : RunLog) : Type 0 where
   pub left : LeftState
   pub made : WasStarted l.run outcome (record { left = left; ending = E.Returned })

@@ -13,7 +13,7 @@ use Rattle.tc_exec.specs.declared.handed.Handed.{Handed}
 abbrev pub opening : PassState
 opening = record { run = record { 0 = 0 }; me = record { 0 = 0 }; args = []; log = [] }
 
--- this pass left so: with its log, and a Finish where it had not ended, with a reply that a Finish can get
+-- this pass left so: with its log, and a Finish if it had not ended, with a reply that a Finish can get
 pub record HasLeft (p : PassState) (l : LeftState) : Type 0 where
   pub run : l.run ≡ p.run
   pub started : l.started ≡ Some (p.me, p.args)
@@ -39,8 +39,8 @@ pub record WasStarted (run : Run) (outcome : PassState → Back → Type 0) (h :
   pub main : run.0 ≡ 0 → pass ≡ opening
   pub called : WasCalled (outcome pass) h
 
--- what was handed back is that of a run that was never started, which is all that this case says; or the behaviour was called with a
--- pass of the run, and what was handed back came of that call
+-- what was handed back is that of a run that was never started, which is all that this case says. Or the behaviour was
+-- called with a pass of the run, and this came of that call.
 abbrev pub IsWorked : Run → (PassState → Back → Type 0) → Handed → Type 0
 IsWorked run outcome h = (h ≡ unstarted run) ⊎ WasStarted run outcome h
 
@@ -54,7 +54,7 @@ pub record WasCalledFor (run : Run) (outcome : PassState → Back → Type 0) : 
   pub outcome_of : outcome pass back
 
 module _ {B : Type 0} (outcome : B → PassState → Back → Type 0) where
-  -- this is what the worker of a run left, whose behaviour was not refused memory
+  -- this is what the worker of a run left, whose behaviour did not run out of memory
   abbrev pub IsLeftBy : Run → B → LeftState → Type 0
   IsLeftBy run b l = IsWorked run (outcome b) (record { left = l; ending = E.Returned })
 

@@ -22,7 +22,7 @@ use tc_book::{Pass, Shared, close_case, open_case};
 use tc_case::{CaseError, CloseFault, Closed};
 use tc_entry::BEHAVIOURS;
 
-/// The number of behaviours, where so many jobs can be run on so many threads.
+/// The number of behaviours, if that many jobs can be run on that many threads.
 fn behaviours_of(jobs: usize, threads: u16) -> Result<u16, CaseError>
     ensures none { (jobs ≡ 0) ↔ (result ≡ Err NoBehaviours) }
     ensures many { (BEHAVIOURS < jobs) ↔ (result ≡ Err TooManyBehaviours) }
@@ -49,7 +49,7 @@ fn hand_on(closed: Result<Closed, CloseFault>) -> Result<Closed, CaseError>
     Ok(closed?)
 }
 
-/// Closes a case of which all runs have left. Where memory was refused to a behaviour, nothing else is judged.
+/// Closes a case of which all runs have left. If memory ran out in a behaviour, nothing else is judged.
 #[tactic(auto, using(crate::proofs::Reporting::case_report))]
 fn close<R: Wait>(
     rt: &R,
@@ -131,7 +131,7 @@ fn run_made<R: Threads + Wait, B: Callable>(
     close(rt, alloc, shared, gathered)
 }
 
-/// Room for the workers of so many runs, and for what they leave.
+/// Room for the workers of that many runs, and for what they leave.
 fn room_for<B: Callable>(
     alloc: Global,
     runs: usize,
@@ -181,15 +181,15 @@ fn run_jobs<R: Threads + Wait + Copy + Send + 'static, B: Callable, G: Gate>(
 
 /// Runs a test case: job k is the behaviour of run k (ES 201 873-1, the execute statement).
 ///
-/// Every job but job 0 has a worker, a thread that waits for the start of its run and then calls the job with the pass
-/// of the run; the job of a run that is never started is dropped. All workers are made before job 0 is called, on the
-/// calling thread, and all are joined before the call is answered. A worker's stack has `WORKER_STACK` bytes; one that needs more
-/// ends the process. Job 0 has the stack of the calling thread.
+/// Every job except job 0 has a worker, a thread that waits for the start of its run and then calls the job with the
+/// pass of the run. The job of a run that is never started is dropped. All workers are made before job 0 is called, on
+/// the calling thread, and all are joined before the call returns. A worker's stack has `WORKER_STACK` bytes; one that
+/// needs more ends the process. Job 0 has the stack of the calling thread.
 ///
-/// The report is one history of one thread, and each job of which the run was started was called with a new pass of that
-/// run. Refused are a case without jobs, one of more than 256, and one that needs more workers than `threads`; then,
-/// where no job is called, for want of memory or of a worker that could not be made; then for memory refused to a job;
-/// and then what the jobs handed back, if it is not whole. Jobs and workers are this project's own.
+/// The report is one history of one thread, and each job of which the run was started was called with a new pass of
+/// that run. A case is refused without jobs, with more than 256, and if it needs more workers than `threads`. Then,
+/// before any job is called, it is refused if memory runs out or a worker cannot be made. Last, it is refused if memory
+/// ran out in a job, or if what the jobs handed back is not whole. Jobs and workers are this project's own.
 pub fn run_case<R: Threads + Wait + Copy + Send + 'static>(
     rt: &R,
     alloc: Global,

@@ -1,4 +1,4 @@
-//! Who is asked before a worker is made.
+//! The gate that is asked before a worker is made.
 ghost use Rattle.std.specs.Prelude.{◌≡◌, Bool, true};
 ghost use Rattle.tc_verdict.specs.declared.run.Run.{Run};
 

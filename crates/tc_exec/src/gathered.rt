@@ -13,12 +13,12 @@ use tc_verdict::NoMemory;
 #[derive(Drop)]
 pub(crate) struct Gathered {
     pub(crate) lefts: Vec<Left>,
-    /// Whether memory was refused to a behaviour.
+    /// Whether memory ran out in a behaviour.
     pub(crate) starved: bool,
 }
 
 impl Gathered {
-    /// Nothing yet, with room for what so many runs leave.
+    /// Nothing yet, with room for what that many runs leave.
     pub(crate) fn new(alloc: Global, runs: usize) -> Result<Gathered, NoMemory>
         ensures room { IfOk result (λ g. vec_capacity g.lefts ≡ runs) }
         ensures empty { IfOk result (λ g. g.lefts.items ≡ []) }

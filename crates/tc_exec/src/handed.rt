@@ -34,8 +34,8 @@ pub(crate) fn act<R: Wait, B: Callable>(rt: &R, behaviour: B, pass: Pass) -> Han
     }
 }
 
-/// Waits for the start of the run, and calls the behaviour once with its pass. Where the run is never started the behaviour
-/// is dropped.
+/// Waits until the run is started, then calls the behaviour once with the run's pass. If the run is never started,
+/// drops the behaviour.
 pub(crate) fn work<R: Wait, B: Callable>(rt: &R, behaviour: B, ticket: Ticket) -> Handed
     ensures { IsWorked ticket (B.outcome behaviour) result }
 {

@@ -10,9 +10,9 @@ use tc_book::{Halt, Pass};
 /// Why a behaviour came back.
 #[derive(Clone, Copy, PartialEq, Eq, Debug)]
 pub enum Ending {
-    /// It made all its calls, or was told that it has ended.
+    /// It made all its calls, or a call was replied Ended.
     Returned,
-    /// Memory was refused to it.
+    /// It ran out of memory.
     Starved,
 }
 

@@ -29,7 +29,7 @@ impl<B: Callable> Promise<Handed> for Task<B> {
     ghost kept_by = { λ t h. IsWorked t.run (B.outcome t.behaviour.value) h };
 }
 
-/// The worker of a ticket; none where its thread could not be made.
+/// The worker of a ticket; none if its thread could not be made.
 fn worker_of<R: Threads + Wait + Copy + Send + 'static, B: Callable>(
     rt: &R,
     ticket: Ticket,

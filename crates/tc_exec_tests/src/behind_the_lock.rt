@@ -1,4 +1,4 @@
-//! The calls on the value behind the lock: their replies, and by which of them somebody who waits may go on.
+//! The calls on the value under the lock: their replies, and by which of them somebody who waits can continue.
 use crate::checks::{got, holds, is};
 use std::alloc::Global;
 use std::process::Abort;
@@ -8,7 +8,7 @@ use tc_book::laws::Book;
 use tc_table::{NoMemory, Op, Reply, Run};
 use tc_text::{read_move, read_reply};
 
-/// Each call, its reply, and whether somebody who waits may go on by it. A wake that goes on waiting has none.
+/// Each call, its reply, and whether somebody who waits can continue by it. A wake that keeps waiting has none.
 const CALLS: &str = "\
 0 create alive => made 1 => wakes nobody
 0 start 1 1 => ok => wakes
@@ -34,7 +34,7 @@ fn book_of_two(alloc: Global) -> Result<Book, NoMemory> {
     }
 }
 
-/// The reply to a call on a book, which takes no verdict call, and whether somebody who waits may go on by it.
+/// The reply to a call on a book, which takes no verdict call, and whether somebody who waits can continue by it.
 fn called(book: &mut Book, run: Run, op: Op) -> Option<(Reply, bool)> {
     if let Op::Wake { killed, target } = &op {
         return book.call_wake(run, *killed, *target);
@@ -45,7 +45,7 @@ fn called(book: &mut Book, run: Run, op: Op) -> Option<(Reply, bool)> {
     book.call(run, op).ok()
 }
 
-/// What a row tells of a call.
+/// What a row says about a call.
 fn told(reply: &str, effect: &str) -> Option<(Reply, bool)> {
     if effect == "none" {
         return None;

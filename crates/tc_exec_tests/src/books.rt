@@ -10,7 +10,7 @@ use tc_book::*;
 use tc_table::{Comp, Entry, Op, Reply, Run, UserVerdict, Verdict, replay_check};
 use tc_text::read_move;
 
-/// A closed case has so many entries and this overall verdict.
+/// A closed case has that many entries and this overall verdict.
 fn is_told(rt: &impl Abort, closed: &Closed, entries: usize, verdict: Verdict) {
     let history = closed.history.as_slice();
     is(rt, "entries of the history", history.len(), entries);
@@ -74,8 +74,8 @@ fn left_behind<R: Abort + Wait>(rt: &R, tickets: &mut Vec<Ticket>, row: &str) ->
     leave(rt, pass)
 }
 
-/// How a case is refused that is closed by what its first two runs left, and by what the third run of another case left: it was
-/// told the verdict that its component had there.
+/// How a case is refused that is closed by what its first two runs left, and by what the third run of another case
+/// left: it got the verdict that its component had there.
 fn closed_by_another_reply<R: Abort + Wait>(rt: &R, alloc: Global) -> Option<CloseFault> {
     let (_, _, _, told) = one_after_the_other(
         rt,
@@ -159,7 +159,7 @@ fn are_of_rows(rt: &impl Abort, history: &[Entry], rows: &str) {
     }
 }
 
-/// Names stand in the report; two components may have the same, and none is an error.
+/// Names are in the report; two components may have the same, and none is an error.
 #[test]
 fn components_with_names(rt: HostRuntime) {
     let (shared, pass, _) = got(&rt, open(rt.alloc(), 1));

@@ -19,7 +19,7 @@ pub(crate) fn open(alloc: Global, behaviours: u16) -> Result<(Shared, Pass, Vec<
     }
 }
 
-/// The pass of a run, or what it leaves where it was never started.
+/// The pass of a run, or what it leaves if it was never started.
 pub(crate) fn await_start<R: Wait>(rt: &R, ticket: Ticket) -> Result<Pass, Left> {
     ticket.await_start(rt)
 }
@@ -46,7 +46,7 @@ pub(crate) fn unstarted<R: Abort + Wait>(rt: &R, tickets: &mut Vec<Ticket>) -> L
     }
 }
 
-/// The reply of a call that was not answered by its value; none where memory was refused.
+/// The reply of a call that was not answered by its value; none if memory ran out.
 fn halted(halt: Halt) -> Option<Reply> {
     match halt {
         Halt::Ended => Some(Reply::Ended),

@@ -102,7 +102,7 @@ fn count_ended<T>(made: &Result<T, Halt>, ended: &AtomicU64) {
     }
 }
 
-/// Sets fail once the flag is set, makes so many pairs of calls more, and counts the calls that are answered Ended.
+/// Sets fail once the flag is set, makes that many pairs of calls more, and counts the calls that are replied Ended.
 fn set_late<R: Wait>(rt: &R, pass: &mut Pass, flag: &AtomicU64, more: u32, ended: &AtomicU64) {
     if is_seen(flag) {
         count_ended(&pass.set_verdict(UserVerdict::Fail), ended);
@@ -141,7 +141,7 @@ fn is_late_case(report: &CaseReport) -> bool {
         && report.verdict == Verdict::Pass
 }
 
-/// So many calls of run 1 come too late, and only the pass of run 2 counts.
+/// That many calls of run 1 come too late, and only the pass of run 2 counts.
 fn come_late(rt: &impl Abort, report: &CaseReport, ended: &AtomicU64, calls: u64) {
     is(rt, "calls answered Ended", number(ended), calls);
     holds(rt, "only the pass of run 2 counts", is_late_case(report));
@@ -211,7 +211,7 @@ fn unstarted_job_is_dropped(rt: HostRuntime) {
     holds(&rt, "a Finish of run 0 alone", is_finish_alone(&report));
 }
 
-/// Why a case of so many behaviours, for which so many threads may be made, is refused. None is called.
+/// Why a case of that many behaviours, for which that many threads may be made, is refused. None is called.
 fn refusal_of_marks<R: Abort + Threads + Wait + Copy + Send + 'static>(
     rt: &R,
     alloc: Global,
@@ -225,7 +225,7 @@ fn refusal_of_marks<R: Abort + Threads + Wait + Copy + Send + 'static>(
     refused
 }
 
-/// Why a case of one behaviour is refused, which comes back for want of memory.
+/// Why a case of one behaviour is refused, which comes back because memory ran out.
 fn refusal_of_starved<R: Abort + Threads + Wait + Copy + Send + 'static>(
     rt: &R,
     alloc: Global,

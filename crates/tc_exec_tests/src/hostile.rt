@@ -110,7 +110,7 @@ fn workers_end_before_want_of_memory(rt: HostRuntime) {
     is(&rt, "refusal", refused, Some(CaseError::NoMemory));
 }
 
-/// The number of threads in what the system tells of the program; none where it does not tell.
+/// The number of threads in what the system says about the program; none if it does not say.
 fn threads_told(status: &str) -> u64 {
     for line in status.lines() {
         if let Some(count) = line.strip_prefix("Threads:") {
@@ -120,7 +120,7 @@ fn threads_told(status: &str) -> u64 {
     0
 }
 
-/// How many threads the program has; none where the system does not tell.
+/// How many threads the program has; none if the system does not say.
 fn threads_now<R: Files + Alloc>(rt: &R) -> u64 {
     match fs::read_to_string(rt, "/proc/self/status") {
         Ok(status) => threads_told(status.as_str()),
@@ -147,7 +147,7 @@ fn mapped(line: &str) -> Option<u64> {
     to.checked_sub(from)
 }
 
-/// How many mappings have the size of a worker's stack, of those that the system tells of.
+/// How many mappings have the size of a worker's stack, of those that the system lists.
 fn stacks_told(maps: &str) -> u64 {
     let mut stacks = 0u64;
     for line in maps.lines() {
@@ -158,7 +158,7 @@ fn stacks_told(maps: &str) -> u64 {
     stacks
 }
 
-/// How many mappings of the program have the size of a worker's stack; none where the system does not tell.
+/// How many mappings of the program have the size of a worker's stack; none if the system does not say.
 fn stacks_now<R: Files + Alloc>(rt: &R) -> u64 {
     match fs::read_to_string(rt, "/proc/self/maps") {
         Ok(maps) => stacks_told(maps.as_str()),
@@ -213,7 +213,8 @@ fn a_thread_lives_before_the_next_question(rt: HostRuntime) {
     is(&rt, "questions with one thread each", gate.found, 7);
 }
 
-// 254 workers are there at the last question. A stack that lies beside other memory of the program may be told as one with it.
+// 254 workers are there at the last question. A stack that lies next to other memory of the program may be listed as
+// one with it.
 #[test]
 fn stacks_of_workers(rt: HostRuntime) {
     is(&rt, "bytes of a stack", WORKER_STACK, 2_097_152);
@@ -309,7 +310,7 @@ fn two_jobs(alloc: Global) -> Result<Vec<Job>, AllocError> {
     Ok(vec![in alloc; first, second]?)
 }
 
-/// Ends the test unless a whole case is reported, or refused for want of memory.
+/// Ends the test unless a whole case is reported, or refused because memory ran out.
 fn is_whole<R: Abort>(rt: &R, answer: Result<CaseReport, CaseError>) {
     match answer {
         Ok(report) => is(rt, "overall verdict", report.verdict, Verdict::Pass),
@@ -317,7 +318,7 @@ fn is_whole<R: Abort>(rt: &R, answer: Result<CaseReport, CaseError>) {
     }
 }
 
-// Where each allocation of this test fails in turn, memory is what is told of: never that a whole case is torn.
+// If each allocation of this test fails in turn, memory is what is named: never that a whole case is torn.
 #[test]
 fn a_whole_case_is_never_torn(rt: HostRuntime) -> Result<(), AllocError> {
     let jobs = two_jobs(rt.alloc())?;
@@ -325,7 +326,7 @@ fn a_whole_case_is_never_torn(rt: HostRuntime) -> Result<(), AllocError> {
     Ok(())
 }
 
-/// Lets the other threads go on for so many milliseconds, if any.
+/// Lets the other threads continue for that many milliseconds, if any.
 fn pause<R: Clock>(rt: &R, late: Option<u64>) {
     if let Some(milliseconds) = late {
         thread::sleep(rt, Duration::from_millis(milliseconds));
@@ -369,7 +370,7 @@ fn is_legal(alloc: Global, history: &[Entry], verdict: Verdict) -> bool {
     }
 }
 
-/// The reply to the Start by run 1, where the report is legal and tells rightly whether run 2 ran.
+/// The reply to the Start by run 1, if the report is legal and says rightly whether run 2 ran.
 fn reply_of_start(alloc: Global, report: &CaseReport, ran: bool) -> Option<Reply> {
     let logs = report.logs.as_slice();
     let is_told = logs.iter().any(|log| log.run == Run(2));
@@ -389,8 +390,8 @@ fn lateness(round: u32, place: u32) -> Option<u64> {
     }
 }
 
-/// Lets a Kill of all by the first job and a Start by the second run against each other, where the third sets the flag; the
-/// reply to the Start, as `reply_of_start`.
+/// Lets a Kill of all by the first job and a Start by the second run against each other, when the third sets the flag;
+/// the reply to the Start, as `reply_of_start`.
 fn reply_against_kill<R: Abort + Threads + Wait + Copy + Send + 'static>(
     rt: &R,
     alloc: Global,

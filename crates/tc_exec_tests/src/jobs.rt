@@ -22,7 +22,7 @@ pub(crate) fn shared_with<R: Abort>(rt: &R, number: &Arc<AtomicU64>) -> Arc<Atom
     got(rt, Arc::try_clone(number))
 }
 
-/// What a count has come to; 1 where a flag is set.
+/// What a count has come to; 1 if a flag is set.
 pub(crate) fn number(it: &AtomicU64) -> u64 {
     it.load(Ordering::SeqCst)
 }
@@ -84,7 +84,7 @@ pub(crate) fn that_marks(
     Ok(Job::new(run))
 }
 
-/// So many jobs, each of which sets the flag.
+/// That many jobs, each of which sets the flag.
 pub(crate) fn that_mark<R: Abort>(
     rt: &R,
     alloc: Global,
@@ -102,7 +102,7 @@ pub(crate) fn that_mark<R: Abort>(
     jobs
 }
 
-/// So many jobs, each of which calls nothing.
+/// That many jobs, each of which calls nothing.
 pub(crate) fn that_return<R: Abort>(rt: &R, alloc: Global, count: u16) -> Vec<Job> {
     let mut jobs = Vec::new(alloc);
     for _ in 0..count {
@@ -122,7 +122,7 @@ pub(crate) fn report_of<R: Threads + Wait + Copy + Send + 'static>(
     run_case(rt, alloc, jobs, threads)
 }
 
-/// The report of a case of two behaviours, for which so many threads may be made.
+/// The report of a case of two behaviours, for which that many threads may be made.
 pub(crate) fn report_of_two<R: Abort + Threads + Wait + Copy + Send + 'static>(
     rt: &R,
     alloc: Global,

@@ -1,4 +1,5 @@
-//! The tests of `tc_book` and `tc_exec` by their public calls, in a crate of their own: a check of them proves neither once more.
+//! The tests of `tc_book` and `tc_exec` by their public calls, in a crate of their own: a check of them proves neither
+//! again.
 #![tactic(auto)]
 
 #[cfg(test)]

@@ -25,7 +25,7 @@ enum Call {
 /// makes alive-type components 1 and 2 and starts run 1 on component 1.
 type Small = [[Call; 3]; 3];
 
-/// An order: at each step which of the runs that may go on went on, and how many they were.
+/// An order: at each step which of the runs that can continue continued, and how many they were.
 #[derive(Drop)]
 struct Order {
     choices: Vec<(usize, usize)>,
@@ -40,7 +40,7 @@ impl Order {
         }
     }
 
-    /// The next choice among so many.
+    /// The next choice among that many.
     fn choose(&mut self, among: usize) -> Result<usize, NoMemory> {
         let at = self.at;
         self.at = at.saturating_add(1);
@@ -51,7 +51,7 @@ impl Order {
         Ok(0)
     }
 
-    /// Goes on to the next order, unless this was the last.
+    /// Continues to the next order, unless this was the last.
     fn advance(&mut self) -> bool {
         self.at = 0;
         for _ in 0..self.choices.len() {
@@ -196,7 +196,7 @@ fn set_up<R: Abort + Wait>(rt: &R, alloc: Global) -> (Shared, Vec<Player>) {
     (shared, players)
 }
 
-/// Which of the runs may go on.
+/// Which of the runs can continue.
 fn ready(alloc: Global, players: &[Player]) -> Result<Vec<usize>, NoMemory> {
     let mut ready = Vec::new(alloc);
     for (i, player) in players.iter().enumerate() {
@@ -220,7 +220,7 @@ fn take_step<R: Abort>(rt: &R, players: &mut [Player], lefts: &mut Vec<Left>, st
     }
 }
 
-/// Lets the run that the order chooses make its next step. False once no run goes on.
+/// Lets the run that the order chooses make its next step. False once no run continues.
 fn go_on<R: Abort + Wait>(
     rt: &R,
     players: &mut Vec<Player>,
@@ -242,7 +242,7 @@ fn go_on<R: Abort + Wait>(
     true
 }
 
-/// Lets the runs go on in an order, until none does.
+/// Lets the runs continue in an order, until none does.
 fn run_all<R: Abort + Wait>(
     rt: &R,
     alloc: Global,
@@ -283,8 +283,8 @@ fn play<R: Abort + Wait>(rt: &R, alloc: Global, small: &Small, order: &mut Order
     got(rt, close(rt, alloc, shared, lefts))
 }
 
-/// The small cases: a stop and a restart; a Kill of all; a Stop of the main component; a Start that is an error where the
-/// run before is still going on; a StopCase by each run.
+/// The small cases: a stop and a restart; a Kill of all; a Stop of the main component; a Start that is an error while
+/// the run before is active; a StopCase by each run.
 fn small_cases() -> [Small; 5] {
     use Call::{Get, Kill, KillAll, Set, Start, Stop, StopCase};
     [

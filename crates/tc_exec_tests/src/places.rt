@@ -1,4 +1,4 @@
-//! The places that are kept behind the lock until each run has left: no clause sees them.
+//! The places that are kept under the lock until each run has left: no clause sees them.
 use crate::calls::{calls, enter, leave, open, unstarted};
 use crate::checks::{got, is};
 use std::sync::Wait;

@@ -32,7 +32,7 @@ fn local_of(run: u16) -> Verdict {
     }
 }
 
-/// Sets so many verdicts, the worst of them once, at a place that the run's number determines.
+/// Sets that many verdicts, the worst of them once, at a place that the run's number determines.
 fn set_all(pass: &mut Pass, settings: u32) -> Result<(), Halt> {
     let run = pass.run().0;
     let (worst, other) = verdicts_of(run);
@@ -43,7 +43,7 @@ fn set_all(pass: &mut Pass, settings: u32) -> Result<(), Halt> {
     Ok(())
 }
 
-/// A behaviour that sets so many verdicts.
+/// A behaviour that sets that many verdicts.
 fn sets_all(pass: Pass, settings: u32) -> Back {
     let mut pass = pass;
     let made = set_all(&mut pass, settings);
@@ -109,8 +109,8 @@ fn are_counted(rt: &impl Abort, report: &CaseReport) {
     have_set_the_worst(rt, report.locals.as_slice());
 }
 
-/// 64 behaviours of 1,000 settings each, on 64 threads, that nobody halts: no call is answered Ended, and each worst setting
-/// is in its local verdict.
+/// 64 behaviours of 1,000 settings each, on 64 threads, that nobody halts: no call is replied Ended, and each worst
+/// setting is in its local verdict.
 #[test]
 fn undisturbed_settings_count(rt: HostRuntime) -> Result<(), AllocError> {
     let first: Behaviour = Box::new(rt.alloc(), move |pass: Pass| starts_and_sets(&rt, pass))?;

@@ -1,4 +1,4 @@
-//! Who waits on a thread is woken, after each kind of entry by which it may go on, and does not spin.
+//! A thread that waits is woken after each kind of entry by which it can continue, and does not spin.
 use crate::calls::{await_start, calls, close, enter, leave, open, reply_to, take};
 use crate::checks::{got, holds, is};
 use std::alloc::Global;
@@ -64,7 +64,7 @@ fn left_after<R: Abort + Wait>(rt: &R, ticket: Ticket, rows: &str) -> Left {
     }
 }
 
-/// What a run has left, and the processor time that it took, where a clock tells.
+/// What a run has left, and the processor time that it took, if a clock shows it.
 type Done = (Left, Option<Duration>);
 
 /// Lets a run make these calls once it is started, and then sets its flag.
@@ -110,7 +110,7 @@ const STARTS: &str = "\
 0 start 1 1 => ok
 0 start 2 2 => ok";
 
-/// The reply by which the waiter went on.
+/// The reply by which the waiter continued.
 fn woken_by(left: &Left) -> Option<Reply> {
     match left.log().get(1) {
         Some(
@@ -124,8 +124,8 @@ fn woken_by(left: &Left) -> Option<Reply> {
     }
 }
 
-/// What may wake a run that waits until component 2 is done, on which run 2 runs: each call, which is made before the runs
-/// leave, or is the Finish of the one that leaves first; and the reply by which the waiter goes on.
+/// What may wake a run that waits until component 2 is done, on which run 2 runs, and the reply by which the waiter
+/// continues. Each call is made before the runs leave, or is the Finish of the one that leaves first.
 const CAUSES: &str = "\
 2 finish => matched
 0 stop 2 => matched
@@ -144,7 +144,7 @@ fn call_cause<R: Abort + Wait>(rt: &R, cause: &str, main: &mut Pass, late: &mut 
     let _ = reply_to(rt, pass, cause);
 }
 
-/// Lets the cause happen and nothing else, until the waiter is seen to go on, and lets both passes leave.
+/// Lets the cause happen and nothing else, until the waiter is seen to continue, and lets both passes leave.
 fn happen<R: Abort + Wait + Clock>(
     rt: &R,
     cause: &str,
@@ -168,7 +168,7 @@ fn happen<R: Abort + Wait + Clock>(
     }
 }
 
-/// The waiter goes on by this reply, and the case is closed.
+/// The waiter continues by this reply, and the case is closed.
 fn is_woken_by<R: Abort + Wait>(
     rt: &R,
     alloc: Global,
@@ -203,7 +203,7 @@ fn is_woken<R: Abort + Threads + Wait + Clock + CpuClock + Copy + Send + 'static
     is_woken_by(rt, alloc, shared, (main, waiter, late), reply);
 }
 
-/// One case for each of seven causes, after which nothing is called until the waiter is seen to go on.
+/// One case for each of seven causes, after which nothing is called until the waiter is seen to continue.
 #[test]
 fn a_waiter_is_woken(rt: HostRuntime) {
     for row in CAUSES.lines() {

@@ -1,4 +1,4 @@
--- The word that is told as the nearest is the first of the nearest.
+-- The word that is printed as the nearest is the first of the nearest.
 use Rattle.std.proofs.Common.{ℕ, ◌≡◌, ◌<◌, ◌≤◌, ◌*◌, inl, inr, nat_le, max, Bool, true, false, if◌then◌else◌, Option, Some, None, IfSome, List, [], ◌∷◌, All, length, refl, subst, arith}
 use Rattle.std.proofs.lemmas.Bool.Decides.{nat_tests}
 use Rattle.std.proofs.lemmas.List.Elements.{All-nil, All-cons, All-head, All-tail}
@@ -52,7 +52,7 @@ helpful_is word table (Some near) is = by (nat_le (3 * distance word near) (max 
     by true = is
     by false = tt
 
--- what is told as the nearest is the first of the nearest
+-- what is printed as the nearest is the first of the nearest
 pub near_is : (word : List ℕ) (table : List (List ℕ)) → IfSome (near_word word table) (λ near. IsFirstNearest word near table)
 near_is word table = by (nat_le (length word) 16)
   where
@@ -60,6 +60,6 @@ near_is word table = by (nat_le (length word) 16)
     by true = helpful_is word table (nearest word table) (nearest_is word table)
     by false = tt
 
--- the same of a word that is known to be told
+-- the same of a word that is known to be shown
 pub told_is : (word near : List ℕ) (table : List (List ℕ)) → near_word word table ≡ Some near → IsFirstNearest word near table
 told_is word near table e = subst (λ told. IfSome told (λ n. IsFirstNearest word n table)) e (near_is word table)

@@ -1,4 +1,4 @@
--- What is told of a refused text, besides its fault.
+-- What is printed about a refused text, besides its fault.
 use Rattle.std.specs.Prelude.{ℕ, ◌&&◌, nat_le, nat_lt, Bool, true, false, if◌then◌else◌, Option, Some, None, List, [], ◌∷◌, ◌++◌, length, slice_get}
 use Rattle.std.specs.List.{position}
 use Rattle.tc_line.specs.declared.kind.ScriptKind.{ScriptKind}
@@ -27,7 +27,7 @@ sort_of (R.Script kind) = S.Script
 sort_of (R.Histories kind) = S.Histories
 sort_of (R.Moves kind) = S.Moves
 
--- what the text looks like, where it should be something else
+-- what the text looks like, if it should be something else
 abbrev pub sort_note : Sort → Option Sort → List Note
 sort_note sort None = []
 sort_note S.Script (Some S.Script) = []
@@ -35,7 +35,7 @@ sort_note S.Histories (Some S.Histories) = []
 sort_note S.Moves (Some S.Moves) = []
 sort_note sort (Some seen) = Seems seen ∷ []
 
--- the nearest word, where there is one
+-- the nearest word, if there is one
 abbrev pub near_note : Option (List ℕ) → List Note
 near_note None = []
 near_note (Some near) = Nearest near ∷ []
@@ -45,7 +45,7 @@ abbrev pub nearest_note : Option (List ℕ) → List (List ℕ) → List Note
 nearest_note None table = []
 nearest_note (Some word) table = near_note (near_word word table)
 
--- what would be understood in place of the word
+-- what would be understood instead of the word
 abbrev pub wanted : Opened → Slot → Option (List ℕ) → List Note
 wanted o P.Keyword word = (Listed (script_words o) ∷ []) ++ nearest_note word all_words
 wanted o P.Verb word = (Listed move_words ∷ []) ++ nearest_note word move_words
@@ -84,7 +84,7 @@ text_note moves T.Entry o line = entry_note o line (entry_stop (words line))
 text_note moves T.FirstLine o line = Opening moves ∷ []
 text_note moves T.Early o line = []
 
--- the same, where no space is too many
+-- the same, if no space is too many
 abbrev pub spaced_note : List ℕ → List Note → List Note
 spaced_note line rest = if nat_lt (spaced true line) (length line) then Spaced (spaced true line) ∷ [] else rest
 
@@ -94,7 +94,7 @@ kind_note (R.Script kind) o line = script_note kind o line
 kind_note (R.Histories kind) o line = spaced_note line (text_note false kind o line)
 kind_note (R.Moves kind) o line = spaced_note line (text_note true kind o line)
 
--- what is wrong with a line, whose first odd byte stands there, where it has one
+-- what is wrong with a line, whose first odd byte is there, if it has one
 abbrev pub byte_note : Refusal → Opened → List ℕ → Option ℕ → List Note
 byte_note refusal o line (Some at) = Odd at ∷ []
 byte_note refusal o line None = kind_note refusal o line
@@ -116,11 +116,11 @@ open_note S.Histories o = begun o.outer
 open_note S.Moves o = []
 open_note S.Source o = []
 
--- what is told of the line and of what is open there
+-- what is printed about the line and of what is open there
 abbrev pub found_note : Refusal → ℕ → Found → List Note
 found_note refusal number f = line_note refusal number f.opened f.line ++ open_note (sort_of refusal) f.opened
 
--- what is told of a refused text, the first fault of which is of this kind and in the line of this number
+-- what is printed about a refused text, the first fault of which is of this kind and in the line of this number
 unfoldable pub explanation : Refusal → List ℕ → ℕ → List Note
 explanation refusal text number =
     sort_note (sort_of refusal) (seems (lines text)) ++ found_note refusal number (find (sort_of refusal) number 1 nothing (lines text))

@@ -1,4 +1,4 @@
--- The keywords that may stand at a place, and the nearest to a word.
+-- The keywords that may be at a place, and the nearest to a word.
 use Rattle.std.specs.Prelude.{ℕ, ◌*◌, nat_le, nat_eq, max, Bool, true, false, if◌then◌else◌, Option, Some, None, List, [], ◌∷◌, ◌++◌, length, map, filter}
 use Rattle.strsim.specs.Edits.{levenshtein_row}
 use Rattle.tc_line.specs.declared.line.Keyword.{Keyword}
@@ -15,7 +15,8 @@ is_step K.Behaviour = false
 is_step K.End = false
 is_step _ = true
 
--- the keyword may stand where a test case and a behaviour are open, or not; whether the test case has a behaviour is told
+-- the keyword may be where a test case and a behaviour are open, or not; whether the test case has a behaviour is
+-- printed
 abbrev pub may_stand : Option ℕ → Option ℕ → Bool → Keyword → Bool
 may_stand None inner filled K.TestCase = true
 may_stand None inner filled _ = false
@@ -31,7 +32,7 @@ may_stand (Some case) (Some behaviour) filled _ = true
 abbrev pub spelled : (Keyword → Bool) → List Keyword → List (List ℕ)
 spelled p keywords = map keyword_text (filter p keywords)
 
--- the keywords of a script that may stand where this is open
+-- the keywords of a script that may be if this is open
 abbrev pub script_words : Opened → List (List ℕ)
 script_words o = spelled (may_stand o.outer o.inner o.filled) KEYWORDS
 

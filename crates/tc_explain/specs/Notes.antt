@@ -1,18 +1,18 @@
--- Lines that are told: what each is about.
+-- Lines of an explanation: what each is about.
 use Rattle.std.specs.Prelude.{ℕ, Bool, Option, List}
 use Rattle.tc_explain.specs.declared.sort.Sort.{Sort}
 use Rattle.tc_explain.specs.declared.sort.Refusal.{Refusal}
 use Rattle.tc_explain.specs.declared.slot.Slot.{Slot}
 
 -- what a line is about
--- Seems: what the text looks like
--- Ended: the text ends before the line of this number
--- Shown: the line as it stands
--- Odd: the byte behind so many, which no line may have; Spaced: the space behind so many bytes, one too many
--- Stopped: the word behind so many bytes, or the end of the line, where it may not stand
--- Wanted: what would be understood there; Listed: the words that would; Nearest: the nearest of words to the one that stands there
--- Broken: the rule that the line breaks; Opening: the first line of moves, or of histories
--- Begun: what is open at the line began in that of this number
+-- Seems: what the text looks like.
+-- Ended: the text ends before the line of this number.
+-- Shown: the line as it is.
+-- Odd: the byte after that many, which no line may have. Spaced: the space after that many bytes, one too many.
+-- Stopped: the word after that many bytes, or the end of the line, if it may not be there.
+-- Wanted: what would be understood there. Listed: the words that would. Nearest: the nearest of words to that one.
+-- Broken: the rule that the line breaks. Opening: the first line of moves, or of histories.
+-- Begun: what is open at the line began in that of this number.
 pub data Note : Type 0 where
   Seems : Sort → Note
   Ended : ℕ → Note

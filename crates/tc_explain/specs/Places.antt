@@ -3,7 +3,8 @@ use Rattle.std.specs.Prelude.{ℕ, suc, ◌==◌, ◌-◌, ◌&&◌, ◌||◌, n
 use Rattle.tc_line.specs.Text.{is_space}
 use Rattle.tc_text.specs.Shown.{is_plain}
 
--- how many bytes stand before the word at this place among the words, or before the end where there is none; whether a word has begun is told
+-- how many bytes are before the word at this place among the words, or before the end if there is none; whether a word
+-- has begun is given
 unfoldable pub starts : ℕ → Bool → List ℕ → ℕ
 starts place inside [] = 0
 starts place inside (b ∷ bs) =
@@ -12,7 +13,7 @@ starts place inside (b ∷ bs) =
     else if place == 0 then 0
     else suc (starts (place - 1) true bs)
 
--- how many bytes stand before the first space behind a space, at the line's begin or at its end, where there is one
+-- how many bytes are before the first space after a space, at the line's begin or at its end, if there is one
 unfoldable pub spaced : Bool → List ℕ → ℕ
 spaced after [] = 0
 spaced after (b ∷ bs) = if is_space b && (after || (length bs == 0)) then 0 else suc (spaced (is_space b) bs)

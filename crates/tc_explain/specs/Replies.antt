@@ -1,4 +1,4 @@
--- What may stand at a place of a line of a history, word by word: an entry to the end of its reply, or the last line.
+-- What may be at a place of a line of a history, word by word: an entry to the end of its reply, or the last line.
 use Rattle.std.specs.Prelude.{ℕ, suc, ◌&&◌, nat_le, Bool, true, false, if◌then◌else◌, Option, Some, None, List, [], ◌∷◌, codes}
 use Rattle.std.specs.List.{list_any}
 use Rattle.tc_line.specs.declared.line.Keyword.TheVariants as K
@@ -35,22 +35,22 @@ fault_words =
 abbrev pub is_one_of : List (List ℕ) → List ℕ → Bool
 is_one_of table w = list_any (λ text. is_text w text) table
 
--- what stands behind the first word of a reply
+-- what follows the first word of a reply
 abbrev pub behind_reply : List ℕ → Option Slot
 behind_reply w =
     if is_text w (codes "made") then Some S.Made
     else if is_text w (name_of V.Error) then Some S.Error
     else slot_if (is_one_of reply_words w) S.LineEnd
 
--- what stands behind the first word of a line
+-- what follows the first word of a line
 abbrev pub behind_first : List ℕ → Option Slot
 behind_first w = if is_text w (keyword_text K.End) then Some S.Overall else slot_if (is_digits w) S.Verb
 
--- what stands behind a word of a move: where the move may end, behind the arrow a reply
+-- what follows a word of a move: where the move may end, after the arrow a reply
 abbrev pub behind_call : Slot → List ℕ → Option Slot
 behind_call slot w = if may_end slot && is_text w (codes "->") then Some S.Reply else next true slot w
 
--- what may stand behind the word in a line of a history, where the word may stand here
+-- what may be after the word in a line of a history, if the word may be here
 abbrev pub entry_next : Slot → List ℕ → Option Slot
 entry_next S.Entry w = behind_first w
 entry_next S.Reply w = behind_reply w
@@ -65,12 +65,12 @@ entry_ends S.Error = true
 entry_ends S.LineEnd = true
 entry_ends _ = false
 
--- the arrow, where a move has ended; whether the words end too is told
+-- the arrow, if a move has ended; whether the words end too is printed
 abbrev pub arrow_at : Bool → Slot → Slot
 arrow_at ended S.End = S.Arrow
 arrow_at ended slot = if ended && may_end slot then S.Arrow else slot
 
--- the first word that may not stand where it stands, by its place among the words, and what may stand there; or their end
+-- the first word that may not be where it is, by its place among the words, and what may be there; or their end
 abbrev pub entry_walk : Slot → ℕ → List (List ℕ) → Stop
 entry_walk slot place [] = record { place = place; slot = arrow_at true slot }
 entry_walk slot place (w ∷ ws) =
@@ -80,6 +80,6 @@ entry_walk slot place (w ∷ ws) =
 abbrev pub entry_stop : List (List ℕ) → Stop
 entry_stop words = entry_walk S.Entry 0 words
 
--- each word of a line of so many may stand where it stands
+-- each word of a line of that many may be where it is
 abbrev pub is_whole : Stop → ℕ → Bool
 is_whole stop count = entry_ends stop.slot && nat_le count stop.place

@@ -18,21 +18,21 @@ history_text = codes "history"
 abbrev pub nothing : Opened
 nothing = record { outer = None; inner = None; filled = false }
 
--- what is open behind a line of a script, by its number and its keyword
+-- what is open after a line of a script, by its number and its keyword
 abbrev pub opened_by : ℕ → Option Keyword → Opened → Opened
 opened_by number (Some K.TestCase) o = record { outer = Some number; inner = None; filled = false }
 opened_by number (Some K.Behaviour) o = record { outer = o.outer; inner = Some number; filled = true }
 opened_by number (Some K.End) o = record { outer = (if is_some o.inner then o.outer else None); inner = None; filled = o.filled }
 opened_by number _ o = o
 
--- what is open behind a line of histories, by its number and its first word
+-- what is open after a line of histories, by its number and its first word
 abbrev pub begun_by : ℕ → List ℕ → Opened → Opened
 begun_by number word o =
     if is_text word history_text then record { outer = Some number; inner = None; filled = false }
     else if is_text word (keyword_text K.End) then nothing
     else o
 
--- what is open behind the line with this number and these words
+-- what is open after the line with this number and these words
 abbrev pub behind : Sort → ℕ → List (List ℕ) → Opened → Opened
 behind sort number [] o = o
 behind S.Script number (w ∷ ws) o = opened_by number (keyword w) o
@@ -40,7 +40,7 @@ behind S.Histories number (w ∷ ws) o = begun_by number w o
 behind S.Moves number (w ∷ ws) o = o
 behind S.Source number (w ∷ ws) o = o
 
--- a line of a text, where there is one, and what is open before it
+-- a line of a text, if there is one, and what is open before it
 pub record Found : Type 0 where
   pub opened : Opened
   pub line : Option (List ℕ)
@@ -61,7 +61,7 @@ begins word line =
     else if is_text word (keyword_text K.TestCase) then Some (if list_any (λ b. b == 40) line then S.Source else S.Script)
     else None
 
--- the same of a line with these words, or what the lines behind it say where it says nothing
+-- the same of a line with these words, or what the lines after it say where it says nothing
 abbrev pub seems_by : List ℕ → List (List ℕ) → Option Sort → Option Sort
 seems_by line [] rest = rest
 seems_by line (w ∷ ws) rest = if is_comment w then rest else begins w line

@@ -1,4 +1,4 @@
--- What may stand at a place of a line, word by word.
+-- What may be at a place of a line, word by word.
 use Rattle.std.specs.Prelude.{ℕ, suc, ◌==◌, ◌&&◌, ◌||◌, not, nat_le, Bool, true, false, if◌then◌else◌, Option, Some, None, is_some, is_ok, List, [], ◌∷◌, length, codes}
 use Rattle.std.specs.List.{list_all}
 use Rattle.tc_line.specs.declared.line.Keyword.{Keyword}
@@ -32,7 +32,7 @@ abbrev pub is_behaviour : Bool → List ℕ → Bool
 is_behaviour true w = is_digits w
 is_behaviour false w = is_name w
 
--- what stands behind a keyword
+-- what follows a keyword
 abbrev pub behind_keyword : Bool → Keyword → Option Slot
 behind_keyword true K.TestCase = None
 behind_keyword false K.TestCase = Some S.TestCase
@@ -51,20 +51,20 @@ behind_keyword moves K.Wait = Some S.Status
 behind_keyword moves K.SetVerdict = Some S.Verdict
 behind_keyword moves K.GetVerdict = Some S.End
 
--- what stands behind a word, where it is a keyword
+-- what follows a word, if it is a keyword
 abbrev pub behind_word : Bool → Option Keyword → Option Slot
 behind_word moves None = None
 behind_word moves (Some k) = behind_keyword moves k
 
--- what stands behind the first word of an operation
+-- what follows the first word of an operation
 abbrev pub behind_verb : List ℕ → Option Slot
 behind_verb w = if is_text w wake_text then Some S.Status else if is_text w finish_text then Some S.End else behind_word true (keyword w)
 
--- this one, where the word may stand
+-- this one, if the word may be
 abbrev pub slot_if : Bool → Slot → Option Slot
 slot_if b s = if b then Some s else None
 
--- what may stand behind the word, where the word may stand here
+-- what may be after the word, if the word may be here
 abbrev pub next : Bool → Slot → List ℕ → Option Slot
 next moves S.Keyword w = behind_word false (keyword w)
 next moves S.Run w = slot_if (is_digits w) S.Verb
@@ -101,7 +101,7 @@ may_end S.Arguments = true
 may_end S.End = true
 may_end _ = false
 
--- the first word that may not stand where it stands, by its place among the words, and what may stand there; or their end
+-- the first word that may not be where it is, by its place among the words, and what may be there; or their end
 abbrev pub walk : Bool → Slot → ℕ → List (List ℕ) → Stop
 walk moves slot place [] = record { place = place; slot = slot }
 walk moves slot place (w ∷ ws) =

@@ -17,7 +17,7 @@ pub(crate) fn append_note(out: &mut Vec<u8>, text: &str) -> Result<(), NoMemory>
     append_line(out, text.as_bytes())
 }
 
-/// Appends a line with this text behind others.
+/// Appends a line with this text after others.
 pub(crate) fn append_behind(
     alloc: Global,
     out: &mut Vec<u8>,
@@ -32,7 +32,7 @@ pub(crate) fn append_behind(
     append_line(out, line.as_slice())
 }
 
-/// Appends a line with this number behind a text.
+/// Appends a line with this number after a text.
 pub(crate) fn append_numbered(
     alloc: Global,
     out: &mut Vec<u8>,
@@ -47,14 +47,14 @@ pub(crate) fn append_numbered(
     append_line(out, line.as_slice())
 }
 
-/// Appends the column that stands behind so many bytes, before what stands there.
+/// Appends the column that is after that many bytes, before what is there.
 pub(crate) fn append_column(out: &mut Vec<u8>, start: usize) -> Result<(), NoMemory> {
     append_text(out, "column ")?;
     append_number(out, (start as u64).saturating_add(1))?;
     append_text(out, ": ")
 }
 
-/// Appends what stands where a line stops.
+/// Appends what is where a line stops.
 pub(crate) fn append_stopped(out: &mut Vec<u8>, word: Option<&[u8]>) -> Result<(), NoMemory> {
     match word {
         Some(word) => append_quoted(out, word),
@@ -88,7 +88,7 @@ pub(crate) fn append_list(
     append_line(out, line.as_slice())
 }
 
-// Appends the nearest word, where there is one.
+// Appends the nearest word, if there is one.
 #[tactic(auto, using(crate::proofs::Lemmas::Showing::tell_rules))]
 fn append_near(alloc: Global, out: &mut Vec<u8>, near: Option<&str>) -> Result<(), NoMemory>
     ensures { OnOk result (Shows (near_note (option_copied near.entry)) out.old.items out.new.items) }
@@ -116,7 +116,7 @@ pub(crate) fn append_nearest(
     append_near(alloc, out, near)
 }
 
-/// Appends what began in a line, where it is open.
+/// Appends what began in a line, if it is open.
 #[tactic(auto, using(crate::proofs::Lemmas::Showing::tell_rules))]
 pub(crate) fn append_begun(
     alloc: Global,

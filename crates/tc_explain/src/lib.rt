@@ -1,4 +1,5 @@
-//! What is told of a refused text besides its fault: the line, the word and its column, and what would be understood.
+//! What is printed about a refused text besides its fault: the line, the word and its column, and what would be
+//! understood.
 #![tactic(auto)]
 
 mod append;

@@ -1,4 +1,4 @@
-//! The keywords that may stand at a place, and the nearest to a word.
+//! The keywords that may be at a place, and the nearest to a word.
 ghost use Rattle.std.specs.Prelude.{◌≡◌, ◌≤◌, ◌*◌, nat_le, max, IfOk, IfSome, Some, map, option_copied, option_map};
 ghost use Rattle.tc_line.specs.Words.{keyword_text};
 ghost use Rattle.tc_explain.specs.Nearest.{all_words as words_of_scripts, distance, is_step as step_test, may_stand, move_words as words_of_moves, near_word as near_of, nearest as nearest_of, script_words as words_at, spelled};
@@ -21,7 +21,7 @@ fn is_step(keyword: Keyword) -> bool
     }
 }
 
-// Whether the keyword may stand where this is open.
+// Whether the keyword may be if this is open.
 fn stands_in(opened: Opened, keyword: Keyword) -> bool
     ensures { result ≡ may_stand opened.outer opened.inner opened.filled keyword }
 {
@@ -36,7 +36,7 @@ fn stands_in(opened: Opened, keyword: Keyword) -> bool
     }
 }
 
-// The keywords that may stand where this is open, as they are spelled.
+// The keywords that may be if this is open, as they are spelled.
 fn standing(
     alloc: Global,
     opened: Opened,
@@ -77,7 +77,7 @@ fn steps(alloc: Global, keywords: &[Keyword]) -> Result<Vec<&'static str>, NoMem
     Ok(words)
 }
 
-/// The keywords of a script that may stand where this is open.
+/// The keywords of a script that may be if this is open.
 pub(crate) fn script_words(alloc: Global, opened: Opened) -> Result<Vec<&'static str>, NoMemory>
     ensures { IfOk result (λ v. map (λ w. w.now) v.items ≡ words_at opened) }
 {
@@ -127,7 +127,7 @@ fn nearest<'t>(alloc: Global, word: &[u8], table: &[&'t str]) -> Result<Option<N
     }
 }
 
-// Whether at most a third of the letters of a word of so many must change.
+// Whether at most a third of the letters of a word of that many must change.
 fn helps(distance: usize, letters: usize) -> bool
     requires { letters ≤ 16 }
     ensures { result ≡ nat_le (3 * distance) (max 3 letters) }

@@ -7,7 +7,7 @@ use crate::quote::append_hex;
 use tc_text::{append_text, is_plain};
 use tc_verdict::NoMemory;
 
-/// How many bytes stand before the first odd byte, where there is one.
+/// How many bytes are before the first odd byte, if there is one.
 pub(crate) fn odd_place(line: &[u8]) -> Option<usize>
     ensures place { result ≡ position is_odd line.now }
     ensures within { IfSome result (λ at. at < length line.now) }
@@ -15,7 +15,7 @@ pub(crate) fn odd_place(line: &[u8]) -> Option<usize>
     line.iter().position(|byte| !is_plain(*byte))
 }
 
-// The name of what begins with an odd byte, where it has one.
+// The name of what begins with an odd byte, if it has one.
 fn name_of(bytes: &[u8]) -> Option<&'static str> {
     match bytes {
         [13, ..] => Some("a carriage return; a line ends with a line feed alone"),
@@ -27,7 +27,7 @@ fn name_of(bytes: &[u8]) -> Option<&'static str> {
     }
 }
 
-/// Appends the name of what begins with an odd byte, or else the number of that byte.
+/// Appends the name of what begins with an odd byte, otherwise the number of that byte.
 pub(crate) fn append_odd(out: &mut Vec<u8>, bytes: &[u8]) -> Result<(), NoMemory> {
     match (name_of(bytes), bytes.first()) {
         (Some(name), _) => append_text(out, name),

@@ -2,7 +2,7 @@
 ghost use Rattle.std.specs.Prelude.{◌≡◌, ◌≤◌, length, false, true};
 ghost use Rattle.tc_explain.specs.Places.{spaced, starts};
 
-/// How many bytes stand before the word at this place among the words of the line, or before its end.
+/// How many bytes are before the word at this place among the words of the line, or before its end.
 #[tactic(auto, unfolding(crate::specs::Places::starts))]
 pub(crate) fn start_of(line: &[u8], place: usize) -> usize
     ensures start { result ≡ starts place false line.now }
@@ -24,7 +24,7 @@ pub(crate) fn start_of(line: &[u8], place: usize) -> usize
     line.len()
 }
 
-/// How many bytes stand before the first space behind a space, or at an end of the line.
+/// How many bytes are before the first space after a space, or at an end of the line.
 #[tactic(auto, unfolding(crate::specs::Places::spaced))]
 pub(crate) fn space_of(line: &[u8]) -> usize
     ensures { result ≡ spaced true line.now }

@@ -59,7 +59,7 @@ fn is_one_of(table: &[&str], word: &[u8]) -> bool
     false
 }
 
-// What stands behind the first word of a reply.
+// What follows the first word of a reply.
 fn behind_reply(word: &[u8]) -> Option<Slot>
     ensures { result ≡ reply_slot word.now }
 {
@@ -72,7 +72,7 @@ fn behind_reply(word: &[u8]) -> Option<Slot>
     }
 }
 
-// What stands behind the first word of a line.
+// What follows the first word of a line.
 fn behind_first(word: &[u8]) -> Option<Slot>
     ensures { result ≡ first_slot word.now }
 {
@@ -83,7 +83,7 @@ fn behind_first(word: &[u8]) -> Option<Slot>
     }
 }
 
-// What stands behind a word of a move.
+// What follows a word of a move.
 fn behind_call(slot: Slot, word: &[u8]) -> Option<Slot>
     ensures { result ≡ call_slot slot word.now }
 {
@@ -94,7 +94,7 @@ fn behind_call(slot: Slot, word: &[u8]) -> Option<Slot>
     }
 }
 
-/// What may stand behind the word in a line of a history, where the word may stand here.
+/// What may be after the word in a line of a history, if the word may be here.
 pub(crate) fn entry_next(slot: Slot, word: &[u8]) -> Option<Slot>
     ensures { result ≡ next_slot slot word.now }
 {
@@ -118,7 +118,7 @@ pub(crate) fn entry_ends(slot: Slot) -> bool
     }
 }
 
-/// The arrow, where a move has ended.
+/// The arrow, if a move has ended.
 pub(crate) fn arrow_at(ended: bool, slot: Slot) -> Slot
     ensures { result ≡ arrow ended slot }
 {

@@ -19,7 +19,7 @@ pub(crate) struct Opened {
     pub(crate) filled: bool,
 }
 
-/// A line, where there is one, and what is open before it.
+/// A line, if there is one, and what is open before it.
 #[derive(Clone, Copy)]
 pub(crate) struct Found<'t> {
     pub(crate) opened: Opened,
@@ -38,7 +38,7 @@ impl Opened {
         }
     }
 
-    // What is open behind a line of a script.
+    // What is open after a line of a script.
     fn by_keyword(self, number: usize, keyword: Option<Keyword>) -> Opened
         ensures { result ≡ opened_by number keyword self }
     {
@@ -66,7 +66,7 @@ impl Opened {
         }
     }
 
-    // What is open behind a line of histories.
+    // What is open after a line of histories.
     fn by_word(self, number: usize, word: &[u8]) -> Opened
         ensures { result ≡ begun_by number word.now self }
     {
@@ -83,7 +83,7 @@ impl Opened {
         }
     }
 
-    // What is open behind the line with this number and these words.
+    // What is open after the line with this number and these words.
     fn behind(self, sort: Sort, number: usize, words: &[&[u8]]) -> Opened
         ensures { result ≡ behind sort number (map (λ w. w.now) words.now) self }
     {

@@ -1,4 +1,4 @@
-//! What may stand at a place of a line.
+//! What may be at a place of a line.
 ghost use Rattle.std.specs.Prelude.{◌≡◌, ◌&&◌, nat_le};
 ghost use Rattle.std.specs.List.{list_all};
 ghost use Rattle.tc_line.specs.declared.line.Keyword.TheVariants as K;
@@ -13,7 +13,7 @@ pub(crate) const WAKE: &str = "wake";
 /// The same.
 pub(crate) const FINISH: &str = "finish";
 
-/// What may stand at a place of a line.
+/// What may be at a place of a line.
 #[derive(Clone, Copy, Debug, PartialEq, Eq)]
 pub(crate) enum Slot {
     /// The first word of a line of a script.
@@ -54,9 +54,9 @@ pub(crate) enum Slot {
     End,
     /// The first word of a line of a history.
     Entry,
-    /// The arrow behind a move of a history.
+    /// The arrow after a move of a history.
     Arrow,
-    /// The reply behind the arrow.
+    /// The reply after the arrow.
     Reply,
     /// The component that was made.
     Made,
@@ -111,7 +111,7 @@ fn is_behaviour(moves: bool, word: &[u8]) -> bool
     }
 }
 
-// What stands behind a keyword.
+// What follows a keyword.
 fn behind_keyword(moves: bool, keyword: Keyword) -> Option<Slot>
     ensures { result ≡ keyword_slot moves keyword }
 {
@@ -131,7 +131,7 @@ fn behind_keyword(moves: bool, keyword: Keyword) -> Option<Slot>
     }
 }
 
-// What stands behind a word, where it is a keyword.
+// What follows a word, if it is a keyword.
 fn behind_word(moves: bool, keyword: Option<Keyword>) -> Option<Slot>
     ensures { result ≡ word_slot moves keyword }
 {
@@ -141,7 +141,7 @@ fn behind_word(moves: bool, keyword: Option<Keyword>) -> Option<Slot>
     }
 }
 
-// What stands behind the first word of an operation.
+// What follows the first word of an operation.
 fn behind_verb(word: &[u8]) -> Option<Slot>
     ensures { result ≡ verb_slot word.now }
 {
@@ -154,7 +154,7 @@ fn behind_verb(word: &[u8]) -> Option<Slot>
     }
 }
 
-/// The slot, where the word may stand.
+/// The slot, if the word may be.
 pub(crate) fn slot_where(stands: bool, slot: Slot) -> Option<Slot>
     ensures { result ≡ slot_if stands slot }
 {
@@ -169,7 +169,7 @@ fn is_status(word: &[u8], status: Status) -> bool
 }
 
 impl Slot {
-    /// What may stand behind the word, where the word may stand here.
+    /// What may be after the word, if the word may be here.
     pub(crate) fn next(self, moves: bool, word: &[u8]) -> Option<Slot>
         ensures { result ≡ next moves self word.now }
     {

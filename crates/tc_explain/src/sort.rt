@@ -75,7 +75,7 @@ fn is_slashed(word: &[u8]) -> bool
     }
 }
 
-// Whether a bracket stands in the line.
+// Whether a bracket is in the line.
 fn has_bracket(line: &[u8]) -> bool
     ensures { result ≡ list_any (λ b. b == 40) line.now }
 {
@@ -100,7 +100,7 @@ fn begun_sort(word: &[u8], line: &[u8]) -> Option<Sort>
     }
 }
 
-// What the text seems to be, where this line of it says something; a line that is skipped says nothing.
+// What the text seems to be, if this line of it says something; a line that is skipped says nothing.
 fn line_sort(line: &[u8], words: &[&[u8]]) -> Option<Option<Sort>>
     ensures { MatchOption result
         ((rest : Option AnySort) → seems_by line.now (map (λ w. w.now) words.now) rest ≡ rest)

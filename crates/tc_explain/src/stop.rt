@@ -1,4 +1,4 @@
-//! Where a line stops to be understood.
+//! The place at which a line stops to be understood.
 ghost use Rattle.std.specs.Prelude.{◌≡◌, ◌&&◌, false, length, map, nat_le, true};
 ghost use Rattle.tc_explain.specs.declared.slot.Slot.TheVariants as S;
 ghost use Rattle.tc_explain.specs.Slots.{may_end, walk};
@@ -7,15 +7,15 @@ ghost use Rattle.tc_explain.specs.Replies.{entry_stop as entry_end, is_whole as 
 use crate::reply::{arrow_at, entry_ends, entry_next};
 use crate::slot::Slot;
 
-/// The place, among the words of a line, of the first that may not stand where it stands, and what may stand there. Where
-/// each may, the place of the end.
+/// The place, among the words of a line, of the first that may not be where it is, and what may be there. If each may,
+/// the place of the end.
 #[derive(Clone, Copy, Debug, PartialEq, Eq)]
 pub(crate) struct Stop {
     pub(crate) place: usize,
     pub(crate) slot: Slot,
 }
 
-// Where the words stop, the first of which stands at this slot.
+// The place at which the words stop, the first of which is at this slot.
 fn walk_from(moves: bool, first: Slot, words: &[&[u8]]) -> Stop
     ensures { result ≡ walk moves first 0 (map (λ w. w.now) words.now) }
 {
@@ -32,21 +32,21 @@ fn walk_from(moves: bool, first: Slot, words: &[&[u8]]) -> Stop
     }
 }
 
-/// Where a line of a script stops.
+/// The place at which a line of a script stops.
 pub(crate) fn script_stop(words: &[&[u8]]) -> Stop
     ensures { result ≡ walk false S.Keyword 0 (map (λ w. w.now) words.now) }
 {
     walk_from(false, Slot::Keyword, words)
 }
 
-/// Where a move stops.
+/// The place at which a move stops.
 pub(crate) fn move_stop(words: &[&[u8]]) -> Stop
     ensures { result ≡ walk true S.Run 0 (map (λ w. w.now) words.now) }
 {
     walk_from(true, Slot::Run, words)
 }
 
-/// Where a line of a history stops.
+/// The place at which a line of a history stops.
 pub(crate) fn entry_stop(words: &[&[u8]]) -> Stop
     ensures { result ≡ entry_end (map (λ w. w.now) words.now) }
 {
@@ -64,14 +64,14 @@ pub(crate) fn entry_stop(words: &[&[u8]]) -> Stop
     }
 }
 
-/// Whether each of the words of a move may stand where it stands.
+/// Whether each of the words of a move may be where it is.
 pub(crate) fn is_move(stop: Stop, words: &[&[u8]]) -> bool
     ensures { result ≡ (may_end stop.slot && nat_le (length (map (λ w. w.now) words.now)) stop.place) }
 {
     stop.slot.may_end() && words.len() <= stop.place
 }
 
-/// Whether each of the words of a line of a history may stand where it stands.
+/// Whether each of the words of a line of a history may be where it is.
 pub(crate) fn is_whole(stop: Stop, words: &[&[u8]]) -> bool
     ensures { result ≡ whole stop (length (map (λ w. w.now) words.now)) }
 {

@@ -1,4 +1,4 @@
-//! What is told of a refused text.
+//! What is printed about a refused text.
 ghost use Rattle.std.specs.Prelude.{◌≡◌, ◌<◌, ◌++◌, [], ◌∷◌, IfOk, OnOk, length, map, option_copied, slice_get, true};
 ghost use Rattle.std.specs.List.{position};
 ghost use Rattle.tc_line.specs.Text.{lines, words as words_of};
@@ -29,10 +29,10 @@ use tc_line::{ScriptKind, read_words};
 use tc_text::{TextKind, append_line as append_words, append_text};
 use tc_verdict::NoMemory;
 
-/// What stands before what would be understood.
+/// What is before what would be understood.
 const UNDERSTOOD: &str = "understood there: ";
 
-// Appends what the text seems to be, where it should be something else.
+// Appends what the text seems to be, if it should be something else.
 #[tactic(auto, using(crate::proofs::Lemmas::Showing::tell_rules))]
 fn append_sort(out: &mut Vec<u8>, sort: Sort, seen: Option<Sort>) -> Result<(), NoMemory>
     ensures { OnOk result (Shows (sort_note sort seen) out.old.items out.new.items) }
@@ -46,7 +46,7 @@ fn append_sort(out: &mut Vec<u8>, sort: Sort, seen: Option<Sort>) -> Result<(), 
     }
 }
 
-// The word at a place, where there is one.
+// The word at a place, if there is one.
 fn word_at<'t>(words: &[&'t [u8]], place: usize) -> Option<&'t [u8]>
     ensures { option_copied result ≡ slice_get (map (λ w. w.now) words.now) place }
 {
@@ -100,7 +100,7 @@ fn append_keywords(
     append_nearest(alloc, out, word, all_words(alloc)?.as_slice())
 }
 
-// Appends what would be understood in place of the word.
+// Appends what would be understood instead of the word.
 #[tactic(auto, using(crate::proofs::Lemmas::Showing::tell_rules))]
 fn append_slot(
     alloc: Global,
@@ -254,7 +254,7 @@ fn append_text_note(
     }
 }
 
-// Appends what stands at a column of the line, behind so many bytes.
+// Appends what is at a column of the line, after that many bytes.
 fn append_at(alloc: Global, out: &mut Vec<u8>, start: usize, what: &str) -> Result<(), NoMemory>
     ensures { OnOk result (AddsLine out.old.items out.new.items) }
 {
@@ -306,7 +306,7 @@ fn append_kind(
     }
 }
 
-// Appends the odd byte behind so many.
+// Appends the odd byte after that many.
 fn append_odd_at(alloc: Global, out: &mut Vec<u8>, line: &[u8], at: usize) -> Result<(), NoMemory>
     requires { at < length line.now }
     ensures { OnOk result (AddsLine out.old.items out.new.items) }
@@ -344,7 +344,7 @@ fn append_ended(alloc: Global, out: &mut Vec<u8>, number: usize) -> Result<(), N
     append_numbered(alloc, out, "the text ends behind line ", number - 1)
 }
 
-// Appends the line as it stands.
+// Appends the line as it is.
 fn append_shown(alloc: Global, out: &mut Vec<u8>, line: &[u8]) -> Result<(), NoMemory>
     ensures { OnOk result (AddsLine out.old.items out.new.items) }
 {
@@ -395,11 +395,11 @@ fn append_opened(
     }
 }
 
-/// What is told of a refused text besides its first fault, which is of this kind and in the line with this number. Only want
-/// of memory may stand in place of it.
+/// What is printed about a refused text besides its first fault, which is of this kind and in the line with this
+/// number. Memory may run out instead.
 ///
-/// Each line ends with a line feed and begins with two spaces. Of the text it shows printable bytes alone, others by their
-/// numbers, and of a long line the first 60 bytes.
+/// Each line ends with a line feed and begins with two spaces. It shows only printable bytes of the text, others by
+/// their numbers, and of a long line the first 60 bytes.
 #[tactic(auto, unfolding(crate::specs::Explanation::explanation), using(crate::proofs::Lemmas::Showing::tell_rules))]
 pub fn explain(
     alloc: Global,

@@ -96,7 +96,7 @@ module _ {scripts : List ScriptView} {p q : List Entry} where
       by_kind true k = killed_ahead s a.target k
       by_kind false k = done_ahead s a.target k
 
--- ---- who goes on
+-- ---- the runs that continue
 
 not_run : (b : ℕ) (ph : Phase) → ph ≡ P.Killed → is_run_of b ph ≡ false
 not_run b ph h = ap (is_run_of b) h
@@ -110,7 +110,7 @@ module _ {scripts : List ScriptView} {p q : List Entry} where
   unfolding is_active
   ended_inactive s c n = ap (is_active_on q n.run.0) (sym (s.comp_same n.run.0) ∙ n.on) ∙ not_run n.run.0 (phase q c) n.ended
 
-  -- a run that goes on after q is not among those that are leaving
+  -- a run that continues after q is not among those that are leaving
   pub not_ending_run : IsAhead scripts p q → (b : ℕ) → is_active q b ≡ true → (c : ℕ) (n : IsEnding scripts p q c) → (b == n.run.0) ≡ false
   not_ending_run s b act c n = by_test (b == n.run.0) refl
     where

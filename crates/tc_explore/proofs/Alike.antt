@@ -1,4 +1,4 @@
--- Histories that are alike are answered alike, but for questions, and are alike after the same entry.
+-- Histories that are alike are answered alike, except for questions, and are alike after the same entry.
 use Rattle.std.proofs.Common.{ℕ, ◌≡◌, ◌==◌, ◌&&◌, ◌||◌, not, if◌then◌else◌, nat_lt, Bool, true, false, Option, Some, None, is_some, List, [], ◌∷◌, ◌++◌, length, drop, map, refl, ap, sym, ◌∙◌, arith}
 use Rattle.std.proofs.lemmas.Bool.Decides.{nat_tests}
 use Rattle.std.specs.List.{list_any, list_all}
@@ -131,7 +131,7 @@ module _ {p q : List Entry} where
   met_alike s (O.Wait k T.All) = refl
   met_alike s _ = refl
 
--- the reply to the call goes by what is alike alone
+-- the reply to the call depends only on what is alike
 abbrev pub is_plain_call : Op → Bool
 is_plain_call (O.Running t) = false
 is_plain_call (O.Alive t) = false

@@ -42,7 +42,7 @@ after_over scripts states found q e u is over told = record {
   more = λ h. let was : is_over (e ∷ q) ≡ true = ap is_over (sym is) ∙ over in absurd cc;
 }
 
--- it is not over, and a state that is seen stands for it
+-- it is not over, and a state that is seen represents it
 pub after_seen : (scripts : List ScriptView) (states : List Case) (found : List Witness) (q : List Entry) (e : Entry) (u v : Case) → past_of u ≡ e ∷ q → is_over (past_of u) ≡ false →
     StandsOn scripts u v → IsSeen states (past_of v) → IsAfter scripts states found q e
 after_seen scripts states found q e u v is going stands seen = record {
@@ -86,7 +86,7 @@ run_parked scripts states found n q run op t off = λ e own h on.
     let was : goes_on e.reply ≡ goes_on (answer n q run.0 op) = ap (λ (x : Entry). goes_on x.reply) same in
     absurd cc
 
--- in a state a call that goes on is an error, or changes something
+-- in a state a call that continues is an error, or changes something
 pub run_closed : (scripts : List ScriptView) (states : List Case) (found : List Witness) (n : ℕ) (q : List Entry) (run : Run) (op : Op) → IsCalm scripts q → run.0 < length scripts → IsTurn scripts q (taken n q run op) →
     goes_on (answer n q run.0 op) ≡ true → IsAfter scripts states found q (taken n q run op) → IsRunClosed scripts states found q run.0
 run_closed scripts states found n q run op calm near t goes after = λ e own h on.
@@ -97,7 +97,7 @@ run_closed scripts states found n q run op calm near t goes after = λ e own h o
 pub goes_on_by : (scripts : List ScriptView) (n : ℕ) (q : List Entry) (run : Run) (op : Op) → IsTurn scripts q (taken n q run op) → goes_on (answer n q run.0 op) ≡ true → is_fault (answer n q run.0 op) ≡ false → GoesOn scripts q
 goes_on_by scripts n q run op t on plain = record { entry = taken n q run op; turn = t; on = on; no_fault = plain }
 
--- the next call of a run that does not go on, and that of one that is an error
+-- the next call of a run that does not continue, and that of one that is an error
 pub still_cannot : (scripts : List ScriptView) (q : List Entry) (b : ℕ) → CannotGo scripts q b → IsStillAt scripts q b
 still_cannot scripts q b cannot = λ e own t on. absurd (cannot e own t)
 

@@ -1,4 +1,5 @@
--- Where whatever comes after each seen history is seen, or its verdict is found, the verdict of every complete course is found.
+-- If whatever comes after each seen history is seen, or its verdict is found, the verdict of every complete course is
+-- found.
 use Rattle.std.proofs.Common.{ℕ, zero, suc, ◌≡◌, ◌<◌, ◌≤◌, ◌==◌, ◌&&◌, ◌||◌, ◌⊎◌, inl, inr, ⊎_elim, not, nat_lt, if◌then◌else◌, Bool, true, false, Option, Some, None, is_some, MatchOption, List, [], ◌∷◌, length, slice_get, refl, ap, sym, subst, ◌∙◌, arith}
 use Rattle.std.proofs.lemmas.Bool.Decides.{nat_tests}
 use Rattle.tc_verdict.specs.declared.verdict.Verdict.{Verdict}
@@ -45,12 +46,12 @@ use Rattle.tc_explore.proofs.Ordered.{order_opening}
 use Rattle.tc_explore.proofs.Simulation.{unchanged_ended, unchanged_quiet, unchanged_wait, unchanged_wake, some_if, stay, stutter, both}
 use Rattle.tc_explore.proofs.Places.{not_ending, quiet_sets_no_wake, quiet_no_wake, Spent, how_spent, loud_not_quiet, behind, parked, woken_behind, leaving_on, leaving_parked, leaving_woken, together, woken, followed_self, keeps_quiet}
 
--- what is found of a course, or stands for it
+-- what is found of a course, or represents it
 pub record IsTold (scripts : List ScriptView) (Seen : List Entry → Type 0) (found : List Witness) (p : List Entry) : Type 0 where
   pub over : is_over p ≡ true → is_found found (overall p) ≡ true
   pub going : is_over p ≡ false → (r : List Entry) × IsClosed scripts Seen found r × IsFor scripts r p
 
--- each seen history is closed, or another that stands for the same is
+-- each seen history is closed, or another that represents the same is
 abbrev pub SeenIsClosed : List ScriptView → (List Entry → Type 0) → List Witness → Type 0
 SeenIsClosed scripts Seen found =
     (r p : List Entry) → Seen r → IsCourse scripts p → IsFor scripts r p → (s : List Entry) × IsClosed scripts Seen found s × IsFor scripts s p
@@ -172,7 +173,7 @@ exists_back s c there = ap (is_in c) s.comps_same ∙ there
 
 -- ---- one more turn of p
 
--- p and one more turn, where q stands for p and is closed
+-- p and one more turn, where q represents p and is closed
 pub record AtTurn (scripts : List ScriptView) (Seen : List Entry → Type 0) (found : List Witness) (p q : List Entry) (e : Entry) : Type 0 where
   pub some : 1 ≤ length scripts
   pub course : IsCourse scripts (e ∷ p)
@@ -181,7 +182,7 @@ pub record AtTurn (scripts : List ScriptView) (Seen : List Entry → Type 0) (fo
   pub going : is_over p ≡ false
   pub seen : SeenIsClosed scripts Seen found
 
--- and its caller goes on, on this component
+-- and its caller continues, on this component
 pub record IsGoing (scripts : List ScriptView) (p q : List Entry) (e : Entry) (me : Comp) : Type 0 where
   pub in_p : is_active p e.caller.0 ≡ true
   pub in_q : is_active q e.caller.0 ≡ true
@@ -205,12 +206,12 @@ fresh_stand : (past : List Entry) (e : Entry) (b : ℕ) → (e.caller.0 == b) �
 fresh_stand past e b other un = rw (other, un) refl
 
 module _ {scripts : List ScriptView} {p q : List Entry} where
-  -- who goes on after q is not leaving
+  -- a run that continues after q is not leaving
   no_leaving : (e : Entry) → IsFor scripts q p → is_active q e.caller.0 ≡ true →
       (c : ℕ) (n : IsEnding scripts p q c) → (e.caller.0 == n.run.0) ≡ true → IsLeaving scripts q n.run.0 (stand (e ∷ p) n.run.0)
   no_leaving e f act c n k = let other : (e.caller.0 == n.run.0) ≡ false = not_ending_run f.ahead e.caller.0 act c n in absurd cc
 
-  -- nor who does not go on after p
+  -- nor one that does not continue after p
   none_leaving : (e : Entry) → is_active p e.caller.0 ≡ false →
       (c : ℕ) (n : IsEnding scripts p q c) → (e.caller.0 == n.run.0) ≡ true → IsLeaving scripts q n.run.0 (stand (e ∷ p) n.run.0)
   none_leaving e off c n k =
@@ -442,7 +443,7 @@ module _ {scripts : List ScriptView} {Seen : List Entry → Type 0} {found : Lis
           let no : is_spent q e.op ≡ false = (h.closed.each d g.in_range turn r.0).loud r.1 in
           absurd cc
 
-  -- a step, where no Wake is to come
+  -- a step, if no Wake is to come
   told_place : (me : Comp) → AtTurn scripts Seen found p q e → IsGoing scripts p q e me → (stand p e.caller.0).wake ≡ None →
       call_of me (stand p e.caller.0).bound (slice_get (steps_in (script_of scripts e.caller.0)) (stand p e.caller.0).called) ≡ e.op → IsTold scripts Seen found (e ∷ p)
   told_place me h g none calls = by_less (nat_lt (stand p e.caller.0).called (stand q e.caller.0).called) refl
@@ -495,7 +496,7 @@ all_still past c stuck there = by_test (is_still past (phase past c)) refl
     by_test true k = refl
     by_test false k = let no = one_false (λ x. is_still past (phase past x)) (comps past) c there k in absurd cc
 
--- in a stuck case each run that goes on waits in vain
+-- in a stuck case each run that continues waits in vain
 stuck_waits : (n : ℕ) (past : List Entry) (b : ℕ) → IsLegal n past → is_stuck past ≡ true → is_active past b ≡ true → (a : Awaited) × (waiting past b ≡ Some a) × (holds past a ≡ false)
 unfolding is_active
 stuck_waits n past b legal stuck act =
@@ -547,7 +548,7 @@ place_if_parked : (s : Stand) (wake : Op) (place : ℕ) → s.wake ≡ Some wake
 place_if_parked s wake place h more = rw h (omega (arith, more))
 
 module _ {scripts : List ScriptView} {p q : List Entry} where
-  -- where p is stuck no run is leaving: the one whose component comes first by rank would go on
+  -- where p is stuck no run is leaving: the one whose component comes first by rank would continue
   none_ending : IsCourse scripts p → (f : IsFor scripts q p) → is_stuck p ≡ true → (m c : ℕ) → IsEnding scripts p q c → f.order.rank c < m → ⊥
   none_ending cp f stuck zero c n l = absurd (omega (arith, l))
   none_ending cp f stuck (suc m) c n l = by_phase (none_ending cp f stuck m) (f.ahead.phases met.comp.0)
@@ -591,7 +592,7 @@ module _ {scripts : List ScriptView} {p q : List Entry} where
       by_phase c (inl h) = h
       by_phase c (inr n) = absurd (none_ending cp f stuck (suc (f.order.rank c)) c n (omega arith))
 
-  -- and none can go on in q
+  -- and none can continue in q
   none_goes_on : IsCourse scripts p → IsFor scripts q p → IsAlike p q → is_stuck p ≡ true → GoesOn scripts q → ⊥
   none_goes_on cp f alike stuck go = by_less (nat_lt at.place (stand q d.caller.0).called) refl
     where

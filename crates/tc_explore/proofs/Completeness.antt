@@ -1,4 +1,4 @@
--- Where the states that a search has seen are closed, it has found the verdict of each complete course.
+-- If the states that a search has seen are closed, it has found the verdict of each complete course.
 use Rattle.std.proofs.Common.{◌≤◌, List, [], length, reverse, ap, ◌∙◌}
 use Rattle.tc_step.specs.Steps.{ScriptView}
 use Rattle.tc_table.specs.Case.{Case, past_of}

@@ -1,4 +1,5 @@
--- The states that a search keeps: no such case is over, no run has a Wake to come, and each call that goes on changes something.
+-- The states that a search keeps: no such case is over, no run has a Wake to come, and each call that continues changes
+-- something.
 use Rattle.std.proofs.Common.{ℕ, ◌≡◌, ◌<◌, ◌≤◌, ◌+◌, ◌==◌, ◌&&◌, ◌||◌, inl, inr, not, nat_lt, Bool, true, false, Option, Some, None, List, [], ◌∷◌, length, reverse, refl, ap, sym, subst, ◌∙◌, arith}
 use Rattle.std.proofs.lemmas.Bool.Decides.{nat_tests}
 use Rattle.tc_verdict.specs.declared.run.Run.{Run}
@@ -48,7 +49,7 @@ no_wake_next past e on h b = by_test (e.caller.0 == b) refl
         let other : stand (e ∷ past) b ≡ after_other_by (stand past b).comp e b (stand past b) = rw k refl in
         ap (λ (s : Stand). s.wake) other ∙ (wake_after_other (stand past b).comp (started_on e b) e b (stand past b) refl ∙ h b)
 
--- a call of which nobody can tell that it was made ends no case
+-- a call of which nobody can see that it was made ends no case
 silent_no_case : (scripts : List ScriptView) (q : List Entry) (e : Entry) → IsCourse scripts (e ∷ q) → is_fault e.reply ≡ false → is_ended e.reply ≡ false → IsSilent q e.caller.0 e.op → ends_case e ≡ false
 silent_no_case scripts q e cq plain goes (inl spent) = by_kind (how_spent q e.op spent)
   where
@@ -74,7 +75,7 @@ module _ (scripts : List ScriptView) (t u : Case) (run : Run) (op : Op) where
         no_wake = λ b. ap (λ x. (stand x b).wake) is ∙ no_wake_next (past_of t) (taken t.behaviours (past_of t) run op) goes o.no_wake b;
       }
 
-  -- a call that goes on, after which the case is not over
+  -- a call that continues, after which the case is not over
   pub open_next : IsOpen scripts t → IsOn scripts u → goes_on (answer t.behaviours (past_of t) run.0 op) ≡ true → past_of u ≡ taken t.behaviours (past_of t) run op ∷ past_of t → is_over (past_of u) ≡ false →
       IsOpen scripts u
   open_next o on goes is going = record {
@@ -121,7 +122,7 @@ pub ruleset keeping_rules = (on_open, open_state, on_state, open_same, state_sam
 
 pub ruleset call_rules = (on_open, open_silent, on_not_ended)
 
--- ---- no call is left of which nobody can tell that it was made
+-- ---- no call is left of which nobody can see that it was made
 
 pub calm_none : (scripts : List ScriptView) (t : Case) (b : ℕ) → CannotGo scripts (past_of t) b → IsCalmAfter scripts t t b
 calm_none scripts t b cannot = (refl, λ e own turn goes plain. absurd (cannot e own turn))
@@ -159,13 +160,13 @@ state_of scripts t o calm = record { opened = o; calm = calm }
 
 pub ruleset calm_rules = (calm_then, state_of)
 
--- ---- runs that go on
+-- ---- runs that continue
 
 ends_none : (o : Option Comp) (e : Entry) (c : Comp) → o ≡ Some c → is_ended e.reply ≡ false → halts (Some c) e c.0 ≡ false → ends o e ≡ false
 unfolding ends_pass
 ends_none o e c same goes none = subst (λ x. ends x e ≡ false) (sym same) (neither (is_ended e.reply) (halts (Some c) e c.0) goes none)
 
--- the pass of a run that goes on has not ended
+-- the pass of a run that continues has not ended
 pub active_stays : (scripts : List ScriptView) (past : List Entry) (b : ℕ) → IsCourse scripts past → is_active past b ≡ true → (stand past b).left ≡ false
 active_stays scripts [] b course act = refl
 active_stays scripts (e ∷ past) b course act = by_comp (active_stays scripts past b course.1) (comp_of past b) refl
@@ -266,7 +267,7 @@ main_begins : is_active [] 0 ≡ true
 unfolding is_active phase
 main_begins = refl
 
--- while a case is not over its main run goes on
+-- while a case is not over its main run continues
 pub main_goes : (scripts : List ScriptView) (past : List Entry) → IsCourse scripts past → is_over past ≡ false → is_active past 0 ≡ true
 main_goes scripts [] course going = main_begins
 main_goes scripts (e ∷ past) course going =

@@ -1,4 +1,4 @@
--- The last calls of a case that is over: they are answered Ended, and behind them no run has a call left.
+-- The last calls of a case that is over: they are replied Ended, and after them no run has a call left.
 use Rattle.std.proofs.Common.{ℕ, ◌≡◌, ◌<◌, ◌≤◌, ◌+◌, ◌==◌, ◌||◌, inl, inr, nat_lt, Bool, true, false, Option, Some, None, List, ◌∷◌, length, refl, ap, sym, subst, ◌∙◌, arith}
 use Rattle.std.proofs.lemmas.Bool.Decides.{nat_tests}
 use Rattle.tc_verdict.specs.declared.run.Run.{Run}
@@ -103,7 +103,7 @@ over_step scripts p q b course over (inl h) =
     subst (λ r. IsOverAfter scripts p r b) (sym h.0) (record { over = over; verdict = refl; done = no_turn scripts p b (λ op. ended b op) h.1; others = λ k none. none })
 over_step scripts p q b course over (inr s) = subst (λ x. IsOverAfter scripts p x b) (sym s.1) (over_entry scripts p s.0 b course over s.2 s.3)
 
--- so many runs have no call left after the end of a case
+-- that many runs have no call left after the end of a case
 pub record AreOver (scripts : List ScriptView) (t u : Case) (n : ℕ) : Type 0 where
   pub over : is_over (past_of u) ≡ true
   pub verdict : overall (past_of u) ≡ overall (past_of t)

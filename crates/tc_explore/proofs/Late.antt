@@ -100,7 +100,7 @@ gone_next n past e c legal h = record {
 
 -- ---- the entry
 
--- the entry halts component c alone, and nothing else changes by it
+-- the entry halts only component c, and nothing else changes by it
 pub record HaltsOne (past : List Entry) (e : Entry) (c : ℕ) : Type 0 where
   pub no_case : ends_case e ≡ false
   pub made : created e.op e.reply ≡ None
@@ -233,7 +233,7 @@ module _ {past : List Entry} {e : Entry} {c : ℕ} where
       by_test d true k = subst (λ x. phase (e ∷ past) x ≡ phase past x) (equal_if c d k) ((gone_next n past e c legal gone).dead ∙ sym gone.dead)
       by_test d false k = halt_elsewhere n legal h d k
 
-  -- a run that goes on is on another component
+  -- a run that continues is on another component
   pub halt_not_ending : HaltsOne past e c → (o : Option Comp) (me : Comp) → o ≡ Some me → (c == me.0) ≡ false → ends o e ≡ false
   unfolding ends_pass
   halt_not_ending h o me same other =
@@ -279,7 +279,7 @@ met_or_parked q past b op h = by_test (holds past (record { killed = m.for_kill;
     by_test true k = inl (rw (m.waits, k) refl)
     by_test false k = inr (rw (m.waits, k) refl)
 
--- who goes on is on no killed component
+-- a run that continues is on no killed component
 pub other_than_gone : (past : List Entry) (b c : ℕ) (me : Comp) → is_active past b ≡ true → comp_of past b ≡ Some me → phase past c ≡ P.Killed → (c == me.0) ≡ false
 unfolding is_active
 other_than_gone past b c me act on dead = by_test (c == me.0) refl

@@ -1,4 +1,4 @@
--- What the end of a run does that nobody can tell.
+-- What the end of a run does that nobody can see.
 use Rattle.std.proofs.Common.{ℕ, suc, ◌≡◌, ◌≤◌, ◌<◌, ◌==◌, ◌||◌, ◌⊎◌, inl, inr, nat_lt, not, if◌then◌else◌, Bool, true, false, Option, Some, None, is_some, MatchOption, List, ◌∷◌, length, slice_get, get_or, refl, ap, sym, subst, ◌∙◌, arith}
 use Rattle.std.proofs.lemmas.Bool.Decides.{nat_tests}
 use Rattle.std.proofs.lemmas.Option.{slice_get_within, slice_get-get_or}
@@ -44,7 +44,7 @@ pub record Ends (past : List Entry) (e : Entry) (c : Comp) : Type 0 where
   pub runs : phase past c.0 ≡ P.Running e.caller
   pub ordinary : is_alive_type past c.0 ≡ false
 
--- a run that goes on is what its component is running
+-- a run that continues is what its component is running
 pub running_on : (past : List Entry) (e : Entry) (c : Comp) → is_active past e.caller.0 ≡ true → comp_of past e.caller.0 ≡ Some c → phase past c.0 ≡ P.Running e.caller
 running_on past e c act on =
     let r = runs_if_active past e act in
@@ -102,13 +102,13 @@ module _ {past : List Entry} {e : Entry} {c : Comp} where
   pub end_overall : (n : ℕ) → IsLegal n (e ∷ past) → Ends past e c → overall (e ∷ past) ≡ overall past
   end_overall n legal h = overall_next n past e legal ∙ rw (h.op, h.reply) refl
 
-  -- the run goes on no more
+  -- the run continues no more
   pub end_off : (n : ℕ) → IsLegal n (e ∷ past) → Ends past e c → is_active (e ∷ past) e.caller.0 ≡ false
   unfolding is_active
   end_off n legal h =
       ap (is_active_on (e ∷ past) e.caller.0) (end_runs h e.caller.0 ∙ h.on) ∙ ap (is_run_of e.caller.0) (end_here n legal h)
 
-  -- whoever goes on after it went on before, and has another component
+  -- a run that continues after it continued before, and has another component
   pub end_others : (n : ℕ) → IsLegal n (e ∷ past) → Ends past e c → (b : ℕ) → is_active (e ∷ past) b ≡ true → is_active past b ≡ true
   end_others n legal h b act = by_comp (comp_of past b) refl
     where
@@ -128,7 +128,7 @@ module _ {past : List Entry} {e : Entry} {c : Comp} where
           let off : is_active (e ∷ past) e.caller.0 ≡ false = end_off n legal h in
           absurd cc
 
--- ---- what is left behind the end
+-- ---- what is left after the end
 
 finish_last : (me : Comp) (bound : List Comp) (o : Option Step) → call_of me bound o ≡ O.Finish → o ≡ None
 finish_last me bound None h = refl
@@ -259,7 +259,7 @@ module _ (scripts : List ScriptView) (p q : List Entry) (e : Entry) (c : Comp) (
     leaving = leaving_later scripts q (e ∷ q) n.run.0 (stand p n.run.0) keeps n.leaving;
   })
 
-  -- the component comes behind all others by rank
+  -- the component comes after all others by rank
   abbrev rank_by : Bool → ℕ → ℕ
   rank_by true d = suc f.order.top
   rank_by false d = f.order.rank d

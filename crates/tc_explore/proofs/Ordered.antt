@@ -33,7 +33,7 @@ from_next true None u n h = let no = h refl in absurd cc
 from_next true (Some x) None n h = omega arith
 from_next true (Some x) (Some v) n h = omega arith
 
--- behind a call of its own it waits for no more
+-- after a call of its own it waits for no more
 pub ordered_own : (scripts : List ScriptView) (rank : ℕ → ℕ) (q : List Entry) (c b : ℕ) (s : Stand) (e : Entry) → created e.op e.reply ≡ None → (is_wake e.op ≡ true → is_some s.wake ≡ true) →
     IsOrdered scripts rank q c b s → IsOrdered scripts rank q c b (after_own e s)
 ordered_own scripts rank q c b s e made wakes h = λ k killed t l call.
@@ -52,7 +52,7 @@ not_on_killed past b c act on dead =
     let off : is_active_on past b (comp_of past b) ≡ false = ap (is_active_on past b) on ∙ ap (is_run_of b) dead in
     absurd cc
 
--- who goes on went on before an entry that starts nothing
+-- a run that continues continued before an entry that starts nothing
 pub was_active : (n : ℕ) (past : List Entry) (e : Entry) → IsLegal n (e ∷ past) → ((b : ℕ) → started_on e b ≡ None) → (b : ℕ) → is_active (e ∷ past) b ≡ true → is_active past b ≡ true
 was_active n past e legal no_run b act = by_comp (comp_of past b) refl
   where

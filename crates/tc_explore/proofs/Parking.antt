@@ -1,4 +1,4 @@
--- A case in which no run can go on: each that is running is parked, and the main component's Wake is an error.
+-- A case in which no run can continue: each that is running is parked, and the main component's Wake is an error.
 use Rattle.std.proofs.Common.{ℕ, ◌≡◌, ◌<◌, ◌≤◌, ◌+◌, ◌==◌, ◌⊎◌, inl, inr, nat_lt, if◌then◌else◌, Bool, true, false, Option, Some, None, List, [], ◌∷◌, length, slice_get, refl, ap, sym, subst, ◌∙◌, arith}
 use Rattle.std.specs.List.{list_all}
 use Rattle.std.proofs.lemmas.Bool.Decides.{nat_tests}
@@ -123,7 +123,7 @@ pub record IsParkedIn (scripts : List ScriptView) (q r : List Entry) (b : ℕ) :
   pub no_fault : fault (length scripts) q b (O.Wait killed target) ≡ None
   pub unmet : holds q (record { killed = killed; target = target }) ≡ false
 
--- k runs of t are parked in u, if they go on, and the others stand as they did
+-- k runs of t are parked in u, if they continue, and the others are as they did
 pub record AreParked (scripts : List ScriptView) (t u : Case) (k : ℕ) : Type 0 where
   pub alike : IsAlike (past_of u) (past_of t)
   pub parked : (b : ℕ) → b < k → is_active (past_of t) b ≡ true → IsParkedIn scripts (past_of t) (past_of u) b
@@ -287,7 +287,7 @@ parked_more scripts t u v k some o held on act h step = by_step step
         absurd (s.1 (record { caller = record { 0 = k }; op = O.Wait w.killed w.target; reply = reply }) refl (record { turn = turn_by scripts r q k same ∙ w.turn; reply = refl; not_idle = rw waits refl }))
     by_step (inr s) = parked_entry scripts t u v s.0 k s.1 s.2 s.3 o on act_q h w
 
--- one run more, whether it goes on or not
+-- one run more, whether it continues or not
 pub parked_next : (scripts : List ScriptView) (t u v : Case) (k : ℕ) → 1 ≤ length scripts → IsOpen scripts t → AreHeld scripts (past_of t) → IsOn scripts u → AreParked scripts t u k →
     IsSteppedIfActive scripts (past_of u) (past_of v) k → AreParked scripts t v (k + 1)
 parked_next scripts t u v k some o held is_on h (inl s) =
@@ -395,7 +395,7 @@ stuck_end scripts t u v n some whole o on h step = by_step step
         absurd (s.1 (record { caller = record { 0 = 0 }; op = O.Wake p.killed p.target; reply = reply }) refl (record { turn = calls; reply = refl; not_idle = rw error refl }))
     by_step (inr s) = stuck_entry s.0 s.1 s.2 s.3
 
--- ---- where none goes on, and no error is found
+-- ---- if none continues, and no error is found
 
 pub held_if : (scripts : List ScriptView) (states : List Case) (found : List Witness) (q : List Entry) → IsCourse scripts q → AreStill scripts q (length scripts) →
     ((b : ℕ) → b < length scripts → IsRunClosed scripts states found q b) → is_found found V.Error ≡ false → AreHeld scripts q

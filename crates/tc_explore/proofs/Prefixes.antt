@@ -1,4 +1,4 @@
--- What stands in front of a legal history is legal.
+-- What is in front of a legal history is legal.
 use Rattle.std.proofs.Common.{ℕ, ◌≡◌, ◌∙◌, ◌+◌, ◌<◌, List, [], ◌∷◌, ◌++◌, length, take, drop, get_or, reverse, sym, ap, subst}
 use Rattle.std.proofs.lemmas.List.{take_more, reverse-append, take-append-drop}
 use Rattle.tc_entry.specs.declared.entry.Entry.{Entry}

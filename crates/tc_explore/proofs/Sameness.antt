@@ -1,4 +1,4 @@
--- What two courses of which the same is known stand for.
+-- What two courses of which the same is known represent.
 use Rattle.std.proofs.Common.{ℕ, suc, ◌≡◌, ◌+◌, ◌<◌, ◌≤◌, ◌&&◌, nat_lt, nat_le, if◌then◌else◌, Bool, true, false, Option, Some, None, List, [], ◌∷◌, ◌++◌, length, refl, ap, sym, subst, ◌∙◌, arith}
 use Rattle.std.proofs.lemmas.Bool.Decides.{nat_tests}
 use Rattle.tc_verdict.specs.declared.run.Run.{Run}
@@ -154,7 +154,7 @@ same_if scripts p q cp cq some levels counts phases kinds comps stands =
     same_verdict V.Error V.Inconc h = absurd (omega arith)
     same_verdict V.Error V.Fail h = absurd (omega arith)
 
--- what stands for a history, and is the same as another, so does that
+-- what represents a history, and is the same as another, so does that
 pub same_for : (scripts : List ScriptView) (q r p : List Entry) → IsSame q r → IsFor scripts q p → IsFor scripts r p
 same_for scripts q r p s f = record {
   ahead = ahead_after scripts p q r f.ahead s.alike (quiet_alike (length scripts) q r (alike_sym q r s.alike));

@@ -1,4 +1,4 @@
--- What one more quiet call of a search stands for.
+-- What one more quiet call of a search represents.
 use Rattle.std.proofs.Common.{ℕ, ◌≡◌, ◌==◌, inl, inr, true, false, None, Some, List, ◌∷◌, length, slice_get, refl, ap, sym, subst, ◌∙◌}
 use Rattle.tc_verdict.specs.declared.run.Run.{Run}
 use Rattle.tc_entry.specs.declared.comp.Comp.{Comp}
@@ -109,7 +109,7 @@ lead_spent scripts p q e cp cq plain on spent f = by_kind (how_spent q e.op spen
     by_kind (inr (inl late)) = lead_late scripts p q e cp cq plain on late f
     by_kind (inr (inr met)) = lead_met scripts p q e cp cq plain on met f
 
--- the end of a run that goes on, on a component that nothing can start again
+-- the end of a run that continues, on a component that nothing can start again
 lead_finish : (scripts : List ScriptView) (p q : List Entry) (e : Entry) → IsCourse scripts (e ∷ q) → is_fault e.reply ≡ false → is_ended e.reply ≡ false → IsEnd q e.caller.0 e.op →
     IsFor scripts q p → IsFor scripts (e ∷ q) p
 lead_finish scripts p q e cq plain goes h f =

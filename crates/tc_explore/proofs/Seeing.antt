@@ -49,7 +49,7 @@ found_longer a b v more h =
 pub covered_longer : (scripts : List ScriptView) (a b : List Case) (q : List Entry) → IsLonger a b → IsCovered scripts (IsSeen a) q → IsCovered scripts (IsSeen b) q
 covered_longer scripts a b q more cov = λ p cp f. let c = cov p cp f in (c.0, seen_longer a b c.0 more c.1, c.2)
 
--- what a state of the list stands on
+-- what a state of the list is on
 pub covered_by : (scripts : List ScriptView) (states : List Case) (t u : Case) → StandsOn scripts t u → IsSeen states (past_of u) → IsCovered scripts (IsSeen states) (past_of t)
 covered_by scripts states t u stands seen = λ p cp f. (past_of u, seen, stands p cp f)
 

@@ -1,4 +1,4 @@
--- A history that stands for another still does after one more turn of either.
+-- A history that represents another still does after one more turn of either.
 use Rattle.std.proofs.Common.{ℕ, ◌≡◌, ◌==◌, ◌⊎◌, not, nat_lt, nat_le, Bool, true, false, Option, Some, None, MatchOption, List, ◌∷◌, length, refl, ap, sym, subst, ◌∙◌, arith}
 use Rattle.std.proofs.lemmas.Bool.Decides.{nat_tests}
 use Rattle.tc_verdict.specs.declared.verdict.Verdict.{Verdict}
@@ -151,7 +151,7 @@ quiet_alike n q r a b op h = record { quiet = rw (a.overall_same, late_alike a o
 
 -- ---- a turn of one, or of both
 
--- a turn of p, behind which q is ahead, where its caller still is where q has it or before
+-- a turn of p, after which q is ahead, if its caller still is where q has it or before
 pub stay : (scripts : List ScriptView) (p q : List Entry) (e : Entry) → IsCourse scripts (e ∷ p) → IsCourse scripts q → IsFor scripts q p → IsAhead scripts (e ∷ p) q →
     created e.op e.reply ≡ None → ((b : ℕ) → started_on e b ≡ None) →
     (is_active q e.caller.0 ≡ true → IsFollowed scripts q e.caller.0 (stand (e ∷ p) e.caller.0) (stand q e.caller.0)) → IsFor scripts q (e ∷ p)
@@ -171,7 +171,7 @@ stay scripts p q e cp cq f ahead made no_run own = record {
         let here : (stand p b).comp ≡ Some on.0 = fol.comp ∙ (stand_comp scripts q b cq ∙ on.1) in
         subst (λ s. IsFollowed scripts q b s (stand q b)) (sym (stand_other p e b on.0 k here)) fol
 
--- a turn of p that changes nothing, where its caller still is where q has it or before
+-- a turn of p that changes nothing, if its caller still is where q has it or before
 pub stutter : (scripts : List ScriptView) (p q : List Entry) (e : Entry) → IsCourse scripts (e ∷ p) → IsCourse scripts q → IsFor scripts q p → ChangesNothing p e →
     ((c : ℕ) (n : IsEnding scripts p q c) → (e.caller.0 == n.run.0) ≡ true → IsLeaving scripts q n.run.0 (stand (e ∷ p) n.run.0)) →
     (is_active q e.caller.0 ≡ true → IsFollowed scripts q e.caller.0 (stand (e ∷ p) e.caller.0) (stand q e.caller.0)) → IsFor scripts q (e ∷ p)

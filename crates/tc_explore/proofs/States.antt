@@ -36,12 +36,12 @@ closed_state scripts states found t s runs stuck =
     let main = main_goes scripts (past_of t) s.opened.on.course s.opened.going in
     closed_by scripts states found (past_of t) s.opened.on.course s.opened.going main (active_stays scripts (past_of t) 0 s.opened.on.course main) runs stuck
 
--- a run goes on
+-- a run continues
 pub closed_going : (scripts : List ScriptView) (states : List Case) (found : List Witness) (t : Case) → IsState scripts t → ((b : ℕ) → b < length scripts → IsRunClosed scripts states found (past_of t) b) →
     GoesOn scripts (past_of t) → IsClosed scripts (IsSeen states) found (past_of t)
 closed_going scripts states found t s runs goes = closed_state scripts states found t s runs (inr goes)
 
--- none goes on, and error is found
+-- none continues, and error is found
 pub closed_stuck : (scripts : List ScriptView) (states : List Case) (before found : List Witness) (t : Case) → IsState scripts t → ((b : ℕ) → b < length scripts → IsRunClosed scripts states before (past_of t) b) →
     IsLonger before found → is_found found V.Error ≡ true → IsClosed scripts (IsSeen states) found (past_of t)
 closed_stuck scripts states before found t s runs more error =
@@ -90,7 +90,7 @@ closed_longer scripts a b f g q states found c = record {
     by_stuck (inl h) = inl (found_longer f g V.Error found h)
     by_stuck (inr h) = inr h
 
--- so many, and one more
+-- that many, and one more
 pub closed_ats_more : (scripts : List ScriptView) (a b : List Case) (f g : List Witness) (n : ℕ) → IsLonger a b → IsLonger f g → n < length a → ((i : ℕ) → i < n → IsClosedAt scripts a f i) → IsClosedAt scripts b g n →
     (i : ℕ) → i < n + 1 → IsClosedAt scripts b g i
 closed_ats_more scripts a b f g n states found within closed last i less = by_place (nat_lt i n) refl
@@ -112,7 +112,7 @@ closed_ats_all scripts a f n whole closed = λ i t here. let near = slice_get_wi
 
 pub ruleset loop_rules = (closed_ats_more, closed_ats_all)
 
--- the states that begin with what stands for the opening are closed
+-- the states that begin with what represents the opening are closed
 pub complete_by : (scripts : List ScriptView) (a b : List Case) (found : List Witness) (t u : Case) → 1 ≤ length scripts → past_of t ≡ [] → StandsOn scripts t u → IsSeen a (past_of u) → IsLonger a b → AreClosed scripts b found →
     AllFound scripts found
 complete_by scripts a b found t u some is stands seen more closed =

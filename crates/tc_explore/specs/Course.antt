@@ -15,8 +15,8 @@ use Rattle.tc_table.specs.Answers.{answer}
 
 -- ---- what is known of one run
 
--- the component that it is on, once it was started; the components that are bound in it; how many of its steps it has called;
--- whether its pass has ended; and the Wake to come, where its last call was parked
+-- the component that it is on, once it was started; the components bound in it; how many of its steps it has called.
+-- Whether its pass has ended, and the Wake to come, if its last call was parked.
 pub record Stand : Type 0 where
   pub comp : Option Comp
   pub bound : List Comp
@@ -98,14 +98,15 @@ goes_on _ = true
 abbrev pub one_more_if : Bool → Entry → ℕ → ℕ
 one_more_if own e k = if own && goes_on e.reply then k + 1 else k
 
--- how many calls run b has carried out: its steps, and its end, but for calls that are answered ended, and waits that are not over
+-- how many calls run b has carried out: its steps, and its end, without calls that are answered ended, and waits that
+-- are not over
 abbrev pub carried : List Entry → ℕ → ℕ
 carried [] b = 0
 carried (e ∷ past) b = one_more_if (e.caller.0 == b) e (carried past b)
 
 -- ---- what a run calls next
 
--- the call of a step; behind the last step the behaviour ends
+-- the call of a step; after the last step the behaviour ends
 abbrev pub call_of : Comp → List Comp → Option Step → Op
 call_of me bound (Some s) = operation me bound s
 call_of me bound None = O.Finish

@@ -24,7 +24,7 @@ locals w = Locals w ∷ []
 unfoldable pub of_witnesses : ℕ → List Witness → List Shown
 of_witnesses n found = flat_map locals found ++ (races found ++ flat_map (waits n) found)
 
--- the steps that no course carries out, where the search came to its end
+-- the steps that no course carries out, if the search came to its end
 abbrev pub unseen_if_complete : Ending → List ScriptView → List ℕ → List Shown
 unseen_if_complete E.Complete scripts reached = unseen scripts reached
 unseen_if_complete E.Undecided scripts reached = []

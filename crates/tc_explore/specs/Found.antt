@@ -27,7 +27,7 @@ abbrev pub IsOnce : List Witness → Type 0
 IsOnce found =
     (i j : ℕ) (d : Witness) → i < length found → j < length found → (slice_index_or found i d).verdict ≡ (slice_index_or found j d).verdict → i ≡ j
 
--- in some course run b carries out so many calls
+-- in some course run b carries out that many calls
 abbrev pub Reaches : List ScriptView → ℕ → ℕ → Type 0
 Reaches scripts b k = (past : List Entry) × IsCourse scripts past × (carried past b ≡ k)
 

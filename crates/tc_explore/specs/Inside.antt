@@ -1,4 +1,4 @@
--- What a search has to show: which histories stand for others, and when what comes after them is seen.
+-- What a search has to show: which histories represent others, and when what comes after them is seen.
 pub mod Alike
 pub mod Simulation
 pub mod Seen

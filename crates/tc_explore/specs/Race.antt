@@ -26,7 +26,7 @@ more_row left right = if nat_lt ROWS (length left) || nat_lt ROWS (length right)
 unfoldable pub rows : List Entry → List Entry → List Shown
 rows left right = flat_map (row_at left right) (range_with_len 0 ROWS) ++ more_row left right
 
--- two witnesses that have so many entries alike in front: that, and what comes then
+-- two witnesses that have that many entries alike in front: that, and what comes then
 abbrev pub parting : Witness → Witness → ℕ → List Shown
 parting v w k = (Alike v w k ∷ []) ++ ((Heads v w ∷ []) ++ rows (drop k v.history) (drop k w.history))
 
@@ -34,7 +34,7 @@ parting v w k = (Alike v w k ∷ []) ++ ((Heads v w ∷ []) ++ rows (drop k v.hi
 unfoldable pub race : Witness → Witness → List Shown
 race v w = parting v w (alike_count v.history w.history)
 
--- the first witness beside each other one
+-- the first witness next to each other one
 abbrev pub races : List Witness → List Shown
 races [] = []
 races (v ∷ found) = flat_map (race v) found

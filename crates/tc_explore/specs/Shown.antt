@@ -6,9 +6,9 @@ use Rattle.tc_step.specs.declared.step.Step.{Step}
 use Rattle.tc_table.specs.declared.awaited.Awaited.{Awaited}
 use Rattle.tc_explore.specs.declared.witness.Witness.{Witness}
 
--- what a line is about: the local verdicts at the end of a witness; that two witnesses have so many entries alike in front,
--- their verdicts, an entry of each, and that there are more; that a run on this component waits for this; and the first step of
--- a run that no course carries out, behind so many others
+-- what a line is about. Local verdicts at the end of a witness; that two witnesses begin with that many entries alike,
+-- their verdicts, an entry of each, and that there are more. That a run on this component waits for this; and the first
+-- step of a run that no course carries out, after that many others.
 pub data Shown : Type 0 where
   Locals : Witness → Shown
   Alike : Witness → Witness → ℕ → Shown

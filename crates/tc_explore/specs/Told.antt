@@ -1,4 +1,4 @@
--- What is told of a test case that was explored.
+-- What is printed about a test case that was explored.
 use Rattle.std.specs.Prelude.{ℕ, ◌==◌, ◌+◌, if◌then◌else◌, nat_lt, Bool, List, [], ◌∷◌, ◌++◌, codes}
 use Rattle.std.specs.List.{flat_map, list_any}
 use Rattle.std.specs.Fmt.{decimal}
@@ -24,11 +24,11 @@ abbrev pub verdict_count : List Witness → ℕ
 verdict_count found =
     found_once found V.None + (found_once found V.Pass + (found_once found V.Inconc + (found_once found V.Fail + found_once found V.Error)))
 
--- the status by the number of verdicts: 0 for one, 1 for more; where none was found, 3
+-- the status by the number of verdicts: 0 for one, 1 for more; if none was found, 3
 abbrev pub count_status : ℕ → ℕ
 count_status count = if count == 1 then 0 else if nat_lt 1 count then 1 else 3
 
--- the status by the ending too: 3 where the search met its limit
+-- the status by the ending too: 3 if the search met its limit
 abbrev pub ending_status : Ending → ℕ → ℕ
 ending_status E.Complete count = count_status count
 ending_status E.Undecided count = 3
@@ -37,7 +37,7 @@ ending_status E.Undecided count = 3
 abbrev pub explored_status : Explored → ℕ
 explored_status e = ending_status e.ending (verdict_count e.found)
 
--- the name of a verdict behind a space, if it was found
+-- the name of a verdict after a space, if it was found
 abbrev pub verdict_word : List Witness → Verdict → List ℕ
 verdict_word found v = if is_found found v then codes " " ++ name_of v else []
 

@@ -5,7 +5,7 @@ ghost use Rattle.tc_explore.specs.Course as courses;
 use tc_entry::{Comp, Op};
 use tc_step::Step;
 
-/// The call of the step at this place; behind the last step, the end of the behaviour.
+/// The call of the step at this place; after the last step, the end of the behaviour.
 pub(crate) fn call_at(me: Comp, bound: &[Comp], steps: &[Step], at: usize) -> Op
     ensures { result ≡ courses.call_of me bound.now (slice_get steps.now at) }
 {

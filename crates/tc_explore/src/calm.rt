@@ -1,4 +1,4 @@
-//! The calls of which nobody can tell that they were made, and the making of them.
+//! The calls of which nobody can see that they were made, and the making of them.
 ghost use Rattle.std.specs.Prelude.{◌≡◌, ◌≤◌, ◌<◌, true, false, IfOk, IsTrue, length};
 ghost use Rattle.tc_entry.specs.declared.limits.TheConstants.{BEHAVIOURS};
 ghost use Rattle.tc_entry.specs.declared.op.Op.TheVariants.{Finish};
@@ -91,7 +91,7 @@ fn is_end(course: &Course, run: Run, op: &Op) -> bool
     }
 }
 
-// Whether nobody can tell that a call was made: it changes nothing or is an end, and is no error.
+// Whether nobody can see that a call was made: it changes nothing or is an end, and is no error.
 #[tactic(auto, using(crate::proofs::Searching::silent_rules))]
 fn is_silent(course: &Course, run: Run, op: &Op) -> bool
     ensures plain { IsTrue result → reply.is_fault (answers.answer course.now.behaviours (past_of course.now) run.0 op.now) ≡ false }
@@ -113,7 +113,7 @@ struct Advance {
     went_on: bool,
 }
 
-// The course with the next call of a run, if nobody can tell that it was made.
+// The course with the next call of a run, if nobody can see that it was made.
 #[tactic(auto, using(crate::proofs::Searching::searching_rules, crate::proofs::Keeping::call_rules, crate::proofs::Lemmas::Turning::turn_rules))]
 fn with_silent_call(course: Course, scripts: &[Script], run: Run) -> Result<Advance, NoMemory>
     requires within { run.0 < length scripts.now }
@@ -141,7 +141,7 @@ fn with_silent_call(course: Course, scripts: &[Script], run: Run) -> Result<Adva
     })
 }
 
-// The course with the next calls of a run of which nobody can tell that they were made.
+// The course with the next calls of a run of which nobody can see that they were made.
 #[tactic(auto, using(crate::proofs::Searching::searching_rules, crate::proofs::Keeping::calm_rules))]
 fn with_silent_calls(course: Course, scripts: &[Script], run: Run) -> Result<Advance, NoMemory>
     requires within { run.0 < length scripts.now }
@@ -185,9 +185,9 @@ fn calmed_once(course: Course, scripts: &[Script]) -> Result<Advance, NoMemory>
     Ok(Advance { course, went_on })
 }
 
-/// The course with all calls of which nobody can tell that they were made. The end of a run can make a call of another one
-/// of these, so it goes over the runs until none has such a call. Each turn but the last adds an entry, and no memory holds as
-/// many as there are turns.
+/// The course with all calls of which nobody can see that they were made. The end of a run can make a call of another
+/// one of these, so it goes over the runs until none has such a call. Each turn but the last adds an entry, and no
+/// memory holds as many as there are turns.
 #[tactic(auto, using(crate::proofs::Searching::searching_rules, crate::proofs::Keeping::calm_rules))]
 pub(crate) fn calmed(course: Course, scripts: &[Script]) -> Result<Course, NoMemory>
     requires few { length scripts.now ≤ BEHAVIOURS }

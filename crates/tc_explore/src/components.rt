@@ -1,4 +1,4 @@
-//! What is told of the components of a witness: their names, and their local verdicts at its end.
+//! What is printed about the components of a witness: their names, and their local verdicts at its end.
 ghost use Rattle.std.specs.Prelude.{◌≤◌, OnOk, reverse};
 ghost use Rattle.tc_entry.specs.declared.limits.TheConstants.{BEHAVIOURS};
 ghost use Rattle.tc_table.specs.Legal.{IsLegal};
@@ -13,7 +13,7 @@ use tc_table::{created, is_comp, locals_of};
 use tc_text::{append_line, append_number, append_text};
 use tc_verdict::{NoMemory, Verdict, name as name_of};
 
-// Appends the name that an operation gives to what it makes; where memory is refused, a part of it.
+// Appends the name that an operation gives to what it makes; if memory runs out, a part of it.
 fn append_given(out: &mut Vec<u8>, op: &Op) -> Result<(), NoMemory> {
     if let Op::Create {
         name: Some(name),
@@ -26,7 +26,7 @@ fn append_given(out: &mut Vec<u8>, op: &Op) -> Result<(), NoMemory> {
     Ok(())
 }
 
-/// Appends a component: the main one as mtc, others by their number and name. Where memory is refused, a part of it.
+/// Appends a component: the main one as mtc, others by their number and name. If memory runs out, a part of it.
 pub(crate) fn append_comp(
     out: &mut Vec<u8>,
     history: &[Entry],
@@ -44,7 +44,7 @@ pub(crate) fn append_comp(
     Ok(())
 }
 
-// Appends the local verdicts of the components; where memory is refused, a part of them.
+// Appends the local verdicts of the components; if memory runs out, a part of them.
 fn append_locals(out: &mut Vec<u8>, history: &[Entry], locals: &[Verdict]) -> Result<(), NoMemory> {
     for (comp, verdict) in locals.iter().enumerate() {
         let Ok(comp) = u32::try_from(comp) else {
@@ -58,14 +58,14 @@ fn append_locals(out: &mut Vec<u8>, history: &[Entry], locals: &[Verdict]) -> Re
     Ok(())
 }
 
-// Appends the verdict of a witness, and these local verdicts at its end; where memory is refused, a part of them.
+// Appends the verdict of a witness, and these local verdicts at its end; if memory runs out, a part of them.
 fn append_words(out: &mut Vec<u8>, witness: &Witness, locals: &[Verdict]) -> Result<(), NoMemory> {
     append_text(out, name_of(witness.verdict))?;
     append_text(out, ": ")?;
     append_locals(out, witness.history.as_slice(), locals)
 }
 
-/// Appends the line of a witness: its verdict, and the local verdict of each component at its end. Where memory is refused,
+/// Appends the line of a witness: its verdict, and the local verdict of each component at its end. If memory runs out,
 /// a part of it.
 #[tactic(auto, using(tc_text::proofs::Lemmas::Showing::show_rules))]
 pub(crate) fn append_locals_line(

@@ -177,7 +177,7 @@ impl Course {
         self.table.would(run, op)
     }
 
-    /// The course with one more call. Where memory is refused it is lost.
+    /// The course with one more call. If memory runs out it is lost.
     pub(crate) fn with(self, run: Run, op: Op) -> Result<Course, NoMemory>
         ensures behaviours { IfOk result (λ c. c.behaviours ≡ self.behaviours) }
         ensures added { IfOk result (λ c. past_of c ≡ going.taken self.behaviours (past_of self) run op ∷ past_of self) }
@@ -242,7 +242,7 @@ impl Course {
         self.table.is_alive_type(Comp(comp))
     }
 
-    /// Whether a run goes on.
+    /// Whether a run continues.
     pub(crate) fn is_active(&self, run: Run) -> bool
         ensures { result ≡ answers.is_active (past_of self.now) run.0 }
     {
@@ -270,7 +270,7 @@ impl Course {
         self.standings[at].stands_as(&other.standings[at])
     }
 
-    /// The component that a run is running on, if it goes on.
+    /// The component that a run is running on, if it continues.
     pub(crate) fn comp_of(&self, run: Run) -> Option<Comp>
         ensures { IfSome result (λ c. (courses.stand (past_of self.now) run.0).comp ≡ Some c) }
     {

@@ -16,7 +16,7 @@ use std::alloc::Global;
 use tc_step::Script;
 use tc_verdict::NoMemory;
 
-// Appends the line of each witness; where memory is refused, a part of them.
+// Appends the line of each witness; if memory runs out, a part of them.
 #[tactic(auto, using(tc_text::proofs::Lemmas::Showing::show_rules))]
 fn append_locals_lines(
     alloc: Global,
@@ -35,7 +35,7 @@ fn append_locals_lines(
     Ok(())
 }
 
-// Appends who waits for whom in each witness; where memory is refused, a part of it.
+// Appends who waits for whom in each witness; if memory runs out, a part of it.
 #[tactic(auto, using(tc_text::proofs::Lemmas::Showing::show_rules))]
 fn append_all_waits(
     alloc: Global,
@@ -54,7 +54,7 @@ fn append_all_waits(
     Ok(())
 }
 
-// Appends what the witnesses show; where memory is refused, a part of it.
+// Appends what the witnesses show; if memory runs out, a part of it.
 #[tactic(auto, unfolding(crate::specs::Details::of_witnesses), using(tc_text::proofs::Lemmas::Showing::show_rules))]
 fn append_witnesses(
     alloc: Global,
@@ -73,10 +73,10 @@ fn append_witnesses(
 }
 
 impl Explored {
-    /// Appends what the search for the verdicts of these scripts shows: the local verdict of each component, the first witness
-    /// beside each other one from where they part, who waits for whom where no run can go on, and, where the search came to
-    /// its end, which steps no course that it looked at carries out. Of a test case without behaviours nothing is told. Where
-    /// memory is refused, a part of it.
+    /// Appends what the search for the verdicts of these scripts shows. That is the local verdict of each component,
+    /// the first witness next to each other one from where they part, and which run waits for whom if no run can
+    /// continue. If the search came to its end, it is also which steps no course that it looked at carries out. A test
+    /// case without behaviours has no line. If memory runs out, a part of it.
     #[tactic(auto, unfolding(crate::specs::Details::details), using(tc_text::proofs::Lemmas::Showing::show_rules))]
     pub fn append_details(
         &self,

@@ -29,8 +29,8 @@ pub enum Ending {
 pub struct Explored {
     /// A witness of each overall verdict that was found.
     pub found: Sequence<Witness>,
-    /// For each run how many calls it carries out at most in the courses that were looked at: its steps, and behind them the
-    /// end of its behaviour.
+    /// For each run how many calls it carries out at most in the courses that were looked at: its steps, and after them
+    /// the end of its behaviour.
     pub reached: Sequence<usize>,
     /// How many states the search looked at.
     pub states: usize,
@@ -53,7 +53,7 @@ fn room_for_one(scripts: &[Script]) -> Option<usize>
     Some(entries)
 }
 
-// By the limit a state counts for one more at each so many of the behaviours times the room of its test case.
+// By the limit a state counts for one more at each that many of the behaviours times the room of its test case.
 const SIZE_OF_ONE_MORE: usize = 2_000;
 
 // What a state counts for by the limit, if a number can hold it.
@@ -75,10 +75,10 @@ fn most_states(scripts: &[Script], limit: usize) -> Option<usize>
     Some((limit / weight).min(KEPT / room))
 }
 
-/// Looks for the overall verdicts that the courses of a test case give, each with a complete course that gives it. The search
-/// keeps so many states at most, each counted for its weight, and fewer of a test case with many steps. It comes to its end
-/// unless it meets that limit, and then the verdict of each complete course is found. Each number of calls that is reached has
-/// a course too. A test case without behaviours is left undecided.
+/// Looks for the overall verdicts that the courses of a test case give, each with a complete course that gives it. The
+/// search keeps that many states at most, each counted for its weight, and fewer of a test case with many steps. It
+/// comes to its end unless it meets that limit, and then the verdict of each complete course is found. Each number of
+/// calls that is reached has a course too. A test case without behaviours is left undecided.
 #[tactic(auto, using(crate::proofs::Legality::legal_rules, crate::proofs::Noting::noting_rules, crate::proofs::Room::weight_rules))]
 pub fn explore(alloc: Global, scripts: &[Script], limit: usize) -> Result<Explored, NoMemory>
     requires few { length scripts.now ≤ BEHAVIOURS }

@@ -50,7 +50,7 @@ fn add_new(scripts: &[Script], witness: Witness, found: &mut Vec<Witness>) -> Re
     Ok(())
 }
 
-/// Notes the verdict of a case that is over, if it is new; each run makes its last call first, which is answered Ended.
+/// Notes the verdict of a case that is over, if it is new; each run makes its last call first, which is replied Ended.
 #[tactic(auto, using(crate::proofs::Seeing::seeing_rules))]
 pub(crate) fn note(
     alloc: Global,
@@ -75,7 +75,7 @@ pub(crate) fn note(
     add_new(scripts, witness, &mut found.witnesses)
 }
 
-// The course with the next call of a run, if it goes on.
+// The course with the next call of a run, if it continues.
 #[tactic(auto, using(crate::proofs::Parking::active_rules))]
 fn step_if_active(course: Course, scripts: &[Script], run: Run) -> Result<Course, NoMemory>
     requires within { run.0 < length scripts.now }
@@ -90,8 +90,8 @@ fn step_if_active(course: Course, scripts: &[Script], run: Run) -> Result<Course
     Ok(next)
 }
 
-/// The case in which each run that goes on has made its next call, and then the main one another. Where no run can go on, it is
-/// the end of the case: each of them waits, and the Wake of the main component is a dynamic error.
+/// The case in which each run that continues has made its next call, and then the main one another. If no run can
+/// continue, it is the end of the case: each of them waits, and the Wake of the main component is a dynamic error.
 #[tactic(auto, using(crate::proofs::Parking::parking_rules))]
 pub(crate) fn with_stuck(course: Course, scripts: &[Script]) -> Result<Course, NoMemory>
     requires some { 1 ≤ length scripts.now }

@@ -18,7 +18,7 @@ const COLUMN: usize = 36;
 /// How many lines of entries are shown.
 pub const ROWS: usize = 12;
 
-// Appends an entry as histories spell it; where memory is refused, a part of it.
+// Appends an entry as histories spell it; if memory runs out, a part of it.
 fn append_entry(out: &mut Vec<u8>, entry: &Entry) -> Result<(), NoMemory>
     ensures { OnOk result (out.new.items ≡ out.old.items ++ entry_text entry.now) }
 {
@@ -61,7 +61,7 @@ fn alike_count(alloc: Global, left: &[Entry], right: &[Entry]) -> Result<usize, 
     Ok(count)
 }
 
-// Appends a line of two columns; where memory is refused, a part of it.
+// Appends a line of two columns; if memory runs out, a part of it.
 fn append_row(alloc: Global, out: &mut Vec<u8>, left: &[u8], right: &[u8]) -> Result<(), NoMemory>
     ensures { OnOk result (AddsLine out.old.items out.new.items) }
 {
@@ -84,7 +84,7 @@ fn text_at(alloc: Global, history: &[Entry], at: usize) -> Result<Vec<u8>, NoMem
     Ok(text)
 }
 
-// Appends the line of the entries at a place, if one of both has an entry there; where memory is refused, a part of it.
+// Appends the line of the entries at a place, if one of both has an entry there; if memory runs out, a part of it.
 #[tactic(auto, unfolding(crate::specs::Race::row_at), using(tc_text::proofs::Lemmas::Showing::show_rules))]
 fn append_row_at(
     alloc: Global,
@@ -103,7 +103,7 @@ fn append_row_at(
     append_row(alloc, out, text.as_slice(), other.as_slice())
 }
 
-// Appends the first entries of both in two columns; where memory is refused, a part of them.
+// Appends the first entries of both in two columns; if memory runs out, a part of them.
 #[tactic(auto, using(tc_text::proofs::Lemmas::Showing::show_rules))]
 fn append_first_rows(
     alloc: Global,
@@ -119,7 +119,7 @@ fn append_first_rows(
     Ok(())
 }
 
-// Appends whether there are more entries than are shown; where memory is refused, a part of it.
+// Appends whether there are more entries than are shown; if memory runs out, a part of it.
 #[tactic(auto, unfolding(crate::specs::Race::more_row), using(tc_text::proofs::Lemmas::Showing::show_rules))]
 fn append_more(out: &mut Vec<u8>, left: &[Entry], right: &[Entry]) -> Result<(), NoMemory>
     ensures { OnOk result (Shows (more_row left.now right.now) out.old.items out.new.items) }
@@ -130,7 +130,7 @@ fn append_more(out: &mut Vec<u8>, left: &[Entry], right: &[Entry]) -> Result<(),
     append_line(out, b"..")
 }
 
-// Appends the first entries of both in two columns, and whether there are more; where memory is refused, a part of it.
+// Appends the first entries of both in two columns, and whether there are more; if memory runs out, a part of it.
 #[tactic(auto, unfolding(crate::specs::Race::rows), using(tc_text::proofs::Lemmas::Showing::show_rules))]
 fn append_rows(
     alloc: Global,
@@ -144,7 +144,7 @@ fn append_rows(
     append_more(out, left, right)
 }
 
-// Appends how far two witnesses go alike; where memory is refused, a part of it.
+// Appends how far two witnesses go alike; if memory runs out, a part of it.
 #[tactic(auto, using(tc_text::proofs::Lemmas::Showing::show_rules))]
 fn append_alike(
     alloc: Global,
@@ -165,7 +165,7 @@ fn append_alike(
     append_line(out, words.as_slice())
 }
 
-// Appends the names of two verdicts in two columns; where memory is refused, a part of it.
+// Appends the names of two verdicts in two columns; if memory runs out, a part of it.
 #[tactic(auto, using(tc_text::proofs::Lemmas::Showing::show_rules))]
 fn append_heads(
     alloc: Global,
@@ -180,7 +180,7 @@ fn append_heads(
     append_row(alloc, out, left.as_bytes(), right.as_bytes())
 }
 
-// The entries behind so many.
+// The entries after that many.
 fn behind(history: &[Entry], count: usize) -> &[Entry]
     requires { count ≤ length history.now }
     ensures { result.now ≡ drop count history.now }
@@ -188,7 +188,7 @@ fn behind(history: &[Entry], count: usize) -> &[Entry]
     &history[count..]
 }
 
-// Appends two witnesses side by side behind so many entries; where memory is refused, a part of it.
+// Appends two witnesses side by side after that many entries; if memory runs out, a part of it.
 #[tactic(auto, using(tc_text::proofs::Lemmas::Showing::show_rules))]
 fn append_parting(
     alloc: Global,
@@ -208,7 +208,7 @@ fn append_parting(
     append_rows(alloc, out, left, right)
 }
 
-// Appends two witnesses side by side from where they part; where memory is refused, a part of it.
+// Appends two witnesses side by side from where they part; if memory runs out, a part of it.
 #[tactic(auto, unfolding(crate::specs::Race::race))]
 fn append_race(
     alloc: Global,
@@ -224,7 +224,7 @@ fn append_race(
     append_parting(alloc, out, witness, other, count)
 }
 
-/// Appends the first witness beside each other one, from where they part. Where memory is refused, a part of it.
+/// Appends the first witness next to each other one, from where they part. If memory runs out, a part of it.
 #[tactic(auto, using(tc_text::proofs::Lemmas::Showing::show_rules))]
 pub(crate) fn append_races(
     alloc: Global,

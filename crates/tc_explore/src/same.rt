@@ -68,7 +68,7 @@ fn has_same_components(a: &Course, b: &Course) -> bool
     true
 }
 
-// Whether the same is known of each run that goes on, and none of them has a Wake to come.
+// Whether the same is known of each run that continues, and none of them has a Wake to come.
 #[tactic(auto, using(crate::proofs::Sameness::same_rules))]
 fn has_same_runs(a: &Course, b: &Course, n: u16) -> bool
     requires of_a { a.now.behaviours ≡ n }
@@ -87,7 +87,7 @@ fn has_same_runs(a: &Course, b: &Course, n: u16) -> bool
     true
 }
 
-/// Whether the same is known after both, and no run that goes on has a Wake to come.
+/// Whether the same is known after both, and no run that continues has a Wake to come.
 #[tactic(auto, using(crate::proofs::Sameness::same_rules))]
 pub(crate) fn is_same(a: &Course, b: &Course, scripts: &[Script]) -> bool
     requires some { 1 ≤ length scripts.now }

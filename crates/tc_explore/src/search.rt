@@ -1,5 +1,5 @@
-//! The search. It follows the calls of all runs, but for those of which nobody can tell that they were made, which it makes
-//! at once. Where it comes to its end nothing is missed.
+//! The search. It follows the calls of all runs, and makes those at once of which nobody can see that they were made.
+//! If it comes to its end nothing is missed.
 ghost use Rattle.std.specs.Prelude.{◌≡◌, ◌≤◌, ◌<◌, [], ◌∷◌, true, false, IfOk, IsTrue, OnOk, All, length};
 ghost use Rattle.tc_entry.specs.declared.limits.TheConstants.{BEHAVIOURS};
 ghost use Rattle.tc_table.specs.Case.{past_of};
@@ -25,7 +25,7 @@ use tc_entry::Op;
 use tc_step::Script;
 use tc_verdict::{NoMemory, Run, Verdict};
 
-/// The states that were met, by a course each, at most so many.
+/// The states that were met, by a course each, at most that many.
 #[derive(Drop)]
 pub(crate) struct Met {
     pub(crate) states: Vec<Course>,
@@ -55,8 +55,8 @@ fn is_at(states: &[Course], at: usize, course: &Course, scripts: &[Script]) -> b
     is_same(course, &states[at], scripts)
 }
 
-// Takes in the state of a course, and answers whether it is among those that are seen: so it is, but where as many as the limit
-// are met. A key that stands for another state as well is no hindrance.
+// Takes in the state of a course, and returns whether it is among those that are seen: so it is, but where as many as
+// the limit are met. A key that represents another state as well is no hindrance.
 #[tactic(auto, using(crate::proofs::Seeing::seeing_rules, crate::proofs::Keeping::keeping_rules))]
 fn place(alloc: Global, scripts: &[Script], course: Course, met: &mut Met) -> Result<bool, NoMemory>
     requires some { 1 ≤ length scripts.now }
@@ -103,7 +103,7 @@ fn with_call(
     course.copied(alloc)?.with(run, op)
 }
 
-// Makes a call, and answers whether what it leads to is seen, or its verdict is found.
+// Makes a call, and returns whether what it leads to is seen, or its verdict is found.
 #[tactic(auto, using(crate::proofs::Closed::closed_rules, crate::proofs::Seeing::seeing_rules, crate::proofs::Keeping::keeping_rules, crate::proofs::Keeping::open_next))]
 fn after_call(
     alloc: Global,
@@ -140,7 +140,7 @@ fn after_call(
     Ok(is_seen)
 }
 
-// What is known of the calls of a run, or of all: what they lead to is seen, and one that is no error goes on.
+// What is known of the calls of a run, or of all: what they lead to is seen, and one that is no error continues.
 #[derive(Clone, Copy)]
 struct Tried {
     is_closed: bool,
@@ -225,8 +225,8 @@ fn try_runs(
     Ok(Tried { is_closed, goes_on })
 }
 
-// Looks at the state of a course: makes the next call of each run, or ends the case where none goes on. It answers whether
-// what comes after the state is seen, or found: so it is, but where as many states as the limit are met.
+// Looks at the state of a course: makes the next call of each run, or ends the case if none continues. It returns
+// whether what comes after the state is seen, or found. It is, unless as many states as the limit are met.
 #[tactic(auto, using(crate::proofs::States::state_rules, crate::proofs::Closed::runs_rules, crate::proofs::Seeing::seeing_rules, crate::proofs::Keeping::keeping_rules, crate::proofs::Parking::held_if))]
 fn expand_course(
     alloc: Global,
@@ -292,7 +292,7 @@ fn expand(
     is_closed
 }
 
-// Looks at all states, at most so many.
+// Looks at all states, at most that many.
 #[tactic(auto, using(crate::proofs::States::loop_rules, crate::proofs::Closed::longer_then, crate::proofs::Seeing::seeing_rules))]
 fn expand_all(
     alloc: Global,
@@ -329,7 +329,7 @@ fn expand_all(
     })
 }
 
-// Makes the calls of all runs from each state that is met, within a limit, where none was met.
+// Makes the calls of all runs from each state that is met, within a limit, if none was met.
 #[tactic(auto, using(crate::proofs::States::complete_by, crate::proofs::Lemmas::Turning::turn_rules, crate::proofs::Seeing::seeing_rules, crate::proofs::Keeping::open_opening))]
 fn search_in(
     alloc: Global,

@@ -92,7 +92,7 @@ impl Standing {
         Ok(())
     }
 
-    /// Takes in one more entry. Where memory is refused the standing is of no more use.
+    /// Takes in one more entry. If memory runs out the standing is of no more use.
     pub(crate) fn take_in(&mut self, entry: &Entry, run: u16) -> Result<(), NoMemory>
         ensures { OnOk result (self.new ≡ courses.next entry.now run self.old) }
     {

@@ -1,11 +1,11 @@
-//! The words of a step: as a script spells it, but that components go by their place, and behaviours by their run.
+//! The words of a step: as a script spells it, except that components have their place, and behaviours their run.
 use tc_entry::Name;
 use tc_line::Keyword;
 use tc_step::{GroupPlace, Place, Step, TargetPlace};
 use tc_text::{append_number, append_text};
 use tc_verdict::{NoMemory, Run, from_user, name as name_of};
 
-// Appends a component behind a space; where memory is refused, a part of it.
+// Appends a component after a space; if memory runs out, a part of it.
 fn append_place(out: &mut Vec<u8>, place: Place) -> Result<(), NoMemory> {
     match place {
         Place::Main => append_text(out, " mtc"),
@@ -17,7 +17,7 @@ fn append_place(out: &mut Vec<u8>, place: Place) -> Result<(), NoMemory> {
     }
 }
 
-// Appends components, each behind a space; where memory is refused, a part of them.
+// Appends components, each after a space; if memory runs out, a part of them.
 fn append_places(out: &mut Vec<u8>, places: &[Place]) -> Result<(), NoMemory> {
     for place in places {
         append_place(out, *place)?;
@@ -25,7 +25,7 @@ fn append_places(out: &mut Vec<u8>, places: &[Place]) -> Result<(), NoMemory> {
     Ok(())
 }
 
-// Appends which components are stopped or killed; where memory is refused, a part of it.
+// Appends which components are stopped or killed; if memory runs out, a part of it.
 fn append_group(out: &mut Vec<u8>, group: GroupPlace) -> Result<(), NoMemory> {
     match group {
         GroupPlace::One(place) => append_place(out, place),
@@ -33,7 +33,7 @@ fn append_group(out: &mut Vec<u8>, group: GroupPlace) -> Result<(), NoMemory> {
     }
 }
 
-// Appends which components are asked about or waited for; where memory is refused, a part of it.
+// Appends which components are asked about or waited for; if memory runs out, a part of it.
 fn append_target(out: &mut Vec<u8>, target: TargetPlace) -> Result<(), NoMemory> {
     match target {
         TargetPlace::One(place) => append_place(out, place),
@@ -52,7 +52,7 @@ fn alive_word(alive: bool) -> &'static str {
     if alive { " alive" } else { "" }
 }
 
-// Appends the name of a component in the report, if there is one; where memory is refused, a part of it.
+// Appends the name of a component in the report, if there is one; if memory runs out, a part of it.
 fn append_named(out: &mut Vec<u8>, name: &Option<Name>) -> Result<(), NoMemory> {
     if let Some(name) = name {
         append_text(out, " named ")?;
@@ -61,7 +61,7 @@ fn append_named(out: &mut Vec<u8>, name: &Option<Name>) -> Result<(), NoMemory> 
     Ok(())
 }
 
-// Appends what a start names; where memory is refused, a part of it.
+// Appends what a start names; if memory runs out, a part of it.
 fn append_start(out: &mut Vec<u8>, on: Place, run: Run, args: &[Place]) -> Result<(), NoMemory> {
     append_place(out, on)?;
     append_text(out, " run ")?;
@@ -84,7 +84,7 @@ fn keyword_of(step: &Step) -> Keyword {
     }
 }
 
-// Appends what stands behind the keyword of a step; where memory is refused, a part of it.
+// Appends what follows the keyword of a step; if memory runs out, a part of it.
 fn append_operands(out: &mut Vec<u8>, step: &Step) -> Result<(), NoMemory> {
     match step {
         Step::Create { alive, name } => {
@@ -106,7 +106,7 @@ fn append_operands(out: &mut Vec<u8>, step: &Step) -> Result<(), NoMemory> {
     }
 }
 
-/// Appends a step. Where memory is refused, a part of it.
+/// Appends a step. If memory runs out, a part of it.
 pub(crate) fn append_step(out: &mut Vec<u8>, step: &Step) -> Result<(), NoMemory> {
     append_text(out, keyword_of(step).text())?;
     append_operands(out, step)

@@ -1,4 +1,4 @@
-//! What is told of a test case that was explored.
+//! What is printed about a test case that was explored.
 ghost use Rattle.std.specs.Prelude.{◌≡◌, ◌≤◌, ◌++◌, OnOk};
 ghost use Rattle.tc_verdict.specs.Verdict.{level_of};
 ghost use Rattle.tc_explore.specs.Told as told;
@@ -52,7 +52,7 @@ fn verdict_count(found: &[Witness]) -> u64
     none + (pass + (inconc + (fail + error)))
 }
 
-// Appends the name of a verdict behind a space, if it was found; where memory is refused, a part of it.
+// Appends the name of a verdict after a space, if it was found; if memory runs out, a part of it.
 fn append_verdict(out: &mut Vec<u8>, found: &[Witness], verdict: Verdict) -> Result<(), NoMemory>
     ensures { OnOk result (out.new.items ≡ out.old.items ++ told.verdict_word found.now verdict) }
 {
@@ -63,7 +63,7 @@ fn append_verdict(out: &mut Vec<u8>, found: &[Witness], verdict: Verdict) -> Res
     append_text(out, name_of(verdict))
 }
 
-// Appends the names of the verdicts that were found; where memory is refused, a part of them.
+// Appends the names of the verdicts that were found; if memory runs out, a part of them.
 fn append_verdicts(out: &mut Vec<u8>, found: &[Witness]) -> Result<(), NoMemory>
     ensures { OnOk result (out.new.items ≡ out.old.items ++ told.verdict_words found.now) }
 {
@@ -74,7 +74,7 @@ fn append_verdicts(out: &mut Vec<u8>, found: &[Witness]) -> Result<(), NoMemory>
     append_verdict(out, found, Verdict::Error)
 }
 
-// Appends after how many states the search ended; where memory is refused, a part of it.
+// Appends after how many states the search ended; if memory runs out, a part of it.
 fn append_states(out: &mut Vec<u8>, states: usize) -> Result<(), NoMemory>
     ensures { OnOk result (out.new.items ≡ out.old.items ++ told.states_words states) }
 {
@@ -83,7 +83,7 @@ fn append_states(out: &mut Vec<u8>, states: usize) -> Result<(), NoMemory>
     append_text(out, " states")
 }
 
-// Appends how the search ended; where memory is refused, a part of it.
+// Appends how the search ended; if memory runs out, a part of it.
 fn append_ending(out: &mut Vec<u8>, ending: Ending, states: usize) -> Result<(), NoMemory>
     ensures { OnOk result (out.new.items ≡ out.old.items ++ told.ending_words ending states) }
 {
@@ -107,7 +107,7 @@ fn count_status(count: u64) -> u8
 }
 
 impl Explored {
-    /// The status of the test case: 0 where one verdict was found, 1 where more were; 3 where the search met its limit.
+    /// The status of the test case: 0 if one verdict was found, 1 if more were; 3 if the search met its limit.
     pub fn status(&self) -> u8
         ensures { result ≡ told.explored_status self.now }
     {
@@ -117,8 +117,8 @@ impl Explored {
         }
     }
 
-    /// Appends the line of the test case: its name, the verdicts that were found, and how the search ended. Where memory is
-    /// refused, a part of it.
+    /// Appends the line of the test case: its name, the verdicts that were found, and how the search ended. If memory
+    /// runs out, a part of it.
     pub fn append_line(&self, out: &mut Vec<u8>, name: &Name) -> Result<(), NoMemory>
         ensures { OnOk result (out.new.items ≡ out.old.items ++ told.explored_line name.now self.now) }
     {
@@ -129,7 +129,7 @@ impl Explored {
         Ok(())
     }
 
-    /// Appends the witnesses as histories of a test case of this name and of so many behaviours. Where memory is refused,
+    /// Appends the witnesses as histories of a test case of this name and of that many behaviours. If memory runs out,
     /// a part of them.
     pub fn append_witnesses(
         &self,

@@ -28,7 +28,7 @@ fn is_idle(course: &Course, run: Run, op: &Op) -> bool
     }
 }
 
-/// What the run calls next, if it can go on.
+/// What the run calls next, if it can continue.
 #[tactic(auto, using(crate::proofs::Lemmas::Turning::turn_rules))]
 pub(crate) fn next_call(course: &Course, scripts: &[Script], run: Run) -> Option<Op>
     requires on { IsOn scripts.now course.now }
@@ -45,7 +45,7 @@ pub(crate) fn next_call(course: &Course, scripts: &[Script], run: Run) -> Option
     Some(op)
 }
 
-/// The course with the next call of a run, if that can go on.
+/// The course with the next call of a run, if that can continue.
 #[tactic(auto, using(crate::proofs::Lemmas::Turning::turn_rules, crate::proofs::LastCalls::step_rules))]
 pub(crate) fn step(course: Course, scripts: &[Script], run: Run) -> Result<Course, NoMemory>
     requires within { run.0 < length scripts.now }
@@ -59,7 +59,7 @@ pub(crate) fn step(course: Course, scripts: &[Script], run: Run) -> Result<Cours
     }
 }
 
-/// Each run of a case that is over makes its last call, in the order of their numbers: it is answered Ended.
+/// Each run of a case that is over makes its last call, in the order of their numbers: it is replied Ended.
 #[tactic(auto, using(crate::proofs::LastCalls::ending_rules))]
 pub(crate) fn step_all(course: Course, scripts: &[Script]) -> Result<Course, NoMemory>
     requires few { length scripts.now ≤ BEHAVIOURS }

@@ -19,7 +19,7 @@ fn reached_by(reached: &[usize], run: u16) -> usize
     if at < reached.len() { reached[at] } else { 0 }
 }
 
-// Appends the number of a step behind so many others, and the step; where memory is refused, a part of it.
+// Appends the number of a step after that many others, and the step; if memory runs out, a part of it.
 fn append_words(
     out: &mut Vec<u8>,
     run: u16,
@@ -37,7 +37,7 @@ fn append_words(
     append_step(out, step)
 }
 
-// Appends the line of a run, if one of its steps is not carried out; where memory is refused, a part of it.
+// Appends the line of a run, if one of its steps is not carried out; if memory runs out, a part of it.
 #[tactic(auto, unfolding(crate::specs::Unseen::unseen_among), using(tc_text::proofs::Lemmas::Showing::show_rules))]
 fn append_among(
     alloc: Global,
@@ -56,8 +56,8 @@ fn append_among(
     append_line(out, words.as_slice())
 }
 
-/// Appends the lines of the runs of which some steps are carried out in no course that was looked at. Where memory is refused,
-/// a part of them.
+/// Appends the lines of the runs of which some steps are carried out in no course that was looked at. If memory runs
+/// out, a part of them.
 #[tactic(auto, unfolding(crate::specs::Unseen::unseen), using(tc_text::proofs::Lemmas::Showing::show_rules))]
 pub(crate) fn append_unseen(
     alloc: Global,

@@ -1,4 +1,4 @@
-//! Who waits for whom in a witness that ends since no run can go on.
+//! The waits of a witness that ends since no run can continue, and for whom.
 ghost use Rattle.std.specs.Prelude.{◌≡◌, ◌≤◌, OnOk, reverse};
 ghost use Rattle.std.specs.List.{flat_map, range_with_len};
 ghost use Rattle.tc_entry.specs.declared.limits.TheConstants.{BEHAVIOURS};
@@ -16,14 +16,14 @@ use tc_table::{Awaited, CaseState};
 use tc_text::{append_line, append_number, append_text};
 use tc_verdict::{NoMemory, Run};
 
-// Whether the main component is told that no run can go on.
+// Whether the main component got the reply that no run can continue.
 fn is_stuck(reply: Reply) -> bool
     ensures { result ≡ is_stuck_reply reply }
 {
     matches!(reply, Reply::Fault(Fault::Stuck))
 }
 
-// How many entries stand before the one that says so; all, where none does.
+// How many entries are before the one that says so; all, if none does.
 fn stuck_place(history: &[Entry]) -> usize
     ensures { result ≡ place_of_stuck history.now }
 {
@@ -39,7 +39,7 @@ fn stuck_place(history: &[Entry]) -> usize
     place
 }
 
-// Appends what a component is doing that is waited for; where memory is refused, a part of it.
+// Appends what a component is doing that is waited for; if memory runs out, a part of it.
 fn append_phase(out: &mut Vec<u8>, phase: Option<Phase>) -> Result<(), NoMemory> {
     match phase {
         None => Ok(()),
@@ -54,7 +54,7 @@ fn append_phase(out: &mut Vec<u8>, phase: Option<Phase>) -> Result<(), NoMemory>
     }
 }
 
-// Appends what is waited for; where memory is refused, a part of it.
+// Appends what is waited for; if memory runs out, a part of it.
 fn append_target(
     out: &mut Vec<u8>,
     history: &[Entry],
@@ -71,7 +71,7 @@ fn append_target(
     }
 }
 
-// Appends which run waits on which component, and for what; where memory is refused, a part of it.
+// Appends which run waits on which component, and for what; if memory runs out, a part of it.
 fn append_words(
     out: &mut Vec<u8>,
     history: &[Entry],
@@ -90,7 +90,7 @@ fn append_words(
     append_target(out, history, state, awaited.target)
 }
 
-// Appends the line of a run, if it goes on and waits; where memory is refused, a part of it.
+// Appends the line of a run, if it continues and waits; if memory runs out, a part of it.
 #[tactic(auto, unfolding(crate::specs::Waits::wait), using(tc_text::proofs::Lemmas::Showing::show_rules))]
 fn append_wait(
     alloc: Global,
@@ -117,7 +117,7 @@ fn append_wait(
     append_line(out, words.as_slice())
 }
 
-// Appends the lines of all runs that go on and wait; where memory is refused, a part of them.
+// Appends the lines of all runs that continue and wait; if memory runs out, a part of them.
 #[tactic(auto, using(tc_text::proofs::Lemmas::Showing::show_rules))]
 fn append_waiting(
     alloc: Global,
@@ -138,7 +138,7 @@ fn append_waiting(
     Ok(())
 }
 
-/// Appends who waits for whom where a witness ends since no run can go on. Where memory is refused, a part of it.
+/// Appends who waits for whom where a witness ends since no run can continue. If memory runs out, a part of it.
 #[tactic(auto, unfolding(crate::specs::Waits::waits), using(tc_text::proofs::Lemmas::Showing::show_rules))]
 pub(crate) fn append_waits(
     alloc: Global,

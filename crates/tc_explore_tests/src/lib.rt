@@ -1,4 +1,5 @@
-//! The tests of `tc_explore` by its public calls, in a crate of their own: a check of them doesn't prove the library once more.
+//! The tests of `tc_explore` by its public calls, in a crate of their own: a check of them doesn't prove the library
+//! again.
 #![tactic(auto)]
 
 #[cfg(test)]

@@ -23,7 +23,7 @@ const Q: Place = Place::Bound(1);
 
 const MANY: usize = 10_000;
 
-/// So many calls a plain search makes.
+/// That many calls a plain search makes.
 const CALLS: usize = 200_000;
 
 fn create(alive: bool) -> Step {
@@ -45,7 +45,7 @@ fn wait(target: TargetPlace) -> Step {
     }
 }
 
-// A behaviour of so many parameters.
+// A behaviour of that many parameters.
 fn script_of<R: Abort>(rt: &R, parameters: usize, steps: Vec<Step>) -> Script {
     assert!(rt; Script::is_script(parameters, steps.as_slice()));
     Script::new(parameters, steps)
@@ -55,7 +55,7 @@ fn script<R: Abort>(rt: &R, steps: Vec<Step>) -> Script {
     script_of(rt, 0, steps)
 }
 
-// What a search of at most so many states finds.
+// What a search of at most that many states finds.
 fn search<R: Abort>(
     rt: &R,
     alloc: Global,
@@ -87,7 +87,7 @@ fn replayed<R: Abort>(
     replay_check(alloc, behaviours as u16, history)
 }
 
-// The verdicts of the witnesses of a case of so many behaviours, each judged by the component table.
+// The verdicts of the witnesses of a case of that many behaviours, each judged by the component table.
 fn witnessed<R: Abort>(
     rt: &R,
     alloc: Global,
@@ -146,7 +146,7 @@ fn finds<R: Abort>(
     Ok(())
 }
 
-// Adds a main behaviour that starts one on a component, with this step behind.
+// Adds a main behaviour that starts one on a component, with this step after it.
 fn add_leading<R: Abort>(
     rt: &R,
     alloc: Global,
@@ -168,7 +168,7 @@ fn add_setting<R: Abort>(
     Ok(scripts.push(script(rt, steps))?)
 }
 
-// The main behaviour that starts one on a component, with this step behind, and the one that sets this verdict.
+// The main behaviour that starts one on a component, with this step after it, and the one that sets this verdict.
 fn two<R: Abort>(
     rt: &R,
     alloc: Global,
@@ -329,7 +329,7 @@ fn ended_behaviours_on_either_of_two_components(rt: HostRuntime) -> Result<(), F
     finds(&rt, alloc, scripts.as_slice(), [Verdict::None].as_slice())
 }
 
-// A search within this limit ends so, and looks at so many states.
+// A search within this limit ends so, and looks at that many states.
 fn ends_within<R: Abort>(
     rt: &R,
     alloc: Global,
@@ -379,7 +379,7 @@ fn add_long<R: Abort>(rt: &R, alloc: Global, scripts: &mut Vec<Script>) -> Resul
     Ok(scripts.push(script(rt, steps))?)
 }
 
-// Of a test case with many behaviours and steps a state counts for more: here each for 25.
+// A state of a test case with many behaviours and steps counts for more: here each for 25.
 #[test]
 fn a_large_test_case_has_fewer_states(rt: HostRuntime) -> Result<(), Fail> {
     let mut scripts = race(&rt, rt.alloc())?;
@@ -429,7 +429,8 @@ fn add_late<R: Abort>(rt: &R, alloc: Global, scripts: &mut Vec<Script>) -> Resul
     Ok(scripts.push(script_of(rt, 1, late))?)
 }
 
-// Who stops a component that is killed already changes nothing, nor who waits for it: one state stands for all such calls.
+// A stop of a component that is killed already changes nothing, nor does a wait for it: one state represents all such
+// calls.
 #[test]
 fn late_calls_have_no_states(rt: HostRuntime) -> Result<(), Fail> {
     let alloc = rt.alloc();
@@ -452,14 +453,14 @@ fn without_behaviours_nothing_is_decided(rt: HostRuntime) -> Result<(), Fail> {
     Ok(())
 }
 
-// How a search of two behaviours within this limit ends, and how many states it tells.
+// How a search of two behaviours within this limit ends, and how many states it prints.
 fn searched<R: Abort>(rt: &R, alloc: Global, limit: usize) -> Result<(Ending, usize), Fail> {
     let scripts = race(rt, alloc)?;
     let explored = search(rt, alloc, scripts.as_slice(), limit)?;
     Ok((explored.ending, explored.states))
 }
 
-// A search that comes to its end does so with as many states as it tells, and not with one less.
+// A search that comes to its end does so with as many states as it prints, and not with one less.
 #[test]
 fn a_complete_search_tells_its_states(rt: HostRuntime) -> Result<(), Fail> {
     let alloc = rt.alloc();
@@ -473,7 +474,7 @@ fn a_complete_search_tells_its_states(rt: HostRuntime) -> Result<(), Fail> {
     Ok(())
 }
 
-// Compares the line that is told of a test case t, and its status.
+// Compares the line that is printed of a test case t, and its status.
 fn is_told<R: Abort>(
     rt: &R,
     alloc: Global,
@@ -488,7 +489,7 @@ fn is_told<R: Abort>(
     Ok(())
 }
 
-// Compares what is told of a search within this limit.
+// Compares what is printed about a search within this limit.
 fn tells<R: Abort>(
     rt: &R,
     alloc: Global,
@@ -500,7 +501,7 @@ fn tells<R: Abort>(
     is_told(rt, alloc, &explored, told)
 }
 
-// Compares what is told of the race within each limit.
+// Compares what is printed about the race within each limit.
 fn race_is_told<R: Abort>(rt: &R, alloc: Global) -> Result<(), Fail> {
     let race = race(rt, alloc)?;
     let rows = [

@@ -27,7 +27,7 @@ IsNoEndLine text = (v : Verdict) (others : List (List ℕ)) → lines_of text �
 abbrev pub IsNoHeaderLine : List ℕ → Type 0
 IsNoHeaderLine text = (h : Header) (others : List (List ℕ)) → IsHeader h → lines_of text ≡ header_text h ∷ others → ⊥
 
--- what reading a first line tells: it is that of this block, entry or verdict
+-- what reading a first line shows: it is that of this block, entry or verdict
 abbrev pub IsThatHeader : List ℕ → Header → List ℕ → Type 0
 IsThatHeader text h rest = (g : Header) (others : List (List ℕ)) → IsHeader g → lines_of text ≡ header_text g ∷ others → (h ≡ g) × (lines_of rest ≡ others)
 
@@ -44,7 +44,7 @@ pub record Remains (f : ℕ) (entries : List Entry) (rest : List ℕ) (b : Block
   pub spelled : lines_of rest ≡ map entry_text tail ++ end_text b.verdict ∷ others
   pub right : AreEntries f tail
 
--- what reading so far tells of a block that the text may begin with
+-- what reading so far says about a block that the text may begin with
 pub record IsThatBlock (h : Header) (entries : List Entry) (rest : List ℕ) (b : Block) (others : List (List ℕ)) : Type 0 where
   pub header_is : h ≡ header_of b
   pub remains : Remains h.format entries rest b others
@@ -58,7 +58,7 @@ pub record SoFar (text : List ℕ) (line : ℕ) (h : Header) (entries : List Ent
 head_is : (x y : List ℕ) (xs ys : List (List ℕ)) → x ∷ xs ≡ y ∷ ys → x ≡ y
 head_is x y xs ys e = cc
 
--- the lines of a block, and others behind them
+-- the lines of a block, and others after them
 block_and : (b : Block) (others : List (List ℕ)) → block_lines b ++ others ≡ header_text (header_of b) ∷ (map entry_text b.entries ++ end_text b.verdict ∷ others)
 block_and b others = ap (λ l. header_text (header_of b) ∷ l) (append_assoc (map entry_text b.entries) (end_text b.verdict ∷ []) others)
 

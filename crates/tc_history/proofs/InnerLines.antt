@@ -60,7 +60,7 @@ end_spelled text r1 r2 behind v word named ends =
     ap lines_of (word ∙ (ap (λ l. codes "end " ++ l) named ∙ sym (end_assoc v r2)))
     ∙ line_ended (end_text v) r2 behind (λ e. cc) (no_lf-append (codes "end ") (name_of v) (search rules) (verdict_plain v)) ends
 
--- the text is that of a last line, and the line's end stands behind it
+-- the text is that of a last line, and the line's end is after it
 pub record BeginsWithEnd (text : List ℕ) (v : Verdict) (others : List (List ℕ)) : Type 0 where
   pub rest : List ℕ
   pub behind : List ℕ
@@ -79,7 +79,7 @@ behind_end xs ys e = cc
 pub ends_at : (x y behind : List ℕ) → x ≡ y → EndsLine y behind → EndsLine x behind
 ends_at x y behind e ends = rw e ends
 
--- what stands behind a line's end is one thing
+-- what follows a line's end is one thing
 pub same_lines : (rest tail end behind : List ℕ) (others : List (List ℕ)) → rest ≡ tail → EndsLine rest end → EndsLine tail behind → lines_of behind ≡ others → lines_of end ≡ others
 same_lines rest tail end behind others same here there lines = ap lines_of (same_behind rest end behind here (ends_at rest tail behind same there)) ∙ lines
 
@@ -99,7 +99,7 @@ entry_spelled text r1 r2 r3 behind f e moved arrow replied ends fits =
     ∙ line_ended (entry_text e) r3 behind (λ none. some_move e.caller.0 e.op fits.caller (first_part (move_text e.caller.0 e.op) _ none))
     (no_lf-append (move_text e.caller.0 e.op) _ (move_plain e.caller.0 e.op fits.caller fits.op) (no_lf-append (codes " -> ") (reply_text e.reply) (search rules) (reply_plain e.reply fits.reply))) ends
 
--- the text is that of an entry, and the line's end stands behind it
+-- the text is that of an entry, and the line's end is after it
 pub record BeginsWithEntry (text : List ℕ) (e : Entry) (others : List (List ℕ)) : Type 0 where
   pub rest : List ℕ
   pub behind : List ℕ
@@ -127,7 +127,7 @@ ends_arrow rest = record {
 pub behind_arrow : (xs ys : List ℕ) → codes " -> " ++ xs ≡ codes " -> " ++ ys → xs ≡ ys
 behind_arrow xs ys e = cc
 
--- ---- what stands behind a move
+-- ---- what follows a move
 
 outcome_plain : (r : Reply) → IsReply r → NoLf (outcome_text r)
 outcome_plain r fits = no_lf-append (codes " -> ") (reply_text r) (search rules) (reply_plain r fits)
@@ -136,7 +136,7 @@ pub outcome_spelled : (text r1 r2 behind : List ℕ) (r : Reply) → text ≡ co
 outcome_spelled text r1 r2 behind r arrow replied ends fits =
     ap lines_of (arrow ∙ ap (λ l. codes " -> " ++ l) replied) ∙ line_ended (outcome_text r) r2 behind (λ e. cc) (outcome_plain r fits) ends
 
--- the text begins with what stands behind a move, and the line's end stands behind it
+-- the text begins with what follows a move, and the line's end is after it
 pub record BeginsWithOutcome (text : List ℕ) (r : Reply) (others : List (List ℕ)) : Type 0 where
   pub rest : List ℕ
   pub behind : List ℕ
@@ -149,7 +149,7 @@ begins_with_outcome text r others lines =
     let begins = first_line text (outcome_text r) others lines in
     record { rest = begins.rest; behind = begins.behind; parts = begins.parts; ends = begins.ends; lines = begins.lines }
 
--- the text begins with the move of the entry, and the rest of its line stands behind it
+-- the text begins with the move of the entry, and the rest of its line is after it
 pub record BeginsWithMove (text : List ℕ) (e : Entry) (others : List (List ℕ)) : Type 0 where
   pub rest : List ℕ
   pub parts : text ≡ move_text e.caller.0 e.op ++ rest

@@ -48,7 +48,7 @@ open_more opens text first_line rest after line format value value' e so spelled
       line_is = let here = so.line_is in omega (arith, here, longer);
     }
 
--- what taking the end of a block tells
+-- what taking the end of a block shows
 abbrev pub Closes : {O H : Type 0} → (ℕ → Header → List Entry → O → Type 0) → (List Block → H → Type 0) → ℕ → ℕ → Verdict → O → H → H → Type 0
 Closes opens stands first_line line v value before after = (blocks : List Block) (b : Block) → first_line ≡ b.first_line → line ≡ b.first_line + length b.entries + 1 →
     v ≡ b.verdict → opens b.first_line (header_of b) b.entries value → stands blocks before → stands (blocks ++ b ∷ []) after
@@ -117,7 +117,7 @@ made_only stands text rest line value so none all is =
 pub made_bad : {H : Type 0} (stands : List Block → H → Type 0) (text rest : List ℕ) (line : ℕ) (value : H) (fault : TextFault) → IsMadeSoFar stands text rest line value → IsBlockFault rest line fault → IsHistoryFault text fault
 made_bad stands text rest line value fault so bad = first_fault text so.blocks rest line fault so.read.are bad
 
--- where the text spells histories, only want of memory stands in place of the next
+-- where the text spells histories, only NoMemory comes instead of the next
 pub made_refused : {H : Type 0} (stands : List Block → H → Type 0) (text rest : List ℕ) (line : ℕ) (value : H) (fault : TextFault) → IsMadeSoFar stands text rest line value → rest ≢ [] →
     ((c : Block) (others : List (List ℕ)) → IsBlock line c → lines_of rest ≡ block_lines c ++ others → fault ≡ F.NoMemory) → (all : List Block) → AreHistories text all → fault ≡ F.NoMemory
 made_refused stands text rest line value fault so some only all is = refused_only text so.blocks rest line fault so.read some only all is

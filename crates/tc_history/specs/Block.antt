@@ -17,7 +17,7 @@ format_text f = if f == 1 then codes "history 1 " else codes "history 2 "
 abbrev pub header_text : Header → List ℕ
 header_text h = format_text h.format ++ (h.name ++ (codes " " ++ decimal h.behaviours))
 
--- what stands behind the move of an entry
+-- what follows the move of an entry
 abbrev pub outcome_text : Reply → List ℕ
 outcome_text r = codes " -> " ++ reply_text r
 

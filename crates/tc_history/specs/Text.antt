@@ -50,7 +50,7 @@ abbrev pub all_lines : List Block → List (List ℕ)
 all_lines [] = []
 all_lines (b ∷ bs) = block_lines b ++ all_lines bs
 
--- a format that a block of so many behaviours may have: format 1 has at most 64 of them
+-- a format that a block of that many behaviours may have: format 1 has at most 64 of them
 abbrev pub IsFormat : ℕ → ℕ → Type 0
 IsFormat f n = ((f ≡ 1) × (n ≤ 64)) ⊎ (f ≡ 2)
 
@@ -125,7 +125,7 @@ IsHistoryFaultAt text line K.FirstLine = IsBadHeader text line
 IsHistoryFaultAt text line K.Entry = IsBadEntry text line
 IsHistoryFaultAt text line K.Move = ⊥
 
--- what a fault says of the text; want of memory says nothing
+-- what a fault says of the text; if memory runs out, nothing is said
 abbrev pub IsHistoryFault : List ℕ → TextFault → Type 0
 IsHistoryFault text (F.At line kind) = IsHistoryFaultAt text line kind
 IsHistoryFault text F.NoMemory = Unit {0}

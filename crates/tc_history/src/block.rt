@@ -9,7 +9,7 @@ use tc_entry::{Entry, Name, NoMemory, Verdict};
 use tc_text::{append_number, append_text, write_move, write_reply};
 use tc_verdict::name as name_of;
 
-// Appends the first line, in format 2; where memory is refused, a part of it.
+// Appends the first line, in format 2; if memory runs out, a part of it.
 fn append_header(out: &mut Vec<u8>, name: &Name, behaviours: u16) -> Result<(), NoMemory>
     ensures ok { OnOk result (out.new.items ≡ out.old.items ++ first_line name.now behaviours) }
     ensures err { OnErr result (StartsWith out.new.items out.old.items) }
@@ -22,7 +22,7 @@ fn append_header(out: &mut Vec<u8>, name: &Name, behaviours: u16) -> Result<(), 
     Ok(())
 }
 
-// Appends the line of the entry; where memory is refused, a part of it.
+// Appends the line of the entry; if memory runs out, a part of it.
 fn append_entry(out: &mut Vec<u8>, entry: &Entry) -> Result<(), NoMemory>
     ensures ok { OnOk result (out.new.items ≡ out.old.items ++ entry_line entry.now) }
     ensures err { OnErr result (StartsWith out.new.items out.old.items) }
@@ -34,7 +34,7 @@ fn append_entry(out: &mut Vec<u8>, entry: &Entry) -> Result<(), NoMemory>
     Ok(())
 }
 
-// Appends the line of each entry; where memory is refused, a part of them.
+// Appends the line of each entry; if memory runs out, a part of them.
 fn append_entries(out: &mut Vec<u8>, entries: &[Entry]) -> Result<(), NoMemory>
     ensures ok { OnOk result (out.new.items ≡ out.old.items ++ flat_map entry_line entries.now) }
     ensures err { OnErr result (StartsWith out.new.items out.old.items) }
@@ -45,7 +45,7 @@ fn append_entries(out: &mut Vec<u8>, entries: &[Entry]) -> Result<(), NoMemory>
     Ok(())
 }
 
-// Appends the last line; where memory is refused, a part of it.
+// Appends the last line; if memory runs out, a part of it.
 fn append_end(out: &mut Vec<u8>, verdict: Verdict) -> Result<(), NoMemory>
     ensures ok { OnOk result (out.new.items ≡ out.old.items ++ (end_text verdict ++ (10 ∷ []))) }
     ensures err { OnErr result (StartsWith out.new.items out.old.items) }
@@ -57,7 +57,7 @@ fn append_end(out: &mut Vec<u8>, verdict: Verdict) -> Result<(), NoMemory>
 }
 
 /// Appends the history of a test case, in format 2: its name, the number of its behaviours, its entries and its overall
-/// verdict. Where memory is refused, nothing is appended.
+/// verdict. If memory runs out, nothing is appended.
 pub fn write_block(
     out: &mut Vec<u8>,
     name: &Name,

@@ -27,7 +27,7 @@ pub struct Header {
     pub behaviours: u16,
 }
 
-// Whether a block of so many behaviours may have this format.
+// Whether a block of that many behaviours may have this format.
 fn is_format(format: u16, behaviours: u16) -> bool
     ensures { IsTrue result ↔ IsFormat format behaviours }
 {
@@ -38,7 +38,7 @@ fn is_format(format: u16, behaviours: u16) -> bool
     }
 }
 
-// The format that the text begins with the words of, and what stands behind them.
+// The format that the text begins with the words of, and what follows them.
 fn take_format(text: &[u8]) -> Option<(u16, &[u8])>
     ensures spelled { IfSome result (λ r. text.now ≡ format_text r.0 ++ r.1.now) }
     ensures only { (f : ℕ) (rest : List ℕ) → IsSomeFormat f → text.now ≡ format_text f ++ rest → Takes result f rest }
@@ -49,7 +49,7 @@ fn take_format(text: &[u8]) -> Option<(u16, &[u8])>
     }
 }
 
-// The number of behaviours behind the name, where a block of this format may have so many, and what stands behind the line,
+// The number of behaviours after the name, if a block of this format may have that many, and what follows the line,
 // which it ends.
 fn take_behaviours(format: u16, text: &[u8]) -> Option<(u16, &[u8])>
     ensures spelled { IfSome result (λ r. (rest : List ℕ) × (text.now ≡ 32 ∷ (decimal r.0 ++ rest)) × EndsLine rest r.1.now) }
@@ -68,7 +68,7 @@ fn take_behaviours(format: u16, text: &[u8]) -> Option<(u16, &[u8])>
     Some((behaviours, rest))
 }
 
-/// What the first line says, where it is the first one of a block, and what stands behind that line.
+/// What the first line says, if it is the first one of a block, and what follows that line.
 pub(crate) fn take_header_line(text: &[u8]) -> Option<(Header, &[u8])>
     ensures spelled { IfSome result (λ r. lines_of text.now ≡ header_text r.0 ∷ lines_of r.1.now) }
     ensures fits { IfSome result (λ r. IsHeader r.0) }

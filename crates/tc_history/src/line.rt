@@ -12,7 +12,7 @@ ghost use Rattle.tc_history.specs.Text.{IsEntry, IsUnnamed};
 use tc_entry::{Entry, Op, Reply, Verdict};
 use tc_text::{after, take_line_end, take_long_move, take_reply, take_short_move, take_verdict};
 
-/// The overall verdict, where the first line is the last one of a block, and what stands behind that line.
+/// The overall verdict, if the first line is the last one of a block, and what follows that line.
 #[inline(always)]
 pub fn take_end_line(text: &[u8]) -> Option<(Verdict, &[u8])>
     ensures spelled { IfSome result (λ r. lines_of text.now ≡ end_text r.0 ∷ lines_of r.1.now) }
@@ -25,7 +25,7 @@ pub fn take_end_line(text: &[u8]) -> Option<(Verdict, &[u8])>
     Some((verdict, rest))
 }
 
-// The reply behind a move, and what stands behind the line, which it ends.
+// The reply after a move, and what follows the line, which it ends.
 #[inline(always)]
 fn take_outcome(text: &[u8]) -> Option<(Reply, &[u8])>
     ensures spelled { IfSome result (λ r. lines_of text.now ≡ outcome_text r.0 ∷ lines_of r.1.now) }
@@ -50,7 +50,7 @@ fn may_have(format: u16, op: &Op) -> bool
     }
 }
 
-// The entry with a long operation that the first line spells, and what stands behind that line.
+// The entry with a long operation that the first line spells, and what follows that line.
 #[inline(never)]
 fn take_long_line(format: u16, text: &[u8]) -> Option<(Entry, &[u8])>
     ensures spelled { IfSome result (λ r. lines_of text.now ≡ entry_text r.0 ∷ lines_of r.1.now) }
@@ -67,7 +67,7 @@ fn take_long_line(format: u16, text: &[u8]) -> Option<(Entry, &[u8])>
     Some((Entry { caller, op, reply }, rest))
 }
 
-/// The entry of a block of this format that the first line spells, and what stands behind that line.
+/// The entry of a block of this format that the first line spells, and what follows that line.
 #[inline(never)]
 pub fn take_entry_line(format: u16, text: &[u8]) -> Option<(Entry, &[u8])>
     ensures spelled { IfSome result (λ r. lines_of text.now ≡ entry_text r.0 ∷ lines_of r.1.now) }

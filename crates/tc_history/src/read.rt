@@ -56,7 +56,7 @@ pub trait TakesHistories: Sized {
         requires { IsHeader header }
         ensures { IfOk result (λ begun. (first_line : ℕ) → opens first_line header [] begun) };
 
-    /// Takes the next entry of the history, which stands in this line.
+    /// Takes the next entry of the history, which is in this line.
     fn take(begun: &mut Self::Begun, line: usize, entry: Entry) -> Result<(), NoMemory>
         ensures { OnOk result ((first_line : ℕ) (h : AnyHeader) (entries : List AnyEntry) → line ≡ first_line + length entries + 1
             → opens first_line h entries begun.old → opens first_line h (entries ++ entry ∷ []) begun.new) };
@@ -118,7 +118,7 @@ impl TakesHistories for Vec<Block> {
     }
 }
 
-// Takes the block that the text begins with; gives the number of the line behind it, and what stands there.
+// Takes the block that the text begins with; gives the number of the line after it, and what is there.
 fn take_block<'a, H: TakesHistories>(
     alloc: Global,
     made: &mut H,
@@ -153,7 +153,7 @@ fn take_block<'a, H: TakesHistories>(
     Err(TextFault::at(line, TextKind::Early))
 }
 
-/// What the histories that the text spells make, else the text's first fault; NoMemory may stand in place of either.
+/// What the histories that the text spells make, otherwise the text's first fault; NoMemory may come instead.
 pub fn read_history_into<H: TakesHistories + Drop>(
     alloc: Global,
     text: &[u8],
@@ -177,7 +177,7 @@ pub fn read_history_into<H: TakesHistories + Drop>(
     Ok(made)
 }
 
-/// The histories that the text spells, else its first fault; NoMemory may stand in place of either.
+/// The histories that the text spells, otherwise its first fault; NoMemory may come instead.
 pub fn read_history(alloc: Global, text: &[u8]) -> Result<Vec<Block>, TextFault>
     ensures ok { IfOk result (λ blocks. AreHistories text.now blocks.items) }
     ensures fault { IfErr result (λ e. IsHistoryFault text.now e) }

@@ -33,7 +33,7 @@ each f (x ∷ xs) = do
   ys ← each f xs
   Ok (y ∷ ys)
 
--- what is there, or the fault where nothing is
+-- what is there, or the fault if nothing is
 abbrev pub or_fault : {A : Type 0} → Option A → ScriptKind → Result A ScriptKind
 or_fault (Some x) kind = Ok x
 or_fault None kind = Err kind

@@ -22,7 +22,7 @@ parts cuts bytes = slice_split cuts bytes
 unfoldable pub without_end : List ℕ → List ℕ
 without_end text = if slice_index text (length text - 1) == 10 then take (length text - 1) text else text
 
--- the lines, each without its LF; behind a last LF there is none
+-- the lines, each without its LF; after a last LF there is none
 unfoldable pub lines : List ℕ → List (List ℕ)
 lines text = if length text == 0 then [] else parts is_newline (without_end text)
 

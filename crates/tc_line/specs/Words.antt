@@ -25,7 +25,7 @@ unfoldable pub begins_with_letter : List ℕ → Bool
 begins_with_letter [] = false
 begins_with_letter (b ∷ bs) = is_ascii_alphabetic b
 
--- each byte may stand in a name
+-- each byte may be in a name
 unfoldable pub has_name_bytes : List ℕ → Bool
 has_name_bytes text = list_all is_name_byte text
 

@@ -16,7 +16,7 @@ pub enum ScriptKind {
     BadLine,
     /// A word in the place of a name or of a component is not allowed there.
     BadName,
-    /// The line may not stand where it stands.
+    /// The line may not be where it is.
     BadPlace,
     /// The line passes a limit.
     TooMany,
@@ -68,7 +68,7 @@ impl fmt::Display for ScriptKind {
 pub enum LineFault {
     /// What is wrong with the line.
     Kind(ScriptKind),
-    /// Memory was refused.
+    /// Memory ran out.
     NoMemory,
 }
 

@@ -1,4 +1,4 @@
-//! The commonest lines, as they are usually written: they are told by their whole spelling, and not cut into words.
+//! The commonest lines, as they are usually written: they are known by their whole spelling, and not cut into words.
 ghost use Rattle.std.specs.Prelude.{◌≡◌, Ok, IfSome};
 ghost use Rattle.tc_line.specs.Line.{line_of};
 ghost use Rattle.tc_line.specs.declared.line.Line.TheVariants as L;
@@ -7,7 +7,7 @@ use crate::line::Call;
 use crate::spelling::is_word;
 use tc_entry::UserVerdict;
 
-/// The verdict call that the line is, where one space stands between its words and none around them.
+/// The verdict call that the line is, if one space is between its words and none around them.
 #[inline(always)]
 #[tactic(auto, using(crate::proofs::WholeLines::plain_rules))]
 pub(crate) fn read_plain(line: &[u8]) -> Option<Call>

@@ -15,8 +15,8 @@ use std::alloc::Global;
 use tc_entry::{Name, Sequence};
 use tc_step::{GroupPlace, Place, Status, TargetPlace};
 
-// What reads a name stands out of line (`inline(never)`): so the reader of the lines without one, as `setverdict pass`,
-// has no room for names to clear and move.
+// What reads a name is not inlined (`inline(never)`): so the reader of the lines without one, as `setverdict pass`, has
+// no room for names to clear and move.
 #[tactic(auto, unfolding(crate::specs::Line::named))]
 #[inline(never)]
 fn read_named(word: &[u8]) -> Result<Name, ScriptKind>
@@ -106,7 +106,7 @@ fn read_named_create(word: &[u8], alive: bool, given: &[u8]) -> Result<Line, Lin
     }))
 }
 
-// The create that binds the word, where what stands behind it says that the component is alive-type.
+// The create that binds the word, where what follows it says that the component is alive-type.
 fn read_alive_create(word: &[u8], says: &[u8]) -> Result<Line, LineFault>
     ensures { Gives result (if is_text says.now (codes "alive") then create word.now true else Err BadLine) }
 {
@@ -116,7 +116,7 @@ fn read_alive_create(word: &[u8], says: &[u8]) -> Result<Line, LineFault>
     read_unnamed_create(word, true)
 }
 
-// The create that binds the word, where what stands in front of the given name says that it is one.
+// The create that binds the word, where what is in front of the given name says that it is one.
 fn read_given_create(word: &[u8], alive: bool, says: &[u8], given: &[u8]) -> Result<Line, LineFault>
     ensures { Gives result (if is_text says.now (codes "named") then create_named word.now alive given.now else Err BadLine) }
 {
@@ -345,7 +345,7 @@ pub fn is_comment(word: &[u8]) -> bool
     }
 }
 
-// What a line says, by its words. It stands out of line, so that the commonest lines have no room for names to clear.
+// What a line says, by its words. It is not inlined, so that the commonest lines have no room for names to clear.
 #[tactic(auto, unfolding(crate::specs::Line::line_of))]
 #[inline(never)]
 fn read_by_words<'t>(
@@ -371,7 +371,7 @@ fn read_by_words<'t>(
     }
 }
 
-/// What a line says. The list holds its words meanwhile: given to the next line, it takes no memory anew.
+/// What a line says. The list holds its words meanwhile: given to the next line, it takes no memory again.
 #[inline(always)]
 pub fn read_line<'t>(
     alloc: Global,

@@ -6,7 +6,7 @@ use memchr::memchr;
 use std::alloc::AllocError;
 use std::marker::Model;
 
-/// Leaves the words of a line in the list, in place of what was there.
+/// Leaves the words of a line in the list, instead of what was there.
 pub fn read_words<'t>(line: &'t [u8], list: &mut Vec<&'t [u8]>) -> Result<(), AllocError>
     ensures { OnOk result (map (λ w. w.now) list.new.items ≡ words line.now) }
 {

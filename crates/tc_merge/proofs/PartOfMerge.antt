@@ -119,7 +119,7 @@ head_and_kept (e ∷ es) =
       | inr s ↦ rw (s, s) refl
     ]
 
--- the next other entry of a list, where it is known
+-- the next other entry of a list, if it is known
 pub record NextIs (xs : List Entry) (e : Entry) (ys : List Entry) : Type 0 where
   pub at : from_other xs ≡ e ∷ after_other xs
   pub rest : others (after_other xs) ≡ ys
@@ -143,7 +143,7 @@ none_left (x ∷ xs) h =
       | inr s ↦ let k : x ∷ others xs ≡ [] = rw s at h in absurd cc
     ]
 
--- where nothing follows a late entry, it is the last
+-- if nothing follows a late entry, it is the last
 keep_and_late : (xs : List Entry) → stops_when_late xs ≡ true → keep xs ++ filter is_late xs ≡ xs
 keep_and_late [] h = refl
 keep_and_late (e ∷ []) h = elim (bool_or (is_verdict_call e.op)) [

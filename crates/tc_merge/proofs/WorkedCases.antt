@@ -1,4 +1,4 @@
--- A worked case, computed from the definitions alone.
+-- A worked case, computed from the definitions.
 use Rattle.std.proofs.Common.{ℕ, zero, suc, ◌<◌, ◌≡◌, ◌≢◌, ◌==◌, true, false, Option, Some, None, List, [], ◌∷◌, filter, get_or, length, reverse, refl, sym, ap, subst, arith, ◌∙◌}
 use Rattle.std.specs.List.{All, AllByRecursion}
 use Rattle.std.proofs.lemmas.Bool.{ne_eqb}

@@ -4,7 +4,7 @@ use Rattle.std.specs.Borrow.{Bor}
 use Rattle.tc_entry.specs.declared.entry.Entry.{Entry}
 use Rattle.tc_case.specs.Merge.{after_other, in_place}
 
--- what the table has of run b, and this where it has no such run
+-- what the table has of run b, and this if it has no such run
 abbrev pub entries_of : List (Bor (List Entry)) → ℕ → Bor (List Entry) → List Entry
 entries_of table b d = (slice_index_or table b d).now
 

@@ -48,7 +48,7 @@ pub(crate) fn logs_by_run(alloc: Global, logs: &[RunLog]) -> Result<Vec<&[Entry]
     Ok(by_run)
 }
 
-/// What a table has of a run, nothing where it has no such run.
+/// What a table has of a run, nothing if it has no such run.
 pub(crate) fn at_run<'a>(table: &[&'a [Entry]], run: Run) -> &'a [Entry]
     ensures within { (d : _) → run.0 < length table.now → result.now ≡ entries_of table.now run.0 d }
     ensures beyond { length table.now ≤ run.0 → result.now ≡ [] }
@@ -60,7 +60,7 @@ pub(crate) fn at_run<'a>(table: &[&'a [Entry]], run: Run) -> &'a [Entry]
     table[at]
 }
 
-/// Goes on behind the next other entry of a run, and answers what follows it.
+/// Continues after the next other entry of a run, and returns what follows it.
 pub(crate) fn move_on<'a>(rests: &mut Vec<&'a [Entry]>, run: Run) -> &'a [Entry]
     ensures len { length rests.new.items ≡ length rests.old.items }
     ensures same { (b : ℕ) (d : _) → b ≢ run.0 → slice_index_or rests.new.items b d ≡ slice_index_or rests.old.items b d }

@@ -52,12 +52,12 @@ fn add_all_late(all: &mut Vec<Entry>, logs: &[&[Entry]]) -> Result<(), NoMemory>
     Ok(())
 }
 
-/// The history with the verdict entries of the logs put in: at the opening those at the head of run 0's log; behind
-/// each entry those that follow it in its caller's log, and, where it starts a run, those at the head of that run's
-/// log; at the end those replied Ended, in the order of their runs. A run without a log has the empty log.
+/// The history with the verdict entries of the logs put in: at the opening those at the head of run 0's log; after each
+/// entry those that follow it in its caller's log. After an entry that starts a run come also those at the head of that
+/// run's log. At the end come those replied Ended, in the order of their runs. A run without a log has the empty log.
 ///
-/// It costs a constant for each entry of the history and of the logs and for each run up to the last that has a log,
-/// where no run is started twice. Each entry is copied once. Room is made once, for as many entries as the logs have.
+/// It costs a constant for each entry of the history and of the logs and for each run up to the last that has a log, if
+/// no run is started twice. Each entry is copied once. Room is made once, for as many entries as the logs have.
 pub fn merge(
     alloc: Global,
     table_history: &[Entry],

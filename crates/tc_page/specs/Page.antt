@@ -7,7 +7,7 @@ use Rattle.tc_page.specs.declared.tail.TheConstants.{TAIL}
 unfoldable pub head : List ℕ
 head = HEAD.now
 
--- what a page has behind the text
+-- what a page has after the text
 unfoldable pub tail : List ℕ
 tail = TAIL.now
 

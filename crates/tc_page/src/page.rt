@@ -7,7 +7,7 @@ use crate::tail::TAIL;
 use std::alloc::Global;
 use tc_entry::NoMemory;
 
-// Appends what stands before the text.
+// Appends what is before the text.
 #[tactic(auto, unfolding(crate::specs::Page::head))]
 fn append_head(page: &mut Vec<u8>) -> Result<(), NoMemory>
     ensures { OnOk result (page.new.items ≡ page.old.items ++ spec_head) }
@@ -16,7 +16,7 @@ fn append_head(page: &mut Vec<u8>) -> Result<(), NoMemory>
     Ok(())
 }
 
-// Appends what stands behind the text.
+// Appends what follows the text.
 #[tactic(auto, unfolding(crate::specs::Page::tail))]
 fn append_tail(page: &mut Vec<u8>) -> Result<(), NoMemory>
     ensures { OnOk result (page.new.items ≡ page.old.items ++ spec_tail) }

@@ -215,7 +215,7 @@ fn settings_and_a_close<R: Abort + AllocGlobal + Threads>(
     Ok((tally, counted))
 }
 
-/// What the close counted goes by the settings, of which none is taken behind one that is not.
+/// What the close counted depends on the settings, of which none is taken after one that is not.
 fn is_right(rt: &impl Abort, tally: Tally, counted: UserVerdict) {
     let wanted = if 0 < tally.taken {
         UserVerdict::Inconc

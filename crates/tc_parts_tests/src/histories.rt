@@ -78,7 +78,7 @@ fn append_again(out: &mut Vec<u8>, block: &Block) -> Result<(), NoMemory> {
     write_block(out, &block.name, block.behaviours, entries, block.verdict)
 }
 
-/// The text is one block of so many entries, and is written again as it was.
+/// The text is one block of that many entries, and is written again as it was.
 fn is_read_and_written(
     rt: &impl Abort,
     out: &mut Vec<u8>,

@@ -1,4 +1,4 @@
-//! Calls on a table and on a state of the same test case, and lists of entries. The calls of the library stand in small
+//! Calls on a table and on a state of the same test case, and lists of entries. The calls of the library are in small
 //! functions without clauses, so that the proof of a test carries none of the library's.
 use crate::checks::{blocks, first, got, holds, is};
 use std::alloc::Global;
@@ -160,7 +160,7 @@ fn end(rt: &impl Abort, table: &mut Table, state: &mut CaseState) -> Result<(), 
     Ok(())
 }
 
-/// The copies of both go on by themselves.
+/// The copies of both continue by themselves.
 fn copies_go_on(
     rt: &impl Abort,
     alloc: Global,

@@ -14,7 +14,7 @@ history 2 t 2
 end none
 ";
 
-/// Records of a word, and whether the log is right beside each.
+/// Records of a word, and whether the log is right next to each.
 const RECORDS: [(Record, bool); 6] = [
     (Record::Closed(UserVerdict::None, UserVerdict::Inconc), true),
     (Record::Closed(UserVerdict::Fail, UserVerdict::Fail), true),

@@ -30,7 +30,7 @@ printed_more blocks b j out out' true e before is added = λ more tail legal che
     rw (behind blocks more b, lines) (before (b ∷ more) (judgement_line j ++ tail) legal (Checks.goes_on b more (judgement_line j) tail legal (says_so b j true e is) checks))
 printed_more blocks b j out out' false e before is added = λ more. rw (behind blocks more b, added) (before (b ∷ more) (judgement_line j) false (Checks.stops b more (judgement_line j) (says_so b j false e is)))
 
--- one more block, behind one that is not legal
+-- one more block, after one that is not legal
 pub passed_more : (blocks : List Block) (b : Block) (out : List ℕ) → Feeds blocks out false → Feeds (blocks ++ b ∷ []) out false
 passed_more blocks b out before = λ more. rw (behind blocks more b) (before (b ∷ more))
 

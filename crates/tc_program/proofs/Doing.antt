@@ -52,7 +52,7 @@ pub lent_does : (task : Task) (input before after : Option (List ℕ)) (text len
     → IfSome input (λ given. text ≡ given) → WritesTo task lent before after r → Does task input before after r
 lent_does task input before after text lent r same fits all does = read_does task input before after text r fits all (subst (λ t. WritesTo task t before after r) same does)
 
--- what is so where there is an answer, and where there is none
+-- what is so if there is an answer, and if there is none
 pub made_of : {A E : Type 0} (P : A → Type 0) (Q : E → Type 0) (r : Result A E) → IfOk r P → IfErr r Q → MatchResult r P Q
 made_of P Q (Ok x) done refused = done
 made_of P Q (Err e) done refused = refused
@@ -61,16 +61,16 @@ pub both_ok : {A E : Type 0} (P Q S : A → Type 0) (r : Result A E) → ((x : A
 both_ok P Q S (Ok x) both p q = both x p q
 both_ok P Q S (Err e) both p q = tt
 
--- some text is made, where one is
+-- some text is made, if one is
 pub some_text : {E : Type 0} (r : Result (Vec ℕ) E) → (text : List ℕ) × IfOk r (λ v. v.items ≡ text)
 some_text (Ok v) = (v.items, refl)
 some_text (Err e) = ([], tt)
 
--- an answer of which nothing is told
+-- an answer of which nothing is printed
 pub silent_answer : (out out' told : List ℕ) (status : ℕ) → out ≡ out' → told ≡ [] → answer_of out told status ≡ answer_of out' [] status
 silent_answer out out' told status out_is told_is = ap₂ (λ o t. answer_of o t status) out_is told_is
 
--- what is made of a text, where there is an answer, and where there is none
+-- what is made of a text, if there is an answer, and if there is none
 made_either : (task : Task) (text : List ℕ) (r : Result Answer RunFault) → IfOk r (Makes task text) → IfErr r (Refuses task text) → IsMade task text r
 made_either task text (Ok a) done refused = done
 made_either task text (Err fault) done refused = refused

@@ -1,4 +1,4 @@
--- What is told of a text that is refused.
+-- What is printed about a text that is refused.
 use Rattle.std.proofs.Common.{ℕ, ◌≡◌, List, Result, Ok, Err, IfOk, refl}
 use Rattle.std.specs.Global.{Vec}
 use Rattle.tc_explain.proofs.Lemmas.Showing.{shows_some}
@@ -7,11 +7,11 @@ use Rattle.tc_program.specs.declared.fault.RunFault.{RunFault}
 use Rattle.tc_program.specs.Explained.{IsToldOf, notes_of, refusal_of}
 use Rattle.tc_program.specs.Fault.{line_of}
 
--- something can be told
+-- something can be printed
 pub some_told : (task : Task) (text : List ℕ) (fault : RunFault) → (told : List ℕ) × IsToldOf task text fault told
 some_told task text fault = shows_some (notes_of (refusal_of task fault) text) (line_of fault)
 
--- what was made to be told, or something that can be
+-- what was made for printing, or something that can be printed
 pub told_or : {E : Type 0} (r : Result (Vec ℕ) E) (Is : List ℕ → Type 0) → ((told : List ℕ) × Is told) → IfOk r (λ v. Is v.items) →
     (told : List ℕ) × Is told × IfOk r (λ v. v.items ≡ told)
 told_or (Ok v) Is some made = (v.items, made, refl)

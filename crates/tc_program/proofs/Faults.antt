@@ -9,7 +9,7 @@ use Rattle.tc_program.specs.declared.fault.RunFault.TheVariants as F
 use Rattle.tc_program.specs.Fault.{fault_text, place_text}
 use Rattle.tc_program.specs.Inside.{line_number, placed, words_of}
 
--- the number of a line, and the words behind it
+-- the number of a line, and the words after it
 at_place : (line : ℕ) (words : List ℕ) → place_text line ++ words ≡ codes "line " ++ (decimal line ++ (codes ": " ++ words))
 unfolding place_text
 at_place line words =

@@ -37,7 +37,7 @@ right_of_legal b (J.Legal name entries verdict) legal is = (is.0, is.1)
 right_of_legal b (J.OtherReply line given reply) legal is = absurd cc
 right_of_legal b (J.OtherVerdict line given verdict) legal is = absurd cc
 
--- the summary of what was played is that of the block, where it is right
+-- the summary of what was played is that of the block, if it is right
 summary_of_right : (b : Block) (p : Playing) (s : Summary) → IsPlayed b.first_line (header_of b) b.entries p → IsRight b
     → ((past : List Entry) → StandsFor p.state past → s ≡ summary_of p.header.name past) → s ≡ block_summary b
 summary_of_right b p s played right says = go p.difference played.1
@@ -63,7 +63,7 @@ pub illegal_more : (blocks : List Block) (b : Block) (j : Judgement) (ss ss' : L
 illegal_more blocks b j ss ss' before is illegal =
     ((b, is), illegal, (before.0.0, printed_more blocks b j before.0.0 (before.0.0 ++ judgement_line j) false illegal before.0.1 is refl))
 
--- where no block is illegal so far
+-- if no block is illegal so far
 pub legal_next : (o : Option Judgement) (blocks : List Block) (b : Block) (p : Playing) (j : Judgement) (s : Summary) (ss ss' : List Summary)
     → is_some o ≡ false → Summarizes blocks ss o → IsPlayed b.first_line (header_of b) b.entries p → IsJudgement b j → judges_legal j ≡ true
     → ((past : List Entry) → StandsFor p.state past → s ≡ summary_of p.header.name past) → ss' ≡ ss ++ s ∷ []
@@ -76,7 +76,7 @@ pub illegal_next : (o : Option Judgement) (blocks : List Block) (b : Block) (j :
 illegal_next None blocks b j ss ss' none before is illegal = illegal_more blocks b j ss ss' before is illegal
 illegal_next (Some k) blocks b j ss ss' none before is illegal = absurd cc
 
--- one more block behind one that is not legal
+-- one more block after one that is not legal
 pub illegal_passed : (blocks : List Block) (b : Block) (ss : List Summary) (o : Option Judgement) (j : Judgement)
     → o ≡ Some j → Summarizes blocks ss o → Summarizes (blocks ++ b ∷ []) ss o
 illegal_passed blocks b ss None j is before = absurd cc

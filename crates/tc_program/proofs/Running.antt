@@ -47,12 +47,12 @@ live_text true Forms.History found r is = sym (ap (λ o. form_text (unwrap_or o 
 live_text true Forms.Junit found r is = absurd (cc is)
 live_text false form found r is = absurd (cc is)
 
--- what is told behind the test cases, and what comes of both
+-- what is printed after the test cases, and what comes of both
 abbrev pub EndsTold : Option (List ℕ) → Option (List ℕ) → CampaignEnd → Result (Unit {0}) OutFault → Result (Unit {0}) RunFault → Type 0
 EndsTold between told ending telling answer =
     (line : Result (Unit {0}) RunFault) × IsTold between told (abort_text ending) line × (answer ≡ first_fault telling line)
 
--- where no test case was finished, nothing is told
+-- if no test case was finished, nothing is printed
 pub untold : (tells : Bool) (start : Option (List ℕ)) (finished : List Finished) → finished ≡ []
     → IsToldBy tells start start (told_text tells finished) (Ok tt)
 untold tells start finished none = subst (λ fs. IsToldBy tells start start (told_text tells fs) (Ok tt)) (sym none) (nothing_of tells start)
@@ -68,7 +68,7 @@ writes_nothing contents None before after same = ap (λ (l : LiveWriter _). cont
 writes_nothing contents (Some ending) before after same = tt
 
 module _ {B : Type 0} (outcome : B → PassState → Back → Type 0) (cases : List (Case B)) (options : RunOptions) where
-  -- the results of a run were given, and what is to be told was
+  -- the results of a run were given, and what is due on standard error was printed
   pub whole_done : (streams : Streams) (between : Option (List ℕ)) (r : Results) (telling : Result (Unit {0}) OutFault) (ended : Outcome)
       → IsRunTo outline_of (IsCalled outcome) cases options.stop_on worker_limit r.finished r.ending
       → IsToldBy options.progress streams.untold between (told_text options.progress r.finished) telling
@@ -110,7 +110,7 @@ module _ {B : Type 0} (outcome : B → PassState → Back → Type 0) (cases : L
       told = told_is_prefix options.progress streams.untold streams.told (told_text options.progress r.finished) telling told;
     }
 
-    -- what stands before the test cases was not written whole, and nothing was told
+    -- what is before the test cases was not written whole, and nothing was printed
     pub at_opening : (fault : OutFault) → streams.told ≡ streams.untold → LeavesPrefix streams.before streams.after (opening_text form) fault
         → IsUnwritten outline_of (IsCalled outcome) cases options streams fault
     at_opening fault nothing left =
@@ -133,7 +133,7 @@ module _ {B : Type 0} (outcome : B → PassState → Back → Type 0) (cases : L
           go (Some ending) given = (all_at state name form streams.before [] finished before after first given.1).1
           go None given = (ended_at state name form streams.before finished before after first given.1).1
 
-      -- a test case, or what stands behind all, was not written whole
+      -- a test case, or what follows all, was not written whole
       pub live_left : (telling : Result (Unit {0}) OutFault) (fault : OutFault)
           → IsToldBy options.progress streams.untold streams.told (told_text options.progress finished) telling
           → IfNone answer (streams.after ≡ (state after).out)
@@ -153,7 +153,7 @@ module _ {B : Type 0} (outcome : B → PassState → Back → Type 0) (cases : L
               (subst (λ now. AppendsPrefix streams.before now (form_text form (record { finished = finished; ending = E.Complete }))) (sym cut)
               (case_left state name form streams.before before after first finished E.Complete given.1))
 
-      -- all was written, and what is to be told was
+      -- all was written, and what is due on standard error was printed
       pub live_done : (between : Option (List ℕ)) (telling : Result (Unit {0}) OutFault) (ending : CampaignEnd) (ended : Outcome)
           → IsToldBy options.progress streams.untold between (told_text options.progress finished) telling → answer ≡ Some ending
           → Appends (state after).out streams.after (closing_text (state after).form (state after).tally ending)

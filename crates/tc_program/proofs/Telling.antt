@@ -1,4 +1,4 @@
--- What was told of a campaign, and what the observer behind was given.
+-- What was printed about a campaign, and what the observer after it was given.
 use Rattle.std.proofs.Common.{Bool, ℕ, ◌≡◌, List, [], Option, Some, None, Result, refl, sym, subst}
 use Rattle.std.specs.Borrow.{GName}
 use Rattle.std.specs.Prelude.{IfNone, IfSome}
@@ -17,7 +17,7 @@ use Rattle.tc_program.specs.Inside.{WasTold}
 use Rattle.tc_program.specs.Limits.{worker_limit}
 
 module _ {O E : Type 0} where
-  -- the observer to which one that tells hands on, and which it is, which writer it tells to, and where it keeps lines
+  -- the observer to which a `Progress` passes on, and which it is, which writer it prints to, and where it keeps lines
   abbrev pub inner_of : Progress O E → O
   inner_of p = p.observer.now
 
@@ -36,7 +36,7 @@ module _ {B O E : Type 0} (outcome : B → PassState → Back → Type 0) (cases
   abbrev TakesTold : Progress O E → Finished → Progress O E → Bool → Type 0
   TakesTold = Takes inner_of (state_of contents) inner_name writer_name failed_name takes
 
-  -- where one that tells stands before the first test case
+  -- the state of a `Progress` before the first test case
   fresh : HasTold options.progress (contents before.writer.now) [] (state_of contents before)
   fresh = none_told options.progress (contents before.writer.now) (state_of contents before) tells fault failed refl
 
@@ -56,7 +56,7 @@ module _ {B O E : Type 0} (outcome : B → PassState → Back → Type 0) (cases
         go None some short =
             (ended_told inner_of (state_of contents) inner_name writer_name failed_name takes options.progress (contents before.writer.now) short.finished before after fresh short.ended).2
 
-    -- a campaign that is observed by one that tells is told of, and the observer behind was given the same
+    -- a campaign that a `Progress` observes is reported, and the observer after it was given the same
     pub was_told : (last : O) (now : Option (List ℕ)) (line : Result (Unit {0}) OutFault) → last ≡ after.observer.now
         → EndsTelling (state_of contents after) now line
         → WasTold outcome takes cases options before.observer.now last (contents before.writer.now) now answer line

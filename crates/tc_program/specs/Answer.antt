@@ -20,23 +20,25 @@ use Rattle.tc_program.specs.Streams.{Streams}
 use Rattle.tc_program.specs.Tell.{IsRefusal, IsTold}
 use Rattle.tc_program.specs.declared.fault.RunFault.{RunFault}
 
--- the words are refused, and not for want of memory; they ask neither for help nor for the version
+-- the words are refused, and not because memory ran out; they ask neither for help nor for the version
 abbrev pub IsMistake : ErrorKind → Type 0
 IsMistake kind = (kind ≢ Kinds.DisplayHelp) × (kind ≢ Kinds.DisplayVersion) × (kind ≢ Kinds.OutOfMemory)
 
--- help or the version was asked for: some text was written and the status is 0, or it was not written whole, and that is told
+-- help or the version was asked for: some text was written and the status is 0, or it was not written whole, and that
+-- is printed
 abbrev pub IsHelped : Streams → Outcome → Type 0
 IsHelped s outcome = (text : List ℕ) ×
     ((Appends s.before s.after text × Keeps s.untold s.told × (outcome.status ≡ 0))
     ⊎ ((fault : RunFault) × LeavesUnwritten s.before s.after text fault × IsRefusal s.untold s.told (line_of fault) outcome))
 
--- the words could not be had, for want of memory or since one is no text; the line says which, and takes no memory where it is the second
+-- the words are not available, since memory ran out or one is no text; the line says which, and takes no memory if it
+-- is the second
 abbrev pub IsUnread : IoKind → Option (List ℕ) → Option (List ℕ) → Outcome → Type 0
 IsUnread IoKinds.OutOfMemory untold told outcome = IsRefusal untold told (line_of F.NoMemory) outcome
 IsUnread kind untold told outcome = (outcome.status ≡ 3) × IsTold untold told (said (codes "an argument is not UTF-8")) outcome.told
 
--- what comes of words that clap takes for no task, by the kind of its error: help, the version or a refusal was shown, or want of memory was
--- told; for refused words, and without memory, nothing was written
+-- what comes of words that clap takes for no task, by the kind of its error: help, the version or a refusal was shown,
+-- or that memory ran out. For refused words, and without memory, nothing was written.
 pub record IsNoTask (kind : ErrorKind) (streams : Streams) (Unwritten : Type 0) (outcome : Outcome) : Type 0 where
   pub help : kind ≡ Kinds.DisplayHelp → IsHelped streams outcome
   pub version : kind ≡ Kinds.DisplayVersion → IsHelped streams outcome

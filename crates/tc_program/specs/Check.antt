@@ -46,7 +46,8 @@ pub data Checks : List Block → List ℕ → Bool → Type 0 where
       → Checks rest out legal → Checks (b ∷ rest) (line ++ out) legal
   stops : (b : Block) (rest : List Block) (line : List ℕ) → Says b line false → Checks (b ∷ rest) line false
 
--- The text is that of histories; whatever histories it is of, this output says which are legal. The status is 0 where all are, else 3.
+-- The text is that of histories; whatever histories it is of, this output says which are legal. The status is 0 if all
+-- are, otherwise 3.
 pub record IsChecked (text out : List ℕ) (status : ℕ) : Type 0 where
   pub blocks : List Block
   pub histories : AreHistories text blocks
@@ -54,7 +55,7 @@ pub record IsChecked (text out : List ℕ) (status : ℕ) : Type 0 where
   pub checks : (all : List Block) → AreHistories text all → Checks all out legal
   pub status_is : status ≡ (if legal then 0 else 3)
 
--- a text is refused as one of histories, and is none of any; want of memory says nothing of it
+-- a text is refused as one of histories, and is none of any; if memory runs out, nothing is said about it
 abbrev pub RefusesHistory : List ℕ → RunFault → Type 0
 RefusesHistory text (F.Text fault) = IsHistoryFault text fault × ((blocks : List Block) → AreHistories text blocks → ⊥)
 RefusesHistory text F.NoMemory = Unit {0}

@@ -20,7 +20,7 @@ pub record AreChosen (choice : Choice) (text : List ℕ) (cases : CampaignView) 
   pub named : have_names script_name choice.only.items all ≡ true
   pub are : cases ≡ chosen script_name choice.only.items choice.shard all
 
--- a text is refused as a script; want of memory says nothing of it
+-- a text is refused as a script; if memory runs out, nothing is said about it
 abbrev pub RefusesScript : List ℕ → RunFault → Type 0
 RefusesScript text (F.Script fault) = campaign text ≡ Err fault
 RefusesScript text F.NoMemory = Unit {0}

@@ -1,4 +1,4 @@
--- What is told of a text that is refused.
+-- What is printed about a text that is refused.
 use Rattle.std.specs.Prelude.{ℕ, true, Option, Some, None, if◌then◌else◌, List, []}
 use Rattle.tc_text.specs.declared.fault.TextFault.TheVariants as X
 use Rattle.tc_explain.specs.declared.sort.Refusal.{Refusal}
@@ -14,7 +14,7 @@ use Rattle.tc_program.specs.declared.outcome.Outcome.{Outcome}
 use Rattle.tc_program.specs.Fault.{line_of}
 use Rattle.tc_program.specs.Tell.{IsRefusal}
 
--- what a fault says of the text of a task, and the number of its line, where the task is asked to explain it
+-- what a fault says of the text of a task, and the number of its line, if the task is asked to explain it
 abbrev pub refusal_of : Task → RunFault → Option (Refusal × ℕ)
 refusal_of (T.Replay true) (F.Text (X.At line kind)) = Some (R.Moves kind, line)
 refusal_of (T.Check true) (F.Text (X.At line kind)) = Some (R.Histories kind, line)
@@ -27,10 +27,10 @@ abbrev pub notes_of : Option (Refusal × ℕ) → List ℕ → List Note
 notes_of None text = []
 notes_of (Some what) text = explanation what.0 text what.1
 
--- this is told of the text of a task that has this fault: its line, and behind it what is explained
+-- this is printed of the text of a task that has this fault: its line, and after it what is explained
 abbrev pub IsToldOf : Task → List ℕ → RunFault → List ℕ → Type 0
 IsToldOf task text fault told = Shows (notes_of (refusal_of task fault) text) (line_of fault) told
 
--- the outcome of a task whose text has this fault: that is told
+-- the outcome of a task whose text has this fault: that is printed
 abbrev pub IsExplained : Task → List ℕ → RunFault → Option (List ℕ) → Option (List ℕ) → Outcome → Type 0
 IsExplained task text fault before after outcome = (told : List ℕ) × IsToldOf task text fault told × IsRefusal before after told outcome

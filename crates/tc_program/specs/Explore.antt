@@ -11,9 +11,9 @@ use Rattle.tc_explore.specs.Told.{explored_line, explored_status, witnesses_text
 use Rattle.tc_program.specs.declared.explore.ExploredCase.{ExploredCase}
 use Rattle.tc_program.specs.Scripted.{CaseView, scripts_of}
 
--- a test case was explored, and each verdict that was found has a witness: a complete course of its scripts, which is legal;
--- where the search says that it is complete, the verdict of each complete course of its scripts was found; of each run as many
--- steps as it reaches are carried out in some course
+-- a test case was explored, and each verdict that was found has a witness: a complete course of its scripts, which is
+-- legal. If the search says that it is complete, the verdict of each complete course of its scripts was found. Some
+-- course of each run carries out as many steps as the run reaches.
 pub record IsExplored (details : Bool) (states : ℕ) (c : CaseView) (e : ExploredCase) : Type 0 where
   pub name : e.name ≡ c.0
   pub behaviours : e.behaviours ≡ length c.1
@@ -33,11 +33,13 @@ told_of true e = witnesses_text e.name e.behaviours e.explored
 abbrev pub has_status : ℕ → List ExploredCase → Bool
 has_status status explored = list_any (λ e. explored_status e.explored == status) explored
 
--- the status of test cases: 3 where a search did not come to its end, else 1 where some test case has more verdicts than one
+-- the status of test cases: 3 if a search did not come to its end, otherwise 1 if some test case has more verdicts than
+-- one
 abbrev pub status_of_all : List ExploredCase → ℕ
 status_of_all explored = if has_status 3 explored then 3 else if has_status 1 explored then 1 else 0
 
--- the test cases that the text spells were explored within so many states, and this is what is written of them, with their status
+-- the test cases that the text spells were explored within that many states, and this is what is written of them, with
+-- their status
 pub record Explores (histories details : Bool) (states : ℕ) (text out : List ℕ) (status : ℕ) : Type 0 where
   pub cases : CampaignView
   pub explored : List ExploredCase

@@ -14,8 +14,8 @@ use Rattle.tc_command.specs.declared.task.Form.TheVariants as Forms
 use Rattle.tc_program.specs.declared.fault.RunFault.{RunFault}
 use Rattle.tc_program.specs.Fault.{of_output}
 
--- the form in which test cases are written as they finish, where it is asked for that they are; a JUnit report has none, since its head counts
--- all of them
+-- the form in which test cases are written as they finish, if it is asked for that they are; a JUnit report has none,
+-- since its head counts all of them
 abbrev pub live_form : Bool → Form → Option ReportForm
 live_form false form = None
 live_form true Forms.Text = Some ReportForms.Text
@@ -30,6 +30,6 @@ text_of Forms.Csv r = form_text ReportForms.Csv r
 text_of Forms.History r = form_text ReportForms.History r
 text_of Forms.Junit r = junit_of VERSION.now (results_summaries r)
 
--- why a text was not written whole: without memory nothing was, where the writer failed a prefix; there is no other fault
+-- why a text was not written whole: without memory nothing was, if the writer failed a prefix; there is no other fault
 abbrev pub LeavesUnwritten : Option (List ℕ) → Option (List ℕ) → List ℕ → RunFault → Type 0
 LeavesUnwritten before after text fault = (why : OutFault) × (fault ≡ of_output why) × LeavesPrefix before after text why

@@ -73,7 +73,7 @@ use Rattle.tc_report.specs.declared.summary.Summary.{Summary}
 use Rattle.tc_report.specs.Summary.{block_summary}
 use Rattle.tc_program.specs.Give.{LeavesUnwritten}
 
--- the number of the line of the input that has a fault, where it is one of a line
+-- the number of the line of the input that has a fault, if it is one of a line
 abbrev pub line_number : RunFault → Option ℕ
 line_number (F.Text (T.At line kind)) = Some line
 line_number (F.Script fault) = Some fault.line
@@ -91,7 +91,7 @@ words_of (F.Script fault) = script_kind_text fault.kind
 words_of F.StopOn = text_of W.StopOn
 words_of F.Only = text_of W.Only
 
--- the words behind the place, where there is one
+-- the words after the place, if there is one
 abbrev pub placed : Option ℕ → List ℕ → List ℕ
 placed None words = words
 placed (Some line) words = place_text line ++ words
@@ -135,7 +135,8 @@ pub record WereRun (r : Results) : Type 0 where
   pub some : r.finished ≢ []
   pub each : All WasRun r.finished
 
--- these moves of a case of n behaviours are played: the state stands for their entries, and the lines of the replies are written
+-- these moves of a case of n behaviours are played: the state represents their entries, and the lines of the replies
+-- are written
 pub record ArePlayed (n : ℕ) (moves : List Move) (r : Replaying) : Type 0 where
   pub history : List Entry
   pub moves_are : map move_of history ≡ moves
@@ -169,16 +170,16 @@ judgement_line (J.Legal name entries verdict) = legal_line name entries verdict
 judgement_line (J.OtherReply line given reply) = other_line line (reply_text given) (reply_text reply)
 judgement_line (J.OtherVerdict line given verdict) = other_line line (name_of given) (name_of verdict)
 
--- this state stands for the entries, each of whose replies is the table's, or this is their first difference
+-- this state represents the entries, each of whose replies is the table's, or this is their first difference
 abbrev pub IsPlayedTo : ℕ → ℕ → List Entry → Kept → Option Difference → Type 0
 IsPlayedTo n first_line entries k None = (k.behaviours ≡ n) × StandsFor k (reverse entries) × IsLegal n (reverse entries)
 IsPlayedTo n first_line entries k (Some d) = IsOtherReply n first_line entries d.line d.given d.reply
 
--- these entries of a history, which stand below its first line, are played
+-- these entries of a history, which are below its first line, are played
 abbrev pub IsPlayed : ℕ → Header → List Entry → Playing → Type 0
 IsPlayed first_line h entries p = (p.header ≡ h) × IsPlayedTo h.behaviours first_line entries p.state p.difference
 
--- the entry in this line was played behind those of a history, where it is the next
+-- the entry in this line was played after those of a history, if it is the next
 abbrev pub PlaysNext : ℕ → Entry → Playing → Playing → Type 0
 PlaysNext line e before after =
     (first_line : ℕ) (h : Header) (entries : List Entry) → line ≡ first_line + length entries + 1
@@ -190,7 +191,7 @@ JudgesPlayed p first_line line given j =
     (b : Block) → IsPlayed b.first_line (header_of b) b.entries p → first_line ≡ b.first_line
     → line ≡ b.first_line + length b.entries + 1 → given ≡ b.verdict → IsJudgement b j
 
--- what is printed for these blocks: while all are legal, what is printed for those behind comes behind
+-- what is printed for these blocks: while all are legal, what is printed for those after comes after it
 abbrev pub Feeds : List Block → List ℕ → Bool → Type 0
 Feeds blocks out true = (more : List Block) (tail : List ℕ) (legal : Bool) → Checks more tail legal → Checks (blocks ++ more) (out ++ tail) legal
 Feeds blocks out false = (more : List Block) → Checks (blocks ++ more) out false
@@ -205,7 +206,7 @@ Summarizes blocks ss None = ((lines : List ℕ) × Feeds blocks lines true) × (
 Summarizes blocks ss (Some j) =
     ((b : Block) × IsJudgement b j) × (judges_legal j ≡ false) × ((lines : List ℕ) × Feeds blocks (lines ++ judgement_line j) false)
 
--- the details of a test case with these scripts, where they are asked for
+-- the details of a test case with these scripts, if they are asked for
 abbrev pub details_if : Bool → List ScriptView → Explored → List Shown
 details_if asked scripts e = if asked then of_details scripts e else []
 
@@ -213,7 +214,7 @@ details_if asked scripts e = if asked then of_details scripts e else []
 abbrev pub case_line : {B : Type 0} → Case B → List ℕ
 case_line k = k.name ++ (10 ∷ [])
 
--- the names that are asked for are refused, where the test cases do not have them
+-- the names that are asked for are refused, if the test cases do not have them
 abbrev pub RefusesNames : Bool → RunFault → Type 0
 RefusesNames have F.Only = have ≡ false
 RefusesNames have F.NoMemory = Unit {0}
@@ -244,7 +245,7 @@ WritesTo task text before after (Err fault) = Refuses task text fault × Keeps b
 abbrev pub GivesTo : Task → List ℕ → Answer → Streams → Outcome → Type 0
 GivesTo task text a s outcome = Makes task text a → IsDone task text s outcome
 
--- by this answer some text was written whole; without memory nothing was, where the writer failed a prefix
+-- by this answer some text was written whole; without memory nothing was, if the writer failed a prefix
 abbrev pub ShowsText : Option (List ℕ) → Option (List ℕ) → Result (Unit {0}) RunFault → Type 0
 ShowsText before after answer = (text : List ℕ) × MatchResult answer (λ _. Appends before after text) (LeavesUnwritten before after text)
 
@@ -259,7 +260,7 @@ module _ {B O : Type 0} (outcome : B → PassState → Back → Type 0) (takes :
       IsRunTo outline_of (IsCalled outcome) cases o.stop_on worker_limit fs ending × AreTaken takes fs before after
   AreGiven before after fs None = AreFinished outline_of (IsCalled outcome) cases o.stop_on worker_limit fs × IsEndedAt takes fs before after
 
-  -- the campaign was run so, and what was told is told of the test cases that were finished
+  -- the campaign was run so, and what was printed is printed of the test cases that were finished
   pub record WasTold (before after : O) (untold told : Option (List ℕ)) (answer : Option CampaignEnd) (line : Result (Unit {0}) OutFault) : Type 0 where
     pub finished : List Finished
     pub given : AreGiven before after finished answer

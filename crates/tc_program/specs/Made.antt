@@ -21,11 +21,12 @@ use Rattle.tc_program.specs.Report.{IsReported}
 abbrev pub IsListed : Choice → List ℕ → Answer → Type 0
 IsListed choice text a = (cases : CampaignView) × AreChosen choice text cases × (a ≡ record { out = list_text cases; told = []; status = 0 })
 
--- an answer of which nothing is told, with such an output and status
+-- an answer of which nothing is printed, with such an output and status
 abbrev pub IsSilent : (List ℕ → ℕ → Type 0) → Answer → Type 0
 IsSilent Is a = Is a.out a.status × (a.told ≡ [])
 
--- the answer is what a task, other than a run, makes of the text; or the task refuses the text for this fault, and for want of memory any
+-- the answer is what a task, other than a run, makes of the text; or the task refuses the text for this fault, and any
+-- text if memory runs out
 abbrev pub IsMade : Task → List ℕ → Result Answer RunFault → Type 0
 IsMade (T.Replay e) text made = MatchResult made (IsSilent (Replays text)) (RefusesMoves text)
 IsMade (T.Check e) text made = MatchResult made (IsSilent (IsChecked text)) (RefusesHistory text)
@@ -34,8 +35,8 @@ IsMade (T.Explore h d n) text made = MatchResult made (IsSilent (Explores h d n 
 IsMade (T.List choice) text made = MatchResult made (IsListed choice text) (RefusesChoice choice text)
 IsMade (T.Run o) text made = MatchResult made (λ a. ⊥) (RefusesChoice o.choice text)
 
--- what a call of a task over a reader and a writer answers: the status, and what is made of the input is written; or a fault: the writer
--- failed, and a prefix of that is; or the input is refused, and nothing is
+-- what a call of a task over a reader and a writer returns: the status, and what is made of the input is written; or a
+-- fault. Then the writer failed, and a prefix of that is written; or the input is refused, and nothing is.
 abbrev pub Does : Task → Option (List ℕ) → Option (List ℕ) → Option (List ℕ) → Result ℕ RunFault → Type 0
 Does task input before after (Ok status) =
     IsRead (limit_of task) input (λ text. (a : Answer) × IsMade task text (Ok a) × Appends before after a.out × (status ≡ a.status))

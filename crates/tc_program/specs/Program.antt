@@ -22,14 +22,16 @@ use Rattle.tc_program.specs.Scripted.{script_outline, IsScripted}
 use Rattle.tc_program.specs.Streams.{Streams}
 use Rattle.tc_program.specs.Tell.{IsRefusal, IsTold}
 
--- The chosen test cases of the campaign that the text spells were run as it is asked for: their right results were written, and their status
--- and the line of an aborted campaign are those of the outcome. Each report is of the test case at its place, and made of what its scripts do.
+-- The chosen test cases of the campaign that the text spells were run as it is asked for. Their right results were
+-- written, and their status and the line of an aborted campaign are those of the outcome. Each report is of the test
+-- case at its place, and made of what its scripts do.
 pub record RunsScript (o : RunOptions) (text : List ℕ) (streams : Streams) (outcome : Outcome) : Type 0 where
   pub cases : CampaignView
   pub chosen : AreChosen o.choice text cases
   pub run : IsRun script_outline IsScripted cases o streams outcome
 
--- the chosen test cases were run so, their results were not written whole, and that is told behind what was told of them
+-- the chosen test cases were run so, their results were not written whole, and that is printed after what was printed
+-- of them
 pub record LeavesScript (o : RunOptions) (text : List ℕ) (streams : Streams) (outcome : Outcome) : Type 0 where
   pub cases : CampaignView
   pub chosen : AreChosen o.choice text cases
@@ -40,19 +42,20 @@ pub record LeavesScript (o : RunOptions) (text : List ℕ) (streams : Streams) (
 
 -- what the program does with the text of a task
 pub data IsDone (task : Task) (text : List ℕ) (s : Streams) (outcome : Outcome) : Type 0 where
-  -- what is made of the text was written, and what is to be told of it told; the status is its
+  -- what is made of the text was written, and what is due on standard error printed; the status is its
   whole : (a : Answer) → IsMade task text (Ok a) → Appends s.before s.after a.out → IsTold s.untold s.told a.told outcome.told → outcome.status ≡ a.status
       → IsDone task text s outcome
-  -- the writer failed: a prefix of it was written, and that is told
+  -- the writer failed: a prefix of it was written, and that is printed
   part : (a : Answer) → IsMade task text (Ok a) → AppendsPrefix s.before s.after a.out → IsRefusal s.untold s.told (line_of F.Write) outcome
       → IsDone task text s outcome
-  -- the text is refused: nothing was written, and why is told
+  -- the text is refused: nothing was written, and why is printed
   refused : (fault : RunFault) → IsMade task text (Err fault) → Keeps s.before s.after → IsExplained task text fault s.untold s.told outcome
       → IsDone task text s outcome
   -- a campaign was run, and its results were written whole or not
   run : (o : RunOptions) → task ≡ T.Run o → RunsScript o text s outcome ⊎ LeavesScript o text s outcome → IsDone task text s outcome
 
--- what the program does with a task: its input was read whole, and the text is done; or it was not, nothing was written, and why is told
+-- what the program does with a task: its input was read whole, and the text is done; or it was not, nothing was
+-- written, and why is printed
 abbrev pub IsCarriedOut : Task → Option (List ℕ) → Streams → Outcome → Type 0
 IsCarriedOut task input s outcome =
     IsRead (limit_of task) input (λ text. IsDone task text s outcome)

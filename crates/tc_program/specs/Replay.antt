@@ -11,7 +11,7 @@ use Rattle.tc_report.specs.Status.{verdict_status}
 use Rattle.tc_program.specs.declared.fault.RunFault.{RunFault}
 use Rattle.tc_program.specs.declared.fault.RunFault.TheVariants as F
 
--- who called, and what
+-- the caller, and the call
 abbrev pub move_of : Entry → Move
 move_of e = (e.caller, e.op)
 
@@ -29,7 +29,7 @@ pub record Replays (text out : List ℕ) (status : ℕ) : Type 0 where
   pub out_is : out ≡ flat_map reply_line history ++ verdict_line (overall (reverse history))
   pub status_is : status ≡ verdict_status (overall (reverse history))
 
--- a text is refused as a list of moves; want of memory says nothing of it
+-- a text is refused as a list of moves; if memory runs out, nothing is said about it
 abbrev pub RefusesMoves : List ℕ → RunFault → Type 0
 RefusesMoves text (F.Text fault) = IsListFault text fault
 RefusesMoves text F.NoMemory = Unit {0}

@@ -25,7 +25,8 @@ form_of Forms.Html text ss = page_of text
 abbrev pub reported : ReportForm → List ℕ → List Summary → Answer
 reported form text ss = record { out = form_of form text ss; told = []; status = status_of_summaries ss }
 
--- what is answered where a history is not legal: nothing is written, its line of `check` is told, and the status is 3
+-- what is answered where a history is not legal: nothing is written, its line of `check` is printed, and the status is
+-- 3
 abbrev pub unreported : List ℕ → Answer
 unreported line = record { out = []; told = codes "ttrun: " ++ line; status = 3 }
 
@@ -46,6 +47,6 @@ pub record IsReported (form : ReportForm) (text : List ℕ) (a : Answer) : Type 
 abbrev pub is_inert : ℕ → Bool
 is_inert b = (b == 10) || ((nat_le 32 b && nat_le b 59) || (nat_le 61 b && nat_le b 126))
 
--- a text of histories has such bytes alone
+-- a text of histories has only such bytes
 abbrev pub HistoriesAreInert : Type 0
 HistoriesAreInert = (text : List ℕ) (blocks : List Block) → AreHistories text blocks → list_all is_inert text ≡ true

@@ -21,12 +21,13 @@ use Rattle.tc_program.specs.Limits.{worker_limit}
 use Rattle.tc_program.specs.Streams.{Streams}
 use Rattle.tc_program.specs.Tell.{IsTold}
 
--- of the telling of test cases as they finish, and of the line behind it, the first fault
+-- the first fault, of the lines about test cases as they finish, and of the line after them
 abbrev pub first_fault : Result (Unit {0}) OutFault → Result (Unit {0}) RunFault → Result (Unit {0}) RunFault
 first_fault (Ok done) line = line
 first_fault (Err fault) line = Err (of_output fault)
 
--- by this answer a run has told what is to be told of its test cases as they finish, and behind it the line for a campaign that was aborted
+-- by this answer a run has printed what is due of its test cases as they finish, and after it the line for a campaign
+-- that was aborted
 pub record TellsRun (progress : Bool) (r : Results) (untold told : Option (List ℕ)) (answer : Result (Unit {0}) RunFault) : Type 0 where
   pub between : Option (List ℕ)
   pub telling : Result (Unit {0}) OutFault
@@ -44,19 +45,19 @@ module _ {C : Type 0} (outline : C → Outline) (called : C → Finished → Typ
     pub status : outcome.status ≡ results_status results
     -- their text was written in the form asked for
     pub written : Appends streams.before streams.after (text_of options.form results)
-    -- what is to be told was, as the outcome says
+    -- what is due on standard error was printed, as the outcome says
     pub told : TellsRun options.progress results streams.untold streams.told outcome.told
 
-  -- by this fault the text of the results was not written whole: at the end, or as the test cases finished, where a prefix of it is out and the
-  -- fault may have ended the campaign
+  -- by this fault the text of the results was not written whole: at the end, or as the test cases finished. Then a
+  -- prefix of it is out, and the fault may have ended the campaign.
   abbrev pub IsLeft : Option ReportForm → Streams → Results → OutFault → Type 0
   IsLeft None s r fault =
       IsRunTo outline called cases options.stop_on worker_limit r.finished r.ending × LeavesPrefix s.before s.after (text_of options.form r) fault
   IsLeft (Some form) s r fault =
       AreFinished outline called cases options.stop_on worker_limit r.finished × AppendsPrefix s.before s.after (text_of options.form r)
 
-  -- these cases were run under these options, and the text of the results was not written whole; what was told so far is a prefix of what is
-  -- to be told of them
+  -- these cases were run under these options, and the text of the results was not written whole; what was printed so
+  -- far is a prefix of what is due about them
   pub record IsUnwritten (streams : Streams) (fault : OutFault) : Type 0 where
     pub results : Results
     pub left : IsLeft (live_form options.live options.form) streams results fault

@@ -21,9 +21,9 @@ scripts_of bs = map (λ b. b.1) bs
 abbrev pub script_outline : CaseView → Outline
 script_outline c = record { name = c.0; names = map (λ b. b.0) c.1; jobs = length c.1 }
 
--- each behaviour of which the run was started got as many arguments as its script has parameters, and made the calls of its steps with a new
--- pass of that run; the report is made of what these passes have logged, and each of its logs is that of the script of its run; and its
--- history is a complete course of the scripts, with the verdict of the report
+-- each behaviour of which the run was started got as many arguments as its script has parameters, and made the calls of
+-- its steps with a new pass of that run. The report is made of what these passes have logged, and each of its logs is
+-- that of the script of its run. Its history is a complete course of the scripts, with the verdict of the report.
 abbrev pub IsScripted : CaseView → Finished → Type 0
 IsScripted c f =
     AreCalled MakesItsCalls (scripts_of c.1) f.report × IsMadeOf MakesItsCalls (scripts_of c.1) f.report × AreLogsBy MakesItsCalls (scripts_of c.1) f.report

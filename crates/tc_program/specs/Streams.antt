@@ -1,7 +1,7 @@
 -- What the streams that are written hold.
 use Rattle.std.specs.Prelude.{ℕ, List, Option}
 
--- the bytes on the output before and after, and those on standard error before and after, where they are known
+-- the bytes on the output before and after, and those on standard error before and after, if they are known
 pub record Streams : Type 0 where
   pub before : Option (List ℕ)
   pub after : Option (List ℕ)

@@ -7,13 +7,13 @@ use Rattle.tc_program.specs.declared.fault.RunFault.TheVariants as F
 use Rattle.tc_program.specs.declared.outcome.Outcome.{Outcome}
 use Rattle.tc_program.specs.Fault.{line_of}
 
--- by this answer the text was told whole, or a prefix of it where the writer failed; there is no other fault
+-- by this answer the text was printed whole, or a prefix of it where the writer failed; there is no other fault
 abbrev pub IsTold : Option (List ℕ) → Option (List ℕ) → List ℕ → Result (Unit {0}) RunFault → Type 0
 IsTold untold told text (Ok done) = Appends untold told text
 IsTold untold told text (Err F.Write) = AppendsPrefix untold told text
 IsTold untold told text (Err fault) = ⊥
 
--- the status is 3, and this text was told, or, where memory was refused for it, the line that says so
+-- the status is 3, and this text was printed, or, if memory ran out for it, the line that says so
 abbrev pub IsRefusal : Option (List ℕ) → Option (List ℕ) → List ℕ → Outcome → Type 0
 IsRefusal untold told text outcome =
     (outcome.status ≡ 3) × (IsTold untold told text outcome.told ⊎ IsTold untold told (line_of F.NoMemory) outcome.told)

@@ -16,7 +16,8 @@ use Rattle.tc_program.specs.Report.{reported}
 use Rattle.tc_program.specs.declared.fault.RunFault.{RunFault}
 use Rattle.tc_program.specs.declared.fault.RunFault.TheVariants as F
 
--- what `run_campaign` says of its results, where some test case is finished: each finished one has the report of its case, and 1 to 256 behaviours
+-- what `run_campaign` says of its results, if some test case is finished: each finished one has the report of its case,
+-- and 1 to 256 behaviours
 pub record AreReported (cases : List Outline) (r : Results) : Type 0 where
   pub some : r.finished ≢ []
   pub reports : AllZip IsReported (take (length r.finished) cases) r.finished
@@ -30,7 +31,8 @@ legal_case f = legal_line f.name (length f.report.history) f.report.verdict
 abbrev pub found_legal : Results → Answer
 found_legal r = record { out = flat_map legal_case r.finished; told = []; status = 0 }
 
--- the histories of the results are checked and reported so, whatever is asked for besides, and refused for want of memory alone
+-- the histories of the results are checked and reported so, whatever else is asked for, and refused only if memory runs
+-- out
 pub record AreFoundLegal (r : Results) : Type 0 where
   pub checked_so : (explains : Bool) (a : Answer) → IsMade (T.Check explains) (histories_text r) (Ok a) → a ≡ found_legal r
   pub reported_so : (form : ReportForm) (explains : Bool) (a : Answer) → IsMade (T.Report form explains) (histories_text r) (Ok a)

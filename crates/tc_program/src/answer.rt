@@ -42,8 +42,8 @@ fn mistake_text(alloc: Global, error: &Error) -> Result<Vec<u8>, NoMemory> {
     }
 }
 
-// The outcome of words that ask for no task: help or the version is written, and for refused words standard error says why, in clap's
-// texts. Where memory was refused for the words, standard error says that.
+// The outcome of words that ask for no task: help or the version is written, and for refused words standard error says
+// why, in clap's texts. If memory runs out for the words, standard error says that.
 fn answer_no_task<W: Write, E: Write>(
     alloc: Global,
     error: &Error,

@@ -66,15 +66,15 @@ impl TakesHistories for Checking {
     }
 }
 
-// The status where all histories are legal, and where one is not.
+// The status if all histories are legal, and where one is not.
 fn status_of(legal: bool) -> u8
     ensures { result ≡ (if legal then 0 else 3) }
 {
     if legal { 0 } else { REFUSED }
 }
 
-// What is printed for the histories that the text spells, up to the first that is not legal, and the status; else the
-// text's first fault, or NoMemory. The text is read to its end also behind a history that is not legal.
+// What is printed for the histories that the text spells, up to the first that is not legal, and the status; otherwise
+// the text's first fault, or NoMemory. The text is read to its end also after a history that is not legal.
 fn check_lines(alloc: Global, text: &[u8]) -> Result<(Vec<u8>, u8), RunFault>
     ensures done { IfOk result (λ r. IsChecked text.now r.0.items r.1) }
     ensures refused { IfErr result (RefusesHistory text.now) }
@@ -84,8 +84,8 @@ fn check_lines(alloc: Global, text: &[u8]) -> Result<(Vec<u8>, u8), RunFault>
     Ok((checking.out, status))
 }
 
-/// What `check` makes of a text of histories: which are legal, up to the first that is not, and the status 0 where all are,
-/// else 3.
+/// What `check` makes of a text of histories: which are legal, up to the first that is not, and the status 0 if all
+/// are, otherwise 3.
 pub(crate) fn check_text(alloc: Global, text: &[u8]) -> Result<Answer, RunFault>
     ensures done { IfOk result (λ a. IsChecked text.now a.out a.status × (a.told ≡ [])) }
     ensures refused { IfErr result (RefusesHistory text.now) }
@@ -98,7 +98,8 @@ pub(crate) fn check_text(alloc: Global, text: &[u8]) -> Result<Answer, RunFault>
     })
 }
 
-/// Checks histories: replays each on a table of its own, writes which are legal, and answers the status: 0 where all are, else 3.
+/// Checks histories: replays each on a table of its own, writes which are legal, and returns the status: 0 if all are,
+/// otherwise 3.
 ///
 /// The whole text is read, and the output made, before anything is written.
 pub fn check<R: Read, W: Write>(

@@ -12,7 +12,7 @@ use tc_table::{NoMemory, Reply, Verdict};
 use tc_text::{append_number, append_text, write_reply};
 use tc_verdict::name as name_of_verdict;
 
-// Appends the line of a legal history; where memory is refused, a part of it.
+// Appends the line of a legal history; if memory runs out, a part of it.
 fn append_legal(
     out: &mut Vec<u8>,
     name: &Name,
@@ -39,7 +39,7 @@ fn append_gives(out: &mut Vec<u8>) -> Result<(), NoMemory>
     append_text(out, ", table gives ")
 }
 
-// Appends the line of an entry with another reply than the table's; where memory is refused, a part of it.
+// Appends the line of an entry with another reply than the table's; if memory runs out, a part of it.
 fn append_other_reply(
     out: &mut Vec<u8>,
     line: usize,
@@ -56,7 +56,7 @@ fn append_other_reply(
     Ok(())
 }
 
-// Appends the line of another verdict than the table's; where memory is refused, a part of it.
+// Appends the line of another verdict than the table's; if memory runs out, a part of it.
 fn append_other_verdict(
     out: &mut Vec<u8>,
     line: usize,
@@ -73,7 +73,7 @@ fn append_other_verdict(
     Ok(())
 }
 
-/// Appends what is printed for a history; where memory is refused, a part of it.
+/// Appends what is printed for a history; if memory runs out, a part of it.
 pub(crate) fn append_judgement(out: &mut Vec<u8>, judgement: &Judgement) -> Result<(), NoMemory>
     ensures { OnOk result (out.new.items ≡ out.old.items ++ judgement_line judgement.now) }
 {

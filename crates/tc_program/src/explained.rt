@@ -1,4 +1,4 @@
-//! What is told of a text that is refused.
+//! What is printed about a text that is refused.
 ghost use Rattle.std.specs.Prelude.{◌≡◌, IfOk, OnOk};
 ghost use Rattle.tc_explain.specs.Explanation.{explanation};
 ghost use Rattle.tc_text.specs.Shown.{Shows};
@@ -14,7 +14,7 @@ use tc_entry::NoMemory;
 use tc_explain::{Refusal, explain};
 use tc_text::TextFault;
 
-// What the fault says of the text of the task, and the number of its line, where the task is asked to explain it.
+// What the fault says of the text of the task, and the number of its line, if the task is asked to explain it.
 fn refusal_of(task: &Task, fault: RunFault) -> Option<(Refusal, usize)>
     ensures { result ≡ spec_refusal task.now fault }
 {
@@ -64,7 +64,7 @@ fn append_explained(
     }
 }
 
-// The fault's line, and behind it what is explained of the text.
+// The fault's line, and after it what is explained of the text.
 fn told_text(alloc: Global, task: &Task, text: &[u8], fault: RunFault) -> Result<Vec<u8>, NoMemory>
     ensures { IfOk result (λ v. IsToldOf task.now text.now fault v.items) }
 {
@@ -74,8 +74,8 @@ fn told_text(alloc: Global, task: &Task, text: &[u8], fault: RunFault) -> Result
     Ok(out)
 }
 
-/// The outcome of a task that refuses its text: the line of the fault is told, and where it is asked for and the fault is
-/// one of the text, behind it what the text says there.
+/// The outcome of a task that refuses its text. The line of the fault is printed; if it is asked for and the fault is
+/// one of the text, what the text says there follows.
 pub(crate) fn refuse_text<E: Write>(
     alloc: Global,
     errors: &mut E,

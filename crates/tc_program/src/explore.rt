@@ -41,7 +41,7 @@ fn scripts_of(alloc: Global, case: CaseScript) -> Result<Vec<Script>, NoMemory>
     Ok(scripts)
 }
 
-// The details of a test case with these scripts, where they are asked for.
+// The details of a test case with these scripts, if they are asked for.
 #[tactic(auto, using(tc_text::proofs::Lemmas::Showing::shows_none))]
 fn details_of(
     alloc: Global,
@@ -143,9 +143,9 @@ fn status_of(explored: &[ExploredCase]) -> u8
     }
 }
 
-/// What `explore` makes of a script: what was found of each test case, and the status 0 where each test case has one
-/// verdict, 1 where some has more, 3 where a search did not come to its end. Details are told behind the line of each test
-/// case.
+/// What `explore` makes of a script: what was found of each test case, and the status. That is 0 if each test case has
+/// one verdict, 1 if some has more, 3 if a search did not come to its end. Details are printed after the line of each
+/// test case.
 pub(crate) fn explore_text(
     alloc: Global,
     histories: bool,

@@ -26,7 +26,7 @@ pub enum RunFault {
     Read,
     /// The output could not be written whole.
     Write,
-    /// Memory was refused.
+    /// Memory ran out.
     NoMemory,
     /// The text of the input is none that the command takes.
     Text(TextFault),
@@ -122,7 +122,7 @@ impl From<TextFault> for RunFault {
 }
 
 impl RunFault {
-    // The number of the line that has the fault, where it is one of a line of the input.
+    // The number of the line that has the fault, if it is one of a line of the input.
     fn line(&self) -> Option<usize>
         ensures { result ≡ line_number self.now }
     {
@@ -167,7 +167,7 @@ impl fmt::Display for RunFault {
     }
 }
 
-/// Appends the number of a line; where memory is refused, a part of it.
+/// Appends the number of a line; if memory runs out, a part of it.
 #[tactic(auto, unfolding(crate::specs::Fault::place_text))]
 pub(crate) fn append_place(out: &mut Vec<u8>, line: usize) -> Result<(), NoMemory>
     ensures ok { OnOk result (out.new.items ≡ out.old.items ++ place_text line) }
@@ -178,7 +178,7 @@ pub(crate) fn append_place(out: &mut Vec<u8>, line: usize) -> Result<(), NoMemor
     append_text(out, ": ")
 }
 
-// Appends the text of the fault; where memory is refused, a part of it.
+// Appends the text of the fault; if memory runs out, a part of it.
 fn append_fault(out: &mut Vec<u8>, fault: &RunFault) -> Result<(), NoMemory>
     ensures ok { OnOk result (out.new.items ≡ out.old.items ++ placed (line_number fault.now) (words_of fault.now)) }
     ensures err { OnErr result (StartsWith out.new.items out.old.items) }
@@ -189,7 +189,7 @@ fn append_fault(out: &mut Vec<u8>, fault: &RunFault) -> Result<(), NoMemory>
     append_text(out, fault.words())
 }
 
-// Appends the whole line; where memory is refused, a part of it.
+// Appends the whole line; if memory runs out, a part of it.
 fn append_line(out: &mut Vec<u8>, fault: &RunFault) -> Result<(), NoMemory>
     ensures ok { OnOk result (out.new.items ≡ out.old.items ++ said (placed (line_number fault.now) (words_of fault.now))) }
     ensures err { OnErr result (StartsWith out.new.items out.old.items) }
@@ -200,7 +200,7 @@ fn append_line(out: &mut Vec<u8>, fault: &RunFault) -> Result<(), NoMemory>
     Ok(())
 }
 
-/// Appends the fault's line on standard error, its line feed included, or nothing where memory is refused.
+/// Appends the fault's line on standard error, its line feed included, or nothing if memory runs out.
 pub fn fault_line(fault: &RunFault, out: &mut Vec<u8>) -> Result<(), NoMemory>
     ensures ok { OnOk result (out.new.items ≡ out.old.items ++ line_of fault.now) }
     ensures err { OnErr result (out.new.items ≡ out.old.items) }
@@ -215,7 +215,7 @@ pub fn fault_line(fault: &RunFault, out: &mut Vec<u8>) -> Result<(), NoMemory>
     }
 }
 
-// Appends the line for a campaign that was aborted; where memory is refused, a part of it.
+// Appends the line for a campaign that was aborted; if memory runs out, a part of it.
 fn append_abort(out: &mut Vec<u8>, name: &Name, why: CaseError) -> Result<(), NoMemory>
     ensures ok { OnOk result (out.new.items ≡ out.old.items ++ aborted_line name.now why) }
     ensures err { OnErr result (StartsWith out.new.items out.old.items) }
@@ -226,8 +226,8 @@ fn append_abort(out: &mut Vec<u8>, name: &Name, why: CaseError) -> Result<(), No
     Ok(())
 }
 
-/// Where the campaign was aborted, appends its line on standard error and answers true; else appends nothing and answers
-/// false. Where memory is refused nothing is appended.
+/// If the campaign was aborted, appends its line on standard error and returns true; otherwise appends nothing and
+/// returns false. If memory runs out nothing is appended.
 pub fn abort_line(results: &Results, out: &mut Vec<u8>) -> Result<bool, NoMemory>
     ensures answer { IfOk result (λ is. is ≡ is_aborted results.now.ending) }
     ensures ok { OnOk result (out.new.items ≡ out.old.items ++ abort_text results.now.ending) }

@@ -14,7 +14,7 @@ use tc_campaign::{
 use tc_command::{Form, VERSION};
 use tc_report::write_junit;
 
-/// The form in which test cases are written as they finish, where it is asked for that they are; a JUnit report has none,
+/// The form in which test cases are written as they finish, if it is asked for that they are; a JUnit report has none,
 /// since its head counts all of them.
 pub(crate) fn live_form(live: bool, form: Form) -> Option<ReportForm>
     ensures { result ≡ spec_form live form }
@@ -48,7 +48,8 @@ pub(crate) fn write_results<W: Write>(
     }
 }
 
-/// Writes the results in this form, and answers the exit status for them. The text is made whole before anything is written.
+/// Writes the results in this form, and returns the exit status for them. The text is made whole before anything is
+/// written.
 pub fn give<W: Write>(
     alloc: Global,
     results: &Results,

@@ -7,7 +7,7 @@ use std::alloc::Global;
 use std::io::Read;
 use tc_stream::read_input;
 
-/// The text of the input, of at most so many bytes.
+/// The text of the input, of at most that many bytes.
 pub(crate) fn read_text<R: Read>(
     alloc: Global,
     reader: &mut R,

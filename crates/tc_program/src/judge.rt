@@ -91,7 +91,7 @@ impl Playing {
         Ok(())
     }
 
-    /// What the forms say of the history, where each of its replies was the table's.
+    /// What the forms say of the history, if each of its replies was the table's.
     pub(crate) fn summary(&self, alloc: Global) -> Result<Summary, NoMemory>
         ensures { (past : List AnyEntry) → StandsFor self.now.state past → IfOk result (λ s. s ≡ summary_of self.now.header.name past) }
     {

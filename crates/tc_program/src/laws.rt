@@ -31,8 +31,8 @@ fn were_run(results: &Results)
     cases_fit(results.finished.as_slice());
 }
 
-/// What is written of them as histories is found legal by `check`, and reported as the run by `report`; want of memory is
-/// their only fault.
+/// What is written of them as histories is found legal by `check`, and reported as the run by `report`. They are
+/// refused only if memory runs out.
 #[tactic(auto, using(crate::proofs::Reporting::found_so))]
 pub fn written_is_legal(results: &Results)
     ensures { (cases : List Outline) → AreReported cases results.now → AreFoundLegal results.now }

@@ -16,7 +16,7 @@ use std::io::Write;
 use tc_command::Task;
 use tc_stream::write_whole;
 
-/// Writes what is to be written of an answer, and answers its status; a fault stays.
+/// Writes what an answer has for standard output, and returns its status; a fault stays.
 pub(crate) fn write_answer<W: Write>(
     made: Result<Answer, RunFault>,
     writer: &mut W,
@@ -28,7 +28,8 @@ pub(crate) fn write_answer<W: Write>(
     Ok(answer.status)
 }
 
-// Writes and tells an answer, and has its status; where the writer fails, that is told in its place.
+// Writes an answer, prints what it has for standard error, and has its status; if the writer fails, that is printed
+// instead.
 fn give_answer<W: Write, E: Write>(
     alloc: Global,
     answer: &Answer,
@@ -46,7 +47,7 @@ fn give_answer<W: Write, E: Write>(
     }
 }
 
-/// The outcome of a task of whose text this was made: it is written and told, or why there is none is told.
+/// The outcome of a task of whose text this was made: it is written and printed, or why there is none is printed.
 pub(crate) fn finish<W: Write, E: Write>(
     alloc: Global,
     task: &Task,

@@ -10,7 +10,7 @@ pub const REFUSED: u8 = 3;
 pub struct Outcome {
     /// The exit status.
     pub status: u8,
-    /// That the lines were written whole, or that there were none; else why one was not. The status stays then. Without memory
-    /// for the line of a fault, the line that says so was written in its place.
+    /// That the lines were written whole, or that there were none; otherwise why one was not. The status stays then.
+    /// Without memory for the line of a fault, the line that says so was written instead.
     pub told: Result<(), RunFault>,
 }

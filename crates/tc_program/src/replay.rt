@@ -21,7 +21,7 @@ use tc_text::{TakesMoves, read_moves_into, write_reply};
 /// How many bytes a move list may have.
 const LIMIT: usize = 1_048_576;
 
-// Appends the reply's line; where memory is refused, a part of it.
+// Appends the reply's line; if memory runs out, a part of it.
 fn append_reply(out: &mut Vec<u8>, reply: Reply) -> Result<(), NoMemory>
     ensures { OnOk result (out.new.items ≡ out.old.items ++ (reply_text reply ++ 10 ∷ [])) }
 {
@@ -54,7 +54,8 @@ impl TakesMoves for Replaying {
     }
 }
 
-// What is printed for the moves that the text spells, and the overall verdict; else the text's first fault, or NoMemory.
+// What is printed for the moves that the text spells, and the overall verdict; otherwise the text's first fault, or
+// NoMemory.
 fn replay_lines(alloc: Global, text: &[u8]) -> Result<(Vec<u8>, Verdict), RunFault>
     ensures done { IfOk result (λ r. Replays text.now r.0.items (spec_status r.1)) }
     ensures refused { IfErr result (RefusesMoves text.now) }

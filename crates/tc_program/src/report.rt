@@ -72,8 +72,8 @@ impl TakesHistories for Reporting {
     }
 }
 
-// The test cases of the histories that the text spells, and the first history that is not legal; else the text's first
-// fault, or NoMemory.
+// The test cases of the histories that the text spells, and the first history that is not legal; otherwise the text's
+// first fault, or NoMemory.
 fn read_reported(alloc: Global, text: &[u8]) -> Result<Reporting, RunFault>
     ensures done { IfOk result (IsMadeOf (λ blocks (r : Reporting). Summarizes blocks r.summaries.items r.illegal) text.now) }
     ensures refused { IfErr result (RefusesHistory text.now) }
@@ -109,8 +109,8 @@ fn illegal_text(alloc: Global, judgement: &Judgement) -> Result<Vec<u8>, NoMemor
     Ok(line)
 }
 
-/// What `report` makes of a text of histories: each is replayed on a table of its own, and, where all are legal, their form
-/// is written; else the line of `check` for the first that is not is told.
+/// What `report` makes of a text of histories. Each is replayed on a table of its own. If all are legal, their form is
+/// written; otherwise the line of `check` for the first that is not is printed.
 pub(crate) fn report_text(alloc: Global, form: ReportForm, text: &[u8]) -> Result<Answer, RunFault>
     ensures done { IfOk result (IsReported form text.now) }
     ensures refused { IfErr result (RefusesHistory text.now) }

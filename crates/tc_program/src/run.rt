@@ -1,4 +1,4 @@
-//! A run of a campaign: who is given its test cases, and what is written and told of it.
+//! A run of a campaign: who is given its test cases, and what is written and printed of it.
 ghost use Rattle.std.specs.Prelude.{◌≡◌, ◌≤◌, [], All, IfOk, IfErr, IfNone, IfSome, None, Some};
 ghost use Rattle.std.specs.Io.KnownBytes.{Appends};
 ghost use Rattle.std.specs.Vec.{vec_capacity, vec_len};
@@ -35,7 +35,8 @@ use tc_exec::Callable;
 /// How many workers a test case may have.
 const THREADS: u16 = BEHAVIOURS as u16;
 
-// Runs the test cases with one that tells of each and hands it on, and has it name those again that have failed.
+// Runs the test cases with an observer that reports each and passes it on, and has it name those again that have
+// failed.
 fn run_with<R, B: Callable, O: Observer, E: Write>(
     rt: &R,
     alloc: Global,
@@ -60,8 +61,8 @@ where
     (ending, told)
 }
 
-// Runs the test cases with this observer, and tells of each where it is asked for; says how the campaign ended, where the
-// observer did not end it, and what came of the telling.
+// Runs the test cases with this observer, and reports each if it is asked for. Says how the campaign ended, if the
+// observer did not end it, and what came of the reporting.
 fn run_told<R, B: Callable, O: Observer, E: Write>(
     rt: &R,
     alloc: Global,
@@ -86,7 +87,7 @@ where
     )
 }
 
-// Runs the test cases, and keeps and tells of all of them: there is room.
+// Runs the test cases, and keeps and reports all of them: there is room.
 fn run_kept<R, B: Callable, E: Write>(
     rt: &R,
     alloc: Global,
@@ -112,7 +113,7 @@ where
     }
 }
 
-// Runs the test cases, and keeps and tells of all of them; without room for them none is run.
+// Runs the test cases, and keeps and reports all of them; without room for them none is run.
 fn run_or_not<R, B: Callable, E: Write>(
     rt: &R,
     alloc: Global,
@@ -133,7 +134,7 @@ where
     }
 }
 
-// Runs the test cases, writes the results at the end, and answers what came of them.
+// Runs the test cases, writes the results at the end, and returns what came of them.
 fn run_whole<R, B: Callable, W: Write, E: Write>(
     rt: &R,
     alloc: Global,
@@ -158,7 +159,7 @@ where
     Ok(Outcome { status, told })
 }
 
-// Writes what stands behind the test cases of a campaign that ended so; without an ending the writer has ended it.
+// Writes what follows the test cases of a campaign that ended so; without an ending the writer has ended it.
 fn close<W: Write>(
     ending: Option<CampaignEnd>,
     live: &mut LiveWriter<'_, W>,
@@ -179,7 +180,7 @@ fn close<W: Write>(
     Ok((ending, status))
 }
 
-// Runs the test cases, has the writer write each as it finishes, and answers what came of them.
+// Runs the test cases, has the writer write each as it finishes, and returns what came of them.
 fn write_live<R, B: Callable, W: Write, E: Write>(
     rt: &R,
     alloc: Global,
@@ -217,8 +218,9 @@ where
     }
 }
 
-/// Runs the test cases, writes their results as they finish, where that is asked for and the form has it, or at the end, and
-/// answers what came of them. Test cases are told of as they finish where it is asked for, and a campaign that was aborted is.
+/// Runs the test cases, writes their results as they finish, if that is asked for and the form has it, or at the end,
+/// and returns what came of them. Test cases are printed of as they finish if it is asked for, and a campaign that was
+/// aborted is.
 pub fn run_cases<R, B: Callable, W: Write, E: Write>(
     rt: &R,
     alloc: Global,

@@ -22,7 +22,7 @@ pub(crate) fn tell<E: Write>(errors: &mut E, text: &[u8]) -> Result<(), RunFault
     Ok(())
 }
 
-/// The outcome of what is refused: this text is told, or, where memory was refused for it, the line that says so.
+/// The outcome of what is refused: this text is printed, or, if memory ran out for it, the line that says so.
 pub(crate) fn refuse_with<E: Write>(errors: &mut E, text: Result<Vec<u8>, NoMemory>) -> Outcome
     ensures { (wanted : List ℕ) → IfOk text (λ v. v.items ≡ wanted) → IsRefusal (E.contents errors.old) (E.contents errors.new) wanted result }
 {
@@ -44,14 +44,14 @@ fn line_of_fault(alloc: Global, fault: RunFault) -> Result<Vec<u8>, NoMemory>
     Ok(line)
 }
 
-/// The outcome of what is refused for this fault: its line is told.
+/// The outcome of what is refused for this fault: its line is printed.
 pub(crate) fn refuse<E: Write>(alloc: Global, errors: &mut E, fault: RunFault) -> Outcome
     ensures { IsRefusal (E.contents errors.old) (E.contents errors.new) (line_of fault) result }
 {
     refuse_with(errors, line_of_fault(alloc, fault))
 }
 
-/// The outcome of what is refused: a line with these words is told.
+/// The outcome of what is refused: a line with these words is printed.
 pub(crate) fn refuse_words<E: Write>(alloc: Global, errors: &mut E, words: &str) -> Outcome
     ensures { IsRefusal (E.contents errors.old) (E.contents errors.new) (said words.now) result }
 {
@@ -66,7 +66,8 @@ fn tell_abort<E: Write>(errors: &mut E, results: &Results) -> Result<(), RunFaul
     Ok(())
 }
 
-/// Writes the line for a campaign that was aborted, behind what was told of its test cases; answers the first fault of both.
+/// Writes the line for a campaign that was aborted, after what was printed of its test cases; returns the first fault
+/// of both.
 pub(crate) fn tell_end<E: Write>(
     errors: &mut E,
     results: &Results,

@@ -1,4 +1,4 @@
-//! What a person at a terminal is told before the input is read.
+//! What a person at a terminal is printed before the input is read.
 ghost use Rattle.std.specs.Prelude.{◌≡◌, option_map};
 ghost use Rattle.tc_program.specs.Terminal.{awaited_line as spec_line};
 
@@ -18,7 +18,7 @@ pub fn awaited_line(subcommand: Option<&str>) -> &'static str
     }
 }
 
-/// A reader, before whose first read a line is written, where there is one. A device that does not take the line does not
+/// A reader, before whose first read a line is written, if there is one. A device that does not take the line does not
 /// keep the input from being read.
 #[derive(Drop)]
 pub struct Announcing<R: Read + Drop, E: Write + Drop> {

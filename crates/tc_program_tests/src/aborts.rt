@@ -1,4 +1,4 @@
-//! What is told of a campaign that is aborted, to a standard error that fails.
+//! What is printed about a campaign that is aborted, to a standard error that fails.
 ghost use Rattle.std.specs.Prelude.{All, IfOk, ⊤};
 ghost use Rattle.tc_campaign.specs.Outline.{HasNames};
 
@@ -64,21 +64,21 @@ fn passing(alloc: Global) -> Result<Case<Returns>, Fail>
     })
 }
 
-/// The test case a alone.
+/// Only the test case a.
 fn alone(alloc: Global) -> Result<Vec<Case<Returns>>, Fail>
     ensures { IfOk result (λ cases. All HasNames cases.items) }
 {
     Ok(vec![in alloc; empty(alloc)?]?)
 }
 
-/// The test case t, and behind it a.
+/// The test case t, and after it a.
 fn both(alloc: Global) -> Result<Vec<Case<Returns>>, Fail>
     ensures { IfOk result (λ cases. All HasNames cases.items) }
 {
     Ok(vec![in alloc; passing(alloc)?, empty(alloc)?]?)
 }
 
-/// A plain run, told of as it goes on or not.
+/// A plain run, reported as it continues or not.
 fn options(alloc: Global, live: bool, progress: bool) -> RunOptions {
     RunOptions {
         form: Form::Text,
@@ -93,7 +93,7 @@ fn options(alloc: Global, live: bool, progress: bool) -> RunOptions {
     }
 }
 
-/// Runs the test case a alone, and tells of it; standard error fails behind this part of the line, or not at all.
+/// Runs only the test case a, and reports it; standard error fails after this part of the line, or not at all.
 fn is_told_up_to<R: Abort + Threads + Wait + Copy + Send + 'static>(
     rt: &R,
     alloc: Global,
@@ -126,7 +126,7 @@ fn empty_case_is_told_of(rt: HostRuntime) -> Result<(), Fail> {
     Ok(())
 }
 
-/// Runs the test case a alone, live.
+/// Runs only the test case a, live.
 fn run_live<R: Threads + Wait + Copy + Send + 'static>(
     rt: &R,
     alloc: Global,
@@ -150,7 +150,7 @@ fn empty_case_of_a_live_run(rt: HostRuntime) -> Result<(), Fail> {
     Ok(())
 }
 
-/// The run of both test cases, told of as they finish.
+/// The run of both test cases, reported as they finish.
 fn run_both<R: Threads + Wait + Copy + Send + 'static>(
     rt: &R,
     alloc: Global,
@@ -163,7 +163,7 @@ fn run_both<R: Threads + Wait + Copy + Send + 'static>(
     Ok(run_cases(rt, alloc, cases, &options, &mut written, errors)?)
 }
 
-/// Tells of both where standard error fails at this write, which is one of the first line.
+/// Reports both where standard error fails at this write, which is one of the first line.
 fn abort_is_told<R: Abort + Threads + Wait + Copy + Send + 'static>(
     rt: &R,
     alloc: Global,

@@ -33,7 +33,7 @@ ttrun run --live --history < testcase t;behaviour main;setverdict fail;end;end; 
 
 const FAILURES: [WriteFailure; 2] = [WriteFailure::Broken, WriteFailure::Full];
 
-/// Checks the status and what is told, all of which was told.
+/// Checks the status and what is printed, all of which was printed.
 fn ends<R: Abort>(rt: &R, outcome: &Outcome, status: u8, told: &[u8], line: &str) {
     is(rt, "the status", outcome.status, status);
     is(rt, "whether all is told", outcome.told, Ok(()));
@@ -58,7 +58,7 @@ fn fails_to_read<R: Abort + Threads + Wait + Copy + Send + 'static>(
     is(rt, "how many reads there were", reader.reads, reads);
 }
 
-/// Carries out the task with a writer that fails behind this part of what is to be written.
+/// Carries out the task with a writer that fails after this part of what must be written.
 fn fails_to_write<R: Abort + Threads + Wait + Copy + Send + 'static>(
     rt: &R,
     alloc: Global,
@@ -137,7 +137,7 @@ fn aborted(alloc: Global) -> Result<Results, Fail> {
     })
 }
 
-/// Gives the results to a writer that fails behind this part of their text, in each way.
+/// Gives the results to a writer that fails after this part of their text, in each way.
 fn fails_to_give<R: Abort>(rt: &R, alloc: Global, results: &Results, form: Form, part: &[u8]) {
     for failure in FAILURES {
         let mut writer = NarrowWriter::new(alloc, part.len(), failure);
@@ -203,7 +203,7 @@ fn line_of_an_abort(rt: HostRuntime) -> Result<(), Fail> {
     Ok(())
 }
 
-/// Carries out a refused task where standard error fails behind this part of its line, or not at all.
+/// Carries out a refused task where standard error fails after this part of its line, or not at all.
 fn tells_up_to<R: Abort + Threads + Wait + Copy + Send + 'static>(
     rt: &R,
     alloc: Global,

@@ -1,5 +1,5 @@
-//! The tests of the command line (`tc_command`) and of the program's library (`tc_program`), in a crate of their own: a check of
-//! them proves no library once more. What the built program shows stands in `tests/program`.
+//! The tests of the command line (`tc_command`) and of the program's library (`tc_program`), in a crate of their own: a
+//! check of them proves no library again. What the built program shows is in `tests/program`.
 #![tactic(auto)]
 
 #[cfg(test)]

@@ -1,5 +1,5 @@
-//! Worked rows of the whole program: the words and the input of each, what is written, the status, and what is told. A `;`
-//! stands for the end of a line.
+//! Worked rows of the whole program: the words and the input of each, what is written, the status, and what is printed.
+//! A `;` represents the end of a line.
 use crate::calls::{answer, carry_out, in_lines, task_of, words_of};
 use crate::checks::{holds, is};
 use std::alloc::Global;
@@ -13,7 +13,7 @@ use tc_program::script::stop_word;
 use tc_stream::devices::SlowReader;
 use tc_verdict::Verdict;
 
-/// Appends what is written, the status and what is told; how many reads there were.
+/// Appends what is written, the status and what is printed; how many reads there were.
 fn show<R: Threads + Wait + Copy + Send + 'static>(
     rt: &R,
     alloc: Global,
@@ -30,7 +30,7 @@ fn show<R: Threads + Wait + Copy + Send + 'static>(
     Ok(reader.reads)
 }
 
-/// Answers the words on the input, which is read where the row is not refused for its words.
+/// Returns the words on the input, which is read where the row is not refused for its words.
 fn is_shown<R: Abort + Threads + Wait + Copy + Send + 'static>(
     rt: &R,
     alloc: Global,
@@ -121,7 +121,7 @@ fn components_with_names(rt: HostRuntime) -> Result<(), Fail> {
     is_row(&rt, rt.alloc(), row)
 }
 
-// Where memory is refused for the words nothing is read.
+// If memory runs out for the words nothing is read.
 #[test]
 fn words_without_memory(rt: HostRuntime) -> Result<(), Fail> {
     let words = Err(io::Error::from(io::ErrorKind::OutOfMemory));

@@ -15,7 +15,7 @@ fn next_byte<I: Read>(input: &mut I) -> io::Result<(usize, u8)> {
     Ok((count, byte[0]))
 }
 
-/// Checks that the line is told before the first read, up to this write, and not again.
+/// Checks that the line is printed before the first read, up to this write, and not again.
 fn is_told_once<R: Abort>(
     rt: &R,
     alloc: Global,

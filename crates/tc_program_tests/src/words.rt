@@ -8,7 +8,7 @@ use std::test::Fail;
 use tc_command::{Choice, Form, ReportForm, RunOptions, Task};
 use tc_verdict::name;
 
-/// Behind each line its task, with each option in one place. Without words the campaign is run.
+/// After each line its task, with each option in one place. Without words the campaign is run.
 const LINES: &str = "\
 ttrun => run
  => run

@@ -1,5 +1,5 @@
-//! Worked rows of lists of moves, histories and scripts that are read. In each a `;` stands for the end of a line; behind what
-//! is written the status stands, and a row that is refused has its line alone.
+//! Worked rows of lists of moves, histories and scripts that are read. In each a `;` represents the end of a line.
+//! After what is written comes the status; a row that is refused has only its line.
 use crate::calls::{in_lines, replay};
 use crate::checks::{holds, is};
 use std::alloc::{AllocError, Global};
@@ -297,7 +297,7 @@ testcase t;behaviour main;setverdict pass; => ttrun: line 4: text ends too early
     are_rows(&rt, rt.alloc(), Call::TakeScript, rows)
 }
 
-/// What comes of a script of so many bytes, nearly all of which are a comment.
+/// What comes of a script of that many bytes, nearly all of which are a comment.
 fn taken(alloc: Global, length: usize) -> Result<Vec<u8>, Fail> {
     let script = b"\ntestcase t\nbehaviour main\nend\nend\n".as_slice();
     let comment = length.checked_sub(script.len()).ok_or("a length")?;

@@ -7,7 +7,7 @@ use Rattle.tc_case.specs.Refusals.{refusal_text}
 use Rattle.tc_report.specs.Ending.{aborted_line}
 use Rattle.tc_report.proofs.Writing.{appends_both, prefix_behind, prefix_longer}
 
--- what holds where there is a fault
+-- what holds if there is a fault
 pub when_err : {T E P : Type 0} (r : Result T E) → P → OnErr r P
 when_err (Ok x) p = tt
 when_err (Err e) p = p
@@ -22,7 +22,7 @@ module _ (name : List ℕ) (why : CaseError) where
   abbrev pub last : List ℕ
   last = codes "\n"
 
-  -- its pieces, one behind the other
+  -- its pieces, one after the other
   pieces : first ++ (second ++ last) ≡ aborted_line name why
   pieces = append_assoc (codes "ttrun: aborted at ") name (second ++ last)
       ∙ ap (λ l. codes "ttrun: aborted at " ++ l) (sym (append_assoc name second last))

@@ -1,4 +1,4 @@
--- Texts of small results, computed from the definitions alone.
+-- Texts of small results, computed from the definitions.
 use Rattle.std.proofs.Common.{ℕ, ◌≡◌, None, List, [], ◌∷◌, ◌++◌, map, codes, false, refl, arith}
 use Rattle.std.specs.Fmt.{decimal}
 use Rattle.std.proofs.lemmas.Fmt.{decimal_digit}
@@ -41,7 +41,7 @@ case_of name entries v = record {
   };
 }
 
--- the main component waits alone
+-- only the main component waits
 abbrev stuck : Finished
 stuck = case_of (codes "solo")
     (call (O.Create false None) (R.Made (record { 0 = 1 })) ∷ call (O.SetVerdict U.Pass) R.Ok ∷ call (O.Wait false (T.One (record { 0 = 1 }))) R.Parked ∷

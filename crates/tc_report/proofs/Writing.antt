@@ -1,4 +1,4 @@
--- The pieces of a text, written one behind the other.
+-- The pieces of a text, written one after the other.
 use Rattle.std.proofs.Common.{ℕ, ◌≡◌, ◌∙◌, ◌+◌, arith, List, [], ◌∷◌, ◌++◌, Option, Some, None, length, take, refl, sym, ap, subst, append_assoc}
 use Rattle.std.proofs.lemmas.List.{append-nil, flat_map_more, length-append, take-append-le}
 use Rattle.std.proofs.lemmas.List.Folds.{flat_map-map}
@@ -18,7 +18,7 @@ use Rattle.tc_report.specs.Output.{LeavesPrefix}
 use Rattle.tc_report.specs.Summary.{case_summary}
 use Rattle.tc_report.specs.Tally.{tally_of_cases}
 
--- two texts, one behind the other
+-- two texts, one after the other
 pub appends_both : (a b c : Option (List ℕ)) (xs ys : List ℕ) → Appends a b xs → Appends b c ys → Appends a c (xs ++ ys)
 appends_both None b c xs ys p q = tt
 appends_both (Some s) None c xs ys p q = absurd p
@@ -62,7 +62,7 @@ prefix_longer a b xs ys p = (p.0, omega (arith, p.1, length-append xs ys), subst
 pub so_far_more : (form : Form) (fs : List Finished) (f : Finished) → text_so_far form fs ++ part_text form f ≡ text_so_far form (fs ++ f ∷ [])
 so_far_more form fs f = flat_map_more (part_text form) _ fs f
 
--- the whole text is what stands up to the last test case, and what stands behind it
+-- the whole text is what comes up to the last test case, and what follows it
 pub whole_text : (form : Form) (fs : List Finished) (ending : CampaignEnd)
     → text_so_far form fs ++ closing_text form (tally_of_cases fs) ending ≡ form_text form (record { finished = fs; ending = ending })
 whole_text F.Text fs ending = refl

@@ -28,7 +28,7 @@ is_aborted ending = false
 abbrev pub aborted_line : List ℕ → CaseError → List ℕ
 aborted_line name why = codes "ttrun: " ++ (aborted_text name why ++ (10 ∷ []))
 
--- that line, where a case was refused
+-- that line, if a case was refused
 abbrev pub abort_text : CampaignEnd → List ℕ
 abort_text (E.Aborted name why) = aborted_line name why
 abort_text ending = []

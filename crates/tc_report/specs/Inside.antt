@@ -28,6 +28,6 @@ pub record IsStarted (w : Writer (Vec ℕ)) : Type 0 where
 abbrev pub csv_line : List (List ℕ) → List ℕ
 csv_line fields = join_with_byte 44 fields ++ (10 ∷ [])
 
--- what of a campaign's text stands up to the last of these test cases
+-- what of a campaign's text comes up to the last of these test cases
 abbrev pub text_so_far : Form → List Finished → List ℕ
 text_so_far form fs = opening_text form ++ flat_map (part_text form) fs

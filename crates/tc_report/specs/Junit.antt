@@ -1,5 +1,5 @@
--- The JUnit report: XML, as servers of continuous integration read it. No text in it needs an escape: names have letters,
--- digits and `_` alone.
+-- The JUnit report: XML, as servers of continuous integration read it. No text in it needs an escape: names have only
+-- letters, digits and `_`.
 use Rattle.std.specs.Prelude.{ℕ, ◌==◌, List, [], ◌++◌, length, filter, codes}
 use Rattle.std.specs.List.{flat_map}
 use Rattle.std.specs.Fmt.{decimal}
@@ -40,7 +40,7 @@ head_text ss =
 unfoldable pub version_text : List ℕ → List ℕ
 version_text version = codes ">\n<properties>\n<property name=\"version\" value=\"" ++ (version ++ codes "\"/>\n</properties>\n")
 
--- what is said of the end of a test case: nothing where its verdict is pass
+-- what is said of the end of a test case: nothing if its verdict is pass
 unfoldable pub end_element : CaseEnd → List ℕ
 end_element (C.Over V.None) = codes "<skipped/>\n"
 end_element (C.Over V.Pass) = []

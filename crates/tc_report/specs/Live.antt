@@ -26,7 +26,7 @@ form_text F.Text r = report_text r
 form_text F.Csv r = csv_of (map case_summary r.finished)
 form_text F.History r = histories_text r
 
--- what of it stands before the test cases
+-- what of it is before the test cases
 abbrev pub opening_text : Form → List ℕ
 opening_text F.Csv = header_text
 opening_text form = []
@@ -37,12 +37,12 @@ part_text F.Text f = case_text f
 part_text F.Csv f = row_line (case_summary f)
 part_text F.History f = case_history f
 
--- what of it stands behind the test cases
+-- what of it is after the test cases
 abbrev pub closing_text : Form → Tally → CampaignEnd → List ℕ
 closing_text F.Text tally ending = tally_line tally ++ ending_line ending
 closing_text form tally ending = []
 
--- one where it is so, else none
+-- one if it is so, otherwise none
 abbrev pub one_if : Bool → ℕ
 one_if true = 1
 one_if false = 0
@@ -58,8 +58,8 @@ tally_with t v = record {
   error = t.error + one_if (level_of v == level_of V.Error);
 }
 
--- where a live writer stands: its form, what its writer holds, the test cases that it has counted, their worst verdict, and
--- why it has ended the campaign
+-- the state of a live writer: its form, what its writer holds, the test cases that it has counted, their worst verdict,
+-- and why it has ended the campaign
 pub record LiveState : Type 0 where
   pub form : Form
   pub out : Option (List ℕ)
@@ -68,7 +68,7 @@ pub record LiveState : Type 0 where
   pub fault : Option OutFault
 
 module _ {W : Type 0} (contents : W → Option (List ℕ)) where
-  -- where a live writer stands
+  -- the state of a live writer
   abbrev pub state_of : LiveWriter W → LiveState
   state_of l = record { form = l.form; out = contents l.writer.now; tally = l.tally; worst = l.worst; fault = l.fault }
 
@@ -89,7 +89,7 @@ pub record IsUnwritten (before : LiveState) (f : Finished) (after : LiveState) :
   pub unjudged : after.worst ≡ before.worst
   pub left : LeavesPrefix before.out after.out (part_text before.form f) fault
 
--- what a test case does to a live writer, by whether the campaign goes on
+-- what a test case does to a live writer, by whether the campaign continues
 abbrev pub Writes : LiveState → Finished → LiveState → Bool → Type 0
 Writes before f after true = IsWritten before f after
 Writes before f after false = IsUnwritten before f after

@@ -7,7 +7,7 @@ use Rattle.tc_verdict.specs.Words.{memory_text}
 use Rattle.tc_report.specs.declared.fault.OutFault.{OutFault}
 use Rattle.tc_report.specs.declared.fault.OutFault.TheVariants as F
 
--- without memory nothing was written, else a prefix of the text
+-- without memory nothing was written, otherwise a prefix of the text
 abbrev pub LeavesPrefix : Option (List ℕ) → Option (List ℕ) → List ℕ → OutFault → Type 0
 LeavesPrefix before after text F.NoMemory = Keeps before after
 LeavesPrefix before after text F.Write = AppendsPrefix before after text

@@ -25,7 +25,7 @@ shown_op op = op
 abbrev pub call_line : Op → Reply → List ℕ
 call_line op reply = codes "  " ++ (op_text (shown_op op) ++ (codes " -> " ++ (reply_text reply ++ (10 ∷ []))))
 
--- what is shown of a call: nothing where it was parked
+-- what is shown of a call: nothing if it was parked
 abbrev pub shown_call : Op → Reply → List ℕ
 shown_call op R.Parked = []
 shown_call op reply = call_line op reply
@@ -34,7 +34,7 @@ shown_call op reply = call_line op reply
 abbrev pub shown_entry : Entry → List ℕ
 shown_entry e = shown_call e.op e.reply
 
--- the name, no byte where there is none
+-- the name, no byte if there is none
 abbrev pub name_text : Option (List ℕ) → List ℕ
 name_text None = []
 name_text (Some name) = name

@@ -19,7 +19,7 @@ verdict_status V.Inconc = 1
 verdict_status V.Fail = 1
 verdict_status V.Error = 2
 
--- the status for an ending, where this is the worst verdict
+-- the status for an ending, if this is the worst verdict
 abbrev pub ending_status : CampaignEnd → Verdict → ℕ
 ending_status (E.Aborted name why) v = 3
 ending_status ending v = verdict_status v
@@ -29,7 +29,7 @@ abbrev pub counted_as : CaseEnd → Verdict
 counted_as (C.Over v) = v
 counted_as ending = V.Error
 
--- the worst of the verdicts that the test cases count as, none where there is no test case
+-- the worst of the verdicts that the test cases count as, none if there is no test case
 abbrev pub worst_of : List Summary → Verdict
 worst_of ss = worst (map (λ s. counted_as s.ending) ss)
 
@@ -37,6 +37,6 @@ worst_of ss = worst (map (λ s. counted_as s.ending) ss)
 abbrev pub status_of_summaries : List Summary → ℕ
 status_of_summaries ss = verdict_status (worst_of ss)
 
--- 3 where the campaign was aborted, else the status for the finished test cases
+-- 3 if the campaign was aborted, otherwise the status for the finished test cases
 abbrev pub results_status : Results → ℕ
 results_status r = ending_status r.ending (worst_of (map case_summary r.finished))

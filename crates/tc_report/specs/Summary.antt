@@ -28,7 +28,7 @@ block_summary b = summary_of b.name (reverse b.entries)
 abbrev pub case_summary : Finished → Summary
 case_summary f = record { name = f.name; locals = f.report.locals; ending = C.Over f.report.verdict }
 
--- the test case that has no report, where there is one
+-- the test case that has no report, if there is one
 abbrev pub aborted_summary : CampaignEnd → List Summary
 aborted_summary (E.Aborted name why) = record { name = name; locals = []; ending = C.Aborted why } ∷ []
 aborted_summary ending = []

@@ -37,7 +37,7 @@ pub(crate) fn no_cases() -> Tally
     }
 }
 
-// The count, with one more where it is so; none where that is no number of the machine.
+// The count, with one more if it is so; none if that is no number of the machine.
 fn count_more(count: usize, more: bool) -> Option<usize>
     ensures { IfSome result (λ n. n ≡ count + one_if more) }
 {
@@ -48,7 +48,7 @@ fn count_more(count: usize, more: bool) -> Option<usize>
     }
 }
 
-// The tally with one test case more, of this overall verdict; none where a count is no number of the machine.
+// The tally with one test case more, of this overall verdict; none if a count is no number of the machine.
 fn with_verdict(tally: &Tally, verdict: Verdict) -> Option<Tally>
     ensures { IfSome result (λ t. t ≡ tally_with tally.now verdict) }
 {

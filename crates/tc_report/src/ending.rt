@@ -13,7 +13,7 @@ use tc_entry::{Name, NoMemory};
 use tc_stream::{WriteFault, write_whole};
 use tc_text::append_text;
 
-/// Appends which case was refused, and why; where memory is refused, a part of it.
+/// Appends which case was refused, and why; if memory runs out, a part of it.
 pub fn append_aborted(out: &mut Vec<u8>, name: &Name, why: CaseError) -> Result<(), NoMemory>
     ensures ok { OnOk result (out.new.items ≡ out.old.items ++ aborted_text name.now why) }
     ensures err { OnErr result (StartsWith out.new.items out.old.items) }
@@ -51,8 +51,8 @@ fn write_aborted<W: Write>(writer: &mut W, name: &Name, why: CaseError) -> Resul
     Ok(())
 }
 
-/// Where the campaign was aborted, writes the program's line on standard error and answers true; else writes nothing and
-/// answers false. It takes no memory. Where the writer fails, a prefix of the line is written.
+/// If the campaign was aborted, writes the program's line on standard error and returns true; otherwise writes nothing
+/// and returns false. It takes no memory. If the writer fails, a prefix of the line is written.
 pub fn write_abort<W: Write>(results: &Results, writer: &mut W) -> Result<bool, WriteFault>
     ensures answer { IfOk result (λ is. is ≡ is_aborted results.now.ending) }
     ensures all { OnOk result (Appends (W.contents writer.old) (W.contents writer.new) (abort_text results.now.ending)) }

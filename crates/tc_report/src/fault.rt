@@ -10,7 +10,7 @@ use thiserror::Error;
 /// Why a text did not go out whole.
 #[derive(Clone, Copy, Debug, PartialEq, Eq, Error)]
 pub enum OutFault {
-    /// Memory was refused; nothing was written.
+    /// Memory ran out; nothing was written.
     NoMemory,
     /// The writer failed, or took no byte; what was written is a prefix of the text.
     Write,

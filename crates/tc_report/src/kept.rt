@@ -8,7 +8,7 @@ use crate::results::{CampaignEnd, Finished, Results};
 use std::alloc::Global;
 use tc_entry::{NoMemory, Sequence};
 
-/// Keeps each finished test case, and ends the campaign where there is no room for it.
+/// Keeps each finished test case, and ends the campaign if there is no room for it.
 #[derive(Drop)]
 pub struct Kept {
     /// Those that it was given.
@@ -16,7 +16,7 @@ pub struct Kept {
 }
 
 impl Kept {
-    /// Keeps none so far, and has room for so many.
+    /// Keeps none so far, and has room for that many.
     pub fn with_room(alloc: Global, cases: usize) -> Result<Kept, NoMemory>
         ensures none { IfOk result (λ kept. kept.finished.items ≡ []) }
         ensures room { IfOk result (λ kept. cases ≤ vec_capacity kept.finished) }

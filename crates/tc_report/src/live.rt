@@ -24,7 +24,7 @@ use std::io::Write;
 use tc_entry::{NoMemory, Verdict};
 use tc_verdict::worse_of;
 
-// What stands before the test cases.
+// What is before the test cases.
 fn opening_text(alloc: Global, form: Form) -> Result<Vec<u8>, NoMemory>
     ensures { IfOk result (λ v. v.items ≡ spec_opening form) }
 {
@@ -47,7 +47,7 @@ fn part_text(alloc: Global, form: Form, case: &Finished) -> Result<Vec<u8>, NoMe
     Ok(text)
 }
 
-// What stands behind the test cases.
+// What follows the test cases.
 fn closing_text(
     alloc: Global,
     form: Form,
@@ -64,9 +64,9 @@ fn closing_text(
     Ok(text)
 }
 
-/// Writes the text of a campaign as its test cases finish, and keeps none of them. What stands before them is written by
-/// `begin`, each of them as it is taken, and what stands behind them by `end`; each piece is made whole before anything of
-/// it is written, and the writer is flushed behind it. At a fault it ends the campaign.
+/// Writes the text of a campaign as its test cases finish, and keeps none of them. What is before them is written by
+/// `begin`, each of them as it is taken, and what follows them by `end`. Each piece is made whole before anything of it
+/// is written, and the writer is flushed after it. At a fault it ends the campaign.
 #[derive(Drop)]
 pub struct LiveWriter<'a, W: Write> {
     alloc: Global,
@@ -78,7 +78,7 @@ pub struct LiveWriter<'a, W: Write> {
     pub tally: Tally,
     /// Their worst overall verdict.
     pub worst: Verdict,
-    /// Why the campaign was ended, where it was.
+    /// Why the campaign was ended, if it was.
     pub fault: Option<OutFault>,
 }
 
@@ -102,7 +102,7 @@ impl<'a, W: Write> LiveWriter<'a, W> {
         }
     }
 
-    /// Writes what stands before the test cases.
+    /// Writes what is before the test cases.
     pub fn begin(&mut self) -> Result<(), OutFault>
         ensures all { OnOk result (Appends (W.contents self.old.writer.now) (W.contents self.new.writer.now)
             (spec_opening self.old.form)) }
@@ -155,7 +155,7 @@ impl<'a, W: Write> LiveWriter<'a, W> {
         Ok(())
     }
 
-    /// Writes what stands behind the test cases, and answers the exit status for a campaign of them that ended so.
+    /// Writes what follows the test cases, and returns the exit status for a campaign of them that ended so.
     pub fn end(&mut self, ending: &CampaignEnd) -> Result<u8, OutFault>
         ensures all { OnOk result (Appends (W.contents self.old.writer.now) (W.contents self.new.writer.now)
             (spec_closing self.old.form self.old.tally ending.now)) }

@@ -1,4 +1,4 @@
-//! Who is given each finished test case.
+//! The observer, which is given each finished test case.
 ghost use Rattle.std.specs.Prelude.{Bool};
 ghost use Rattle.tc_report.specs.declared.results.Finished.{Finished as AnyFinished};
 
@@ -9,7 +9,7 @@ use crate::results::Finished;
 pub trait Observer {
     ghost takes: { Self → AnyFinished → Self → Bool → Type 0 };
 
-    /// Takes the test case, and says whether the campaign may go on.
+    /// Takes the test case, and says whether the campaign can continue.
     fn take(&mut self, case: Finished) -> bool
         ensures { takes self.old case self.new result };
 }

@@ -1,4 +1,4 @@
-//! What is told of test cases as they finish.
+//! What is printed about test cases as they finish.
 ghost use Rattle.std.specs.Prelude.{◌≡◌, ◌++◌, [], OnOk, OnErr, None};
 ghost use Rattle.std.specs.Io.KnownBytes.{Appends};
 ghost use Rattle.tc_stream.specs.Output.{AppendsPrefix};
@@ -15,7 +15,7 @@ use tc_entry::NoMemory;
 use tc_text::append_text;
 use tc_verdict::name as name_of;
 
-// Appends the line that tells of the test case.
+// Appends the line that reports the test case.
 fn append_told(out: &mut Vec<u8>, case: &Finished) -> Result<(), NoMemory>
     ensures { OnOk result (out.new.items ≡ out.old.items ++ told_line case.now) }
 {
@@ -26,7 +26,7 @@ fn append_told(out: &mut Vec<u8>, case: &Finished) -> Result<(), NoMemory>
     Ok(())
 }
 
-// Appends the line that names the test case again, where it has failed.
+// Appends the line that names the test case again, if it has failed.
 fn append_failed(out: &mut Vec<u8>, case: &Finished) -> Result<(), NoMemory>
     ensures { OnOk result (out.new.items ≡ out.old.items ++ failed_line case.now) }
 {
@@ -37,27 +37,27 @@ fn append_failed(out: &mut Vec<u8>, case: &Finished) -> Result<(), NoMemory>
     Ok(())
 }
 
-/// Tells of each finished test case by a line, its name and its overall verdict, and hands it on to another observer, which
-/// says whether the campaign goes on. The test cases that have failed, with inconc, fail or error, are named again by `end`.
-/// Where a line can't be told, nothing more is, and the campaign goes on all the same.
+/// Reports each finished test case by a line, its name and its overall verdict, and passes it on to another observer,
+/// which says whether the campaign continues. The test cases that have failed, with inconc, fail or error, are named
+/// again by `end`. If a line can't be printed, nothing more is, and the campaign continues all the same.
 #[derive(Drop)]
 pub struct Progress<'a, O: Observer, E: Write> {
     alloc: Global,
-    /// Whether anything is told.
+    /// Whether anything is printed.
     pub tells: bool,
-    /// Who is given the test cases.
+    /// The observer that is given the test cases.
     pub observer: &'a mut O,
-    /// What is told to.
+    /// The writer that is printed to.
     pub writer: &'a mut E,
     /// The lines that name the failed test cases again.
     pub failed: &'a mut Vec<u8>,
-    /// Why nothing more is told, where a line could not be.
+    /// Why nothing more is printed, if a line could not be.
     pub fault: Option<OutFault>,
 }
 
 impl<'a, O: Observer, E: Write> Progress<'a, O, E> {
-    /// Tells to this writer, and hands on to this observer; the lines that name the failed test cases again are kept in
-    /// `failed`, in the place of what it holds.
+    /// Prints to this writer, and passes on to this observer. The lines that name the failed test cases again are kept
+    /// in `failed`, instead of what it holds.
     pub fn new(
         alloc: Global,
         tells: bool,
@@ -85,7 +85,7 @@ impl<'a, O: Observer, E: Write> Progress<'a, O, E> {
         }
     }
 
-    // Tells of the test case, and keeps the line that names it again where it has failed.
+    // Reports the test case, and keeps the line that names it again if it has failed.
     fn tell_case(&mut self, case: &Finished) -> Result<(), OutFault>
         ensures all { OnOk result (Appends (E.contents self.old.writer.now) (E.contents self.new.writer.now)
             (told_line case.now)) }
@@ -104,7 +104,7 @@ impl<'a, O: Observer, E: Write> Progress<'a, O, E> {
         write_made(self.writer, line.as_slice())
     }
 
-    // Tells of the test case, where anything is told, and still is.
+    // Reports the test case, where anything is printed, and still is.
     fn tell(&mut self, case: &Finished)
         ensures told { Tells (state_of E.contents self.old) case.now (state_of E.contents self.new) }
         ensures others { self.new.observer ≡ self.old.observer }
@@ -119,8 +119,8 @@ impl<'a, O: Observer, E: Write> Progress<'a, O, E> {
         }
     }
 
-    /// Names the test cases again that have failed, where anything is told, and still is; answers why a line could not be
-    /// told, where it is so.
+    /// Names the test cases again that have failed, where anything is printed, and still is; returns why a line could
+    /// not be printed, if it is so.
     pub fn end(&mut self) -> Result<(), OutFault>
         ensures told { EndsTelling (state_of E.contents self.old) (E.contents self.new.writer.now) result }
         ensures others { self.new.observer ≡ self.old.observer }

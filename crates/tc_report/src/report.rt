@@ -75,7 +75,7 @@ fn verdict_call_line(entry: &Entry) -> Option<&'static str>
     }
 }
 
-// Appends what is shown of an entry: nothing where it was parked.
+// Appends what is shown of an entry: nothing if it was parked.
 fn append_entry(out: &mut Vec<u8>, entry: &Entry) -> Result<(), NoMemory>
     ensures { OnOk result (out.new.items ≡ out.old.items ++ shown_entry entry.now) }
 {
@@ -173,7 +173,7 @@ fn append_name(out: &mut Vec<u8>, name: &Name) -> Result<(), NoMemory>
     Ok(())
 }
 
-/// Appends the line of an overall verdict; where memory is refused, a part of it.
+/// Appends the line of an overall verdict; if memory runs out, a part of it.
 pub fn append_verdict(out: &mut Vec<u8>, verdict: Verdict) -> Result<(), NoMemory>
     ensures ok { OnOk result (out.new.items ≡ out.old.items ++ verdict_line verdict) }
     ensures err { OnErr result (StartsWith out.new.items out.old.items) }

@@ -18,7 +18,7 @@ pub(crate) fn counted_as(ending: CaseEnd) -> Verdict
     }
 }
 
-// The worst of the overall verdicts, none where no test case finished.
+// The worst of the overall verdicts, none if no test case finished.
 fn worst_overall(cases: &[Finished]) -> Verdict
     ensures { result ≡ spec_worst (map case_summary cases.now) }
 {
@@ -29,7 +29,7 @@ fn worst_overall(cases: &[Finished]) -> Verdict
     worst
 }
 
-// The worst of the verdicts that the test cases count as, none where there is none.
+// The worst of the verdicts that the test cases count as, none if there is none.
 fn worst_of(cases: &[Summary]) -> Verdict
     ensures { result ≡ spec_worst cases.now }
 {
@@ -51,7 +51,7 @@ pub fn verdict_status(verdict: Verdict) -> u8
     }
 }
 
-/// The exit status for a campaign that ended so, where this is the worst overall verdict. It takes no memory.
+/// The exit status for a campaign that ended so, if this is the worst overall verdict. It takes no memory.
 pub(crate) fn ending_status(ending: &CampaignEnd, worst: Verdict) -> u8
     ensures { result ≡ spec_ending ending.now worst }
 {
@@ -61,16 +61,16 @@ pub(crate) fn ending_status(ending: &CampaignEnd, worst: Verdict) -> u8
     }
 }
 
-/// The exit status: 3 where the campaign was aborted; else 0 where the worst overall verdict is none or pass, 1 where
-/// it is inconc or fail, 2 where it is error. It takes no memory.
+/// The exit status: 3 if the campaign was aborted; otherwise 0 if the worst overall verdict is none or pass, 1 if it is
+/// inconc or fail, 2 if it is error. It takes no memory.
 pub fn status_of(results: &Results) -> u8
     ensures { result ≡ results_status results.now }
 {
     ending_status(&results.ending, worst_overall(results.finished.as_slice()))
 }
 
-/// The exit status: 0 where the worst overall verdict is none or pass, 1 where it is inconc or fail, 2 where it is error; a
-/// test case that is not over, or has no report, counts as error. It takes no memory.
+/// The exit status: 0 if the worst overall verdict is none or pass, 1 if it is inconc or fail, 2 if it is error. A test
+/// case that is not over, or has no report, counts as error. It takes no memory.
 pub fn worst_status(cases: &[Summary]) -> u8
     ensures { result ≡ status_of_summaries cases.now }
 {

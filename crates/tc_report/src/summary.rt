@@ -56,7 +56,7 @@ pub fn summary_of_case(alloc: Global, case: &Finished) -> Result<Summary, NoMemo
     })
 }
 
-// Adds the summary of the test case that has no report, where there is one.
+// Adds the summary of the test case that has no report, if there is one.
 fn add_aborted(
     alloc: Global,
     summaries: &mut Vec<Summary>,

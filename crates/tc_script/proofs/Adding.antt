@@ -39,7 +39,7 @@ pub member_added : {V S : Type 0} (m : IndexMap (List ℕ) V S) (n : Word) (v : 
 unfolding is_text
 member_added m n v new = insert_entry-new (pointwise nat_eq) m n v (none_is (lookup (pointwise nat_eq n) m.entries) (found_among n m.entries ∙ new))
 
--- of distinct names none stands among those before it
+-- of distinct names none is among those before it
 new_name : (ns : List Word) (n : Word) (ms : List Word) → has_twice (ns ++ n ∷ ms) ≡ false → among n ns ≡ false
 unfolding among
 new_name [] n ms once = refl

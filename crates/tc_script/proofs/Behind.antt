@@ -1,4 +1,4 @@
--- What is told of lines holds of those behind their steps, and of those from the next test case on.
+-- What is known of lines holds of those after their steps, and of those from the next test case on.
 use Rattle.std.proofs.Common.{◌≡◌, ◌≤◌, List, [], ◌∷◌, length, arith, refl}
 use Rattle.tc_line.specs.declared.line.Line.{Line}
 use Rattle.tc_line.specs.declared.line.Line.TheVariants as L

@@ -1,4 +1,4 @@
--- Where the references of a behaviour are bound, each place of its steps is.
+-- If the references of a behaviour are bound, each place of its steps is.
 use Rattle.std.proofs.Common.{ℕ, suc, ◌≡◌, ◌∙◌, ◌+◌, ◌<◌, Bool, true, false, Option, Some, None, List, [], ◌∷◌, ◌++◌, length, map, All, nat_eq, refl, sym, ap, arith, rules, cond}
 use Rattle.std.specs.Prelude.{◌||◌, not, if◌then◌else◌}
 use Rattle.std.specs.List.{list_any, position_or_len}

@@ -23,7 +23,7 @@ unread_is : (past : List Line) (bytes : List ℕ) (n : ℕ) (kind : ScriptKind) 
     → judged past bytes ≡ Err (fault_at n kind)
 unread_is past bytes n kind number is = rw (is, number) refl
 
--- the same, behind the lines that were found
+-- the same, after the lines that were found
 pub unread_at : (found : List Line) (bytes : List ℕ) (n : ℕ) (kind : ScriptKind) → n ≡ length found + 1 → line_of bytes ≡ Err kind
     → judged (reverse found) bytes ≡ Err (fault_at n kind)
 unread_at found bytes n kind number is = unread_is (reverse found) bytes n kind (omega (arith, number, length-reverse found)) is

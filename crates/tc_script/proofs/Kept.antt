@@ -87,7 +87,7 @@ get_fits ms ls fits = rw (← append-nil ls) (both_fit ms (M.Get ∷ []) ls [] f
 pub apart_fits : (ms : List Mark) (ls : List Line) (l : Line) → Fits ms ls → Fits (ms ++ M.Apart ∷ []) (ls ++ l ∷ [])
 apart_fits ms ls l fits = both_fit ms (M.Apart ∷ []) ls (l ∷ []) fits tt
 
--- the mark of a line that does not stand apart
+-- the mark of a line that is not kept apart
 pub marked_added : (ms : List Mark) (ls : List Line) (m : Mark) (l : Line) → Fits ms ls → m ≢ M.Apart → mark_of l ≡ m → unpacked (ms ++ m ∷ []) ls ≡ unpacked ms ls ++ l ∷ []
 marked_added ms ls (M.Set v) l fits whole is = set_added ms ls v l fits is
 marked_added ms ls M.Get l fits whole is = get_added ms ls l fits is

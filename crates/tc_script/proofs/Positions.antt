@@ -1,4 +1,4 @@
--- Where a name stands in a list.
+-- The places of names in a list.
 use Rattle.std.proofs.Common.{ℕ, ◌≡◌, ◌∙◌, ◌≤◌, Bool, true, false, cond, ltb, List, length, Some, None, arith, refl}
 use Rattle.std.specs.List.{position, position_or_len}
 use Rattle.std.proofs.lemmas.Bool.{ltb-false}

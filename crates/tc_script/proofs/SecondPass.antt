@@ -9,7 +9,7 @@ use Rattle.tc_script.specs.Inside.Passing.{scope_after, line_fault}
 use Rattle.tc_script.specs.SecondPass.{name_fault, misnamed}
 use Rattle.tc_script.proofs.Judging.{line_fault_is}
 
--- the names behind a line are those that the lines say
+-- the names after a line are those that the lines say
 pub goes_on : (past : List Line) (l : Line) (rest : List Line) → scope_after (scope_of past (l ∷ rest)) l rest ≡ scope_of (l ∷ past) rest
 goes_on past (L.TestCase n) rest = refl
 goes_on past (L.Behaviour n ps) rest = refl
@@ -51,7 +51,7 @@ judged_faulty scope l rest others lines kind at is some =
     let same : length lines - length others ≡ length is.past + 1 = grind (arith, long) in
     ap (λ k. Some (record { line = k; kind = kind })) same ∙ sym one ∙ is.so_far
 
--- the same, where the numbers of the lines were counted
+-- the same, if the numbers of the lines were counted
 pub judged_faulty_at : (scope : ScopeView) (l : Line) (rest others lines : List Line) (kind : ScriptKind) (n m : ℕ) → n ≡ length lines → m ≡ length others → rest ≡ l ∷ others
     → IsJudged scope rest lines → Some kind ≡ line_fault scope l → Some (record { line = n - m; kind = kind }) ≡ misnamed [] lines
 judged_faulty_at scope l rest others lines kind n m all left at is some =

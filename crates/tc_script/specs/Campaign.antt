@@ -19,7 +19,7 @@ use Rattle.tc_script.specs.SecondPass.{misnamed}
 
 -- ---- steps
 
--- the component that a line names, where these names are bound
+-- the component that a line names, if these names are bound
 abbrev pub place : List Word → Place Word → Place ℕ
 place ns p = place_map (λ n. index_of n ns) p
 
@@ -62,7 +62,7 @@ cases (_ ∷ rest) = cases rest
 abbrev pub CampaignView : Type 0
 CampaignView = List (Word × List (Word × ScriptView))
 
--- the fault, if there is one; else the value
+-- the fault, if there is one; otherwise the value
 abbrev pub or_else : {A : Type 0} → Option ScriptFault → A → Result A ScriptFault
 or_else (Some fault) x = Err fault
 or_else None x = Ok x

@@ -39,14 +39,14 @@ abbrev pub since : (Line → Bool) → List Line → List Line
 since p [] = []
 since p (l ∷ past) = if p l then [] else l ∷ since p past
 
--- the last two marks tell what is open
+-- the last two marks say what is open
 abbrev pub open_by : List Line → Open
 open_by (L.TestCase n ∷ marks) = O.NewCase
 open_by (L.Behaviour n ps ∷ marks) = O.Behaviour
 open_by (L.End ∷ L.Behaviour n ps ∷ marks) = O.Case
 open_by _ = O.Nothing
 
--- what is open behind these lines
+-- what is open after these lines
 unfoldable pub opened : List Line → Open
 opened past = open_by (filter is_mark past)
 
@@ -62,7 +62,7 @@ behaviours_in past = length (filter is_behaviour (since is_case past))
 unfoldable pub steps_in : List Line → ℕ
 steps_in past = length (filter is_step (since is_behaviour past))
 
--- the line may stand there
+-- the line may be there
 abbrev pub fits : Line → Open → Bool
 fits L.Skipped o = true
 fits (L.TestCase n) O.Nothing = true
@@ -85,7 +85,7 @@ passes_limit (L.Behaviour n ps) past = nat_le BEHAVIOURS (behaviours_in past) ||
 passes_limit (L.Step call) past = nat_le STEPS (steps_in past) || nat_lt ARGUMENTS (given call)
 passes_limit _ past = false
 
--- the line, if it may stand there and passes no limit
+-- the line, if it may be there and passes no limit
 abbrev pub placed : List Line → Line → Result Line ScriptKind
 placed past l =
     if not (fits l (opened past)) then Err F.BadPlace

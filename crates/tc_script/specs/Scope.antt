@@ -22,13 +22,13 @@ behaviours_before (L.TestCase n ∷ past) = []
 behaviours_before (L.Behaviour n ps ∷ past) = add n (behaviours_before past)
 behaviours_before (_ ∷ past) = behaviours_before past
 
--- the names that are bound behind a call
+-- the names that are bound after a call
 abbrev pub with_bound : Call → List Word → List Word
 with_bound (C.Create n alive given_name) ns = add n ns
 with_bound _ ns = ns
 
--- the names that are bound in the behaviour that is open: its parameters, and then what the creates before bind, in the order of the text;
--- the name that a create gives its component binds nothing
+-- the names that are bound in the behaviour that is open: its parameters, and then what the creates before bind, in the
+-- order of the text. The name that a create gives its component binds nothing.
 abbrev pub bound : List Line → List Word
 bound [] = []
 bound (L.Behaviour n ps ∷ past) = all_of [] ps
@@ -47,7 +47,7 @@ names_of hs = map (λ h. h.0) hs
 unfoldable pub parameters_of : Word → List Head → Option ℕ
 parameters_of n hs = lookup (is_text n) hs
 
--- with a behaviour behind the others, if none of them has its name
+-- with a behaviour after the others, if none of them has its name
 abbrev pub add_head : Word → ℕ → List Head → List Head
 add_head n k hs = if is_some (parameters_of n hs) then hs else hs ++ (n, k) ∷ []
 
@@ -58,7 +58,7 @@ heads_behind hs (L.TestCase n ∷ rest) = hs
 heads_behind hs (L.Behaviour n ps ∷ rest) = heads_behind (add_head n (length ps) hs) rest
 heads_behind hs (_ ∷ rest) = heads_behind hs rest
 
--- the behaviours of the test case whose lines these begin with: each name once, as it stands first
+-- the behaviours of the test case whose lines these begin with: each name once, as it is first
 unfoldable pub heads : List Line → List Head
 heads rest = heads_behind [] rest
 

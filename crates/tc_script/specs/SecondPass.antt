@@ -81,7 +81,7 @@ name_fault s l = first_kind (
 
 -- ---- the lines of a text
 
--- the fault at the line after these, if it has one; else the other
+-- the fault at the line after these, if it has one; otherwise the other
 abbrev pub at_line : List Line → Option ScriptKind → Option ScriptFault → Option ScriptFault
 at_line past (Some kind) other = Some (at_next past kind)
 at_line past None other = other

@@ -83,7 +83,7 @@ impl Campaign {
     }
 }
 
-/// Adds a member behind the others, none of which has its name.
+/// Adds a member after the others, none of which has its name.
 #[tactic(auto, unfolding(tc_line::specs::Words::is_text, crate::specs::Names::among))]
 fn add<V: Drop>(members: &mut IndexMap<Name, V>, name: Name, member: V) -> Result<(), AllocError>
     requires new { among name (keys members.old) ≡ false }

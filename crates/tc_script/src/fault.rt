@@ -30,7 +30,7 @@ impl fmt::Display for ScriptFault {
 pub enum ReadFault {
     /// It spells no campaign.
     Script(ScriptFault),
-    /// Memory was refused.
+    /// Memory ran out.
     NoMemory,
 }
 

@@ -12,7 +12,7 @@ use crate::open::Open;
 use std::alloc::Global;
 use tc_line::{LineFault, Lines, ScriptKind, read_line};
 
-/// Adds the next line to those that were found. It answers what is remembered behind it.
+/// Adds the next line to those that were found. It answers what is remembered after it.
 #[tactic(auto, using(crate::proofs::FirstPass::unread_at))]
 fn take_line<'t>(
     alloc: Global,

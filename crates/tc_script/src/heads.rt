@@ -41,7 +41,7 @@ impl Heads {
         self.map.get(name).copied()
     }
 
-    /// The place of the behaviour of that name; the number of behaviours where there is none.
+    /// The place of the behaviour of that name; the number of behaviours if there is none.
     #[tactic(auto, unfolding(tc_line::specs::Words::is_text, crate::specs::Names::index_of))]
     pub fn place_of(&self, name: &Name) -> usize
         ensures place { result ≡ index_of name.now (names_of self.now) }
@@ -53,7 +53,7 @@ impl Heads {
         }
     }
 
-    /// Adds a behaviour behind the others, if none of them has its name.
+    /// Adds a behaviour after the others, if none of them has its name.
     pub fn add(&mut self, name: &Name, parameters: usize) -> Result<(), AllocError>
         ensures { OnOk result (self.new ≡ add_head name.now parameters self.old) }
     {

@@ -8,8 +8,7 @@ use std::alloc::{AllocError, Global};
 use std::marker::Model;
 use tc_line::{Call, Line, UserVerdict};
 
-/// What stands in the place of a line: a verdict call whole, since the most lines are verdict calls; or that the line
-/// stands apart.
+/// What is kept for a line: a verdict call whole, since most lines are verdict calls; or that the line is kept apart.
 #[derive(Clone, Copy, Debug, PartialEq, Eq)]
 pub enum Mark {
     Set(UserVerdict),
@@ -17,7 +16,7 @@ pub enum Mark {
     Apart,
 }
 
-/// Lines in their order. A verdict call takes two bytes, and any other line its own room beside.
+/// Lines in their order. A verdict call takes two bytes, and any other line has its own room.
 #[derive(Drop)]
 pub struct KeptLines {
     marks: Vec<Mark>,
@@ -104,7 +103,7 @@ impl KeptLines {
         Ok(())
     }
 
-    /// Adds a line that stands apart.
+    /// Adds a line that is kept apart.
     fn push_apart(&mut self, line: Line) -> Result<(), AllocError>
         ensures pushed { OnOk result (self.new ≡ self.old ++ line ∷ []) }
         ensures same { OnErr result (self.new ≡ self.old) }
@@ -115,7 +114,7 @@ impl KeptLines {
         Ok(())
     }
 
-    /// Adds a line behind the others.
+    /// Adds a line after the others.
     pub fn push(&mut self, line: Line) -> Result<(), AllocError>
         ensures pushed { OnOk result (self.new ≡ self.old ++ line ∷ []) }
         ensures same { OnErr result (self.new ≡ self.old) }
@@ -161,7 +160,7 @@ impl<'l> Rest<'l> {
         }
     }
 
-    /// The first line, and those behind it.
+    /// The first line, and those after it.
     #[inline(always)]
     pub fn split_first(&self) -> Option<(First<'l>, Rest<'l>)>
         ensures { MatchOption result (self.now ≡ []) (λ r. self.now ≡ said r.0 ∷ r.1) }

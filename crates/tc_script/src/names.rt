@@ -63,7 +63,7 @@ impl Names {
         self.set.is_empty()
     }
 
-    /// The place of the name; the number of names where it is none of them.
+    /// The place of the name; the number of names if it is none of them.
     #[tactic(auto, unfolding(tc_line::specs::Words::is_text, crate::specs::Names::index_of))]
     pub fn place_of(&self, name: &Name) -> usize
         ensures place { result ≡ index_of name.now self.now }
@@ -75,7 +75,7 @@ impl Names {
         }
     }
 
-    /// Adds the name behind the others, if it is none of them.
+    /// Adds the name after the others, if it is none of them.
     #[tactic(auto, unfolding(tc_line::specs::Words::is_text, crate::specs::Names::among))]
     pub fn add(&mut self, name: Name) -> Result<bool, AllocFailed<Name>>
         ensures new { IfOk result (λ is_new. is_new ≡ not (among name self.old)) }

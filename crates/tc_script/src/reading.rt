@@ -11,7 +11,7 @@ use crate::first_pass::parse;
 use crate::second_pass::first_misnamed;
 use std::alloc::Global;
 
-/// The campaign that a text spells; else its first fault. Only want of memory may stand in place of either.
+/// The campaign that a text spells; otherwise its first fault. Memory may run out instead.
 #[tactic(auto, unfolding(crate::specs::Campaign::campaign), using(crate::proofs::Sound::sound_rules))]
 pub fn read_campaign(alloc: Global, bytes: &[u8]) -> Result<Campaign, ReadFault>
     ensures answer { Reads (λ c. c) result (campaign bytes.now) }

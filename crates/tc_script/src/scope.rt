@@ -36,7 +36,7 @@ fn fault_where(is_fault: bool, kind: ScriptKind) -> Option<ScriptKind>
     if is_fault { Some(kind) } else { None }
 }
 
-/// Whether one of the names stands there twice.
+/// Whether one of the names is there twice.
 fn any_twice(names: &[Name]) -> bool
     ensures { result ≡ has_twice names.now }
 {
@@ -208,7 +208,7 @@ impl Scope {
         Ok(())
     }
 
-    /// Goes on behind a line, with the lines after it.
+    /// Continues after a line, with the lines after it.
     pub fn take(&mut self, alloc: Global, line: &Line, rest: &Rest) -> Result<(), AllocError>
         ensures { OnOk result (self.new ≡ scope_after self.old line.now rest.now) }
     {

@@ -10,7 +10,7 @@ use crate::scope::Scope;
 use std::alloc::{AllocError, Global};
 use tc_line::ScriptKind;
 
-/// The fault of the line among these names; where it has none, the names go on behind it.
+/// The fault of the line among these names; if it has none, the names continue after it.
 fn passed(
     alloc: Global,
     scope: &mut Scope,
@@ -32,7 +32,7 @@ fn passed(
     }
 }
 
-/// The first line with a fault of names, where the names are those before the first line.
+/// The first line with a fault of names, if the names are those before the first line.
 #[tactic(auto, using(crate::proofs::SecondPass::judging_rules))]
 fn first_misnamed_in(
     alloc: Global,

@@ -15,7 +15,7 @@ use std::alloc::{AllocError, Global};
 use tc_line::{Call, Line, Name};
 use tc_step::{Place, Places, Run, Step};
 
-/// The component that a line names, where these names are bound.
+/// The component that a line names, if these names are bound.
 fn place_at(bound: &Names, place: &Place<Name>) -> Place
     requires { length bound.now < ARGUMENTS + STEPS }
     ensures { result ≡ the_place bound.now place.now }
@@ -36,7 +36,7 @@ fn places_of(bound: &Names, named: &[Place<Name>]) -> Places
     places
 }
 
-/// The step of a call, where these names are bound.
+/// The step of a call, if these names are bound.
 #[tactic(auto, unfolding(crate::specs::Campaign::step_of))]
 fn step_at(heads: &Heads, bound: &Names, call: &Call) -> Step
     requires few_heads { length heads.now ≤ BEHAVIOURS }
@@ -75,8 +75,8 @@ fn step_at(heads: &Heads, bound: &Names, call: &Call) -> Step
     }
 }
 
-/// The steps up to the end of a behaviour, whose lines these begin with, where these names are bound; and the lines from that
-/// end on.
+/// The steps up to the end of a behaviour, whose lines these begin with, if these names are bound; and the lines from
+/// that end on.
 fn steps_into<'l>(
     heads: &Heads,
     bound: &mut Names,

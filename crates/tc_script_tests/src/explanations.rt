@@ -1,4 +1,4 @@
-//! Explanations, by text. The calls of the library stand in small functions without clauses, so that the proof of a test
+//! Explanations, by text. The calls of the library are in small functions without clauses, so that the proof of a test
 //! carries none of the library's.
 use std::alloc::Global;
 use std::process::Abort;
@@ -9,7 +9,7 @@ use tc_explain::{Refusal, explain};
 use tc_line::ScriptKind;
 use tc_text::{TextKind, read_move, read_reply};
 
-/// What is told of a text that is refused in this line.
+/// What is printed about a text that is refused in this line.
 fn told_of(alloc: Global, text: &[u8], line: usize, refusal: Refusal) -> Result<Vec<u8>, NoMemory> {
     explain(alloc, text, line, refusal)
 }
@@ -57,7 +57,7 @@ fn the_nearest_keyword(rt: HostRuntime) -> Result<(), Fail> {
     )
 }
 
-/// Of this line the place is told, and what would be understood there.
+/// The place in this line is printed, and what would be understood there.
 fn expect_form(
     rt: &impl Abort,
     alloc: Global,
@@ -232,7 +232,7 @@ fn lines_of_moves(rt: HostRuntime) -> Result<(), Fail> {
     Ok(())
 }
 
-// What is told of a line of a history.
+// What is printed about a line of a history.
 fn expect_entry(
     rt: &impl Abort,
     alloc: Global,
@@ -377,7 +377,7 @@ fn moves_of_the_words_that_are_no_keywords(rt: HostRuntime) {
     assert!(&rt; is_move(b"0 wake done all"));
 }
 
-/// The line of the words that are understood in place of the last of this entry of a history.
+/// The line of the words that are understood instead of the last of this entry of a history.
 fn understood_in(alloc: Global, entry: &str) -> Result<String, Fail> {
     let text = format!(in alloc; "history 1 a 1\n{entry}\n")?;
     let refusal = Refusal::Histories(TextKind::Entry);

@@ -1,4 +1,5 @@
-//! The tests of the libraries that read scripts, and of explanations, in a crate of their own: a check of them proves no library once more.
+//! The tests of the libraries that read scripts, and of explanations, in a crate of their own: a check of them proves
+//! no library again.
 #![tactic(auto)]
 
 #[cfg(test)]

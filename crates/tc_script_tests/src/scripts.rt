@@ -1,4 +1,4 @@
-//! Scripts that are refused, and scripts that are read. The others stand in `tests/program`.
+//! Scripts that are refused, and scripts that are read. The others are in `tests/program`.
 use crate::checks::{holds, is};
 use std::alloc::Global;
 use std::process::Abort;

@@ -1,4 +1,5 @@
--- Each Start that a script makes gives as many arguments as the behaviour of its run has parameters, where its steps say so.
+-- Each Start that a script makes gives as many arguments as the behaviour of its run has parameters, if its steps say
+-- so.
 use Rattle.std.proofs.Common.{◌≡◌, ◌∙◌, ◌==◌, inl, inr, Bool, true, false, Some, List, [], ◌∷◌, All, length, refl, sym, ap, subst, arith}
 use Rattle.std.specs.Prelude.{slice_get}
 use Rattle.std.specs.Option.{option_map}

@@ -33,7 +33,7 @@ use Rattle.tc_explore.proofs.Lemmas.Turning.{other_not_idle}
 
 -- ---- a run and its own entries
 
--- a run that is on this component, of which these components are bound and so many steps called, with no Wake to come
+-- a run that is on this component, of which these components are bound and that many steps called, with no Wake to come
 abbrev pub standing : Comp → List Comp → ℕ → Bool → Stand
 standing me bound k left = record { comp = Some me; bound = bound; called = k; left = left; wake = None }
 
@@ -125,7 +125,8 @@ own_call me bound bound-new k run op r call still binds = rw (call, still, binds
 
 -- ---- the calls of a script
 
--- Of a pass whose log is that of the calls up to the steps that are left: each entry is the run's turn, and the run stands before these.
+-- A pass whose log is that of the calls up to the steps that are left: each entry is the run's turn, and the run is
+-- before these.
 pub record IsAt (steps left : List Step) (bound : List Comp) (p : PassState) : Type 0 where
   pub front : List Step
   pub steps_are : steps ≡ front ++ left

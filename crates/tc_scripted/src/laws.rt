@@ -6,7 +6,7 @@ pub fn report_is_course()
     ensures { reports.ReportIsCourse }
 {}
 
-/// Where the verdict of each complete course is found, the verdict of each report of a run of the scripts is.
+/// If the verdict of each complete course is found, the verdict of each report of a run of the scripts is.
 pub fn report_is_found()
     ensures { reports.ReportIsFound }
 {}

@@ -24,7 +24,7 @@ server c w = record { current = c; worst = w }
 abbrev told : Played → List Line → Played
 told p ls = record p { lines = ls }
 
--- the test case that is kept, where one is open
+-- the test case that is kept, if one is open
 open_is : (v : Server) (held : OpenCase) (s : Stand) (c : Option Played) → v.current ≡ Some held → StandsAs v s → s.current ≡ c → IsCurrent (Some held) c
 open_is v held s c is stands current = subst (λ (o : Option OpenCase). IsCurrent o c) is (subst (λ (x : Option Played). IsCurrent v.current x) current stands.current)
 

@@ -38,7 +38,7 @@ pub record Adds (before after out written : List ℕ) : Type 0 where
   pub grows : after ≡ before ++ text
   pub appends : written ≡ out ++ text
 
--- a test case goes on from one value to another, and the lines that are new are appended
+-- a test case continues from one value to another, and the lines that are new are appended
 pub record GoesOn (o : OpenCase) (before after : Played) (out written : List ℕ) : Type 0 where
   pub kept : IsOpen o after
   pub adds : Adds (lines_text before.lines) (lines_text after.lines) out written
@@ -50,12 +50,12 @@ IsCurrent None (Some p) = ⊥
 IsCurrent (Some o) None = ⊥
 IsCurrent (Some o) (Some p) = IsOpen o p
 
--- the server stands so
+-- the server is in this state
 pub record StandsAs (v : Server) (s : Stand) : Type 0 where
   pub current : IsCurrent v.current s.current
   pub worst : v.worst ≡ worst_of s
 
--- what is asked is done, as far as this says: the server stands there then, and what its text grows by is appended
+-- what is asked is done, as far as this says: the server is there then, and what its text grows by is appended
 pub record Does (s : Stand) (done : Option Stand) (v : Server) (out written : List ℕ) : Type 0 where
   pub after : Stand
   pub done_is : done ≡ Some after
@@ -83,23 +83,23 @@ abbrev pub Asks : List ℕ → Bool → Server → Server → List ℕ → List 
 Asks line true v w out written = (s : Stand) → StandsAs v s → Steps line s w out written
 Asks line false v w out written = (written ≡ out) × ((s : Stand) → StandsAs v s → StandsAs w s × Refuses line s)
 
--- the run that the line begins with is told that it is refused
+-- the evidence has a line of the run that the line begins with, which says that it was refused
 pub record Tells (line : List ℕ) (s : Stand) (w : Server) (out written : List ℕ) : Type 0 where
   pub run : Run
   pub of_run : IsOf line run.0
   pub does : Does s (refused_with s s.current run) w out written
 
--- nobody can be told: the line begins with no run of a test case that is open
+-- no run is named: the line begins with no run of a test case that is open
 pub record TellsNobody (line : List ℕ) (s : Stand) (w : Server) : Type 0 where
   pub nobody : (run : Run) → run.0 < 2 ^ 16 → IsOf line run.0 → refused_with s s.current run ≡ None
   pub stands : StandsAs w s
 
--- a line that is refused is told, where there is whom to tell
+-- a line that is refused is written into the evidence, if it names a run
 abbrev pub IsTold : List ℕ → Bool → Server → Server → List ℕ → List ℕ → Type 0
 IsTold line true v w out written = (s : Stand) → StandsAs v s → Tells line s w out written
 IsTold line false v w out written = (written ≡ out) × ((s : Stand) → StandsAs v s → TellsNobody line s w)
 
--- what comes of a line: it is done; or it is refused, and the run that it begins with is told; or nobody can be told, and nothing changes
+-- what comes of a line: it is done; or it is refused, and the evidence says so; or it names no run, and nothing changes
 abbrev pub IsStep : Answered → List ℕ → Server → Server → List ℕ → List ℕ → Type 0
 IsStep A.Done line v w out written = (s : Stand) → StandsAs v s → Steps line s w out written
 IsStep A.Refused line v w out written = (s : Stand) → StandsAs v s → Refuses line s × Tells line s w out written

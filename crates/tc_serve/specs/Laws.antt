@@ -22,12 +22,13 @@ abbrev pub AreSound : List Played → Type 0
 AreSound [] = Unit {0}
 AreSound (p ∷ ps) = IsSound p × AreSound ps
 
--- and where the server stands
+-- and the state of the server
 pub record StandIsSound (s : Stand) : Type 0 where
   pub closed : AreSound s.closed
   pub current : MatchOption s.current (Unit {0}) IsSound
 
--- the server comes from one stand to the other by a line: what it asks is done, or it is refused and that is told
+-- the server comes from one state to the other by a line: what it asks is done, or it is refused and the evidence says
+-- so
 abbrev pub Follows : Stand → Stand → Type 0
 Follows s t = ((o : Order) × (taken s o ≡ Some t)) ⊎ ((run : Run) × (refused_with s s.current run ≡ Some t))
 

@@ -1,4 +1,4 @@
--- Where the server stands, and its text.
+-- The state of the server, and its text.
 use Rattle.std.specs.Prelude.{ℕ, ◌≡◌, if◌then◌else◌, Option, Some, None, List, [], ◌∷◌, ◌++◌, map, reverse}
 use Rattle.std.specs.List.{flat_map}
 use Rattle.std.specs.Fmt.{decimal}
@@ -29,7 +29,7 @@ pub record Stand : Type 0 where
 abbrev pub start : Stand
 start = record { closed = []; current = None }
 
--- the first line of the evidence of a test case of this name and so many behaviours
+-- the first line of the evidence of a test case of this name and that many behaviours
 abbrev pub header_line : List ℕ → ℕ → List ℕ
 header_line name n = ended (header_text (record { kind = K.Evidence; name = name; behaviours = n }))
 
@@ -54,7 +54,7 @@ open_text (Some p) = opening p
 abbrev pub stand_text : Stand → List ℕ
 stand_text s = flat_map block (reverse s.closed) ++ open_text s.current
 
--- the verdict that a test case counts as: error where it is not over
+-- the verdict that a test case counts as: error if it is not over
 abbrev pub counted : Played → Verdict
 counted p = if is_over (past_of p) then overall (past_of p) else V.Error
 
@@ -66,22 +66,22 @@ worst_of s = worst (map counted s.closed)
 abbrev pub with_current : Stand → Played → Stand
 with_current s p = record { closed = s.closed; current = Some p }
 
--- a test case is opened where none is open
+-- a test case is opened if none is open
 abbrev pub opened_with : Stand → Option Played → List ℕ → ℕ → Option Stand
 opened_with s None name n = Some (with_current s (record { name = name; behaviours = n; lines = [] }))
 opened_with s (Some p) name n = None
 
--- the behaviour of a run of the test case that is open is named, where it may be
+-- the behaviour of a run of the test case that is open is named, if it may be
 abbrev pub named_with : Stand → Option Played → Run → List ℕ → Option Stand
 named_with s None run name = None
 named_with s (Some p) run name = if may_name p run then Some (with_current s (with_line p (L.Named run name))) else None
 
--- a move of the test case that is open, where it may be made
+-- a move of the test case that is open, if it may be made
 abbrev pub played : Stand → Option Played → Run → Op → Option Stand
 played s None caller op = None
 played s (Some p) caller op = if may_ask p caller op then Some (with_current s (moved p caller op)) else None
 
--- a remark in the test case that is open, where it may be made
+-- a remark in the test case that is open, if it may be made
 abbrev pub remarked : Stand → Option Played → Run → List ℕ → Option Stand
 remarked s None run sentence = None
 remarked s (Some p) run sentence = if may_say p run then Some (with_current s (with_line p (L.Remark run sentence))) else None
@@ -91,7 +91,7 @@ abbrev pub closed_with : Stand → Option Played → Option Stand
 closed_with s None = None
 closed_with s (Some p) = Some (record { closed = p ∷ s.closed; current = None })
 
--- what is asked is done, where it may be
+-- what is asked is done, if it may be
 abbrev pub taken : Stand → Order → Option Stand
 taken s (O.Case name n) = opened_with s s.current name n
 taken s (O.Named run name) = named_with s s.current run name
@@ -99,7 +99,8 @@ taken s (O.Move caller op) = played s s.current caller op
 taken s (O.Remark run sentence) = remarked s s.current run sentence
 taken s O.End = closed_with s s.current
 
--- a line is refused that run k sent, where it is one of the test case that is open: that is written, and nothing else changes
+-- a line is refused that run k sent, if it is one of the test case that is open: that is written, and nothing else
+-- changes
 abbrev pub refused_with : Stand → Option Played → Run → Option Stand
 refused_with s None run = None
 refused_with s (Some p) run = if may_say p run then Some (with_current s (with_line p (L.Refused run why_refused))) else None

@@ -17,14 +17,14 @@ use tc_evidence::{Line, Sentence, append_line};
 use tc_table::{Awaited, CaseState};
 use tc_text::{append_number, append_text};
 
-/// A test case that is open: what is kept of it beside its evidence.
+/// A test case that is open: what is kept of it next to its evidence.
 #[derive(Drop)]
 pub struct OpenCase {
     /// The name of the test case.
     pub name: Name,
     /// What is kept of its history.
     pub state: CaseState,
-    /// What each run waits for, where it sleeps.
+    /// What each run waits for, if it sleeps.
     pub sleeps: Vec<Option<Awaited>>,
     /// Whether some line is about each run.
     pub met: Vec<bool>,
@@ -68,7 +68,7 @@ fn is_wake(op: &Op) -> bool
     matches!(op, Op::Wake { .. })
 }
 
-// Nobody of so many runs sleeps.
+// Nobody of that many runs sleeps.
 fn nobody(alloc: Global, behaviours: u16) -> Result<Vec<Option<Awaited>>, NoMemory>
     ensures many { IfOk result (λ v. length v.items ≡ behaviours) }
     ensures each { IfOk result (λ v. (b : ℕ) (d : Option Awaited) → b < behaviours → slice_index_or v.items b d ≡ None) }
@@ -80,7 +80,7 @@ fn nobody(alloc: Global, behaviours: u16) -> Result<Vec<Option<Awaited>>, NoMemo
     Ok(sleeps)
 }
 
-// No line is about any of so many runs.
+// No line is about any of that many runs.
 fn none_met(alloc: Global, behaviours: u16) -> Result<Vec<bool>, NoMemory>
     ensures many { IfOk result (λ v. length v.items ≡ behaviours) }
     ensures each { IfOk result (λ v. (b : ℕ) (d : Bool) → b < behaviours → slice_index_or v.items b d ≡ false) }
@@ -104,7 +104,7 @@ fn mark(met: &mut Vec<bool>, run: Run)
     }
 }
 
-// Appends that a line of the run was refused; where memory is refused, a part of that line.
+// Appends that a line of the run was refused; if memory runs out, a part of that line.
 fn append_refusal(out: &mut Vec<u8>, run: Run) -> Result<(), NoMemory>
     ensures ok { OnOk result (out.new.items ≡ out.old.items ++ ended (line_text (lines.Refused run why_refused))) }
     ensures err { OnErr result (StartsWith out.new.items out.old.items) }
@@ -133,7 +133,7 @@ impl OpenCase {
         })
     }
 
-    // What the run waits for, where it is one of the case and sleeps.
+    // What the run waits for, if it is one of the case and sleeps.
     fn sleep_of(&self, run: Run) -> Option<Awaited>
         ensures { (p : AnyPlayed) → IsOpen self.now p → result ≡ spec_sleep p run.0 }
     {
@@ -145,7 +145,7 @@ impl OpenCase {
         }
     }
 
-    /// Whether the call may be made by whoever serves the run: it is no wake, and the run does not sleep.
+    /// Whether the client of the run may make the call: it is no wake, and the run does not sleep.
     pub fn may(&self, caller: Run, op: &Op) -> bool
         ensures { (p : AnyPlayed) → IsOpen self.now p → result ≡ may_ask p caller op.now }
     {
@@ -167,7 +167,7 @@ impl OpenCase {
         place < self.met.len() && !self.met[place]
     }
 
-    /// Adds the name of the run's behaviour; where memory is refused, a part of its line is appended.
+    /// Adds the name of the run's behaviour; if memory runs out, a part of its line is appended.
     pub fn name_run(&mut self, run: Run, name: Name, out: &mut Vec<u8>) -> Result<(), NoMemory>
         ensures ok { OnOk result ((p : AnyPlayed) → IsOpen self.old p
             → GoesOn self.new p (with_line p (lines.Named run name)) out.old.items out.new.items) }
@@ -178,7 +178,7 @@ impl OpenCase {
         Ok(())
     }
 
-    /// Adds a remark of the run; where memory is refused, a part of its line is appended.
+    /// Adds a remark of the run; if memory runs out, a part of its line is appended.
     pub fn remark(
         &mut self,
         run: Run,
@@ -194,7 +194,7 @@ impl OpenCase {
         Ok(())
     }
 
-    /// Adds that a line of the run was refused; where memory is refused, a part of that line is appended.
+    /// Adds that a line of the run was refused; if memory runs out, a part of that line is appended.
     pub fn refuse(&mut self, run: Run, out: &mut Vec<u8>) -> Result<(), NoMemory>
         ensures ok { OnOk result ((p : AnyPlayed) → IsOpen self.old p
             → GoesOn self.new p (with_line p (lines.Refused run why_refused)) out.old.items out.new.items) }
@@ -220,7 +220,7 @@ impl OpenCase {
         }
     }
 
-    // Makes the call, and appends its line; where memory is refused, a part of it.
+    // Makes the call, and appends its line; if memory runs out, a part of it.
     fn call(&mut self, caller: Run, op: Op, out: &mut Vec<u8>) -> Result<(), NoMemory>
         ensures ok { OnOk result ((p : AnyPlayed) → IsOpen self.old p
             → GoesOn self.new p (record p { lines = after_call p caller op }) out.old.items out.new.items) }
@@ -239,7 +239,7 @@ impl OpenCase {
         Ok(())
     }
 
-    // Wakes the run, where it sleeps and may go on.
+    // Wakes the run, if it sleeps and can continue.
     fn wake(&mut self, run: u16, out: &mut Vec<u8>) -> Result<(), NoMemory>
         requires { run < self.old.state.behaviours }
         ensures ok { OnOk result ((p : AnyPlayed) → IsOpen self.old p →
@@ -260,8 +260,8 @@ impl OpenCase {
         self.call(Run(run), op, out)
     }
 
-    /// Makes the call, and appends its line; then wakes each run that may go on, in the order of their numbers, and appends
-    /// their lines. Where memory is refused, a part of these.
+    /// Makes the call, and appends its line; then wakes each run that can continue, in the order of their numbers, and
+    /// appends their lines. If memory runs out, a part of these.
     pub fn play(&mut self, caller: Run, op: Op, out: &mut Vec<u8>) -> Result<(), NoMemory>
         ensures ok { OnOk result ((p : AnyPlayed) → IsOpen self.old p → GoesOn self.new p (moved p caller op) out.old.items out.new.items) }
         ensures any { StartsWith out.new.items out.old.items }
@@ -280,7 +280,7 @@ impl OpenCase {
         self.state.overall()
     }
 
-    /// The verdict that the test case counts as: error where it is not over.
+    /// The verdict that the test case counts as: error if it is not over.
     pub fn counted(&self) -> Verdict
         ensures { (p : AnyPlayed) → IsOpen self.now p → result ≡ spec_counted p }
     {

@@ -18,7 +18,7 @@ use tc_text::{after, as_behaviours, read_move, read_number, take_name, take_numb
 /// What a line asks for.
 #[derive(Drop)]
 pub enum Order {
-    /// Opens a test case of this name, with so many behaviours.
+    /// Opens a test case of this name, with that many behaviours.
     Case { name: Name, behaviours: u16 },
     /// Names the behaviour of a run.
     Named { run: Run, name: Name },
@@ -70,7 +70,7 @@ fn read_remark(text: &[u8]) -> Option<(Run, &[u8])>
     Some((Run(number), sentence))
 }
 
-// What the line asks for, where it is no remark.
+// What the line asks for, if it is no remark.
 fn read_other(text: &[u8]) -> Option<Order>
     ensures spelled { IfSome result (λ o. text.now ≡ order_text o) }
     ensures fits { IfSome result IsOrder }

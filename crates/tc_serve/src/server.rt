@@ -19,7 +19,7 @@ use tc_verdict::worse_of;
 pub enum Answered {
     /// What it asks for was done.
     Done,
-    /// It was refused, and the run that it begins with is told so in the evidence.
+    /// It was refused, and the evidence says so to the run that it begins with.
     Refused,
     /// It was refused, and begins with no run of a test case that is held.
     Nobody,
@@ -60,7 +60,7 @@ impl Server {
         }
     }
 
-    // Opens a test case, where none is held.
+    // Opens a test case, if none is held.
     fn begin(
         &mut self,
         alloc: Global,
@@ -85,7 +85,7 @@ impl Server {
         Ok(true)
     }
 
-    // Names the behaviour of a run, where it may be named.
+    // Names the behaviour of a run, if it may be named.
     fn name_run(&mut self, run: Run, name: Name, out: &mut Vec<u8>) -> Result<bool, NoMemory>
         ensures ok { IfOk result (λ done. Tries (λ s. named_with s s.current run name) done self.old self.new out.old.items out.new.items) }
         ensures any { StartsWith out.new.items out.old.items }
@@ -102,7 +102,7 @@ impl Server {
         Ok(true)
     }
 
-    // Makes a call, where it may be made.
+    // Makes a call, if it may be made.
     fn play(&mut self, caller: Run, op: Op, out: &mut Vec<u8>) -> Result<bool, NoMemory>
         ensures ok { IfOk result (λ done. Tries (λ s. played s s.current caller op) done self.old self.new out.old.items out.new.items) }
         ensures any { StartsWith out.new.items out.old.items }
@@ -119,7 +119,7 @@ impl Server {
         Ok(true)
     }
 
-    // Adds a remark, where the run is one of the test case.
+    // Adds a remark, if the run is one of the test case.
     fn remark(&mut self, run: Run, sentence: Sentence, out: &mut Vec<u8>) -> Result<bool, NoMemory>
         ensures ok { IfOk result (λ done. Tries (λ s. remarked s s.current run sentence) done self.old self.new out.old.items out.new.items) }
         ensures any { StartsWith out.new.items out.old.items }
@@ -149,7 +149,7 @@ impl Server {
         Ok(true)
     }
 
-    // Tries what is asked; where memory is refused, a part of its text may have been appended.
+    // Tries what is asked; if memory runs out, a part of its text may have been appended.
     fn take(&mut self, alloc: Global, order: Order, out: &mut Vec<u8>) -> Result<bool, NoMemory>
         requires { IsOrder order }
         ensures ok { IfOk result (λ done. Tries (λ s. taken s order) done self.old self.new out.old.items out.new.items) }
@@ -164,7 +164,7 @@ impl Server {
         }
     }
 
-    // Tries what the line asks for; where memory is refused, a part of its text may have been appended.
+    // Tries what the line asks for; if memory runs out, a part of its text may have been appended.
     fn try_line(&mut self, alloc: Global, line: &[u8], out: &mut Vec<u8>) -> Result<bool, NoMemory>
         ensures ok { IfOk result (λ done. Asks line.now done self.old self.new out.old.items out.new.items) }
         ensures any { StartsWith out.new.items out.old.items }
@@ -175,7 +175,7 @@ impl Server {
         }
     }
 
-    // Tells the run that the line begins with that it is refused, where it is one of a test case that is held.
+    // Writes into the evidence that the line is refused, if it begins with a run of a test case that is held.
     fn refuse(&mut self, line: &[u8], out: &mut Vec<u8>) -> Result<bool, NoMemory>
         ensures ok { IfOk result (λ told. IsTold line.now told self.old self.new out.old.items out.new.items) }
         ensures any { StartsWith out.new.items out.old.items }
@@ -195,7 +195,7 @@ impl Server {
         Ok(true)
     }
 
-    // Does what the line asks for, or refuses it; where memory is refused, a part of its text may have been appended.
+    // Does what the line asks for, or refuses it; if memory runs out, a part of its text may have been appended.
     fn answer(
         &mut self,
         alloc: Global,
@@ -215,9 +215,9 @@ impl Server {
         }
     }
 
-    /// Does what the line asks for, and appends its text. A line that may not be asked is refused: it changes nothing, but that
-    /// the run which it begins with is told so in the evidence. Where memory is refused, nothing is appended, and the server is
-    /// of no more use.
+    /// Does what the line asks for, and appends its text. A line that may not be asked is refused: it changes nothing,
+    /// except that the evidence says so to the run which it begins with. If memory runs out, nothing is appended, and
+    /// the server is of no more use.
     pub fn step(
         &mut self,
         alloc: Global,

@@ -1,4 +1,4 @@
--- What a script is: steps whose places are bound where they stand.
+-- What a script is: steps whose places are bound before them.
 use Rattle.std.specs.Prelude.{ℕ, ◌+◌, ◌<◌, ◌≤◌, List, [], ◌∷◌, length, All}
 use Rattle.tc_entry.specs.declared.limits.TheConstants.{ARGUMENTS}
 use Rattle.tc_step.specs.declared.place.Place.{Place}
@@ -34,17 +34,17 @@ places (S.Ask status t) = of_target t
 places (S.Wait killed t) = of_target t
 places _ = []
 
--- the place is one of a behaviour that has so many components bound
+-- the place is one of a behaviour that has that many components bound
 abbrev pub IsBound : ℕ → Place ℕ → Type 0
 IsBound count (P.Bound k) = k < count
 IsBound count _ = Unit {0}
 
--- how many components are bound behind a step
+-- how many components are bound after a step
 abbrev pub count_after : ℕ → Step → ℕ
 count_after count (S.Create alive name) = count + 1
 count_after count _ = count
 
--- each place of each step is bound where the step stands, so many components being bound before the first step
+-- each place of each step is bound before the step, that many components being bound before the first step
 abbrev pub AreBound : ℕ → List Step → Type 0
 AreBound count [] = Unit {0}
 AreBound count (s ∷ steps) = All (IsBound count) (places s) × AreBound (count_after count s) steps

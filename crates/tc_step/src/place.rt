@@ -4,7 +4,7 @@ ghost use Rattle.std.specs.Fn.{FnOnceReturnsAt};
 ghost use Rattle.tc_step.specs.Places.{Computes, place_map, group_map, target_map};
 ghost use Rattle.tc_step.specs.Steps.{IsBound};
 
-/// A component, as a script names it. A line tells the bound ones apart by their names, a step by their numbers.
+/// A component, as a script names it. A line has names for the bound ones, a step numbers.
 #[derive(Clone, Copy, PartialEq, Eq, Default, Debug, Drop)]
 pub enum Place<B = u16> {
     /// The main test component (`mtc`, ES 201 873-1).
@@ -33,7 +33,7 @@ pub enum TargetPlace<P = Place> {
 }
 
 impl Place {
-    /// Whether the place is one of a behaviour that has so many components bound.
+    /// Whether the place is one of a behaviour that has that many components bound.
     pub fn is_bound(self, count: usize) -> bool
         ensures { IsTrue result ↔ IsBound count self }
     {

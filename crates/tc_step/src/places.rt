@@ -38,7 +38,7 @@ impl Places {
         }
     }
 
-    /// Adds a place, unless there are `ARGUMENTS`: then it answers false and nothing is changed.
+    /// Adds a place, unless there are `ARGUMENTS`: then it returns false and nothing is changed.
     pub fn push(&mut self, place: Place) -> bool
         ensures pushed { OnTrue result (self.new ≡ self.old ++ place ∷ []) }
         ensures full { OnFalse result (self.new ≡ self.old) }

@@ -11,8 +11,8 @@ use tc_entry::ARGUMENTS;
 
 /// A scripted behaviour: the number of its parameters, and its steps in their order.
 ///
-/// It has at most `ARGUMENTS` parameters and `STEPS` steps, and each place of a step is bound where the step stands;
-/// these limits are this project's own.
+/// It has at most `ARGUMENTS` parameters and `STEPS` steps, and each place of a step is bound before the step; these
+/// limits are this project's own.
 #[derive(Drop)]
 pub struct Script {
     parameters: usize,
@@ -29,7 +29,7 @@ impl Model for Script {
     ghost invariant = { λ s. IsScript s.parameters s.steps.items };
 }
 
-/// Whether each place of each step is bound where so many components are bound before the first step.
+/// Whether each place of each step is bound before it, if that many components are bound before the first step.
 fn are_bound(parameters: usize, steps: &[Step]) -> bool
     requires few_parameters { parameters ≤ ARGUMENTS }
     requires few_steps { length steps.now ≤ STEPS }
@@ -50,7 +50,7 @@ fn are_bound(parameters: usize, steps: &[Step]) -> bool
 }
 
 impl Script {
-    /// Whether these steps make a script of so many parameters.
+    /// Whether these steps make a script of that many parameters.
     pub fn is_script(parameters: usize, steps: &[Step]) -> bool
         ensures { IsTrue result ↔ IsScript parameters steps.now }
     {

@@ -9,7 +9,7 @@ use std::io::{Read, Write};
 
 /// A reader that counts its reads, and is not read again once a read has failed.
 pub trait CountedRead {
-    /// The bytes that reads will give from here on, where they are known.
+    /// The bytes that reads will give from here on, if they are known.
     ghost remaining: { Self → Option (List ℕ) };
     /// How many reads there were.
     ghost reads: { Self → ℕ };
@@ -72,7 +72,7 @@ impl<R: Read> CountedRead for CountedReader<'_, R> {
 
 /// A writer that counts its writes, and is not written to again once a write has failed.
 pub trait CountedWrite {
-    /// The bytes that it took, where they are known.
+    /// The bytes that it took, if they are known.
     ghost contents: { Self → Option (List ℕ) };
     /// How many writes there were.
     ghost writes: { Self → ℕ };

@@ -18,7 +18,7 @@ pub enum InputFault {
     TooLong,
     /// The reader failed; an interrupted read counts as a failure.
     Read,
-    /// Memory was refused.
+    /// Memory ran out.
     NoMemory,
 }
 
@@ -43,7 +43,7 @@ impl fmt::Display for InputFault {
     }
 }
 
-// One read, whose bytes go behind those that are there. It says whether there were any.
+// One read, whose bytes go after those that are there. It says whether there were any.
 fn read_more<R: CountedRead>(
     reader: &mut R,
     bytes: &mut Vec<u8>,
@@ -76,7 +76,8 @@ fn read_more<R: CountedRead>(
     Ok(count > 0)
 }
 
-/// All bytes to the end of the reader, at most `limit`. `Read` is answered exactly where a read failed, which is then the last one.
+/// All bytes to the end of the reader, at most `limit`. `Read` is answered exactly if a read failed, which is then the
+/// last one.
 pub fn read_counted<R: CountedRead>(
     alloc: Global,
     reader: &mut R,

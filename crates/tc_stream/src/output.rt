@@ -51,8 +51,8 @@ fn write_some<W: CountedWrite>(writer: &mut W, bytes: &[u8]) -> Result<usize, Wr
     }
 }
 
-/// Writes all of `bytes`, or a prefix where the writer fails. A fault is answered exactly where a write failed or took
-/// no byte, which is then the last one.
+/// Writes all of `bytes`, or a prefix where the writer fails. A fault is answered exactly if a write failed or took no
+/// byte, which is then the last one.
 pub fn write_counted<W: CountedWrite>(writer: &mut W, bytes: &[u8]) -> Result<(), WriteFault>
     requires sound { W.has_failed writer.old ≡ false }
     requires few { W.writes writer.old + length bytes.now < 2 ^ 128 }

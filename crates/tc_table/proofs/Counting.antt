@@ -13,7 +13,7 @@ use Rattle.tc_table.specs.Status.{is_running, is_killed, is_done}
 use Rattle.tc_table.specs.Inside.States.{any_running, none_running, any_killed, all_killed, any_alive, all_alive, any_done, none_lapsed, worst_local}
 use Rattle.tc_table.specs.Inside.Counts.{bit, count_of, is_lapsed, IsCounted, made_state, main_state}
 
--- counts in place of searches
+-- counts instead of searches
 
 count_le : (p : ComponentState → Bool) (xs : List ComponentState) → count_of p xs ≤ length xs
 count_le p [] = omega arith

@@ -1,4 +1,4 @@
--- What the table keeps beside its history determines every reply: two histories that keep the same are answered alike.
+-- What the table keeps next to its history determines every reply: two histories that keep the same are answered alike.
 use Rattle.std.proofs.Common.{ℕ, ◌≡◌, ◌&&◌, ◌||◌, not, Bool, true, false, Option, Some, None, is_some, if◌then◌else◌, List, [], ◌∷◌, length, drop, refl, ap, ◌∙◌}
 use Rattle.std.specs.List.{list_any, list_all}
 use Rattle.tc_entry.specs.declared.comp.Comp.{Comp}

@@ -29,7 +29,7 @@ run_elsewhere e b s ne none =
     let t : (e.caller.0 == b) ≡ false = grind (arith, nat_tests) in
     rw (t, none, if_same (is_ok e.reply) (let o : Option Comp = None in o), first_alone s.comp)
 
--- the caller alone changed
+-- only the caller changed
 pub caller_changed : (e : Entry) (old new : List RunState) → ((b : ℕ) → b ≢ e.caller.0 → starts_run e.op b ≡ None) →
     ((d : RunState) → e.caller.0 < length old → get_or new e.caller.0 d ≡ next_run e e.caller.0 (get_or old e.caller.0 d)) →
     ((b : ℕ) (d : RunState) → b ≢ e.caller.0 → get_or new b d ≡ get_or old b d) →

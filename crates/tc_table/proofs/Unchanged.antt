@@ -1,4 +1,4 @@
--- A Stop of all where none is running, and a Kill of all where each is killed, leave the states as they are.
+-- A Stop of all if none is running, and a Kill of all where each is killed, leave the states as they are.
 use Rattle.std.proofs.Common.{ℕ, zero, suc, ◌≡◌, ◌≢◌, ◌+◌, ◌<◌, ◌≤◌, ◌==◌, ◌&&◌, ◌||◌, not, if◌then◌else◌, Bool, true, false, Option, None, List, [], ◌∷◌, length, drop, get_or, refl, ap, sym, ◌∙◌, arith}
 use Rattle.std.specs.List.{list_all}
 use Rattle.std.proofs.lemmas.Bool.Decides.{nat_tests}
@@ -29,7 +29,7 @@ not_true : (a : Bool) → not a ≡ true → a ≡ false
 not_true true h = absurd cc
 not_true false h = refl
 
--- what holds of all but the first holds at each place but the first
+-- what holds of all except the first holds at each place except the first
 all_at : {A : Type 0} (p : A → Bool) (xs : List A) (i : ℕ) (d : A) → list_all p xs ≡ true → i < length xs → p (get_or xs i d) ≡ true
 all_at p [] i d h k = absurd (omega arith)
 all_at p (x ∷ xs) zero d h k = and_left (p x) (list_all p xs) h
@@ -168,7 +168,7 @@ pub left_as_it_is : (own : Option Comp) (e : Entry) (states : List ComponentStat
 left_as_it_is own e states settled ends c d within none =
     unchanged_if own e c (get_or states c d) (not_found own e.caller e.op e.reply c (get_or states c d).phase ends none) (settled.not_excused c d within)
 
--- a pass goes by a component that is not found
+-- a pass depends on a component that is not found
 pub passed_by : (own : Option Comp) (e : Entry) (old xs : List ComponentState) (i : ℕ) (s : ComponentState) → IsSettled old → ends_case e ≡ false → length xs ≡ length old → i < length old →
     ((k : ℕ) (d : ComponentState) → k < i → get_or xs k d ≡ next_state own e k (get_or old k d)) →
     ((k : ℕ) (d : ComponentState) → i ≤ k → get_or xs k d ≡ get_or old k d) →

@@ -1,4 +1,4 @@
--- The worked cases compute, each from the definitions alone.
+-- The worked cases compute, each from the definitions.
 use Rattle.std.proofs.Common.{refl}
 use Rattle.tc_table.specs.History.{exists}
 use Rattle.tc_table.specs.Phases.{phase}

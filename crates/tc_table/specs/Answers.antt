@@ -23,12 +23,12 @@ abbrev pub is_run_of : ℕ → Phase → Bool
 is_run_of b (P.Running run) = run.0 == b
 is_run_of b _ = false
 
--- run b, which was started on this component if on any, is going on
+-- run b, which was started on this component if on any, is active
 abbrev pub is_active_on : List Entry → ℕ → Option Comp → Bool
 is_active_on past b (Some c) = is_run_of b (phase past c.0)
 is_active_on past b None = false
 
--- run b is going on
+-- run b is active
 unfoldable pub is_active : List Entry → ℕ → Bool
 is_active past b = is_active_on past b (comp_of past b)
 
@@ -37,7 +37,7 @@ abbrev pub local_reply : List Entry → Option Comp → Reply
 local_reply past (Some c) = R.Local (local past c.0)
 local_reply past None = R.Ended
 
--- the reply to a Wake by run b: the main component's run is told that the case is stuck
+-- the reply to a Wake by run b: the main component's run gets the error stuck if the case is stuck
 abbrev pub wake_reply : List Entry → ℕ → Awaited → Reply
 wake_reply past b a =
     if holds past a then R.Matched else if (b == 0) && is_stuck past then R.Fault F.Stuck else R.Parked
@@ -59,12 +59,12 @@ plain_answer past b (O.SetVerdict v) = R.Ok
 plain_answer past b O.GetVerdict = local_reply past (comp_of past b)
 plain_answer past b O.Finish = R.Ok
 
--- the error, if there is one, and else the reply
+-- the error, if there is one, and otherwise the reply
 abbrev pub answer_unless : Option Fault → Reply → Reply
 answer_unless (Some f) reply = R.Fault f
 answer_unless None reply = reply
 
--- the reply to a call by run b, where there are n behaviours
+-- the reply to a call by run b, if there are n behaviours
 unfoldable pub answer : ℕ → List Entry → ℕ → Op → Reply
 answer n past b op =
     if is_active past b then answer_unless (fault n past b op) (plain_answer past b op) else R.Ended

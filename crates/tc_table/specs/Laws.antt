@@ -18,7 +18,7 @@ use Rattle.tc_table.specs.Answers.{answer, is_active}
 use Rattle.tc_table.specs.Legal.{IsLegal, IsAllOver}
 use Rattle.tc_table.specs.Standing.{Kept, StandsFor}
 
--- after an entry that ends the case no component is alive, and every call is answered Ended
+-- after an entry that ends the case no component is alive, and every call is replied Ended
 abbrev pub OverForAll : Type 0
 OverForAll = (n : ℕ) (past : List Entry) → IsLegal n past → is_over past ≡ true → IsAllOver n past
 
@@ -31,7 +31,7 @@ KilledWasHalted =
 abbrev pub RunsNow : List Entry → Entry → Comp → Type 0
 RunsNow past e c = (comp_of past e.caller.0 ≡ Some c) × (phase past c.0 ≡ P.Running (record { 0 = e.caller.0 }))
 
--- who is not answered Ended is the running run of its component
+-- a caller that is not replied Ended is the running run of its component
 abbrev pub AnsweredIsRunning : Type 0
 AnsweredIsRunning =
     (n : ℕ) (past : List Entry) (e : Entry) → IsLegal n (e ∷ past) → is_ended e.reply ≡ false → (c : Comp) × RunsNow past e c
@@ -52,7 +52,7 @@ abbrev pub LocalOfWhole : Type 0
 LocalOfWhole =
     (n : ℕ) (past : List Entry) (c : ℕ) → IsLegal n past → worst (verdicts_in past past c) ≡ local past c
 
--- the operation is one that halts components where it is no error
+-- the operation is one that halts components if it is no error
 abbrev pub halting_op : Op → Bool
 halting_op (O.Stop group) = true
 halting_op (O.Kill group) = true
@@ -65,18 +65,19 @@ abbrev pub keeps_phases : Op → Bool
 keeps_phases (O.Start c run args) = false
 keeps_phases op = not (halting_op op)
 
--- after this reply the caller goes on
+-- after this reply the caller continues
 abbrev pub lets_go_on : Reply → Bool
 lets_go_on R.Ended = false
 lets_go_on R.Parked = false
 lets_go_on (R.Fault f) = false
 lets_go_on _ = true
 
--- the entry changes no component's phase, and its caller goes on
+-- the entry changes no component's phase, and its caller continues
 abbrev pub is_quiet : Op → Reply → Bool
 is_quiet op reply = keeps_phases op && lets_go_on reply
 
--- who waited still waits: a wait that would be parked again still would be, no run is started, and the case is over if it was
+-- a run that waited still waits: a wait that would be parked again still would be, no run is started, and the case is
+-- over if it was
 pub record WakesNobody (n : ℕ) (past : List Entry) (e : Entry) : Type 0 where
   pub parked : (b : ℕ) (killed : Bool) (target : Target) → answer n past b (O.Wake killed target) ≡ R.Parked → answer n (e ∷ past) b (O.Wake killed target) ≡ R.Parked
   pub runs : (b : ℕ) → comp_of (e ∷ past) b ≡ comp_of past b
@@ -87,13 +88,14 @@ abbrev pub QuietWakesNobody : Type 0
 QuietWakesNobody =
     (n : ℕ) (past : List Entry) (e : Entry) → IsLegal n (e ∷ past) → is_quiet e.op e.reply ≡ true → WakesNobody n past e
 
--- a run that was started goes on after an entry exactly where it went on before it, and the entry does not halt its component
+-- a run that was started continues after an entry exactly if it continued before it, and the entry does not halt its
+-- component
 abbrev pub HaltedByEntry : Type 0
 HaltedByEntry =
     (n : ℕ) (past : List Entry) (e : Entry) (b : ℕ) (c : Comp) → IsLegal n (e ∷ past) → comp_of past b ≡ Some c →
     is_active (e ∷ past) b ≡ (is_active past b && not (halts (comp_of past e.caller.0) e c.0))
 
--- a run that was never started goes on after an entry exactly where the entry starts it
+-- a run that was never started continues after an entry exactly if the entry starts it
 abbrev pub StartedByEntry : Type 0
 StartedByEntry =
     (n : ℕ) (past : List Entry) (e : Entry) (b : ℕ) → IsLegal n (e ∷ past) → comp_of past b ≡ None →
@@ -103,12 +105,12 @@ StartedByEntry =
 abbrev pub may_halt : Op → Reply → Bool
 may_halt op reply = halting_op op || is_fault reply
 
--- any other entry halts no component, whoever its caller is
+-- any other entry halts no component, for every caller
 abbrev pub OthersHaltNothing : Type 0
 OthersHaltNothing =
     (own : Option Comp) (e : Entry) (c : ℕ) → may_halt e.op e.reply ≡ false → halts own e c ≡ false
 
--- a history that a state stands for is legal
+-- a history that a state represents is legal
 abbrev pub StandsForLegal : Type 0
 StandsForLegal = (k : Kept) (past : List Entry) → StandsFor k past → IsLegal k.behaviours past
 
@@ -127,6 +129,6 @@ pub record AgreeInVerdicts (n : ℕ) (h g : List Entry) : Type 0 where
   pub locals : (c : ℕ) → local h c ≡ local g c
   pub overalls : overall h ≡ overall g
 
--- histories that are the same but for the names of components agree in all that
+-- histories that differ only in the names of components agree in all that
 abbrev pub NamesSayNothing : Type 0
 NamesSayNothing = (n : ℕ) (h g : List Entry) → map unnamed h ≡ map unnamed g → AgreeInVerdicts n h g

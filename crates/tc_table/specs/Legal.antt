@@ -13,7 +13,7 @@ abbrev pub IsLegal : ℕ → List Entry → Type 0
 IsLegal n [] = Unit {0}
 IsLegal n (e ∷ past) = (e.reply ≡ answer n past e.caller.0 e.op) × IsLegal n past
 
--- every component is killed, and every call is answered Ended
+-- every component is killed, and every call is replied Ended
 pub record IsAllOver (n : ℕ) (past : List Entry) : Type 0 where
   pub killed : (c : ℕ) → exists past c ≡ true → phase past c ≡ P.Killed
   pub ended : (b : ℕ) (op : Op) → answer n past b op ≡ R.Ended

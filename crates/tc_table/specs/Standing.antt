@@ -1,5 +1,5 @@
--- What contracts see of a case's state, and the histories that it stands for: a new state stands for no entries, a call
--- adds its entry, and each answer is told of the entries. So nothing has to be known of what is kept.
+-- What contracts see of a case's state, and the histories that it represents: a new state represents no entries, a call
+-- adds its entry, and each answer is about the entries. So nothing has to be known of what is kept.
 use Rattle.std.specs.Prelude.{ℕ, ◌≡◌, Bool, List, ◌∷◌}
 use Rattle.tc_verdict.specs.declared.run.Run.{Run}
 use Rattle.tc_entry.specs.declared.entry.Entry.{Entry}
@@ -10,7 +10,7 @@ use Rattle.tc_table.specs.declared.run_state.RunState.{RunState}
 use Rattle.tc_table.specs.Answers.{answer}
 use Rattle.tc_table.specs.Inside.Kept.{IsKept}
 
--- what is kept of a test case beside its history
+-- what is kept of a test case next to its history
 pub record Kept : Type 0 where
   pub behaviours : ℕ
   pub states : List ComponentState
@@ -21,10 +21,10 @@ pub record Kept : Type 0 where
 unfoldable pub StandsFor : Kept → List Entry → Type 0
 StandsFor k past = IsKept k.behaviours past k.states k.runs k.over
 
--- the table gives this reply to the call, whatever entries the state stands for
+-- the table gives this reply to the call, whatever entries the state represents
 abbrev pub IsReply : Kept → Run → Op → Reply → Type 0
 IsReply k caller op reply = (past : List Entry) → StandsFor k past → reply ≡ answer k.behaviours past caller.0 op
 
--- the state after this entry stands for the entries that the one before it stands for, and for this one
+-- the state after this entry represents the entries that the one before it represents, and for this one
 abbrev pub TakesIn : Kept → Entry → Kept → Type 0
 TakesIn before e after = (past : List Entry) → StandsFor before past → StandsFor after (e ∷ past)

@@ -1,4 +1,4 @@
--- Waiting for the end or the kill of components, and when a case can no longer go on.
+-- Waiting for the end or the kill of components, and when a case can no longer continue.
 -- All of it is this project's own: there are no timers, so a case that waits for what cannot come is stuck.
 use Rattle.std.specs.Prelude.{ℕ, ◌==◌, not, if◌then◌else◌, Bool, true, false, Option, Some, None, List, [], ◌∷◌}
 use Rattle.std.specs.List.{list_all}

@@ -40,7 +40,7 @@ create_alive c = call 0 (O.Create true None) (R.Made (comp c))
 abbrev pub start : ℕ → ℕ → Reply → Entry
 start c b reply = call 0 (O.Start (comp c) (record { 0 = b }) []) reply
 
--- component c alone
+-- only component c
 abbrev pub one : ℕ → Target
 one c = T.One (comp c)
 

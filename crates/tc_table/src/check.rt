@@ -18,7 +18,7 @@ pub enum CheckFault {
     /// The entry at this place, counted from 0, has another reply than the table's, which is given.
     #[error("the entry at {at} has another reply than the table's")]
     Differs { at: usize, reply: Reply },
-    /// Memory was refused.
+    /// Memory ran out.
     #[error("{}", NoMemory)]
     NoMemory,
 }
@@ -34,7 +34,7 @@ impl From<NoMemory> for CheckFault {
     }
 }
 
-/// The state after a list in which each reply is the table's; else the first place where it is not.
+/// The state after a list in which each reply is the table's; otherwise the first place if it is not.
 pub fn replay(alloc: Global, behaviours: u16, list: &[Entry]) -> Result<CaseState, CheckFault>
     requires some { 1 ≤ behaviours }
     requires few { behaviours ≤ BEHAVIOURS }
@@ -52,7 +52,7 @@ pub fn replay(alloc: Global, behaviours: u16, list: &[Entry]) -> Result<CaseStat
     Ok(state)
 }
 
-/// The verdict of a list in which each reply is the table's; else the first place where it is not.
+/// The verdict of a list in which each reply is the table's; otherwise the first place if it is not.
 pub fn replay_check(alloc: Global, behaviours: u16, list: &[Entry]) -> Result<Verdict, CheckFault>
     requires some { 1 ≤ behaviours }
     requires few { behaviours ≤ BEHAVIOURS }

@@ -80,7 +80,7 @@ impl ComponentStates {
         })
     }
 
-    /// The main component alone, running run 0.
+    /// Only the main component, running run 0.
     pub fn new(alloc: Global) -> Result<ComponentStates, AllocError>
         ensures { IfOk result (λ s. s ≡ main_state ∷ []) }
     {

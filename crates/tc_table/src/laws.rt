@@ -2,7 +2,7 @@
 ghost use Rattle.tc_table.specs.Laws as laws;
 ghost use Rattle.tc_table.specs.WorkedCases.{WorkedCases};
 
-/// After an entry that ends the case no component is alive, and every further call is answered Ended.
+/// After an entry that ends the case no component is alive, and every further call is replied Ended.
 #[tactic(auto, using(crate::proofs::Lemmas::LawsOfHistories::over_for_all))]
 pub fn over_for_all()
     ensures { laws.OverForAll }
@@ -14,7 +14,7 @@ pub fn killed_was_halted()
     ensures { laws.KilledWasHalted }
 {}
 
-/// A caller that is not answered Ended is the running run of its component.
+/// A caller that is not replied Ended is the running run of its component.
 #[tactic(auto, using(crate::proofs::Lemmas::LawsOfHistories::answered_is_running))]
 pub fn answered_is_running()
     ensures { laws.AnsweredIsRunning }
@@ -32,13 +32,13 @@ pub fn local_of_whole()
     ensures { laws.LocalOfWhole }
 {}
 
-/// An entry that changes no component's phase, and whose caller goes on, wakes nobody.
+/// An entry that changes no component's phase, and whose caller continues, wakes nobody.
 #[tactic(auto, using(crate::proofs::Lemmas::Quiet::quiet_wakes_nobody))]
 pub fn quiet_wakes_nobody()
     ensures { laws.QuietWakesNobody }
 {}
 
-/// A history that a case's state stands for is legal.
+/// A history that a case's state represents is legal.
 #[tactic(auto, using(crate::proofs::Lemmas::Standing::stands_legal))]
 pub fn stands_for_legal()
     ensures { laws.StandsForLegal }
@@ -50,7 +50,7 @@ pub fn worked_cases()
     ensures { WorkedCases }
 {}
 
-/// Which runs an entry halts: those that are going on, and whose component it halts.
+/// Which runs an entry halts: those that are active, and whose component it halts.
 #[tactic(auto, using(crate::proofs::Lemmas::Going::halted_by_entry))]
 pub fn halted_by_entry()
     ensures { laws.HaltedByEntry }

@@ -11,7 +11,7 @@ use std::alloc::Global;
 use tc_entry::Comp;
 use tc_verdict::{NoMemory, Verdict};
 
-/// The local verdict of a component; none where there is no such component.
+/// The local verdict of a component; none if there is no such component.
 fn local_of(state: &CaseState, comp: u32) -> Verdict
     ensures { (past : List AnyEntry) → StandsFor state.now past → comp < components past → result ≡ verdicts.local past comp }
 {

@@ -1,4 +1,4 @@
-//! What is kept of a test case beside its history.
+//! What is kept of a test case next to its history.
 ghost use Rattle.std.specs.Prelude.{◌≡◌, ◌≢◌, ◌<◌, ◌≤◌, [], false, List, IfOk, IfSome, IfNone, OnErr};
 ghost use Rattle.std.specs.Bool.{OnTrue};
 ghost use Rattle.std.specs.Result.{IsOk};
@@ -26,7 +26,7 @@ use tc_verdict::{NoMemory, Run, Verdict};
 
 /// The state of one test case: it answers as the table does, and keeps no history.
 ///
-/// Contracts say what it answers after each history that it stands for.
+/// Contracts say what it answers after each history that it represents.
 #[derive(Drop)]
 pub struct CaseState {
     behaviours: u16,
@@ -50,7 +50,7 @@ impl Model for CaseState {
 
 #[tactic(auto, using(crate::proofs::Lemmas::Kept::kept_rules, crate::proofs::Lemmas::Kept::group_rules), unfolding(crate::specs::Standing::StandsFor))]
 impl CaseState {
-    /// A case of so many behaviours, at its opening.
+    /// A case of that many behaviours, at its opening.
     pub fn new(alloc: Global, behaviours: u16) -> Result<CaseState, NoMemory>
         requires some { 1 ≤ behaviours }
         requires few { behaviours ≤ BEHAVIOURS }
@@ -91,8 +91,7 @@ impl CaseState {
         self.behaviours
     }
 
-    /// Makes a call, and answers its reply. Where memory is refused, as it may be to a Create alone, the state stays as
-    /// it was.
+    /// Makes a call, and returns its reply. Only a Create can run out of memory; then the state stays as it was.
     pub fn play(&mut self, caller: Run, op: Op) -> Result<Reply, NoMemory>
         ensures behaviours { self.new.behaviours ≡ self.old.behaviours }
         ensures reply { IfOk result (λ r. IsReply self.old caller op r) }
@@ -106,8 +105,8 @@ impl CaseState {
         Ok(reply)
     }
 
-    /// Takes in an entry whose reply is the table's. Of another it takes in nothing, and answers the table's reply. Where
-    /// memory is refused, as it may be to a Create alone, the state stays as it was.
+    /// Takes in an entry whose reply is the table's. If the reply is another, it takes in nothing, and returns the
+    /// table's reply. Only a Create can run out of memory; then the state stays as it was.
     pub fn play_entry(&mut self, entry: &Entry) -> Result<Option<Reply>, NoMemory>
         ensures behaviours { self.new.behaviours ≡ self.old.behaviours }
         ensures same { IfOk result (λ other. IfNone other (IsReply self.old entry.now.caller entry.now.op entry.now.reply)) }

@@ -72,7 +72,7 @@ fn next_local(op: &Op, reply: Reply, local: Verdict) -> Verdict
     }
 }
 
-/// The run that is started, or else the last one before.
+/// The run that is started, otherwise the last one before.
 fn later(start: Option<Run>, last: Option<Run>) -> Option<Run>
     ensures { result ≡ history.first_some start last }
 {
@@ -174,7 +174,7 @@ fn take_in_all(states: &mut ComponentStates, own: Option<Comp>, entry: &Entry)
     }
 }
 
-/// The same, for an entry that touches one component alone.
+/// The same, for an entry that touches only one component.
 fn take_in_one(states: &mut ComponentStates, own: Option<Comp>, entry: &Entry, comp: Comp)
     requires settled { step.IsSettled states.old }
     requires touched { step.touched own entry.now ≡ changed.One comp }
@@ -211,7 +211,7 @@ fn finds(op: &Op, phase: Phase) -> bool
     }
 }
 
-/// The same, for a call on all components that does not end the case: it writes those alone that it finds.
+/// The same, for a call on all components that does not end the case: it writes only those that it finds.
 fn take_in_found(states: &mut ComponentStates, own: Option<Comp>, entry: &Entry)
     requires settled { step.IsSettled states.old }
     requires goes_on { history.ends_case entry.now ≡ false }
@@ -227,7 +227,7 @@ fn take_in_found(states: &mut ComponentStates, own: Option<Comp>, entry: &Entry)
     }
 }
 
-/// The same, for an entry that may touch every component: it goes over them only where it may change one.
+/// The same, for an entry that may touch every component: it goes over them only if it may change one.
 fn take_in_many(states: &mut ComponentStates, own: Option<Comp>, entry: &Entry)
     requires settled { step.IsSettled states.old }
     ensures as_many { length states.new ≡ length states.old }

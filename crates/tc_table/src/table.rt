@@ -52,7 +52,7 @@ pub fn copied_entries(alloc: Global, history: &[Entry]) -> Result<Vec<Entry>, No
 
 #[tactic(auto, using(crate::proofs::Lemmas::Standing::stands_legal))]
 impl Table {
-    /// A case of so many behaviours, at its opening.
+    /// A case of that many behaviours, at its opening.
     pub fn new(alloc: Global, behaviours: u16) -> Result<Table, NoMemory>
         requires some { 1 ≤ behaviours }
         requires few { behaviours ≤ BEHAVIOURS }
@@ -84,7 +84,7 @@ impl Table {
         self.state.behaviours()
     }
 
-    /// Makes a call: adds its entry, and answers its reply. Where memory is refused the history stays as it was.
+    /// Makes a call: adds its entry, and returns its reply. If memory runs out the history stays as it was.
     pub fn play(&mut self, caller: Run, op: Op) -> Result<Reply, NoMemory>
         ensures reply { IfOk result (λ r. r ≡ answers.answer self.old.behaviours (past_of self.old) caller.0 op) }
         ensures behaviours { self.new.behaviours ≡ self.old.behaviours }
@@ -109,7 +109,7 @@ impl Table {
         self.state.would(caller, op)
     }
 
-    /// Makes room for so many more calls.
+    /// Makes room for that many more calls.
     pub fn make_room(&mut self, more: usize) -> Result<(), NoMemory>
         ensures behaviours { self.new.behaviours ≡ self.old.behaviours }
         ensures history { self.new.history ≡ self.old.history }
@@ -121,7 +121,7 @@ impl Table {
         Ok(())
     }
 
-    /// So many more calls are never refused memory, if none of them is a Create.
+    /// How many more calls cannot run out of memory, if none of them is a Create.
     pub fn room(&self) -> usize
         ensures { result ≡ self.now.room }
     {
@@ -136,7 +136,7 @@ impl Table {
         self.history.as_slice()
     }
 
-    /// Whether a run is going on.
+    /// Whether a run is active.
     pub fn is_active(&self, run: Run) -> bool
         ensures { result ≡ answers.is_active (past_of self.now) run.0 }
     {

@@ -6,7 +6,7 @@ use Rattle.std.proofs.lemmas.List.{append-nil, drop-set, length-set}
 use Rattle.std.proofs.Math.ListN.{drop_of_length-le}
 use Rattle.std.proofs.Math.Nat.{pow-succ'}
 
--- the digits from the place on are those of the number behind those of what is left
+-- the digits from the place on are those of the number after those of what is left
 pub record Filled (number left place : ℕ) (digits : List ℕ) : Type 0 where
   pub long : length digits ≡ 20
   pub some : 0 < place

@@ -1,4 +1,4 @@
--- What operations are about, read from the text behind their first words.
+-- What operations are about, read from the text after their first words.
 use Rattle.std.proofs.Common.{◌≡◌, ◌≢◌, ◌∙◌, ◌<◌, ◌≤◌, ◌+◌, ◌^◌, ℕ, List, [], ◌∷◌, ◌++◌, length, codes, sym, ap, arith, append_assoc}
 use Rattle.std.specs.Fmt.{decimal}
 use Rattle.std.proofs.lemmas.Grind.{common_steps}
@@ -14,7 +14,7 @@ use Rattle.tc_text.specs.Spelling.{group_text, target_text, args_text, IsComp, I
 use Rattle.tc_text.specs.Reading.{EndsNumber, EndsMove}
 use Rattle.tc_text.proofs.Lemmas.Digits.{digit_first, no_letter}
 
--- what reading a number tells: it is the number of each spelling that the text begins with
+-- what reading a number shows: it is the number of each spelling that the text begins with
 abbrev pub IsThatNumber : List ℕ → ℕ → List ℕ → Type 0
 IsThatNumber text number behind = (n : ℕ) (rest : List ℕ) → n < 2 ^ 32 → EndsNumber rest → text ≡ decimal n ++ rest → (number ≡ n) × (behind ≡ rest)
 
@@ -27,7 +27,7 @@ target_only number text behind (T.One c) rest low spelled only fits ends e = let
 target_only number text behind T.All rest low spelled only fits ends e = absurd (no_letter number 97 behind (codes "ll" ++ rest) low (omega arith) (sym spelled ∙ e))
 target_only number text behind T.Any rest low spelled only fits ends e = absurd (no_letter number 97 behind (codes "ny" ++ rest) low (omega arith) (sym spelled ∙ e))
 
--- ---- what may stand behind
+-- ---- what may be after it
 
 first_is : (x y : ℕ) (xs ys : List ℕ) → x ∷ xs ≡ y ∷ ys → x ≡ y
 first_is x y xs ys e = cc
@@ -58,13 +58,13 @@ pub no_args : (text : List ℕ) (old cs : List Comp) (rest : List ℕ) → ((aft
 no_args text old [] rest none e = (args_nil old, e)
 no_args text old (c ∷ cs) rest none e = absurd (none _ (e ∙ args_assoc c cs rest))
 
--- no number stands behind the space
+-- no number is after the space
 pub no_number : (text after : List ℕ) (old cs : List Comp) (rest : List ℕ) → text ≡ 32 ∷ after → ((n : ℕ) (rest : List ℕ) → n < 2 ^ 32 → EndsNumber rest → after ≡ decimal n ++ rest → ⊥) → AreComps cs → EndsMove rest → text ≡ args_text cs ++ rest → (old ≡ old ++ cs) × (text ≡ rest)
 no_number text after old [] rest space none fits ends e = (args_nil old, e)
 no_number text after old (c ∷ cs) rest space none fits ends e =
     absurd (none c.0 (args_text cs ++ rest) fits.0 (ends_args cs rest ends) (behind_space after _ (sym space ∙ e ∙ args_assoc c cs rest)))
 
--- what is found behind an argument, with that argument
+-- what is found after an argument, with that argument
 pub args_spelled : (text after behind result : List ℕ) (number : ℕ) (old mid new : List Comp) → text ≡ 32 ∷ after → after ≡ decimal number ++ behind → number < 2 ^ 32 → mid ≡ old ++ record { 0 = number } ∷ []
     → (cs : List Comp) × (new ≡ mid ++ cs) × AreComps cs × (behind ≡ args_text cs ++ result) → (cs : List Comp) × (new ≡ old ++ cs) × AreComps cs × (text ≡ args_text cs ++ result)
 args_spelled text after behind result number old mid new space spelled low added found =
@@ -91,7 +91,7 @@ args_only text after behind result number old mid new space spelled low added on
 pub start_assoc : (c : Comp) (run : Run) (args : List Comp) (rest : List ℕ) → start_text c run args ++ rest ≡ decimal c.0 ++ (32 ∷ (decimal run.0 ++ (args_text args ++ rest)))
 start_assoc c run args rest = append_assoc (decimal c.0) (32 ∷ (decimal run.0 ++ args_text args)) rest ∙ ap (λ l. decimal c.0 ++ (32 ∷ l)) (append_assoc (decimal run.0) (args_text args) rest)
 
--- what stands behind the component, and behind the space after it
+-- what follows the component, and after the space after it
 pub behind_comp : (text behind after : List ℕ) (comp : ℕ) (c : Comp) (run : Run) (args : List Comp) (rest : List ℕ) → IsThatNumber text comp behind → behind ≡ 32 ∷ after → IsComp c → text ≡ start_text c run args ++ rest → (comp ≡ c.0) × (after ≡ decimal run.0 ++ (args_text args ++ rest))
 behind_comp text behind after comp c run args rest only space fits e =
     let two = only c.0 (32 ∷ (decimal run.0 ++ (args_text args ++ rest))) fits (ends_space (decimal run.0 ++ (args_text args ++ rest))) (e ∙ start_assoc c run args rest) in

@@ -20,15 +20,15 @@ pub record SoFar (text : List ℕ) (n : ℕ) (moves : List Move) (rest : List �
   pub lines : lines_of text ≡ list_lines n moves ++ lines_of rest
   pub only : (k : ℕ) (ms : List Move) → IsMoveList text k ms → (n ≡ k) × Remains moves rest ms
 
--- what reading a first line of a list tells
+-- what reading a first line of a list shows
 abbrev pub IsThatNumberOfBehaviours : List ℕ → ℕ → List ℕ → Type 0
 IsThatNumberOfBehaviours text number rest = (n : ℕ) (others : List (List ℕ)) → IsBehaviours n → lines_of text ≡ behaviours_line n ∷ others → (number ≡ n) × (lines_of rest ≡ others)
 
--- what reading a line as a move tells
+-- what reading a line as a move shows
 abbrev pub IsThatMove : List ℕ → Move → List ℕ → Type 0
 IsThatMove text one rest = (m : Move) (others : List (List ℕ)) → IsMove m → lines_of text ≡ move_line m ∷ others → (one ≡ m) × (lines_of rest ≡ others)
 
--- what it tells that there is no move
+-- what it shows that there is no move
 abbrev pub IsNoMove : List ℕ → Type 0
 IsNoMove text = (m : Move) (others : List (List ℕ)) → IsMove m → lines_of text ≡ move_line m ∷ others → ⊥
 

@@ -6,7 +6,7 @@ use Rattle.tc_text.specs.declared.verb.Status.TheVariants as S
 use Rattle.tc_text.specs.Spelling.{op_text, status_text, verb_text, verb_of, operand_text}
 use Rattle.tc_text.specs.Inside.{IsWait}
 
--- an operation is its first words and what stands behind them
+-- an operation is its first words and what follows them
 pub op_parts : (op : Op) (rest : List ℕ) → op_text op ++ rest ≡ verb_text (verb_of op) ++ (operand_text op ++ rest)
 op_parts op rest = append_assoc (verb_text (verb_of op)) (operand_text op) rest
 

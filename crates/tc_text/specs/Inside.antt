@@ -6,7 +6,7 @@ use Rattle.tc_text.specs.Lines.{lines_of}
 use Rattle.tc_text.specs.declared.verb.Status.{Status}
 use Rattle.tc_text.specs.declared.verb.Status.TheVariants as S
 
--- this value was read of a line, and these lines stand behind it
+-- this value was read of a line, and these lines are after it
 abbrev pub TakesLine : {A : Type 0} → Option (A × Bor (List ℕ)) → A → List (List ℕ) → Type 0
 TakesLine found value others = MatchOption found ⊥ (λ r. (r.0 ≡ value) × (lines_of r.1.now ≡ others))
 
@@ -31,6 +31,6 @@ abbrev pub NoLow : List ℕ → Type 0
 NoLow [] = Unit {0}
 NoLow (b ∷ bs) = (48 ≤ b) × NoLow bs
 
--- what may stand behind the kind of a component: it does not begin with the word of a kind
+-- what may be after the kind of a component: it does not begin with the word of a kind
 abbrev pub EndsKind : List ℕ → Type 0
 EndsKind text = (rest : List ℕ) → text ≢ codes " alive" ++ rest

@@ -75,7 +75,7 @@ IsListFaultAt text line K.FirstLine = IsBadFirstLine text × (line ≡ 1)
 IsListFaultAt text line K.Move = IsBadMove text line
 IsListFaultAt text line K.Entry = ⊥
 
--- what a fault says of the text; want of memory says nothing
+-- what a fault says of the text; if memory runs out, nothing is said
 abbrev pub IsListFault : List ℕ → TextFault → Type 0
 IsListFault text (F.At line kind) = IsListFaultAt text line kind
 IsListFault text F.NoMemory = Unit {0}

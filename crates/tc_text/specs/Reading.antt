@@ -9,20 +9,20 @@ use Rattle.tc_text.specs.declared.verb.Status.TheVariants as S
 use Rattle.tc_text.specs.declared.short.ShortOp.{ShortOp}
 use Rattle.tc_text.specs.declared.short.ShortOp.TheVariants as H
 
--- this value was read, and this stands behind it
+-- this value was read, and this is after it
 abbrev pub Takes : {A : Type 0} → Option (A × Bor (List ℕ)) → A → List ℕ → Type 0
 Takes found value behind = MatchOption found ⊥ (λ r. (r.0 ≡ value) × (r.1.now ≡ behind))
 
--- what may stand behind a number or a name: neither a digit nor a letter comes first
+-- what may be after a number or a name: neither a digit nor a letter comes first
 abbrev pub EndsNumber : List ℕ → Type 0
 EndsNumber text = (b : ℕ) (rest : List ℕ) → text ≡ b ∷ rest → b < 48
 
--- what may stand behind a move: neither a digit nor a letter comes first, nor behind a space
+-- what may be after a move: neither a digit nor a letter comes first, nor after a space
 pub record EndsMove (text : List ℕ) : Type 0 where
   pub number : EndsNumber text
   pub word : (b : ℕ) (rest : List ℕ) → text ≡ 32 ∷ b ∷ rest → b < 48
 
--- what may stand behind a reply: neither a digit nor a letter comes first, nor a space
+-- what may be after a reply: neither a digit nor a letter comes first, nor a space
 pub record EndsReply (text : List ℕ) : Type 0 where
   pub number : EndsNumber text
   pub no_space : (rest : List ℕ) → text ≢ 32 ∷ rest
@@ -49,6 +49,6 @@ op_of (H.SetVerdict v) = O.SetVerdict v
 op_of H.GetVerdict = O.GetVerdict
 op_of H.Finish = O.Finish
 
--- the text begins with the end of a line, LF or the end of the text, and this stands behind it
+-- the text begins with the end of a line, LF or the end of the text, and this is after it
 abbrev pub EndsLine : List ℕ → List ℕ → Type 0
 EndsLine text behind = ((text ≡ []) × (behind ≡ [])) ⊎ (text ≡ 10 ∷ behind)

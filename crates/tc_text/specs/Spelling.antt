@@ -85,7 +85,7 @@ IsLong (O.Start c run args) = Unit {0}
 IsLong (O.Create alive (Some name)) = Unit {0}
 IsLong _ = ⊥
 
--- what stands behind `create` of the component's kind
+-- what follows `create` of the component's kind
 abbrev pub kind_text : Bool → List ℕ
 kind_text false = []
 kind_text true = codes " alive"
@@ -94,11 +94,11 @@ kind_text true = codes " alive"
 abbrev pub named_text : Bool → List ℕ → List ℕ
 named_text alive name = kind_text alive ++ (codes " named " ++ name)
 
--- what stands behind `start `
+-- what follows `start `
 abbrev pub start_text : Comp → Run → List Comp → List ℕ
 start_text c run args = decimal c.0 ++ (codes " " ++ (decimal run.0 ++ args_text args))
 
--- what stands behind the first words
+-- what follows the first words
 abbrev pub operand_text : Op → List ℕ
 operand_text (O.Create alive None) = kind_text alive
 operand_text (O.Create alive (Some name)) = named_text alive name

@@ -4,7 +4,7 @@ ghost use Rattle.std.specs.Fmt.{decimal};
 
 use tc_entry::NoMemory;
 
-/// Appends the text. Where memory is refused, nothing is appended.
+/// Appends the text. If memory runs out, nothing is appended.
 pub fn append_text(out: &mut Vec<u8>, text: &str) -> Result<(), NoMemory>
     ensures ok { OnOk result (out.new.items ≡ out.old.items ++ text.now) }
     ensures err { OnErr result (out.new.items ≡ out.old.items) }
@@ -13,7 +13,7 @@ pub fn append_text(out: &mut Vec<u8>, text: &str) -> Result<(), NoMemory>
     Ok(())
 }
 
-/// Appends the decimal digits of the number. Where memory is refused, nothing is appended.
+/// Appends the decimal digits of the number. If memory runs out, nothing is appended.
 pub fn append_number(out: &mut Vec<u8>, number: u64) -> Result<(), NoMemory>
     ensures ok { OnOk result (out.new.items ≡ out.old.items ++ decimal number) }
     ensures err { OnErr result (out.new.items ≡ out.old.items) }

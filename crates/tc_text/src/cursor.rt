@@ -2,7 +2,7 @@
 ghost use Rattle.std.specs.Prelude.{◌≡◌, ◌≢◌, ◌++◌, ℕ, List, MatchOption};
 ghost use Rattle.tc_text.specs.Reading.{EndsLine};
 
-/// What stands behind the word, where the text begins with it.
+/// What follows the word, if the text begins with it.
 #[inline(always)]
 pub fn after<'a>(text: &'a [u8], word: &[u8]) -> Option<&'a [u8]>
     ensures { MatchOption result ((rest : List ℕ) → text.now ≢ word.now ++ rest) (λ rest. text.now ≡ word.now ++ rest.now) }
@@ -18,7 +18,7 @@ pub fn after<'a>(text: &'a [u8], word: &[u8]) -> Option<&'a [u8]>
     Some(rest)
 }
 
-/// What stands behind the end of a line, where the text begins with that end: an LF, or nothing.
+/// What follows the end of a line, if the text begins with that end: an LF, or nothing.
 #[inline(always)]
 pub fn take_line_end(text: &[u8]) -> Option<&[u8]>
     ensures { MatchOption result ((behind : List ℕ) → EndsLine text.now behind → ⊥) (λ behind. EndsLine text.now behind.now) }

@@ -47,7 +47,7 @@ impl fmt::Display for TextKind {
 pub enum TextFault {
     /// The first fault: the number of its line, counted from 1, and its kind.
     At { line: usize, kind: TextKind },
-    /// Memory was refused.
+    /// Memory ran out.
     NoMemory,
 }
 

@@ -22,7 +22,7 @@ pub struct MoveList {
     pub moves: Sequence<(Run, Op)>,
 }
 
-/// The number, where a case may have so many behaviours.
+/// The number, if a case may have that many behaviours.
 pub fn as_behaviours(number: u32) -> Option<u16>
     ensures some { IfSome result (λ n. (n ≡ number) × IsBehaviours n) }
     ensures none { IfNone result (IsBehaviours number → ⊥) }
@@ -34,7 +34,7 @@ pub fn as_behaviours(number: u32) -> Option<u16>
     }
 }
 
-// The number of behaviours that the first line gives, and what stands behind that line.
+// The number of behaviours that the first line gives, and what follows that line.
 fn take_first_line(text: &[u8]) -> Option<(u16, &[u8])>
     ensures spelled { IfSome result (λ r. lines_of text.now ≡ behaviours_line r.0 ∷ lines_of r.1.now) }
     ensures few { IfSome result (λ r. IsBehaviours r.0) }
@@ -46,7 +46,7 @@ fn take_first_line(text: &[u8]) -> Option<(u16, &[u8])>
     Some((as_behaviours(number)?, rest))
 }
 
-// The move that the first line spells, and what stands behind that line.
+// The move that the first line spells, and what follows that line.
 #[inline(never)]
 fn take_move_line(text: &[u8]) -> Option<((Run, Op), &[u8])>
     ensures spelled { IfSome result (λ r. lines_of text.now ≡ move_line r.0 ∷ lines_of r.1.now) }
@@ -61,7 +61,7 @@ fn take_move_line(text: &[u8]) -> Option<((Run, Op), &[u8])>
 
 /// What is made of a list of moves, one move after the other.
 pub trait TakesMoves: Sized {
-    /// The value is what these moves of a case of so many behaviours make.
+    /// The value is what these moves of a case of that many behaviours make.
     ghost stands: { ℕ → List AnyMove → Self → Type 0 };
 
     /// What no move makes.
@@ -89,7 +89,7 @@ impl TakesMoves for MoveList {
     }
 }
 
-/// What the moves that the text spells make, else the text's first fault; NoMemory may stand in place of either.
+/// What the moves that the text spells make, otherwise the text's first fault; NoMemory may come instead.
 pub fn read_moves_into<T: TakesMoves + Drop>(alloc: Global, text: &[u8]) -> Result<T, TextFault>
     ensures ok { IfOk result (IsMadeOf T.stands text.now) }
     ensures fault { IfErr result (λ e. IsListFault text.now e) }
@@ -115,7 +115,7 @@ pub fn read_moves_into<T: TakesMoves + Drop>(alloc: Global, text: &[u8]) -> Resu
     Ok(made)
 }
 
-/// The list of moves that the text spells, else its first fault; NoMemory may stand in place of either.
+/// The list of moves that the text spells, otherwise its first fault; NoMemory may come instead.
 pub fn read_moves(alloc: Global, text: &[u8]) -> Result<MoveList, TextFault>
     ensures ok { IfOk result (λ l. IsMoveList text.now l.behaviours l.moves) }
     ensures fault { IfErr result (λ e. IsListFault text.now e) }

@@ -9,7 +9,7 @@ use crate::short::take_short_move;
 use crate::verb::{Verb, behind};
 use tc_entry::{Op, Run};
 
-// The long operation that the text begins with, and what stands behind it.
+// The long operation that the text begins with, and what follows it.
 fn take_long_op(text: &[u8]) -> Option<(Op, &[u8])>
     ensures spelled { IfSome result (λ r. text.now ≡ op_text r.0 ++ r.1.now) }
     ensures fits { IfSome result (λ r. IsOp r.0) }
@@ -21,7 +21,7 @@ fn take_long_op(text: &[u8]) -> Option<(Op, &[u8])>
     }
 }
 
-/// The move of a Start, or of a Create with a name, that the text begins with, and what stands behind it.
+/// The move of a Start, or of a Create with a name, that the text begins with, and what follows it.
 #[inline(never)]
 pub fn take_long_move(text: &[u8]) -> Option<((Run, Op), &[u8])>
     ensures spelled { IfSome result (λ r. text.now ≡ move_text r.0.0.0 r.0.1 ++ r.1.now) }
@@ -34,7 +34,7 @@ pub fn take_long_move(text: &[u8]) -> Option<((Run, Op), &[u8])>
     Some(((caller, op), rest))
 }
 
-/// The move that the text begins with, and what stands behind it.
+/// The move that the text begins with, and what follows it.
 #[inline(always)]
 pub fn take_move(text: &[u8]) -> Option<((Run, Op), &[u8])>
     ensures spelled { IfSome result (λ r. text.now ≡ move_text r.0.0.0 r.0.1 ++ r.1.now) }

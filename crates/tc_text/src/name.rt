@@ -20,7 +20,7 @@ fn cut_low(text: &[u8]) -> (&[u8], &[u8])
     text.split_at(text.len())
 }
 
-/// The name that the text begins with, and what stands behind it. No digit or letter may stand there.
+/// The name that the text begins with, and what follows it. No digit or letter may be there.
 #[inline(never)]
 pub fn take_name(text: &[u8]) -> Option<(Name, &[u8])>
     ensures spelled { IfSome result (λ r. text.now ≡ r.0 ++ r.1.now) }

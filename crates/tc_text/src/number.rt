@@ -4,7 +4,7 @@ ghost use Rattle.std.specs.Fmt.{decimal};
 ghost use Rattle.tc_text.specs.Reading.{EndsNumber, Takes};
 ghost use Rattle.tc_text.specs.Inside.{NoDigitFirst};
 
-// The value of the digit at a place of the text, where there is one.
+// The value of the digit at a place of the text, if there is one.
 #[inline(always)]
 fn digit_at(text: &[u8], place: usize) -> Option<u8>
     ensures some { IfSome result (λ d. (place < length text.now) × (slice_index text.now place ≡ 48 + d) × (d ≤ 9)) }
@@ -16,7 +16,7 @@ fn digit_at(text: &[u8], place: usize) -> Option<u8>
     }
 }
 
-// Whether the digits are the spelling of a number: there are some, and nothing stands behind a leading zero.
+// Whether the digits are the spelling of a number: there are some, and nothing is after a leading zero.
 #[inline(always)]
 fn is_spelling(digits: &[u8]) -> bool
     ensures some { result ≡ true → 0 < length digits.now }
@@ -30,7 +30,7 @@ fn is_spelling(digits: &[u8]) -> bool
     }
 }
 
-/// The number that the text begins with, and what stands behind it.
+/// The number that the text begins with, and what follows it.
 #[inline(always)]
 pub fn take_number(text: &[u8]) -> Option<(u32, &[u8])>
     ensures spelled { IfSome result (λ r. text.now ≡ decimal r.0 ++ r.1.now) }

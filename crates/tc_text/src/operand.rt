@@ -68,7 +68,7 @@ pub(crate) fn take_setting(text: &[u8]) -> Option<(UserVerdict, &[u8])>
     }
 }
 
-/// The number of a run that the text begins with, and what stands behind it.
+/// The number of a run that the text begins with, and what follows it.
 #[inline(always)]
 pub(crate) fn take_run(text: &[u8]) -> Option<(Run, &[u8])>
     ensures spelled { IfSome result (λ r. text.now ≡ decimal r.0.0 ++ r.1.now) }
@@ -83,7 +83,7 @@ pub(crate) fn take_run(text: &[u8]) -> Option<(Run, &[u8])>
     }
 }
 
-/// The number of a run, and a space, that the text begins with, and what stands behind them.
+/// The number of a run, and a space, that the text begins with, and what follows them.
 #[inline(always)]
 pub(crate) fn take_caller(text: &[u8]) -> Option<(Run, &[u8])>
     ensures spelled { IfSome result (λ r. text.now ≡ decimal r.0.0 ++ (codes " " ++ r.1.now)) }
@@ -107,10 +107,10 @@ pub(crate) fn take_kind(text: &[u8]) -> (bool, &[u8])
     }
 }
 
-/// What stands in front of a component's name.
+/// What is in front of a component's name.
 pub(crate) const NAMED: &[u8] = b" named ";
 
-/// The Create with a name that goes on as the text begins behind its first word, and what stands behind it.
+/// The Create with a name that continues as the text begins after its first word, and what follows it.
 pub(crate) fn take_named(text: &[u8]) -> Option<(Op, &[u8])>
     ensures spelled { IfSome result (λ r. (verb_of r.0 ≡ words.Create) × (text.now ≡ operand_text r.0 ++ r.1.now)) }
     ensures fits { IfSome result (λ r. IsOp r.0) }
@@ -127,7 +127,7 @@ pub(crate) fn take_named(text: &[u8]) -> Option<(Op, &[u8])>
 }
 
 // Appends the components that the text begins with, each with a space in front, as far as there is room; gives what
-// stands behind them.
+// follows them.
 fn take_args<'a>(args: &mut Args, text: &'a [u8]) -> &'a [u8]
     ensures spelled { (cs : List AnyComp) × (args.new ≡ args.old ++ cs) × AreComps cs × (text.now ≡ args_text cs ++ result.now) }
     ensures few { length args.old ≤ ARGUMENTS → length args.new ≤ ARGUMENTS }
@@ -146,7 +146,7 @@ fn take_args<'a>(args: &mut Args, text: &'a [u8]) -> &'a [u8]
     take_args(args, rest)
 }
 
-/// The Start that goes on as the text begins behind its first word, and what stands behind it.
+/// The Start that continues as the text begins after its first word, and what follows it.
 pub(crate) fn take_start(text: &[u8]) -> Option<(Op, &[u8])>
     ensures spelled { IfSome result (λ r. (verb_of r.0 ≡ words.Start) × (text.now ≡ operand_text r.0 ++ r.1.now)) }
     ensures fits { IfSome result (λ r. IsOp r.0) }

@@ -16,7 +16,7 @@ use crate::number::take_number;
 use tc_entry::{Comp, Fault, NoMemory, Reply, Verdict, name_of_fault};
 use tc_verdict::name;
 
-// The name of a dynamic error that the text begins with, and what stands behind it.
+// The name of a dynamic error that the text begins with, and what follows it.
 fn take_fault(text: &[u8]) -> Option<(Fault, &[u8])>
     ensures spelled { IfSome result (λ r. text.now ≡ fault_name r.0 ++ r.1.now) }
     ensures only { (f : AnyFault) (rest : List ℕ) → text.now ≡ fault_name f ++ rest → Takes result f rest }
@@ -42,7 +42,7 @@ fn take_fault(text: &[u8]) -> Option<(Fault, &[u8])>
     }
 }
 
-// The reply that the text begins with, where its first letter is an e.
+// The reply that the text begins with, if its first letter is an e.
 #[inline(always)]
 fn take_end_or_error(text: &[u8]) -> Option<(Reply, &[u8])>
     ensures spelled { IfSome result (λ r. text.now ≡ reply_text r.0 ++ r.1.now) }
@@ -59,7 +59,7 @@ fn take_end_or_error(text: &[u8]) -> Option<(Reply, &[u8])>
     Some((Reply::Local(Verdict::Error), after(text, b"error")?))
 }
 
-// The reply, and what stands behind the word, where the text begins with it.
+// The reply, and what follows the word, if the text begins with it.
 #[inline(always)]
 fn reply_after<'a>(text: &'a [u8], word: &[u8], reply: Reply) -> Option<(Reply, &'a [u8])>
     ensures { MatchOption result ((rest : List ℕ) → text.now ≢ word.now ++ rest) (λ r. (r.0 ≡ reply) × (text.now ≡ word.now ++ r.1.now)) }
@@ -81,7 +81,7 @@ fn take_made(text: &[u8]) -> Option<(Reply, &[u8])>
     Some((Reply::Made(Comp(number)), rest))
 }
 
-/// The reply that the text begins with, and what stands behind it.
+/// The reply that the text begins with, and what follows it.
 #[inline(always)]
 pub fn take_reply(text: &[u8]) -> Option<(Reply, &[u8])>
     ensures spelled { IfSome result (λ r. text.now ≡ reply_text r.0 ++ r.1.now) }
@@ -122,7 +122,7 @@ pub fn read_reply(text: &[u8]) -> Option<Reply>
     }
 }
 
-// Appends the spelling of the reply; where memory is refused, a part of it.
+// Appends the spelling of the reply; if memory runs out, a part of it.
 fn append_reply(out: &mut Vec<u8>, reply: &Reply) -> Result<(), NoMemory>
     ensures ok { OnOk result (out.new.items ≡ out.old.items ++ reply_text reply.now) }
     ensures err { OnErr result (StartsWith out.new.items out.old.items) }
@@ -150,7 +150,7 @@ fn append_reply(out: &mut Vec<u8>, reply: &Reply) -> Result<(), NoMemory>
     }
 }
 
-/// Appends the spelling of the reply. Where memory is refused, nothing is appended.
+/// Appends the spelling of the reply. If memory runs out, nothing is appended.
 pub fn write_reply(out: &mut Vec<u8>, reply: &Reply) -> Result<(), NoMemory>
     ensures ok { OnOk result (out.new.items ≡ out.old.items ++ reply_text reply.now) }
     ensures err { OnErr result (out.new.items ≡ out.old.items) }

@@ -9,7 +9,8 @@ use crate::operand::{NAMED, take_caller, take_group, take_kind, take_setting, ta
 use crate::verb::{Status, Verb, about, take_verb};
 use tc_entry::{Group, Op, Run, Target, UserVerdict};
 
-/// An operation but a Start and a Create with a name: what has neither arguments nor a name is small, and quickly handed on.
+/// An operation but a Start and a Create with a name: what has neither arguments nor a name is small, and quickly
+/// passed on.
 #[derive(Clone, Copy, PartialEq, Eq, Debug)]
 pub enum ShortOp {
     Create(bool),
@@ -41,7 +42,8 @@ impl ShortOp {
     }
 }
 
-// The operation that begins with these words and goes on as the text begins, and what stands behind it; None for a long one.
+// The operation that begins with these words and continues as the text begins, and what follows it; None for a long
+// one.
 #[inline(always)]
 fn take_short_operand(verb: Verb, text: &[u8]) -> Option<(ShortOp, &[u8])>
     ensures spelled { IfSome result (λ r. (verb_of (op_of r.0) ≡ verb) × (text.now ≡ operand_text (op_of r.0) ++ r.1.now)) }
@@ -80,7 +82,7 @@ fn take_short_operand(verb: Verb, text: &[u8]) -> Option<(ShortOp, &[u8])>
     }
 }
 
-// The operation that the text begins with, and what stands behind it; None also where it is a long one.
+// The operation that the text begins with, and what follows it; None also if it is a long one.
 #[inline(always)]
 fn take_short_op(text: &[u8]) -> Option<(ShortOp, &[u8])>
     ensures spelled { IfSome result (λ r. text.now ≡ op_text (op_of r.0) ++ r.1.now) }
@@ -94,7 +96,7 @@ fn take_short_op(text: &[u8]) -> Option<(ShortOp, &[u8])>
     }
 }
 
-/// The move that the text begins with, and what stands behind it; None also where its operation is a Start, or a Create with
+/// The move that the text begins with, and what follows it; None also where its operation is a Start, or a Create with
 /// a name.
 #[inline(always)]
 pub fn take_short_move(text: &[u8]) -> Option<((Run, ShortOp), &[u8])>

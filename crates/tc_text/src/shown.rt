@@ -18,8 +18,8 @@ fn printable(byte: u8) -> u8
     if is_plain(byte) { byte } else { b'?' }
 }
 
-/// Appends a line with these words behind two spaces, a question mark for each byte that is not from 32 to 126. Where
-/// memory is refused, a part of it.
+/// Appends a line with these words after two spaces, a question mark for each byte that is not from 32 to 126. If
+/// memory runs out, a part of it.
 #[tactic(auto, using(crate::proofs::Lemmas::Showing::line_rules))]
 pub fn append_line(out: &mut Vec<u8>, words: &[u8]) -> Result<(), NoMemory>
     ensures { OnOk result (AddsLine out.old.items out.new.items) }

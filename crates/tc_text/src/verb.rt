@@ -128,7 +128,7 @@ pub(crate) fn about(status: Status, target: Target) -> Op
     }
 }
 
-/// What stands behind the words, where the text begins with them.
+/// What follows the words, if the text begins with them.
 #[inline(always)]
 pub(crate) fn behind(text: &[u8], verb: Verb) -> Option<&[u8]>
     ensures { MatchOption result ((rest : List ℕ) → text.now ≢ verb_text verb ++ rest) (λ rest. text.now ≡ verb_text verb ++ rest.now) }
@@ -136,7 +136,7 @@ pub(crate) fn behind(text: &[u8], verb: Verb) -> Option<&[u8]>
     after(text, verb.text().as_bytes())
 }
 
-// The words, where the text begins with them, and what stands behind them.
+// The words, if the text begins with them, and what follows them.
 #[inline(always)]
 fn take_words(text: &[u8], verb: Verb) -> Option<(Verb, &[u8])>
     ensures { MatchOption result ((rest : List ℕ) → text.now ≢ verb_text verb ++ rest) (λ r. (r.0 ≡ verb) × (text.now ≡ verb_text verb ++ r.1.now)) }
@@ -144,7 +144,7 @@ fn take_words(text: &[u8], verb: Verb) -> Option<(Verb, &[u8])>
     Some((verb, behind(text, verb)?))
 }
 
-// The first words of the wait or the wake that the text begins with, and what stands behind them.
+// The first words of the wait or the wake that the text begins with, and what follows them.
 #[inline(always)]
 fn take_wait(text: &[u8]) -> Option<(Verb, &[u8])>
     ensures spelled { IfSome result (λ r. text.now ≡ verb_text r.0 ++ r.1.now) }
@@ -164,7 +164,7 @@ fn take_wait(text: &[u8]) -> Option<(Verb, &[u8])>
     }
 }
 
-/// The first words of the operation that the text begins with, and what stands behind them.
+/// The first words of the operation that the text begins with, and what follows them.
 #[inline(always)]
 pub(crate) fn take_verb(text: &[u8]) -> Option<(Verb, &[u8])>
     ensures spelled { IfSome result (λ r. text.now ≡ verb_text r.0 ++ r.1.now) }

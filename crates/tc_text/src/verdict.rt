@@ -7,7 +7,7 @@ ghost use Rattle.tc_text.specs.Reading.{Takes};
 use crate::cursor::after;
 use tc_entry::Verdict;
 
-// The verdict, and what stands behind the word, where the text begins with it.
+// The verdict, and what follows the word, if the text begins with it.
 #[inline(always)]
 fn verdict_after<'a>(text: &'a [u8], word: &[u8], verdict: Verdict) -> Option<(Verdict, &'a [u8])>
     ensures { MatchOption result ((rest : List ℕ) → text.now ≢ word.now ++ rest) (λ r. (r.0 ≡ verdict) × (text.now ≡ word.now ++ r.1.now)) }
@@ -18,7 +18,7 @@ fn verdict_after<'a>(text: &'a [u8], word: &[u8], verdict: Verdict) -> Option<(V
     }
 }
 
-/// The verdict whose name the text begins with, and what stands behind it.
+/// The verdict whose name the text begins with, and what follows it.
 #[inline(always)]
 pub fn take_verdict(text: &[u8]) -> Option<(Verdict, &[u8])>
     ensures spelled { IfSome result (λ r. text.now ≡ name_of r.0 ++ r.1.now) }

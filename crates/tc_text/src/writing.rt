@@ -42,7 +42,7 @@ fn append_args(out: &mut Vec<u8>, args: &[Comp]) -> Result<(), NoMemory>
     append_args(out, rest)
 }
 
-// Appends what stands behind `create`; where memory is refused, a part of it.
+// Appends what follows `create`; if memory runs out, a part of it.
 fn append_created(out: &mut Vec<u8>, alive: bool, name: &Option<Name>) -> Result<(), NoMemory>
     ensures ok { OnOk result (out.new.items ≡ out.old.items ++ operand_text (ops.Create alive name.now)) }
     ensures err { OnErr result (StartsWith out.new.items out.old.items) }
@@ -57,7 +57,7 @@ fn append_created(out: &mut Vec<u8>, alive: bool, name: &Option<Name>) -> Result
     Ok(())
 }
 
-// Appends what stands behind the first words of the operation; where memory is refused, a part of it.
+// Appends what follows the first words of the operation; if memory runs out, a part of it.
 fn append_operand(out: &mut Vec<u8>, op: &Op) -> Result<(), NoMemory>
     ensures ok { OnOk result (out.new.items ≡ out.old.items ++ operand_text op.now) }
     ensures err { OnErr result (StartsWith out.new.items out.old.items) }
@@ -80,7 +80,7 @@ fn append_operand(out: &mut Vec<u8>, op: &Op) -> Result<(), NoMemory>
     }
 }
 
-// Appends the spelling of the operation; where memory is refused, a part of it.
+// Appends the spelling of the operation; if memory runs out, a part of it.
 fn append_op(out: &mut Vec<u8>, op: &Op) -> Result<(), NoMemory>
     ensures ok { OnOk result (out.new.items ≡ out.old.items ++ op_text op.now) }
     ensures err { OnErr result (StartsWith out.new.items out.old.items) }
@@ -89,7 +89,7 @@ fn append_op(out: &mut Vec<u8>, op: &Op) -> Result<(), NoMemory>
     append_operand(out, op)
 }
 
-// Appends the spelling of the move; where memory is refused, a part of it.
+// Appends the spelling of the move; if memory runs out, a part of it.
 fn append_move(out: &mut Vec<u8>, caller: Run, op: &Op) -> Result<(), NoMemory>
     ensures ok { OnOk result (out.new.items ≡ out.old.items ++ move_text caller.0 op.now) }
     ensures err { OnErr result (StartsWith out.new.items out.old.items) }
@@ -99,8 +99,8 @@ fn append_move(out: &mut Vec<u8>, caller: Run, op: &Op) -> Result<(), NoMemory>
     append_op(out, op)
 }
 
-/// Appends the spelling of the operation, which is that of a move without its caller. Where memory is refused, nothing
-/// is appended.
+/// Appends the spelling of the operation, which is that of a move without its caller. If memory runs out, nothing is
+/// appended.
 pub fn write_op(out: &mut Vec<u8>, op: &Op) -> Result<(), NoMemory>
     ensures ok { OnOk result (out.new.items ≡ out.old.items ++ op_text op.now) }
     ensures err { OnErr result (out.new.items ≡ out.old.items) }
@@ -115,7 +115,7 @@ pub fn write_op(out: &mut Vec<u8>, op: &Op) -> Result<(), NoMemory>
     }
 }
 
-/// Appends the spelling of the move. Where memory is refused, nothing is appended.
+/// Appends the spelling of the move. If memory runs out, nothing is appended.
 pub fn write_move(out: &mut Vec<u8>, caller: Run, op: &Op) -> Result<(), NoMemory>
     ensures ok { OnOk result (out.new.items ≡ out.old.items ++ move_text caller.0 op.now) }
     ensures err { OnErr result (out.new.items ≡ out.old.items) }

@@ -15,7 +15,7 @@ level_of V.Error = 4
 abbrev pub worse : Verdict → Verdict → Verdict
 worse a b = if nat_lt (level_of a) (level_of b) then b else a
 
--- the worst of a list, none where it is empty
+-- the worst of a list, none if it is empty
 abbrev pub worst : List Verdict → Verdict
 worst [] = V.None
 worst (v ∷ vs) = worse (worst vs) v

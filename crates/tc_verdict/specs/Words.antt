@@ -1,7 +1,7 @@
 -- Words that more than one crate says.
 use Rattle.std.specs.Prelude.{ℕ, List, codes}
 
--- memory was refused
+-- memory ran out
 abbrev pub memory_text : List ℕ
 memory_text = codes "no memory"
 

@@ -6,7 +6,7 @@ use std::alloc::{AllocError, AllocFailed};
 use std::fmt;
 use thiserror::Error;
 
-/// Memory was refused.
+/// Memory ran out.
 #[derive(Clone, Copy, PartialEq, Eq, Debug, Error)]
 pub struct NoMemory;
 

@@ -26,7 +26,7 @@ pub fn from_user(v: UserVerdict) -> Verdict
     }
 }
 
-/// The setting that is this verdict: none for error alone.
+/// The setting that is this verdict: none only for error.
 pub fn to_user(v: Verdict) -> Option<UserVerdict>
     ensures same { IfSome result (λ u. given u ≡ v) }
     ensures only { (u : Setting) → given u ≡ v → result ≡ Some u }

@@ -42,7 +42,7 @@ pub fn overwrite(old: Verdict, new: UserVerdict) -> Verdict
     worse_of(old, from_user(new))
 }
 
-/// The worst of these verdicts: none where the list is empty.
+/// The worst of these verdicts: none if the list is empty.
 pub fn worst(all: &[Verdict]) -> Verdict
     ensures is { result ≡ order.worst all.now }
     ensures greatest { All (λ v. order.level_of v ≤ order.level_of result) all.now }

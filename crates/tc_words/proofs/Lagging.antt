@@ -32,7 +32,7 @@ first_or : (o : Option Comp) → first_some o None ≡ o
 first_or (Some c) = refl
 first_or None = refl
 
--- a run that the entry does not start goes on after it only where it went on before it
+-- a run that the entry does not start continues after it only if it continued before it
 active_before : (n : ℕ) (past : List Entry) (e : Entry) (b : ℕ) → IsLegal n (e ∷ past) → starts_on e b ≡ None → is_active (e ∷ past) b ≡ true → is_active past b ≡ true
 active_before n past e b legal none h = by_comp (comp_of past b) refl
   where
@@ -150,7 +150,7 @@ if_none false = refl
 abbrev pub entry : Run → Op → Reply → Entry
 entry caller op reply = record { caller = caller; op = op; reply = reply }
 
--- after any entry, where the word of a run that it starts is begun
+-- after any entry, if the word of a run that it starts is begun
 pub after_entry : (n : ℕ) (past : List Entry) (words : List Record) (caller : Run) (op : Op) (reply : Reply) →
     IsLegal n (entry caller op reply ∷ past) → AreTold n past words →
     ArePartlyTold n (entry caller op reply ∷ past) (with_start op reply (carried_to words past op) words) 0

@@ -24,7 +24,7 @@ use Rattle.tc_words.specs.Inside.{is_open, ArePartlyTold, CanBegin, with_start}
 use Rattle.tc_words.proofs.Settling.{all_told, at_other, stay_closed}
 use Rattle.tc_words.proofs.Lagging.{after_entry, can_begin, entry, same_test, start}
 
--- an open word is of a run that was started and is going on
+-- an open word is of a run that was started and is active
 open_means : (o : Option Comp) (active : Bool) (u v : UserVerdict) (r : Record) → r ≡ record_for o active u v → is_open r ≡ true → (c : Comp) × (o ≡ Some c) × (active ≡ true)
 open_means None active u v r is h = let e : false ≡ true = sym (ap is_open is) ∙ h in absurd cc
 open_means (Some c) true u v r is h = (c, refl, refl)
@@ -35,7 +35,7 @@ both true false p q = refl
 both false h p q = absurd cc
 both true true p q = absurd cc
 
--- a run with an open word goes on after an entry that halts nothing
+-- a run with an open word continues after an entry that halts nothing
 goes_on : (n : ℕ) (past : List Entry) (e : Entry) (words : List Record) (b : ℕ) → IsLegal n (e ∷ past) → AreTold n past words → may_halt e.op e.reply ≡ false → b < n →
     is_open (record_at words b) ≡ true → is_active (e ∷ past) b ≡ true
 goes_on n past e words b legal told quiet less h =
@@ -51,7 +51,7 @@ starts_going n past caller comp run args legal =
     let free : comp_of past run.0 ≡ None = (starts_fresh n past e comp.0 run legal.0 begins).1.free in
     started_by_entry n past e run.0 legal free ∙ rw (same_test run.0) refl
 
--- each open word is of a run that goes on after the entry
+-- each open word is of a run that continues after the entry
 open_go_on : (n : ℕ) (past : List Entry) (words : List Record) (caller : Run) (op : Op) (reply : Reply) (u : UserVerdict) →
     IsLegal n (entry caller op reply ∷ past) → AreTold n past words → may_halt op reply ≡ false → (b : ℕ) → b < n →
     is_open (record_at (with_start op reply u words) b) ≡ true → is_active (entry caller op reply ∷ past) b ≡ true

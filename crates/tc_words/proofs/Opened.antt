@@ -38,7 +38,7 @@ pub carried_at : (words : List Record) (b : ℕ) → b < length words → is_ope
 unfolding open_at
 carried_at words b within h = ap carried_in (open_at words b within h).1
 
--- the words of a new board are told by the opening
+-- the words of a new board follow from the opening
 record_from : (k n b : ℕ) → b < n → record_at (first_records k n) b ≡ first_record (k + b)
 record_from k zero b less = absurd (omega arith)
 record_from k (suc n) zero less = ap first_record (let e : k ≡ k + 0 = omega arith in e)

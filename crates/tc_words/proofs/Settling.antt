@@ -12,7 +12,7 @@ use Rattle.tc_board.specs.declared.record.Record.TheVariants.{Unbegun, Open, Clo
 use Rattle.tc_words.specs.Words.{record_at, record_for, left_by, closing, is_closed, run_before, carried, AreTold, StayClosed}
 use Rattle.tc_words.specs.Inside.{is_open, opening, Lags, ArePartlyTold}
 
--- an open word is of a run that was started and that went on
+-- an open word is of a run that was started and that continued
 open_by : (c : Option Comp) (was : Bool) (u v : UserVerdict) (r : Record) → r ≡ record_for c was u v → is_open r ≡ true →
     (was ≡ true) × ((w : UserVerdict) → Closed (opening r) w ≡ record_for c false u w)
 open_by None was u v r is begun = let e = sym (ap is_open is) ∙ begun in cc

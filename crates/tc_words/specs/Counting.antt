@@ -11,7 +11,7 @@ use Rattle.tc_entry.specs.declared.reply.Reply.TheVariants as R
 use Rattle.tc_board.specs.declared.record.Record.{Record}
 use Rattle.tc_board.specs.declared.record.Record.TheVariants.{Closed}
 
--- the setting of an entry, where it was replied Ok
+-- the setting of an entry, if it was replied Ok
 abbrev pub setting_in : Op → Reply → List UserVerdict
 setting_in (O.SetVerdict v) R.Ok = v ∷ []
 setting_in _ _ = []

@@ -25,13 +25,13 @@ opening (Open carried) = carried
 opening (Closed carried counted) = carried
 opening Unbegun = U.None
 
--- the record of a run's word is right, where the word of a run that no longer goes on may still be open
+-- the record of a run's word is right, if the word of a run that no longer continues may still be open
 pub record Lags (past : List Entry) (words : List Record) (b : ℕ) : Type 0 where
   pub was : Bool
   pub active : is_active past b ≡ true → was ≡ true
   pub is : record_at words b ≡ record_for (comp_of past b) was (carried words past b) (closing (record_at words b))
 
--- the words of the runs below i are told, the others may lag
+-- the words of the runs below i follow from the history, the others may lag
 pub record ArePartlyTold (n : ℕ) (past : List Entry) (words : List Record) (i : ℕ) : Type 0 where
   pub as_many : length words ≡ n
   pub each : (b : ℕ) → b < n → Lags past words b

@@ -1,4 +1,4 @@
--- The words of the verdict board beside a history without verdict entries: what was done with the word of each run.
+-- The words of the verdict board next to a history without verdict entries: what was done with the word of each run.
 -- `past` lists the entries so far, the newest first, and `words` has the record of each run's word, by its number.
 use Rattle.std.specs.Prelude.{ℕ, ◌≡◌, ◌<◌, if◌then◌else◌, Bool, true, false, Option, Some, None, is_some, List, [], ◌∷◌, length, slice_index_or}
 use Rattle.tc_verdict.specs.declared.run.Run.{Run}
@@ -29,7 +29,7 @@ closing _ = U.None
 abbrev pub record_at : List Record → ℕ → Record
 record_at words b = slice_index_or words b Unbegun
 
--- what the close of this run's word gave: none where there is no run
+-- what the close of this run's word gave: none if there is no run
 abbrev pub left_by : List Record → Option Run → UserVerdict
 left_by words (Some run) = closing (record_at words run.0)
 left_by words None = U.None
@@ -52,14 +52,14 @@ run_before (e ∷ past) b = if is_some (comp_of past b) then run_before past b e
 abbrev pub carried : List Record → List Entry → ℕ → UserVerdict
 carried words past b = left_by words (run_before past b)
 
--- the record of the word of a run, by the component that it was started on, whether it is going on, and both verdicts
+-- the record of the word of a run, by the component that it was started on, whether it is active, and both verdicts
 abbrev pub record_for : Option Comp → Bool → UserVerdict → UserVerdict → Record
 record_for None active u v = Unbegun
 record_for (Some c) true u v = Open u
 record_for (Some c) false u v = Closed u v
 
--- The word of a run is unbegun where it was never started, open where it is going on, and closed where it was halted. It was
--- begun with what the close of the word of the run before it on its component gave, or with none where there is no such run.
+-- The word of a run is unbegun if it was never started, open if it is active, and closed if it was halted. It was begun
+-- with what the close of the word of the run before it on its component gave, or with none if there is no such run.
 pub record AreTold (n : ℕ) (past : List Entry) (words : List Record) : Type 0 where
   pub as_many : length words ≡ n
   pub each : (b : ℕ) → b < n → record_at words b ≡ record_for (comp_of past b) (is_active past b) (carried words past b) (closing (record_at words b))

@@ -1,4 +1,4 @@
-//! The keeper of a board, beside the component table of its case.
+//! The keeper of a board, next to the component table of its case.
 ghost use Rattle.std.specs.Prelude.{◌≡◌, ◌<◌, ◌≤◌, ◌+◌, [], IfOk, true, set, length};
 ghost use Rattle.std.specs.Arc.{arc_value};
 ghost use Rattle.tc_table.specs.Case.{past_of};
@@ -103,8 +103,8 @@ impl Words {
             .unwrap_or(Record::Unbegun)
     }
 
-    /// What the component carries on which a call would start a run, to be asked before the table plays the call: what the
-    /// close of the word of the last run on it gave, and none where there is no such run or the call is no Start.
+    /// What the component carries on which a call would start a run, to be asked before the table plays the call. It is
+    /// what the close of the word of the last run on it gave, and none if there is no such run or the call is no Start.
     pub fn carried_to(&self, table: &Table, op: &Op) -> UserVerdict
         ensures { result ≡ rules.carried_to self.now (past_of table.now) op.now }
     {
@@ -114,8 +114,8 @@ impl Words {
         }
     }
 
-    /// Brings the words up to the newest entry of the table: begins the word of the run that it starts with what the run's
-    /// component carried, and closes the word of each run that it halts. It takes no memory.
+    /// Brings the words up to the newest entry of the table. Begins the word of the run that it starts with what the
+    /// run's component carried, and closes the word of each run that it halts. It takes no memory.
     pub fn follow(&mut self, table: &Table, carried: UserVerdict)
         requires told { AreTold table.now.behaviours (rules.earlier (past_of table.now)) self.old }
         requires carried { carried ≡ rules.carried_to_newest self.old (past_of table.now) }
@@ -172,7 +172,7 @@ impl Words {
         }
     }
 
-    /// Closes the word of a run that no longer goes on.
+    /// Closes the word of a run that no longer continues.
     fn settle_one(&mut self, table: &Table, b: u16)
         requires within { b < table.now.behaviours }
         requires partly { ArePartlyTold table.now.behaviours (past_of table.now) self.old b }
@@ -185,7 +185,7 @@ impl Words {
         }
     }
 
-    /// Closes the word of each run that no longer goes on.
+    /// Closes the word of each run that no longer continues.
     fn settle(&mut self, table: &Table)
         requires lagging { ArePartlyTold table.now.behaviours (past_of table.now) self.old 0 }
         ensures told { AreTold table.now.behaviours (past_of table.now) self.new }

@@ -36,7 +36,7 @@ first_lists run (suc n) = list run (first_answers run) ∷ first_lists (suc run)
 abbrev pub opening_view : ℕ → View
 opening_view n = keeper_view (first_records 0 n) (first_lists 0 n)
 
--- the first of these lists, alone
+-- only the first of these lists
 abbrev pub first_list : List AnswerList → List AnswerList
 first_list [] = []
 first_list (l ∷ ls) = l ∷ []

@@ -1,4 +1,4 @@
--- What each kind of step tells its caller: the view of the seat afterwards, by the number that was found.
+-- What each kind of step shows its caller: the view of the seat afterwards, by the number that was found.
 use Rattle.std.specs.Prelude.{◌≡◌, ℕ, ◌<◌, ◌==◌, if◌then◌else◌, nat_lt, List, [], ◌∷◌, ◌++◌, slice_set}
 use mathlib.Core.Option.{some}
 use lib.ListN.{get_elem?}

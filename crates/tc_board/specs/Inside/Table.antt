@@ -10,7 +10,7 @@ use Rattle.tc_board.specs.declared.rule.View.{View}
 use Rattle.tc_board.specs.Rule.{Fits}
 use Rattle.tc_board.specs.Inside.Seats.{list}
 
--- of one word: the keeper's record, the answers of its hand, and the seat in whose view they stand
+-- of one word: the keeper's record, the answers of its hand, and the seat in whose view they are
 pub record Row : Type 0 where
   pub record_is : Record
   pub answers : List Answer
@@ -24,7 +24,7 @@ row r answers seat = record { record_is = r; answers = answers; seat = seat }
 abbrev pub record_of : Row → Record
 record_of r = r.record_is
 
--- this list is that of its row, and stands in the view of this seat
+-- this list is that of its row, and is in the view of this seat
 abbrev pub IsAt : List Row → ℕ → AnswerList → Type 0
 IsAt rows seat l = (r : Record) × (get_elem? rows l.run ≡ some (row r l.answers seat))
 
@@ -33,11 +33,11 @@ pub record Knows (rows : List Row) (keeper seat : ℕ) (v : View) : Type 0 where
   pub lists : (p : ℕ) (l : AnswerList) → get_elem? v.lists p ≡ some l → IsAt rows seat l
   pub records : v.is_keeper ≡ true → (seat ≡ keeper) × (v.records ≡ map record_of rows)
 
--- the answers of a row stand in the view of the seat that it names
+-- the answers of a row are in the view of the seat that it names
 abbrev pub Stands : List View → ℕ → Row → Type 0
 Stands views run r = (v : View) × (p : ℕ) × (get_elem? views r.seat ≡ some v) × (get_elem? v.lists p ≡ some (list run r.answers))
 
--- the rule holds of each word, and the answers of each hand stand in the view of one seat alone
+-- the rule holds of each word, and the answers of each hand are in the view of one seat only
 pub record Holds (s : State (Unit {0}) View) : Type 0 where
   pub rows : List Row
   pub keeper : ℕ

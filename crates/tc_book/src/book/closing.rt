@@ -1,4 +1,4 @@
-//! The close of a case, on the value behind the lock.
+//! The close of a case, on the value under the lock.
 ghost use Rattle.std.specs.Prelude.{◌≡◌, ◌≤◌, true, IfOk, IfErr, length, map, reverse};
 ghost use Rattle.tc_entry.specs.declared.limits.TheConstants.{BEHAVIOURS};
 ghost use Rattle.tc_table.specs.History.{is_over};
@@ -35,7 +35,7 @@ fn run_logs(alloc: Global, lefts: Vec<Left>) -> Result<Vec<RunLog>, NoMemory>
     Ok(logs)
 }
 
-/// The report of a case that is over, where each of these lists is its run's part of the history.
+/// The report of a case that is over, if each of these lists is its run's part of the history.
 fn report_of_parts(
     alloc: Global,
     state: &CaseState,
@@ -128,8 +128,8 @@ fn report_of_merged(
 }
 
 impl Book {
-    /// The report of the case, where the merge of its history with the logs of what came back is legal, what came back is
-    /// whole by it, and the word of each run agrees with its log.
+    /// The report of the case, if the merge of its history with the logs that came back is legal, what came back is
+    /// whole by it, and each run's word agrees with its log.
     pub fn close(&self, alloc: Global, lefts: Vec<Left>) -> Result<Closed, CloseFault>
         ensures whole { IfOk result (λ _. IsMerged self.now lefts.items) }
         ensures torn { IfErr result (λ f. f ≡ faults.Torn → IsMerged self.now lefts.items → ⊥) }

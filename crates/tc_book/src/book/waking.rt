@@ -1,4 +1,4 @@
-//! Calls, with whether one that waits may go on by them.
+//! Calls, with whether one that waits can continue by them.
 ghost use Rattle.std.specs.Prelude.{◌≡◌, ◌≢◌, ◌&&◌, not, true, false, IfOk, IfSome, OnErr, OnSome, IfNone, IsTrue};
 ghost use Rattle.tc_entry.specs.declared.op.Op.TheVariants as ops;
 ghost use Rattle.tc_entry.specs.declared.reply.Reply.TheVariants as replies;
@@ -24,14 +24,14 @@ fn keeps_phases(op: &Op) -> bool
     )
 }
 
-/// Whether the caller goes on after this reply.
+/// Whether the caller continues after this reply.
 fn lets_go_on(reply: Reply) -> bool
     ensures { result ≡ laws.lets_go_on reply }
 {
     !matches!(reply, Reply::Ended | Reply::Parked | Reply::Fault(_))
 }
 
-/// Whether one that waits may go on by an entry with this reply.
+/// Whether one that waits can continue by an entry with this reply.
 fn tells(keeps_phases: bool, reply: Reply) -> bool
     ensures { result ≡ not (keeps_phases && laws.lets_go_on reply) }
 {
@@ -39,7 +39,7 @@ fn tells(keeps_phases: bool, reply: Reply) -> bool
 }
 
 impl Book {
-    /// Adds a call as `record` does, and answers its reply, and whether one that waits may go on by it.
+    /// Adds a call as `record` does, and returns its reply, and whether one that waits can continue by it.
     pub fn call(&mut self, run: Run, op: Op) -> Result<(Reply, bool), NoMemory>
         requires other { is_verdict_call op ≡ false }
         ensures behaviours { self.new.behaviours ≡ self.old.behaviours }
@@ -56,7 +56,8 @@ impl Book {
         Ok((reply, tells(keeps, reply)))
     }
 
-    /// Adds the Wake of a parked wait as `wake` does, and answers its reply, and whether another that waits may go on by it.
+    /// Adds the Wake of a parked wait as `wake` does, and returns its reply, and whether another that waits can
+    /// continue by it.
     pub fn call_wake(&mut self, run: Run, killed: bool, target: Target) -> Option<(Reply, bool)>
         ensures behaviours { self.new.behaviours ≡ self.old.behaviours }
         ensures none { IfNone result (self.new ≡ self.old) }
@@ -74,7 +75,7 @@ impl Book {
         Some((reply, tells(true, reply)))
     }
 
-    /// Whether a run that waits for this may go on now.
+    /// Whether a run that waits for this can continue now.
     pub(crate) fn goes_on(&self, run: Run, until: Until) -> bool
         ensures { result ≡ goes_on self.now run until }
     {

@@ -42,7 +42,7 @@ module _ {B : Type 0} (outcome : B → PassState → Back → Type 0) (cases : L
         let same = AllZip-long (IsCalled outcome) (take (length finished) cases) finished each.calls in
         omega (arith, same, take_short (length finished) cases, room)
 
-    -- where there is room for all test cases, the finished ones are kept
+    -- if there is room for all test cases, the finished ones are kept
     pub all_are_kept : AreTaken Keeps finished before after → after.finished.items ≡ finished
     all_are_kept taken = are_kept finished before after none fits taken
 

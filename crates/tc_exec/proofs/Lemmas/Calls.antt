@@ -21,7 +21,7 @@ use Rattle.tc_exec.specs.Case.{AreCalled, IsHandedBack, IsMadeOf}
 use Rattle.tc_exec.specs.Workers.{IsWorked, WasCalled, WasCalledFor, IsLeftBy, AreLeftBy, opening}
 use Rattle.tc_exec.specs.Inside.{is_starved}
 
--- memory was refused neither before nor now
+-- memory ran out neither before nor now
 pub neither : (before now after : Bool) → after ≡ (before || now) → after ≡ false → (before ≡ false) × (now ≡ false)
 neither false false after is none = (refl, refl)
 neither true now after is none = absurd cc
@@ -38,7 +38,7 @@ first_kept d old [] after x was is some = absurd (omega (arith, (was some).0))
 first_kept d old (n ∷ now) after x was is some = rw is (omega arith, (was some).1)
 
 module _ {B : Type 0} (outcome : B → PassState → Back → Type 0) where
-  -- what a worker handed back whose behaviour was not refused memory
+  -- what a worker handed back whose behaviour did not run out of memory
   pub left_by : (run : Run) (b : B) (h : Handed) → is_starved h.ending ≡ false → IsWorked run (outcome b) h → IsLeftBy outcome run b h.left
   left_by run b h none (inl unstarted) = inl (ap (λ m. let x : Handed = record { left = m.left; ending = E.Returned } in x) unstarted)
   left_by run b h none (inr w) =
@@ -141,7 +141,7 @@ module _ {B : Type 0} (outcome : B → PassState → Back → Type 0) where
       let bad : Some (called.back.pass.me, called.back.pass.args) ≡ None = sym called.left.started ∙ ap (λ m. m.started) (sym found) ∙ started in
       absurd cc
 
-  -- a report is made only where memory was refused to no behaviour
+  -- a report is made only if memory ran out in no behaviour
   pub report_called : (result : Result Closed CaseError) (starved : Bool) (runs : List Run) (bs : List B) (ls : List LeftState) →
       (starved ≡ true → result ≡ Err NoMemory) → (starved ≡ false → AreLeftBy outcome runs bs ls) →
       ((k : ℕ) (run : Run) → k < length runs → (get_or runs k run).0 ≡ k) →
@@ -160,7 +160,7 @@ module _ {B : Type 0} (outcome : B → PassState → Back → Type 0) where
   report_made (Ok c) true runs bs ls refused all number main whole = let bad = refused refl in absurd cc
   report_made (Err e) starved runs bs ls refused all number main whole = tt
 
-  -- where a case is torn, memory was refused to no behaviour
+  -- where a case is torn, memory ran out in no behaviour
   pub torn_handed : (result : Result Closed CaseError) (starved : Bool) (runs : List Run) (bs : List B) (ls : List LeftState) →
       (starved ≡ true → result ≡ Err NoMemory) → (starved ≡ false → AreLeftBy outcome runs bs ls) →
       ((k : ℕ) (run : Run) → k < length runs → (get_or runs k run).0 ≡ k) →

@@ -15,7 +15,7 @@ use Rattle.tc_explore.specs.Inside.Going.{taken, IsOn, CannotGo}
 pub turn_taken : (scripts : List ScriptView) (past : List Entry) (n : ℕ) (run : Run) (op : Op) → n ≡ length scripts → turn scripts past run.0 ≡ Some op → is_idle_by op (answer n past run.0 op) ≡ false → IsTurn scripts past (taken n past run op)
 turn_taken scripts past n run op h t i = record { turn = t; reply = ap (λ m. answer m past run.0 op) h; not_idle = i }
 
--- a run without a call cannot go on
+-- a run without a call cannot continue
 pub no_turn : (scripts : List ScriptView) (past : List Entry) (b : ℕ) → turn scripts past b ≡ None → CannotGo scripts past b
 no_turn scripts past b t e own h =
     let same : turn scripts past e.caller.0 ≡ turn scripts past b = ap (turn scripts past) own in

@@ -10,7 +10,7 @@ use Rattle.tc_table.specs.Case.{Case, past_of}
 use Rattle.tc_explore.specs.declared.witness.Witness.{Witness}
 use Rattle.tc_explore.specs.Found.{AreWitnesses, IsOnce}
 
--- what is known of run b after one more entry where it is run r, and else what was known of it
+-- what is known of run b after one more entry if it is run r, and otherwise what was known of it
 abbrev pub next_for : ℕ → Entry → ℕ → Stand → Stand
 next_for r e b s = if r == b then next e b s else s
 
@@ -31,13 +31,13 @@ IsNext scripts t run op = IsTurn scripts (past_of t) (taken t.behaviours (past_o
 abbrev pub CannotGo : List ScriptView → List Entry → ℕ → Type 0
 CannotGo scripts past b = (e : Entry) → e.caller.0 ≡ b → IsTurn scripts past e → ⊥
 
--- the next call of run b is made, if it can go on
+-- the next call of run b is made, if it can continue
 abbrev pub IsStepped : List ScriptView → List Entry → List Entry → ℕ → Type 0
 IsStepped scripts before after b =
     ((after ≡ before) × CannotGo scripts before b)
     ⊎ ((e : Entry) × (after ≡ e ∷ before) × (e.caller.0 ≡ b) × IsTurn scripts before e)
 
--- so it is, if it goes on
+-- so it is, if it continues
 abbrev pub IsSteppedIfActive : List ScriptView → List Entry → List Entry → ℕ → Type 0
 IsSteppedIfActive scripts before after b =
     ((after ≡ before) × (is_active before b ≡ false)) ⊎ ((is_active before b ≡ true) × IsStepped scripts before after b)

@@ -24,7 +24,7 @@ use Rattle.tc_explore.specs.Inside.Going.{taken, IsOn, AreNoted}
 use Rattle.tc_explore.specs.Inside.Alike.{IsAlike}
 use Rattle.tc_explore.specs.Inside.Simulation.{is_spent, IsFor, IsCovered, IsClosedFor, IsClosed}
 
--- the same is known after both, and no run that goes on has a Wake to come
+-- the same is known after both, and no run that continues has a Wake to come
 pub record IsSame (p q : List Entry) : Type 0 where
   pub alike : IsAlike p q
   pub stands : (b : ℕ) → is_active p b ≡ true → (stand p b ≡ stand q b) × ((stand q b).wake ≡ None)
@@ -45,7 +45,7 @@ HasSameComps n p q = (b : ℕ) → b < n → (stand p b).comp ≡ (stand q b).co
 abbrev pub StandsSame : List Entry → List Entry → ℕ → Type 0
 StandsSame p q b = (stand p b ≡ stand q b) × ((stand q b).wake ≡ None)
 
--- so it is of each of n runs that goes on
+-- so it is of each of n runs that continues
 abbrev pub HasSameStands : ℕ → List Entry → List Entry → Type 0
 HasSameStands n p q = (b : ℕ) → b < n → is_active p b ≡ true → StandsSame p q b
 
@@ -68,7 +68,7 @@ pub record IsOpen (scripts : List ScriptView) (t : Case) : Type 0 where
   pub going : is_over (past_of t) ≡ false
   pub no_wake : HasNoWake (past_of t)
 
--- the next call of run b, if it goes on and is no error, changes something
+-- the next call of run b, if it continues and is no error, changes something
 abbrev pub IsCalmAt : List ScriptView → List Entry → ℕ → Type 0
 IsCalmAt scripts past b =
     (e : Entry) → e.caller.0 ≡ b → IsTurn scripts past e → goes_on e.reply ≡ true → is_fault e.reply ≡ false → is_spent past e.op ≡ false
@@ -77,7 +77,7 @@ IsCalmAt scripts past b =
 abbrev pub IsCalm : List ScriptView → List Entry → Type 0
 IsCalm scripts past = (b : ℕ) → b < length scripts → IsCalmAt scripts past b
 
--- the call of run b, if it goes on and is no error, changes something
+-- the call of run b, if it continues and is no error, changes something
 abbrev pub IsLoudAt : ℕ → List Entry → ℕ → Op → Type 0
 IsLoudAt n past b op = goes_on (answer n past b op) ≡ true → is_fault (answer n past b op) ≡ false → is_spent past op ≡ false
 
@@ -94,7 +94,7 @@ pub record IsState (scripts : List ScriptView) (t : Case) : Type 0 where
 abbrev pub IsFull : Met → Type 0
 IsFull met = met.limit ≤ length met.states.items
 
--- the next call of run b, if it goes on, is an error
+-- the next call of run b, if it continues, is an error
 abbrev pub IsStillAt : List ScriptView → List Entry → ℕ → Type 0
 IsStillAt scripts past b = (e : Entry) → e.caller.0 ≡ b → IsTurn scripts past e → goes_on e.reply ≡ true → is_fault e.reply ≡ true
 
@@ -102,7 +102,7 @@ IsStillAt scripts past b = (e : Entry) → e.caller.0 ≡ b → IsTurn scripts p
 abbrev pub AreStill : List ScriptView → List Entry → ℕ → Type 0
 AreStill scripts past n = (b : ℕ) → b < n → IsStillAt scripts past b
 
--- the next call of run b does not go on
+-- the next call of run b does not continue
 abbrev pub IsHeldAt : List ScriptView → List Entry → ℕ → Type 0
 IsHeldAt scripts past b = (e : Entry) → e.caller.0 ≡ b → IsTurn scripts past e → goes_on e.reply ≡ false
 
@@ -118,7 +118,7 @@ IsSeen states r = (i : ℕ) × (t : Case) × (slice_get states i ≡ Some t) × 
 abbrev pub IsNoted : List ScriptView → Findings → Type 0
 IsNoted scripts f = AreNoted scripts f.witnesses.items × AreReached scripts f.reached.items
 
--- there may be more behind
+-- there may be more after it
 abbrev pub IsLonger : {A : Type 0} → List A → List A → Type 0
 IsLonger {A} before after = (more : List A) × (after ≡ before ++ more)
 
@@ -135,7 +135,7 @@ abbrev pub comp_code : Option Comp → ℕ
 comp_code None = 0
 comp_code (Some c) = c.0 + 1
 
--- whatever the one stands for, the other does
+-- whatever the one represents, the other does
 abbrev pub StandsOn : List ScriptView → Case → Case → Type 0
 StandsOn scripts before after = (p : List Entry) → IsCourse scripts p → IsFor scripts (past_of before) p → IsFor scripts (past_of after) p
 

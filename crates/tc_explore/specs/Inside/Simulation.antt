@@ -1,5 +1,5 @@
--- A history stands for others that differ from it only in calls that nobody can tell were made: those that change nothing but
--- their caller's place, and the ends of runs.
+-- A history represents others that differ from it only in calls that nobody can see were made: those that change
+-- nothing but their caller's place, and the ends of runs.
 use Rattle.std.specs.Prelude.{ℕ, suc, ◌≡◌, ◌==◌, ◌<◌, ◌≤◌, ◌-◌, ◌⊎◌, ◌&&◌, ◌||◌, not, nat_le, Bool, true, false, Option, Some, None, List, ◌∷◌, MatchOption, length, slice_get}
 use Rattle.tc_verdict.specs.declared.run.Run.{Run}
 use Rattle.tc_verdict.specs.declared.verdict.Verdict.{Verdict}
@@ -120,7 +120,7 @@ pub record IsEnding (scripts : List ScriptView) (p q : List Entry) (c : ℕ) : T
   pub ordinary : is_alive_type p c ≡ false
   pub leaving : IsLeaving scripts q run.0 (stand p run.0)
 
--- the same is known after both, but that runs which are leaving after p have ended after q
+-- the same is known after both, except that runs which are leaving after p have ended after q
 pub record IsAhead (scripts : List ScriptView) (p q : List Entry) : Type 0 where
   pub comps_same : comps p ≡ comps q
   pub phases : (c : ℕ) → (phase p c ≡ phase q c) ⊎ IsEnding scripts p q c
@@ -141,7 +141,7 @@ abbrev pub IsOrdered : List ScriptView → (ℕ → ℕ) → List Entry → ℕ 
 IsOrdered scripts rank q c b s =
     (k : ℕ) (killed : Bool) (t : Comp) → place_of s ≤ k → call_at scripts b s s.comp k ≡ O.Wait killed (T.One t) → (rank t.0 < rank c) × (is_gone (phase_if_any q t.0) ≡ true)
 
--- so it is of each run that goes on after p on a component that is killed after q
+-- so it is of each run that continues after p on a component that is killed after q
 pub record AreOrdered (scripts : List ScriptView) (p q : List Entry) : Type 0 where
   pub rank : ℕ → ℕ
   pub top : ℕ
@@ -156,21 +156,21 @@ pub record IsEnd (q : List Entry) (b : ℕ) (op : Op) : Type 0 where
   pub on : (stand q b).comp ≡ Some comp
   pub ordinary : is_alive_type q comp.0 ≡ false
 
--- nobody can tell that run b made this call
+-- nobody can see that run b made this call
 abbrev pub IsSilent : List Entry → ℕ → Op → Type 0
 IsSilent q b op = (is_spent q op ≡ true) ⊎ IsEnd q b op
 
--- q stands for p
+-- q represents p
 pub record IsFor (scripts : List ScriptView) (q p : List Entry) : Type 0 where
   pub ahead : IsAhead scripts p q
   pub runs : (b : ℕ) → is_active q b ≡ true → IsFollowed scripts q b (stand p b) (stand q b)
   pub order : AreOrdered scripts p q
 
--- each history that q stands for has one of these that stands for it
+-- each history that q represents has one of these that represents it
 abbrev pub IsCovered : List ScriptView → (List Entry → Type 0) → List Entry → Type 0
 IsCovered scripts Seen q = (p : List Entry) → IsCourse scripts p → IsFor scripts q p → (r : List Entry) × Seen r × IsFor scripts r p
 
--- a call that goes on and is no error
+-- a call that continues and is no error
 pub record GoesOn (scripts : List ScriptView) (q : List Entry) : Type 0 where
   pub entry : Entry
   pub turn : IsTurn scripts q entry

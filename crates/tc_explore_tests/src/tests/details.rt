@@ -135,7 +135,7 @@ fn steps_behind_a_wait_that_is_never_over(rt: HostRuntime) -> Result<(), Fail> {
     Ok(())
 }
 
-// A main behaviour with this step behind a wait that is stuck, and one that is not started.
+// A main behaviour with this step after a wait that is stuck, and one that is not started.
 fn stuck_before<R: Abort>(rt: &R, alloc: Global, step: Step) -> Result<Vec<Script>, Fail> {
     let steps = vec![in alloc; create(true), wait(TargetPlace::One(P)), step]?;
     let mut scripts = Vec::new(alloc);
@@ -144,7 +144,7 @@ fn stuck_before<R: Abort>(rt: &R, alloc: Global, step: Step) -> Result<Vec<Scrip
     Ok(scripts)
 }
 
-// The line of the details that tells of run 0 is this line.
+// The line of the details about run 0 is this line.
 fn has_line<R: Abort>(rt: &R, details: &[u8], line: &str) -> Result<(), Fail> {
     let text = str::from_utf8(details).map_err(|_| "a text")?;
     let told = text.lines().find(|line| line.contains("run 0 from"));
@@ -152,7 +152,7 @@ fn has_line<R: Abort>(rt: &R, details: &[u8], line: &str) -> Result<(), Fail> {
     Ok(())
 }
 
-// Compares what is told of a step behind a wait that is stuck.
+// Compares what is printed about a step after a wait that is stuck.
 fn is_step_text<R: Abort>(rt: &R, alloc: Global, step: Step, text: &str) -> Result<(), Fail> {
     let scripts = stuck_before(rt, alloc, step)?;
     let found = details(rt, alloc, scripts.as_slice())?;

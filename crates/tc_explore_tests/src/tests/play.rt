@@ -168,7 +168,7 @@ pub struct Play {
 }
 
 impl Play {
-    /// A case in which nothing was called, of so many behaviours.
+    /// A case in which nothing was called, of that many behaviours.
     pub fn opening(alloc: Global, behaviours: u16) -> Result<Play, NoMemory>
         requires some { 1 ≤ behaviours }
         requires few { behaviours ≤ BEHAVIOURS }
@@ -208,7 +208,7 @@ impl Play {
         Some(op)
     }
 
-    /// Makes a call, and answers its reply.
+    /// Makes a call, and returns its reply.
     pub fn call(&mut self, run: u16, op: Op) -> Result<Reply, NoMemory> {
         let caller = Run(run);
         let reply = self.state.play(caller, op.copy())?;
@@ -276,8 +276,8 @@ fn push_next(
     Ok(())
 }
 
-/// What all schedules give, in which at most so many calls are made together; else none. Once a case is over each call is
-/// answered Ended, so its verdict stands.
+/// What all schedules give, in which at most that many calls are made together; otherwise none. Once a case is over
+/// each call is replied Ended, so its verdict stays.
 pub fn all_schedules(
     alloc: Global,
     scripts: &[Script],

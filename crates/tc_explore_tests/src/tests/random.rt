@@ -119,7 +119,7 @@ fn script<R: Abort>(
     Ok(Script::new(parameters, steps))
 }
 
-/// The three scripts of a case, each with fewer steps than that behind those that make and start a component.
+/// The three scripts of a case, each with fewer steps than that after those that make and start a component.
 pub fn random_scripts<R: Abort>(
     rt: &R,
     alloc: Global,

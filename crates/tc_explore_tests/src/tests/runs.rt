@@ -112,7 +112,7 @@ fn run_random<R: Abort + Threads + Wait + Copy + Send + 'static>(
     Ok(())
 }
 
-// Ends the test unless more than so many were met.
+// Ends the test unless more than that many were met.
 fn are_more<R: Abort>(rt: &R, what: &str, found: usize, least: usize) {
     assert!(rt; found > least, "{what}: {found}");
 }

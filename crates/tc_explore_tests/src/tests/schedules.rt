@@ -31,7 +31,7 @@ impl Counts {
     }
 }
 
-// Whether there are as many numbers in both, and each is no more than the other at its place.
+// Whether there are as many numbers in both, and each is at most the other at its place.
 fn are_within(one: &[usize], other: &[usize]) -> bool {
     one.len() == other.len() && one.iter().zip(other).all(|(a, b)| a <= b)
 }
@@ -66,7 +66,7 @@ fn compare<R: Abort>(rt: &R, seed: u64, explored: &Explored, found: &[Verdict], 
     }
 }
 
-// Takes in a complete search that found so many verdicts.
+// Takes in a complete search that found that many verdicts.
 fn count(
     alloc: Global,
     scripts: &[Script],
@@ -79,7 +79,7 @@ fn count(
     Ok(())
 }
 
-// Compares a search of the scripts with all schedules, where these are not too many, and counts it if it was complete.
+// Compares a search of the scripts with all schedules, if these are not too many, and counts it if it was complete.
 fn compare_search<R: Abort>(
     rt: &R,
     alloc: Global,
@@ -109,7 +109,7 @@ fn compare_random<R: Abort>(
     compare_search(rt, alloc, seed, scripts.as_slice(), counts)
 }
 
-// Ends the test unless there are so many.
+// Ends the test unless there are that many.
 fn are_many<R: Abort>(rt: &R, what: &str, found: usize, least: usize) {
     assert!(rt; found >= least, "{what}: {found}");
 }

@@ -8,7 +8,7 @@ use Rattle.tc_case.specs.declared.run_log.RunLog.{RunLog}
 use Rattle.tc_case.specs.Merge.{log_of, end_of}
 use Rattle.tc_merge.specs.Inside.{Has}
 
--- the log of run b, else other entries
+-- the log of run b, otherwise other entries
 abbrev pub log_or : List RunLog → ℕ → List Entry → List Entry
 log_or [] b other = other
 log_or (l ∷ ls) b other = if l.run.0 == b then l.entries else log_or ls b other

@@ -7,7 +7,7 @@ use Rattle.tc_report.specs.declared.results.Finished.{Finished}
 use Rattle.tc_report.specs.Kept.{Keeps}
 use Rattle.tc_report.specs.Observers.{AreTaken, IsEndedAt}
 
--- where there is room for them, those that it was given are kept behind the others, and the room stays
+-- if there is room for them, those that it was given are kept after the others, and the room stays
 all_kept : (fs : List Finished) (before after : Kept) → AreTaken Keeps fs before after → length before.finished.items + length fs ≤ vec_capacity before.finished
     → (after.finished.items ≡ before.finished.items ++ fs) × (vec_capacity after.finished ≡ vec_capacity before.finished)
 all_kept [] before after same fits = (ap (λ (k : Kept). k.finished.items) same ∙ sym (append-nil before.finished.items), ap (λ (k : Kept). vec_capacity k.finished) same)
@@ -21,7 +21,7 @@ module _ (fs : List Finished) (before after : Kept) (none : before.finished.item
   fits : length before.finished.items + length fs ≤ vec_capacity before.finished
   fits = omega (arith, ap length none, room)
 
-  -- where there is room for all that it was given, it keeps them
+  -- if there is room for all that it was given, it keeps them
   pub are_kept : AreTaken Keeps fs before after → after.finished.items ≡ fs
   are_kept taken = (all_kept fs before after taken fits).0 ∙ ap (λ l. l ++ fs) none
 

@@ -41,14 +41,14 @@ pub tally_more : (fs : List Finished) (f : Finished) → tally_with (tally_of_ca
 tally_more fs f =
     rw (length-append fs (f ∷ []), cases_more V.None fs f, cases_more V.Pass fs f, cases_more V.Inconc fs f, cases_more V.Fail fs f, cases_more V.Error fs f) refl
 
--- where a writer that held `start` stands when these test cases were written
+-- the state of a writer that held `start`, when these test cases were written
 pub record IsAt (form : Form) (start : Option (List ℕ)) (fs : List Finished) (state : LiveState) : Type 0 where
   pub form_is : state.form ≡ form
   pub out : Appends start state.out (text_so_far form fs)
   pub tally : state.tally ≡ tally_of_cases fs
   pub worst_is : state.worst ≡ worst_of (map case_summary fs)
 
--- where it stands when only what is before the test cases was written
+-- where it is when only what is before the test cases was written
 pub begun : (form : Form) (start : Option (List ℕ)) (state : LiveState) → state.form ≡ form → Appends start state.out (opening_text form)
     → state.tally ≡ tally_of_cases [] → state.worst ≡ V.None → IsAt form start [] state
 begun form start state same out tally worst = record {
@@ -58,13 +58,13 @@ begun form start state same out tally worst = record {
   worst_is = worst;
 }
 
--- a prefix of what stands up to some test case is one of the whole text
+-- a prefix of what comes up to some test case is one of the whole text
 cut_left : (form : Form) (start after : Option (List ℕ)) (fs : List Finished) (ending : CampaignEnd) → AppendsPrefix start after (text_so_far form fs)
     → AppendsPrefix start after (form_text form (record { finished = fs; ending = ending }))
 cut_left form start after fs ending left =
     subst (AppendsPrefix start after) (whole_text form fs ending) (prefix_longer start after (text_so_far form fs) (closing_text form (tally_of_cases fs) ending) left)
 
--- what stands before the test cases was not written whole
+-- what is before the test cases was not written whole
 pub opening_left : (form : Form) (start after : Option (List ℕ)) (fault : OutFault) (ending : CampaignEnd) → LeavesPrefix start after (opening_text form) fault
     → AppendsPrefix start after (form_text form (record { finished = []; ending = ending }))
 opening_left form start after fault ending left =
@@ -122,7 +122,7 @@ module _ {O : Type 0} (state : O → LiveState) (name : O → GName) where
       last : IsAt form start finished (state after)
       last = (all_at form start [] finished before after first taken).0
 
-      -- where it let the campaign go on, the text of the results is out with what stands behind the test cases
+      -- where it let the campaign continue, the text of the results is out with what follows the test cases
       pub all_written : (now : Option (List ℕ)) → Appends (state after).out now (closing_text (state after).form (state after).tally ending)
           → Appends start now (form_text form (record { finished = finished; ending = ending }))
       all_written now out =
@@ -131,7 +131,7 @@ module _ {O : Type 0} (state : O → LiveState) (name : O → GName) where
           (subst (λ t. Appends (state after).out now (closing_text form t ending)) last.tally
           (subst (λ k. Appends (state after).out now (closing_text k (state after).tally ending)) last.form_is out)))
 
-      -- and a prefix of it where that was not written whole
+      -- and a prefix of it if that was not written whole
       pub closing_left : (now : Option (List ℕ)) (fault : OutFault) → LeavesPrefix (state after).out now (closing_text (state after).form (state after).tally ending) fault
           → AppendsPrefix start now (form_text form (record { finished = finished; ending = ending }))
       closing_left now fault left =

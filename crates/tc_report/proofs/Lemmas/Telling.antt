@@ -1,4 +1,4 @@
--- What was told of test cases as they finished, test case by test case.
+-- What was printed of test cases as they finished, test case by test case.
 use Rattle.std.proofs.Common.{ℕ, ◌≡◌, ◌∙◌, Bool, true, false, List, [], ◌∷◌, ◌++◌, inl, inr, Option, Some, None, Result, Ok, Err, refl, sym, ap, subst, append_assoc}
 use Rattle.std.proofs.lemmas.List.{append-nil, flat_map_more}
 use Rattle.std.specs.Borrow.{GName}
@@ -11,13 +11,13 @@ use Rattle.tc_report.specs.Observers.{AreTaken, IsEndedAt}
 use Rattle.tc_report.specs.Progress.{EndsBy, EndsTelling, IsToldBy, Tells, TellsBy, TellState, failed_line, told_line, told_text}
 use Rattle.tc_report.proofs.Writing.{appends_both, appends_kept, prefix_behind, prefix_longer, whole_is_prefix}
 
--- what was told of these test cases so far, by whether anything is, and why nothing more is
+-- what was printed of these test cases so far, by whether anything is, and why nothing more is
 abbrev pub IsSoFar : Bool → Option OutFault → Option (List ℕ) → Option (List ℕ) → List ℕ → List Finished → Type 0
 IsSoFar false fault start out failed fs = Keeps start out
 IsSoFar true (Some fault) start out failed fs = AppendsPrefix start out (flat_map told_line fs)
 IsSoFar true None start out failed fs = Appends start out (flat_map told_line fs) × (failed ≡ flat_map failed_line fs)
 
--- where one stands that tells, when it has told of these test cases to a writer that held `start`
+-- the state of a `Progress` when it has printed these test cases to a writer that held `start`
 pub record HasTold (tells : Bool) (start : Option (List ℕ)) (fs : List Finished) (state : TellState) : Type 0 where
   pub tells_is : state.tells ≡ tells
   pub so : IsSoFar tells state.fault start state.out state.failed fs
@@ -81,7 +81,7 @@ nothing_told None now keeps = tt
 nothing_told (Some s) None keeps = absurd keeps
 nothing_told (Some s) (Some t) keeps = keeps ∙ sym (append-nil s)
 
--- of no test case nothing is told
+-- of no test case nothing is printed
 pub nothing_of : (tells : Bool) (start : Option (List ℕ)) → IsToldBy tells start start (told_text tells []) (Ok tt)
 nothing_of false None = tt
 nothing_of false (Some s) = sym (append-nil s)
@@ -97,13 +97,13 @@ keeps_both (Some s) (Some t) (Some u) p q = q ∙ p
 prefix_kept : (a b c : Option (List ℕ)) (xs : List ℕ) → AppendsPrefix a b xs → Keeps b c → AppendsPrefix a c xs
 prefix_kept a b c xs p q = (p.0, p.1, appends_kept a b c _ p.2 q)
 
--- what was told is a prefix of what was to be told
+-- what was printed is a prefix of what was due
 pub told_is_prefix : (tells : Bool) (before after : Option (List ℕ)) (text : List ℕ) (answer : Result (Unit {0}) OutFault)
     → IsToldBy tells before after text answer → AppendsPrefix before after text
 told_is_prefix tells before after text (Ok done) told = whole_is_prefix before after text told
 told_is_prefix tells before after text (Err fault) told = told.1
 
--- all that was told when the campaign has ended
+-- all that was printed when the campaign has ended
 pub told_at_end : (tells : Bool) (start : Option (List ℕ)) (fs : List Finished) (state : TellState) (now : Option (List ℕ)) (answer : Result (Unit {0}) OutFault)
     → HasTold tells start fs state → EndsTelling state now answer → IsToldBy tells start now (told_text tells fs) answer
 told_at_end tells start fs state now answer at ends = go tells state.fault answer at.so (subst (λ t. EndsBy t state.fault state.out now state.failed answer) at.tells_is ends)
@@ -118,7 +118,7 @@ told_at_end tells start fs state now answer at ends = go tells state.fault answe
         (refl, prefix_behind start state.out now (flat_map told_line fs) (flat_map failed_line fs) so.0 (subst (AppendsPrefix state.out now) so.1 ends.1))
 
 module _ {O I : Type 0} (inner : O → I) (state : O → TellState) (first second third : O → GName) (takes : I → Finished → I → Bool → Type 0) where
-  -- what a test case does to one that tells, and to the observer that it hands it on to
+  -- what a test case does to a `Progress`, and to the observer that it passes it on to
   abbrev pub Takes : O → Finished → O → Bool → Type 0
   Takes before f after goes_on =
       takes (inner before) f (inner after) goes_on × Tells (state before) f (state after)
@@ -128,7 +128,7 @@ module _ {O I : Type 0} (inner : O → I) (state : O → TellState) (first secon
   abbrev pub AreSame : O → O → Type 0
   AreSame before after = (first after ≡ first before) × (second after ≡ second before) × (third after ≡ third before)
 
-  -- the test cases that were taken were told of and handed on
+  -- the test cases that were taken were printed of and passed on
   pub all_told : (tells : Bool) (start : Option (List ℕ)) (done fs : List Finished) (before after : O) → HasTold tells start done (state before)
       → AreTaken Takes fs before after → AreTaken takes fs (inner before) (inner after) × HasTold tells start (done ++ fs) (state after) × AreSame before after
   all_told tells start done [] before after at same = (
@@ -144,7 +144,7 @@ module _ {O I : Type 0} (inner : O → I) (state : O → TellState) (first secon
         (rest.2.0 ∙ one.2, rest.2.1 ∙ one.3, rest.2.2 ∙ one.4),
       )
 
-  -- and so was the last, where the other observer has ended the campaign
+  -- and so was the last, if the other observer has ended the campaign
   pub ended_told : (tells : Bool) (start : Option (List ℕ)) (fs : List Finished) (before after : O) → HasTold tells start [] (state before)
       → IsEndedAt Takes fs before after → IsEndedAt takes fs (inner before) (inner after) × HasTold tells start fs (state after) × AreSame before after
   ended_told tells start fs before after at ended =

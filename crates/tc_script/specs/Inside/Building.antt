@@ -31,7 +31,7 @@ AreCases [] = Unit {0}
 AreCases (L.TestCase n ∷ rest) = (length (heads rest) ≤ BEHAVIOURS) × AreScripts (heads rest) rest × AreCases rest
 AreCases (_ ∷ rest) = AreCases rest
 
--- what stands behind the steps and the blank lines at the head of these lines
+-- what follows the steps and the blank lines at the head of these lines
 abbrev pub behind_steps : List Line → List Line
 behind_steps (L.Step call ∷ rest) = behind_steps rest
 behind_steps (L.Skipped ∷ rest) = behind_steps rest

@@ -19,7 +19,7 @@ use Rattle.tc_script.specs.FirstPass.{opened, cases_in, behaviours_in, steps_in,
 abbrev pub counts_of : List Line → Counts
 counts_of past = record { state = opened past; cases = cases_in past; behaviours = behaviours_in past; steps = steps_in past }
 
--- a test case that begins where this is open
+-- a test case that begins if this is open
 abbrev pub case_counted_at : Open → Counts → Result Counts ScriptKind
 case_counted_at O.Nothing s =
     if nat_le TEST_CASES s.cases then Err F.TooMany
@@ -32,7 +32,7 @@ one_behaviour_more s parameters =
     if nat_le BEHAVIOURS s.behaviours || nat_lt ARGUMENTS parameters then Err F.TooMany
     else Ok (record { state = O.Behaviour; cases = s.cases; behaviours = s.behaviours + 1; steps = 0 })
 
--- a behaviour that begins where this is open
+-- a behaviour that begins if this is open
 abbrev pub behaviour_counted_at : Open → Counts → ℕ → Result Counts ScriptKind
 behaviour_counted_at O.NewCase s parameters = one_behaviour_more s parameters
 behaviour_counted_at O.Case s parameters = one_behaviour_more s parameters
@@ -42,13 +42,13 @@ behaviour_counted_at _ s parameters = Err F.BadPlace
 abbrev pub with_open : Counts → Open → Counts
 with_open s o = record { state = o; cases = s.cases; behaviours = s.behaviours; steps = s.steps }
 
--- an end where this is open
+-- an end if this is open
 abbrev pub end_counted_at : Open → Counts → Result Counts ScriptKind
 end_counted_at O.Case s = Ok (with_open s O.Nothing)
 end_counted_at O.Behaviour s = Ok (with_open s O.Case)
 end_counted_at _ s = Err F.BadPlace
 
--- a step where this is open
+-- a step if this is open
 abbrev pub step_counted_at : Open → Counts → ℕ → Result Counts ScriptKind
 step_counted_at O.Behaviour s arguments =
     if nat_le STEPS s.steps || nat_lt ARGUMENTS arguments then Err F.TooMany

@@ -1,4 +1,4 @@
--- The lines of a script, as they are kept between the passes: a mark for each, and those that stand apart.
+-- The lines of a script, as they are kept between the passes: a mark for each, and those that are kept apart.
 use Rattle.std.specs.Prelude.{List, [], ◌∷◌}
 use Rattle.tc_line.specs.declared.line.Call.TheVariants as C
 use Rattle.tc_line.specs.declared.line.Line.{Line}
@@ -14,7 +14,7 @@ mark_of (L.Step (C.SetVerdict v)) = M.Set v
 mark_of (L.Step C.GetVerdict) = M.Get
 mark_of _ = M.Apart
 
--- the lines that these marks stand for
+-- the lines that these marks represent
 abbrev pub unpacked : List Mark → List Line → List Line
 unpacked [] apart = []
 unpacked (M.Set v ∷ marks) apart = L.Step (C.SetVerdict v) ∷ unpacked marks apart
@@ -22,7 +22,7 @@ unpacked (M.Get ∷ marks) apart = L.Step C.GetVerdict ∷ unpacked marks apart
 unpacked (M.Apart ∷ marks) [] = []
 unpacked (M.Apart ∷ marks) (l ∷ apart) = l ∷ unpacked marks apart
 
--- as many lines stand apart as the marks say
+-- as many lines are kept apart as the marks say
 abbrev pub Fits : List Mark → List Line → Type 0
 Fits [] [] = Unit {0}
 Fits [] (l ∷ apart) = ⊥

@@ -1,4 +1,4 @@
--- What the second pass makes of a line: its fault, and the names behind it.
+-- What the second pass makes of a line: its fault, and the names after it.
 use Rattle.std.specs.Prelude.{ℕ, ◌==◌, ◌&&◌, ◌||◌, not, Bool, true, false, if◌then◌else◌, Option, Some, None, List, [], ◌∷◌, length}
 use Rattle.std.specs.List.{list_any}
 use Rattle.tc_line.specs.declared.kind.ScriptKind.{ScriptKind}
@@ -13,7 +13,7 @@ use Rattle.tc_script.specs.Names.{Word, among, add, all_of, has_twice}
 use Rattle.tc_script.specs.Scope.{ScopeView, heads, with_bound, parameters_of}
 use Rattle.tc_script.specs.SecondPass.{is_unbound}
 
--- the names behind a line, with the lines after it
+-- the names after a line, with the lines after it
 abbrev pub scope_after : ScopeView → Line → List Line → ScopeView
 scope_after s (L.TestCase n) rest = record { cases = add n s.cases; behaviours = []; bound = s.bound; heads = heads rest }
 scope_after s (L.Behaviour n ps) rest = record { cases = s.cases; behaviours = add n s.behaviours; bound = all_of [] ps; heads = s.heads }
@@ -22,7 +22,7 @@ scope_after s _ rest = s
 
 -- ---- the first fault of a line among these names, form by form
 
--- the kind, where it is so
+-- the kind, if it is so
 abbrev pub fault_where : Bool → ScriptKind → Option ScriptKind
 fault_where true kind = Some kind
 fault_where false kind = None

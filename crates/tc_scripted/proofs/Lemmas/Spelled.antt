@@ -112,7 +112,7 @@ reversed P (x ∷ xs) all =
     subst (All P) (sym (reverse-append (x ∷ []) xs))
     (All-append P (reverse xs) (x ∷ []) (reversed P xs (All-tail P x xs all)) (All-cons P x [] (all 0 x (omega arith)) (All-nil P)))
 
--- who calls is one of the behaviours
+-- the caller is one of the behaviours
 caller_below : (c : Closed) (k : ℕ) (d : Entry) (b : ℕ) → IsOneHistory c → 0 < c.behaviours → k < length c.history → (get_or c.history k d).caller.0 ≡ b → b < c.behaviours
 caller_below c k d zero one some below is = some
 caller_below c k d (suc b) one some below is = by (start_of (reverse c.history) (suc b)) refl

@@ -15,7 +15,7 @@ pub later_legal : (n : ℕ) (new past : List Entry) → IsLegal n (new ++ past) 
 later_legal n [] past h = h
 later_legal n (e ∷ es) past h = later_legal n es past h.1
 
--- a list is what stands before a place, what stands there, and the rest
+-- a list is what is before a place, what is there, and the rest
 pub parted : (xs : List Entry) (i : ℕ) (d : Entry) → i < length xs → xs ≡ (take i xs ++ (get_or xs i d ∷ [])) ++ drop (i + 1) xs
 parted xs i d h =
     let t : take (i + 1) xs ≡ take i xs ++ get_or xs i d ∷ [] = rw add-one (take-suc xs i d h) in

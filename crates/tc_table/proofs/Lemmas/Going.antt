@@ -1,4 +1,4 @@
--- Which runs go on after one more entry.
+-- Which runs continue after one more entry.
 use Rattle.std.proofs.Common.{ℕ, ◌≡◌, ◌<◌, ◌==◌, ◌&&◌, ◌||◌, not, nat_le, if◌then◌else◌, Bool, true, false, Option, Some, None, is_some, List, [], ◌∷◌, refl, ap, sym, ◌∙◌}
 use Rattle.tc_verdict.specs.declared.run.Run.{Run}
 use Rattle.tc_entry.specs.declared.comp.Comp.{Comp}
@@ -168,7 +168,7 @@ last_on_it n (e ∷ past) c a some legal h =
     (rw (f.1.free, now) refl, (runs_on n past e a.0 (record { 0 = c }) legal.0 now).in_range))
     (λ l. let k = last_on_it n past c a some legal.1 l in (rw k.0 refl, k.1)) h
 
--- it does not go on where the component is not running
+-- it does not continue where the component is not running
 pub last_stands : (past : List Entry) (c : ℕ) (a : Run) → comp_of past a.0 ≡ Some (record { 0 = c }) → is_running (phase past c) ≡ false → is_active past a.0 ≡ false
 last_stands past c a on still = active_is past a.0 (record { 0 = c }) on ∙ not_the_run (phase past c) a.0 still
 

@@ -1,4 +1,4 @@
--- An entry that changes no component's phase, and whose caller goes on, wakes nobody.
+-- An entry that changes no component's phase, and whose caller continues, wakes nobody.
 use Rattle.std.proofs.Common.{ℕ, ◌≡◌, ◌==◌, ◌&&◌, ◌||◌, not, if◌then◌else◌, Bool, true, false, Option, Some, None, is_some, List, [], ◌∷◌, ◌++◌, drop, refl, ap, sym, ◌∙◌}
 use Rattle.std.specs.List.{list_any, list_all}
 use Rattle.tc_verdict.specs.declared.run.Run.{Run}
@@ -229,7 +229,7 @@ unfolding holds
 not_yet n past e true t legal q h = not_killed n past e t legal q h
 not_yet n past e false t legal q h = not_done n past e t legal q h
 
--- the caller goes on, so the case is not stuck
+-- the caller continues, so the case is not stuck
 
 now_in : (past : List Entry) (c : ℕ) → exists past c ≡ true → is_in c (comps past) ≡ true
 unfolding exists

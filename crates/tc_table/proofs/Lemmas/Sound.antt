@@ -23,7 +23,7 @@ use Rattle.tc_table.proofs.Lemmas.Steps.{phase_by}
 use Rattle.tc_table.proofs.Lemmas.Kept.{all_exist_more}
 use Rattle.tc_table.proofs.Lemmas.Deciding.{self_equal, equal_if, test_by, ok_is}
 
--- the call was made by a run that is going on, and is no error
+-- the call was made by a run that is active, and is no error
 pub record IsPlain (n : ℕ) (past : List Entry) (b : ℕ) (op : Op) (reply : Reply) : Type 0 where
   pub active : is_active past b ≡ true
   pub no_fault : fault n past b op ≡ None
@@ -47,7 +47,7 @@ exist_by true true f h = absurd cc
 exist_by true false f h = (refl, h)
 exist_by false many f h = absurd cc
 
--- where there is no error, the components that the call names exist
+-- if there is no error, the components that the call names exist
 pub names_exist : (n : ℕ) (past : List Entry) (b : ℕ) (op : Op) → fault n past b op ≡ None → all_exist past (names op) ≡ true
 unfolding fault
 names_exist n past b op h = (exist_by (all_exist past (names op)) (asks_many op && not (b == 0)) (special_fault n past op) h).0
@@ -164,7 +164,7 @@ parked_of n past b op _ a legal h = absurd cc
 pub parked : (n : ℕ) (past : List Entry) (e : Entry) (a : Awaited) → e.reply ≡ answer n past e.caller.0 e.op → parks e.op e.reply ≡ Some a → all_exist past (target_names a.target) ≡ true
 parked n past e a legal h = parked_of n past e.caller.0 e.op e.reply a legal h
 
--- a run that is on no component is answered Ended
+-- a run that is on no component is replied Ended
 pub no_parks : (n : ℕ) (past : List Entry) (e : Entry) → e.reply ≡ answer n past e.caller.0 e.op → comp_of past e.caller.0 ≡ None → parks e.op e.reply ≡ None
 unfolding answer is_active
 no_parks n past e legal none = let q : e.reply ≡ R.Ended = rw none at legal in rw q

@@ -1,11 +1,11 @@
--- What a reader may take from a state that stands for a history.
+-- What a reader may take from a state that represents a history.
 use Rattle.std.proofs.Common.{ℕ, ◌≡◌, List, subst}
 use Rattle.tc_entry.specs.declared.entry.Entry.{Entry}
 use Rattle.tc_table.specs.Standing.{Kept, StandsFor}
 use Rattle.tc_table.specs.Laws.{StandsForLegal}
 use Rattle.tc_table.specs.Legal.{IsLegal}
 
--- a history that a state stands for is legal
+-- a history that a state represents is legal
 pub stands_legal : StandsForLegal
 unfolding StandsFor
 stands_legal k past stands = stands.legal

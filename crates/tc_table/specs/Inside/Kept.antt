@@ -1,4 +1,4 @@
--- What the table keeps beside its history, and how that follows from the history.
+-- What the table keeps next to its history, and how that follows from the history.
 use Rattle.std.specs.Prelude.{ℕ, zero, suc, ◌≡◌, ◌+◌, ◌<◌, ◌≤◌, ◌&&◌, Bool, true, false, None, Some, is_some, List, [], ◌∷◌, length, slice_index_or}
 use Rattle.tc_entry.specs.Limits.{IsBehaviours}
 use Rattle.tc_entry.specs.declared.limits.TheConstants.{COMPONENTS}

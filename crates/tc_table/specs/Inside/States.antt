@@ -37,11 +37,11 @@ none_lapsed states = list_all (λ s. not (is_some s.last) || is_running s.phase 
 unfoldable pub all_below : List Comp → ℕ → Bool
 all_below cs count = list_all (λ c. nat_lt c.0 count) cs
 
--- run b is going on, and does not wait in vain
+-- run b is active, and does not wait in vain
 unfoldable pub goes_on : List Entry → ℕ → Bool
 goes_on past b = is_active past b && not (waits_in_vain past (waiting past b))
 
--- there is a component exactly where run b is going on
+-- there is a component exactly if run b is active
 abbrev pub IsThereIfActive : List Entry → ℕ → Option Comp → Type 0
 IsThereIfActive past b comp = MatchOption comp (is_active past b ≡ false) (λ c. is_active past b ≡ true)
 

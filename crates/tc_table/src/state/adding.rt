@@ -55,7 +55,7 @@ impl CaseState {
         Ok(())
     }
 
-    /// Takes in an entry with the reply that is the answer to it. Where memory is refused, the state stays as it was.
+    /// Takes in an entry with the reply that is the answer to it. If memory runs out, the state stays as it was.
     pub(crate) fn take(&mut self, entry: &Entry) -> Result<(), NoMemory>
         requires legal { IsReply self.old entry.now.caller entry.now.op entry.now.reply }
         ensures behaviours { self.new.behaviours ≡ self.old.behaviours }

@@ -1,4 +1,4 @@
-//! Which runs go on, which wait, and whether the case is stuck.
+//! Which runs continue, which wait, and whether the case is stuck.
 ghost use Rattle.std.specs.Prelude.{◌≡◌, ◌<◌, true, Some, IfSome, List, length};
 ghost use Rattle.tc_entry.specs.declared.entry.Entry.{Entry};
 ghost use Rattle.tc_table.specs.Standing.{StandsFor};
@@ -15,7 +15,7 @@ use tc_verdict::Run;
 
 #[tactic(auto, using(crate::proofs::Lemmas::Kept::kept_rules), unfolding(crate::specs::Standing::StandsFor))]
 impl CaseState {
-    /// The component of a run that is going on.
+    /// The component of a run that is active.
     pub(crate) fn active_on(&self, caller: Run) -> Option<Comp>
         ensures active { (past : List Entry) → StandsFor self.now past → tests.IsThereIfActive past caller.0 result }
         ensures on { (past : List Entry) → StandsFor self.now past → IfSome result (λ c. history.comp_of past caller.0 ≡ Some c) }
@@ -30,7 +30,7 @@ impl CaseState {
         }
     }
 
-    /// Whether a run is going on.
+    /// Whether a run is active.
     pub fn is_active(&self, run: Run) -> bool
         ensures { (past : List Entry) → StandsFor self.now past → result ≡ answers.is_active past run.0 }
     {
@@ -66,7 +66,7 @@ impl CaseState {
         }
     }
 
-    /// Whether a run is going on, and does not wait in vain.
+    /// Whether a run is active, and does not wait in vain.
     #[tactic(auto, using(crate::proofs::Lemmas::Kept::kept_rules, crate::proofs::Lemmas::Kept::wait_rules), unfolding(crate::specs::Inside::States::goes_on, crate::specs::Standing::StandsFor))]
     pub(crate) fn goes_on(&self, run: Run) -> bool
         ensures { (past : List Entry) → StandsFor self.now past → result ≡ tests.goes_on past run.0 }
@@ -77,7 +77,7 @@ impl CaseState {
         }
     }
 
-    /// Whether every run that is going on waits in vain.
+    /// Whether every run that is active waits in vain.
     pub(crate) fn is_stuck(&self) -> bool
         ensures { (past : List Entry) → StandsFor self.now past → result ≡ waits.is_stuck past }
     {

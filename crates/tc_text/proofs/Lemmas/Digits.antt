@@ -10,7 +10,7 @@ use Rattle.std.proofs.lemmas.Bool.Decides.{nat_tests}
 use Rattle.tc_text.specs.Reading.{EndsNumber}
 use Rattle.tc_text.specs.Inside.{NoDigitFirst}
 
--- the number that digits write behind those of n
+-- the number that digits write after those of n
 abbrev pub read_on : ℕ → List ℕ → ℕ
 read_on n [] = n
 read_on n (c ∷ cs) = read_on (10 * n + (c - 48)) cs

@@ -11,7 +11,7 @@ use Rattle.tc_text.proofs.Operands.{ends_nothing, IsThatNumber}
 use Rattle.tc_text.proofs.Lemmas.LinesOf.{line_ended, first_line}
 use Rattle.tc_text.proofs.Lemmas.Plain.{move_plain, behaviours_plain, some_behaviours, some_move}
 
--- a line may end behind a move
+-- a line may end after a move
 pub ends_line : (rest behind : List ℕ) → EndsLine rest behind → EndsMove rest
 ends_line rest behind (inl last) = rw last.0 ends_nothing
 ends_line rest behind (inr more) = rw more (record {
@@ -22,7 +22,7 @@ ends_line rest behind (inr more) = rw more (record {
     first_is : (x y : ℕ) (xs ys : List ℕ) → x ∷ xs ≡ y ∷ ys → x ≡ y
     first_is x y xs ys e = cc
 
--- and behind a reply
+-- and after a reply
 pub ends_reply : (rest behind : List ℕ) → EndsLine rest behind → EndsReply rest
 ends_reply rest behind (inl last) = rw last.0 (record { number = λ b after e. absurd cc; no_space = λ after e. cc })
 ends_reply rest behind (inr more) = record { number = (ends_line rest behind (inr more)).number; no_space = λ after e. let same : ◌≡◌ {A = ℕ} 10 32 = let whole = sym more ∙ e in cc in omega (arith, same) }
@@ -37,7 +37,7 @@ never_move text never m others fits lines =
     let begins = first_line text (move_line m) others lines in
     never m.0.0 m.1 begins.rest fits.0 fits.1 (ends_line begins.rest begins.behind begins.ends) begins.parts
 
--- what is read is that, and the end of the line and these lines stand behind it
+-- what is read is that, and the end of the line and these lines are after it
 pub record IsThat {A : Type 0} (one that : A) (rest : List ℕ) (others : List (List ℕ)) : Type 0 where
   pub same : one ≡ that
   pub behind : List ℕ

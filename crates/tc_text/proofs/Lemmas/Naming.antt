@@ -42,7 +42,7 @@ first_is x y xs ys e = cc
 others_are : (x y : ℕ) (xs ys : List ℕ) → x ∷ xs ≡ y ∷ ys → xs ≡ ys
 others_are x y xs ys e = cc
 
--- a text has one place before which no byte is low, and behind which one is or none stands
+-- a text has one place before which no byte is low, and after which one is or none comes
 pub same_cut : (name rest before after : List ℕ) → NoLow name → EndsNumber rest → NoLow before → EndsNumber after → name ++ rest ≡ before ++ after → (before ≡ name) × (after ≡ rest)
 same_cut [] rest [] after none ends none' ends' e = (refl, sym e)
 same_cut [] rest (b ∷ bs) after none ends none' ends' e = let low = ends b (bs ++ after) e in absurd (let high = none'.0 in omega (arith, low, high))

@@ -1,4 +1,4 @@
--- Lines that are shown, one behind another, and a line as its bytes are appended.
+-- Lines that are shown, one after another, and a line as its bytes are appended.
 use Rattle.std.proofs.Common.{ℕ, ◌≡◌, ◌∙◌, ◌&&◌, Bool, true, false, List, [], ◌∷◌, ◌++◌, Result, Ok, Err, OnOk, refl, ap, subst, append_assoc}
 use Rattle.std.specs.List.{list_all}
 use Rattle.tc_text.specs.Shown.{AddsLine, Shows, is_plain}
@@ -18,13 +18,13 @@ pub shows_one : {A : Type 0} (s : A) (a b : List ℕ) → AddsLine a b → Shows
 unfolding Shows
 shows_one s a b h = (b, h, refl)
 
--- some, and others behind them
+-- some, and others after them
 pub shows_then : {A : Type 0} (xs ys : List A) (a b c : List ℕ) → Shows xs a b → Shows ys b c → Shows (xs ++ ys) a c
 unfolding Shows
 shows_then [] ys a b c h k = subst (λ x. Shows ys x c) h k
 shows_then (x ∷ xs) ys a b c h k = (h.0, h.1, shows_then xs ys h.0 b c h.2 k)
 
--- a line, and others behind it
+-- a line, and others after it
 pub shows_before : {A : Type 0} (s : A) (ys : List A) (a b c : List ℕ) → Shows (s ∷ []) a b → Shows ys b c → Shows (s ∷ ys) a c
 shows_before s ys a b c h k = shows_then (s ∷ []) ys a b c h k
 

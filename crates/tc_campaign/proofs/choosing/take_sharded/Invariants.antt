@@ -3,7 +3,7 @@ use Rattle.std.specs.Vec.Iter.{into_iter_items, into_iter_len}
 use Rattle.tc_campaign.specs.Choosing.{placed}
 use Rattle.tc_campaign.proofs.choosing.take_sharded.Given as goal
 
--- what was taken so far, and what is to be taken of the rest, are the shard
+-- what was taken so far, and what will be taken of the rest, are the shard
 abbrev pub invariant-loop-case : goal.invariant-loop-case
 invariant-loop-case g l =
     (goal.iterator-loop-case g).can_next l.case-iterator

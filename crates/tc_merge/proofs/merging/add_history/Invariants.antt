@@ -4,7 +4,7 @@ use Rattle.tc_case.specs.Merge.{in_place, follows}
 use Rattle.tc_merge.specs.Inside.{Has}
 use Rattle.tc_merge.proofs.merging.add_history.Given as goal
 
--- the entries passed so far stand in their place, and the table has what follows them
+-- the entries passed so far are in their place, and the table has what follows them
 abbrev pub invariant-loop-entry : goal.invariant-loop-entry
 invariant-loop-entry l = (log : ℕ → List Entry) → Has l.logs log → Has l.initial.rests.items log →
     (Has l.rests.items (follows log (reverse (take l.entry-index l.history))) × (l.all.items ≡ l.fn.all.items ++ in_place log (reverse (take l.entry-index l.history))))
