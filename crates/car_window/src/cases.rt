@@ -10,7 +10,7 @@ use std::sync::{Arc, Wait};
 use tc_campaign::Case;
 use tc_entry::{Name, NoMemory};
 
-/// What blocks the way of a window, and at which step.
+/// The step at which something blocks the way of a window.
 const OBSTACLE: u64 = 5;
 
 /// What is wanted of a window on a free way.
@@ -19,7 +19,7 @@ pub(crate) const CLOSES: Stand = Stand {
     farthest: CLOSED,
 };
 
-/// What is wanted of a window that meets something: it has come so far, and is open again.
+/// What is wanted of a window that meets something: it has come this far, and is open again.
 pub(crate) const OPENS_AGAIN: Stand = Stand {
     position: OPEN,
     farthest: OBSTACLE,

@@ -20,7 +20,8 @@ fn a_broken_window_fails(rt: HostRuntime) -> Result<(), Fail> {
     Ok(())
 }
 
-/// A judge that looks at once says pass or fail of a sound window, by who comes first; one that waits says pass.
+/// A judge that looks at once says pass or fail of a sound window, depending on who comes first; one that waits says
+/// pass.
 #[test]
 fn a_hasty_judge_may_fail_a_sound_window(rt: HostRuntime) -> Result<(), Fail> {
     let alloc = rt.alloc();

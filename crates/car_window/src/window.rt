@@ -14,7 +14,7 @@ pub(crate) struct Stand {
     pub(crate) farthest: u64,
 }
 
-/// A window that a motor closes. If it meets something in its way it opens again; a broken one closes on.
+/// A window that a motor closes. If it meets something in its way it opens again; a broken one keeps closing.
 #[derive(Drop)]
 pub(crate) struct Window {
     position: AtomicU64,

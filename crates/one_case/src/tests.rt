@@ -1,4 +1,4 @@
-//! A device that is too hot ends the test case, and one that is not doesn't.
+//! A device that is too hot ends the test case; any other does not.
 use crate::WORKERS;
 use crate::behaviours::{guard, lead};
 use std::test::Fail;

@@ -20,7 +20,7 @@ use std::sync::Wait;
 use std::thread::Threads;
 use std::{env, io};
 
-/// The status: 0 if all is well, 1 if a report is not as it should be or too little was met, 3 if the words ask for
+/// The status: 0 if all is well, 1 if a report is not as it should be or too little was met, 3 if the arguments ask for
 /// nothing.
 fn run<R: Threads + Wait + Print + Eprint + Copy + Send + 'static>(
     rt: &R,

@@ -7,8 +7,8 @@ pub(crate) struct Task {
     pub(crate) seed: u64,
 }
 
-/// The task of the words `[CASES [SEED]]`, the first of which is the program's name; without them 40 cases. None if
-/// they are no such words.
+/// The task of the arguments `[CASES [SEED]]`, the first of which is the program's name; without them 40 cases. None if
+/// they are no such arguments.
 pub(crate) fn read_task(words: &[String]) -> Option<Task> {
     let mut task = Task {
         cases: 40,

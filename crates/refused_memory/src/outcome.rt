@@ -5,7 +5,7 @@
 pub enum Outcome {
     /// It answers as with ample memory.
     Right,
-    /// It answers that memory ran out, all is as before, and made again it answers as if it had been made once.
+    /// It says that memory ran out, all is as before, and made again it answers as if it had been made once.
     Refused,
     /// It is neither.
     Wrong(&'static str),

@@ -43,7 +43,7 @@ pub record IsRun (steps : List Step) (before after : PassState) (how : Ending) :
   pub bound : List Comp
   -- the steps before these were called, in order
   pub called : HasCalled steps before left bound after
-  -- how it came back depends on whether the pass has ended, and by whether steps are left
+  -- how it came back depends on whether the pass has ended, and on whether steps are left
   pub ending_is : how ≡ ending (has_ended after) left
 
 -- the run, its component and its arguments are the same, and the log has grown

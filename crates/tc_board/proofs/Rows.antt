@@ -1,4 +1,4 @@
--- The rule of the table where one row changes: what the other rows, words and seats keep.
+-- The rule of the table if one row changes: what the other rows, words and seats keep.
 use Rattle.std.proofs.Common.{◌≡◌, ◌≢◌, ℕ, zero, suc, ◌<◌, true, false, true≢false, List, [], ◌∷◌, map, length, set, get_or, refl, sym, ap, ◌∙◌, subst, ⊎_elim, arith, get_or-set_same, get_or-set_other}
 use Rattle.std.proofs.lemmas.List.{map-set}
 use mathlib.Core.Option.{some, some-injective, some-ne-none}
@@ -49,7 +49,7 @@ hand_knows rows keeper k seat r answers is = record { lists = λ p l e. at p l e
     at zero l e = subst (IsAt rows seat) (some-injective (list k answers) l e) (r, is)
     at (suc p) l e = absurd (some-ne-none l (sym e))
 
--- the words fit where a row and its word change
+-- the words fit if a row and its word change
 pub words_fit : (s : Board) (h : Holds s) (k word : ℕ) (new : Row) → k < length h.rows → Fits new.record_is new.answers word
     → (j : ℕ) (r : Row) → get_elem? (set h.rows k new) j ≡ some r → Fits r.record_is r.answers (get_or (set s.words k word) j 0)
 words_fit s h k word new less fits j r e = let wide = h.as_many in ⊎_elim

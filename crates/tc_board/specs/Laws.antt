@@ -7,12 +7,12 @@ use Rattle.tc_board.specs.declared.record.Record.TheVariants.{Open, Closed}
 use Rattle.tc_board.specs.declared.record.Record.{Record}
 use Rattle.tc_board.specs.Rule.{Fits}
 
--- where a word is open, no call of its hand was answered that it is closed: no setting is lost while its run continues
+-- if a word is open, no call of its hand was answered that it is closed: no setting is lost while its run continues
 abbrev pub OpenIsNeverShut : Type 0
 OpenIsNeverShut =
     (carried : UserVerdict) (answers : List Answer) (word i : ℕ) → Fits (Open carried) answers word → slice_get answers i ≢ Some Shut
 
--- where a call of a hand was answered that its word is closed, the keeper has closed it
+-- if a call of a hand was answered that its word is closed, the keeper has closed it
 abbrev pub ShutIsClosed : Type 0
 ShutIsClosed =
     (r : Record) (answers : List Answer) (word i : ℕ) → Fits r answers word → slice_get answers i ≡ Some Shut →

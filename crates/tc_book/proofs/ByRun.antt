@@ -77,7 +77,7 @@ left_next parts rests more h i e inside here taken left b d below =
     let end : part (take (i + 1) h) b ≡ part (take i h) b ++ own = ap (λ l. part l b) next ∙ part_end (take i h) e b in
     left b d below ∙ (ap (λ l. part (take i h) b ++ l) (taken b d below) ∙ (sym (append_assoc (part (take i h) b) own after) ∙ ap (λ l. l ++ after) (sym end)))
 
--- where the next entry is not the first of what is left of its run's part, this is not the run's part
+-- if the next entry is not the first of what is left of its run's part, this is not the run's part
 pub no_next : (parts : List (List Entry)) (rests : List (Bor (List Entry))) (h : List Entry) (i : ℕ) (e : Entry) (d : Bor (List Entry)) → i < length h → e ≡ get_or h i e → e.caller.0 < length parts →
     ((es : List Entry) → (get_or rests e.caller.0 d).now ≡ e ∷ es → ⊥) → AreLeft parts rests (take i h) → KnowsParts parts h → ⊥
 no_next parts rests h i e d inside here below other left known =

@@ -84,7 +84,7 @@ sizes h (l ∷ lefts) fits =
     let rest = sizes h lefts (λ k d q. fits (suc k) d (omega arith)) in
     omega (arith, here, rest, sum_by-cons (λ (m : LeftState). length m.log) l lefts, sum_by-cons (λ (m : LeftState). size_if (comp_of (reverse h) m.run.0) h m.run.0) l lefts)
 
--- where what came back is whole, the history is as long as the logs of the report
+-- if what came back is whole, the history is as long as the logs of the report
 pub whole_logged : (n : ℕ) (h : List Entry) (lefts : List LeftState) → IsWhole n h lefts → length h ≡ logged (logs_below h n)
 whole_logged n h lefts whole =
     let size : ℕ → ℕ = λ b. size_if (comp_of (reverse h) b) h b in
@@ -144,7 +144,7 @@ empty_if : {A : Type 0} (xs : List A) → length xs ≡ 0 → xs ≡ []
 empty_if [] h = refl
 empty_if (x ∷ xs) h = absurd (omega arith)
 
--- where the history is as long as the logs, a run that was never started made no call
+-- if the history is as long as the logs, a run that was never started made no call
 pub no_others : (h : List Entry) (n b : ℕ) → length h ≡ logged (logs_below h n) → comp_of (reverse h) b ≡ None → part h b ≡ []
 no_others h n b as_long none =
     let k = bounded (λ c. comp_of (reverse h) c) h n b none in

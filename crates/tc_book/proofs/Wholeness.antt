@@ -53,7 +53,7 @@ own_log (l ∷ lefts) (suc k) d below one =
     by_test true there before count = absurd (omega (arith, one, there, count))
     by_test false there before count = before (omega (arith, one, count))
 
--- where what came back fits a history, the log by a run's number is the run's part of it
+-- if what came back fits a history, the log by a run's number is the run's part of it
 pub log_of_fits : (h : List Entry) (lefts : List LeftState) (b : ℕ) → 1 ≤ count_by (is_of_run b) lefts → All (IsFitting h) lefts → log_of (map run_log lefts) b ≡ part h b
 log_of_fits h [] b some fits = absurd (omega arith)
 log_of_fits h (l ∷ lefts) b some fits =
@@ -65,7 +65,7 @@ log_of_fits h (l ∷ lefts) b some fits =
     by_test true same before count = let q : l.run.0 ≡ b = grind (arith, nat_tests) in (fits 0 l (omega arith)).part ∙ ap (part h) q
     by_test false other before count = before (omega (arith, some, count))
 
--- where these are what is kept of the merged history, what came back is whole by it
+-- if these are what is kept of the merged history, what came back is whole by it
 pub whole_by : (n : ℕ) (starts : List (Option (Comp × List Comp))) (parts : List (List Entry)) (h : List Entry) (lefts : List LeftState) →
     IsJoined n starts h lefts → AreLogs n parts lefts → KnowsParts parts h → is_over (reverse h) ≡ true → all_started (reverse h) ≡ true → length h ≡ logged (map run_log lefts) → IsWhole n h lefts
 whole_by n starts parts h lefts joined put parts_known over started as_long =

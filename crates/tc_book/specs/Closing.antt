@@ -28,7 +28,7 @@ pub record IsOneEach (n : ℕ) (lefts : List LeftState) : Type 0 where
 pub record IsFitting (history : List Entry) (l : LeftState) : Type 0 where
   -- its log is its part
   pub part : l.log ≡ part history l.run.0
-  -- above run 0 its component and arguments are those of its Start that was replied Ok, none if there is no such
+  -- above run 0 its component and arguments are those of its Start that was replied Ok, none if there is no such Start
   pub started : 0 < l.run.0 → l.started ≡ start_of (reverse history) l.run.0
   -- the log of a run that was never started is empty
   pub unstarted : comp_of (reverse history) l.run.0 ≡ None → l.log ≡ []

@@ -64,6 +64,6 @@ abbrev pub Waits : Bool → Target → PassState → PassState → Reply → Typ
 Waits killed target p q r =
     (q ≡ added p (O.Wait killed target) r) ⊎ (q ≡ added (added p (O.Wait killed target) R.Parked) (O.Wake killed target) r)
 
--- a wait is answered where its target holds
+-- a wait is answered if its target holds
 abbrev pub IsWait : Bool → Target → PassState → PassState → Result (Unit {0}) Halt → Type 0
 IsWait killed target before after result = IsAnswered (λ _. R.Matched) (Waits killed target before after) before after result

@@ -17,12 +17,12 @@ abbrev pub is_made : Reply → Bool
 is_made (R.Made c) = true
 is_made _ = false
 
--- yes or no is answered
+-- the reply is yes or no
 abbrev pub is_answer : Reply → Bool
 is_answer (R.Answer b) = true
 is_answer _ = false
 
--- a local verdict is answered that a word can have: error is never in one
+-- the reply is a local verdict that a word can have: error is never in one
 abbrev pub is_local : Reply → Bool
 is_local (R.Local V.Error) = false
 is_local (R.Local v) = true

@@ -186,7 +186,7 @@ impl Book {
         Some(reply)
     }
 
-    /// Gives up a run's place for its leaving, and where its pass has not ended adds its Finish.
+    /// Gives up a run's place for its leaving, and adds its Finish if its pass has not ended.
     pub fn leave(&mut self, run: Run, ended: bool) -> Option<Option<Reply>>
         ensures behaviours { self.new.behaviours ≡ self.old.behaviours }
         ensures none { IfNone result (self.new ≡ self.old) }

@@ -79,7 +79,7 @@ impl LoggedBook {
         }
     }
 
-    /// Whether a run waits on under the lock; then it is noted what it waits for.
+    /// Whether a run keeps waiting under the lock; then it is noted what it waits for.
     pub(crate) fn waits(&mut self, run: Run, until: Until) -> bool
         ensures book { self.new.book ≡ self.old.book }
         ensures waits { result ≡ not (goes_on self.old.book run until) }
@@ -151,7 +151,7 @@ impl LoggedBook {
         Some((reply, WakeUp::new(tells)))
     }
 
-    /// Gives up the place of the log's run, and where the run has not ended adds its Finish to the history and to the log.
+    /// Gives up the place of the log's run, and adds its Finish to the history and to the log if the run has not ended.
     pub(crate) fn leave(&mut self, log: &mut Log) -> Option<(Option<Reply>, WakeUp)>
         requires room { 1 ≤ log.old.room }
         ensures none { IfNone result (self.new.book ≡ self.old.book) }
@@ -205,8 +205,8 @@ impl LoggedBook {
         self.book.is_legal();
     }
 
-    /// What one that waits for a run's start is answered: its start, once its hand has met its word, or where the case is over
-    /// without, that it was not started. Nothing before that.
+    /// The answer to a wait for a run's start: the start, once its hand has met its word; or that the run was not
+    /// started, if the case is over without that. There is none before.
     pub(crate) fn start_or_end(
         &mut self,
         run: Run,

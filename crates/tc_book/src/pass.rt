@@ -296,7 +296,7 @@ impl Pass {
         }
     }
 
-    /// Leaves the case, with a Finish where the run has not ended.
+    /// Leaves the case, with a Finish if the run has not ended.
     pub fn leave<R: Wait>(self, rt: &R) -> Left
         ensures run { result.run ≡ self.run }
         ensures started { result.started ≡ Some (self.me, self.args) }

@@ -146,7 +146,7 @@ impl Shared {
         reply
     }
 
-    /// Gives up the place of the log's run, and records its Finish where the run has not ended.
+    /// Gives up the place of the log's run, and records its Finish if the run has not ended.
     pub(crate) fn leave<R: Wait>(&self, rt: &R, log: &mut Log) -> Option<Reply>
         requires room { 1 ≤ log.old.room }
         ensures run { log.new.run ≡ log.old.run }
@@ -173,8 +173,8 @@ impl Shared {
         }
     }
 
-    /// What a run was started with, once it was started and its hand has met its word; or, once the case is over without, that it
-    /// was not.
+    /// What a run was started with, once it was started and its hand has met its word; or that it was not started, once
+    /// the case is over without that.
     pub(crate) fn await_start<R: Wait>(
         &self,
         rt: &R,

@@ -51,30 +51,30 @@ IsRefusal threads C.TooManyBehaviours c = BEHAVIOURS < c.jobs
 IsRefusal threads C.NoThread c = (1 < c.jobs) × (c.jobs ≤ BEHAVIOURS)
 IsRefusal threads why c = IsBehaviours c.jobs × (c.jobs ≤ threads + 1)
 
--- where a run of this case is refused for what its jobs handed back, each was called, did not run out of memory, and
+-- if a run of this case is refused for what its jobs handed back, each was called, did not run out of memory, and
 -- handed it back
 abbrev pub IsTorn : {B : Type 0} → (B → PassState → Back → Type 0) → CaseError → Case B → Type 0
 IsTorn outcome C.Torn c = IsHandedBack outcome c.jobs.items
 IsTorn outcome why c = ⊤
 
--- where the campaign was aborted, a run of the next case can be refused so
+-- if the campaign was aborted, a run of the next case can be refused so
 abbrev pub IsWhy : ℕ → Option Outline → CampaignEnd → Type 0
 IsWhy threads next (E.Aborted name why) = IfSome next (IsRefusal threads why)
 IsWhy threads next ending = ⊤
 
--- where the campaign was aborted for what the jobs of the next case handed back, each was called, did not run out of
+-- if the campaign was aborted for what the jobs of the next case handed back, each was called, did not run out of
 -- memory, and handed it back
 abbrev pub IsTornAt : {B : Type 0} → (B → PassState → Back → Type 0) → Option (Case B) → CampaignEnd → Type 0
 IsTornAt outcome next (E.Aborted name why) = IfSome next (IsTorn outcome why)
 IsTornAt outcome next ending = ⊤
 
--- the campaign was aborted for want of room for its reports, and none of its cases was run
+-- the campaign was aborted because there was no room for its reports, and none of its cases was run
 abbrev pub IsWithoutRoom : List Finished → CampaignEnd → Type 0
 IsWithoutRoom finished (E.Aborted name why) = (finished ≡ []) × (why ≡ C.NoMemory)
 IsWithoutRoom finished ending = ⊥
 
 module _ {C : Type 0} (outline : C → Outline) (called : C → Finished → Type 0) (cases : List C) (stop_on : Option Verdict) (threads : ℕ) where
-  -- these test cases were finished, of a beginning of the list, and none of them but the last ended the campaign
+  -- these test cases were finished, the first of the list, and none except the last ended the campaign
   pub record AreFinished (finished : List Finished) : Type 0 where
     -- they have the names and behaviour names of the list, in order
     pub names : AllZip IsOfCase (take (length finished) (map outline cases)) finished

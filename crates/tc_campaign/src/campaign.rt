@@ -134,7 +134,7 @@ fn ending_without_room<B: Callable>(cases: Vec<Case<B>>) -> CampaignEnd
     }
 }
 
-// The results of a campaign of which no test case is run for want of room.
+// The results of a campaign of which no test case is run because there is no room.
 fn unrun<B: Callable>(alloc: Global, cases: Vec<Case<B>>) -> Results
     ensures none { result.finished ≡ [] }
     ensures ending { IsUnrun (map outline_of cases.items) result.ending }

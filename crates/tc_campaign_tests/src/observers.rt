@@ -243,7 +243,7 @@ fn whole_lines(part: &str) -> u64 {
     ends.count() as u64
 }
 
-// A test case begins where the header, and each test case before, has been written whole.
+// A test case begins if the header, and each test case before, has been written whole.
 #[test]
 fn no_case_begins_behind_a_write_fault(rt: HostRuntime) -> Result<(), Fail> {
     for fails_at in 0..=TABLE.len() {

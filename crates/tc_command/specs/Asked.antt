@@ -1,4 +1,4 @@
--- What the words of a command line ask for.
+-- What the arguments ask for.
 use Rattle.std.specs.Prelude.{◌≡◌, Bool, true, false, ◌&&◌, List, [], ◌∷◌, Option, Some, None, Result, Ok, Err, All, codes, find}
 use Rattle.std.specs.Prelude.{if◌then◌else◌, is_none, option_and_then, unwrap_or}
 use Rattle.std.specs.List.{list_any}
@@ -26,16 +26,16 @@ use Rattle.tc_command.specs.declared.word.WordFault.TheVariants as W
 use Rattle.tc_command.specs.Command.{ttrun}
 use Rattle.tc_command.specs.Words.{IsBad, IsGood, IsRuleOf, IsShardOf, IsStatesOf}
 
--- the value comes from the words, and is no default
+-- the value comes from the arguments, and is no default
 abbrev pub is_from_words : Option ValueSource → Bool
 is_from_words (Some CommandLine) = true
 is_from_words source = false
 
--- the words have the option
+-- the arguments have the option
 abbrev pub is_given : List Row → Text → Bool
 is_given rows option = is_from_words (option_and_then (λ r. r.source) (find (λ r. bytes_eq r.id option) rows))
 
--- the words after all uses of the option
+-- the values of all uses of the option
 abbrev pub words_of : Text → List Row → List Text
 words_of option rows = unwrap_or (all_of option rows) []
 
@@ -91,8 +91,8 @@ option_faults line =
     if list_any (are_both line.1) (apart line.0) then ArgumentConflict ∷ []
     else (if lacks_form line.0 line.1 then MissingRequiredArgument ∷ [] else [])
 
--- why the words are refused, as the kinds of the first fault, or that they ask for help or the version; none if they
--- are taken
+-- why the arguments are refused, as the kinds of the first fault, or that they ask for help or the version; none if
+-- they are taken
 abbrev pub faults : List Text → Kinds
 faults words = or_else (fault_of ttrun words) (option_faults (line_of (subcommand_of ttrun words)))
 
@@ -121,7 +121,8 @@ Asks (S.Run, rows) (T.Run o) = (is_given rows (codes "list") ≡ false) × AsksR
 Asks (S.Run, rows) (T.List c) = (is_given rows (codes "list") ≡ true) × Chooses rows c
 Asks line task = ⊥
 
--- a word of these options names nothing, and it is the first: that of --shard, then that of --stop-on or --states, and then those of --only
+-- a value of these options names nothing, and it is the first: that of --shard, then that of --stop-on or --states, and
+-- then those of --only
 abbrev pub HasBadWord : List Row → WordFault → Type 0
 HasBadWord rows W.Shard = IsBad IsShardOf (first_of (codes "shard") rows)
 HasBadWord rows W.StopOn = IsGood IsShardOf (first_of (codes "shard") rows) × IsBad IsRuleOf (first_of (codes "stop-on") rows)
@@ -130,8 +131,8 @@ HasBadWord rows W.Only =
     IsGood IsShardOf (first_of (codes "shard") rows) × IsGood IsRuleOf (first_of (codes "stop-on") rows)
     × (All IsName (words_of (codes "only") rows) → ⊥)
 
--- what the words are read as: the task that they ask for; or clap's error, of the kind of their first fault; or, if
--- there is none, a word after an option that names nothing
+-- what the arguments are read as: the task that they ask for; or clap's error, of the kind of their first fault; or, if
+-- there is none, an option value that names nothing
 abbrev pub IsReading : List Text → Result Task Refused → Type 0
 IsReading words (Ok task) = (faults words ≡ []) × Asks (line_of (subcommand_of ttrun words)) task
 IsReading words (Err (R.Line e)) = HasKind (faults words) e

@@ -3,15 +3,15 @@ use Rattle.std.specs.Prelude.{List, [], ◌∷◌, Some, true, codes}
 use Rattle.clap.specs.Words.{App, Rule, Text, new_app, new_rule, with_rule, with_subcommand}
 use Rattle.clap.specs.declared.builder.action.ArgAction.TheVariants.{Append, Set, SetTrue}
 
--- an option of this name, which takes no word
+-- an option of this name, which takes no value
 abbrev pub flag_rule : Text → Rule
 flag_rule name = record (new_rule name) { long = Some name; action = Some SetTrue }
 
--- an option of this name, which takes one word
+-- an option of this name, which takes one value
 abbrev pub word_rule : Text → Rule
 word_rule name = record (new_rule name) { long = Some name; action = Some Set; value_names = 1 }
 
--- an option of this name, which takes one word, and may be again and again
+-- an option of this name, which takes one value, and may be given several times
 abbrev pub words_rule : Text → Rule
 words_rule name = record (new_rule name) { long = Some name; action = Some Append; value_names = 1 }
 

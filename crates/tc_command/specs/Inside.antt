@@ -1,4 +1,4 @@
--- What only the reading of the words needs: no public clause rests on a word of this file.
+-- What only the reading of the arguments needs: no public clause rests on a word of this file.
 use Rattle.std.specs.Prelude.{◌≡◌, ◌==◌, ◌||◌, ◌∷◌, [], Bool, List, Option, Some, None, if◌then◌else◌, true}
 use Rattle.std.specs.List.{list_any}
 use Rattle.clap.specs.Words.{App, Row, Rule, Text, app_of, kind_of, with_rule, with_subcommand}
@@ -31,13 +31,13 @@ abbrev pub IsClash : Bool → Refusal → Type 0
 IsClash some (R.Conflict first second) = some ≡ true
 IsClash some refusal = ⊥
 
--- a word is refused for this reason, or memory
+-- a value is refused for this reason, or memory ran out
 abbrev pub IsBadWord : Type 0 → WordFault → Refusal → Type 0
 IsBadWord Why fault (R.Word f) = (f ≡ fault) × Why
 IsBadWord Why fault R.NoMemory = Unit {0}
 IsBadWord Why fault refusal = ⊥
 
--- the first word that names nothing is refused, or memory
+-- the first value that names nothing is refused, or memory ran out
 abbrev pub IsWordRefused : List Row → Refusal → Type 0
 IsWordRefused rows (R.Word fault) = HasBadWord rows fault
 IsWordRefused rows R.NoMemory = Unit {0}
@@ -47,14 +47,14 @@ IsWordRefused rows refusal = ⊥
 abbrev pub IsTaken : Subcommand × List Row → Task → Type 0
 IsTaken line task = (option_faults line ≡ []) × Asks line task
 
--- how the refusal is said: by an error of its kind, or as a word that names nothing
+-- how the refusal is said: by an error of its kind, or as a value that names nothing
 abbrev pub IsToldBy : Refusal → Refused → Type 0
 IsToldBy (R.Conflict first second) (Told.Line e) = kind_of e ≡ ArgumentConflict
 IsToldBy R.NoForm (Told.Line e) = kind_of e ≡ MissingRequiredArgument
 IsToldBy (R.Word fault) (Told.Word f) = f ≡ fault
 IsToldBy refusal refused = ⊥
 
--- an option of this name, which takes that many words
+-- an option of this name, which takes that many values
 abbrev pub rule_taking : Takes → Text → Rule
 rule_taking T.Nothing name = flag_rule name
 rule_taking (T.Word word) name = word_rule name
@@ -87,15 +87,15 @@ abbrev pub with_each : List Subcommand → App → App
 with_each [] app = app
 with_each (s ∷ ss) app = with_each ss (with_subcommand app (app_of_subcommand s).top)
 
--- the word has a dot or a slash
+-- the argument has a dot or a slash
 abbrev pub looks_like_file : Text → Bool
 looks_like_file word = list_any (λ b. (b == 46) || (b == 47)) word
 
--- the word, if it looks like the path of a file
+-- the argument, if it looks like the path of a file
 abbrev pub if_file : Text → Option Text
 if_file word = if looks_like_file word then Some word else None
 
--- the first word after the program's name, if it looks like the path of a file
+-- the first argument after the program's name, if it looks like the path of a file
 abbrev pub stray_file : List Text → Option Text
 stray_file [] = None
 stray_file (program ∷ []) = None

@@ -1,4 +1,4 @@
--- The words after options, and what they name.
+-- The values of options, and what they name.
 use Rattle.std.specs.Prelude.{ℕ, ◌≡◌, ◌≤◌, ◌<◌, ◌+◌, ◌^◌, List, ◌∷◌, ◌++◌, Option, Some, None, codes}
 use Rattle.std.specs.Fmt.{decimal}
 use Rattle.clap.specs.Words.{Text}
@@ -8,17 +8,17 @@ use Rattle.tc_verdict.specs.Verdict.{name_of}
 use Rattle.tc_command.specs.declared.word.WordFault.{WordFault}
 use Rattle.tc_command.specs.declared.word.WordFault.TheVariants as F
 
--- the word is K/N, in decimal: this is the K-th of N shards, and K is from 1 to N
+-- the value is K/N, in decimal: this is the K-th of N shards, and K is from 1 to N
 abbrev pub IsShardWord : Text → ShardView → Type 0
 IsShardWord word s = (word ≡ decimal (s.place + 1) ++ (47 ∷ decimal s.shards)) × IsShard s × (s.shards < 2 ^ 32)
 
--- the word of an option names this; without a word there is nothing
+-- the value of an option names this; without a value there is nothing
 abbrev pub IsNamed : {T : Type 0} → (Text → T → Type 0) → Option Text → Option T → Type 0
 IsNamed Names None None = Unit {0}
 IsNamed Names (Some word) (Some x) = Names word x
 IsNamed Names word x = ⊥
 
--- the shard is that of the word
+-- the shard is that of the value
 abbrev pub IsShardOf : Option Text → Option ShardView → Type 0
 IsShardOf = IsNamed IsShardWord
 
@@ -26,20 +26,20 @@ IsShardOf = IsNamed IsShardWord
 abbrev pub IsRuleOf : Option Text → Option Verdict → Type 0
 IsRuleOf = IsNamed (λ word v. word ≡ name_of v)
 
--- that many states are looked at: those that the word names, from 1 to a million; without a word a hundred thousand
+-- that many states are looked at: those that the value names, from 1 to a million; without a value a hundred thousand
 abbrev pub IsStatesOf : Option Text → ℕ → Type 0
 IsStatesOf None n = n ≡ 100000
 IsStatesOf (Some word) n = (1 ≤ n) × (n ≤ 1000000) × (word ≡ decimal n)
 
--- the word names nothing
+-- the value names nothing
 abbrev pub IsBad : {T : Type 0} → (Option Text → T → Type 0) → Option Text → Type 0
 IsBad {T} Names word = (x : T) → Names word x → ⊥
 
--- the word names something
+-- the value names something
 abbrev pub IsGood : {T : Type 0} → (Option Text → T → Type 0) → Option Text → Type 0
 IsGood {T} Names word = (x : T) × Names word x
 
--- what is said of a word that names nothing
+-- what is said of a value that names nothing
 abbrev pub text_of : WordFault → List ℕ
 text_of F.StopOn = codes "--stop-on takes none, pass, inconc, fail or error"
 text_of F.States = codes "--states takes a number from 1 to 1000000"

@@ -31,7 +31,7 @@ shards, K from 1 to N, has those whose place, from 0, is K - 1 modulo N.
 --list stands with --only and --shard alone, and --junit not with --live.
 Status: 0 for none and pass, 1 for inconc and fail, 2 for error, 3 for an abort or a refusal.";
 
-// The words that an option takes, by what the help calls one: none, one, or one each time that the option is given.
+// The values that an option takes, by what the help calls one: none, one, or one each time that the option is given.
 #[derive(Clone, Copy)]
 enum Takes {
     Nothing,
@@ -39,7 +39,7 @@ enum Takes {
     Words(&'static str),
 }
 
-// An option: its name, the words that it takes, and what the help says of it.
+// An option: its name, the values that it takes, and what the help says of it.
 #[derive(Clone, Copy)]
 struct OptionRow(&'static str, Takes, &'static str);
 
@@ -119,7 +119,7 @@ const REPORT_OPTIONS: [OptionRow; 4] = [
     EXPLAIN,
 ];
 
-// An option that takes no word.
+// An option that takes no value.
 fn flag<'a>(alloc: Global, name: &'a str, help: &'a str) -> Arg<'a>
     ensures rule { rule_of result ≡ flag_rule name.entry.now }
     ensures local { result.global ≡ false }
@@ -130,7 +130,7 @@ fn flag<'a>(alloc: Global, name: &'a str, help: &'a str) -> Arg<'a>
         .action(ArgAction::SetTrue)
 }
 
-// An option that takes one word.
+// An option that takes one value.
 fn option<'a>(alloc: Global, name: &'a str, word: &'a str, help: &'a str) -> Arg<'a>
     ensures rule { rule_of result ≡ word_rule name.entry.now }
     ensures local { result.global ≡ false }
@@ -142,7 +142,7 @@ fn option<'a>(alloc: Global, name: &'a str, word: &'a str, help: &'a str) -> Arg
         .action(ArgAction::Set)
 }
 
-// An option that takes one word, and may be again and again.
+// An option that takes one value, and may be given several times.
 fn repeated_option<'a>(alloc: Global, name: &'a str, word: &'a str, help: &'a str) -> Arg<'a>
     ensures rule { rule_of result ≡ words_rule name.entry.now }
     ensures local { result.global ≡ false }

@@ -1,4 +1,4 @@
-//! What the words of the program's command line ask for.
+//! What the arguments of the program ask for.
 #![tactic(auto)]
 
 mod command;

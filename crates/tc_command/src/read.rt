@@ -1,4 +1,4 @@
-//! Words, and the task that they ask for.
+//! The arguments, and the task that they ask for.
 ghost use Rattle.std.specs.Prelude.{◌≡◌, All, IfOk, IfErr, List, None, OnOk, codes, false, map, option_copied, string_bytes, true};
 ghost use Rattle.std.specs.List.{list_any};
 ghost use Rattle.clap.specs.Words.{FailsBy, Row, app_of, fault_of, first_of, found_of, is_simple, is_simple_and_free, rows_of, subcommand_of, subcommand_rows_of};
@@ -21,10 +21,10 @@ use clap::{ArgMatches, Command, Error};
 use std::alloc::{AllocError, Global};
 use tc_entry::Name;
 
-/// Why words ask for no task.
+/// Why arguments ask for no task.
 #[derive(Drop)]
 pub enum Refused {
-    /// They ask for help or for the version, or the command line is refused, or memory was.
+    /// They ask for help or for the version, or are refused, or memory ran out.
     Line(Error),
     /// The value of an option names nothing.
     Word(WordFault),
@@ -65,7 +65,7 @@ fn apart(subcommand: Subcommand) -> &'static [(&'static str, &'static str)]
     }
 }
 
-// Whether the words have this option.
+// Whether the arguments have this option.
 #[tactic(auto, using(crate::proofs::Options::source_of))]
 fn has_option(matches: &ArgMatches<'_>, id: &str) -> bool
     ensures { result ≡ is_given (rows_of (found_of matches.now)) id.now }
@@ -89,7 +89,7 @@ fn refuse_both(
     Ok(())
 }
 
-// The word of this option, the first if it has more.
+// The value of this option, the first if it has more.
 #[tactic(auto, using(crate::proofs::Options::first_word))]
 fn word_of<'a>(options: &ArgMatches<'a>, id: &str) -> Option<&'a str>
     ensures { option_copied result ≡ first_of id.now (rows_of (found_of options.now)) }
@@ -255,7 +255,7 @@ fn task(alloc: Global, matches: &ArgMatches<'_>) -> Result<Task, Refusal>
     }
 }
 
-// What the command finds in the words.
+// What the command finds in the arguments.
 fn parsed<'a>(
     alloc: Global,
     command: &mut Command<'a>,
@@ -272,7 +272,7 @@ fn parsed<'a>(
     }
 }
 
-// What the words ask for, as the program's command reads them.
+// What the arguments ask for, as the program's command reads them.
 fn read_by<'a>(
     alloc: Global,
     command: &mut Command<'a>,
@@ -290,10 +290,10 @@ fn read_by<'a>(
     }
 }
 
-/// What the words ask for, the first of which is the program's name; with no further word it is `run`. An error of the
-/// kind DisplayHelp answers words that ask for help, one of the kind DisplayVersion words that ask for the version, any
-/// other one words that are refused. Words of which each option may be, and one after an option names nothing, are
-/// refused for that word.
+/// What the arguments ask for, the first of which is the program's name; with no further one it is `run`. An error of
+/// the kind DisplayHelp answers arguments that ask for help, one of the kind DisplayVersion those that ask for the
+/// version, any other one arguments that are refused. If each option may be given, and the value of one names nothing,
+/// that value is refused.
 pub fn read_task(alloc: Global, words: &[String]) -> Result<Task, Refused>
     ensures { IsReading (map string_bytes words.entry.now) result }
 {

@@ -1,4 +1,4 @@
-//! Why words ask for nothing.
+//! Why arguments ask for nothing.
 ghost use Rattle.std.specs.Prelude.{◌≡◌, IfOk};
 ghost use Rattle.clap.specs.Words.{kind_of};
 ghost use Rattle.clap.specs.declared.error.kind.ErrorKind.TheVariants.{ArgumentConflict};
@@ -69,7 +69,7 @@ fn conflict_error(
     command.error(ErrorKind::ArgumentConflict, text.as_str())
 }
 
-/// The refusal as it is said: as a word that names nothing, or by an error with the usage of the command.
+/// The refusal as it is said: as a value that names nothing, or by an error with the usage of the command.
 pub(crate) fn told_of(
     alloc: Global,
     command: &mut Command<'_>,

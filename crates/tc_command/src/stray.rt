@@ -1,4 +1,4 @@
-//! A word that is no subcommand, and looks like the path of a file.
+//! An argument that is no subcommand, and looks like the path of a file.
 ghost use Rattle.std.specs.Prelude.{◌≡◌, IfOk, map, option_map, string_bytes};
 ghost use Rattle.clap.specs.Words.{kind_of};
 ghost use Rattle.clap.specs.declared.error.kind.ErrorKind.TheVariants.{InvalidSubcommand};
@@ -8,7 +8,7 @@ use clap::error::ErrorKind;
 use clap::{Command, Error};
 use std::alloc::{AllocError, Global};
 
-// Whether the word has a dot or a slash.
+// Whether the argument has a dot or a slash.
 fn looks_like_file(word: &str) -> bool
     ensures { result ≡ spec_looks word.now }
 {
@@ -17,7 +17,7 @@ fn looks_like_file(word: &str) -> bool
         .any(|byte| *byte == b'.' || *byte == b'/')
 }
 
-// The first word after the program's name, if it looks like the path of a file: it has a dot or a slash.
+// The first argument after the program's name, if it looks like the path of a file: it has a dot or a slash.
 fn stray_file(words: &[String]) -> Option<&str>
     ensures { option_map (λ w. w.now) result ≡ spec_stray (map string_bytes words.now) }
 {
@@ -32,7 +32,7 @@ fn stray_file(words: &[String]) -> Option<&str>
     }
 }
 
-// The error of a word that is no subcommand, with a tip how a file is read.
+// The error of an argument that is no subcommand, with a tip how a file is read.
 fn file_error(alloc: Global, command: &mut Command<'_>, word: &str) -> Result<Error, AllocError>
     ensures { IfOk result (λ e. kind_of e ≡ InvalidSubcommand) }
 {
@@ -40,7 +40,7 @@ fn file_error(alloc: Global, command: &mut Command<'_>, word: &str) -> Result<Er
     command.error(ErrorKind::InvalidSubcommand, text.as_str())
 }
 
-/// The error for words that are refused, with a tip where a file is instead of a subcommand; its kind stays.
+/// The error for arguments that are refused, with a tip if a file is given instead of a subcommand; its kind stays.
 pub(crate) fn with_tip(
     alloc: Global,
     command: &mut Command<'_>,

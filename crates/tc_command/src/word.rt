@@ -1,4 +1,4 @@
-//! The words after options, and what they name.
+//! The values of options, and what they name.
 ghost use Rattle.std.specs.Prelude.{◌≡◌, ◌≤◌, All, IfOk, IfErr, IfSome, IfNone, map, option_copied, ℕ};
 ghost use Rattle.std.specs.Fmt.{decimal};
 ghost use Rattle.tc_entry.specs.Name.{IsName};
@@ -13,10 +13,10 @@ use tc_entry::{Name, Shard};
 use tc_text::{read_number, take_number};
 use tc_verdict::{Verdict, read_name};
 
-/// At how many states of a test case `explore` looks if no word says it.
+/// At how many states of a test case `explore` looks without `--states`.
 const STATES: usize = 100_000;
 
-/// The option after which a word names nothing.
+/// The option whose value names nothing.
 #[derive(Clone, Copy, Debug, PartialEq, Eq)]
 pub enum WordFault {
     /// `--stop-on`.
@@ -30,7 +30,7 @@ pub enum WordFault {
 }
 
 impl WordFault {
-    /// What is said of the word.
+    /// What is said of the value.
     pub fn text(self) -> &'static str
         ensures { result.now ≡ text_of self }
     {
@@ -43,7 +43,7 @@ impl WordFault {
     }
 }
 
-// The shard of a word.
+// The shard of a value.
 fn read_shard(word: &str) -> Option<Shard>
     ensures some { IfSome result (IsShardWord word.now) }
     ensures none { IfNone result ((s : ShardView) → IsShardWord word.now s → ⊥) }
@@ -56,7 +56,7 @@ fn read_shard(word: &str) -> Option<Shard>
     Shard::new(number, read_number(rest)?)
 }
 
-/// The shard of the word of `--shard`, if there is one.
+/// The shard of `--shard`, if there is one.
 pub(crate) fn shard(word: Option<&str>) -> Result<Option<Shard>, WordFault>
     ensures taken { IfOk result (IsShardOf (option_copied word.entry)) }
     ensures refused { IfErr result (λ f. (f ≡ fault.Shard) × IsBad IsShardOf (option_copied word.entry)) }
@@ -70,7 +70,7 @@ pub(crate) fn shard(word: Option<&str>) -> Result<Option<Shard>, WordFault>
     }
 }
 
-/// The verdict of the word of `--stop-on`, if there is one.
+/// The verdict of `--stop-on`, if there is one.
 pub(crate) fn stop_on(word: Option<&str>) -> Result<Option<Verdict>, WordFault>
     ensures taken { IfOk result (IsRuleOf (option_copied word.entry)) }
     ensures refused { IfErr result (λ f. (f ≡ fault.StopOn) × IsBad IsRuleOf (option_copied word.entry)) }
@@ -84,7 +84,7 @@ pub(crate) fn stop_on(word: Option<&str>) -> Result<Option<Verdict>, WordFault>
     }
 }
 
-// The number of states that a word names.
+// The number of states that a value names.
 fn read_states(word: &str) -> Option<usize>
     ensures some { IfSome result (λ n. (1 ≤ n) × (n ≤ 1000000) × (word.now ≡ decimal n)) }
     ensures none { IfNone result ((n : ℕ) → 1 ≤ n → n ≤ 1000000 → word.now ≡ decimal n → ⊥) }
@@ -97,7 +97,7 @@ fn read_states(word: &str) -> Option<usize>
     }
 }
 
-/// The number of states of the word of `--states`, or that which holds without one.
+/// The number of states of `--states`, or the one without it.
 pub(crate) fn states(word: Option<&str>) -> Result<usize, WordFault>
     ensures taken { IfOk result (IsStatesOf (option_copied word.entry)) }
     ensures refused { IfErr result (λ f. (f ≡ fault.States) × IsBad IsStatesOf (option_copied word.entry)) }
@@ -111,7 +111,7 @@ pub(crate) fn states(word: Option<&str>) -> Result<usize, WordFault>
     }
 }
 
-/// The names of the words of `--only`.
+/// The names of `--only`.
 pub(crate) fn names(alloc: Global, words: &[&str]) -> Result<Vec<Name>, Refusal>
     ensures taken { IfOk result (λ v. v.items ≡ map (λ w. w.now) words.now) }
     ensures refused { IfErr result (IsBadWord (All IsName (map (λ w. w.now) words.now) → ⊥) fault.Only) }

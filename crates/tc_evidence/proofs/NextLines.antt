@@ -92,7 +92,7 @@ said_next n text run true bytes rest l spelled few less only same is = subst (λ
 abbrev pub IsNoNaming : ℕ → List ℕ → Type 0
 IsNoNaming n text = (k : ℕ) (name : List ℕ) (others : List (List ℕ)) → k < n → IsName name → lines_of text ≡ naming_text k name ∷ others → ⊥
 
--- where the first line names no behaviour, only what a run says is left
+-- if the first line names no behaviour, only what a run says is left
 pub note_of_said : (n : ℕ) (before : List Line) (text : List ℕ) → IsNoNaming n text → (found : Option (Line × Bor (List ℕ))) → IsFound (IsSaidBy n) text found → IsFound (IsNote n before) text found
 note_of_said n before text none None is = none_by
   where
@@ -188,7 +188,7 @@ entry_next kind n before text e rest small spelled is less only = record { spell
     that (L.Refused run sentence) others fits lines =
         absurd (entry_not_said (format_of kind) e true run.0 sentence is (low run.0 n fits.few small) (head_is (entry_text e) (said_text true run.0 sentence) (lines_of rest) others (sym spelled ∙ lines)))
 
--- where the first line is no entry, only another line of evidence is left
+-- if the first line is no entry, only another line of evidence is left
 pub line_of_note : (n : ℕ) (before : List Line) (text : List ℕ) → IsNoEntryLine 2 text → (found : Option (Line × Bor (List ℕ))) → IsFound (IsNote n before) text found → IsFound (IsLine K.Evidence n before) text found
 line_of_note n before text none None is = none_by
   where

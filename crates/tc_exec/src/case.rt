@@ -208,8 +208,8 @@ pub fn run_case<R: Threads + Wait + Copy + Send + 'static>(
     run_case_with(rt, alloc, jobs, threads, &mut Everyone)
 }
 
-/// Runs a test case as `run_case` does, of jobs of any kind. The gate is asked once for each worker, in the order of the runs, right before
-/// its thread is made; where it refuses one, no later run is asked about.
+/// Runs a test case as `run_case` does, of jobs of any kind. The gate is asked once for each worker, in the order of
+/// the runs, right before its thread is made; if it refuses one, no later run is asked about.
 pub fn run_case_with<R: Threads + Wait + Copy + Send + 'static, B: Callable, G: Gate>(
     rt: &R,
     alloc: Global,

@@ -381,7 +381,7 @@ fn reply_of_start(alloc: Global, report: &CaseReport, ran: bool) -> Option<Reply
     Some(start.reply)
 }
 
-/// How late the Kill is in this round, or the Start: in one of eight rounds each, and more where the threads have been slow.
+/// How late the Kill is in this round, or the Start: in one of eight rounds each, and more if the threads have been slow.
 fn lateness(round: u32, place: u32) -> Option<u64> {
     if round % 8 == place {
         Some(if round < 200 { 2 } else { 20 })

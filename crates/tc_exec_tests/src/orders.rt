@@ -127,7 +127,7 @@ impl Player {
         }
     }
 
-    /// Makes the next of these calls; after the last, or where the pass has ended, leaves.
+    /// Makes the next of these calls; after the last, or if the pass has ended, leaves.
     fn step<R: Wait>(&mut self, rt: &R, calls: &[Call]) -> Step {
         match self.enter(rt) {
             Some(Ok(pass)) => self.go_on(rt, pass, calls.get(self.made).copied()),
@@ -136,7 +136,7 @@ impl Player {
         }
     }
 
-    /// Makes this call on the pass; without one, or where the pass has ended, leaves.
+    /// Makes this call on the pass; without one, or if the pass has ended, leaves.
     fn go_on<R: Wait>(&mut self, rt: &R, pass: Pass, call: Option<Call>) -> Step {
         let mut pass = pass;
         match call {
@@ -332,7 +332,7 @@ fn replayed<R: Abort>(rt: &R, alloc: Global, history: &[Entry]) -> Verdict {
     got(rt, replay_check(alloc, 3, history))
 }
 
-/// Plays a small case in an order: it closes, with a legal history. Counts where a StopCase ended it.
+/// Plays a small case in an order: it closes, with a legal history. Counts it if a StopCase ended it.
 fn play_and_replay<R: Abort + Wait>(
     rt: &R,
     alloc: Global,

@@ -15,8 +15,7 @@ is_step K.Behaviour = false
 is_step K.End = false
 is_step _ = true
 
--- the keyword may be where a test case and a behaviour are open, or not; whether the test case has a behaviour is
--- printed
+-- the keyword may be where a test case and a behaviour are open, or not; whether the test case has a behaviour is given
 abbrev pub may_stand : Option ℕ → Option ℕ → Bool → Keyword → Bool
 may_stand None inner filled K.TestCase = true
 may_stand None inner filled _ = false
@@ -32,7 +31,7 @@ may_stand (Some case) (Some behaviour) filled _ = true
 abbrev pub spelled : (Keyword → Bool) → List Keyword → List (List ℕ)
 spelled p keywords = map keyword_text (filter p keywords)
 
--- the keywords of a script that may be if this is open
+-- the keywords of a script that may come while this is open
 abbrev pub script_words : Opened → List (List ℕ)
 script_words o = spelled (may_stand o.outer o.inner o.filled) KEYWORDS
 
@@ -58,7 +57,7 @@ abbrev pub nearest : List ℕ → List (List ℕ) → Option (List ℕ)
 nearest word [] = None
 nearest word (w ∷ ws) = Some (nearer word w (nearest word ws))
 
--- the word, where at most a third of its letters must change
+-- the word, if at most a third of its letters must change
 abbrev pub helpful : List ℕ → Option (List ℕ) → Option (List ℕ)
 helpful word None = None
 helpful word (Some near) = if nat_le (3 * distance word near) (max 3 (length word)) then Some near else None

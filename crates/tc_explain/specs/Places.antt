@@ -13,7 +13,7 @@ starts place inside (b ∷ bs) =
     else if place == 0 then 0
     else suc (starts (place - 1) true bs)
 
--- how many bytes are before the first space after a space, at the line's begin or at its end, if there is one
+-- how many bytes are before the first space after a space, at the line's beginning or at its end, if there is one
 unfoldable pub spaced : Bool → List ℕ → ℕ
 spaced after [] = 0
 spaced after (b ∷ bs) = if is_space b && (after || (length bs == 0)) then 0 else suc (spaced (is_space b) bs)

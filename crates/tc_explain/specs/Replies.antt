@@ -46,7 +46,7 @@ behind_reply w =
 abbrev pub behind_first : List ℕ → Option Slot
 behind_first w = if is_text w (keyword_text K.End) then Some S.Overall else slot_if (is_digits w) S.Verb
 
--- what follows a word of a move: where the move may end, after the arrow a reply
+-- what follows a word of a move: if the move may end, and after the arrow a reply
 abbrev pub behind_call : Slot → List ℕ → Option Slot
 behind_call slot w = if may_end slot && is_text w (codes "->") then Some S.Reply else next true slot w
 
@@ -65,7 +65,7 @@ entry_ends S.Error = true
 entry_ends S.LineEnd = true
 entry_ends _ = false
 
--- the arrow, if a move has ended; whether the words end too is printed
+-- the arrow, if a move has ended; whether the words end too is given
 abbrev pub arrow_at : Bool → Slot → Slot
 arrow_at ended S.End = S.Arrow
 arrow_at ended slot = if ended && may_end slot then S.Arrow else slot

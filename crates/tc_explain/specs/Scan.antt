@@ -61,7 +61,7 @@ begins word line =
     else if is_text word (keyword_text K.TestCase) then Some (if list_any (λ b. b == 40) line then S.Source else S.Script)
     else None
 
--- the same of a line with these words, or what the lines after it say where it says nothing
+-- the same of a line with these words, or what the lines after it say if it says nothing
 abbrev pub seems_by : List ℕ → List (List ℕ) → Option Sort → Option Sort
 seems_by line [] rest = rest
 seems_by line (w ∷ ws) rest = if is_comment w then rest else begins w line

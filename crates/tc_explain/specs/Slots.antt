@@ -60,7 +60,7 @@ behind_word moves (Some k) = behind_keyword moves k
 abbrev pub behind_verb : List ℕ → Option Slot
 behind_verb w = if is_text w wake_text then Some S.Status else if is_text w finish_text then Some S.End else behind_word true (keyword w)
 
--- this one, if the word may be
+-- this slot, if the word may be there
 abbrev pub slot_if : Bool → Slot → Option Slot
 slot_if b s = if b then Some s else None
 

@@ -21,7 +21,7 @@ fn is_step(keyword: Keyword) -> bool
     }
 }
 
-// Whether the keyword may be if this is open.
+// Whether the keyword may come while this is open.
 fn stands_in(opened: Opened, keyword: Keyword) -> bool
     ensures { result ≡ may_stand opened.outer opened.inner opened.filled keyword }
 {
@@ -36,7 +36,7 @@ fn stands_in(opened: Opened, keyword: Keyword) -> bool
     }
 }
 
-// The keywords that may be if this is open, as they are spelled.
+// The keywords that may come while this is open, as they are spelled.
 fn standing(
     alloc: Global,
     opened: Opened,
@@ -77,7 +77,7 @@ fn steps(alloc: Global, keywords: &[Keyword]) -> Result<Vec<&'static str>, NoMem
     Ok(words)
 }
 
-/// The keywords of a script that may be if this is open.
+/// The keywords of a script that may come while this is open.
 pub(crate) fn script_words(alloc: Global, opened: Opened) -> Result<Vec<&'static str>, NoMemory>
     ensures { IfOk result (λ v. map (λ w. w.now) v.items ≡ words_at opened) }
 {

@@ -154,7 +154,7 @@ fn behind_verb(word: &[u8]) -> Option<Slot>
     }
 }
 
-/// The slot, if the word may be.
+/// The slot, if the word may be there.
 pub(crate) fn slot_where(stands: bool, slot: Slot) -> Option<Slot>
     ensures { result ≡ slot_if stands slot }
 {

@@ -1,4 +1,4 @@
-//! The place at which a line stops to be understood.
+//! The place at which a line stops being understood.
 ghost use Rattle.std.specs.Prelude.{◌≡◌, ◌&&◌, false, length, map, nat_le, true};
 ghost use Rattle.tc_explain.specs.declared.slot.Slot.TheVariants as S;
 ghost use Rattle.tc_explain.specs.Slots.{may_end, walk};

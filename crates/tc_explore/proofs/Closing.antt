@@ -548,7 +548,7 @@ place_if_parked : (s : Stand) (wake : Op) (place : ℕ) → s.wake ≡ Some wake
 place_if_parked s wake place h more = rw h (omega (arith, more))
 
 module _ {scripts : List ScriptView} {p q : List Entry} where
-  -- where p is stuck no run is leaving: the one whose component comes first by rank would continue
+  -- if p is stuck no run is leaving: the one whose component comes first by rank would continue
   none_ending : IsCourse scripts p → (f : IsFor scripts q p) → is_stuck p ≡ true → (m c : ℕ) → IsEnding scripts p q c → f.order.rank c < m → ⊥
   none_ending cp f stuck zero c n l = absurd (omega (arith, l))
   none_ending cp f stuck (suc m) c n l = by_phase (none_ending cp f stuck m) (f.ahead.phases met.comp.0)

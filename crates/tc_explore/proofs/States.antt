@@ -70,7 +70,7 @@ closed_at scripts a b found i u v more near same at closed t here =
     let past : past_of u ≡ past_of t = ap reverse (same ∙ ap (λ (x : Case). x.history) (at ∙ sym is)) in
     subst (IsClosed scripts (IsSeen b) found) past closed
 
--- where such a copy was looked at
+-- if such a copy was looked at
 pub closed_at_if : {E : Type 0} (scripts : List ScriptView) (a b : List Case) (found : List Witness) (i : ℕ) (u v : Case) (r : Result Bool E) → i < length a → u.history ≡ v.history → v ≡ get_or a i v → OnOk r (IsLonger a b) →
     IfOk r (λ is. is ≡ true → IsClosed scripts (IsSeen b) found (past_of u)) → IfOk r (λ is. is ≡ true → IsClosedAt scripts b found i)
 closed_at_if scripts a b found i u v (Ok is) near same at more closed = λ h. closed_at scripts a b found i u v more near same at (closed h)

@@ -88,7 +88,7 @@ abbrev pub stand : List Entry → ℕ → Stand
 stand [] b = opening b
 stand (e ∷ past) b = next e b (stand past b)
 
--- after this reply the caller has gone on, or the case is over
+-- after this reply the caller has continued, or the case is over
 abbrev pub goes_on : Reply → Bool
 goes_on R.Ended = false
 goes_on R.Parked = false

@@ -50,7 +50,7 @@ verdict_words found =
 abbrev pub states_words : ℕ → List ℕ
 states_words states = codes " undecided after " ++ (decimal states ++ codes " states")
 
--- how the search ended, and where something may be missed how many states it looked at
+-- how the search ended, and, if something may be missed, how many states it looked at
 abbrev pub ending_words : Ending → ℕ → List ℕ
 ending_words E.Complete states = codes " complete"
 ending_words E.Undecided states = states_words states

@@ -45,7 +45,7 @@ pub(crate) fn wake_after(entry: &Entry) -> Option<Op>
     }
 }
 
-/// Whether after this reply the caller has gone on, or the case is over.
+/// Whether after this reply the caller has continued, or the case is over.
 pub(crate) fn has_gone_on(reply: Reply) -> bool
     ensures { result ≡ courses.goes_on reply }
 {

@@ -55,8 +55,8 @@ fn is_at(states: &[Course], at: usize, course: &Course, scripts: &[Script]) -> b
     is_same(course, &states[at], scripts)
 }
 
-// Takes in the state of a course, and returns whether it is among those that are seen: so it is, but where as many as
-// the limit are met. A key that represents another state as well is no hindrance.
+// Takes in the state of a course, and returns whether it is among those that are seen: it is, unless as many as the
+// limit are met. A key that represents another state as well is no hindrance.
 #[tactic(auto, using(crate::proofs::Seeing::seeing_rules, crate::proofs::Keeping::keeping_rules))]
 fn place(alloc: Global, scripts: &[Script], course: Course, met: &mut Met) -> Result<bool, NoMemory>
     requires some { 1 ≤ length scripts.now }

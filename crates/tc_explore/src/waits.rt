@@ -138,7 +138,7 @@ fn append_waiting(
     Ok(())
 }
 
-/// Appends who waits for whom where a witness ends since no run can continue. If memory runs out, a part of it.
+/// Appends who waits for whom in a witness that ends since no run can continue. If memory runs out, a part of it.
 #[tactic(auto, unfolding(crate::specs::Waits::waits), using(tc_text::proofs::Lemmas::Showing::show_rules))]
 pub(crate) fn append_waits(
     alloc: Global,

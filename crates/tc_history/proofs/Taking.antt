@@ -117,7 +117,7 @@ made_only stands text rest line value so none all is =
 pub made_bad : {H : Type 0} (stands : List Block → H → Type 0) (text rest : List ℕ) (line : ℕ) (value : H) (fault : TextFault) → IsMadeSoFar stands text rest line value → IsBlockFault rest line fault → IsHistoryFault text fault
 made_bad stands text rest line value fault so bad = first_fault text so.blocks rest line fault so.read.are bad
 
--- where the text spells histories, only NoMemory comes instead of the next
+-- if the text spells histories, only NoMemory comes instead of the next
 pub made_refused : {H : Type 0} (stands : List Block → H → Type 0) (text rest : List ℕ) (line : ℕ) (value : H) (fault : TextFault) → IsMadeSoFar stands text rest line value → rest ≢ [] →
     ((c : Block) (others : List (List ℕ)) → IsBlock line c → lines_of rest ≡ block_lines c ++ others → fault ≡ F.NoMemory) → (all : List Block) → AreHistories text all → fault ≡ F.NoMemory
 made_refused stands text rest line value fault so some only all is = refused_only text so.blocks rest line fault so.read some only all is

@@ -106,7 +106,7 @@ fn read_named_create(word: &[u8], alive: bool, given: &[u8]) -> Result<Line, Lin
     }))
 }
 
-// The create that binds the word, where what follows it says that the component is alive-type.
+// The create that binds the word, if what follows it says that the component is alive-type.
 fn read_alive_create(word: &[u8], says: &[u8]) -> Result<Line, LineFault>
     ensures { Gives result (if is_text says.now (codes "alive") then create word.now true else Err BadLine) }
 {
@@ -116,7 +116,7 @@ fn read_alive_create(word: &[u8], says: &[u8]) -> Result<Line, LineFault>
     read_unnamed_create(word, true)
 }
 
-// The create that binds the word, where what is in front of the given name says that it is one.
+// The create that binds the word, if what is in front of the given name says that it is one.
 fn read_given_create(word: &[u8], alive: bool, says: &[u8], given: &[u8]) -> Result<Line, LineFault>
     ensures { Gives result (if is_text says.now (codes "named") then create_named word.now alive given.now else Err BadLine) }
 {

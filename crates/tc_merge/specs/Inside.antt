@@ -8,7 +8,7 @@ use Rattle.tc_case.specs.Merge.{after_other, in_place}
 abbrev pub entries_of : List (Bor (List Entry)) → ℕ → Bor (List Entry) → List Entry
 entries_of table b d = (slice_index_or table b d).now
 
--- where one table has entries of run b, the other has what follows the first other entry of them
+-- if one table has entries of run b, the other has what follows the first other entry of them
 abbrev pub IsMovedOn : List (Bor (List Entry)) → List (Bor (List Entry)) → ℕ → Type 0
 IsMovedOn before after b = (d : Bor (List Entry)) → b < length before → entries_of after b d ≡ after_other (entries_of before b d)
 

@@ -6,7 +6,7 @@ use tc_evidence::{Block, append_whole_block, read_evidence};
 use tc_text::{TextFault, append_number, append_text};
 use tc_verdict::NoMemory;
 
-/// Texts with `~` for each LF, and what comes of each: the number of entries where the text is read, and written again
+/// Texts with `~` for each LF, and what comes of each: the number of entries if the text is read, and written again
 /// as it was; otherwise its fault.
 const TEXTS: &str = "\
 evidence 1 t 1~end none~ => 0

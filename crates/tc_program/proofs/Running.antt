@@ -61,7 +61,7 @@ untold tells start finished none = subst (λ fs. IsToldBy tells start start (tol
 abbrev pub name_of : {W : Type 0} → LiveWriter W → GName
 name_of l = l.writer.ghost_name
 
--- where a live writer has done nothing, its writer holds what it held
+-- if a live writer has done nothing, its writer holds what it held
 pub writes_nothing : {W A : Type 0} (contents : W → Option (List ℕ)) (ending : Option A) (before after : LiveWriter W) → IfNone ending (after ≡ before)
     → IfNone ending (contents after.writer.now ≡ contents before.writer.now)
 writes_nothing contents None before after same = ap (λ (l : LiveWriter _). contents l.writer.now) same

@@ -106,7 +106,7 @@ module _ (cs : List CaseView) (ks : List (Case ScriptView)) (stop_on : Option Ve
         behaviours = are.behaviours;
       }
 
-  -- and so are they where the campaign ended
+  -- and so are they if the campaign ended
   results : (fs : List Finished) (ending : CampaignEnd) → IsRunTo outline_of (IsCalled Acts) ks stop_on threads fs ending
       → IsRunTo script_outline IsScripted cs stop_on threads fs ending
   results fs ending are = record {

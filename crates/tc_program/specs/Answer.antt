@@ -1,4 +1,4 @@
--- What the program does with its words.
+-- What the program does with its arguments.
 use Rattle.std.specs.Prelude.{ℕ, ◌≡◌, ◌≢◌, ◌⊎◌, List, Option, Result, IfOk, IfErr, OnErr, codes}
 use Rattle.std.specs.Io.KnownBytes.{Appends, Keeps}
 use Rattle.std.specs.declared.io.ErrorKind.{ErrorKind as IoKind}
@@ -20,7 +20,7 @@ use Rattle.tc_program.specs.Streams.{Streams}
 use Rattle.tc_program.specs.Tell.{IsRefusal, IsTold}
 use Rattle.tc_program.specs.declared.fault.RunFault.{RunFault}
 
--- the words are refused, and not because memory ran out; they ask neither for help nor for the version
+-- the arguments are refused, and not because memory ran out; they ask neither for help nor for the version
 abbrev pub IsMistake : ErrorKind → Type 0
 IsMistake kind = (kind ≢ Kinds.DisplayHelp) × (kind ≢ Kinds.DisplayVersion) × (kind ≢ Kinds.OutOfMemory)
 
@@ -31,27 +31,27 @@ IsHelped s outcome = (text : List ℕ) ×
     ((Appends s.before s.after text × Keeps s.untold s.told × (outcome.status ≡ 0))
     ⊎ ((fault : RunFault) × LeavesUnwritten s.before s.after text fault × IsRefusal s.untold s.told (line_of fault) outcome))
 
--- the words are not available, since memory ran out or one is no text; the line says which, and takes no memory if it
--- is the second
+-- the arguments are not available, since memory ran out or one is no text; the line says which, and takes no memory if
+-- it is the second
 abbrev pub IsUnread : IoKind → Option (List ℕ) → Option (List ℕ) → Outcome → Type 0
 IsUnread IoKinds.OutOfMemory untold told outcome = IsRefusal untold told (line_of F.NoMemory) outcome
 IsUnread kind untold told outcome = (outcome.status ≡ 3) × IsTold untold told (said (codes "an argument is not UTF-8")) outcome.told
 
--- what comes of words that clap takes for no task, by the kind of its error: help, the version or a refusal was shown,
--- or that memory ran out. For refused words, and without memory, nothing was written.
+-- what comes of arguments that clap takes for no task, by the kind of its error: help, the version or a refusal was
+-- shown, or that memory ran out. For refused arguments, and without memory, nothing was written.
 pub record IsNoTask (kind : ErrorKind) (streams : Streams) (Unwritten : Type 0) (outcome : Outcome) : Type 0 where
   pub help : kind ≡ Kinds.DisplayHelp → IsHelped streams outcome
   pub version : kind ≡ Kinds.DisplayVersion → IsHelped streams outcome
   pub mistake : IsMistake kind → ((text : List ℕ) × IsRefusal streams.untold streams.told text outcome) × Unwritten
   pub memory : kind ≡ Kinds.OutOfMemory → IsRefusal streams.untold streams.told (line_of F.NoMemory) outcome × Unwritten
 
--- the same of any words that are refused: of one that names nothing the line says so, and nothing was written
+-- the same of any arguments that are refused: if a value names nothing, the line says so, and nothing was written
 abbrev pub IsRefused : Refused → Streams → Type 0 → Outcome → Type 0
 IsRefused (R.Line error) streams Unwritten outcome = IsNoTask (kind_of error) streams Unwritten outcome
 IsRefused (R.Word fault) streams Unwritten outcome = IsRefusal streams.untold streams.told (said (text_of fault)) outcome × Unwritten
 
--- What the words are read as is what they ask for by the rules of the command line. They are a task, which was carried out; or they ask
--- for no task, and the input was not read.
+-- The arguments are read as what they ask for by the rules of the command line. They are a task, which was carried out;
+-- or they ask for no task, and the input was not read.
 pub record IsAnswered (words : List (List ℕ)) (input : Option (List ℕ)) (streams : Streams) (Unread Unwritten : Type 0) (outcome : Outcome) : Type 0 where
   pub answer : Result Task Refused
   pub reading : IsReading words answer

@@ -22,7 +22,7 @@ refusal_of (T.Report form true) (F.Text (X.At line kind)) = Some (R.Histories ki
 refusal_of (T.Run o) (F.Script fault) = if o.explains then Some (R.Script fault.kind, fault.line) else None
 refusal_of task fault = None
 
--- what is explained of the text, where something is
+-- what is explained of the text, if something is
 abbrev pub notes_of : Option (Refusal × ℕ) → List ℕ → List Note
 notes_of None text = []
 notes_of (Some what) text = explanation what.0 text what.1

@@ -241,7 +241,7 @@ WritesTo task text before after (Ok status) = (a : Answer) × Makes task text a 
 WritesTo task text before after (Err F.Write) = (a : Answer) × Makes task text a × AppendsPrefix before after a.out
 WritesTo task text before after (Err fault) = Refuses task text fault × Keeps before after
 
--- where the answer is made of the text, the task is done
+-- if the answer is made of the text, the task is done
 abbrev pub GivesTo : Task → List ℕ → Answer → Streams → Outcome → Type 0
 GivesTo task text a s outcome = Makes task text a → IsDone task text s outcome
 
@@ -249,7 +249,8 @@ GivesTo task text a s outcome = Makes task text a → IsDone task text s outcome
 abbrev pub ShowsText : Option (List ℕ) → Option (List ℕ) → Result (Unit {0}) RunFault → Type 0
 ShowsText before after answer = (text : List ℕ) × MatchResult answer (λ _. Appends before after text) (LeavesUnwritten before after text)
 
--- what comes of words that are refused, by what two writers held before and after: first the output, and then standard error
+-- what comes of arguments that are refused, by what two writers held before and after: first the output, and then
+-- standard error
 abbrev pub ShowsNoTask : {W E : Type 0} → (W → Option (List ℕ)) → W → W → (E → Option (List ℕ)) → E → E → Refused → Outcome → Type 0
 ShowsNoTask contents w w' lines e e' why outcome = IsRefused why (held contents w w' lines e e') (w' ≡ w) outcome
 

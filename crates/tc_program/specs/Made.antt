@@ -1,4 +1,4 @@
--- What a task makes of its text, and what a call over a reader and a writer answers.
+-- What a task makes of its text, and what a call over a reader and a writer returns.
 use Rattle.std.specs.Prelude.{ℕ, ◌≡◌, ◌⊎◌, List, [], MatchResult, Option, Result, Ok, Err}
 use Rattle.std.specs.Io.KnownBytes.{Appends, Keeps}
 use Rattle.tc_stream.specs.Output.{AppendsPrefix}

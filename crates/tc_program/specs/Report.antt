@@ -25,8 +25,7 @@ form_of Forms.Html text ss = page_of text
 abbrev pub reported : ReportForm → List ℕ → List Summary → Answer
 reported form text ss = record { out = form_of form text ss; told = []; status = status_of_summaries ss }
 
--- what is answered where a history is not legal: nothing is written, its line of `check` is printed, and the status is
--- 3
+-- what is answered if a history is not legal: nothing is written, its line of `check` is printed, and the status is 3
 abbrev pub unreported : List ℕ → Answer
 unreported line = record { out = []; told = codes "ttrun: " ++ line; status = 3 }
 

@@ -7,7 +7,7 @@ use Rattle.tc_program.specs.declared.fault.RunFault.TheVariants as F
 use Rattle.tc_program.specs.declared.outcome.Outcome.{Outcome}
 use Rattle.tc_program.specs.Fault.{line_of}
 
--- by this answer the text was printed whole, or a prefix of it where the writer failed; there is no other fault
+-- by this answer the text was printed whole, or a prefix of it if the writer failed; there is no other fault
 abbrev pub IsTold : Option (List ℕ) → Option (List ℕ) → List ℕ → Result (Unit {0}) RunFault → Type 0
 IsTold untold told text (Ok done) = Appends untold told text
 IsTold untold told text (Err F.Write) = AppendsPrefix untold told text

@@ -1,4 +1,4 @@
--- What a person at a terminal is printed before the input is read.
+-- The line for a person at a terminal, before the input is read.
 use Rattle.std.specs.Prelude.{ℕ, List, ◌∷◌, [], ◌++◌, Option, Some, None, codes, if◌then◌else◌}
 use Rattle.std.specs.Str.{bytes_eq}
 

@@ -1,4 +1,4 @@
-//! What the program does with its words.
+//! What the program does with its arguments.
 ghost use Rattle.std.specs.Prelude.{◌≡◌, IfOk, IfErr, OnErr, List, ℕ, map, string_bytes};
 ghost use Rattle.std.specs.IoError.{error_kind};
 ghost use Rattle.clap.specs.Values.{kind_of};
@@ -42,8 +42,8 @@ fn mistake_text(alloc: Global, error: &Error) -> Result<Vec<u8>, NoMemory> {
     }
 }
 
-// The outcome of words that ask for no task: help or the version is written, and for refused words standard error says
-// why, in clap's texts. If memory runs out for the words, standard error says that.
+// The outcome of arguments that ask for no task: help or the version is written, and for refused arguments standard
+// error says why, in clap's texts. If memory runs out for the arguments, standard error says that.
 fn answer_no_task<W: Write, E: Write>(
     alloc: Global,
     error: &Error,
@@ -72,7 +72,7 @@ fn answer_no_task<W: Write, E: Write>(
     }
 }
 
-// The outcome of words that are refused, as one fact.
+// The outcome of arguments that are refused, as one fact.
 fn answer_refused<W: Write, E: Write>(
     alloc: Global,
     refused: &Refused,
@@ -87,7 +87,7 @@ fn answer_refused<W: Write, E: Write>(
     }
 }
 
-// The outcome of words that could not be had; standard error says why.
+// The outcome of arguments that are not available; standard error says why.
 fn answer_unread<E: Write>(alloc: Global, error: &io::Error, errors: &mut E) -> Outcome
     ensures { IsUnread (error_kind error.now) (E.contents errors.old) (E.contents errors.new) result }
 {
@@ -100,7 +100,7 @@ fn answer_unread<E: Write>(alloc: Global, error: &io::Error, errors: &mut E) -> 
     }
 }
 
-/// Does what the words ask for, the first of which is the program's name; they may not have been had.
+/// Does what the arguments ask for, the first of which is the program's name; they may not be available.
 pub fn answer<R, I: Read, W: Write, E: Write>(
     rt: &R,
     alloc: Global,

@@ -87,7 +87,7 @@ where
     finish(alloc, task, text, made, writer, errors)
 }
 
-/// Does what the words ask for.
+/// Does what the task asks for with its input.
 pub fn carry_out<R, I: Read, W: Write, E: Write>(
     rt: &R,
     alloc: Global,

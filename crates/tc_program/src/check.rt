@@ -66,7 +66,7 @@ impl TakesHistories for Checking {
     }
 }
 
-// The status if all histories are legal, and where one is not.
+// The status if all histories are legal, and if one is not.
 fn status_of(legal: bool) -> u8
     ensures { result ≡ (if legal then 0 else 3) }
 {

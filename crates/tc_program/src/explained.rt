@@ -48,7 +48,7 @@ fn append_notes(
     Ok(())
 }
 
-// Appends what is explained of the text, where something is.
+// Appends what is explained of the text, if something is.
 #[tactic(auto, using(tc_text::proofs::Lemmas::Showing::shows_none))]
 fn append_explained(
     alloc: Global,

@@ -32,7 +32,7 @@ pub enum RunFault {
     Text(TextFault),
     /// The input spells no campaign.
     Script(ScriptFault),
-    /// The word of `--stop-on` is the name of no verdict.
+    /// The value of `--stop-on` is the name of no verdict.
     StopOn,
     /// A name of `--only` is that of no test case of the script.
     Only,

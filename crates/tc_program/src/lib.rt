@@ -1,4 +1,5 @@
-//! What the program `ttrun` does with its words, its input and its output; the program itself is little more than this library's `answer`.
+//! What the program `ttrun` does with its arguments, its input and its output; the program itself is little more than
+//! this library's `answer`.
 #![tactic(auto)]
 
 pub mod answer;

@@ -80,7 +80,7 @@ pub(crate) fn replay_text(alloc: Global, text: &[u8]) -> Result<Answer, RunFault
     })
 }
 
-/// Replays a move list: writes the reply to each move, and then the overall verdict, whose status it answers.
+/// Replays a move list: writes the reply to each move, and then the overall verdict, whose status it returns.
 ///
 /// The whole list is read, and the output made, before anything is written.
 pub fn replay<R: Read, W: Write>(

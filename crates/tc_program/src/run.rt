@@ -219,8 +219,8 @@ where
 }
 
 /// Runs the test cases, writes their results as they finish, if that is asked for and the form has it, or at the end,
-/// and returns what came of them. Test cases are printed of as they finish if it is asked for, and a campaign that was
-/// aborted is.
+/// and returns what came of them. If it is asked for, each test case is reported as it finishes; an aborted campaign
+/// always is.
 pub fn run_cases<R, B: Callable, W: Write, E: Write>(
     rt: &R,
     alloc: Global,

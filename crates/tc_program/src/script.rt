@@ -1,4 +1,4 @@
-//! The script of a campaign, and the word of `--stop-on`.
+//! The script of a campaign, and the value of `--stop-on`.
 ghost use Rattle.std.specs.Prelude.{◌≡◌, ◌⊎◌, All, IfOk, IfErr, Ok};
 ghost use Rattle.tc_verdict.specs.Verdict.{name_of};
 ghost use Rattle.tc_script.specs.Campaign.{campaign};

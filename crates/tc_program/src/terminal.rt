@@ -1,4 +1,4 @@
-//! What a person at a terminal is printed before the input is read.
+//! The line for a person at a terminal, before the input is read.
 ghost use Rattle.std.specs.Prelude.{◌≡◌, option_map};
 ghost use Rattle.tc_program.specs.Terminal.{awaited_line as spec_line};
 

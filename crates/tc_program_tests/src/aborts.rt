@@ -163,7 +163,7 @@ fn run_both<R: Threads + Wait + Copy + Send + 'static>(
     Ok(run_cases(rt, alloc, cases, &options, &mut written, errors)?)
 }
 
-/// Reports both where standard error fails at this write, which is one of the first line.
+/// Reports both if standard error fails at this write, which is one of the first line.
 fn abort_is_told<R: Abort + Threads + Wait + Copy + Send + 'static>(
     rt: &R,
     alloc: Global,

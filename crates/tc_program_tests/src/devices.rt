@@ -203,7 +203,7 @@ fn line_of_an_abort(rt: HostRuntime) -> Result<(), Fail> {
     Ok(())
 }
 
-/// Carries out a refused task where standard error fails after this part of its line, or not at all.
+/// Carries out a refused task if standard error fails after this part of its line, or not at all.
 fn tells_up_to<R: Abort + Threads + Wait + Copy + Send + 'static>(
     rt: &R,
     alloc: Global,
@@ -233,7 +233,7 @@ fn standard_error_that_fails(rt: HostRuntime) -> Result<(), Fail> {
     Ok(())
 }
 
-/// Asks for the help where the writer fails at this write.
+/// Asks for the help if the writer fails at this write.
 fn is_not_written<R: Abort + Threads + Wait + Copy + Send + 'static>(
     rt: &R,
     alloc: Global,

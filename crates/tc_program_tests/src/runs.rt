@@ -30,7 +30,7 @@ fn show<R: Threads + Wait + Copy + Send + 'static>(
     Ok(reader.reads)
 }
 
-/// Returns the words on the input, which is read where the row is not refused for its words.
+/// Checks what comes of the arguments and the input, which is read if the row is not refused for its arguments.
 fn is_shown<R: Abort + Threads + Wait + Copy + Send + 'static>(
     rt: &R,
     alloc: Global,

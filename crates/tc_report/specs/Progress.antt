@@ -17,8 +17,8 @@ told_line f = f.name ++ (codes " " ++ (name_of f.report.verdict ++ (10 ∷ [])))
 abbrev pub failed_line : Finished → List ℕ
 failed_line f = if nat_lt 0 (verdict_status f.report.verdict) then codes "failed: " ++ told_line f else []
 
--- what is printed about these finished test cases, where anything is: a line of each as it finishes, and then those
--- that have failed again
+-- what is printed about these finished test cases, if anything is: a line of each as it finishes, and then those that
+-- have failed again
 abbrev pub told_text : Bool → List Finished → List ℕ
 told_text tells fs = if tells then flat_map told_line fs ++ flat_map failed_line fs else []
 
@@ -60,7 +60,7 @@ TellsBy false fault before f after = after ≡ before
 TellsBy true (Some fault) before f after = after ≡ before
 TellsBy true None before f after = IsToldOf before f after ⊎ IsUntold before f after
 
--- the same by where it is
+-- the same by its state
 abbrev pub Tells : TellState → Finished → TellState → Type 0
 Tells before f after = TellsBy before.tells before.fault before f after
 
@@ -71,6 +71,6 @@ EndsBy false fault before after failed answer = (answer ≡ Ok tt) × Keeps befo
 EndsBy true (Some fault) before after failed answer = (answer ≡ Err fault) × Keeps before after
 EndsBy true None before after failed answer = IsToldBy true before after failed answer
 
--- the same by where it is
+-- the same by its state
 abbrev pub EndsTelling : TellState → Option (List ℕ) → Result (Unit {0}) OutFault → Type 0
 EndsTelling before after answer = EndsBy before.tells before.fault before.out after before.failed answer

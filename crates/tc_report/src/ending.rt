@@ -40,7 +40,7 @@ pub(crate) fn append_ending(out: &mut Vec<u8>, ending: &CampaignEnd) -> Result<(
     Ok(())
 }
 
-// Writes which case was refused, and why, as a line; where the writer fails, a prefix of it.
+// Writes which case was refused, and why, as a line; if the writer fails, a prefix of it.
 fn write_aborted<W: Write>(writer: &mut W, name: &Name, why: CaseError) -> Result<(), WriteFault>
     ensures all { OnOk result (Appends (W.contents writer.old) (W.contents writer.new) (aborted_line name.now why)) }
     ensures part { OnErr result (AppendsPrefix (W.contents writer.old) (W.contents writer.new) (aborted_line name.now why)) }

@@ -31,7 +31,7 @@ pub(crate) fn write_flushed<W: Write>(writer: &mut W, text: &[u8]) -> Result<(),
     }
 }
 
-/// Writes two texts one after the other, or a prefix of both where the writer fails.
+/// Writes two texts one after the other, or a prefix of both if the writer fails.
 #[tactic(auto, using(crate::proofs::Writing::appends_both, crate::proofs::Writing::prefix_behind, crate::proofs::Writing::prefix_longer))]
 pub(crate) fn write_both<W: Write>(
     writer: &mut W,

@@ -104,7 +104,7 @@ impl<'a, O: Observer, E: Write> Progress<'a, O, E> {
         write_made(self.writer, line.as_slice())
     }
 
-    // Reports the test case, where anything is printed, and still is.
+    // Reports the test case, if anything is printed, and still is.
     fn tell(&mut self, case: &Finished)
         ensures told { Tells (state_of E.contents self.old) case.now (state_of E.contents self.new) }
         ensures others { self.new.observer ≡ self.old.observer }
@@ -119,8 +119,8 @@ impl<'a, O: Observer, E: Write> Progress<'a, O, E> {
         }
     }
 
-    /// Names the test cases again that have failed, where anything is printed, and still is; returns why a line could
-    /// not be printed, if it is so.
+    /// Names the test cases again that have failed, if anything is printed, and still is; returns why a line could not
+    /// be printed, if it is so.
     pub fn end(&mut self) -> Result<(), OutFault>
         ensures told { EndsTelling (state_of E.contents self.old) (E.contents self.new.writer.now) result }
         ensures others { self.new.observer ≡ self.old.observer }

@@ -18,6 +18,6 @@ pub record IsReportOf (scripts : List ScriptView) (c : Closed) : Type 0 where
 abbrev pub ReportIsCourse : Type 0
 ReportIsCourse = (scripts : List ScriptView) (c : Closed) → IsReportOf scripts c → IsWitness scripts c.history c.verdict
 
--- where the verdict of each complete course is found, that of each such report is
+-- if the verdict of each complete course is found, that of each such report is
 abbrev pub ReportIsFound : Type 0
 ReportIsFound = (scripts : List ScriptView) (found : List Witness) (c : Closed) → AllFound scripts found → IsReportOf scripts c → is_found found c.verdict ≡ true

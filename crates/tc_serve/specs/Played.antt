@@ -41,12 +41,12 @@ wake_op a = O.Wake a.killed a.target
 abbrev pub unless_parked : Entry → List Line → List Line
 unless_parked e lines = if is_parked e.reply then lines else L.Entry e ∷ lines
 
--- run b, which waits for this if for anything, is woken where it can continue
+-- run b, which waits for this if for anything, is woken if it can continue
 abbrev pub woken_from : ℕ → List Line → ℕ → Option Awaited → List Line
 woken_from n lines b None = lines
 woken_from n lines b (Some a) = unless_parked (called n lines (record { 0 = b }) (wake_op a)) lines
 
--- run b is woken where it sleeps and can continue
+-- run b is woken if it sleeps and can continue
 abbrev pub woken_once : ℕ → List Line → ℕ → List Line
 woken_once n lines b = woken_from n lines b (waiting (entries_of lines) b)
 

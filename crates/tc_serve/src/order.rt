@@ -93,7 +93,7 @@ fn read_other(text: &[u8]) -> Option<Order>
     }
 }
 
-/// What the line asks for. None where it asks for nothing.
+/// What the line asks for. None if it asks for nothing.
 pub fn read_order(alloc: Global, text: &[u8]) -> Result<Option<Order>, NoMemory>
     ensures spelled { IfOk result (λ found. IfSome found (λ o. text.now ≡ order_text o)) }
     ensures fits { IfOk result (λ found. IfSome found IsOrder) }

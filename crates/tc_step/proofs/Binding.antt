@@ -4,7 +4,7 @@ use Rattle.std.proofs.lemmas.List.Elements.{All-cons, All-head, All-tail}
 use Rattle.tc_step.specs.declared.place.Place.{Place}
 use Rattle.tc_step.specs.Steps.{IsBound}
 
--- all of a list are bound where its first is and the others are
+-- all of a list are bound if its first is and the others are
 pub cons_rules : (count : ℕ) (p : Place ℕ) (ps : List (Place ℕ))
     → (IsBound count p → All (IsBound count) ps → All (IsBound count) (p ∷ ps))
     × (All (IsBound count) (p ∷ ps) → IsBound count p)

@@ -70,7 +70,7 @@ impl Read for SlowReader<'_> {
 /// How a writer fails.
 #[derive(Clone, Copy, PartialEq, Eq, Debug)]
 pub enum WriteFailure {
-    /// It answers an error.
+    /// It returns an error.
     Broken,
     /// It takes no byte.
     Full,

@@ -76,7 +76,7 @@ fn read_more<R: CountedRead>(
     Ok(count > 0)
 }
 
-/// All bytes to the end of the reader, at most `limit`. `Read` is answered exactly if a read failed, which is then the
+/// All bytes to the end of the reader, at most `limit`. `Read` is returned exactly if a read failed, which is then the
 /// last one.
 pub fn read_counted<R: CountedRead>(
     alloc: Global,

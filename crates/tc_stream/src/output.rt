@@ -51,7 +51,7 @@ fn write_some<W: CountedWrite>(writer: &mut W, bytes: &[u8]) -> Result<usize, Wr
     }
 }
 
-/// Writes all of `bytes`, or a prefix where the writer fails. A fault is answered exactly if a write failed or took no
+/// Writes all of `bytes`, or a prefix if the writer fails. A fault is returned exactly if a write failed or took no
 /// byte, which is then the last one.
 pub fn write_counted<W: CountedWrite>(writer: &mut W, bytes: &[u8]) -> Result<(), WriteFault>
     requires sound { W.has_failed writer.old ≡ false }
@@ -69,7 +69,7 @@ pub fn write_counted<W: CountedWrite>(writer: &mut W, bytes: &[u8]) -> Result<()
     Ok(())
 }
 
-/// Writes all of `bytes`, or a prefix where the writer fails, with at most as many writes as there are bytes.
+/// Writes all of `bytes`, or a prefix if the writer fails, with at most as many writes as there are bytes.
 pub fn write_whole<W: Write>(writer: &mut W, bytes: &[u8]) -> Result<(), WriteFault>
     ensures all { OnOk result (Appends (W.contents writer.old) (W.contents writer.new) bytes.now) }
     ensures part { OnErr result (AppendsPrefix (W.contents writer.old) (W.contents writer.new) bytes.now) }

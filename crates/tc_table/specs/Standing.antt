@@ -25,6 +25,6 @@ StandsFor k past = IsKept k.behaviours past k.states k.runs k.over
 abbrev pub IsReply : Kept → Run → Op → Reply → Type 0
 IsReply k caller op reply = (past : List Entry) → StandsFor k past → reply ≡ answer k.behaviours past caller.0 op
 
--- the state after this entry represents the entries that the one before it represents, and for this one
+-- the state after this entry represents the entries that the one before it represents, and this one
 abbrev pub TakesIn : Kept → Entry → Kept → Type 0
 TakesIn before e after = (past : List Entry) → StandsFor before past → StandsFor after (e ∷ past)

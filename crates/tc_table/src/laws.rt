@@ -26,7 +26,7 @@ pub fn same_component_later()
     ensures { laws.SameComponentLater }
 {}
 
-/// Local verdicts are the same where the runs on a component are those of the whole history.
+/// Local verdicts are the same if the runs on a component are those of the whole history.
 #[tactic(auto, using(crate::proofs::Lemmas::LawsOfHistories::local_of_whole))]
 pub fn local_of_whole()
     ensures { laws.LocalOfWhole }
@@ -50,7 +50,7 @@ pub fn worked_cases()
     ensures { WorkedCases }
 {}
 
-/// Which runs an entry halts: those that are active, and whose component it halts.
+/// Which runs an entry halts: those that are active on a component that it halts.
 #[tactic(auto, using(crate::proofs::Lemmas::Going::halted_by_entry))]
 pub fn halted_by_entry()
     ensures { laws.HaltedByEntry }

@@ -1,5 +1,5 @@
--- Lines that are shown to a reader next to an answer, one for each thing that there is to say. How a line spells that
--- no clause says.
+-- Lines that are shown to a reader next to an answer, one for each thing that there is to say. No clause says how a
+-- line spells it.
 use Rattle.std.specs.Prelude.{ℕ, ◌≡◌, ◌&&◌, nat_le, Bool, true, List, [], ◌∷◌, ◌++◌}
 use Rattle.std.specs.List.{list_all}
 

@@ -48,7 +48,7 @@ pub fn take_move(text: &[u8]) -> Option<((Run, Op), &[u8])>
     }
 }
 
-/// The move that the text spells: the caller's run, and its operation. None where it spells none.
+/// The move that the text spells: the caller's run, and its operation. None if it spells none.
 pub fn read_move(text: &[u8]) -> Option<(Run, Op)>
     ensures spelled { IfSome result (λ m. text.now ≡ move_text m.0.0 m.1) }
     ensures fits { IfSome result (λ m. (m.0.0 < 2 ^ 16) × IsOp m.1) }

@@ -54,7 +54,7 @@ pub fn take_number(text: &[u8]) -> Option<(u32, &[u8])>
     }
 }
 
-/// The number that the text spells. None where it spells none below 2^32.
+/// The number that the text spells. None if it spells none below 2^32.
 pub fn read_number(text: &[u8]) -> Option<u32>
     ensures spelled { IfSome result (λ n. text.now ≡ decimal n) }
     ensures fits { IfSome result (λ n. n < 2 ^ 32) }

@@ -110,7 +110,7 @@ pub fn take_reply(text: &[u8]) -> Option<(Reply, &[u8])>
     }
 }
 
-/// The reply that the text spells. None where it spells none.
+/// The reply that the text spells. None if it spells none.
 pub fn read_reply(text: &[u8]) -> Option<Reply>
     ensures spelled { IfSome result (λ r. text.now ≡ reply_text r) }
     ensures fits { IfSome result IsReply }

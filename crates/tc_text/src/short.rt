@@ -96,8 +96,8 @@ fn take_short_op(text: &[u8]) -> Option<(ShortOp, &[u8])>
     }
 }
 
-/// The move that the text begins with, and what follows it; None also where its operation is a Start, or a Create with
-/// a name.
+/// The move that the text begins with, and what follows it; None also if its operation is a Start, or a Create with a
+/// name.
 #[inline(always)]
 pub fn take_short_move(text: &[u8]) -> Option<((Run, ShortOp), &[u8])>
     ensures spelled { IfSome result (λ r. text.now ≡ move_text r.0.0.0 (op_of r.0.1) ++ r.1.now) }

@@ -74,7 +74,7 @@ lags_at_most n whole past e words after u is legal told carries begun =
     let begins : u ≡ carried_to words past e.op = carries ∙ ap (carried_to_newest words) is in
     rw (begun, begins, is) (after_entry n past words e.caller e.op e.reply now before)
 
--- and not at all where the entry halts nothing
+-- and not at all if the entry halts nothing
 pub told_quietly : (n : ℕ) (whole past : List Entry) (e : Entry) (words after : List Record) (u : UserVerdict) → whole ≡ e ∷ past → IsLegal n whole → AreTold n (earlier whole) words →
     u ≡ carried_to_newest words whole → after ≡ with_start e.op e.reply u words → may_halt e.op e.reply ≡ false → AreTold n whole after
 told_quietly n whole past e words after u is legal told carries begun quiet =

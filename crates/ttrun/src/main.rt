@@ -1,4 +1,4 @@
-//! The program: reads standard input, answers on standard output, and names a fault on standard error.
+//! The program: reads standard input, writes standard output, and names a fault on standard error.
 #![tactic(auto)]
 
 use std::io::IsTerminal;
@@ -11,7 +11,7 @@ fn words(rt: &HostRuntime) -> io::Result<Vec<String>> {
     Ok(env::args(rt)?.collect(rt.alloc())?)
 }
 
-// The line for what these words have read, if it is typed at a terminal.
+// The line for the input that these arguments read, if it is typed at a terminal.
 fn line_at_terminal(words: &io::Result<Vec<String>>, is_terminal: bool) -> Option<&'static str> {
     let subcommand = match words {
         Ok(words) if is_terminal => words.get(1),

@@ -160,7 +160,7 @@ module _ {B : Type 0} (outcome : B → PassState → Back → Type 0) where
   report_made (Ok c) true runs bs ls refused all number main whole = let bad = refused refl in absurd cc
   report_made (Err e) starved runs bs ls refused all number main whole = tt
 
-  -- where a case is torn, memory ran out in no behaviour
+  -- if a case is torn, memory ran out in no behaviour
   pub torn_handed : (result : Result Closed CaseError) (starved : Bool) (runs : List Run) (bs : List B) (ls : List LeftState) →
       (starved ≡ true → result ≡ Err NoMemory) → (starved ≡ false → AreLeftBy outcome runs bs ls) →
       ((k : ℕ) (run : Run) → k < length runs → (get_or runs k run).0 ≡ k) →

@@ -68,7 +68,7 @@ module _ {B : Type 0} (outcome : B → PassState → Back → Type 0) (own : (b 
       of_left c.history (record { 0 = k }) (get_or bs k b) (get_or made.lefts k l) comp left (All-get_or (IsFitting c.history) made.lefts k l h.2 made.whole.fitting)
       (λ zero_is. rw zero_is (made.main l)) on
 
-  -- where each behaviour hands back a pass of its own run
+  -- if each behaviour hands back a pass of its own run
   pub logs_by : (c : Closed) (bs : List B) → IsOneHistory c → c.behaviours ≡ length bs → IsMadeOf outcome bs c → AreLogsBy outcome bs c
   logs_by c bs one count made b =
       subst (All (λ l. IsLogBy (outcome (get_or bs l.run.0 b)) c.history l)) (sym one.logs)

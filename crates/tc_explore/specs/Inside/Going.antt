@@ -62,7 +62,7 @@ pub record IsCounted (t : Case) (counts : List ℕ) : Type 0 where
   pub as_many : length counts ≡ t.behaviours
   pub each : (b : ℕ) → b < t.behaviours → slice_index_or counts b 0 ≡ carried (past_of t) b
 
--- each of these numbers is what it was, one more for the caller of an entry that has gone on
+-- each of these numbers is what it was, one more for the caller of an entry that has continued
 abbrev pub CountsOn : Entry → List ℕ → List ℕ → Type 0
 CountsOn e before after =
     (b : ℕ) → b < length before → slice_index_or after b 0 ≡ one_more_if (e.caller.0 == b) e (slice_index_or before b 0)

@@ -97,7 +97,7 @@ module _ {O : Type 0} (state : O → LiveState) (name : O → GName) where
       let rest = all_at form start (done ++ f ∷ []) fs taken.0 after (one_more form start done f (state before) (state taken.0) at taken.1.0) taken.2 in
       (subst (λ l. IsAt form start l (state after)) (append_assoc done (f ∷ []) fs) rest.0, rest.1 ∙ taken.1.1)
 
-  -- where the writer ended the campaign, a prefix of the text is out
+  -- if the writer ended the campaign, a prefix of the text is out
   pub ended_at : (form : Form) (start : Option (List ℕ)) (fs : List Finished) (before after : O)
       → IsAt form start [] (state before) → IsEndedAt Takes fs before after
       → AppendsPrefix start (state after).out (text_so_far form fs) × (name after ≡ name before)
@@ -113,7 +113,7 @@ module _ {O : Type 0} (state : O → LiveState) (name : O → GName) where
       )
 
   module _ (form : Form) (start : Option (List ℕ)) (before after : O) (first : IsAt form start [] (state before)) (finished : List Finished) where
-    -- where it ended the campaign, a prefix of the text of the results is out
+    -- if it ended the campaign, a prefix of the text of the results is out
     pub case_left : (ending : CampaignEnd) → IsEndedAt Takes finished before after
         → AppendsPrefix start (state after).out (form_text form (record { finished = finished; ending = ending }))
     case_left ending ended = cut_left form start (state after).out finished ending (ended_at form start finished before after first ended).0
@@ -122,7 +122,7 @@ module _ {O : Type 0} (state : O → LiveState) (name : O → GName) where
       last : IsAt form start finished (state after)
       last = (all_at form start [] finished before after first taken).0
 
-      -- where it let the campaign continue, the text of the results is out with what follows the test cases
+      -- if it let the campaign continue, the text of the results is out with what follows the test cases
       pub all_written : (now : Option (List ℕ)) → Appends (state after).out now (closing_text (state after).form (state after).tally ending)
           → Appends start now (form_text form (record { finished = finished; ending = ending }))
       all_written now out =

@@ -126,7 +126,7 @@ halted_by_entry n past e b c legal on = by_start (start_in e c.0) refl
         after ∙ (rw (none, known) (goes_by (kills e c.0) (was_killed past c.0) (halts (comp_of past e.caller.0) e c.0) (was_halted past c.0) (is_the_run b (last_run past c.0)) (kill_halts (comp_of past e.caller.0) e c.0))
         ∙ ap (λ t. t && not (halts (comp_of past e.caller.0) e c.0)) (sym before))
 
--- where an operation starts a run
+-- if an operation starts a run
 started_here : (op : Op) (b : ℕ) (d : Comp) → starts_run op b ≡ Some d → (r : Run) × (starts_on op d.0 ≡ Some r) × (r.0 ≡ b)
 started_here (O.Start c run args) b d h =
     let t = test_by (run.0 == b) c d h in
@@ -168,7 +168,7 @@ last_on_it n (e ∷ past) c a some legal h =
     (rw (f.1.free, now) refl, (runs_on n past e a.0 (record { 0 = c }) legal.0 now).in_range))
     (λ l. let k = last_on_it n past c a some legal.1 l in (rw k.0 refl, k.1)) h
 
--- it does not continue where the component is not running
+-- it does not continue if the component is not running
 pub last_stands : (past : List Entry) (c : ℕ) (a : Run) → comp_of past a.0 ≡ Some (record { 0 = c }) → is_running (phase past c) ≡ false → is_active past a.0 ≡ false
 last_stands past c a on still = active_is past a.0 (record { 0 = c }) on ∙ not_the_run (phase past c) a.0 still
 

@@ -95,7 +95,7 @@ touches T.Nothing c = false
 touches (T.One d) c = d.0 == c
 touches T.All c = true
 
--- a Stop of all if none is running, or a Kill of all where each is killed
+-- a Stop of all if none is running, or a Kill of all if each is killed
 abbrev pub finds_none : Op → List ComponentState → Bool
 finds_none (O.Stop G.All) states = none_running (drop 1 states)
 finds_none (O.Kill G.All) states = all_killed (drop 1 states)

@@ -2,7 +2,7 @@ use Rattle.std.proofs.Common.{length}
 use Rattle.tc_history.specs.Text.{AreEntries}
 use Rattle.tc_history.proofs.laws.entries_fit.Given as goal
 
--- where those that are left fit, all fit
+-- if those that are left fit, all fit
 abbrev pub invariant-loop-entry : goal.invariant-loop-entry
 invariant-loop-entry l = AreEntries 2 l.rest → AreEntries 2 l.entries
 
