@@ -21,6 +21,7 @@ import forms
 import make
 import graph
 import memory
+import plain
 from documents import Block, Document, named_by, read
 from script_reader import read_script
 from sources import Sources, files_below
@@ -34,8 +35,6 @@ IN_WORDS = ("crate", "question", "rule", "at most", "beyond it", "what there is"
 WIDTH = 120
 MOST_WORDS_OF_THE_README = 1000
 FEWEST_LINES_OF_A_LIBRARY, MOST_LINES_OF_A_CRATE = 20, 35
-# In no document a sentence is longer.
-MOST_WORDS_OF_A_SENTENCE = 35
 # A sentence of so many words stands in one document only; the history of changes is none of these.
 FEWEST_WORDS_SAID_ONCE = 11
 # In backquotes, what is spelt as a name of the sources.
@@ -252,20 +251,9 @@ def broken_lines(documents: List[Document]) -> Iterator[str]:
 
 
 def sentences(document: Document) -> Iterator[str]:
-    """The sentences of a document outside of its tables, headings and blocks; an item of a list begins one."""
-    lines = ["" if line.startswith(("#", "!")) else line for _, line in prose(document)]
-    text = re.sub(r"\]\([^)]*\)", "]", "\n".join(lines))
-    for paragraph in re.split(r"\n\s*\n|\n(?=\s*(?:-|\d+\.) )", text):
-        yield from re.split(r"(?<=[.!?])\s+(?=[A-Z`\[(*])", " ".join(paragraph.split()))
-
-
-def long_sentences(documents: List[Document]) -> Iterator[str]:
-    """Sentences with too many words."""
-    for document in documents:
-        for sentence in sentences(document):
-            words = [it for it in sentence.split() if re.search(r"\w", it)]
-            if len(words) > MOST_WORDS_OF_A_SENTENCE:
-                yield f"{document.path}: {len(words)} words, where {MOST_WORDS_OF_A_SENTENCE} are the most: {sentence[:60]}.."
+    """The sentences of a document outside of its tables, headings and blocks."""
+    for _, paragraph in plain.paragraphs(document):
+        yield from plain.sentences(paragraph)
 
 
 def said_twice(documents: List[Document]) -> Iterator[str]:
@@ -377,7 +365,9 @@ def main() -> int:
         "all paths begin at the top, and lead somewhere": lambda: paths(documents),
         "no line of prose is too long": lambda: broken_lines(documents),
         "the first page is short": long_readme,
-        "no sentence is too long": lambda: long_sentences(documents),
+        "no sentence and no cell of the documents is too long, or has an idiom": lambda: plain.in_documents(documents),
+        "no sentence of the comments is too long, or has an idiom": lambda: plain.in_comments(TOP, tracked()),
+        "a planted idiom or long sentence is found": plain.unseen,
         "no sentence stands in two documents": lambda: said_twice(documents),
         "each decision has its reason and its consequence": lambda: forms.decisions(read(TOP, "docs/DECISIONS.md")),
         "each change was added, changed, fixed or removed": lambda: forms.changes(read(TOP, "CHANGELOG.md")),

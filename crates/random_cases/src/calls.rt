@@ -14,7 +14,7 @@ fn verdict(random: &mut Random) -> UserVerdict {
     }
 }
 
-/// Mostly one of the first components.
+/// Usually one of the first components.
 fn target(random: &mut Random, comps: u32, main: bool) -> Target {
     match random.below(8) {
         0 if main => Target::Any,

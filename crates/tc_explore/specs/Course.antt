@@ -1,5 +1,5 @@
--- Courses of a test case whose behaviours are scripts: what each run has called, and what it calls next.
--- As in the component table's definitions `past` lists entries, the newest first, and runs go by their numbers.
+-- Courses of a test case whose behaviours are scripts: what each run has called, and what it calls next. As in the
+-- component table's definitions `past` lists entries, the newest first, and runs are numbers.
 use Rattle.std.specs.Prelude.{ℕ, ◌≡◌, ◌==◌, ◌<◌, ◌+◌, ◌*◌, ◌/◌, ◌++◌, ◌&&◌, ◌||◌, min, if◌then◌else◌, Bool, true, false, Option, Some, None, List, [], ◌∷◌, length, slice_get}
 use Rattle.tc_entry.specs.declared.comp.Comp.{Comp}
 use Rattle.tc_entry.specs.declared.entry.Entry.{Entry}

@@ -1,6 +1,6 @@
 -- What the past entries of a test case say of its components and runs.
--- Here and in the files next to it, `past` lists the entries so far, the newest first, and components and runs go by
--- their numbers.
+-- Here and in the files next to it, `past` lists the entries so far, the newest first, and components and runs are
+-- numbers.
 use Rattle.std.specs.Prelude.{ℕ, ◌==◌, ◌&&◌, ◌||◌, not, if◌then◌else◌, Bool, true, false, Option, Some, None, List, [], ◌∷◌, ◌++◌, drop}
 use Rattle.tc_verdict.specs.declared.run.Run.{Run}
 use Rattle.tc_entry.specs.declared.comp.Comp.{Comp}

@@ -46,7 +46,7 @@ module _ {B : Type 0} (outcome : B → PassState → Back → Type 0) (cases : L
     pub all_are_kept : AreTaken Keeps finished before after → after.finished.items ≡ finished
     all_are_kept taken = are_kept finished before after none fits taken
 
-    -- and the campaign is not ended for want of room
+    -- and the campaign is not ended because room is missing
     pub not_ended : IsEndedAt Keeps finished before after → ⊥
     not_ended ended = never_ended finished before after none fits ended
 
@@ -69,7 +69,7 @@ module _ {B : Type 0} (outcome : B → PassState → Back → Type 0) (cases : L
       kept_torn = subst (λ fs. IsTornAt outcome (slice_get cases (length fs)) ending) same seen.torn
 
 module _ {B : Type 0} (outcome : B → PassState → Back → Type 0) (finished : List Finished) (ending : CampaignEnd) (none : finished ≡ []) where
-  -- a campaign that was not run for want of room
+  -- a campaign that was not run because there is no room
   pub unrun_run : (cases : List (Case B)) (stop_on : Option Verdict) (threads : ℕ) → IsUnrun (map outline_of cases) ending
       → IsRunTo outline_of (IsCalled outcome) cases stop_on threads finished ending
   unrun_run cases stop_on threads is = subst (λ fs. IsRunTo outline_of (IsCalled outcome) cases stop_on threads fs ending) (sym none) (go cases is)

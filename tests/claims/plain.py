@@ -1,0 +1,155 @@
+"""Plain words: how long the sentences and cells of documents and comments are, and the idioms that none of them has."""
+from __future__ import annotations
+
+import os
+import re
+from typing import Iterator, List, Tuple
+
+from documents import Document
+
+MOST_WORDS_OF_A_SENTENCE, MOST_WORDS_OF_A_CELL = 35, 40
+FEWEST_COMMENTS = 4000
+# Each idiom, and what is written instead. What is in backquotes is a name, and none of these.
+IDIOMS = (
+    (r"want of", "out of memory; because there is no"), (r"memory (?:is|was|were) refused", "memory runs out"),
+    (r"in place of", "instead of"), (r"anew|once more", "again"), (r"dear(?:er|est)?", "expensive"), (r"but for|all but|but that", "except"),
+    (r"(?:can|could|may|might) be had", "is available"), (r"in a hundred", "%"), (r"leasts", "minimums"),
+    (r"whoever|anybody", "a caller that; a user who"), (r"no more than", "at most"), (r"be it", "even if"), (r"mostly", "usually"),
+    (r"beside", "next to; besides"), (r"hand(?:s|ed|ing) (?:it |them )?on", "passes on"), (r"stands?|stood", "is; represents"),
+    (r"tells?|told", "prints; says"), (r"behind", "after; under"), (r"alone", "only"), (r"so many", "that many"),
+    (r"(?:goes|go|going|gone|went) on", "continues"), (r"(?:goes|go|going|went) by", "depends on"),
+    (r"(?:exactly|none|nothing|only) where", "if"), (r"(?:is|are|was|were) to be", "must; will"),
+    (r"(?:says?|said) nothing of", "says nothing about"))
+# Where a condition, or a question, begins what is no question.
+BEGINNING = re.compile(r"(?:Where|Who|Whose)\b")
+ELSE = re.compile(r"(?:^|[,;:.] |\bor )else\b", re.IGNORECASE)
+# Texts on which the checks must fail, and ones on which they must not.
+FAULTY = ("It is told of so.", "Nothing is behind it.", "Where it is so, it ends.", "Who calls is a run.", "It ends, else it waits.",
+          "Or else it waits.", " ".join(["word"] * (MOST_WORDS_OF_A_SENTENCE + 1)) + ".")
+FAULTLESS = ("`told` is a name, and `behind` is another.", "Nothing else is.", "It says where it is.", "The letters of `tell` stay.",
+             " ".join(["word"] * MOST_WORDS_OF_A_SENTENCE) + ".")
+
+
+def without_names(text: str) -> str:
+    """The text without what is in backquotes, and without what links lead to."""
+    return re.sub(r"``.*?``|`[^`]*`", "`", re.sub(r"\]\([^)]*\)", "]", text))
+
+
+def sentences(text: str) -> Iterator[str]:
+    """The sentences of a paragraph."""
+    yield from re.split(r"(?<=[.!?])\s+(?=[A-Z`\[(*])", " ".join(text.split()))
+
+
+def count(text: str) -> int:
+    """How many words there are."""
+    return sum(bool(re.search(r"\w", it)) for it in text.split())
+
+
+def idioms(text: str) -> Iterator[str]:
+    """The idioms of a text."""
+    plain = without_names(text)
+    for idiom, instead in IDIOMS:
+        found = re.search(rf"\b(?:{idiom})\b", plain, re.IGNORECASE)
+        if found:
+            yield f"'{found[0]}', better {instead}: {text[:80]}.."
+    if ELSE.search(plain):
+        yield f"'else', better otherwise: {text[:80]}.."
+
+
+def faults(text: str) -> Iterator[str]:
+    """What is wrong with a paragraph."""
+    yield from idioms(text)
+    for sentence in sentences(text):
+        if count(sentence) > MOST_WORDS_OF_A_SENTENCE:
+            yield f"{count(sentence)} words, where {MOST_WORDS_OF_A_SENTENCE} are the most: {sentence[:60]}.."
+        if BEGINNING.match(sentence) and not sentence.endswith("?"):
+            yield f"it begins with {BEGINNING.match(sentence)[0]}: {sentence[:60]}.."
+
+
+def paragraphs(document: Document) -> Iterator[Tuple[int, str]]:
+    """The paragraphs of a document outside of its tables, headings and blocks, with their lines; an item of a list is one."""
+    at, text = 0, []
+    is_code = False
+    for number, line in enumerate([*document.lines, ""], 1):
+        is_code ^= line.lstrip().startswith("```")
+        is_prose = not is_code and bool(line.strip()) and not line.lstrip().startswith(("```", "#", "!", "|", "<!--"))
+        if text and (not is_prose or re.match(r"\s*(?:-|\d+\.) ", line)):
+            yield at, re.sub(r"\]\([^)]*\)", "]", "\n".join(text))
+            text = []
+        if is_prose:
+            at, text = (at if text else number), [*text, line]
+
+
+def cells_and_headings(document: Document) -> Iterator[Tuple[int, str, bool]]:
+    """The cells and the headings of a document, with their lines, and whether it is a cell."""
+    is_code = False
+    for number, line in enumerate(document.lines, 1):
+        is_code ^= line.lstrip().startswith("```")
+        if not is_code and line.startswith("#"):
+            yield number, line.lstrip("# "), False
+        if not is_code and line.startswith("|"):
+            yield from ((number, it.strip(), True) for it in re.split(r"(?<!\\)\|", line)[1:-1])
+
+
+def in_documents(documents: List[Document]) -> Iterator[str]:
+    """Long sentences and cells of the documents, and their idioms."""
+    for document in documents:
+        for line, text in paragraphs(document):
+            yield from (f"{document.path}:{line}: {it}" for it in faults(text))
+        for line, text, is_cell in cells_and_headings(document):
+            yield from (f"{document.path}:{line}: {it}" for it in idioms(text))
+            if is_cell and count(without_names(text)) > MOST_WORDS_OF_A_CELL:
+                yield f"{document.path}:{line}: a cell has {count(without_names(text))} words, where {MOST_WORDS_OF_A_CELL} are the most"
+
+
+def comments(text: str, marks: str) -> Iterator[Tuple[int, str]]:
+    """The paragraphs of the comments in a source, with their lines: lines that follow one another with one mark."""
+    at, last, found = 0, "", []
+    for number, line in enumerate([*text.split("\n"), ""], 1):
+        mark, said = (re.match(rf"\s*({marks})(?: (.*))?$", line) or re.match("()()", line)).groups()
+        if found and (mark != last or not said or re.match(r"(?:-|\d+\.) ", said)):
+            yield at, "\n".join(found)
+            found = []
+        if mark and said and not said.startswith(("```", "    ", "----")):
+            at, last, found = (at if found else number), mark, [*found, said]
+
+
+def marks_of(path: str) -> str:
+    """What begins the comments of a source."""
+    return "--" if path.endswith(".antt") else "///|//!|//"
+
+
+def in_comments(top: str, paths: List[str]) -> Iterator[str]:
+    """The same of the comments of the crates."""
+    seen = 0
+    for path in paths:
+        if path.startswith("crates/") and path.endswith((".rt", ".antt")):
+            with open(os.path.join(top, path), encoding="utf-8") as file:
+                for line, text in comments(file.read(), marks_of(path)):
+                    seen += 1
+                    yield from (f"{path}:{line}: {it}" for it in faults(text))
+    if seen < FEWEST_COMMENTS:
+        yield f"{seen} comments, where there are no fewer than {FEWEST_COMMENTS}"
+
+
+def found_in(text: str) -> List[List[str]]:
+    """What is found of a text as a document, as its cell, and in comments of each kind: lists that are all to be empty or none."""
+    made = [Document("plant.md", [text]), Document("plant.md", ["| a |", "|---|", f"| {text} |"])]
+    found = [list(in_documents([it])) for it in made]
+    for mark, path in (("///", "plant.rt"), ("//!", "plant.rt"), ("//", "plant.rt"), ("--", "plant.antt")):
+        said = comments(f"let a = 1;\n    {mark} {text}\n", marks_of(path))
+        found.append([it for _, one in said for it in faults(one)])
+    return found
+
+
+def unseen() -> Iterator[str]:
+    """Idioms and long sentences that are planted and not found, and plain sentences that are refused."""
+    for idiom, _ in IDIOMS:
+        for said in re.sub(r"\(\?:([^)|]*)[^)]*\)\??", r"\1", idiom).split("|"):
+            yield from (f"nobody finds: {said}" for it in found_in(f"It {said.replace('?', '')} it.") if not it)
+    for text in FAULTY:
+        found = found_in(text)
+        is_of_sentences = BEGINNING.match(text) or len(text) > 100
+        yield from (f"nobody finds: {text[:60]}" for at, it in enumerate(found) if not it and not (is_of_sentences and at == 1))
+    for text in FAULTLESS:
+        yield from (f"{text[:60]} is refused: {it}" for it in found_in(text) if it)
