@@ -8,6 +8,7 @@ from __future__ import annotations
 import os
 import re
 import sys
+from functools import lru_cache
 from typing import Dict, Iterator, List, NamedTuple, Set, Tuple
 
 TOP = os.path.dirname(os.path.dirname(os.path.dirname(os.path.abspath(__file__))))
@@ -205,6 +206,7 @@ def libraries() -> List[str]:
     return [it for it in named if os.path.isdir(os.path.join(TOP, "crates", it, "specs"))]
 
 
+@lru_cache(maxsize=None)
 def rested_upon() -> Tuple[Dict[Place, Definition], Set[Place], Set[Place]]:
     """All definitions, those on which the clauses of public functions rest, and those on which the headline does."""
     all_of = defined()

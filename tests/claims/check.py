@@ -16,6 +16,8 @@ TOP = os.path.dirname(os.path.dirname(os.path.dirname(os.path.abspath(__file__))
 sys.path += [os.path.join(TOP, it) for it in ("tests/program", "tests/lies", "page")]
 
 import believed
+import commands as shell
+import counted
 import edits
 import forms
 import make
@@ -360,6 +362,8 @@ def main() -> int:
         "what the documents quote of examples/ stands there": lambda: quotations(documents),
         "the code that the documents quote stands in its crate": lambda: quoted_code(documents),
         "the commands that name an example name one, with words that there are": lambda: commands(documents),
+        "a test runs each block of commands": lambda: shell.unrun(documents),
+        "the options that the documents name are options": lambda: shell.no_options(documents),
         "all links lead somewhere": lambda: links(documents),
         "the text of each link is on one line": lambda: forms.broken_links(documents),
         "all paths begin at the top, and lead somewhere": lambda: paths(documents),
@@ -368,6 +372,9 @@ def main() -> int:
         "no sentence and no cell of the documents is too long, or has an idiom": lambda: plain.in_documents(documents),
         "no sentence of the comments is too long, or has an idiom": lambda: plain.in_comments(TOP, tracked()),
         "a planted idiom or long sentence is found": plain.unseen,
+        "the numbers of the documents that can be counted are those of the sources": counted.wrong,
+        "another number in a document is found": counted.unseen,
+        "docs/proved.md lists its parts": counted.contents,
         "no sentence stands in two documents": lambda: said_twice(documents),
         "each decision has its reason and its consequence": lambda: forms.decisions(read(TOP, "docs/DECISIONS.md")),
         "each change was added, changed, fixed or removed": lambda: forms.changes(read(TOP, "CHANGELOG.md")),

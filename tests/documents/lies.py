@@ -75,7 +75,7 @@ LIES = (
     Lie("a_page_that_is_not_kept", PIPELINES, "archiveArtifacts artifacts: 'run.html, run.history'", "archiveArtifacts artifacts: 'run.history'", "jenkins_whole"),
     Lie("yaml_that_is_none", PIPELINES, "  artifacts:\n    when: always\n    expose_as", "   artifacts:\n    when: always\n    expose_as", "every_yaml_is_read"),
     Lie("a_name_of_another_crate", LIBRARY, "| `Pass`, `Halt` | `tc_book` |", "| `Pass`, `Job` | `tc_book` |", "each_name_is_of_its_crate"),
-    Lie("a_main_that_is_cut", LIBRARY, "/// Judges the windows. Answers the exit status.\n", "", "the_main_is_whole"),
+    Lie("a_main_that_is_cut", LIBRARY, "/// Judges the windows. Returns the exit status.\n", "", "the_main_is_whole"),
     Lie("a_library_is_not_listed", LIBRARY, "'my_bench: tc_campaign tc_exec tc_book tc_entry'", "'my_bench: tc_campaign tc_exec tc_book'",
         "the_copy_is_a_crate_as_the_claims_have_it"),
     Lie("all_are_run_again", GUIDE, "[ -z \"$failed\" ] || ", "", "no_block_of_the_guide_runs_all_again_where_nothing_failed"),

@@ -81,4 +81,19 @@ def the_copy_is_a_crate_as_the_claims_have_it(room: str, program: str) -> str:
     return checked.stdout.splitlines()[-1]
 
 
-TESTS = (each_name_is_of_its_crate, the_main_is_whole, the_copy_is_a_crate_as_the_claims_have_it)
+def histories_of_a_bench_are_read(room: str, program: str) -> str:
+    """Follows the block that makes histories instead of a report, with an rt that prints some: `check` and `report` take them."""
+    block = next(it for it in read(TOP, LIBRARY).blocks() if it.language == "sh" and "bench.history" in it.text)
+    it = Room(os.path.join(room, "it"), program)
+    histories = source("examples/verdicts.history")
+    it.write(os.path.join(it.bin, "rt"), f"#!/bin/sh\n[ \"$*\" = try ] || exit 9\ncat {os.path.join(TOP, 'examples/verdicts.history')}\n")
+    os.makedirs(it.path(f"crates/{COPY}"))
+    ran = it.shell(("bash",), f"cd crates/{COPY}\n{block.text}")
+    hold(not ran.errors and it.text(f"crates/{COPY}/bench.history") == histories, f"{ran}")
+    legal = [line.split()[1] for line in ran.output.splitlines() if line.startswith("legal ")]
+    named = re.findall(r'<testcase name="(\w+)"', ran.output)
+    hold(legal == named and len(legal) == histories.count("history "), f"{ran}")
+    return f"{len(legal)} test cases"
+
+
+TESTS = (each_name_is_of_its_crate, the_main_is_whole, the_copy_is_a_crate_as_the_claims_have_it, histories_of_a_bench_are_read)

@@ -3,6 +3,7 @@ from __future__ import annotations
 
 import os
 import re
+import shlex
 import subprocess
 import sys
 import xml.etree.ElementTree as ElementTree
@@ -46,6 +47,25 @@ def the_document_shows_what_is_printed(place: Place) -> None:
         shown = re.search(r"```\n(t_first: .*?)```", file.read(), re.DOTALL)
     ran = command(place, "flaky", log("pumps-full.merged"), "--only", "t_first")
     hold(shown is not None and shown[1] in "\n".join(ran.lines), ran.lines)
+
+
+@test
+def the_commands_of_the_document_run(place: Place) -> None:
+    """Each command of its blocks on recorded logs, and with each option of its table."""
+    with open(os.path.join(TOP, "docs", "titan.md"), encoding="utf-8") as file:
+        text = file.read()
+    commands = [shlex.split(line, comments=True) for block in re.findall(r"```sh\n(.*?)```", text, re.DOTALL) for line in block.splitlines()]
+    called = [it[1:] for it in commands if it[0] == "clients/titan/ttrun-titan"]
+    for words in called:
+        ran = command(place, *(log("pumps-full.merged") if it == "LOGS" else place.program if it == "./ttrun" else it for it in words))
+        hold(ran.status in (0, 1) and not ran.errors and ran.lines, (words, ran))
+    options = re.findall(r"\| `(--[a-z]+)(?: ([A-Z]+))?` \|", text)
+    given = {"NAME": "t_first", "N": "1000", "FILE": os.path.join(place.room, "file")}
+    for option, value in options:
+        words = [option, *([place.program if option == "--program" else given[value]] if value else [])]
+        ran = command(place, "flaky", log("pumps-full.merged"), "--only", "t_first", *words)
+        hold(ran.status in (0, 1) and not ran.errors, (words, ran))
+    same(([it[0] for it in called], len(options)), (["flaky", "audit"], 7))
 
 
 @test

@@ -53,7 +53,7 @@ fn room_for_one(scripts: &[Script]) -> Option<usize>
     Some(entries)
 }
 
-// A state counts for one more for each this many that the behaviours times the room of its test case have.
+// For how much of the behaviours times the room of its test case a state counts for one more.
 const SIZE_OF_ONE_MORE: usize = 2_000;
 
 // What a state counts for by the limit, if a number can hold it.

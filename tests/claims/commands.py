@@ -1,0 +1,88 @@
+"""The commands of the documents: which test runs each block of them, and whether each option that they name is one."""
+from __future__ import annotations
+
+import os
+import re
+from typing import Dict, Iterator, List, Tuple
+
+from documents import Block, Document
+
+TOP = os.path.dirname(os.path.dirname(os.path.dirname(os.path.abspath(__file__))))
+# What begins a command.
+BEGINS = re.compile(r"(?m)^(?:\S*\./ttrun|\./gate|\./release|rt |python3 |clients/|cp -r|pip |c\+\+ |git |tar )")
+PIPELINES, GUIDE, LIBRARY = "docs/pipelines.md", "docs/guide.md", "docs/library.md"
+BLOCKS, SHOWN = "tests/documents/blocks.py", "tests/program/documents_run.py"
+# A document, what the blocks have, and the test that runs them: its file, and its name.
+RUN: Tuple[Tuple[str, str, str, str], ...] = (
+    ("README.md", "./ttrun run < examples/restart.script", SHOWN, "cases"), ("README.md", "./gate", "tests/gate/run.py", "PARTS"),
+    (PIPELINES, "", BLOCKS, "every_block_on_a_campaign_that_fails"), (GUIDE, "< examples/", SHOWN, "cases"),
+    (GUIDE, "< campaign.script", BLOCKS, "blocks_of_the_guide"), (GUIDE, "printf 'testcase", SHOWN, "shown_cases"),
+    (GUIDE, "./ttrun explore --details < race.script", SHOWN, "shown_cases"),
+    (LIBRARY, "cp -r crates/car_window", "tests/documents/tables.py", "the_copy_is_a_crate_as_the_claims_have_it"),
+    (LIBRARY, "rt try > bench.history", "tests/documents/tables.py", "histories_of_a_bench_are_read"),
+    ("docs/titan.md", "clients/titan/ttrun-titan", "tests/titan/command_tests.py", "the_commands_of_the_document_run"),
+    ("clients/cpp/README.md", "c++ -std=c++17", "tests/cpp/run.py", "heater.cpp"),
+    ("clients/python/README.md", "pip install clients/python", "tests/python/document_tests.py", "the_package_is_installed_from_its_folder"))
+# Options of programs that are not of this repository, by the first word of a command.
+OTHERS: Dict[str, Tuple[str, ...]] = {
+    "rt": ("--jobs", "--only", "--test", "--minutes", "--fail-alloc"), "git": ("--short",), "sha256sum": ("--check",),
+    "tar": ("--strip-components", "--wildcards"), "prlimit": ("--nproc",), "c++": ("--wrap",), "what is gone": ("--chart",)}
+OPTION = re.compile(r"(?<![\w-])--[a-z][a-z-]*\b")
+FEWEST_OPTIONS = 25
+
+
+def text_of(path: str) -> str:
+    """A file, by its path from the top."""
+    with open(os.path.join(TOP, path), encoding="utf-8") as file:
+        return file.read()
+
+
+def blocks_of_commands(document: Document) -> List[Block]:
+    """The blocks of a document that a reader types into a shell."""
+    return [it for it in document.blocks() if it.language == "sh" or (it.language == "" and BEGINS.search(it.text))]
+
+
+def unrun(documents: List[Document]) -> Iterator[str]:
+    """Blocks of commands that no test of the list runs, and tests of the list that are not there, or run no block."""
+    for path, has, file, name in RUN:
+        if not re.search(rf"\b{re.escape(name)}", text_of(file)):
+            yield f"{file} has no {name}"
+        if not any(has in it.text for document in documents if document.path == path for it in blocks_of_commands(document)):
+            yield f"{path}: no block has {has!r}"
+    for document in documents:
+        for block in blocks_of_commands(document):
+            if not any(path == document.path and has in block.text for path, has, _, _ in RUN):
+                yield f"{document.path}:{block.line}: no test runs this block"
+
+
+def own_options() -> List[str]:
+    """The options that the program, and the scripts of this repository, take."""
+    found = [f"--{it}" for it in re.findall(r'OptionRow\(\s*"([a-z-]+)"', text_of("crates/tc_command/src/command.rt"))]
+    for path in ("ttrun", "gate", "release", "bench/run.sh"):
+        found += OPTION.findall(text_of(path))
+    for folder in ("tests", "tools", "page", "bench", "clients"):
+        for at, _, names in os.walk(os.path.join(TOP, folder)):
+            for text in (text_of(os.path.relpath(os.path.join(at, it), TOP)) for it in names if it.endswith(".py")):
+                found += re.findall(r'(?:add_argument|addoption)\(\s*(?:"-\w", )?"(--[a-z-]+)"|"(--[a-z-]+)" in sys\.argv', text)
+    return sorted({it for one in found for it in ([one] if isinstance(one, str) else one) if it} | {"--help", "--version"})
+
+
+def codes(document: Document) -> Iterator[Tuple[int, str]]:
+    """What a document has as code, in backquotes or in a block, line by line."""
+    is_code = False
+    for number, line in enumerate(document.lines, 1):
+        is_code ^= line.lstrip().startswith("```")
+        yield from ((number, it) for it in ([line] if is_code else re.findall(r"`([^`]+)`", line)))
+
+
+def no_options(documents: List[Document]) -> Iterator[str]:
+    """Options that the documents name, and no program has."""
+    known = {*own_options(), *(it for some in OTHERS.values() for it in some)}
+    seen = set()
+    for document in documents:
+        if document.path != "CHANGELOG.md":
+            for number, code in codes(document):
+                seen.update(OPTION.findall(code))
+                yield from (f"{document.path}:{number}: nothing takes {it}" for it in OPTION.findall(code) if it not in known)
+    if len(seen) < FEWEST_OPTIONS:
+        yield f"{len(seen)} options are named, where there are no fewer than {FEWEST_OPTIONS}"

@@ -1,0 +1,165 @@
+"""Numbers of the documents that a program can count: each is that of the sources."""
+from __future__ import annotations
+
+import os
+import re
+from typing import Callable, Dict, Iterator, List, Tuple
+
+import believed
+import edits
+from documents import read
+
+TOP = os.path.dirname(os.path.dirname(os.path.dirname(os.path.abspath(__file__))))
+WORDS = ("none", "one", "two", "three", "four", "five", "six", "seven", "eight", "nine", "ten", "eleven", "twelve")
+FEWEST_ROWS_OF_LIMITS = 11
+FEWEST_NUMBERS = 40
+
+
+def text_of(path: str) -> str:
+    """A file, by its path from the top."""
+    with open(os.path.join(TOP, path), encoding="utf-8") as file:
+        return file.read()
+
+
+def constant(path: str, name: str) -> int:
+    """The value of a constant of Rattle or Python: a number, or a product of numbers."""
+    found = re.search(rf"(?m)^(?:pub(?:\(crate\))? const {name}: \w+|const {name}: \w+|{name}) = ([\d_ *]+)", text_of(path))
+    value = 1
+    for factor in found[1].replace("_", "").split("*"):
+        value *= int(factor)
+    return value
+
+
+def variants(path: str, name: str) -> int:
+    """How many variants an enum has."""
+    body = re.search(rf"(?ms)^pub enum {name} {{(.*?)^}}", text_of(path))[1]
+    return len(re.findall(r"(?m)^    [A-Z]\w*[,({ ]", body))
+
+
+def believed_lines(of_headline: bool = False, first: int = 0, inside: bool = False) -> int:
+    """The lines of definitions on which public clauses, or the headline, rest: of all crates, of the first ones, or those in Inside."""
+    all_of, cited, headline = believed.rested_upon()
+    crates = believed.libraries()[:first or None]
+    places = {it for it in (headline if of_headline else cited) if it[0].split(".")[0] in crates}
+    return believed.lines_of({it for it in places if not inside or ".Inside" in it[0]}, all_of)
+
+
+LIMITS, WORKER = "crates/tc_entry/src/limits.rt", "crates/tc_exec/src/worker.rt"
+HISTORIES, MOVES, SCRIPTS = (f"crates/tc_program/src/{it}.rt" for it in ("check", "replay", "script"))
+COUNTS: Dict[str, Callable[[], int]] = {
+    "behaviours": lambda: constant(LIMITS, "BEHAVIOURS"), "components": lambda: constant(LIMITS, "COMPONENTS"),
+    "arguments": lambda: constant(LIMITS, "ARGUMENTS"), "name bytes": lambda: constant(LIMITS, "NAME_BYTES"),
+    "stack": lambda: constant(WORKER, "WORKER_STACK"), "stack in MiB": lambda: constant(WORKER, "WORKER_STACK") >> 20,
+    "steps": lambda: constant("crates/tc_step/src/limits.rt", "STEPS"), "test cases": lambda: constant("crates/tc_script/src/limits.rt", "TEST_CASES"),
+    "behaviours of format 1": lambda: constant("crates/tc_history/src/header.rt", "FORMAT_1_BEHAVIOURS"),
+    "states": lambda: constant("crates/tc_command/src/word.rt", "STATES"), "kept": lambda: constant("crates/tc_explore/src/explored.rt", "KEPT"),
+    "weight": lambda: constant("crates/tc_explore/src/explored.rt", "SIZE_OF_ONE_MORE"),
+    "bytes of histories": lambda: constant(HISTORIES, "LIMIT"), "bytes of moves": lambda: constant(MOVES, "LIMIT"),
+    "bytes of a script": lambda: constant(SCRIPTS, "LIMIT"), "bytes of a sentence": lambda: constant("crates/tc_evidence/src/sentence.rt", "SENTENCE_BYTES"),
+    "rows": lambda: constant("crates/tc_explore/src/race.rt", "ROWS"), "column": lambda: constant("crates/tc_explore/src/race.rt", "COLUMN"),
+    "shown": lambda: constant("crates/tc_explain/src/quote.rt", "SHOWN"), "errors": lambda: variants("crates/tc_entry/src/reply.rt", "Fault"),
+    "unbegun": lambda: constant("crates/tc_board/src/rule.rt", "UNBEGUN"), "closed": lambda: constant("crates/tc_board/src/rule.rt", "CLOSED"),
+    "headline": lambda: believed_lines(True), "first crates": lambda: believed_lines(False, 12), "in Inside": lambda: believed_lines(inside=True),
+    "headline in Inside": lambda: believed_lines(True, inside=True),
+    "edits": lambda: edits.MOST_IN_THE_GATE, "edits of a crate": lambda: edits.FEWEST_OF_A_CRATE,
+    "starts": lambda: constant(LIMITS, "BEHAVIOURS") - 1, "parallel components": lambda: constant(LIMITS, "COMPONENTS") - 1,
+    "states of Titan": lambda: constant("clients/titan/titan_logs/limits.py", "STATES"),
+    "remark": lambda: constant("clients/python/filskeam/words.py", "MOST_BYTES_OF_A_REMARK"),
+}
+# Document, what is said with # for the number, and what it counts. What is said is once in the document, with spaces for line ends.
+NUMBERS: Tuple[Tuple[str, str, str], ...] = (
+    ("docs/rules.md", "The # errors and their order", "errors"), ("crates/tc_entry/src/reply.rt", "these #, and their order", "errors"),
+    ("docs/texts.md", "Line 1 is `behaviours N`, N a number from 1 to #.", "behaviours"), ("docs/texts.md", "with 0 to # arguments |", "arguments"),
+    ("docs/texts.md", "| `1` | 1 to # |", "behaviours of format 1"), ("docs/texts.md", "| `2` | 1 to #,", "behaviours"),
+    ("docs/texts.md", "Inside come lines of these four forms, none or more of each, in any order. N is from 1 to #;", "behaviours"),
+    ("docs/texts.md", "TEXT has 1 to # bytes", "bytes of a sentence"), ("docs/texts.md", "at most # entries of each", "rows"),
+    ("docs/texts.md", "The first column is at least # bytes wide", "column"), ("docs/texts.md", "If it has more than # bytes, the first", "shown"),
+    ("docs/guide.md", "at most # entries of both", "rows"), ("docs/guide.md", "1,000,000; # without `--states`", "states"),
+    ("docs/guide.md", "one more for each # that the behaviours", "weight"), ("docs/guide.md", "at most # divided by one more than the steps", "kept"),
+    ("docs/scripts.md", "A name has 1 to # bytes", "name bytes"),
+    ("docs/board.md", "| `Unbegun` | # |", "unbegun"), ("docs/board.md", "| # more than the rank of v |", "closed"),
+    ("docs/board.md", "| n is 1 to # |", "behaviours"), ("docs/board.md", "if the number found is less than #, otherwise Ended", "closed"),
+    ("docs/library.md", "a stack of `WORKER_STACK` bytes, # MiB", "stack in MiB"), ("docs/library.md", "| # behaviours that each set a verdict |", "behaviours"),
+    ("docs/architecture.md", "So # lines of definitions say", "headline"), ("docs/architecture.md", "executor as a library, have #.", "first crates"),
+    ("docs/architecture.md", "Of the first, # are in `Inside`", "in Inside"), ("docs/architecture.md", "the headline rests on # of these", "headline in Inside"),
+    ("docs/proved.md", "`TooManyBehaviours` exactly if there are more than #.", "behaviours"), ("docs/proved.md", "A worker's stack has # bytes", "stack"),
+    ("docs/proved.md", "all together room for # entries", "kept"), ("docs/proved.md", "A case may have 1 to # behaviours", "behaviours"),
+    ("docs/proved.md", "at most # components, and a start", "components"), ("docs/proved.md", "and a start at most # arguments", "arguments"),
+    ("docs/proved.md", "A block of format 1 has at most # behaviours", "behaviours of format 1"),
+    ("docs/proved.md", "The limit is # bytes for a script or a list of moves", "bytes of moves"),
+    ("docs/proved.md", "a list of moves, and # for histories", "bytes of histories"), ("docs/proved.md", "The program allows a test case # workers", "behaviours"),
+    ("docs/titan.md", "may look at in one test case (# without it)", "states of Titan"), ("docs/titan.md", "A history holds # starts", "starts"),
+    ("docs/titan.md", "A behaviour can be handed # components at most", "arguments"), ("docs/titan.md", "a script holds # behaviours", "behaviours"),
+    ("docs/DECISIONS.md", "The gate tries at most # edits", "edits"), ("CONTRIBUTING.md", "Give a crate none or at least #:", "edits of a crate"),
+    ("clients/python/README.md", "Reasons and remarks have at most # letters", "remark"),
+    ("crates/tc_entry/README.md", "exactly if there are fewer than #, otherwise", "arguments"),
+    ("crates/tc_script/README.md", "A test case has at most # behaviours with distinct names", "behaviours"),
+    ("crates/tc_history/README.md", "Format 1 has at most # behaviours", "behaviours of format 1"),
+    ("crates/tc_exec/README.md", "`TooManyBehaviours` exactly if there are more than # (", "behaviours"),
+    ("crates/tc_table/README.md", "Whether a case is stuck is asked of at most # runs", "behaviours"),
+    ("crates/tc_table/README.md", "only if they change one: at most #, 999 and 1 times", "starts"),
+    ("crates/tc_table/README.md", "only if they change one: at most 255, # and 1 times", "parallel components"))
+# In the table of limits: what a row begins with, and what it counts.
+ROWS: Tuple[Tuple[str, str], ...] = (
+    ("behaviours of a test case, each", "behaviours"), ("bytes of the stack", "stack"), ("components of a test case", "components"),
+    ("arguments of a start", "arguments"), ("steps of a behaviour", "steps"), ("test cases of a script", "test cases"),
+    ("behaviours of a test case whose history is of format 1", "behaviours of format 1"), ("bytes of a name", "name bytes"),
+    ("bytes of a script, or of a list of moves", "bytes of a script"), ("bytes of a script, or of a list of moves", "bytes of moves"),
+    ("bytes of a history text", "bytes of histories"))
+
+
+def number_of(said: str) -> int:
+    """A number that is said in digits or in a word."""
+    return WORDS.index(said) if said in WORDS else int(said.replace(",", ""))
+
+
+def said_in(text: str, said: str) -> List[int]:
+    """The numbers that stand in a text where # stands in what is said."""
+    pattern = re.escape(said).replace(r"\#", r"(\d[\d,]*\d|\d|" + "|".join(WORDS) + ")").replace(r"\ ", r"\s+")
+    return [number_of(it) for it in re.findall(pattern, text)]
+
+
+def wrong_in(text: str, path: str, said: str, count: int) -> Iterator[str]:
+    """Why a text does not say this number once."""
+    found = said_in(text, said)
+    if len(found) != 1:
+        yield f"{path}: {said!r} is there {len(found)} times"
+    yield from (f"{path}: {said!r} says {it}, and the sources have {count}" for it in found if it != count)
+
+
+def limit_rows() -> List[List[str]]:
+    """The cells of the table of limits, row by row."""
+    lines = [line for _, line in read(TOP, "docs/guide.md").section("Limits") if line.startswith("|")][2:]
+    return [[it.strip() for it in line.split("|")[1:-1]] for line in lines]
+
+
+def wrong() -> Iterator[str]:
+    """Numbers that are not those of the sources."""
+    counts = {name: count() for name, count in COUNTS.items()}
+    texts = {path: re.sub(r"(?m)^\s*///? ?", "", text_of(path)) if path.endswith(".rt") else text_of(path) for path, _, _ in NUMBERS}
+    for path, said, name in NUMBERS:
+        yield from wrong_in(texts[path], path, said, counts[name])
+    rows = limit_rows()
+    for begun, name in ROWS:
+        found = [number_of(re.match(r"[\d,]+", it[1])[0]) for it in rows if it[0].startswith(begun)]
+        if found != [counts[name]]:
+            yield f"docs/guide.md: Limits: {begun}: {found}, and the sources have {counts[name]}"
+    if len(ROWS) < FEWEST_ROWS_OF_LIMITS or len(NUMBERS) < FEWEST_NUMBERS:
+        yield f"{len(ROWS)} rows and {len(NUMBERS)} numbers are fewer than wanted"
+
+
+def unseen() -> Iterator[str]:
+    """Numbers of the list that nobody misses where another one is said, or none."""
+    for path, said, name in NUMBERS:
+        other = said.replace("#", "7,777")
+        if not list(wrong_in(other, path, said, COUNTS[name]())) or not list(wrong_in("", path, said, 0)):
+            yield f"{path}: {said}"
+
+
+def contents() -> Iterator[str]:
+    """Whether the list at the head of docs/proved.md names its parts, in their order."""
+    document = read(TOP, "docs/proved.md")
+    listed = [it[1] for it in (re.match(r"\d+\. \[(.*)\]\(#", line) for line in document.lines) if it]
+    parts = [title for _, title, depth in document.headings() if depth == 2]
+    if listed != parts:
+        yield f"docs/proved.md: it lists {listed}, and has {parts}"
