@@ -1,4 +1,4 @@
-//! What the words of the command line ask for.
+//! What the arguments ask for.
 
 /// How many cases are run, and the number that their random choices come from.
 #[derive(Clone, Copy, PartialEq, Eq, Debug)]

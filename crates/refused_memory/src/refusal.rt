@@ -89,7 +89,7 @@ impl Refusal {
         self.is_met
     }
 
-    /// The calls to which memory ran out last, or the first that answered otherwise.
+    /// The calls that were refused memory last, or the first that answered otherwise.
     pub(crate) fn call(&self) -> &'static str {
         self.call
     }

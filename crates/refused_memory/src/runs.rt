@@ -26,8 +26,8 @@ fn refused_as(answer: &Result<CaseReport, CaseError>, wanted: CaseError) -> Outc
     }
 }
 
-/// The answer to the run of that many jobs that do nothing, with that many workers. The boxes are made if they are run,
-/// since a function that hands out a boxed closure fails the gate.
+/// The answer to the run of that many jobs that do nothing, with that many workers. The boxes are made where they are
+/// run, since a function that hands out a boxed closure fails the gate.
 fn answer_of_idle<R: Threads + Wait + Copy + Send + 'static>(
     rt: &R,
     alloc: Global,

@@ -270,7 +270,7 @@ fn tell_cases<R: Threads + Wait + Copy + Send + 'static, B: Callable, W: Write>(
     (ending, told)
 }
 
-/// What comes of three test cases, of which the second fails, that are printed of and whose table goes to this writer.
+/// What comes of three test cases, of which the second fails, that are reported and whose table goes to this writer.
 fn tell<R: Abort + Threads + Wait + Copy + Send + 'static, W: Write>(
     rt: &R,
     alloc: Global,
@@ -286,7 +286,7 @@ fn tell<R: Abort + Threads + Wait + Copy + Send + 'static, W: Write>(
     Ok((close(ending, &mut live), told))
 }
 
-// A campaign whose table can't be written is printed of up to the test case at which that was found.
+// A campaign whose table can't be written is reported up to the test case at which that was found.
 #[test]
 fn a_campaign_that_is_cut_short_is_told_of(rt: HostRuntime) -> Result<(), Fail> {
     let written = HEADER.len() + "a,1,0,1,0,0,0,pass\n".len();

@@ -474,7 +474,7 @@ fn a_complete_search_tells_its_states(rt: HostRuntime) -> Result<(), Fail> {
     Ok(())
 }
 
-// Compares the line that is printed of a test case t, and its status.
+// Compares the line that is printed for a test case t, and its status.
 fn is_told<R: Abort>(
     rt: &R,
     alloc: Global,

@@ -27,7 +27,7 @@ abbrev pub notes_of : Option (Refusal × ℕ) → List ℕ → List Note
 notes_of None text = []
 notes_of (Some what) text = explanation what.0 text what.1
 
--- this is printed of the text of a task that has this fault: its line, and after it what is explained
+-- this is printed for the text of a task that has this fault: its line, and after it what is explained
 abbrev pub IsToldOf : Task → List ℕ → RunFault → List ℕ → Type 0
 IsToldOf task text fault told = Shows (notes_of (refusal_of task fault) text) (line_of fault) told
 

@@ -261,7 +261,7 @@ module _ {B O : Type 0} (outcome : B → PassState → Back → Type 0) (takes :
       IsRunTo outline_of (IsCalled outcome) cases o.stop_on worker_limit fs ending × AreTaken takes fs before after
   AreGiven before after fs None = AreFinished outline_of (IsCalled outcome) cases o.stop_on worker_limit fs × IsEndedAt takes fs before after
 
-  -- the campaign was run so, and what was printed is printed of the test cases that were finished
+  -- the campaign was run so, and what was printed is what is due about the test cases that were finished
   pub record WasTold (before after : O) (untold told : Option (List ℕ)) (answer : Option CampaignEnd) (line : Result (Unit {0}) OutFault) : Type 0 where
     pub finished : List Finished
     pub given : AreGiven before after finished answer

@@ -128,7 +128,7 @@ module _ {O I : Type 0} (inner : O → I) (state : O → TellState) (first secon
   abbrev pub AreSame : O → O → Type 0
   AreSame before after = (first after ≡ first before) × (second after ≡ second before) × (third after ≡ third before)
 
-  -- the test cases that were taken were printed of and passed on
+  -- the test cases that were taken were reported and passed on
   pub all_told : (tells : Bool) (start : Option (List ℕ)) (done fs : List Finished) (before after : O) → HasTold tells start done (state before)
       → AreTaken Takes fs before after → AreTaken takes fs (inner before) (inner after) × HasTold tells start (done ++ fs) (state after) × AreSame before after
   all_told tells start done [] before after at same = (
