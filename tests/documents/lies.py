@@ -78,6 +78,8 @@ LIES = (
     Lie("a_main_that_is_cut", LIBRARY, "/// Judges the windows. Returns the exit status.\n", "", "the_main_is_whole"),
     Lie("a_library_is_not_listed", LIBRARY, "'my_bench: tc_campaign tc_exec tc_book tc_entry'", "'my_bench: tc_campaign tc_exec tc_book'",
         "the_copy_is_a_crate_as_the_claims_have_it"),
+    Lie("histories_that_nobody_checks", LIBRARY, "../../ttrun check < bench.history", "../../ttrun run --list < bench.history",
+        "histories_of_a_bench_are_read"),
     Lie("all_are_run_again", GUIDE, "[ -z \"$failed\" ] || ", "", "no_block_of_the_guide_runs_all_again_where_nothing_failed"),
     Lie("a_failure_is_not_run_again", GUIDE, "(inconc|fail|error)", "(inconc|fail)", "blocks_of_the_guide"),
     Lie("a_gate_that_failed", RELEASE, "passed,\\ 0\\ failed$", "passed,\\ [0-9]+\\ failed$", "no_release_without_a_green_gate"),

@@ -19,7 +19,8 @@ first_line name n = header_text (record { format = 2; name = name; behaviours = 
 abbrev pub IsSomeFormat : ℕ → Type 0
 IsSomeFormat f = (f ≡ 1) ⊎ (f ≡ 2)
 
--- the text begins with a block whose first line has this number, with it the value before becomes the one after, and the rest begins with the next line
+-- the text begins with a block whose first line has this number, with it the value before becomes the one after, and
+-- the rest begins with the next line
 pub record IsTaken {H : Type 0} (stands : List Block → H → Type 0) (text : List ℕ) (first_line : ℕ) (before after : H) (next : ℕ) (rest : List ℕ) : Type 0 where
   pub block : Block
   pub fits : IsBlock first_line block
