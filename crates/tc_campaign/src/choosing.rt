@@ -48,7 +48,6 @@ fn take_sharded<B: Drop>(
     Ok(())
 }
 
-// Those of the shard.
 fn sharded<B: Drop>(
     alloc: Global,
     cases: Vec<Case<B>>,

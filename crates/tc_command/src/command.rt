@@ -154,7 +154,6 @@ fn repeated_option<'a>(alloc: Global, name: &'a str, word: &'a str, help: &'a st
         .action(ArgAction::Append)
 }
 
-// The option of a row.
 fn option_of<'a>(alloc: Global, row: OptionRow) -> Arg<'a>
     ensures rule { rule_of result ≡ rule_of_row row }
     ensures local { result.global ≡ false }

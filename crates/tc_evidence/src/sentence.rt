@@ -27,7 +27,6 @@ impl Model for Sentence {
     ghost invariant = { λ s. IsSentence s.bytes.items };
 }
 
-// Whether the bytes are a sentence.
 fn is_sentence(bytes: &[u8]) -> bool
     ensures { IsTrue result ↔ IsSentence bytes.now }
 {

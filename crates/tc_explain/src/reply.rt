@@ -23,7 +23,6 @@ const FAULTS: [&str; 8] = [
     "stuck",
 ];
 
-// The names of verdicts.
 const VERDICTS: [&str; 5] = ["none", "pass", "inconc", "fail", "error"];
 
 /// The words that begin a reply.
@@ -40,7 +39,6 @@ pub(crate) fn fault_table() -> &'static [&'static str]
     &FAULTS
 }
 
-// The names of verdicts.
 fn verdict_table() -> &'static [&'static str]
     ensures { map (λ w. w.now) result.now ≡ verdict_words }
 {

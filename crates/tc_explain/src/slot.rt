@@ -68,7 +68,6 @@ pub(crate) enum Slot {
     LineEnd,
 }
 
-// Whether each byte is a digit.
 fn has_digits(word: &[u8]) -> bool
     ensures { result ≡ list_all (λ b. nat_le 48 b && nat_le b 57) word.now }
 {
@@ -93,7 +92,6 @@ fn is_component(moves: bool, word: &[u8]) -> bool
     }
 }
 
-// Whether the word is a name.
 fn is_name(word: &[u8]) -> bool
     ensures { result ≡ name_test word.now }
 {

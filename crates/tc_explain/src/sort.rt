@@ -75,7 +75,6 @@ fn is_slashed(word: &[u8]) -> bool
     }
 }
 
-// Whether a bracket is in the line.
 fn has_bracket(line: &[u8]) -> bool
     ensures { result ≡ list_any (λ b. b == 40) line.now }
 {

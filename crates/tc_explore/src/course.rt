@@ -51,7 +51,6 @@ fn opening_standings(alloc: Global, n: u16) -> Result<Vec<Standing>, NoMemory>
     Ok(standings)
 }
 
-// The same standings.
 fn copied_standings(alloc: Global, standings: &[Standing]) -> Result<Vec<Standing>, NoMemory>
     ensures { IfOk result (λ v. v.items ≡ standings.now) }
 {

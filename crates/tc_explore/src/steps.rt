@@ -69,7 +69,6 @@ fn append_start(out: &mut Vec<u8>, on: Place, run: Run, args: &[Place]) -> Resul
     append_places(out, args)
 }
 
-// The keyword of a step.
 fn keyword_of(step: &Step) -> Keyword {
     match step {
         Step::Create { .. } => Keyword::Create,

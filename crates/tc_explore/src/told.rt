@@ -40,7 +40,6 @@ fn found_once(found: &[Witness], verdict: Verdict) -> u64
     if is_found(found, verdict) { 1 } else { 0 }
 }
 
-// How many verdicts were found.
 fn verdict_count(found: &[Witness]) -> u64
     ensures { result ≡ told.verdict_count found.now }
 {

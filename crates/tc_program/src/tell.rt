@@ -35,7 +35,6 @@ pub(crate) fn refuse_with<E: Write>(errors: &mut E, text: Result<Vec<u8>, NoMemo
     }
 }
 
-// The line of the fault.
 fn line_of_fault(alloc: Global, fault: RunFault) -> Result<Vec<u8>, NoMemory>
     ensures { IfOk result (λ v. v.items ≡ line_of fault) }
 {

@@ -72,7 +72,6 @@ pub(crate) fn with_case(tally: &Tally, case: &Finished) -> Result<Tally, NoMemor
     }
 }
 
-// The tally of these test cases.
 fn tally_cases(cases: &[Finished]) -> Tally
     ensures { result ≡ tally_of_cases cases.now }
 {

@@ -116,7 +116,6 @@ fn append_behaviour(out: &mut Vec<u8>, names: &[Name], run: Run) -> Result<(), N
     }
 }
 
-// Appends the line of the run.
 fn append_run_line(out: &mut Vec<u8>, names: &[Name], log: &RunLog) -> Result<(), NoMemory>
     ensures { OnOk result (out.new.items ≡ out.old.items ++ run_line names.now log.now) }
 {
@@ -227,7 +226,6 @@ pub(crate) fn append_tally(out: &mut Vec<u8>, tally: &Tally) -> Result<(), NoMem
     Ok(())
 }
 
-// Appends the report.
 fn append_report(out: &mut Vec<u8>, results: &Results) -> Result<(), NoMemory>
     ensures { OnOk result (out.new.items ≡ out.old.items ++ report_text results.now) }
 {

@@ -61,7 +61,6 @@ fn parks(awaited: Option<Awaited>, reply: Reply) -> Option<Awaited>
     }
 }
 
-// Whether the call is a wake.
 fn is_wake(op: &Op) -> bool
     ensures { result ≡ spec_wake op.now }
 {

@@ -46,7 +46,6 @@ fn target(me: Comp, bound: &[Comp], place: TargetPlace) -> Target
     }
 }
 
-// The arguments of a start.
 fn arguments(me: Comp, bound: &[Comp], places: &Places) -> Args
     ensures { result ≡ map (component_of me bound.now) places.now }
 {

@@ -160,7 +160,6 @@ fn is_step_text<R: Abort>(rt: &R, alloc: Global, step: Step, text: &str) -> Resu
     has_line(rt, found.as_slice(), line.as_str())
 }
 
-// A start with two arguments.
 fn start_with_two<R: Abort>(rt: &R) -> Step {
     let mut args = Places::new();
     holds(rt, "the first argument", args.push(P));

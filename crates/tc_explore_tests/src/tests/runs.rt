@@ -99,7 +99,6 @@ fn is_course<R: Abort>(rt: &R, alloc: Global, seed: u64, report: &CaseReport) ->
     Ok(())
 }
 
-// Runs the random scripts.
 fn run_random<R: Abort + Threads + Wait + Copy + Send + 'static>(
     rt: &R,
     alloc: Global,
