@@ -5,7 +5,9 @@ import os
 import re
 from typing import Dict, Iterator, List, Tuple
 
-from documents import Block, Document
+from documents import Block, Document, read
+from script_reader import read_script
+from texts import Judged
 
 TOP = os.path.dirname(os.path.dirname(os.path.dirname(os.path.abspath(__file__))))
 # What begins a command.
@@ -29,6 +31,8 @@ OTHERS: Dict[str, Tuple[str, ...]] = {
     "tar": ("--strip-components", "--wildcards"), "prlimit": ("--nproc",), "c++": ("--wrap",), "what is gone": ("--chart",)}
 OPTION = re.compile(r"(?<![\w-])--[a-z][a-z-]*\b")
 FEWEST_OPTIONS = 25
+# The table of lines that a script has where TTCN-3 has others, and how many there are at least.
+NEXT_TO_TTCN, FEWEST_LINES = ("docs/scripts.md", "If you know TTCN-3"), 12
 
 
 def text_of(path: str) -> str:
@@ -53,6 +57,19 @@ def unrun(documents: List[Document]) -> Iterator[str]:
         for block in blocks_of_commands(document):
             if not any(path == document.path and has in block.text for path, has, _, _ in RUN):
                 yield f"{document.path}:{block.line}: no test runs this block"
+
+
+def unread_lines() -> Iterator[str]:
+    """Lines of the table next to TTCN-3 that no script may have."""
+    path, section = NEXT_TO_TTCN
+    rows = [line.split("|")[2] for _, line in read(TOP, path).section(section) if line.startswith("|")]
+    lines = [it for cell in rows for it in re.findall(r"`([^`]+)`", cell)]
+    for line in lines:
+        before = "" if line.startswith("create ") else "create p\n"
+        if isinstance(read_script(f"testcase t\nbehaviour main\n{before}{line}\nend\nbehaviour worker a\nend\nend\n".encode()), Judged):
+            yield f"{path}: no script has the line {line}"
+    if len(lines) < FEWEST_LINES:
+        yield f"{path}: {section} has {len(lines)} lines of scripts, and no fewer than {FEWEST_LINES} are wanted"
 
 
 def own_options() -> List[str]:
