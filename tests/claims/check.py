@@ -141,6 +141,12 @@ def example(name: str) -> str:
         return file.read()
 
 
+def bench() -> str:
+    """What the bench of the library prints."""
+    with open(os.path.join(TOP, "crates/car_window/stdout"), encoding="utf-8") as file:
+        return file.read()
+
+
 def stands_in_an_example(text: str) -> bool:
     """Whether the lines stand together in a file of examples/."""
     return any(f"\n{text}" in f"\n{example(it)}" for it in os.listdir(os.path.join(TOP, "examples")))
@@ -159,6 +165,8 @@ def fault_of_block(block: Block) -> str:
         is_whole = any(example(it) == block.text for it in names)
         is_begun = is_part and any(example(it).startswith(block.text) for it in names)
         return "" if not names or is_whole or is_begun else f"it is not the whole of {' or '.join(names)}"
+    if block.text.startswith("verdict "):
+        return "" if bench().endswith(block.text) else "it is not the end of crates/car_window/stdout"
     if is_of_digits(block.text):
         return f"it stands in no file of examples/{', as ' + ' or '.join(names) if names else ''}"
     if re.match(r"(?:#.*\n)?testcase \w+\n\s*(?:#.*\n\s*)?behaviour ", block.text):
@@ -375,6 +383,7 @@ def main() -> int:
         "a planted idiom or long sentence is found": plain.unseen,
         "the numbers of the documents that can be counted are those of the sources": counted.wrong,
         "another number in a document is found": counted.unseen,
+        "the sources have the texts that tables give to faults, moves and replies": counted.unsaid,
         "docs/proved.md lists its parts": counted.contents,
         "no sentence stands in two documents": lambda: said_twice(documents),
         "each decision has its reason and its consequence": lambda: forms.decisions(read(TOP, "docs/DECISIONS.md")),

@@ -107,6 +107,14 @@ ROWS: Tuple[Tuple[str, str], ...] = (
     ("bytes of a script, or of a list of moves", "bytes of a script"), ("bytes of a script, or of a list of moves", "bytes of moves"),
     ("bytes of a history text", "bytes of histories"))
 
+# The tables whose cells give the texts of faults, moves and replies: document, section, column, and whether a text is in the sources as a
+# whole, or word by word.
+TEXTS = (("docs/scripts.md", "Faults", "text", True), ("docs/texts.md", "Move lists, and what `replay` prints", "text", True),
+         ("docs/texts.md", "Histories, and what `check` prints", "text", True), ("docs/texts.md", "Fault lines of the program", "text", True),
+         ("docs/texts.md", "The text report", "TEXT", True), ("docs/texts.md", "Replies", "text", False),
+         ("docs/texts.md", "Moves", "text", False))
+FEWEST_TEXTS = 75
+
 
 def number_of(said: str) -> int:
     """A number that is said in digits or in a word."""
@@ -163,3 +171,34 @@ def contents() -> Iterator[str]:
     parts = [title for _, title, depth in document.headings() if depth == 2]
     if listed != parts:
         yield f"docs/proved.md: it lists {listed}, and has {parts}"
+
+
+def literals() -> str:
+    """The texts of the sources, one after the other."""
+    found: List[str] = []
+    for crate in sorted(os.listdir(os.path.join(TOP, "crates"))):
+        if not crate.endswith("_tests"):
+            for path in believed.files_below(f"crates/{crate}/src", ".rt"):
+                found += re.findall(r'"((?:[^"\\\n]|\\.)*)"', text_of(path))
+    return "\n".join(found)
+
+
+def texts() -> Iterator[Tuple[str, str]]:
+    """The texts of the tables, each with its place; what represents something else, and numbers, cut them."""
+    for path, section, column, is_whole in TEXTS:
+        head: List[str] = []
+        for _, line in read(TOP, path).section(section):
+            cells = [it.strip() for it in re.split(r"(?<!\\)\|", line)[1:-1]] if line.startswith("|") else []
+            if cells and column in head and not re.fullmatch("[-:| ]+", line):
+                for quoted in re.findall(r"`([^`]+)`", cells[head.index(column)]):
+                    for part in re.split(r"\b[A-Z][A-Z/]*\b|\d+", quoted):
+                        yield from ((f"{path}: {section}", it) for it in ([part.strip(" ,:;")] if is_whole else part.split()) if it)
+            head = head if cells and head else cells
+
+
+def unsaid() -> Iterator[str]:
+    """Texts that a table gives to a fault, a move or a reply, and no source has."""
+    said, found = literals(), list(texts())
+    yield from (f"{place}: no source says {it!r}" for place, it in found if not re.search(rf"(?<![\w-]){re.escape(it)}(?![\w-])", said))
+    if len(found) < FEWEST_TEXTS:
+        yield f"{len(found)} texts, where there are no fewer than {FEWEST_TEXTS}"

@@ -11,7 +11,7 @@ from typing import Callable, Iterator, List, Tuple
 from room import FAILING, PASSING, RACE, SHELLS, TOP, VERDICTS, Room, hold
 from documents import Block, Document, read
 
-PIPELINES = "docs/pipelines.md"
+README, PIPELINES = "README.md", "docs/pipelines.md"
 # The status of the failing campaign.
 WORST = 2
 LEAVES = re.compile(r"It leaves (?P<names>.*?)(?: in the folder `(?P<folder>\w+)`)?, and ends with (?P<end>the status of the run|\d)\.")
@@ -260,9 +260,27 @@ def no_block_of_the_guide_runs_all_again_where_nothing_failed(room: str, program
     return "none"
 
 
+def the_race_of_the_readme(room: str, program: str) -> str:
+    """Its script, and its commands on it, one of which is said to print a line. A wait for the worker leaves one verdict."""
+    document = read(TOP, README)
+    text = " ".join(document.lines)
+    it = Room(os.path.join(room, "race", "it"), program)
+    it.write("race.script", next(block.text for block in document.blocks() if block.text.startswith("testcase t\n")))
+    commands = re.findall(r"`(\./ttrun [^`]*race\.[^`]*)`", text)
+    hold(len(commands) == 2, f"{README}: {commands}")
+    first, page = (it.shell(("bash",), one) for one in commands)
+    hold(first.status == 1 and f"`{first.output.strip()}`" in text and first.output == "t none fail complete\n", f"{first}")
+    hold(not page.output and not page.errors, f"{page}")
+    hold_page(it, "race.html", ["t"])
+    it.write("race.script", it.text("race.script").replace("  start p worker\n", "  start p worker\n  wait done p\n"))
+    second = it.shell(("bash",), commands[0])
+    hold(second.status == 0 and f"`{second.output.strip()}`" in text and second.output == "t fail complete\n", f"{second}")
+    return "3 commands"
+
+
 TESTS: Tuple[Callable[[str, str], str], ...] = (
     every_block_on_a_campaign_that_fails, every_block_on_a_campaign_that_passes, a_step_that_runs_out_of_time,
     a_step_on_a_script_that_is_refused, a_step_that_keeps_races_out, evidence_that_was_changed, evidence_that_was_cut,
     evidence_of_a_release, evidence_of_a_campaign_that_runs_out_of_time, blocks_of_the_guide,
-    no_block_of_the_guide_runs_all_again_where_nothing_failed,
+    no_block_of_the_guide_runs_all_again_where_nothing_failed, the_race_of_the_readme,
 )

@@ -22,7 +22,7 @@ sys.dont_write_bytecode = True
 from room import TOP
 
 SECONDS = 300
-PIPELINES, LIBRARY, GUIDE, RELEASE = "docs/pipelines.md", "docs/library.md", "docs/guide.md", "release"
+README, PIPELINES, LIBRARY, GUIDE, RELEASE = "README.md", "docs/pipelines.md", "docs/library.md", "docs/guide.md", "release"
 FAILS, LATE = "every_block_on_a_campaign_that_fails", "a_step_that_runs_out_of_time"
 
 
@@ -78,6 +78,7 @@ LIES = (
     Lie("a_main_that_is_cut", LIBRARY, "/// Judges the windows. Returns the exit status.\n", "", "the_main_is_whole"),
     Lie("a_library_is_not_listed", LIBRARY, "'my_bench: tc_campaign tc_exec tc_book tc_entry'", "'my_bench: tc_campaign tc_exec tc_book'",
         "the_copy_is_a_crate_as_the_claims_have_it"),
+    Lie("a_race_that_is_none", README, "  start p worker\nend\n", "  start p worker\n  wait done p\nend\n", "the_race_of_the_readme"),
     Lie("histories_that_nobody_checks", LIBRARY, "../../ttrun check < bench.history", "../../ttrun run --list < bench.history",
         "histories_of_a_bench_are_read"),
     Lie("all_are_run_again", GUIDE, "[ -z \"$failed\" ] || ", "", "no_block_of_the_guide_runs_all_again_where_nothing_failed"),
