@@ -6,9 +6,12 @@ import re
 from typing import Iterator, List, Tuple
 
 from documents import Document
+from sources import Sources
 
 MOST_WORDS_OF_A_SENTENCE, MOST_WORDS_OF_A_CELL = 35, 40
 FEWEST_COMMENTS = 4000
+# What a comment may name that no source defines: what the language and clap have, and a byte.
+KNOWN = ("Drop", "_", "DisplayHelp", "DisplayVersion")
 # Each idiom, and what is written instead. What is in backquotes is a name, and none of these.
 IDIOMS = (
     (r"want of", "out of memory; because there is no"), (r"memory (?:is|was|were) refused", "memory runs out"),
@@ -130,6 +133,30 @@ def in_comments(top: str, paths: List[str]) -> Iterator[str]:
                     yield from (f"{path}:{line}: {it}" for it in faults(text))
     if seen < FEWEST_COMMENTS:
         yield f"{seen} comments, where there are no fewer than {FEWEST_COMMENTS}"
+
+
+def unknown_names(top: str, paths: List[str], sources: Sources) -> Iterator[str]:
+    """Names in the comments of the crates that no source has."""
+    for path in paths:
+        if path.startswith("crates/") and path.endswith((".rt", ".antt")):
+            with open(os.path.join(top, path), encoding="utf-8") as file:
+                for line, text in comments(file.read(), marks_of(path)):
+                    names = {it for it in re.findall(r"`([^`]+)`", text) if re.fullmatch(r"\w+(?:::\w+)*", it)}
+                    names |= set(re.findall(r"\b[a-z]+_[a-z_]+\b|\b(?:[A-Z][a-z]+){2,}\b", without_names(text)))
+                    yield from (f"{path}:{line}: {it} stands nowhere" for it in sorted(names)
+                                if it not in KNOWN and not sources.has(it, ""))
+
+
+def wordless(top: str, paths: List[str]) -> Iterator[str]:
+    """Definitions of specs/ that no line before them says in words; those in Inside may do without."""
+    for path in paths:
+        if re.match(r"crates/\w+/specs/(?!Inside/).*\.antt$", path) and not path.endswith("/Inside.antt"):
+            with open(os.path.join(top, path), encoding="utf-8") as file:
+                lines = file.read().split("\n")
+            for before, line in zip(lines, lines[1:]):
+                found = re.match(r"(?:abbrev |unfoldable )*pub (?:(?:record|data) )?(?!use\b|mod\b)(\w+)", line)
+                if found and not before.startswith("--"):
+                    yield f"{path}: nothing is said of {found[1]}"
 
 
 def found_in(text: str) -> List[List[str]]:

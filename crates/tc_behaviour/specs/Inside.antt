@@ -48,6 +48,7 @@ pub record IsSoFar (steps : List Step) (start : PassState) (left : List Step) (c
   pub called : HasCalled steps start left comps now
   pub bound : has_ended now ≡ false → AreBound (length comps) left
 
+-- how a behaviour comes back, by what its calls gave
 abbrev pub ending_of : Result (Unit {0}) NoMemory → Ending
 ending_of (Ok u) = E.Returned
 ending_of (Err e) = E.Starved

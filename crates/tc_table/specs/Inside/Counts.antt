@@ -15,6 +15,7 @@ bit b = if b then 1 else 0
 abbrev pub is_lapsed : ComponentState → Bool
 is_lapsed s = is_some s.last && not (is_running s.phase) && not s.excused
 
+-- how many of the states pass
 abbrev pub count_of : (ComponentState → Bool) → List ComponentState → ℕ
 count_of p [] = 0
 count_of p (s ∷ ss) = bit (p s) + count_of p ss

@@ -40,6 +40,7 @@ abbrev pub numbers_from : ℕ → ℕ → List ℕ
 numbers_from s zero = []
 numbers_from s (suc n) = s ∷ numbers_from (s + 1) n
 
+-- what the table keeps after these entries: the states of all components and of n runs, and whether the case is over
 pub record IsKept (n : ℕ) (past : List Entry) (states : List ComponentState) (runs : List RunState) (over : Bool) : Type 0 where
   pub behaviours : IsBehaviours n
   pub as_many_runs : length runs ≡ n

@@ -23,21 +23,26 @@ use Rattle.tc_table.specs.Local.{gives}
 use Rattle.tc_table.specs.Waiting.{parks}
 use Rattle.tc_table.specs.Inside.States.{none_running, all_killed}
 
+-- a phase once its component is halted
 abbrev pub halted : Bool → Phase → Phase
 halted alive_type (P.Running run) = if alive_type then P.Stopped else P.Killed
 halted alive_type phase = phase
 
+-- the phase after an entry that does not kill the component, by the run that it starts there and whether it halts it
 abbrev pub next_if_not_killed : Option Run → Bool → Bool → Phase → Phase
 next_if_not_killed (Some run) halt alive_type phase = P.Running run
 next_if_not_killed None halt alive_type phase = if halt then halted alive_type phase else phase
 
+-- the phase after an entry, by whether it kills the component too
 abbrev pub next_phase : Bool → Option Run → Bool → Bool → Phase → Phase
 next_phase kill start halt alive_type phase = if kill then P.Killed else next_if_not_killed start halt alive_type phase
 
+-- whether the component is excused after an entry
 abbrev pub next_excused : Option Run → Bool → Phase → Bool → Bool
 next_excused (Some run) outside phase excused = false
 next_excused None outside phase excused = if is_running phase then outside else excused
 
+-- the local verdict after an entry that gives these
 abbrev pub next_local : List Verdict → Verdict → Verdict
 next_local [] local = local
 next_local (v ∷ vs) local = worse (next_local vs local) v
