@@ -1,9 +1,9 @@
 #!/usr/bin/env python3
-"""Builds the libraries below a program side by side, and then the program: what ./ttrun starts where it has to build.
+"""Builds the libraries below a program side by side, and then the program: what ./ttrun starts if it has to build.
 
 usage: tools/first_build.py TOP PROGRAM
 
-An rt locks the folder of each crate that its own stands on, so two of them in one checkout wait for one another. So each library
+An rt locks the folder of each crate that its own is built on, so two of them in one checkout wait for one another. So each library
 is built in a small tree of its own, with copies of the sources and hard links of what is built below it, and its out/ is then
 moved to the checkout. Meanwhile this program holds those locks, as one rt would. The program itself is built in the checkout.
 
@@ -29,7 +29,7 @@ MOST_JOBS = 8
 # How far those give way that others do not wait for so long.
 YIELDING = 10
 MEMINFO = "/proc/meminfo"
-# The files of a group of processes with limits of its own: the limit, where what it takes stands, and after which word.
+# The files of a group of processes with limits of its own: the limit, the place of what it takes, and after which word.
 GROUPS = (
     ("/sys/fs/cgroup/memory.max", "/sys/fs/cgroup/memory.stat", "anon"),
     ("/sys/fs/cgroup/memory/memory.limit_in_bytes", "/sys/fs/cgroup/memory/memory.stat", "total_rss"),
@@ -50,7 +50,7 @@ signals: List[int] = []
 
 
 def pause() -> None:
-    """Waits a bit, and ends the build where a signal came. They are looked at here alone, so that none comes between two steps."""
+    """Waits a bit, and ends the build where a signal came. They are looked at only here, so that none comes between two steps."""
     time.sleep(PAUSE)
     if signals:
         raise SystemExit(128 + signals[0])
@@ -63,7 +63,7 @@ def say(text: str) -> None:
 
 
 def number_in(path: str, before: str) -> Optional[int]:
-    """The number behind this text in a file, if it is there."""
+    """The number after this text in a file, if it is there."""
     try:
         with open(path, encoding="utf-8") as file:
             found = re.search(rf"(?m)^{before}\s*(\d+)", file.read())
@@ -96,7 +96,7 @@ def free_memory() -> int:
 
 
 def need(jobs: int) -> int:
-    """The memory that a build with so many jobs may take, in bytes."""
+    """The memory that a build with that many jobs may take, in bytes."""
     return OF_BUILD + jobs * OF_JOB
 
 
@@ -112,7 +112,7 @@ def uses_of(top: str) -> Uses:
 
 
 def with_below(uses: Uses, name: str) -> Set[str]:
-    """The crate and all that it stands on."""
+    """The crate and all that it is built on."""
     found, left = {name}, [name]
     while left:
         new = set(uses[left.pop()]) - found
@@ -136,12 +136,12 @@ def chains_of(uses: Uses, size: Callable[[str], int]) -> Dict[str, int]:
 
 
 def bytes_of(folder: str) -> int:
-    """The size of a crate's code, which tells better than that of its lemmas how long its proof takes."""
+    """The size of a crate's code, which shows better than that of its lemmas how long its proof takes."""
     return sum(os.path.getsize(f"{at}/{it}") for at, _, names in os.walk(f"{folder}/src") for it in names)
 
 
 def is_locked(folder: int) -> bool:
-    """Whether another process holds the lock of a folder, else takes it. Some file systems have no locks."""
+    """Whether another process holds the lock of a folder, otherwise takes it. Some file systems have no locks."""
     try:
         fcntl.flock(folder, fcntl.LOCK_EX | fcntl.LOCK_NB)
     except BlockingIOError:
@@ -218,7 +218,7 @@ class Builder:
         self.told, self.has_begun = "", False
         self.running: Dict[str, Running] = {}
         self.built: Set[str] = set()
-        # Those that were killed beside others: they run again alone.
+        # Those that were killed next to others: they run again by themselves.
         self.killed: Set[str] = set()
 
     def hold_folders(self) -> List[int]:
@@ -231,19 +231,19 @@ class Builder:
         return held
 
     def tell(self, text: str) -> None:
-        """Says how far the build is, where that is another thing than before."""
+        """Says how far the build is, if that is another thing than before."""
         if text != self.told:
             is_news = self.has_begun or (WAITING in text and WAITING not in self.told)
             say(f"{'news' if is_news else 'build'}: {text}")
             self.told, self.has_begun = text, False
 
     def ready(self) -> List[str]:
-        """The libraries that stand on nothing unbuilt, first the one with the longest chain above it."""
+        """The libraries that are built on nothing unbuilt, first the one with the longest chain above it."""
         left = self.uses.keys() - self.built - self.running.keys() - {self.program}
         return sorted((it for it in left if self.built.issuperset(self.uses[it])), key=lambda it: -self.chains[it])
 
     def jobs_for(self, name: str, share: int) -> int:
-        """With how many jobs the crate may begin now, at most its share, and 0 where it has to wait for memory."""
+        """With how many jobs the crate may begin now, at most its share, and 0 if it has to wait for memory."""
         if self.running and self.killed.intersection([name, *self.running]):
             return 0
         now = free_memory()
@@ -254,7 +254,7 @@ class Builder:
         return fitting[-1] if fitting else 0 if self.running else 1
 
     def begin_ready(self) -> None:
-        """Begins what may begin. The longest chain gets all processors and goes before; the others share them beside it."""
+        """Begins what may begin. The longest chain gets all processors and goes before; the others share them next to it."""
         ready = self.ready()
         every = [*self.running, *ready]
         longest = max((self.chains[it] for it in every), default=0)
@@ -292,7 +292,7 @@ class Builder:
             some.writelines(it for it in every if it.partition("#")[0].split(":")[0].strip().split(" ")[0] in names)
 
     def move_back(self, name: str) -> None:
-        """Moves what an rt left in the crate's out/ to the checkout, in place of what was there."""
+        """Moves what an rt left in the crate's out/ to the checkout, instead of what was there."""
         made, out, old = f"{self.tree(name)}/crates/{name}/out", f"{self.top}/crates/{name}/out", f"{self.tree(name)}/old"
         for it in (made, out, old):
             os.makedirs(it, exist_ok=True)
@@ -304,7 +304,7 @@ class Builder:
         remove(self.tree(name))
 
     def ended(self, it: Running) -> int:
-        """Keeps what an rt made that has ended, and says what it said. 0 where the build may go on."""
+        """Keeps what an rt made that has ended, and says what it said. 0 if the build can continue."""
         del self.running[it.name]
         with it.file, open(it.log, encoding="utf-8", errors="replace") as file:
             said = file.read().replace(self.tree(it.name), self.top).rstrip()
@@ -321,7 +321,7 @@ class Builder:
         return status if status >= 0 else 128 - status
 
     def follow(self) -> int:
-        """Looks once at all that runs: the status of what has failed, else 0."""
+        """Looks once at all that runs: the status of what has failed, otherwise 0."""
         parts = ", ".join(it.how_far() for it in self.running.values())
         self.tell(f"{len(self.built)} of {len(self.uses)} crates built; {parts}")
         pause()
@@ -329,7 +329,7 @@ class Builder:
         return next((status for status in map(self.ended, over) if status), 0)
 
     def build_libraries(self) -> int:
-        """Builds all but the program, each as soon as what it stands on is built."""
+        """Builds all except the program, each as soon as what it is built on is built."""
         status = 0
         while not status and len(self.built) < len(self.uses) - 1:
             self.begin_ready()
@@ -358,7 +358,7 @@ class Builder:
 
 
 def main(top: str, program: str) -> int:
-    """Builds all, and leaves no tree behind."""
+    """Builds all, and leaves no tree after it."""
     for number in (signal.SIGINT, signal.SIGTERM, signal.SIGHUP):
         if signal.getsignal(number) != signal.SIG_IGN:
             signal.signal(number, lambda number, _: signals.append(number))

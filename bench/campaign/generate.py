@@ -1,13 +1,13 @@
 #!/usr/bin/env python3
-"""Prints a script: `many` test cases, or one with `verdicts` or `status` calls, with runs `parked` beside them, or `stopped` at once.
+"""Prints a script: `many` test cases, or one with `verdicts` or `status` calls, with runs `parked` next to them, or `stopped` at once.
 
 The report of each is the same at every run.
 
-many      1,000 test cases of two behaviours: a component is created, started and waited for; its behaviour sets pass.
-verdicts  one test case of 64 behaviours of 1,000 steps, nearly all setverdict and getverdict in turn.
-status    the same with running, alive, done and killed.
-parked_N  64 behaviours, of which N wait until the last one has ended, the main one among them; the others make 1,000 status calls.
-stopped   as verdicts, but the first step ends the test case.
+- many      1,000 test cases of two behaviours: a component is created, started and waited for; its behaviour sets pass.
+- verdicts  one test case of 64 behaviours of 1,000 steps, nearly all setverdict and getverdict in turn.
+- status    the same with running, alive, done and killed.
+- parked_N  64 behaviours, of which N wait until the last one has ended, the main one among them; the others make 1,000 status calls.
+- stopped   as verdicts, but the first step ends the test case.
 """
 import sys
 

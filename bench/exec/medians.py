@@ -1,4 +1,4 @@
-"""Prints the medians of two programs' times side by side, and that of a thread alone: lines of a name and nanoseconds."""
+"""Prints the medians of two programs' times side by side, and that of only a thread: lines of a name and nanoseconds."""
 import statistics
 import sys
 

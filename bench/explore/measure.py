@@ -16,7 +16,7 @@ ENDINGS = ("complete", "undecided")
 
 
 def behaviour(chance, at, steps, racing):
-    """A behaviour of so many steps: verdicts and questions; where it races, calls about the component started before it."""
+    """A behaviour of that many steps: verdicts and questions; where it races, calls about the component started before it."""
     lines = [f"behaviour b{at} before"]
     for _ in range(steps):
         drawn = chance.random()

@@ -1,7 +1,7 @@
 #!/usr/bin/env python3
 """Prints a move list of at most the given number of bytes: 64 behaviours, up to 999 parallel components, all kinds of moves.
 
-No move is a dynamic error, so the case goes on to the end of the list. The list is the same at every run.
+No move is a dynamic error, so the case continues to the end of the list. The list is the same at every run.
 """
 import sys
 

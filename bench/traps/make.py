@@ -1,8 +1,10 @@
 #!/usr/bin/env python3
-"""Writes into a folder inputs that were looked for because they might take `ttrun` long: move lists and scripts of at most 1,048,576
-bytes and history texts of at most 16,777,216 bytes, each right to its last line, the same at every run.
+"""Writes into a folder inputs that were looked for because they might take `ttrun` long.
 
-A file's name begins with the subcommand that reads it. What each asks of the table stands at the function that makes it.
+They are move lists and scripts of at most 1,048,576 bytes and history texts of at most 16,777,216 bytes. Each is right to its last
+line, and the same at every run.
+
+A file's name begins with the subcommand that reads it. What each asks of the table is at the function that makes it.
 """
 import sys
 from pathlib import Path
@@ -60,7 +62,7 @@ def many_cases(case, name='t', verdict='none', behaviours=64):
 
 
 def kills(first=0):
-    """Each Kill of all finds one component that it has to kill behind all that are killed; so many are made before the first."""
+    """Each Kill of all finds one component that it has to kill after all that are killed; that many are made before the first."""
     case = Case().create(first)
     for _ in range(COMPONENTS - first):
         case.create(1).add('0 kill all')
@@ -118,7 +120,7 @@ def started_behaviours():
 
 
 def waiting_while(steps):
-    """62 behaviours and the main one wait, while one makes these steps, by which nobody may go on."""
+    """62 behaviours and the main one wait, while one makes these steps, by which nobody can continue."""
     main = behaviour('main', starts(' alive', 62) + ['create q alive', 'start q c', 'wait killed p0'])
     waiting = ''.join(behaviour(f'b{run}', ['wait killed mtc']) for run in range(62))
     return test_cases(main + waiting + behaviour('c', steps + ['kill mtc']))

@@ -3,7 +3,7 @@
 
 usage: clients/titan/record.py MODULE FOLDER [--logging full|default|typed|rotated|appended] [--shim] [--set NAME=VALUE]
 
-It needs the package eclipse-titan. The status is 0 where the campaign ran to its end or its main component crashed, 3 where it
+It needs the package eclipse-titan. The status is 0 if the campaign ran to its end or its main component crashed, 3 if it
 could not be run.
 """
 from __future__ import annotations
@@ -30,7 +30,7 @@ WRAPPED = ("_ZN12TTCN_Runtime17component_runningEi", "_ZN12TTCN_Runtime15compone
 
 
 def why_not() -> str:
-    """Why Titan cannot be run here, nothing where it can."""
+    """Why Titan cannot be run here, nothing if it can."""
     missing = [it for it in ("ttcn3_makefilegen", "ttcn3_compiler", "mctr_cli", "make", "g++") if shutil.which(it) is None]
     return f"there is no {missing[0]} (apt-get install eclipse-titan)" if missing else ""
 
@@ -43,7 +43,7 @@ def configuration(module: str, logging: str, parameters: List[str]) -> str:
 
 
 def environment() -> Dict[str, str]:
-    """Where Debian's package has Titan."""
+    """The folder of Titan in Debian's package."""
     return {"TTCN3_DIR": "/usr", "TTCN3_SUBDIR": "/titan", **os.environ}
 
 

@@ -1,6 +1,6 @@
 """What of specs/ a reader must believe: the definitions that the clauses of public functions rest on.
 
-`python3 tests/claims/believed.py` prints the table that stands in docs/architecture.md; with --unused the definitions of specs/,
+`python3 tests/claims/believed.py` prints the table that is in docs/architecture.md; with --unused the definitions of specs/,
 without those in Inside, on which no public clause rests.
 """
 from __future__ import annotations
@@ -22,7 +22,7 @@ Place = Tuple[str, str]
 
 
 class Definition(NamedTuple):
-    """A definition: where it stands, what it cites of its own module and of others, and its lines without comments."""
+    """A definition: its place, what it cites of its own module and of others, and its lines without comments."""
 
     crate: str
     file: str
@@ -59,7 +59,7 @@ class Imports:
                 self.modules[by or other] = f"{module}.{last}" if last else module
 
     def places(self, word: str, module: str) -> Iterator[Place]:
-        """What a word may mean, which stands in this module."""
+        """What a word may mean, which is in this module."""
         first, _, rest = word.partition(".")
         if first in self.modules and rest:
             yield self.modules[first], rest.split(".")[0]
@@ -74,7 +74,7 @@ def module_of(path: str) -> str:
 
 
 def at_the_margin(text: str) -> Iterator[str]:
-    """The lines of a file, those in modules with parameters as if they stood alone."""
+    """The lines of a file, those in modules with parameters as if they had none."""
     margin, in_head = 0, False
     for line in text.split("\n"):
         indent = len(line) - len(line.lstrip())
@@ -178,7 +178,7 @@ def public_clauses(crate: str) -> Iterator[Tuple[str, Set[Place]]]:
         module = path.split("/src/")[1][:-3].split("/")[0]
         for around, name, is_open, clauses in items_of(text):
             is_named = module in modules and (not around or re.search(rf"\bpub (?:struct|enum|trait) {around}\b", text))
-            # (what a type keeps behind its view is proved, and nobody has to believe it)
+            # (what a type keeps under its view is proved, and nobody has to believe it)
             if is_open and name != "invariant" and (is_named or (around or name) in names):
                 yield name, {place for word in WORD.findall(clauses) for place in imports.places(word, "")}
 

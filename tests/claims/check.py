@@ -29,7 +29,7 @@ from script_reader import read_script
 from sources import Sources, files_below
 from texts import Judged
 
-# The tables whose cells name what stands in the sources: document, section or none for all, and the fewest rows.
+# The tables whose cells name what is in the sources: document, section or none for all, and the fewest rows.
 TABLES = (("docs/proved.md", "", 60), ("docs/architecture.md", "From a question to its place", 50),
           ("docs/guide.md", "Limits", 8), ("CONTRIBUTING.md", "Add an operation", 8))
 # The columns of these tables that are in words, with quotations of texts among them.
@@ -37,13 +37,13 @@ IN_WORDS = ("crate", "question", "rule", "at most", "beyond it", "what there is"
 WIDTH = 120
 MOST_WORDS_OF_THE_README = 1000
 FEWEST_LINES_OF_A_LIBRARY, MOST_LINES_OF_A_CRATE = 20, 35
-# A sentence of so many words stands in one document only; the history of changes is none of these.
+# A sentence of that many words is in one document only; the history of changes is none of these.
 FEWEST_WORDS_SAID_ONCE = 11
 # In backquotes, what is spelt as a name of the sources.
 NAME = re.compile(r"\w+(?:_\w+)+|\w+(?:::\w+)+|(?:[A-Z][a-z]+){2,}")
 # A document that is tables above all, with the most rows that they may have together, and the most words of a cell.
 LIMITED = (("docs/proved.md", 110, 40), ("README.md", 25, 30), ("docs/architecture.md", 160, 40))
-# A path in backquotes; but one with a word in capitals stands for many, and what is built is not there before.
+# A path in backquotes; but one with a word in capitals represents many, and what is built is not there before.
 PATH = re.compile(r"[\w.*+-]+(?:/[\w.*+-]+)+/?|[\w-]+\.(?:rt|antt|edit|py|sh)")
 OF_MANY = re.compile(r"\*|\b[A-Z]{2,}\b(?!\.md)|\b[A-Z]/[A-Z]\b|/out/")
 CODE = re.compile(r"`([^`]+)`")
@@ -59,7 +59,7 @@ def expanded(name: str) -> List[str]:
 
 
 def named_in(cell: str) -> Iterator[str]:
-    """The names that stand in backquotes; of several words, each."""
+    """The names that are in backquotes; of several words, each."""
     for quoted in CODE.findall(cell):
         for name in expanded(quoted):
             yield from name.split()
@@ -77,7 +77,7 @@ def misplaced(sources: Sources, cell: str) -> Iterator[str]:
 
 
 def row_claims(sources: Sources, head: List[str], cells: List[str], crate: str) -> Iterator[str]:
-    """What one row names, and what does not stand in its crate, or below it; without a crate, anywhere."""
+    """What one row names, and what is not in its crate, or below it; without a crate, anywhere."""
     if crate and crate not in sources.crates:
         yield f"there is no crate {crate}"
         return
@@ -89,7 +89,7 @@ def row_claims(sources: Sources, head: List[str], cells: List[str], crate: str) 
 
 
 def table_claims(sources: Sources, path: str, section: str, fewest: int) -> Iterator[str]:
-    """What the tables of a section name, and does not stand in the sources; in the text beside them, what is spelt as a name."""
+    """What the tables of a section name, and is not in the sources; in the text next to them, what is spelt as a name."""
     rows, crate, head = 0, "", []
     for number, line in read(TOP, path).section(section):
         cells = cells_of(line)
@@ -133,7 +133,7 @@ def all_long_tables() -> Iterator[str]:
 
 
 def example(name: str) -> str:
-    """The text of a file of examples/, empty where there is none."""
+    """The text of a file of examples/, empty if there is none."""
     path = os.path.join(TOP, "examples", name)
     if not os.path.isfile(path):
         return ""
@@ -148,7 +148,7 @@ def bench() -> str:
 
 
 def stands_in_an_example(text: str) -> bool:
-    """Whether the lines stand together in a file of examples/."""
+    """Whether the lines are together in a file of examples/."""
     return any(f"\n{text}" in f"\n{example(it)}" for it in os.listdir(os.path.join(TOP, "examples")))
 
 
@@ -158,7 +158,7 @@ def is_of_digits(text: str) -> bool:
 
 
 def fault_of_block(block: Block) -> str:
-    """Why a block that quotes an example, or is a text of the program, is not what stands there."""
+    """Why a block that quotes an example, or is a text of the program, is not what is there."""
     names = [it for it in named_by(block) if example(it)]
     is_part = "begin" in block.before.rsplit("\n\n", 1)[-1]
     if stands_in_an_example(block.text):
@@ -198,7 +198,7 @@ def squeezed(text: str) -> str:
 
 
 def quoted_code(documents: List[Document]) -> Iterator[str]:
-    """Blocks of Rattle that do not stand in a file of the crate that the document, right before them, says they are of."""
+    """Blocks of Rattle that are in no file of the crate that the document, right before them, names."""
     for document in documents:
         text = "\n".join(document.lines)
         named = [(text.count("\n", 0, it.start()) + 1, it.group(1))
@@ -267,7 +267,7 @@ def sentences(document: Document) -> Iterator[str]:
 
 
 def said_twice(documents: List[Document]) -> Iterator[str]:
-    """Sentences and cells of some length that stand in two documents."""
+    """Sentences and cells of some length that are in two documents."""
     first: Dict[Tuple[str, ...], str] = {}
     for document in documents:
         if document.path == "CHANGELOG.md":
@@ -287,7 +287,7 @@ def long_readme() -> Iterator[str]:
 
 
 def absent_names(sources: Sources, crate: str, lines: List[str]) -> Iterator[str]:
-    """Names in the README of a crate that stand in no source, or not in the file that it says. Its paths begin in its folder."""
+    """Names in the README of a crate that are in no source, or not in the file that it says. Its paths begin in its folder."""
     path, text = f"crates/{crate}/README.md", re.sub(r"```.*?```", "", "\n".join(lines), flags=re.DOTALL)
     yield from (f"{path}: {it} stands nowhere" for it in CODE.findall(text) if NAME.fullmatch(it) and not sources.has(it, ""))
     for names, file in re.findall(r"((?:`[^`]+`(?:,\s| and\s)?)+)\s?in\s`([^`]+\.(?:rt|antt))`", text):
@@ -314,7 +314,7 @@ def readmes_of_crates(sources: Sources) -> Iterator[str]:
 
 
 def paths(documents: List[Document]) -> Iterator[str]:
-    """Paths that lead to nothing: each begins at the top, or in the README of a folder beside it."""
+    """Paths that lead to nothing: each begins at the top, or in the README of a folder next to it."""
     for document in documents:
         folders = [TOP, *([os.path.join(TOP, os.path.dirname(document.path))] if document.path.endswith("/README.md") else [])]
         for number, line in enumerate(document.lines, 1):
@@ -332,7 +332,7 @@ def tracked() -> List[str]:
 
 
 def numbers() -> Iterator[str]:
-    """Numbers that stand for a rule or a case which is written elsewhere."""
+    """Numbers that represent a rule or a case which is written elsewhere."""
     for path in tracked():
         try:
             with open(os.path.join(TOP, path), encoding="utf-8") as file:

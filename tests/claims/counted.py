@@ -156,7 +156,7 @@ def number_of(said: str) -> int:
 
 
 def said_in(text: str, said: str) -> List[int]:
-    """The numbers that stand in a text where # stands in what is said."""
+    """The numbers that are in a text where # is in what is said."""
     pattern = re.escape(said).replace(r"\#", r"(\d[\d,]*\d|\d|" + "|".join(WORDS) + ")").replace(r"\ ", r"\s+")
     return [number_of(it) for it in re.findall(pattern, text)]
 

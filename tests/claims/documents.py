@@ -13,7 +13,7 @@ LINK = re.compile(r"\[[^\]\n]*\]\(([^)\s]+)\)")
 
 @dataclass
 class Block:
-    """A fenced block: its language, its text, the line on which the text begins, and what stands before it."""
+    """A fenced block: its language, its text, the line on which the text begins, and what is before it."""
 
     line: int
     language: str
@@ -54,7 +54,7 @@ class Document:
         return []
 
     def blocks(self) -> Iterator[Block]:
-        """The fenced blocks. What stands before one reaches back to the block of output or the heading before it."""
+        """The fenced blocks. What is before one reaches back to the block of output or the heading before it."""
         before: List[str] = []
         inside: Optional[Tuple[int, str, List[str]]] = None
         for number, line in enumerate(self.lines, 1):
@@ -102,6 +102,6 @@ def output_of(words: Tuple[str, ...], file: str) -> str:
 
 
 def named_by(block: Block) -> List[str]:
-    """The files of examples/ that stand before a block, and those with the output of the commands before it."""
+    """The files of examples/ that are before a block, and those with the output of the commands before it."""
     names = [output_of(tuple(it["words"].split()), it["file"]) for it in COMMAND.finditer(block.before)]
     return names + EXAMPLE.findall(block.before)

@@ -11,7 +11,7 @@ from sources import files_below
 
 GATE = "crates/{crate}/must-fail"
 RELEASE = "tests/lies/edits/{crate}"
-# Each edit that the gate tries takes 10 to 60 seconds, and a crate that has some is proved once more for them.
+# Each edit that the gate tries takes 10 to 60 seconds, and a crate that has some is proved again for them.
 MOST_IN_THE_GATE = 130
 FEWEST_OF_A_CRATE = 3
 
@@ -51,7 +51,7 @@ def pairs_of(text: str) -> Iterator[Tuple[str, str, str]]:
 
 
 def fault_of(top: str, edit: Edit) -> str:
-    """Why an edit cannot be made: each old text stands exactly once in its file, when its turn comes."""
+    """Why an edit cannot be made: each old text is there exactly once in its file, when its turn comes."""
     texts: Dict[str, str] = {}
     with open(os.path.join(top, edit.path), encoding="utf-8") as file:
         pairs = list(pairs_of(file.read()))
@@ -69,7 +69,7 @@ def fault_of(top: str, edit: Edit) -> str:
 
 
 def faults_of_lies(top: str) -> Iterator[str]:
-    """Lies that the program's tests are shown which cannot be planted: each text stands exactly once in the code of all crates."""
+    """Lies that the program's tests are shown which cannot be planted: each text is there exactly once in the code of all crates."""
     texts = []
     for path in files_below(os.path.join(top, "crates"), ".rt"):
         if "_tests/" not in path and "/out/" not in path:

@@ -42,7 +42,7 @@ def changes(document: Document) -> Iterator[str]:
 
 
 def broken_links(documents: List[Document]) -> Iterator[str]:
-    """Links whose text goes over the end of a line, where nobody looks for what they lead to."""
+    """Links whose text goes over the end of a line, so that nobody finds them."""
     for document in documents:
         text = re.sub(r"(?ms)^```.*?^```", "", "\n".join(document.lines))
         yield from (f"{document.path}: {it[0]!r}" for it in re.finditer(r"\[[^\]\n]*\n[^\]\n]*\]\(", text))

@@ -1,7 +1,7 @@
 #!/usr/bin/env python3
 """The graph of the crates: whether each line of crates.txt lists what its crate names and no more, and its drawing.
 
-`python3 tests/claims/graph.py` prints the drawing that stands in docs/architecture.md; with --write it is written there.
+`python3 tests/claims/graph.py` prints the drawing that is in docs/architecture.md; with --write it is written there.
 """
 from __future__ import annotations
 
@@ -52,7 +52,7 @@ def edges() -> Iterator[str]:
 
 
 def below(crate: str, lines: Uses) -> Set[str]:
-    """All crates that this one stands on."""
+    """All crates that this one is built on."""
     own = [it for it in lines[crate] if it in lines]
     return {*own, *(deep for it in own for deep in below(it, lines))}
 
@@ -67,7 +67,7 @@ def title(crate: str) -> str:
 
 
 def drawing() -> Iterator[str]:
-    """The libraries and the program by their layers, lowest first, each with those that it stands on and none of these does."""
+    """The libraries and the program by their layers, lowest first, each with those that it is built on and none of these does."""
     lines = {name: used for name, used in uses().items() if re.fullmatch(r"tc_(?!\w*_tests$)\w+|ttrun", name)}
     deep = {it: below(it, lines) for it in lines}
     layer: Dict[str, int] = {}

@@ -1,9 +1,9 @@
 """The public calls of the libraries: where each is refused memory, or made with none.
 
-A call that can answer that memory was refused has each of its growths refused in turn, and one that cannot is made with every growth
-refused. crates/refused_memory names its calls where a refusal begins, and in the rows of those that take no memory; what it does not make
-stands in tests/hostile/whole.py, each with a reason. `python3 tests/claims/memory.py` prints the public calls and where each is made;
-with --plant each is taken out of its list in turn, and is to be missed.
+A call that can answer that memory ran out has each of its growths refused in turn, and one that cannot is made with every growth
+refused. `crates/refused_memory` names its calls where a refusal begins, and in the rows of those that take no memory. What it does not
+make is in tests/hostile/whole.py, each with a reason. `python3 tests/claims/memory.py` prints the public calls and where each is made.
+With --plant each is taken out of its list in turn, and must be missed.
 """
 from __future__ import annotations
 
@@ -21,9 +21,9 @@ from sources import files_below
 from whole import REFUSED_BY_THE_PROGRAM, UNREFUSED, UNTRIED, WITHOUT_ALLOCATOR
 
 PROGRAM = os.path.join("crates", "refused_memory", "src")
-# What the toolchain's library answers where memory is refused, and clap, whose error may be that.
+# What the toolchain's library answers if memory runs out, and clap, whose error may be that.
 REFUSALS = {"NoMemory", "AllocError", "AllocFailed", "Error"}
-# What tells of a refusal though it is no Result: a campaign that was aborted, a behaviour that was starved, a task that ended so. Only a
+# What reports a refusal though it is no Result: a campaign that was aborted, a behaviour that was starved, a task that ended so. Only a
 # call that is passed an allocator or a handle makes one of it.
 TELLING = {"Results", "CampaignEnd", "Back", "Outcome"}
 HEAD = re.compile(r"^( *)(pub )?(?:const |unsafe )*fn (\w+)\s*(?=[<(])")
@@ -53,7 +53,7 @@ class Call(NamedTuple):
 
 
 def text_of(path: str) -> str:
-    """The text of a file, by its path from the top; none where there is no such file."""
+    """The text of a file, by its path from the top; none if there is no such file."""
     whole = os.path.join(TOP, path)
     if not os.path.isfile(whole):
         return ""
@@ -131,7 +131,7 @@ def surface() -> List[Call]:
 
 
 def faults() -> Set[str]:
-    """The types by which a call can answer that memory was refused: that, and each that has one of them in it as a cause."""
+    """The types by which a call can answer that memory ran out: that, and each that has one of them in it as a cause."""
     found, texts = set(REFUSALS), []
     for crate in libraries():
         for path in files_below(os.path.join(TOP, "crates", crate, "src"), ".rt"):
@@ -144,7 +144,7 @@ def faults() -> Set[str]:
 
 
 def can_be_refused(call: Call, causes: Set[str]) -> bool:
-    """Whether a call can answer that memory was refused."""
+    """Whether a call can answer that memory ran out."""
     taken, _, answer = call.head.rpartition(") -> ")
     error = answer.partition("Result<")[2]
     tells = set(re.findall(r"\w+", answer)) & TELLING and re.search(r"\b(?:alloc|rt):", taken)
@@ -170,7 +170,7 @@ class Lists:
             self.read_rows(file, name, body, unfed)
 
     def read_regions(self, file: str, body: str) -> Set[str]:
-        """Where a refusal begins, up to its end. What is called where each growth is refused."""
+        """The beginning of a refusal, up to its end. What is called while each growth is refused."""
         unfed: Set[str] = set()
         for each, names, region in REGION.findall(body):
             made = self.all_made(set(CALLED.findall(region)))
@@ -221,12 +221,12 @@ def holds_allocator(call: Call) -> bool:
 
 
 def unlisted() -> Iterator[str]:
-    """Public calls that stand in no list, and what the lists name wrongly."""
+    """Public calls that are in no list, and what the lists name wrongly."""
     yield from unlisted_in(surface(), faults(), Lists())
 
 
 def unlisted_in(calls: List[Call], causes: Set[str], lists: Lists) -> Iterator[str]:
-    """The same of these calls and these lists; the causes are the types that tell of a refusal."""
+    """The same of these calls and these lists; the causes are the types that report a refusal."""
     yield from lists.faults
     for name in WITHOUT_ALLOCATOR:
         yield from (f"{it.crate}: {it.path} is handed an allocator" for it in meant(name, calls) if holds_allocator(it))
@@ -245,7 +245,7 @@ def unlisted_in(calls: List[Call], causes: Set[str], lists: Lists) -> Iterator[s
 
 
 def missed_nowhere() -> Iterator[str]:
-    """The calls of the program's lists that nobody misses where they are taken out: there are to be none."""
+    """The calls of the program's lists that nobody misses if they are taken out: none should be."""
     calls, causes, lists = surface(), faults(), Lists()
     for made, wanted in ((lists.refused, True), (lists.quiet, False)):
         for name in [it for it in made if any(can_be_refused(call, causes) is wanted for call in meant(it, calls))]:

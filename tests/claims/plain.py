@@ -1,15 +1,19 @@
 """Plain words: how long the sentences and cells of documents and comments are, and the idioms that none of them has."""
 from __future__ import annotations
 
+import io
 import os
 import re
+import tokenize
 from typing import Iterator, List, Tuple
 
 from documents import Document
 from sources import Sources
 
 MOST_WORDS_OF_A_SENTENCE, MOST_WORDS_OF_A_CELL = 35, 40
-FEWEST_COMMENTS = 4000
+FEWEST_COMMENTS = 5000
+# The sources of Python that nobody has read for this yet.
+UNHELD = ("clients/python/", "page/", "tests/cpp/", "tests/page/", "tests/python/", "tests/serve/")
 # What a comment may name that no source defines: what the language and clap have, and a byte.
 KNOWN = ("Drop", "_", "DisplayHelp", "DisplayVersion")
 # Each idiom, and what is written instead. What is in backquotes is a name, and none of these.
@@ -18,12 +22,12 @@ IDIOMS = (
     (r"in place of", "instead of"), (r"anew|once more", "again"), (r"dear(?:er|est)?", "expensive"), (r"but for|all but|but that", "except"),
     (r"(?:can|could|may|might) be had", "is available"), (r"in a hundred", "%"), (r"leasts", "minimums"),
     (r"whoever|anybody", "a caller that; a user who"), (r"no more than", "at most"), (r"be it", "even if"), (r"mostly", "usually"),
-    (r"beside", "next to; besides"), (r"hand(?:s|ed|ing) (?:it |them )?on", "passes on"), (r"stands?|stood", "is; represents"),
+    (r"beside", "next to; besides"), (r"hand(?:s|ed|ing) (?:it |them )?on", "passes on"), (r"stands?(?!-in)|stood", "is; represents"),
     (r"tells?|told", "prints; says"), (r"behind", "after; under"), (r"alone", "only"), (r"so many", "that many"),
     (r"(?:goes|go|going|gone|went) on", "continues"), (r"(?:goes|go|going|went) by", "depends on"),
     (r"(?:exactly|none|nothing|only) where", "if"), (r"(?:is|are|was|were) to be", "must; will"),
     (r"(?:says?|said) nothing of", "says nothing about"))
-# Where a condition, or a question, begins what is no question.
+# What begins a condition, or a question, in a sentence that is none.
 BEGINNING = re.compile(r"(?:Where|Who|Whose)\b")
 ELSE = re.compile(r"(?:^|[,;:.] |\bor )else\b", re.IGNORECASE)
 # Texts on which the checks must fail, and ones on which they must not.
@@ -122,13 +126,35 @@ def marks_of(path: str) -> str:
     return "--" if path.endswith(".antt") else "///|//!|//"
 
 
+def python_comments(text: str) -> Iterator[Tuple[int, str]]:
+    """The paragraphs of the comments and of the documentation in a source of Python, with their lines; lines of usage are none."""
+    before = tokenize.INDENT
+    for token in tokenize.generate_tokens(io.StringIO(text).readline):
+        is_first = before in (tokenize.INDENT, tokenize.NEWLINE, tokenize.DEDENT)
+        if token.type == tokenize.COMMENT and not token.string.startswith("#!"):
+            yield token.start[0], token.string.lstrip("# ")
+        elif token.type == tokenize.STRING and is_first and token.string.startswith('"""'):
+            for part in re.split(r"\n\s*\n|\n(?=\s*- )", token.string.strip('"')):
+                if not part.lstrip().startswith("usage:"):
+                    yield token.start[0], part.strip()
+        before = before if token.type in (tokenize.COMMENT, tokenize.NL) else token.type
+
+
+def comments_of(path: str, text: str) -> Iterator[Tuple[int, str]]:
+    """The paragraphs of the comments in a source, by its path; none of a file that is no source, or is not held to this."""
+    if path.startswith("crates/") and path.endswith((".rt", ".antt")):
+        yield from comments(text, marks_of(path))
+    elif path.endswith(".py") and not path.startswith(UNHELD):
+        yield from python_comments(text)
+
+
 def in_comments(top: str, paths: List[str]) -> Iterator[str]:
-    """The same of the comments of the crates."""
+    """The same of the comments of the crates, and of Python."""
     seen = 0
     for path in paths:
-        if path.startswith("crates/") and path.endswith((".rt", ".antt")):
+        if path.endswith((".rt", ".antt", ".py")):
             with open(os.path.join(top, path), encoding="utf-8") as file:
-                for line, text in comments(file.read(), marks_of(path)):
+                for line, text in comments_of(path, file.read()):
                     seen += 1
                     yield from (f"{path}:{line}: {it}" for it in faults(text))
     if seen < FEWEST_COMMENTS:
@@ -166,6 +192,8 @@ def found_in(text: str) -> List[List[str]]:
     for mark, path in (("///", "plant.rt"), ("//!", "plant.rt"), ("//", "plant.rt"), ("--", "plant.antt")):
         said = comments(f"let a = 1;\n    {mark} {text}\n", marks_of(path))
         found.append([it for _, one in said for it in faults(one)])
+    for source in (f"let = 1\n# {text}\n", f'def plant() -> None:\n    """{text}"""\n'):
+        found.append([it for _, one in python_comments(source) for it in faults(one)])
     return found
 
 

@@ -1,4 +1,4 @@
-"""The names that stand in the sources: functions, types, clauses, definitions, tests, edits, and the words of the texts."""
+"""The names that are in the sources: functions, types, clauses, definitions, tests, edits, and the words of the texts."""
 from __future__ import annotations
 
 import os
@@ -18,12 +18,12 @@ FIELD = re.compile(r"(?m)^  pub (\w+) :")
 
 
 class Sources:
-    """What stands in the crates below this folder."""
+    """What is in the crates below this folder."""
 
     def __init__(self, top: str) -> None:
         self.top = top
         self.crates: Dict[str, List[str]] = {}
-        # For each name the crates in which it stands, and the types, traits, modules and crates around it.
+        # For each name the crates that have it, and the types, traits, modules and crates around it.
         self.places: Dict[str, Set[str]] = defaultdict(set)
         self.around: Dict[str, Set[str]] = defaultdict(set)
         self.words: Set[str] = set()
@@ -33,7 +33,7 @@ class Sources:
             self.read_crate(crate)
 
     def read_list(self) -> None:
-        """The crates, and what each stands on."""
+        """The crates, and what each is built on."""
         with open(os.path.join(self.top, "crates.txt"), encoding="utf-8") as lines:
             for line in lines:
                 name, colon, below = line.partition("#")[0].partition(":")
@@ -90,11 +90,11 @@ class Sources:
         self.add(crate, modules[-1], set())
 
     def stands_in(self, name: str, crate: str) -> bool:
-        """Whether the name stands in the crate, or in one that it is built on."""
+        """Whether the name is in the crate, or in one that it is built on."""
         return bool(self.places.get(name, set()) & {crate, *self.crates.get(crate, [])})
 
     def has_path(self, path: List[str], crate: str) -> bool:
-        """Whether the last name of a path stands within the others."""
+        """Whether the last name of a path is within the others."""
         last = path[-1]
         is_there = self.stands_in(last, crate) if crate else last in self.places
         return is_there and all(outer in self.around[inner] for outer, inner in zip(path, path[1:]))
@@ -115,7 +115,7 @@ class Sources:
         return any(name in it.findall(text) for it in patterns)
 
     def has(self, name: str, crate: str) -> bool:
-        """Whether what a document names stands in the sources; with a crate, in that crate or below it."""
+        """Whether what a document names is in the sources; with a crate, in that crate or below it."""
         if "/" in name or name.endswith((".antt", ".rt", ".md")):
             return self.has_file(name, crate)
         if name.endswith(".edit"):

@@ -122,7 +122,7 @@ def hold_left(room: Room, names: List[str], cases: List[str], status: int) -> No
 
 
 def run_section(room: Room, it: Section, shell: str, cases: List[str], worst: int) -> int:
-    """Runs the blocks of a section in their order, each of which leaves just what is said. Answers how many there are."""
+    """Runs the blocks of a section in their order, each of which leaves just what is said. Returns how many there are."""
     if it.title.startswith("Where"):
         room.add_archive()
     room.commit()

@@ -28,7 +28,7 @@ FAILS, LATE = "every_block_on_a_campaign_that_fails", "a_step_that_runs_out_of_t
 
 @dataclass(frozen=True)
 class Lie:
-    """A mistake: a file, a text that stands in it, its first place taken by another, and the test that finds it."""
+    """A mistake: a file, a text that is in it, its first place taken by another, and the test that finds it."""
 
     name: str
     file: str
@@ -114,7 +114,7 @@ def last_line(folder: str, program: str, test: str) -> str:
 
 
 def fault_of(lie: Lie, folder: str, program: str) -> str:
-    """What is wrong with a lie, nothing where its test fails on it."""
+    """What is wrong with a lie, nothing if its test fails on it."""
     path = os.path.join(folder, lie.file)
     with open(path, encoding="utf-8") as file:
         text = file.read()

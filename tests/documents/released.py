@@ -28,7 +28,7 @@ NEEDED = ("release", ".gitignore", "*.md", "docs", "examples", "page", "clients"
 
 @dataclass
 class Tree:
-    """A clean checkout of what stands here, with the program, and what a gate leaves."""
+    """A clean checkout of what is here, with the program, and what a gate leaves."""
 
     folder: str
     program: str
@@ -72,7 +72,7 @@ class Tree:
             file.write(text)
 
     def record(self, **lines: str) -> None:
-        """Leaves what a gate does, with other lines where they are given."""
+        """Leaves what a gate does, with other lines if they are given."""
         with open(self.path("crates/ttrun/out/ttrun"), "rb") as file:
             program = hashlib.sha256(file.read()).hexdigest()
         commit = self.git("rev-parse", "HEAD").strip()
@@ -95,7 +95,7 @@ def version_of(program: str) -> str:
 
 
 def made(room: str, program: str) -> Tuple[Tree, str]:
-    """A tree, and the archive that it makes beside itself."""
+    """A tree, and the archive that it makes next to itself."""
     tree = Tree(os.path.join(room, "a tree"), program).make()
     tree.record()
     ran = tree.release(room)

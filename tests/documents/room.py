@@ -20,7 +20,7 @@ VERDICTS = {"t_pass": "setverdict pass", "t_inconc": "setverdict inconc", "t_fai
             "t_error": "stopcase", "t_waits": "create p\nstart p worker\nwait done p"}
 RACE = "testcase t_race\nbehaviour main\ncreate p\nstart p worker\nend\nbehaviour worker\nsetverdict fail\nend\nend\n"
 RT = "#!/bin/sh\n[ \"$*\" = version ] || exit 9\necho 'the toolchain of the tests'\n"
-# Where CUT is among the words of a command, it ends as at its limit of time behind its first test case, which is out if it is live.
+# If CUT is among the words of a command, it ends as at its limit of time after its first test case, which is out if it is live.
 TIMEOUT = """#!/usr/bin/env bash
 [[ $1 =~ ^[0-9]+m?$ ]] || exit 125
 shift

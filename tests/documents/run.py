@@ -4,7 +4,7 @@
 usage: tests/documents/run.py [--program FILE] [--only WORD] [--list]
 
 The program is crates/ttrun/out/ttrun, if none is named. The last line is 'N passed, M failed', and says how many were skipped where
-some were; the status is 0 where nothing failed, else 1, and 3 where there is no program.
+some were; the status is 0 if nothing failed, otherwise 1, and 3 if there is no program.
 """
 from __future__ import annotations
 
@@ -25,18 +25,18 @@ import tables
 from room import TOP
 from lanes import lanes
 
-# A test gets a folder and the program. It answers what it reached, and nothing where it lacks what it needs.
+# A test gets a folder and the program. It answers what it reached, and nothing if it lacks what it needs.
 Test = Callable[[str, str], Optional[str]]
 GROUPS: Tuple[Tuple[Tuple[Test, ...], int], ...] = ((blocks.TESTS, 12), (servers.TESTS, 8), (tables.TESTS, 4), (released.TESTS, 13))
 
 
 def passes(test: Test, program: str) -> Tuple[Optional[bool], str]:
-    """Whether a test has passed, nothing where it was skipped, and the line about it."""
+    """Whether a test has passed, nothing if it was skipped, and the line about it."""
     began = time.monotonic()
     with tempfile.TemporaryDirectory(prefix="documents-test-") as room:
         try:
             reached = test(room, program)
-        except Exception as error:  # a test that breaks has failed, and the others go on
+        except Exception as error:  # a test that breaks has failed, and the others run on
             return False, f"FAILED {test.__name__}\n  {type(error).__name__}: {error}"
     if reached is None:
         return None, f"skipped: {test.__name__}, since what it needs is not there"

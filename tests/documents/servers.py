@@ -18,16 +18,16 @@ DOCUMENTS = (PIPELINES, "docs/titan.md")
 FEWEST_TEXTS = 3
 SHARDS = 4
 MADE = "make-report"
-# The shard whose limit of time ends it behind its first test case; it lacks the other one.
+# The shard whose limit of time ends it after its first test case; it lacks the other one.
 CUT, LACKING = "2/4", "t_waits"
-# What stands behind `uses:`, without its version.
+# What follows `uses:`, without its version.
 ACTIONS = ("actions/checkout", "actions/cache", "actions/upload-artifact", "actions/download-artifact")
 LEFT = ["run.history", "run.html", "run.xml"]
 
 
 # A file that a server keeps: its content, and whether it may be run.
 Files = Dict[str, Tuple[bytes, int]]
-# What stands in a checkout, of which the wrapper builds the program in a job that needs it: a copy, which is counted.
+# What is in a checkout, of which the wrapper builds the program in a job that needs it: a copy, which is counted.
 SOURCES = {"crates.txt": "ttrun:\n", "crates/ttrun/src/main.rt": "//! The program.\n", ".gitignore": "out/\n",
            "tools/first_build.py": """import os, shutil, sys
 shutil.copy2(os.environ["PROGRAM"], os.path.join(sys.argv[1], "crates/ttrun/out/ttrun"))
@@ -69,7 +69,7 @@ class Server:
         return room
 
     def run(self, room: Room, text: str, **more: str) -> Ran:
-        """Runs commands; the limit of time ends the shard that is to be cut. No TTRUN names the program."""
+        """Runs commands; the limit of time ends the shard that must be cut. No TTRUN names the program."""
         return room.shell(self.shell, text, **{"CUT": self.cut, "TTRUN": "", "PROGRAM": self.program, "BUILDS": self.builds, **more})
 
     def count(self) -> int:
@@ -81,7 +81,7 @@ class Server:
 
 
 def put(room: Room, files: Files) -> None:
-    """Puts files into a checkout, which are older than all that stands there."""
+    """Puts files into a checkout, which are older than all that is there."""
     for name, (content, mode) in files.items():
         os.makedirs(os.path.dirname(room.path(name)), exist_ok=True)
         with open(room.path(name), "wb") as file:
@@ -102,7 +102,7 @@ def collected(room: Room, patterns: List[str]) -> Files:
 
 
 def block_with(language: str, word: str) -> Block:
-    """The block of the document in which a word stands."""
+    """The block of the document that has a word."""
     found = [it for it in read(TOP, PIPELINES).blocks() if it.language == language and word in it.text]
     hold(len(found) == 1, f"{PIPELINES} has {len(found)} blocks with {word}")
     return found[0]
@@ -219,7 +219,7 @@ def jenkins_part(server: Server, room: Room, text: str, **names: str) -> Done:
 
 
 def jenkins(server: Server) -> Tuple[List[int], Optional[Done]]:
-    """The pipeline of Jenkins, whose language is not read here but for its commands and what they leave."""
+    """The pipeline of Jenkins, whose language is not read here except for its commands and what they leave."""
     text = block_with("groovy", "Jenkinsfile").text
     hold(all(text.count(one) == text.count(other) for one, other in ("{}", "()")) and text.count("'") % 2 == 0, "brackets")
     built, _, campaign = text.partition("stage('campaign')")
@@ -235,7 +235,7 @@ def jenkins(server: Server) -> Tuple[List[int], Optional[Done]]:
         ends.append(done.status)
         parts.update(collected(room, [re.search(r'stash .*includes: "([^"]*)"', campaign)[1].replace("${SHARD}", shard)]))
     hold(f"1..{len(shards)}" in report, "not all parts are put together")
-    # The files come behind the first command, which clears the folder of the run before.
+    # The files come after the first command, which clears the folder of the run before.
     clearing, _, rest = report.partition("unstash 'program'")
     room = server.checkout({"part.7.history": (b"of the run before\n", 0o644)})
     hold(jenkins_part(server, room, clearing).status == 0 and "part.7.history" not in room.files(), "the folder is not cleared")

@@ -33,7 +33,7 @@ def bare(line: str) -> str:
 
 
 def depth(line: str) -> int:
-    """How many blanks stand before a line."""
+    """How many blanks are before a line."""
     return len(line) - len(line.lstrip(" "))
 
 
@@ -118,14 +118,14 @@ class Reader:
         self.lines, self.at = text.split("\n"), 0
 
     def skip(self) -> Tuple[int, str]:
-        """The next line that is not empty, with its depth; nothing behind the last."""
+        """The next line that is not empty, with its depth; nothing after the last."""
         while self.at < len(self.lines) and not bare(self.lines[self.at]):
             self.at += 1
         line = bare(self.lines[self.at]) if self.at < len(self.lines) else ""
         return depth(line) if line else -1, line.strip()
 
     def block(self, least: int) -> Value:
-        """What stands there at this depth or a greater one; an empty text where nothing does."""
+        """What is there at this depth or a greater one; an empty text if nothing is."""
         at, line = self.skip()
         if at < least:
             return ""
@@ -137,7 +137,7 @@ class Reader:
         return self.inline(line, at)
 
     def inline(self, text: str, at: int) -> Value:
-        """What stands behind a key or a dash whose line has this depth."""
+        """What follows a key or a dash whose line has this depth."""
         if text in ("|", ">"):
             return self.lines_of(text, at)
         if text[:1] in ("[", "{"):
@@ -148,7 +148,7 @@ class Reader:
         return scalar(text)
 
     def lines_of(self, kind: str, at: int) -> str:
-        """A text of several lines, as they stand or folded into one."""
+        """A text of several lines, as they are or folded into one."""
         taken: List[str] = []
         while self.at < len(self.lines) and (not self.lines[self.at].strip() or depth(self.lines[self.at]) > at):
             taken.append(self.lines[self.at])

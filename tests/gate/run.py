@@ -1,9 +1,9 @@
 #!/usr/bin/env python3
-"""The gate's tests: runs ./gate in trees of their own, where a stand-in takes the place of each of its parts.
+"""The gate's tests: runs ./gate in trees of their own, with another program instead of each of its parts.
 
 usage: tests/gate/run.py [--only WORD]
 
-The last line is 'N passed, M failed'; the status is 0 where nothing failed, else 1. No rt is needed.
+The last line is 'N passed, M failed'; the status is 0 if nothing failed, otherwise 1. No rt is needed.
 """
 from __future__ import annotations
 
@@ -326,14 +326,14 @@ def something_is_missing(room: str) -> None:
 
 
 def faults_in(judge: Callable[[str], None]) -> List[str]:
-    """What is wrong, nothing where the test passes."""
+    """What is wrong, nothing if the test passes."""
     with tempfile.TemporaryDirectory(prefix="gate-test-") as room:
         try:
             make_tree(room)
             judge(room)
             left = [it for it in os.listdir(room) if it.startswith("tmp.")]
             return [f"temporary files are left: {left}"] if left else []
-        except Exception as error:  # a test that breaks has failed, and the others go on
+        except Exception as error:  # a test that breaks has failed, and the others run on
             return [f"{type(error).__name__}: {error}"]
 
 

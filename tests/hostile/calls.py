@@ -11,7 +11,7 @@ from sweeps import Sweep
 
 FOLDER = os.path.join(TOP, "crates", "refused_memory")
 PROGRAM = os.path.join(FOLDER, "out", "refused_memory")
-# How many calls of each kind there are, and how many of their growths are to be refused at least.
+# How many calls of each kind there are, and how many of their growths must be refused at least.
 FLOORS = {
     "tables": (3, 10),
     "moves on a table": (38, 6),
@@ -38,7 +38,7 @@ COUNTS = re.compile(r"(.*): (\d+) calls, (\d+) refused, (\d+) answered all the s
 
 
 def below(lines: List[str]) -> List[str]:
-    """Where fewer calls were made, or fewer growths refused, than there have to be."""
+    """The kinds of which fewer calls were made, or fewer growths refused, than there must be."""
     met = {found[1]: tuple(map(int, found.groups()[1:])) for found in map(COUNTS.fullmatch, lines) if found}
     faults = [f"{name} is not told of" for name in FLOORS if name not in met]
     return faults + [f"{name}: {calls} calls, {refused} refused and {kept} answered all the same are too few"

@@ -19,13 +19,13 @@ USERS = itertools.count(20_000 + os.getpid() * 131 % 20_000)
 
 
 class Crowds:
-    """The program, where each user may run it."""
+    """The program, if each user may run it."""
 
     def __init__(self, program: str) -> None:
         self.program = program
 
     def words(self, task: Task, most: int) -> List[str]:
-        """The words of a task, for a program of at most so many threads."""
+        """The words of a task, for a program of at most that many threads."""
         return ["prlimit", f"--nproc={most}:{most}", self.program, *task.words]
 
     def judged(self, task: Task, behaviours: int, stride: int) -> Sweep:
@@ -70,7 +70,7 @@ def why_not() -> str:
 
 @contextlib.contextmanager
 def crowds(program: str) -> Iterator[Optional[Crowds]]:
-    """A copy of the program that each user may run, or none where that cannot be had."""
+    """A copy of the program that each user may run, or none if that cannot be had."""
     if why_not():
         yield None
         return

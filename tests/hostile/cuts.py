@@ -1,4 +1,4 @@
-"""Cut and malicious texts: each prefix, and each of the 256 byte values in place of each byte, of a script, of histories of both
+"""Cut and malicious texts: each prefix, and each of the 256 byte values instead of each byte, of a script, of histories of both
 formats and of a list of moves. Each is answered as the independent reading of the documents answers it."""
 from __future__ import annotations
 
@@ -17,7 +17,7 @@ from rows import text
 from script_reader import read_script
 from texts import Judged, check, replay
 
-# A byte of each kind that the texts tell apart, and some of those that stand beside them.
+# A byte of each kind that the texts distinguish, and some of those next to them.
 KINDS = b"\x00\t\n\r !#-./0129:;@AZ[_`anz{~\x7f\x80\xc3\xff>"
 
 SCRIPT = text("testcase t;behaviour m;create p alive;start p w mtc;wait done p;end;behaviour w a;setverdict fail;end;end")
@@ -31,7 +31,7 @@ MOVES = text("behaviours 1;0 setverdict inconc;0 setverdict pass;0 getverdict")
 
 
 class Answers:
-    """What the documents say of a text, beside what came."""
+    """What the documents say of a text, next to what came."""
 
     def __init__(self, answer: Callable[[bytes], Judged]) -> None:
         self.answer = answer
@@ -43,7 +43,7 @@ class Answers:
 
 
 class Scripts(Answers):
-    """Scripts, whose histories may be others at each run: each is to be one of its script."""
+    """Scripts, whose histories may be others at each run: each must be one of its script."""
 
     def __init__(self) -> None:
         super().__init__(lambda given: read_script(given))

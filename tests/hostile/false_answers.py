@@ -1,4 +1,4 @@
-"""False answers, each of which is to be judged wrong, and true ones beside them: a test of the judge of the other tests."""
+"""False answers, each of which must be judged wrong, and true ones next to them: a test of the judge of the other tests."""
 from __future__ import annotations
 
 from typing import Callable, Iterator, List, Tuple
@@ -13,7 +13,7 @@ SECOND = text("testcase b;run 0 main on 0;  finish -> ok;local 0 none;verdict no
 WHOLE = FIRST + SECOND + text("cases 2 none 1 pass 1 inconc 0 fail 0 error 0;complete")
 ABORTED = FIRST + text("cases 1 none 0 pass 1 inconc 0 fail 0 error 0;aborted at b: no memory")
 AT_B = b"ttrun: aborted at b: no memory\n"
-# What clap says of itself where memory is refused.
+# What clap says of itself if memory runs out.
 BY_CLAP = b"error: out of memory\n"
 HEADER = text("testcase,components,none,pass,inconc,fail,error,verdict")
 RECORD = text("a,1,0,1,0,0,0,pass")
@@ -71,7 +71,7 @@ def answers() -> Iterator[Tuple[str, Task, Ran]]:
     for task, output, errors, status in wrong:
         yield "wrong", task, Ran(output, errors, status, refused=1)
     yield "wrong", PLAIN, Ran(b"", b"", -9, refused=1, is_late=True)
-    # Where nothing was refused nothing may be told as refused.
+    # If nothing was refused, nothing may be reported as refused.
     yield "wrong", PLAIN, Ran(b"", NO_MEMORY, 3, refused=0)
     yield "wrong", PLAIN, Ran(ABORTED, AT_B, 3, refused=0)
     yield "wrong", PROGRESS, Ran(WHOLE, OF_FIRST, 0, refused=0)

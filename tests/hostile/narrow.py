@@ -27,7 +27,7 @@ def narrow_tasks() -> Iterator[Task]:
 
 
 def told_of(task: Task, ample: Ran, written: int) -> bytes:
-    """What is told of test cases where so many bytes are out: live, of those up to the one that is not out whole, else of all."""
+    """What is printed about test cases where that many bytes are out: live, of those up to the one that is not out whole, otherwise of all."""
     if not task.has(PROGRESS) or not task.has("--live"):
         return ample.errors
     ends = accumulate(map(len, pieces_of(task, ample.output)))

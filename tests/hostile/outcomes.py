@@ -40,11 +40,11 @@ class Task:
         return word in self.words
 
     def behind(self, option: str) -> List[str]:
-        """The words that stand behind an option."""
+        """The words that are after an option."""
         return [word for before, word in zip(self.words, self.words[1:]) if before == option]
 
     def campaign(self) -> Campaign:
-        """The test cases that are run: those behind `--only`, or all, and of these the shard's."""
+        """The test cases that are run: those after `--only`, or all, and of these the shard's."""
         only = self.behind("--only")
         cases = [it for it in read_script(self.given) if not only or it.name in only]
         for shard in self.behind("--shard"):
@@ -74,7 +74,7 @@ def pieces_of(task: Task, text: bytes) -> List[bytes]:
 
 
 def header_of(task: Task, text: bytes) -> bytes:
-    """What stands before the test cases."""
+    """What is before the test cases."""
     return text.splitlines(keepends=True)[0] if task.has(CSV) else b""
 
 
@@ -89,7 +89,7 @@ def tally_of(verdicts: List[str]) -> str:
 
 
 def aborted_suite(ample: bytes, pieces: List[bytes], name: str, why: str) -> bytes:
-    """The JUnit report of a campaign that was aborted at this test case, behind those that had finished."""
+    """The JUnit report of a campaign that was aborted at this test case, after those that had finished."""
     refused = (f'<testcase name="{name}" classname="ttrun">\n<error type="aborted" message="{why}"/>\n'
                "<system-out>\n</system-out>\n</testcase>\n").encode()
     elements = [*pieces, refused]
@@ -100,7 +100,7 @@ def aborted_suite(ample: bytes, pieces: List[bytes], name: str, why: str) -> byt
 
 
 def aborted_report(task: Task, ample: bytes, finished: int, name: str, why: str) -> bytes:
-    """The output of a campaign that was aborted at this test case, behind so many that had finished."""
+    """The output of a campaign that was aborted at this test case, after that many that had finished."""
     pieces = pieces_of(task, ample)[:finished]
     if task.has(JUNIT):
         return aborted_suite(ample, pieces, name, why)
@@ -111,7 +111,7 @@ def aborted_report(task: Task, ample: bytes, finished: int, name: str, why: str)
 
 
 def whole_pieces(task: Task, ample: bytes) -> List[bytes]:
-    """What may be out where memory is refused to a live run: any number of whole test cases."""
+    """What may be out if memory runs out in a live run: any number of whole test cases."""
     pieces = pieces_of(task, ample)
     return [b"", header_of(task, ample), *(b"".join(pieces[: at + 1]) for at in range(len(pieces)))]
 
@@ -166,20 +166,20 @@ def judged_refused(task: Task, ample: Ran, ran: Ran) -> Outcome:
 
 
 def told_of_first(told: bytes, count: int) -> List[bytes]:
-    """The lines that tell of the first test cases, and of those again that have failed, by what is told of all."""
+    """The lines about the first test cases, and of those again that have failed, by what is printed about all."""
     lines = told.splitlines(keepends=True)
     each = [it for it in lines if not it.startswith(FAILED)][:count]
     return each + [it for it in lines if it.startswith(FAILED) and it[len(FAILED):] in each]
 
 
 def parted(errors: bytes) -> Tuple[bytes, bytes]:
-    """What is told of test cases, and the line of a fault behind it."""
+    """What is printed about test cases, and the line of a fault after it."""
     at = errors.find(b"ttrun: ")
     return (errors, b"") if at < 0 else (errors[:at], errors[at:])
 
 
 def judged_told(task: Task, ample: Ran, ran: Ran) -> Outcome:
-    """A run with `--progress`: what is told of test cases, whole or cut behind a line, and all else as without it."""
+    """A run with `--progress`: what is printed about test cases, whole or cut after a line, and all else as without it."""
     told, line = parted(ran.errors)
     each = told_of_first(ample.errors, len(ample.errors))
     counts = range(sum(not it.startswith(FAILED) for it in each) + 1)
@@ -198,7 +198,7 @@ def judged_told(task: Task, ample: Ran, ran: Ran) -> Outcome:
 
 
 def judged(task: Task, ample: Ran, ran: Ran) -> Outcome:
-    """What came of a run, beside the run with ample memory."""
+    """What came of a run, next to the run with ample memory."""
     if task.has(PROGRESS) and not ran.is_late:
         return judged_told(task, ample, ran)
     if ran.is_late:

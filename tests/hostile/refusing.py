@@ -16,14 +16,14 @@ from typing import Dict, Iterator, List, Optional
 sys.dont_write_bytecode = True
 HERE = os.path.dirname(os.path.abspath(__file__))
 TOP = os.path.dirname(os.path.dirname(HERE))
-# A run that has not ended after so many seconds hangs.
+# A run that has not ended after that many seconds hangs.
 SECONDS = 60
 COUNTS = struct.Struct("=5Q")
 
 
 @dataclass
 class Ran:
-    """What a run gave, what it asked for, and how much of that it was refused, -1 where that is not known. A status below 0 is a
+    """What a run gave, what it asked for, and how much of that it was refused, -1 if that is not known. A status below 0 is a
     signal's."""
 
     output: bytes
@@ -69,7 +69,7 @@ def plainly(words: List[str], given: bytes, user: Optional[int] = None) -> Ran:
 
 
 def limited(words: List[str], given: bytes, limit: str) -> Ran:
-    """Runs the words with the input, without the library; the limit is what is behind a shell's `ulimit`."""
+    """Runs the words with the input, without the library; the limit is what is after a shell's `ulimit`."""
     return plainly(["sh", "-c", f'ulimit {limit}; exec "$@"', "sh", *words], given)
 
 
@@ -94,7 +94,7 @@ def compiler() -> Optional[str]:
 
 @contextlib.contextmanager
 def refusing() -> Iterator[Optional[Refusing]]:
-    """The library, or none where there is no compiler of C."""
+    """The library, or none if there is no compiler of C."""
     found = compiler()
     if found is None:
         yield None

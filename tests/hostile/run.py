@@ -4,10 +4,10 @@
 usage: tests/hostile/run.py [--program FILE] [--all] [--jobs N]
 
 The programs are crates/ttrun/out/ttrun and crates/refused_memory/out/refused_memory, which `rt ci` and `rt run` leave there.
-Without --all, as ./gate runs it, every so manyth growth and byte is tried; with it each one, which takes minutes. Where there is
-no compiler of C nothing can be refused by a library: that fails. Where the tests are not root's no other user can be refused threads:
-those tests are skipped, and said to be. The last line is 'N passed, M failed'; the status is 0 where nothing failed, else 1, and
-3 where there is no program.
+Without --all, as ./gate runs it, every so manyth growth and byte is tried; with it each one, which takes minutes. If there is
+no compiler of C nothing can be refused by a library: that fails. If the tests are not root's no other user can be refused threads:
+those tests are skipped, and said to be. The last line is 'N passed, M failed'; the status is 0 if nothing failed, otherwise 1, and
+3 if there is no program.
 """
 from __future__ import annotations
 
@@ -33,7 +33,7 @@ from sweeps import Sweep
 
 from lanes import lanes
 
-# What is to be met in the gate, by the tests that refuse something, and by those of texts.
+# What must be met in the gate, by the tests that refuse something, and by those of texts.
 REFUSING_FLOORS = {"right": 900, "refused": 1000, "aborted": 800}
 DEVICE_FLOORS = {"reads failed": 300, "writes failed": 200, "right": 100, "long inputs": 3}
 TEXT_FLOORS = {"accepted": 100, "refused text": 4000}
@@ -64,7 +64,7 @@ def judged(title: str, work: List[Callable[[], Sweep]], floors: dict, threads: i
 
 
 def refused(library: Optional[Refusing], program: str, is_whole: bool, threads: int) -> List[List[str]]:
-    """Runs the tests that a library refuses something; where there is none they fail."""
+    """Runs the tests that a library refuses something; if there is none they fail."""
     parts = (("calls of the library", calls.jobs(library), {}),
              ("failing devices", narrow.jobs(library, program, is_whole), DEVICE_FLOORS),
              ("refused memory and threads", sweeps.jobs(library, program, is_whole), REFUSING_FLOORS))

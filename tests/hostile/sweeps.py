@@ -21,11 +21,11 @@ from whole import EACH
 LIVE_FORMS: Tuple[Tuple[str, ...], ...] = ((), ("--csv",), ("--history",))
 FORMS = (*LIVE_FORMS, ("--junit",))
 SCRIPTS = ("restart", "workers", "supervisor", "verdicts", "pumps")
-# A sweep goes on until so many runs in a row are refused nothing.
+# A sweep continues until that many runs in a row are refused nothing.
 BEHIND = 3
 # A sweep that has not come to its end by then never does.
 MOST = 100_000
-# A sweep ends at so many faults: what is wrong so often is wrong everywhere, and may hang each time.
+# A sweep ends at that many faults: what is wrong so often is wrong everywhere, and may hang each time.
 FAULTS = 5
 
 
@@ -80,12 +80,12 @@ class Sweep:
             self.faults.append(f"{plan}: {outcome.fault}")
 
     def is_given_up(self) -> bool:
-        """Whether it has met so many faults that it ends."""
+        """Whether it has met enough faults to end."""
         return len(self.faults) >= FAULTS
 
 
 def numbers(most: int, stride: int) -> Iterator[int]:
-    """From 1 to the most, each or every so many, the last ones with them."""
+    """From 1 to the most, each or every that many, the last ones with them."""
     return (it for it in range(1, most + 1) if it % stride == 1 % stride or it > most - BEHIND)
 
 
@@ -167,7 +167,7 @@ WHOLE = ("verdicts", ("run",), "growth", "")
 
 
 def jobs(refusing: Refusing, program: str, is_whole: bool) -> List[Callable[[], Sweep]]:
-    """All sweeps; in the gate every so manyth growth alone is refused, but for some tasks."""
+    """All sweeps; in the gate only every so manyth growth is refused, except for some tasks."""
     found: List[Callable[[], Sweep]] = []
     for at, task in enumerate(tasks()):
         for what, behind, stride in (("growth", "", 5), ("growth", "..", 29), ("thread", "", 1), ("thread", "..", 7)):

@@ -1,6 +1,8 @@
-"""Random test cases whose behaviours halt one another: a parallel one stops or kills the main component while it creates and
-starts others, parallel ones stop one another while they set verdicts, components are started anew under a kill of all, and any
-behaviour stops the test case. Each history is to be legal and one of its script, and no run may hang."""
+"""Random test cases whose behaviours halt one another.
+
+A parallel one stops or kills the main component while it creates and starts others. Parallel ones stop one another while they set
+verdicts, components are started again under a kill of all, and any behaviour stops the test case. Each history must be legal and
+one of its script, and no run may hang."""
 from __future__ import annotations
 
 import os
@@ -22,9 +24,9 @@ from texts import Block, read_history
 CASES = 20
 SCRIPTS = 20
 ALL_SCRIPTS = 500
-# How many components the main one makes between two starts, where it is to be halted while it does.
+# How many components the main one makes between two starts, if it must be halted while it does.
 CREATES = 60
-# What is to be met in so many test cases as the gate has. How often a behaviour is halted in time is up to the threads.
+# What must be met in as many test cases as the gate has. How often a behaviour is halted in time is up to the threads.
 FLOORS = {"cases": 400, "mains halted by another": 50, "mains halted while they create": 30, "halts among others": 60, "restarts": 200,
           "kills of all": 30, "ends by testcase.stop of others": 5, "ends by testcase.stop of mains": 15, "settings": 200,
           "late verdict calls": 100}
@@ -44,7 +46,7 @@ class Drawn:
         self.lines += ["behaviour nap", "getverdict", "end", "end"]
 
     def main(self) -> List[str]:
-        """It creates and starts in turn, so that the first are going on while it makes the others."""
+        """It creates and starts in turn, so that the first are active while it makes the others."""
         lines, made = ["behaviour main"], []
         for at in range(self.workers):
             again = bool(made) and self.chance.random() < 0.3
@@ -100,7 +102,7 @@ def drawn_script(seed: int) -> bytes:
 
 
 def count(met: Counter, block: Block, creates: int) -> None:
-    """Counts what a history has; its main component would make so many components."""
+    """Counts what a history has; its main component would make that many components."""
     started, made = set(), 0
     for entry in block.entries:
         op, is_main = entry.op, entry.caller == 0
@@ -140,7 +142,7 @@ def judged_script(program: str, seed: int) -> Sweep:
 
 
 def floors(is_whole: bool) -> Dict[str, int]:
-    """What is to be met in all."""
+    """What must be met in all."""
     return {it: least * (ALL_SCRIPTS // SCRIPTS if is_whole else 1) for it, least in FLOORS.items()}
 
 

@@ -13,7 +13,7 @@ REFUSED_BY_THE_PROGRAM = ("explain", "html_page", "read_task", "answer", "carry_
                           "check", "take_script", "run_cases", "give", "fault_line", "abort_line", "Progress::end")
 # The tasks by which nothing else refuses these calls each growth: in the gate too each one is refused.
 EACH = ("--explain", "--html")
-# These can answer that memory was refused, and are refused none by themselves.
+# These can answer that memory ran out, and are refused none by themselves.
 UNREFUSED: Tuple[Exempt, ...] = (
     (("read_counted",), "read_input is this call over a reader that is counted"),
     (("read_moves_into",), "read_moves is this call for a list"),

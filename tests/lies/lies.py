@@ -7,7 +7,7 @@ from typing import Tuple
 
 @dataclass(frozen=True)
 class Lie:
-    """A lie: pairs of a text, which stands exactly once in the sources of all crates, and what is put in its place."""
+    """A lie: pairs of a text, which is there exactly once in the sources of all crates, and what is put in its place."""
 
     name: str
     changes: Tuple[Tuple[str, str], ...]

@@ -25,7 +25,7 @@ def edits_by_crate(only: str) -> Dict[str, List[str]]:
 
 
 def put(path: str, into: str) -> None:
-    """Links what was built, where that can be done, so that nothing is proved twice; copies what is written by hand."""
+    """Links what was built, if that can be done, so that nothing is proved twice; copies what is written by hand."""
     if f"{os.sep}out{os.sep}" in path:
         try:
             os.link(path, into)
@@ -36,7 +36,7 @@ def put(path: str, into: str) -> None:
 
 
 def copy_sources(room: str, crate: str, names: List[str]) -> None:
-    """A copy of the checkout with what was built of it, in which these edits stand in the place of the crate's own."""
+    """A copy of the checkout with what was built of it, in which these edits are in the place of the crate's own."""
     kept = shutil.ignore_patterns("must-fail")
     shutil.copytree(os.path.join(TOP, "crates"), os.path.join(room, "crates"), symlinks=True, ignore=kept, copy_function=put)
     for name in ("crates.txt", "HANDLES"):

@@ -5,9 +5,9 @@ usage: tests/lies/run.py [--by prover|tests] [--only WORD] [--jobs N] [--rt COMM
 
 It is no part of the gate. The prover is shown the lies of tests/lies/edits/CRATE, in the form of the edits of
 crates/CRATE/must-fail: each must be refused by a clause, which its line names. It takes a proof of each crate that has some,
-and 10 to 60 seconds for each lie. The tests are shown those of lies.py: the program is built without a proof once for each of
-them, and once as it stands, which takes about a minute each, and some of tests/program that need no more than a plain standard
-input are run by `rt try --cases`: at least one must fail. Where a lie names a crate of tests, `rt try --test` runs that one's
+and 10 to 60 seconds for each lie. The tests are shown those of lies.py. The program is built without a proof once for each of
+them, and once as it is, which takes about a minute each. Some of tests/program that need only a plain standard input are run by
+`rt try --cases`: at least one must fail. If a lie names a crate of tests, `rt try --test` runs that one's
 tests in their place. The last line is 'N passed, M failed'.
 """
 from __future__ import annotations
@@ -38,7 +38,7 @@ from case import Case, Ran, faults_of
 from lies import LIES, Lie
 
 LONGEST = 100_000
-# Of the long tables of tests every so many is run: `rt try` takes about half a second for each.
+# Of the long tables of tests every that many is run: `rt try` takes about half a second for each.
 EVERY = 10
 TRIED = re.compile(rb"case=c(\d+) run=(\w+) (?:status=(\d+) )?.*proved=no\n")
 TESTED = re.compile(r"(?m)^test (\S+) \.\.\. (\w+)")
@@ -74,7 +74,7 @@ def files_of_sources(top: str) -> List[str]:
 
 
 def plant(top: str, lie: Lie) -> str:
-    """Changes the sources below this folder. Where a text does not stand exactly once, says so and changes no more."""
+    """Changes the sources below this folder. If a text is not there exactly once, says so and changes no more."""
     for old, new in lie.changes:
         texts = {}
         for path in files_of_sources(top):
@@ -104,7 +104,7 @@ def failing(cases: List[Case], printed: bytes, said: bytes) -> Tuple[int, List[s
 
 
 def planted(room: str, lie: Lie) -> str:
-    """Copies the sources to this folder, and plants the lie there; says why, where it cannot be."""
+    """Copies the sources to this folder, and plants the lie there; says why, if it cannot be."""
     shutil.copytree(os.path.join(TOP, "crates"), os.path.join(room, "crates"), ignore=shutil.ignore_patterns("out"))
     for name in ("crates.txt", "HANDLES"):
         shutil.copy(os.path.join(TOP, name), room)
@@ -112,7 +112,7 @@ def planted(room: str, lie: Lie) -> str:
 
 
 def tried_by_crate(lie: Lie, rt: List[str], wanted: bool) -> Tuple[bool, str]:
-    """Plants the lie in a copy, and runs the tests of its crate of tests, without a proof; else as `tried`."""
+    """Plants the lie in a copy, and runs the tests of its crate of tests, without a proof; otherwise as `tried`."""
     with tempfile.TemporaryDirectory(prefix="ttrun-lies-") as room:
         fault = planted(room, lie)
         if fault:
@@ -128,7 +128,7 @@ def tried_by_crate(lie: Lie, rt: List[str], wanted: bool) -> Tuple[bool, str]:
 
 
 def tried(lie: Lie, rt: List[str], cases: List[Case], wanted: bool) -> Tuple[bool, str]:
-    """Plants the lie in a copy, builds it and runs the cases; whether tests fail exactly where they should, and the lines to print."""
+    """Plants the lie in a copy, builds it and runs the cases; whether tests fail exactly if they should, and the lines to print."""
     if lie.by != PROGRAM:
         return tried_by_crate(lie, rt, wanted)
     with tempfile.TemporaryDirectory(prefix="ttrun-lies-") as room:
@@ -148,7 +148,7 @@ def tried(lie: Lie, rt: List[str], cases: List[Case], wanted: bool) -> Tuple[boo
 
 
 def shown_to_tests(only: str, jobs: int, rt: List[str]) -> Iterator[Tuple[bool, str]]:
-    """Tries the program and the crates of tests as they stand, and then with each lie of the tests."""
+    """Tries the program and the crates of tests as they are, and then with each lie of the tests."""
     cases, lies = plain_cases(), [it for it in LIES if only in it.name]
     truths = [Lie(f"{by}_as_it_stands", (), by) for by in sorted({it.by for it in lies})]
     chosen = [*((it, False) for it in truths), *((it, True) for it in lies)]

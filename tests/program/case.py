@@ -11,9 +11,9 @@ import threading
 from dataclasses import dataclass
 from typing import Dict, List, Optional, Tuple, Union
 
-# A program that has not ended after so many seconds is stopped, and its case has failed.
+# A program that has not ended after that many seconds is stopped, and its case has failed.
 SECONDS = 60
-# Starts the words behind it with standard output on a pipe that nobody reads. A process of its own makes the pipe, so that
+# Starts the words after it with standard output on a pipe that nobody reads. A process of its own makes the pipe, so that
 # no other that is just being started holds its other end.
 BROKEN = """
 import os, signal, sys
@@ -49,9 +49,9 @@ class Case:
     status: int = 0
     # Redirections as a shell has them, as `>/dev/full`, `<&-`.
     redirect: str = ""
-    # What is behind a shell's `ulimit`, as `-v 20000`.
+    # What is after a shell's `ulimit`, as `-v 20000`.
     limit: str = ""
-    # Standard input is a pipe that stays open behind the given bytes.
+    # Standard input is a pipe that stays open after the given bytes.
     stays_open: bool = False
     # Standard output is a pipe that nobody reads any more.
     is_broken: bool = False

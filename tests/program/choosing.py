@@ -16,7 +16,7 @@ ONLY = b"ttrun: --only takes the name of a test case of the script\n"
 STATUS = {"none": 0, "pass": 0, "inconc": 1, "fail": 1, "error": 2}
 LEVEL = ("none", "pass", "inconc", "fail", "error")
 
-# Steps behind which the verdict is the same in each run, with that verdict.
+# Steps after which the verdict is the same in each run, with that verdict.
 BODIES: Tuple[Tuple[str, str], ...] = (
     ("setverdict pass", "pass"), ("setverdict fail", "fail"), ("setverdict inconc", "inconc"), ("getverdict", "none"),
     ("setverdict fail\nsetverdict pass", "fail"), ("create p\nalive p", "none"), ("stopcase", "error"),
@@ -40,7 +40,7 @@ class Choice:
     shard: Optional[Tuple[int, int]]
 
     def words(self, source: random.Random) -> List[str]:
-        """The options that ask for it, each name in one word with its option or behind it."""
+        """The options that ask for it, each name in one word with its option or after it."""
         spelled = [["--only", name] if source.random() < 0.5 else [f"--only={name}"] for name in self.only]
         if self.shard:
             word = f"{self.shard[0]}/{self.shard[1]}"
@@ -129,7 +129,7 @@ def faults_of_choice(program: str, given: Script, asked: Choice, source: random.
 
 
 def faults_of_shards(program: str, given: Script, shards: int) -> List[str]:
-    """What is wrong with the histories of all shards: behind each other they are a text for `check`, of the whole campaign."""
+    """What is wrong with the histories of all shards: after each other they are a text for `check`, of the whole campaign."""
     whole = on(program, given.text, "run", "--history")
     parts = [on(program, given.text, "run", "--history", "--shard", f"{number}/{shards}") for number in range(1, shards + 1)]
     text = b"".join(it.output for it in parts)

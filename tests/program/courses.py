@@ -17,7 +17,7 @@ class Going:
     me: int
     known: Dict[str, Target]
     called: int = 0
-    # The wake to come, where its last call was parked.
+    # The wake to come, if its last call was parked.
     wake: Optional[Op] = None
 
 
@@ -47,7 +47,7 @@ class State:
         return it
 
     def key(self) -> object:
-        """All of it, so that two states are told apart unless nothing differs."""
+        """All of it, so that two states are different unless nothing differs."""
         return (
             tuple(tuple(vars(it).values()) for it in self.table.components),
             tuple(sorted(self.table.component_of_run.items())),
@@ -77,7 +77,7 @@ class State:
         return op.verb != "wake" or self.table.would(run, op) != "parked"
 
     def step(self, run: int) -> int:
-        """A run makes its next call. The answer is how many it has carried out: all but one that is ended, or a wait to come."""
+        """A run makes its next call. The answer is how many it has carried out: all except one that is ended, or a wait to come."""
         op, one = self.call_of(run), self.going[run]
         words = self.words_of(run)
         reply = self.table.play(run, op)
@@ -101,7 +101,7 @@ class Courses(NamedTuple):
 
 
 def courses_of(case: TestCase, most: int) -> Optional[Courses]:
-    """What all courses give; none where there are more states than so many."""
+    """What all courses give; none if there are more states than that many."""
     opening, found = State(case), Courses(set(), [0] * len(case.behaviours))
     seen, left = {opening.key()}, [opening]
     while left:

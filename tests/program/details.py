@@ -1,4 +1,4 @@
-"""What `explore --details` tells behind each line, held to the histories of `explore --history` and a reading of its own; the
+"""What `explore --details` prints after each line, held to the histories of `explore --history` and a reading of its own; the
 steps that no schedule carries out are held to a plain search in `random_courses.py`."""
 from __future__ import annotations
 
@@ -70,7 +70,7 @@ def target_text(block: Block, table: Table, target: Target) -> str:
 
 
 def wait_lines(block: Block) -> List[str]:
-    """Who waits for whom, where the main component is told that nobody can go on."""
+    """The waits and their targets, if the main component got the error stuck."""
     before = list(takewhile(lambda it: it.reply != "error stuck", block.entries))
     if len(before) == len(block.entries):
         return []
@@ -84,7 +84,7 @@ def wait_lines(block: Block) -> List[str]:
 
 
 def lines_behind(blocks: List[Block]) -> List[str]:
-    """What is told behind the line of a test case with these witnesses."""
+    """What is printed after the line of a test case with these witnesses."""
     lines = [locals_line(it) for it in blocks]
     for other in blocks[1:]:
         lines += race_lines(blocks[0], other)

@@ -87,7 +87,7 @@ def faults_beside(program: str, words: Tuple[str, ...], given: Optional[int], ta
 
 
 def judge_a_read(program: str) -> List[str]:
-    """A read that would block, behind a beginning of the input, is a fault, and is not made again."""
+    """A read that would block, after a beginning of the input, is a fault, and is not made again."""
     reading, writing = os.pipe()
     try:
         os.set_blocking(reading, False)

@@ -1,4 +1,4 @@
-"""The documents' commands that read a file of examples/, run as they stand there, and the guide's that read a script of its own."""
+"""The documents' commands that read a file of examples/, run as they are there, and the guide's that read a script of its own."""
 from __future__ import annotations
 
 import os
@@ -46,7 +46,7 @@ def shown() -> Iterator[Tuple[int, Tuple[str, ...], bytes, bytes]]:
 
 
 def shown_cases() -> List[Case]:
-    """Each such block, byte by byte: an explanation is told on standard error, details are written."""
+    """Each such block, byte by byte: an explanation is printed on standard error, details are written."""
     found: List[Case] = []
     for number, words, script, written in shown():
         name = f"{GUIDE}_{number}_{'_'.join(words)}"

@@ -1,4 +1,4 @@
-"""Every file of examples/: scripts with their reports, tables, histories and what is told of their test cases, and lists of
+"""Every file of examples/: scripts with their reports, tables, histories and what is printed about their test cases, and lists of
 moves with their replies."""
 from __future__ import annotations
 
@@ -15,7 +15,7 @@ from texts import Judged, check, read_history, replay, status_of
 TOP = os.path.dirname(os.path.dirname(os.path.dirname(os.path.abspath(__file__))))
 FOLDER = os.path.join(TOP, "examples")
 FORMS: Dict[str, Tuple[str, ...]] = {"report": (), "csv": ("--csv",), "history": ("--history",), "junit": ("--junit",)}
-# The version that a JUnit report tells: an example has that of the day it was made.
+# The version in a JUnit report: an example has that of the day it was made.
 VERSION = re.compile(rb'(?<=<property name="version" value=")[^"]*')
 
 
@@ -26,7 +26,7 @@ def bytes_of(name: str) -> bytes:
 
 
 def status_in(form: str, output: bytes) -> int:
-    """The status that belongs to a report, a table or histories, by the verdicts that stand there."""
+    """The status that belongs to a report, a table or histories, by the verdicts that are there."""
     patterns = {"report": rb"^verdict (\w+)$", "csv": rb",(\w+)$", "history": rb"^end (\w+)$", "junit": rb'message="verdict (\w+)"'}
     verdicts = [it.decode() for it in re.findall(patterns[form], output, re.M) if it != b"verdict"]
     return max((status_of(it) for it in verdicts), default=0)
@@ -82,7 +82,7 @@ def stands_as_history(stem: str) -> Judgement:
 
 
 def junit_of_example(name: str) -> Judgement:
-    """A JUnit report of examples/ is that of its script, but for the program's version."""
+    """A JUnit report of examples/ is that of its script, except for the program's version."""
 
     def judge(program: str) -> List[str]:
         wanted = bytes_of(name)

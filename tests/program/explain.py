@@ -1,4 +1,4 @@
-"""What --explain tells behind the line of a fault, and that nothing else changes."""
+"""What --explain prints after the line of a fault, and that nothing else changes."""
 from __future__ import annotations
 
 from typing import Iterator, List, Tuple
@@ -13,7 +13,7 @@ IN_BEHAVIOUR = ("  a behaviour began in line 2", "  a test case began in line 1"
 IN_HISTORY = ("  a history began in line 1",)
 RETURN = "a carriage return; a line ends with a line feed alone"
 
-# Name, line 3 of a script, fault, what is told of the line.
+# Name, line 3 of a script, fault, what is printed about the line.
 STEP_LINES: List[Tuple[str, str, str, Tuple[str, ...]]] = [
     ("a_keyword_misspelt", "  setverdct pass", "line not understood",
      ("column 3: `setverdct`", f"understood there: {STEPS}", "nearest: setverdict")),
@@ -46,7 +46,7 @@ STEP_LINES: List[Tuple[str, str, str, Tuple[str, ...]]] = [
         "a name is given once: to a test case of the script, a behaviour of the test case, a component of the behaviour",)),
 ]
 
-# Name, the line's bytes, how it is shown, what is told of it.
+# Name, the line's bytes, how it is shown, what is printed about it.
 ODD_LINES: List[Tuple[str, bytes, str, str]] = [
     ("a_carriage_return", b"getverdict\r", "getverdict\\x0D", f"column 11: {RETURN}"),
     ("a_tab", b"\tgetverdict", "\\x09getverdict", "column 1: a tab"),
@@ -55,7 +55,7 @@ ODD_LINES: List[Tuple[str, bytes, str, str]] = [
     ("an_escape", b"\x1b[31m", "\\x1B[31m", "column 1: the byte \\x1B"),
 ]
 
-# Name, line 2 of a list of moves of one behaviour, what is told of it.
+# Name, line 2 of a list of moves of one behaviour, what is printed about it.
 MOVE_LINES: List[Tuple[str, str, Tuple[str, ...]]] = [
     ("a_verb_misspelt", "0 finsh", ("column 3: `finsh`", f"understood there: {VERBS}", "nearest: finish")),
     ("no_run", "finish", ("column 1: `finish`", "understood there: the number of a run")),
@@ -67,7 +67,7 @@ MOVE_LINES: List[Tuple[str, str, Tuple[str, ...]]] = [
     ("a_wake_of_nothing", "0 wake running 1", ("column 8: `running`", "understood there: done or killed")),
 ]
 
-# Name, line 2 of a history, what is told of it.
+# Name, line 2 of a history, what is printed about it.
 ENTRY_LINES: List[Tuple[str, str, Tuple[str, ...]]] = [
     ("no_reply", "0 finish", ("column 9: the end of the line", "understood there: -> and a reply")),
     ("no_arrow", "0 finish ok", ("column 10: `ok`", "understood there: -> and a reply")),
@@ -86,7 +86,7 @@ ENTRY_LINES: List[Tuple[str, str, Tuple[str, ...]]] = [
     ("a_history_in_a_history", "history 2 b 1", ("column 1: `history`", "understood there: the number of a run, or end")),
 ]
 
-# Name, the words before --explain, the whole input, what is told: the fault, and the notes.
+# Name, the words before --explain, the whole input, what is printed: the fault, and the notes.
 TEXTS: List[Tuple[str, Tuple[str, ...], bytes, Tuple[str, ...]]] = [
     ("no_text", ("run",), b"", ("line 1: text ends too early", "the text is empty")),
     ("a_test_case_without_its_end", ("run",), b"testcase t\nbehaviour b\nend\n",
@@ -141,12 +141,12 @@ def both(name: str, words: Tuple[str, ...], given: bytes, fault: str, notes: Lis
 
 
 def indented(lines: Tuple[str, ...]) -> List[str]:
-    """The lines as they are told."""
+    """The lines as they are printed."""
     return [f"  {it}" for it in lines]
 
 
 def script(line: bytes) -> bytes:
-    """A script with this line 3, whose behaviour has a component p and a behaviour w beside it."""
+    """A script with this line 3, whose behaviour has a component p and a behaviour w next to it."""
     return b"testcase t\nbehaviour main\n" + line + b"\ncreate p\nend\nbehaviour w a\nend\nend\n"
 
 

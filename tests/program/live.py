@@ -57,7 +57,7 @@ def killed_run(program: str, options: Tuple[str, ...], given: bytes, ending: sig
 
 
 def ends_of_cases(text: bytes, options: Tuple[str, ...]) -> List[int]:
-    """Where the text ends behind a test case."""
+    """The places at which the text ends after a test case."""
     ends, at, header = [], 0, "--csv" in options
     for line in text.splitlines(keepends=True):
         at += len(line)

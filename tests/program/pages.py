@@ -33,7 +33,7 @@ class Reader(HTMLParser):
         self.is_within = False
 
     def handle_starttag(self, tag: str, attrs: List[Tuple[str, Optional[str]]]) -> None:
-        """Begins the element, where it is the one of the histories."""
+        """Begins the element, if it is the one of the histories."""
         if tag == "script" and ("id", "history") in attrs:
             self.is_within = True
             self.held.append("")
@@ -44,7 +44,7 @@ class Reader(HTMLParser):
             self.is_within = False
 
     def handle_data(self, data: str) -> None:
-        """Keeps what stands in the element."""
+        """Keeps what is in the element."""
         if self.is_within:
             self.held[-1] += data
 

@@ -1,4 +1,4 @@
-"""Runs with `--progress`: what is told of each test case, and that the report and the status stay those without it."""
+"""Runs with `--progress`: what is printed about each test case, and that the report and the status stay those without it."""
 from __future__ import annotations
 
 import os
@@ -21,7 +21,7 @@ FAILED = (b"inconc", b"fail", b"error")
 
 
 def told_of(table: bytes) -> bytes:
-    """What is to be told of the test cases of a table: a line of each, and again of those that have failed."""
+    """What is due about the test cases of a table: a line of each, and again of those that have failed."""
     records = [line.split(b",") for line in table.splitlines()[1:]]
     lines = [b"%s %s\n" % (it[0], it[-1]) for it in records]
     failed = [b"failed: " + line for line, it in zip(lines, records) if it[-1] in FAILED]
@@ -29,7 +29,7 @@ def told_of(table: bytes) -> bytes:
 
 
 def told(name: str, count: int, options: Tuple[str, ...]) -> Judgement:
-    """A run with `--progress` gives what the run without it gives, and tells of each test case."""
+    """A run with `--progress` gives what the run without it gives, and reports each test case."""
     given = examples.bytes_of(f"{name}.script")
     rule = options[options.index("--stop-on"):] if "--stop-on" in options else ()
 
@@ -48,7 +48,7 @@ def told(name: str, count: int, options: Tuple[str, ...]) -> Judgement:
 
 
 def as_they_finish(program: str) -> List[str]:
-    """Where a signal ends a live run, as many test cases are told of as are out, or one more."""
+    """If a signal ends a live run, as many test cases are reported as are out, or one more."""
     for _ in range(TRIES):
         with tempfile.TemporaryFile() as taken, tempfile.TemporaryFile() as lines, tempfile.TemporaryFile() as source:
             source.write(long_campaign())

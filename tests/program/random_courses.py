@@ -18,7 +18,7 @@ from texts import Judged, check, read_history
 
 BATCHES = 10
 CASES = 250
-# A test case with more states than so many in the plain search is left out, and counted.
+# A test case with more states than that many in the plain search is left out, and counted.
 MOST = 1500
 LINE = re.compile(r"(?P<name>\w+)(?P<verdicts>(?: (?:none|pass|inconc|fail|error))*) (?P<ending>complete|undecided after \d+ states)")
 
@@ -44,7 +44,7 @@ class Racing:
         self.lines.append("end")
 
     def behaviour(self, at: int) -> None:
-        """Writes one behaviour. The main one starts the next, and mostly all."""
+        """Writes one behaviour. The main one starts the next, and usually all."""
         names = [f"a{number}" for number in range(self.parameters[at])]
         self.lines.append(" ".join(["behaviour", f"b{at}", *names]))
         self.bound = ["self", *names] + ["mtc"] * (self.chance.random() < 0.2)
@@ -67,7 +67,7 @@ class Racing:
         self.bound.append(name)
 
     def start(self, other: int) -> None:
-        """Starts a behaviour on a component that is known, mostly on the last."""
+        """Starts a behaviour on a component that is known, usually on the last."""
         if len(self.bound) == 1 or self.chance.random() < 0.5:
             self.create()
         on = self.bound[-1] if self.chance.random() < 0.8 else self.chance.choice(self.bound)
@@ -101,12 +101,12 @@ class Racing:
 
 
 def drawn_cases(chance: random.Random, count: int) -> List[str]:
-    """So many test cases."""
+    """That many test cases."""
     return ["\n".join(Racing(chance, f"t{at}").lines) for at in range(count)]
 
 
 def found_in(output: bytes) -> Optional[Dict[str, Told]]:
-    """What the lines of `explore` say of each test case; none where a line is no such line."""
+    """What the lines of `explore` say of each test case; none if a line is no such line."""
     found: Dict[str, Told] = {}
     for line in output.decode().splitlines():
         parts = LINE.fullmatch(line)
@@ -158,7 +158,7 @@ def unseen_lines(case: TestCase, reached: List[int]) -> List[str]:
 
 
 def unseen_told(output: bytes) -> Dict[str, List[str]]:
-    """The lines of `explore --details` that tell steps which no schedule carries out, by the names of the test cases."""
+    """The lines of `explore --details` with steps that no schedule carries out, by the names of the test cases."""
     told: Dict[str, List[str]] = {}
     name = ""
     for line in output.decode().splitlines():
@@ -177,7 +177,7 @@ def verdicts_of_runs(program: str, text: bytes) -> List[Tuple[str, str]]:
 
 
 def fault_of_case(case: TestCase, told: Told, unseen: List[str], met: Counter) -> Optional[str]:
-    """What is wrong with what is told of a test case, where the plain search comes to its end; and what that case was like."""
+    """What is wrong with what is printed about a test case, if the plain search comes to its end; and what that case was like."""
     courses = courses_of(case, MOST)
     if courses is None:
         met["left out"] += 1
@@ -195,8 +195,8 @@ def fault_of_case(case: TestCase, told: Told, unseen: List[str], met: Counter) -
 
 
 def every_verdict_is_told(seed: int) -> Judgement:
-    """Test cases that race: what `explore` tells is what a plain search finds, with a witness each, and it says that this is complete
-    wherever that search ends; real runs give nothing else. The steps told as not seen are those that no schedule carries out."""
+    """Test cases that race: what `explore` prints is what a plain search finds, with a witness each, and it says that this is complete
+    wherever that search ends; real runs give nothing else. The steps printed as not seen are those that no schedule carries out."""
 
     def judge(program: str) -> List[str]:
         chance, met = random.Random(f"racing {seed}"), Counter()

@@ -20,7 +20,7 @@ NAMES = ("pump", "valve", "named", "alive", "create", "p_1", "A" * 32)
 
 
 def target_of(chance: random.Random, table: Table, caller: int, groups: Tuple[str, ...]) -> Target:
-    """A component, mostly one that is there, or a group, mostly where the main behaviour asks."""
+    """A component, usually one that is there, or a group, usually where the main behaviour asks."""
     if groups and chance.random() < (0.4 if caller == 0 else 0.1):
         return chance.choice(groups)
     if chance.random() < 0.02:
@@ -29,7 +29,7 @@ def target_of(chance: random.Random, table: Table, caller: int, groups: Tuple[st
 
 
 def drawn_op(chance: random.Random, table: Table, caller: int, names: Tuple[str, ...]) -> Op:
-    """An operation; a wake is mostly that of the wait before it, and a create may have one of the names."""
+    """An operation; a wake is usually that of the wait before it, and a create may have one of the names."""
     verb = chance.choices(OPERATIONS, WEIGHTS)[0]
     if verb == "create":
         return Op("create", alive=chance.random() < 0.6, name=chance.choice((*names, "")))
@@ -86,13 +86,13 @@ class MoveList:
             met["reply " + (reply if reply.startswith("error ") else reply.split()[0])] += 1
 
     def drawn(self, chance: random.Random) -> Tuple[int, Op]:
-        """A move, mostly of a run that goes on."""
+        """A move, usually of a run that continues."""
         going_on = [it for it in self.table.component_of_run if self.table.is_going_on(it)]
         caller = chance.choice(going_on) if going_on and chance.random() < 0.95 else chance.choice((0, 1, 2, 65_535))
         return caller, drawn_op(chance, self.table, caller, self.names)
 
     def play_fault(self, chance: random.Random, fault: str) -> None:
-        """Adds a move that is answered by this error, where one is soon drawn, and then one more."""
+        """Adds a move that is answered by this error, if one is soon drawn, and then one more."""
         for _ in range(60):
             caller, op = self.drawn(chance)
             if self.table.would(caller, op) == f"error {fault}":
@@ -111,11 +111,11 @@ class MoveList:
         return "".join(f"{it}\n" for it in lines).encode()
 
     def may_be_of_format_1(self) -> bool:
-        """Whether format 1 can tell the history."""
+        """Whether format 1 can spell the history."""
         return self.behaviours <= FORMATS["1"] and not any(op.name for _, op in self.moves)
 
     def history_lines(self, name: str, format_of_block: str) -> List[str]:
-        """The history, legal where the format can tell it."""
+        """The history, legal if the format can spell it."""
         entries = [f"{caller} {op.text()} -> {reply}" for (caller, op), reply in zip(self.moves, self.replies)]
         return [f"history {format_of_block} {name} {self.behaviours}", *entries, f"end {self.table.overall()}"]
 
@@ -213,8 +213,8 @@ def changed_lists_are_judged(seed: int) -> Judgement:
 
 
 def histories_are_checked(seed: int) -> Judgement:
-    """Random histories of both formats: legal ones, ones with another reply or verdict, ones with a byte or a line changed, and ones that
-    format 1 cannot tell in it."""
+    """Random histories of both formats: legal ones, ones with another reply or verdict, ones with a byte or a line changed, and ones in
+    format 1 that it cannot spell."""
 
     def judge(program: str) -> List[str]:
         chance, met = random.Random(f"histories {seed}"), Counter()

@@ -42,7 +42,7 @@ class Writer:
         self.is_in_turn = is_in_turn
         self.count = chance.choice((1, 2, 3, 3, 4, 5, 8))
         self.parameters = [0] + [chance.choice((0, 0, 1, 2, 4)) for _ in range(self.count - 1)]
-        # Who starts a behaviour: one that stands before it in the order, so that each is started at most once.
+        # The behaviour that starts another: one that is before it in the order, so that each is started at most once.
         self.starters = [-1] + [chance.randrange(at) for at in range(1, self.count)]
         self.lines = [f"testcase {name}"]
         for at in range(self.count):
@@ -87,7 +87,7 @@ class Writer:
         self.bound.append(name)
 
     def target(self, at: int, groups: Tuple[str, ...]) -> str:
-        """A component that is bound, or mostly in the main behaviour a group."""
+        """A component that is bound, or usually in the main behaviour a group."""
         if groups and self.chance.random() < (0.3 if at == 0 else 0.02):
             return self.chance.choice(groups)
         return self.chance.choice(self.bound)
@@ -141,7 +141,7 @@ def changed(chance: random.Random, text: bytes) -> bytes:
         elif what == 1:
             words[place - 1] = chance.choice(WORDS)
         elif what < 5:
-            # the word that stands there in a line of the same form
+            # the word that is there in a line of the same form
             peers = [it.split() for it in lines if it.split()[:1] == words[:1]]
             words[place - 1] = chance.choice([it[place - 1] for it in peers if len(it) >= place] or words)
         else:
@@ -158,7 +158,7 @@ def run_words(program: str, text: bytes, *words: str) -> Ran:
 
 
 def faults_against(ran: Ran, output: Optional[bytes], errors: bytes, status: Optional[int]) -> List[str]:
-    """What is wrong; where there is no output to compare it with, the run was not refused."""
+    """What is wrong; if there is no output to compare it with, the run was not refused."""
     faults = difference("standard error", errors, ran.errors)
     if output is not None:
         faults += difference("standard output", output, ran.output)
@@ -175,7 +175,7 @@ def faults_of_histories(program: str, text: bytes) -> List[str]:
 
 
 def reports_of_scripts_in_turn(seed: int) -> Judgement:
-    """Scripts in which one behaviour goes on at a time: the whole report, the table and the status are known."""
+    """Scripts in which one behaviour continues at a time: the whole report, the table and the status are known."""
 
     def judge(program: str) -> List[str]:
         chance, met = random.Random(f"in turn {seed}"), Counter()
@@ -209,7 +209,7 @@ def reports_of_scripts_in_turn(seed: int) -> Judgement:
 
 
 def histories_of_scripts(seed: int) -> Judgement:
-    """Scripts whose behaviours go on side by side: each history is legal, and one of its script."""
+    """Scripts whose behaviours continue side by side: each history is legal, and one of its script."""
 
     def judge(program: str) -> List[str]:
         chance, met = random.Random(f"side by side {seed}"), Counter()

@@ -17,11 +17,11 @@ from texts import Block, Entry, check, read_history, status_of
 
 # The forms that histories have.
 FORMS = ("csv", "junit", "html")
-# How many histories of random calls are reported, and the fewest of each kind that are to be among them.
+# How many histories of random calls are reported, and the fewest of each kind that must be among them.
 RANDOM_BLOCKS = 1000
 FLOORS: Dict[str, int] = {"none": 100, "pass": 20, "inconc": 20, "fail": 20, "error": 80, "unfinished": 100, "two components": 200}
 
-# A schema of our own: each element with its attributes, and the elements that may stand in it, by their order.
+# A schema of our own: each element with its attributes, and the elements that may be in it, by their order.
 SCHEMA: Dict[str, Tuple[Tuple[str, ...], str]] = {
     "testsuites": (("tests", "failures", "errors", "skipped"), "testsuite"),
     "testsuite": (("name", "tests", "failures", "errors", "skipped"), "properties( testcase)*"),
@@ -44,7 +44,7 @@ ELEMENTS: Dict[str, Tuple[str, Optional[str], Optional[str]]] = {
 
 
 class Told:
-    """What a form tells of a block: its name, the local verdicts, and how it ended."""
+    """What a form says about a block: its name, the local verdicts, and how it ended."""
 
     def __init__(self, block: Block) -> None:
         table = Table(block.behaviours)
@@ -56,7 +56,7 @@ class Told:
 
 
 def blocks_of(text: bytes) -> List[Told]:
-    """What the forms tell of a history text."""
+    """What the forms say about a history text."""
     blocks, refusal = read_history(text)
     assert refusal is None, refusal
     return [Told(it) for it in blocks]
@@ -129,7 +129,7 @@ def faults_of_junit(text: bytes) -> List[str]:
 
 
 def version_in(text: bytes) -> str:
-    """The version that a JUnit report tells."""
+    """The version in a JUnit report."""
     found = ElementTree.fromstring(text).find("testsuite/properties/property[@name='version']")
     return "" if found is None else found.get("value") or ""
 
@@ -255,7 +255,7 @@ def random_block(source: random.Random, number: int) -> Tuple[str, str]:
 
 
 def random_op(source: random.Random, table: Table) -> Op:
-    """A call, mostly no error."""
+    """A call, usually no error."""
     comp = source.randrange(len(table.components))
     run_ = source.randrange(table.behaviours)
     return source.choice([

@@ -1,4 +1,4 @@
-"""Worked cases of replay, check and run. A `;` stands for the end of a line; each text ends with one."""
+"""Worked cases of replay, check and run. A `;` represents the end of a line; each text ends with one."""
 from __future__ import annotations
 
 from typing import Iterator, List, Tuple

@@ -4,7 +4,7 @@
 usage: tests/program/run.py [--program FILE] [--only WORD] [--seed N] [--list]
 
 The program is crates/ttrun/out/ttrun, which `rt ci`, `rt run` and ./ttrun leave there. The last line is
-'N passed, M failed'; the status is 0 where nothing failed, else 1, and 3 where there is no program.
+'N passed, M failed'; the status is 0 if nothing failed, otherwise 1, and 3 if there is no program.
 """
 from __future__ import annotations
 
@@ -78,10 +78,10 @@ def tests(seed: int) -> List[Test]:
 
 
 def faults_in(test: Test, program: str) -> List[str]:
-    """What is wrong, nothing where the test passes."""
+    """What is wrong, nothing if the test passes."""
     try:
         return faults_of(test, run(test, program)) if isinstance(test, Case) else test.judge(program)
-    except Exception as error:  # a test that breaks has failed, and the others go on
+    except Exception as error:  # a test that breaks has failed, and the others run on
         return [f"{type(error).__name__}: {error}"]
 
 

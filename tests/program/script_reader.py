@@ -1,4 +1,4 @@
-"""The script language in Python, written from docs/scripts.md alone: the campaign that a script spells, or its first fault."""
+"""The script language in Python, written from only docs/scripts.md: the campaign that a script spells, or its first fault."""
 from __future__ import annotations
 
 import re
@@ -46,7 +46,7 @@ class Line:
 
 
 def lines_with_words(text: bytes) -> List[Line]:
-    """The lines that are not skipped. Words stand between spaces, and nothing else is a space."""
+    """The lines that are not skipped. Words have spaces between them, and nothing else is a space."""
     found = [Line(number, line, [it for it in line.split(" ") if it]) for number, line in enumerate(lines_of(text), 1)]
     return [it for it in found if it.words and not it.words[0].startswith("#")]
 
@@ -70,7 +70,7 @@ def has_form(words: List[str]) -> bool:
 
 
 def references_of(words: List[str]) -> List[str]:
-    """The words that stand in the place of a component or a group."""
+    """The words that are in the place of a component or a group."""
     verb = words[0]
     if verb == "start":
         return [words[1], *words[3:]]
@@ -85,7 +85,7 @@ def given_name(words: List[str]) -> str:
 
 
 def names_of(words: List[str]) -> List[str]:
-    """The words that stand in the place of a name, but for the components that a step refers to."""
+    """The words that are in the place of a name, except for the components that a step refers to."""
     verb = words[0]
     if verb in ("testcase", "behaviour"):
         return words[1:]
@@ -127,7 +127,7 @@ class Grammar:
         return "too many" if self.is_too_many(words) else None
 
     def is_in_place(self, verb: str) -> bool:
-        """Whether such a line may stand here."""
+        """Whether such a line may be here."""
         if verb == "testcase":
             return self.test_case is None
         if verb == "behaviour":

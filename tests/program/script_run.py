@@ -124,7 +124,7 @@ class Finished:
 
 
 class InTurn:
-    """Runs a test case in which each start is followed by a wait for its run: one behaviour goes on at a time."""
+    """Runs a test case in which each start is followed by a wait for its run: one behaviour continues at a time."""
 
     def __init__(self, case: TestCase) -> None:
         self.done = Finished(case, Table(len(case.behaviours)), {}, [])
@@ -162,7 +162,7 @@ class InTurn:
         self.call(run, Op("finish"), Op("finish"))
 
     def wake(self, run: int, op: Op) -> str:
-        """What a parked wait is answered once nobody else goes on: a parallel run that waits in vain is ended by the main one."""
+        """What a parked wait is answered once nobody else continues: a parallel run that waits in vain is ended by the main one."""
         reply = self.call(run, wake_of(op), op)
         if reply == "parked":
             raise NotInTurn
@@ -170,7 +170,7 @@ class InTurn:
 
 
 class NotInTurn(Exception):
-    """More than one behaviour goes on at a time: what comes first is not known."""
+    """More than one behaviour continues at a time: what comes first is not known."""
 
 
 def run_in_turn(campaign: Campaign, stop_on: Optional[str]) -> Tuple[List[Finished], str]:

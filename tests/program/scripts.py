@@ -178,7 +178,7 @@ WORKED = text("testcase t;run 0 main on 0;  create -> made 1;  create alive -> m
               "  kill 1 -> ok;  alive 0 -> true;  stop 2 -> ok;local 0 none;local 1 none;local 2 none;local 3 none;verdict none;"
               "cases 1 none 1 pass 0 inconc 0 fail 0 error 0;complete")
 
-# Scripts whose names are bound: a component behind the line of its create, a parameter in its whole behaviour.
+# Scripts whose names are bound: a component after the line of its create, a parameter in its whole behaviour.
 BOUND = (
     ("a_component_bound_lines_before", text("testcase t;behaviour m;create p;# p;;stop p;end;end")),
     ("parameters_in_their_whole_behaviour",

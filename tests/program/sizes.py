@@ -1,4 +1,4 @@
-"""The largest inputs, one more than each limit, and what is refused for want of memory or threads."""
+"""The largest inputs, one more than each limit, and what is refused because memory or threads ran out."""
 from __future__ import annotations
 
 from typing import Iterator, List, Tuple
@@ -14,7 +14,7 @@ PASSED = (CSV_HEADER + csv_of_verdict("t", "pass")).encode()
 
 
 def padded_script(length: int) -> bytes:
-    """A script of that many bytes: one test case behind a comment."""
+    """A script of that many bytes: one test case after a comment."""
     return b"#" + b" " * (length - len(PASSING) - 2) + b"\n" + PASSING
 
 
@@ -86,8 +86,8 @@ def single(steps: List[str]) -> bytes:
 
 
 def waiting(count: int, steps: int) -> bytes:
-    """The main behaviour starts each other one, waits for it, and sets pass until it has made so many calls. A wait is a second
-    entry where it is parked, so its log has more entries than that, unless no wait was."""
+    """The main behaviour starts each other one, waits for it, and sets pass until it has made that many calls. A wait is a second
+    entry if it is parked, so its log has more entries than that, unless no wait was."""
     main, others = [], []
     for at in range(1, count):
         main += [f"create p{at}", f"start p{at} w{at}", f"wait done p{at}"]

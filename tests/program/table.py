@@ -1,4 +1,4 @@
-"""The component table in Python, written from docs/rules.md alone: the tests hold `replay`, `check` and `run` to it."""
+"""The component table in Python, written from only docs/rules.md: the tests hold `replay`, `check` and `run` to it."""
 from __future__ import annotations
 
 from dataclasses import dataclass
@@ -27,7 +27,7 @@ def worst(one: str, other: str) -> str:
 class Op:
     """An operation. `target` is the component of a start, the group of a stop or kill, or what is asked or waited for.
 
-    `name` is what a create calls the component, empty where it has no name: no reply goes by it."""
+    `name` is what a create calls the component, empty if it has no name: no reply depends on it."""
 
     verb: str
     target: Target = 0
@@ -82,7 +82,7 @@ class Component:
         return self.phase == "killed"
 
     def halt(self, is_excuse: bool) -> None:
-        """What a halt does; where it is running, this is the first halt since its last start."""
+        """What a halt does; if it is running, this is the first halt since its last start."""
         if self.phase == "running":
             self.is_excused = is_excuse
             self.phase = "stopped" if self.alive_type else "killed"
@@ -96,7 +96,7 @@ class Table:
         self.behaviours = behaviours
         self.components = [main]
         self.component_of_run: Dict[int, int] = {0: 0}
-        # What a run waits for, where its last entry is a wait or wake that was parked.
+        # What a run waits for, if its last entry is a wait or wake that was parked.
         self.awaited: Dict[int, Tuple[str, Target]] = {}
 
     def overall(self) -> str:
@@ -128,7 +128,7 @@ class Table:
         return all(it.has(status) for it in parallel)
 
     def is_stuck(self) -> bool:
-        """Whether each run that goes on waits, and waits in vain."""
+        """Whether each run that continues waits, and waits in vain."""
         going_on = [run for run in self.component_of_run if self.is_going_on(run)]
         if any(run not in self.awaited for run in going_on):
             return False
@@ -176,7 +176,7 @@ class Table:
         return "ok"
 
     def play(self, caller: int, op: Op) -> str:
-        """Carries the call out, and answers its reply."""
+        """Carries the call out, and returns its reply."""
         reply = self.would(caller, op)
         if reply == "ended":
             return reply

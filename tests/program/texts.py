@@ -61,7 +61,7 @@ def status_of(verdict: str) -> int:
 
 
 def component_of(word: str) -> Optional[Target]:
-    """The component or group of a word that stands in the place of one."""
+    """The component or group of a word that is in the place of one."""
     if word in ("any", "all"):
         return word
     return int(word) if int(word) <= MOST_COMPONENT else None

@@ -12,7 +12,7 @@ COMMANDS = ("run", "check", "replay", "explore", "report", "ttrun run < FILE", "
             "Status of check: 0 where each history is legal.",
             "Status of explore: 0 where each test case has one verdict, 1 where one has several.", "standard error says which.\n")
 EXPLAIN = "after a fault's line, says what stands there and what would be understood\n"
-# A line for each option, as it stands in the help.
+# A line for each option, as it is in the help.
 ALL_OPTIONS = ("runs the campaign of a script, and writes its report\n",
                "  --csv                writes the report as CSV\n",
                "  --history            writes the histories of the test cases\n",
@@ -195,7 +195,7 @@ REFUSED: List[Tuple[str, Tuple[Word, ...]]] = [
 # A script of one test case, t.
 NAMED = b"testcase t\nbehaviour main\nend\nend\n"
 
-# Of several faults the first is told: of the shard, of the stopping rule, of the text, and then of the names.
+# Of several faults the first is printed: of the shard, of the stopping rule, of the text, and then of the names.
 ORDERED: List[Tuple[str, bytes, bytes]] = [
     ("run --only z --stop-on x --shard 0/2", b"x\n", b"ttrun: --shard takes K/N, with K from 1 to N\n"),
     ("run --only z --stop-on x", b"x\n", b"ttrun: --stop-on takes none, pass, inconc, fail or error\n"),
@@ -215,7 +215,7 @@ ORDERED: List[Tuple[str, bytes, bytes]] = [
     ("run --live --progress --only z", NAMED, b"ttrun: --only takes the name of a test case of the script\n"),
 ]
 
-# Words behind options that name nothing.
+# Words after options that name nothing.
 NAMELESS: List[Tuple[str, bytes]] = [
     (line, b"ttrun: --" + told.encode() + b"\n") for told, lines in (
         ("stop-on takes none, pass, inconc, fail or error",
@@ -232,10 +232,10 @@ NAMELESS: List[Tuple[str, bytes]] = [
 # How the text about refused words ends.
 MORE = "\nFor more information, try '--help'.\n"
 
-# What is said where no file's name was given in place of a subcommand.
+# What is said if no file's name was given instead of a subcommand.
 NO_TIP = SomeText(lacking=("tip: ttrun run <",))
 
-# A file's name in place of a subcommand.
+# A file's name instead of a subcommand.
 FILES = ("examples/workers.script", "campaign.txt", "./run", "../script", "run/")
 
 NOT_UTF8: List[Tuple[str, Tuple[Word, ...]]] = [
@@ -254,7 +254,7 @@ RACE = (b"testcase t\nbehaviour main\ncreate p\nstart p w\nkill p\nend\n"
 # Another, whose search needs four states.
 LOOSE = b"testcase t\nbehaviour main\ncreate p\nstart p w\nend\nbehaviour w\nsetverdict fail\nend\nend\n"
 
-# Its worker waits for its own end, and nobody comes behind that.
+# Its worker waits for its own end, and nobody comes after that.
 DEAD = (b"testcase t\nbehaviour main\ncreate p alive\nstart p w\nwait done p\nsetverdict pass\nend\n"
         b"behaviour w\nwait killed self\nend\nend\n")
 DEAD_TOLD = (b"t error complete\n  error: mtc error, 1 none\n"

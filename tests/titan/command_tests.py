@@ -190,7 +190,7 @@ def errors_of_the_main_component_are_the_tables(place: Place) -> None:
 
 @test
 def functions_that_return_values(place: Place) -> None:
-    # Titan logs the end of such a function behind the end of its component, whenever it was.
+    # Titan logs the end of such a function after the end of its component, whenever it was.
     ran = command(place, "audit", log("values-full.merged"))
     same((ran.status, ran.lines[-1], len(ran.lines)), (0, "11 test cases: 11 legal", 13))
     rows = rows_of(command(place, "flaky", log("values-full.merged")))
@@ -252,7 +252,7 @@ def junit_keeps_any_letter(place: Place) -> None:
 
 
 def explored(place: Place, script: str) -> Dict[str, Tuple[str, ...]]:
-    """The verdicts that `ttrun explore` finds, none where this ttrun cannot explore."""
+    """The verdicts that `ttrun explore` finds, none if this ttrun cannot explore."""
     ran = subprocess.run([place.program, "explore"], input=script.encode(), stdout=subprocess.PIPE, stderr=subprocess.PIPE, check=False)
     rows = [line.split() for line in ran.stdout.decode().splitlines()]
     return {row[0]: tuple(row[1:row.index("complete")]) for row in rows if "complete" in row}

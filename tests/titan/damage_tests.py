@@ -20,13 +20,13 @@ OTHER_WORDS = (("alive: yes", "alive: no"), ("alive: no", "alive: yes"), ("is do
                ("Stopping", "Killing"), ("was stopped", "is killed"), ("any component", "all component"),
                ("all component", "any component"), (".done'", ".killed'"), (".killed'", ".done'"), ("new alive", "new"),
                ("new PTC", "new alive PTC"), ("remains alive", "terminates"), ("terminates", "remains alive"))
-# The lines that are one call each, by their texts alone.
+# The lines that are one call each, by only their texts.
 CALLS = re.compile(r"(setverdict\((?!error)|getverdict: |Function .* finished\. |Operation '... component\.\w+' was successful|PTC was created)")
 Lines = Dict[int, List[lines.Line]]
 
 
 def changed(line: lines.Line, text: str) -> List[lines.Line]:
-    """The line with another text; none where it says nothing any more."""
+    """The line with another text; none if it says nothing any more."""
     family = ""
     phrase = phrases.recognise(text, family)
     return [line._replace(text=text, phrase=phrase)] if phrase else []
@@ -68,7 +68,7 @@ def case_of(whole: cases.TestCase, logs: Lines, verdict: str) -> cases.TestCase:
 
 
 def said(logs: Lines) -> Counter:
-    """What the lines say, read by their texts alone: how often each call that has one line of its own."""
+    """What the lines say, read by only their texts: how often each call that has one line of its own."""
     counts: Counter = Counter()
     for its in logs.values():
         for line in its:

@@ -21,7 +21,7 @@ class Fault(Exception):
 
 @dataclass(frozen=True)
 class Place:
-    """Where a test works: a folder of its own, and the program ttrun."""
+    """The place of a test: a folder of its own, and the program ttrun."""
 
     room: str
     program: str
@@ -83,10 +83,10 @@ def write(place: Place, name: str, lines: Sequence[str]) -> str:
 
 
 def faults_in(name: str, program: str) -> List[str]:
-    """What is wrong, nothing where the test passes."""
+    """What is wrong, nothing if the test passes."""
     with tempfile.TemporaryDirectory(prefix="titan-test-") as room:
         try:
             TESTS[name](Place(room, program))
             return []
-        except Exception as error:  # a test that breaks has failed, and the others go on
+        except Exception as error:  # a test that breaks has failed, and the others run on
             return [f"{type(error).__name__}: {error}"[:2000]]

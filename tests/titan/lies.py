@@ -24,7 +24,7 @@ SECONDS = 300
 
 @dataclass(frozen=True)
 class Lie:
-    """A bug: a file of titan_logs, a text that stands in it once, what is put in its place, and the test that finds it."""
+    """A bug: a file of titan_logs, a text that is in it once, what is put in its place, and the test that finds it."""
 
     name: str
     file: str

@@ -55,7 +55,7 @@ class Course:
         return reply
 
     def going(self) -> List[int]:
-        """The runs that go on."""
+        """The runs that continue."""
         return [run for run in self.component_of if self.table.is_going_on(run)]
 
     def step(self, run: int) -> None:

@@ -1,4 +1,4 @@
-"""Searches without any reduction, held beside those of the command: every order of the calls that the reader found."""
+"""Searches without any reduction, held next to those of the command: every order of the calls that the reader found."""
 from __future__ import annotations
 
 import copy
@@ -46,7 +46,7 @@ def has_order(calls: List[List[Plain]], most: int) -> bool:
 
 
 def verdicts(calls: List[List[Plain]], most: int) -> Set[str]:
-    """Every overall verdict of an order in which the replies are the table's and nobody calls behind its end."""
+    """Every overall verdict of an order in which the replies are the table's and nobody calls after its end."""
     found: Set[str] = set()
     seen: Set[Tuple[object, ...]] = set()
     waiting = [([0] * len(calls), Table(len(calls)))]

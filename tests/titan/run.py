@@ -1,10 +1,10 @@
 #!/usr/bin/env python3
-"""The tests of ttrun-titan: the reader of Titan's logs, the searches, the command, and Titan itself where it is installed.
+"""The tests of ttrun-titan: the reader of Titan's logs, the searches, the command, and Titan itself if it is installed.
 
 usage: tests/titan/run.py [--program FILE] [--only WORD] [--jobs N]
 
-The program is crates/ttrun/out/ttrun, which judges every history. The last line is 'N passed, M failed'; the status is 0 where
-nothing failed, else 1, and 3 where there is no program.
+The program is crates/ttrun/out/ttrun, which judges every history. The last line is 'N passed, M failed'; the status is 0 if
+nothing failed, otherwise 1, and 3 if there is no program.
 """
 from __future__ import annotations
 

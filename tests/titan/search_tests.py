@@ -46,7 +46,7 @@ def every_true_log_has_an_order(place: Place) -> None:
 
 
 def shifted(line: str, by: int) -> str:
-    """A line whose stamp is so many microseconds later."""
+    """A line whose stamp is that many microseconds later."""
     hours, minutes, seconds = line[:15].split(":")
     stamp = (int(hours) * 60 + int(minutes)) * 60_000_000 + round(float(seconds) * 1_000_000) + by
     return f"{stamp // 3_600_000_000:02}:{stamp // 60_000_000 % 60:02}:{stamp // 1_000_000 % 60:02}.{stamp % 1_000_000:06}{line[15:]}"

@@ -1,4 +1,4 @@
-"""Tests that run Eclipse Titan anew on our modules, where it is installed."""
+"""Tests that run Eclipse Titan again on our modules, if it is installed."""
 from __future__ import annotations
 
 import os
@@ -43,6 +43,6 @@ def titan_with_the_shim(place: Place) -> None:
     count = len(re.findall(r"AUDIT running (?:\d+|any) -> (?:true|false)", text))
     hold(count > 12 and "AUDIT alive" in text, f"the shim logs {count} answers to running")
     rows = rows_of(command(place, "audit", folder))
-    # Now and then a kill takes effect behind the end of its caller, which no order has.
+    # Now and then a kill takes effect after the end of its caller, which no order has.
     hold(len(rows) == 3 and sum(row[1] == "legal" for row in rows.values()) >= 1, rows)
     hold(all(row[1] == "legal" or row[1:5] == ["no", "order", "was", "found"] for row in rows.values()), rows)

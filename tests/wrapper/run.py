@@ -4,7 +4,7 @@ a stand-in program.
 
 usage: tests/wrapper/run.py [--only WORD] [--list]
 
-The last line is 'N passed, M failed'; the status is 0 where nothing failed, else 1.
+The last line is 'N passed, M failed'; the status is 0 if nothing failed, otherwise 1.
 """
 from __future__ import annotations
 
@@ -27,7 +27,7 @@ Test = Callable[[Tree], None]
 TESTS: Dict[str, Test] = {}
 # There are no fewer tests.
 FEWEST = 72
-# A change so many seconds ago, by its file times, came before the program was built.
+# A change that many seconds ago, by its file times, came before the program was built.
 OLD = 1000
 
 
@@ -62,7 +62,7 @@ def hold_runs(tree: Tree, count: int) -> None:
 
 
 def hold_tidy(tree: Tree) -> None:
-    """Holds the builder to no tree left behind."""
+    """Holds the builder to no tree left after it."""
     hold(not os.path.exists(tree.path("crates/ttrun/out/building")), "the trees of the build are left")
 
 
@@ -470,7 +470,7 @@ def nice_of(tree: Tree, name: str) -> int:
 
 
 def begins_with(tree: Tree, jobs: str) -> Tuple[List[str], bool]:
-    """What is begun with so many processors, where nothing is built, and whether two were built at once. Of two that begin
+    """What is begun with that many processors, if nothing is built, and whether two were built at once. Of two that begin
     at once the one with more jobs is listed first."""
     for it in ("tc_low", "tc_high", "tc_aside", "ttrun"):
         shutil.rmtree(tree.path(f"crates/{it}/out"), ignore_errors=True)
@@ -744,7 +744,7 @@ def standard_error_that_nobody_reads(tree: Tree) -> None:
 
 
 def hold_tried(ran: Ran, output: bytes, errors: bytes = b"told\n", status: int = 0) -> None:
-    """Holds a call with --try to what the program gave, behind the line that it is not proved."""
+    """Holds a call with --try to what the program gave, after the line that it is not proved."""
     first, _, rest = ran.errors.partition(b"\n")
     hold(b"nothing of this is proved" in first, f"{ran}")
     hold((ran.output, rest, ran.status) == (output, errors, status), f"{output!r} {errors!r} {status} are wanted: {ran}")
@@ -900,12 +900,12 @@ def a_wrapper_that_is_named(tree: Tree) -> None:
 
 
 def faults_in(judge: Test) -> List[str]:
-    """What is wrong, nothing where the test passes."""
+    """What is wrong, nothing if the test passes."""
     tree = Tree()
     try:
         judge(tree)
         return []
-    except Exception as error:  # a test that breaks has failed, and the others go on
+    except Exception as error:  # a test that breaks has failed, and the others run on
         return [f"{type(error).__name__}: {error}"]
     finally:
         tree.close()

@@ -16,15 +16,15 @@ from dataclasses import dataclass
 from typing import Callable, Dict, List, Optional, Sequence
 
 TOP = os.path.dirname(os.path.dirname(os.path.dirname(os.path.abspath(__file__))))
-# A call that has not ended after so many seconds is stopped, and its test has failed.
+# A call that has not ended after that many seconds is stopped, and its test has failed.
 SECONDS = 120
 NOBODY = 65534
 BUILDER = "tools/first_build.py"
-# Held while a file is written that is to be run, and while a call is started: a process that begins at that moment would
+# Held while a file is written that will be run, and while a call is started: a process that begins at that moment would
 # hold the file open for writing, and no such file runs.
 STARTING = threading.Lock()
 CRATES = "# Each crate.\ntc_low: thiserror\ntc_high: tc_low\ntc_aside: tc_low\nother: tc_low\nttrun: tc_high tc_aside tc_low clap\n"
-# Behind tc_low two crates stand on nothing unbuilt, of which tc_high is the larger one.
+# After tc_low two crates are built on nothing unbuilt, of which tc_high is the larger one.
 LARGE = "-- a line more\n" * 20
 # An rt that proves nothing. It locks the folders that an rt locks, holds each crate below to be built of its sources, and leaves
 # what an rt leaves. FAKE_PAUSE, or FAKE_PAUSE_NAME, is how long each half of a crate takes; what FAKE_STATUS, FAKE_FAULT and
@@ -216,7 +216,7 @@ class Tree:
         return os.path.join(self.top, name)
 
     def write(self, name: str, text: str, seconds: Optional[int] = None) -> None:
-        """Writes a file of the tree, with file times so long ago where they are given."""
+        """Writes a file of the tree, with file times so long ago if they are given."""
         os.makedirs(os.path.dirname(self.path(name)), exist_ok=True)
         with open(self.path(name), "w", encoding="utf-8") as it:
             it.write(text)
@@ -278,7 +278,7 @@ class Tree:
         return seen(lambda streams: self.start(words, streams=streams, **more), columns, keys.encode())
 
     def open_to_all(self) -> None:
-        """Gives the whole tree to nobody, where the tests run as root."""
+        """Gives the whole tree to nobody, if the tests run as root."""
         if os.geteuid() == 0:
             for at, folders, files in os.walk(self.room):
                 for it in (at, *(os.path.join(at, name) for name in files)):

@@ -12,13 +12,13 @@ from .search import FOUND, UNDECIDED, Answer, overall_of, search
 
 LEGAL, PART, DISAGREE, OTHER_VERDICT, NO_ORDER, OPEN, REFUSED = (
     "legal", "legal as far as the logs go", "the logs disagree", "another verdict", "no order was found", "undecided", "check refuses")
-# What a test case has beside its outcome: what it means for the status.
+# What a test case has next to its outcome: what it means for the status.
 STATUS = {LEGAL: 0, PART: 1, DISAGREE: 1, OTHER_VERDICT: 1, NO_ORDER: 1, OPEN: 3, REFUSED: 3}
 
 
 @dataclass
 class Audit:
-    """What the audit of a test case came to. `block` is the history of its order, empty where there is none."""
+    """What the audit of a test case came to. `block` is the history of its order, empty if there is none."""
 
     case: TestCase
     answer: Answer
@@ -29,12 +29,12 @@ class Audit:
 
     @property
     def status(self) -> int:
-        """The exit status by this test case alone."""
+        """The exit status by only this test case."""
         return STATUS[self.outcome]
 
 
 def outcome_of(case: TestCase, answer: Answer, overall: Optional[str]) -> str:
-    """What is to be said first of a test case: a fault of the logs explains what the search cannot."""
+    """What comes first about a test case: a fault of the logs explains what the search cannot."""
     if case.faults:
         return DISAGREE
     if answer.outcome == UNDECIDED:
@@ -47,7 +47,7 @@ def outcome_of(case: TestCase, answer: Answer, overall: Optional[str]) -> str:
 
 
 def remarks_on(case: TestCase, answer: Answer, overall: Optional[str]) -> Iterator[str]:
-    """What is to be said of a test case behind its outcome."""
+    """What comes about a test case after its outcome."""
     yield from case.faults[:MOST_REMARKS]
     if len(case.faults) > MOST_REMARKS:
         yield f"{len(case.faults) - MOST_REMARKS} more faults of the logs"

@@ -11,7 +11,7 @@ from .sessions import MAIN, Process, Session
 from .table import Op
 
 FOREVER = 1 << 62
-# Where a message goes: sender, receiver, what it is.
+# The way of a message: sender, receiver, what it is.
 Channel = Tuple[int, int, str]
 
 
@@ -20,8 +20,8 @@ class Call:
     """A call of a run. Without a reply the log has no answer to it. `begin` and `end` are the stamps between which it was made.
 
     `seen` is an observation that is no call of its own, as the old verdict in the line of a setverdict. `faulty` is the call
-    with which a parallel component met a dynamic error, and `fault` the table's name of it, empty where the table has none;
-    the call itself is then the kill by which the error ends its component. `channel` and `place` are those of a message."""
+    with which a parallel component met a dynamic error, and `fault` the table's name of it, empty if the table has none.
+    The call itself is then the kill by which the error ends its component. `channel` and `place` are those of a message."""
 
     run: int
     op: Op
@@ -142,7 +142,7 @@ def claim(case: TestCase, components: Dict[int, Process], owned: Dict[int, TestC
 
 
 def cases_of(session: Session) -> List[TestCase]:
-    """The test cases with the logs of their components; one that no log creates belongs to a test case by its time alone."""
+    """The test cases with the logs of their components; one that no log creates belongs to a test case only by its time."""
     cases, owned = list(cut(session)), {}
     for case in cases:
         claim(case, session.components, owned)

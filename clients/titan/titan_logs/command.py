@@ -103,7 +103,7 @@ def write(path: Optional[str], text: str) -> None:
 
 
 def program_of(given: argparse.Namespace) -> Optional[str]:
-    """The program ttrun, none where it is not wanted."""
+    """The program ttrun, none if it is not wanted."""
     if given.unchecked and given.html is not None:
         raise Refused("--html needs ttrun, and --unchecked does without it")
     return None if given.unchecked else found_program(given.program)
@@ -142,7 +142,7 @@ def tally(outcomes: Sequence[str], order: Sequence[str]) -> str:
 
 
 def worst(statuses: Sequence[int]) -> int:
-    """The status of all: a finding stands, whatever else was not judged."""
+    """The status of all: a finding counts, whatever else was not judged."""
     return 1 if 1 in statuses else max(statuses)
 
 
@@ -166,7 +166,7 @@ def head_of(one: luck.Luck) -> str:
 
 
 def link_of(given: argparse.Namespace, one: luck.Luck, first: int) -> Iterator[str]:
-    """Where the page compares two schedules."""
+    """The place at which the page compares two schedules."""
     if given.html is not None and one.outcome == luck.LUCK:
         yield from (f"compare {one.case.verdict} and {it}: {given.html}#/{first}/{first + at}" for at, it in enumerate(one.others, 1))
 

@@ -32,7 +32,7 @@ class Luck:
 
     @property
     def status(self) -> int:
-        """The exit status by this test case alone."""
+        """The exit status by only this test case."""
         return STATUS[self.outcome]
 
     def orders(self) -> Iterator[str]:
@@ -41,7 +41,7 @@ class Luck:
 
 
 def about(case: TestCase, run: Run) -> str:
-    """A run, for whoever knows the test and its logs: its function, its component, and Titan's reference of it."""
+    """A run, for a reader who knows the test and its logs: its function, its component, and Titan's reference of it."""
     if run.component == 0:
         return f"run {run.number}, the main component's behaviour,"
     reference = next((it for it, number in case.numbers.items() if number == run.component), 0)
@@ -59,7 +59,7 @@ def cut_off(case: TestCase) -> Iterator[str]:
 
 
 def outcome_of(case: TestCase, found: Verdicts, others: Sequence[str]) -> str:
-    """What is to be said of a test case: another verdict that was found stands, however the search ended, and whatever is missing."""
+    """What is said about a test case: another verdict that was found counts, however the search ended, and whatever is missing."""
     is_judged = not (case.faults or case.is_shot or case.verdict is None or case.verdict not in found.witnesses)
     if is_judged and others:
         return LUCK
@@ -69,7 +69,7 @@ def outcome_of(case: TestCase, found: Verdicts, others: Sequence[str]) -> str:
 
 
 def remarks_on(case: TestCase, found: Verdicts, others: Sequence[str]) -> Iterator[str]:
-    """What is to be said behind the outcome."""
+    """What is said after the outcome."""
     if case.faults:
         yield f"the logs disagree, ttrun-titan audit says how: {case.faults[0]}"
     yield from case.missing[:MOST_REMARKS]
@@ -115,7 +115,7 @@ def apart(case: TestCase, mine: List[Entry], other: List[Entry]) -> Iterator[str
 
 
 def parting(one: Luck) -> Iterator[str]:
-    """The schedule of the log's verdict beside that of each other one."""
+    """The schedule of the log's verdict next to that of each other one."""
     witnesses: Dict[str, List[Entry]] = one.found.witnesses
     mine = one.case.verdict
     if one.outcome != LUCK or mine is None:

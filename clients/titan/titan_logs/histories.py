@@ -25,7 +25,7 @@ def name_of(case: TestCase) -> str:
 
 
 def why_none(case: TestCase) -> str:
-    """Why no history can hold the test case, nothing where one can."""
+    """Why no history can hold the test case, nothing if one can."""
     if len(case.runs) > MOST_BEHAVIOURS:
         return f"{len(case.runs) - 1} starts, and a history holds {MOST_BEHAVIOURS - 1}"
     if len(case.numbers) >= MOST_COMPONENTS:
@@ -37,7 +37,7 @@ def why_none(case: TestCase) -> str:
 
 
 def verdict_of(case: TestCase, entries: Sequence[Entry]) -> str:
-    """The overall verdict that the table gives behind these entries."""
+    """The overall verdict that the table gives after these entries."""
     table = Table(len(case.runs))
     for entry in entries:
         table.play(entry.run, entry.op)

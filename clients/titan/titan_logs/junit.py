@@ -7,7 +7,7 @@ from xml.sax.saxutils import escape, quoteattr
 
 
 class Row(NamedTuple):
-    """A test case of the report: `kind` is empty where it passed, else `failure` or `error`."""
+    """A test case of the report: `kind` is empty where it passed, otherwise `failure` or `error`."""
 
     name: str
     session: str

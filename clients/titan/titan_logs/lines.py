@@ -50,7 +50,7 @@ class Raw(NamedTuple):
 
 @dataclass
 class Layout:
-    """What stands before the text of each line of a file."""
+    """What is before the text of each line of a file."""
 
     has_entities: bool = False
     has_kinds: bool = False
@@ -58,7 +58,7 @@ class Layout:
 
     @staticmethod
     def guessed(rest: str) -> "Layout":
-        """The layout of a file whose first line has this behind its stamp."""
+        """The layout of a file whose first line has this after its stamp."""
         entity = None if KIND.match(rest) else ENTITY.match(rest)
         rest = rest[entity.end():] if entity else rest
         kind = KIND.match(rest)
@@ -103,7 +103,7 @@ class Budget:
 
 
 class Clock:
-    """Stamps in microseconds. Those that tell the time of day alone go on behind midnight."""
+    """Stamps in microseconds. Those that have only the time of day continue after midnight."""
 
     def __init__(self) -> None:
         self.days = self.last = 0

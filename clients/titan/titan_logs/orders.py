@@ -1,5 +1,7 @@
-"""Every overall verdict that the calls of a log could have had in another order: each process's own order and the order of
-messages kept, answers as the log has them, no call behind the end of a behaviour."""
+"""Every overall verdict that the calls of a log could have had in another order.
+
+Each process's own order and the order of messages are kept, answers are as the log has them, and no call comes after the end of a
+behaviour."""
 from __future__ import annotations
 
 from collections import Counter
@@ -24,7 +26,7 @@ class Verdicts:
 
 
 def visible(case: TestCase) -> List[List[Call]]:
-    """The calls of each run without what is an observation alone: in another order that may be another one."""
+    """The calls of each run without what is only an observation: in another order that may be another one."""
     return [[it for it in run.calls if not it.seen] for run in case.runs]
 
 
@@ -74,7 +76,7 @@ class Orders:
         return found
 
     def next_choices(self) -> Iterator[Tuple[Call, List[Entry]]]:
-        """The same, none where the test case is over, or where this state was met before."""
+        """The same, none if the test case is over, or where this state was met before."""
         if is_over(self.trail.table):
             self.found.witnesses.setdefault(self.overall(), self.trail.entries())
             return

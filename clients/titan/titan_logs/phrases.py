@@ -52,7 +52,7 @@ FORMS: Tuple[Tuple[str, str, str], ...] = (
     ("received", "PORTEVENT", rf"(?:Receive|Trigger|Getcall|Getreply|Catch) operation on .*?succeeded, (message|call|reply|exception) from {OTHER}:.*"),
 )
 
-# Lines of these families that say nothing of the component table.
+# Lines of these families that say nothing about the component table.
 OTHERS = re.compile(
     r"Initializing variables|Component type|Executing control part|Execution of control part|(?:Dis)?[Cc]onnect|Port |Map|Unmap|Waiting for PTCs"
     r"|Setting final verdict|No PTCs were created|Test execution summary|Verdict statistics|Operation 'al|Termination of|Terminating MTC|Exit was requested"
@@ -74,7 +74,7 @@ def first_word(text: str) -> str:
 
 
 def by_first_word() -> Dict[str, List[Tuple[str, str, Pattern[str]]]]:
-    """The forms by the first word of a line; a form that begins with a choice of words stands under each of them."""
+    """The forms by the first word of a line; a form that begins with a choice of words is under each of them."""
     found: Dict[str, List[Tuple[str, str, Pattern[str]]]] = {}
     for name, families, form in FORMS:
         choice = re.match(r"\((?:\?:)?([A-Za-z|]+)\)", form)
@@ -84,7 +84,7 @@ def by_first_word() -> Dict[str, List[Tuple[str, str, Pattern[str]]]]:
 
 
 INDEX = by_first_word()
-# Where the error is in the source, which Titan says in the line itself where the log has no sources.
+# The place of the error in the source, which Titan says in the line itself if the log has no sources.
 PLACE = re.compile(r"\S+:\d+: (?=Dynamic test case error: )")
 
 

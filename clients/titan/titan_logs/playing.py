@@ -27,7 +27,7 @@ Reason = str
 
 @dataclass
 class Step:
-    """A call that was taken, and its entries: none where it is a message, or had no effect."""
+    """A call that was taken, and its entries: none if it is a message, or had no effect."""
 
     call: Call
     entries: List[Entry] = field(default_factory=list)
@@ -64,14 +64,14 @@ def as_played(table: Table, op: Op) -> Op:
 
 
 def in_vain(table: Table, call: Call) -> Union[List[Entry], Reason]:
-    """The call of a run that is not going on."""
+    """The call of a run that is not active."""
     if call.reply in (None, "ended"):
         return [Entry(call.run, call.op, "ended")]
     return "table gives ended"
 
 
 def try_error(table: Table, call: Call) -> Union[List[Entry], Reason]:
-    """A parallel component's dynamic error, which ends it alone."""
+    """A parallel component's dynamic error, which ends only that component."""
     if call.fault and call.faulty is not None:
         fault = table.fault(call.run, call.faulty)
         if fault != call.fault:
@@ -103,9 +103,9 @@ def play(table: Table, entries: List[Entry]) -> None:
 
 
 class Trail:
-    """The calls that were taken so far, with the table behind them; the last ones can be taken back.
+    """The calls that were taken so far, with the table after them; the last ones can be taken back.
 
-    The table is kept at some places alone, and played anew from the last of them: in a large test case most calls are never
+    The table is kept at only some places, and played again from the last of them. In a large test case most calls are never
     taken back, and to copy a thousand components at each call would take minutes."""
 
     def __init__(self, case: TestCase, calls: List[List[Call]]) -> None:
@@ -125,7 +125,7 @@ class Trail:
         return self.calls[run][at] if at < len(self.calls[run]) else None
 
     def move(self, run: int, by: int) -> None:
-        """Goes on, or back, in a run."""
+        """Moves forward, or back, in a run."""
         old = self.head(run)
         if old is not None:
             del self.heads[bisect_left(self.heads, (old.guess, run))]
@@ -135,7 +135,7 @@ class Trail:
             insort(self.heads, (new.guess, run))
 
     def attempt(self, call: Call) -> Union[List[Entry], Reason]:
-        """The entries of a call that is next, or why it cannot be: a message is received behind its sending."""
+        """The entries of a call that is next, or why it cannot be: a message is received after its sending."""
         if call.channel is not None and not call.is_sent and self.sent.get(call.channel, call.place) < call.place:
             return "its message is not sent yet"
         return try_call(self.table, call)

@@ -1,4 +1,4 @@
-"""The program ttrun: where it is, what it says of a text of histories, and the page that it writes of one."""
+"""The program ttrun: its place, what it says of a text of histories, and the page that it writes of one."""
 from __future__ import annotations
 
 import os
@@ -60,7 +60,7 @@ def batches(blocks: Sequence[str]) -> Iterator[List[int]]:
 
 
 def checked(program: Optional[str], blocks: Sequence[str]) -> List[str]:
-    """Of each block nothing where `ttrun check` found it legal, else what it said; without a program nothing is asked."""
+    """Of each block nothing if `ttrun check` found it legal, otherwise what it said; without a program nothing is asked."""
     said = [""] * len(blocks)
     if program is None:
         return said

@@ -51,7 +51,7 @@ class Reader:
         self.is_over = self.is_lost = False
         self.requested: Optional[Line] = None
         self.verdict_told: Optional[Tuple[str, Line]] = None
-        # The functions that returned a value: Titan logs that behind the end of the component, whenever it was.
+        # The functions that returned a value: Titan logs that after the end of the component, whenever it was.
         self.returned = Counter(it.phrase.words[0] for it in self.lines if it.phrase.name == "returned")
         self.sent: Counter = Counter()
         self.received: Counter = Counter()
@@ -67,7 +67,7 @@ class Reader:
         self.case.faults.append(text)
 
     def add(self, call: Call) -> None:
-        """Adds a call to the run that is going on."""
+        """Adds a call to the run that is active."""
         if self.run is None:
             self.disagree(f"a line outside of a behaviour: {call.line}")
         elif self.is_over and not call.seen:
@@ -86,7 +86,7 @@ class Reader:
         self.open = replace(self.made(line, op, None), begin=line.stamp, end=FOREVER)
 
     def answered(self, line: Line, verb: str, reply: str) -> Optional[Call]:
-        """The call that the line answers; where there is none the logs disagree."""
+        """The call that the line answers; if there is none the logs disagree."""
         call = self.open
         if call is None or call.op.verb != verb:
             self.disagree(f"an answer without its call: {line}")
@@ -196,7 +196,7 @@ class Reader:
         self.answer_or_make(line, operation(HALTS[verb], self.number(reference_of(word))))
 
     def answer_or_make(self, line: Line, op: Op) -> None:
-        """A stop or kill that had no effect: an answer where its call is open, else call and answer in one."""
+        """A stop or kill that had no effect: an answer where its call is open, otherwise call and answer in one."""
         if self.open is not None and self.open.op == op:
             self.answered(line, op.verb, "ok")
         else:
@@ -242,7 +242,7 @@ class Reader:
         self.add(self.made(line, getverdict, new, seen=True))
 
     def see_before_error(self, line: Line, old: str) -> None:
-        """The verdict of a component before its dynamic error, which the line behind the error tells."""
+        """The verdict of a component before its dynamic error, which the line after the error has."""
         calls = self.run.calls if self.run else []
         last = calls[-1] if calls else None
         if last is not None and old != "error" and last.line.phrase.name == "error":
@@ -295,7 +295,7 @@ class Reader:
         return operation(verb, group)
 
     def error(self, line: Line, faulty: Op, fault: str, begin: int) -> Call:
-        """A dynamic error: of the main component it ends the test case, of another that component alone."""
+        """A dynamic error: of the main component it ends the test case, of another only that component."""
         if self.role == MAIN:
             call = self.made(line, faulty, f"error {fault}" if fault else "ok")
             return replace(call, begin=begin, end=self.case.end, guess=self.case.end - 1)
@@ -459,7 +459,7 @@ def check_kinds(case: TestCase, alive: Dict[int, bool]) -> None:
 
 
 def finals(case: TestCase) -> Tuple[Finals, Finals]:
-    """The local verdict of each component by its own log, and those that the main component was told."""
+    """The local verdict of each component by its own log, and those that the main component got."""
     own: Finals = {}
     told: Finals = {}
     overall: Optional[str] = None
@@ -486,7 +486,7 @@ def finals(case: TestCase) -> Tuple[Finals, Finals]:
 
 
 def compare_finals(case: TestCase, own: Finals, told: Finals) -> None:
-    """Compares what components say of their ends with what the main component was told."""
+    """Compares what components say of their ends with what the main component got."""
     for reference in case.numbers:
         if reference in told and reference in own and told[reference][0] != own[reference][0]:
             case.faults.append(f"component {reference} ended with {own[reference][0]}, and the main component was told {told[reference][0]}")
@@ -501,7 +501,7 @@ def compare_finals(case: TestCase, own: Finals, told: Finals) -> None:
 
 
 def ends_itself(call: Call, component: int) -> bool:
-    """Whether the call ends its own behaviour, or stands behind its end."""
+    """Whether the call ends its own behaviour, or is after its end."""
     ends = call.op.verb in ("finish", "stopcase") or call.op.verb in ("stop", "kill") and call.op.target in (component, 0)
     return ends or call.reply in (None, "ended") and call.channel is None or (call.reply or "").startswith("error ")
 

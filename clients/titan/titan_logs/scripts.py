@@ -49,7 +49,7 @@ def handed_on(case: TestCase, calls: List[List[Call]]) -> Dict[int, List[int]]:
 
 
 def why_none(case: TestCase, handed: Dict[int, List[int]]) -> str:
-    """Why no script can hold the test case, nothing where one can."""
+    """Why no script can hold the test case, nothing if one can."""
     if len(case.runs) > MOST_BEHAVIOURS:
         return f"{len(case.runs) - 1} starts, and a script holds {MOST_BEHAVIOURS - 1} behaviours beside the main one"
     most = max(handed, key=lambda it: len(handed[it]))

@@ -10,7 +10,7 @@ from .playing import Entry, Step, Trail
 from .touching import QUIET, Touching
 
 FOUND, NONE, UNDECIDED = "found", "none", "undecided"
-# How many states the first search may look at, beside two for each call.
+# How many states the first search may look at, next to two for each call.
 QUICK = 1000
 
 
@@ -39,7 +39,7 @@ class Frame:
 
 
 class Search:
-    """A search depth first. States from which no order goes on are kept, and never entered again."""
+    """A search depth first. States from which no order continues are kept, and never entered again."""
 
     def __init__(self, case: TestCase, states: int, is_timed: bool) -> None:
         calls = [[it for it in run.calls if it.channel is None] for run in case.runs]
@@ -91,7 +91,7 @@ class Search:
         yield from ((it, []) for it in void)
 
     def run(self) -> Answer:
-        """Searches, to an order, to the end, or to the limit. Where one call alone may be taken, the state behind it tells all."""
+        """Searches, to an order, to the end, or to the limit. If only one call may be taken, the state after it says all."""
         frames: List[Frame] = [Frame(0, self.choices())]
         while frames:
             frame = frames[-1]
@@ -114,7 +114,7 @@ class Search:
         return self.failed(NONE) if self.total else Answer(FOUND)
 
     def give_up(self, frame: "Frame") -> None:
-        """Notes that no order goes on from here."""
+        """Notes that no order continues from here."""
         if frame.tried == 1:
             return
         self.trail.back_to(frame.depth)
@@ -123,7 +123,7 @@ class Search:
         self.dead.add(self.trail.state())
 
     def failed(self, outcome: str) -> Answer:
-        """The answer without an order: the longest that was found, and what could not be next behind it."""
+        """The answer without an order: the longest that was found, and what could not be next after it."""
         if not self.best:
             self.best = list(self.trail.steps)
         self.trail.back_to(0)
@@ -137,8 +137,8 @@ class Search:
 
 
 def search(case: TestCase, states: int) -> Answer:
-    """An order of all calls, if there is one. Most logs have one near the order of their stamps, which is found at once; then
-    the stamps are taken for a law, since that leaves few orders; an order that does not keep them is as good, and looked for last."""
+    """An order of all calls, if there is one. Most logs have one near the order of their stamps, which is found at once. Then
+    the stamps are taken for a law, since that leaves few orders. An order that does not keep them is as good, and looked for last."""
     answer = Search(case, min(states, QUICK + 2 * case.total), is_timed=False).run()
     if answer.outcome != UNDECIDED:
         return answer

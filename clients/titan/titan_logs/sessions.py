@@ -40,7 +40,7 @@ class Process:
     mask: str = ""
 
     def take(self, raw: Raw, name: str, budget: Budget) -> None:
-        """Keeps a line, where it says something."""
+        """Keeps a line, if it says something."""
         line = said(raw, self.last or raw.stamp, name)
         self.first, self.last = self.first or raw.stamp, raw.stamp
         if line is not None:
@@ -87,7 +87,7 @@ def role_of(line: Optional[Line]) -> Optional[Role]:
 
 
 def role_by_name(name: str) -> Role:
-    """The role that the name of a file tells, where its first line is missing."""
+    """The role in the name of a file, if its first line is missing."""
     found = ROLE.search(name)
     return HOST if not found or found[1] == "hc" else MAIN if found[1] == "mtc" else int(found[1])
 
@@ -149,7 +149,7 @@ def gap_in(paths: Sequence[str]) -> str:
 
 
 def groups_of(files: Sequence[str], budget: Budget) -> Tuple[List[Group], List[str]]:
-    """The files by what one call wrote: those with one name up to its first dot, if each has a main component; else all."""
+    """The files by what one call wrote: those with one name up to its first dot, if each has a main component; otherwise all."""
     groups: Dict[str, Group] = {}
     gaps: List[str] = []
     for paths in streams_of(files):
@@ -187,7 +187,7 @@ def sessions_of(group: Group) -> Iterator[Session]:
 
 
 def remarks_on(session: Session) -> Iterator[str]:
-    """What is to be said of the logs themselves."""
+    """What is said about the logs themselves."""
     every = [session.main, *session.components.values()]
     if not all(it.is_typed for it in every):
         yield "the logs have no event types: a line that the test logs itself may be taken for the runtime's"
