@@ -44,8 +44,7 @@ def believed_lines(of_headline: bool = False, first: int = 0, inside: bool = Fal
     return believed.lines_of({it for it in places if not inside or ".Inside" in it[0]}, all_of)
 
 
-LIMITS, WORKER = "crates/tc_entry/src/limits.rt", "crates/tc_exec/src/worker.rt"
-HISTORIES, MOVES, SCRIPTS = (f"crates/tc_program/src/{it}.rt" for it in ("check", "replay", "script"))
+LIMITS, INPUTS, WORKER = "crates/tc_entry/src/limits.rt", "crates/tc_program/src/limits.rt", "crates/tc_exec/src/worker.rt"
 COUNTS: Dict[str, Callable[[], int]] = {
     "behaviours": lambda: constant(LIMITS, "BEHAVIOURS"),
     "components": lambda: constant(LIMITS, "COMPONENTS"),
@@ -59,9 +58,9 @@ COUNTS: Dict[str, Callable[[], int]] = {
     "states": lambda: constant("crates/tc_command/src/word.rt", "STATES"),
     "kept": lambda: constant("crates/tc_explore/src/explored.rt", "KEPT"),
     "weight": lambda: constant("crates/tc_explore/src/explored.rt", "SIZE_OF_ONE_MORE"),
-    "bytes of histories": lambda: constant(HISTORIES, "LIMIT"),
-    "bytes of moves": lambda: constant(MOVES, "LIMIT"),
-    "bytes of a script": lambda: constant(SCRIPTS, "LIMIT"),
+    "bytes of histories": lambda: constant(INPUTS, "HISTORY_LIMIT"),
+    "bytes of moves": lambda: constant(INPUTS, "SCRIPT_LIMIT"),
+    "bytes of a script": lambda: constant(INPUTS, "SCRIPT_LIMIT"),
     "bytes of a sentence": lambda: constant("crates/tc_evidence/src/sentence.rt", "SENTENCE_BYTES"),
     "rows": lambda: constant("crates/tc_explore/src/race.rt", "ROWS"),
     "column": lambda: constant("crates/tc_explore/src/race.rt", "COLUMN"),

@@ -15,7 +15,7 @@ use std::io::Write;
 use std::process::ExitCode;
 use std::sync::Wait;
 use std::thread::Threads;
-use tc_campaign::{Form, LiveWriter, OutFault, run_campaign_with};
+use tc_campaign::{LiveForm, LiveWriter, OutFault, run_campaign_with};
 use tc_entry::BEHAVIOURS;
 
 /// How many workers each test case may have: enough for every one.
@@ -47,7 +47,7 @@ fn run<R: Threads + Wait + Copy + Send + 'static, W: Write, E: Write>(
     errors: &mut E,
 ) -> Result<u8, OutFault> {
     let mut bench = Bench {
-        live: LiveWriter::new(alloc, Form::Text, writer),
+        live: LiveWriter::new(alloc, LiveForm::Text, writer),
         failed: Vec::new(alloc),
     };
     run_on(rt, alloc, &mut bench, errors)

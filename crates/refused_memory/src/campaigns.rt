@@ -13,7 +13,7 @@ use tc_book::{Halt, Pass};
 use tc_campaign::{Case, LiveWriter, Shard, choose, have_all, run_campaign, run_campaign_with};
 use tc_entry::{Name, NoMemory, UserVerdict, Verdict};
 use tc_exec::{Back, CaseError, CaseReport, Everyone, Job, run_case, run_case_with};
-use tc_report::{CampaignEnd, Form, OutFault, Results};
+use tc_report::{CampaignEnd, LiveForm, OutFault, Results};
 use tc_script::{Campaign, CaseScript, Script, read_campaign};
 
 /// Two test cases of one behaviour.
@@ -324,7 +324,7 @@ fn live_answer<R: Threads + Wait + Copy + Send + 'static>(
     refuses: bool,
 ) -> Option<LiveAnswer> {
     let cases = cases(rt, alloc)?;
-    let mut live = LiveWriter::new(alloc, Form::Csv, out);
+    let mut live = LiveWriter::new(alloc, LiveForm::Csv, out);
     if refuses {
         refusal.begin("run_campaign_with");
     }

@@ -3,9 +3,9 @@ use crate::outcome::{Outcome, refused_if, right_if};
 use crate::refusal::Refusal;
 use crate::results::finished;
 use std::alloc::Global;
-use tc_report::{CampaignEnd, Finished, Form, LiveWriter, Observer, OutFault};
+use tc_report::{CampaignEnd, Finished, LiveForm, LiveWriter, Observer, OutFault};
 
-const FORMS: [Form; 3] = [Form::Text, Form::Csv, Form::History];
+const FORMS: [LiveForm; 3] = [LiveForm::Text, LiveForm::Csv, LiveForm::History];
 
 fn begin(live: &mut LiveWriter<'_, Vec<u8>>) -> Result<u8, OutFault> {
     live.begin()?;
@@ -102,7 +102,7 @@ fn begins(alloc: Global, live: &mut LiveWriter<'_, Vec<u8>>) -> bool {
 /// A piece in a form, after a test case, next to a writer that is refused nothing.
 fn make_beside(
     alloc: Global,
-    form: Form,
+    form: LiveForm,
     text: &mut Vec<u8>,
     wanted: &mut Vec<u8>,
     place: usize,

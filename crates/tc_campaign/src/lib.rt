@@ -13,6 +13,6 @@ pub use case::Case;
 pub use choosing::{choose, have_all};
 pub use tc_entry::Shard;
 pub use tc_report::{
-    CampaignEnd, Finished, Form, Kept, LiveWriter, Observer, OutFault, Progress, Results, Tally,
-    status_of, tally, write_abort, write_csv, write_history, write_text,
+    CampaignEnd, Finished, Kept, LiveForm, LiveWriter, Observer, OutFault, Progress, Results,
+    Tally, status_of, tally, write_abort, write_csv, write_history, write_text,
 };

@@ -6,30 +6,34 @@ use std::io::Write;
 use std::process::Abort;
 use std::test::Fail;
 use tc_campaign::{
-    CampaignEnd, Form, OutFault, Results, status_of, write_csv, write_history, write_text,
+    CampaignEnd, LiveForm, OutFault, Results, status_of, write_csv, write_history, write_text,
 };
 use tc_stream::devices::{NarrowWriter, WriteFailure};
 
-pub(crate) const FORMS: [Form; 3] = [Form::Text, Form::Csv, Form::History];
+pub(crate) const FORMS: [LiveForm; 3] = [LiveForm::Text, LiveForm::Csv, LiveForm::History];
 
 pub(crate) const FAILURES: [WriteFailure; 2] = [WriteFailure::Broken, WriteFailure::Full];
 
 /// Writes the text of the results in this form.
 fn give<W: Write>(
     alloc: Global,
-    form: Form,
+    form: LiveForm,
     results: &Results,
     writer: &mut W,
 ) -> Result<(), OutFault> {
     match form {
-        Form::Text => write_text(alloc, results, writer),
-        Form::Csv => write_csv(alloc, results, writer),
-        Form::History => write_history(alloc, results, writer),
+        LiveForm::Text => write_text(alloc, results, writer),
+        LiveForm::Csv => write_csv(alloc, results, writer),
+        LiveForm::History => write_history(alloc, results, writer),
     }
 }
 
 /// The text of the results in this form.
-pub(crate) fn text_of(alloc: Global, form: Form, results: &Results) -> Result<Vec<u8>, OutFault> {
+pub(crate) fn text_of(
+    alloc: Global,
+    form: LiveForm,
+    results: &Results,
+) -> Result<Vec<u8>, OutFault> {
     let mut out = Vec::new(alloc);
     give(alloc, form, results, &mut out)?;
     Ok(out)
@@ -39,7 +43,7 @@ pub(crate) fn text_of(alloc: Global, form: Form, results: &Results) -> Result<Ve
 fn fail_behind<R: Abort>(
     rt: &R,
     alloc: Global,
-    form: Form,
+    form: LiveForm,
     results: &Results,
     part: &[u8],
     length: usize,
@@ -61,7 +65,7 @@ fn fail_behind<R: Abort>(
 fn fails_at<R: Abort>(
     rt: &R,
     alloc: Global,
-    form: Form,
+    form: LiveForm,
     results: &Results,
     whole: &[u8],
     place: usize,
@@ -78,7 +82,7 @@ fn fails_at<R: Abort>(
 fn each_byte_fails<R: Abort>(
     rt: &R,
     alloc: Global,
-    form: Form,
+    form: LiveForm,
     results: &Results,
     whole: &[u8],
 ) -> Result<(), Fail> {
@@ -92,7 +96,7 @@ fn each_byte_fails<R: Abort>(
 fn each_write_fails<R: Abort>(
     rt: &R,
     alloc: Global,
-    form: Form,
+    form: LiveForm,
     results: &Results,
 ) -> Result<usize, Fail> {
     let whole = text_of(alloc, form, results)?;

@@ -7,7 +7,7 @@ use std::io;
 use std::io::Write;
 use std::process::Abort;
 use std::test::Fail;
-use tc_campaign::{CampaignEnd, Form, LiveWriter, Observer, OutFault};
+use tc_campaign::{CampaignEnd, LiveForm, LiveWriter, Observer, OutFault};
 use tc_stream::devices::{NarrowWriter, WriteFailure};
 
 /// Takes all bytes, and notes how many there were at each flush; the flush of this number fails, counted from 0.
@@ -44,7 +44,7 @@ impl Write for Flushed {
 }
 
 /// The text of the three test cases in this form.
-fn whole_text(alloc: Global, form: Form) -> Result<Vec<u8>, Fail> {
+fn whole_text(alloc: Global, form: LiveForm) -> Result<Vec<u8>, Fail> {
     let results = results(alloc, CampaignEnd::Complete)?;
     Ok(text_of(alloc, form, &results)?)
 }
@@ -83,7 +83,7 @@ fn write_all<W: Write>(
 /// Writes the test cases as they come to this writer.
 fn write_live<W: Write>(
     alloc: Global,
-    form: Form,
+    form: LiveForm,
     writer: &mut W,
 ) -> Result<(usize, Result<u8, OutFault>), Fail> {
     let mut live = LiveWriter::new(alloc, form, writer);
@@ -112,7 +112,7 @@ fn add_ends(
 }
 
 /// Writes the pieces to a writer that is flushed after each.
-fn flush_each_piece<R: Abort>(rt: &R, alloc: Global, form: Form) -> Result<(), Fail> {
+fn flush_each_piece<R: Abort>(rt: &R, alloc: Global, form: LiveForm) -> Result<(), Fail> {
     let mut writer = Flushed::new(alloc, usize::MAX);
     let mut ends = Vec::new(alloc);
     add_ends(
@@ -148,7 +148,7 @@ fn flush_fails_at<R: Abort>(
     fails_at: usize,
 ) -> Result<(), Fail> {
     let mut writer = Flushed::new(alloc, fails_at);
-    let (taken, answer) = write_live(alloc, Form::Text, &mut writer)?;
+    let (taken, answer) = write_live(alloc, LiveForm::Text, &mut writer)?;
     is(rt, "the answer", answer, Err(OutFault::Write));
     let wanted = fails_at.saturating_sub(1).min(CASES.len());
     is(rt, "how many cases are taken", taken, wanted);
@@ -159,7 +159,7 @@ fn flush_fails_at<R: Abort>(
 
 #[test]
 fn each_flush_fails_in_turn(rt: HostRuntime) -> Result<(), Fail> {
-    let whole = whole_text(rt.alloc(), Form::Text)?;
+    let whole = whole_text(rt.alloc(), LiveForm::Text)?;
     for fails_at in 0..CASES.len() + 2 {
         flush_fails_at(&rt, rt.alloc(), whole.as_slice(), fails_at)?;
     }
@@ -170,7 +170,7 @@ fn each_flush_fails_in_turn(rt: HostRuntime) -> Result<(), Fail> {
 fn fails_at<R: Abort>(
     rt: &R,
     alloc: Global,
-    form: Form,
+    form: LiveForm,
     whole: &[u8],
     place: usize,
     failure: WriteFailure,
@@ -192,7 +192,7 @@ fn fails_at<R: Abort>(
 fn each_byte_fails<R: Abort>(
     rt: &R,
     alloc: Global,
-    form: Form,
+    form: LiveForm,
     whole: &[u8],
     failure: WriteFailure,
 ) -> Result<(), Fail> {
@@ -203,7 +203,7 @@ fn each_byte_fails<R: Abort>(
 }
 
 /// Each byte of the text is once the one that the writer fails at, in each way; how many writers there were.
-fn each_write_fails<R: Abort>(rt: &R, alloc: Global, form: Form) -> Result<usize, Fail> {
+fn each_write_fails<R: Abort>(rt: &R, alloc: Global, form: LiveForm) -> Result<usize, Fail> {
     let whole = whole_text(alloc, form)?;
     for failure in FAILURES {
         each_byte_fails(rt, alloc, form, whole.as_slice(), failure)?;

@@ -12,7 +12,8 @@ use std::sync::Wait;
 use std::test::Fail;
 use std::thread::Threads;
 use tc_campaign::{
-    CampaignEnd, Case, Finished, Form, LiveWriter, Observer, OutFault, Progress, run_campaign_with,
+    CampaignEnd, Case, Finished, LiveForm, LiveWriter, Observer, OutFault, Progress,
+    run_campaign_with,
 };
 use tc_entry::{UserVerdict, Verdict};
 use tc_exec::Callable;
@@ -173,7 +174,7 @@ fn write_three<R: Threads + Wait + Copy + Send + 'static, W: Write>(
     writer: &mut W,
 ) -> Result<LiveAnswer, Fail> {
     let cases = counted(alloc, counts)?;
-    let mut live = LiveWriter::new(alloc, Form::Csv, writer);
+    let mut live = LiveWriter::new(alloc, LiveForm::Csv, writer);
     Ok(write_cases(rt, alloc, cases, &mut live))
 }
 
@@ -280,7 +281,7 @@ fn tell<R: Abort + Threads + Wait + Copy + Send + 'static, W: Write>(
     let fails = Some(Does::Sets(UserVerdict::Fail));
     let second = case_of(rt, alloc, "b", fails, 0)?;
     let cases = between(alloc, second)?;
-    let mut live = LiveWriter::new(alloc, Form::Csv, table);
+    let mut live = LiveWriter::new(alloc, LiveForm::Csv, table);
     live.begin()?;
     let (ending, told) = tell_cases(rt, alloc, cases, &mut live, lines);
     Ok((close(ending, &mut live), told))

@@ -1,5 +1,5 @@
 -- Histories, checked one after the other.
-use Rattle.std.proofs.Common.{ℕ, ◌≡◌, Bool, true, false, List, [], ◌∷◌, ◌++◌, if◌then◌else◌, ap, refl, subst, ◌∙◌, append_assoc}
+use Rattle.std.proofs.Common.{ℕ, ◌≡◌, Bool, true, false, List, [], ◌∷◌, ◌++◌, if◌then◌else◌, ap, refl, sym, ◌∙◌, append_assoc}
 use Rattle.std.proofs.lemmas.List.{append-nil}
 use Rattle.tc_text.specs.declared.fault.TextFault.{TextFault}
 use Rattle.tc_text.specs.declared.fault.TextFault.TheVariants as T
@@ -8,27 +8,32 @@ use Rattle.tc_program.specs.declared.judge.Judgement.{Judgement}
 use Rattle.tc_program.specs.declared.judge.Judgement.TheVariants as J
 use Rattle.tc_history.specs.Text.{AreHistories, IsMadeOf, IsHistoryFault}
 use Rattle.tc_program.specs.declared.check.Checking.{Checking}
-use Rattle.tc_program.specs.Check.{Checks, IsChecked, RefusesHistory, Says}
+use Rattle.tc_text.specs.Spelling.{reply_text}
+use Rattle.tc_program.specs.Check.{Checks, IsChecked, IsIllegalLine, IsLegalLine, RefusesHistory, other_line}
 use Rattle.tc_program.specs.Inside.{Feeds, IsJudgement, judges_legal, judgement_line, of_text}
 
 behind : (blocks more : List Block) (b : Block) → (blocks ++ b ∷ []) ++ more ≡ blocks ++ (b ∷ more)
 behind blocks more b = append_assoc blocks (b ∷ []) more
 
--- what the table says of a block, by its judgement
-pub says_of : (b : Block) (j : Judgement) → IsJudgement b j → Says b (judgement_line j) (judges_legal j)
-says_of b (J.Legal name entries verdict) is = rw (is.2, is.3, is.4) (Says.right is.0 is.1)
-says_of b (J.OtherReply line given reply) is = rw is.line_is (Says.other_reply is.at given reply is.differs is.given_is)
-says_of b (J.OtherVerdict line given verdict) is = rw (is.3, is.4) (Says.other_verdict verdict is.0 is.1 is.2)
+-- the line of a block, by its judgement
+pub legal_said : (b : Block) (j : Judgement) → judges_legal j ≡ true → IsJudgement b j → IsLegalLine b (judgement_line j)
+legal_said b (J.Legal name entries verdict) legal is = record { replies = is.0; verdict = is.1; line_is = rw (is.2, is.3, is.4) refl }
+legal_said b (J.OtherReply line given reply) legal is = absurd cc
+legal_said b (J.OtherVerdict line given verdict) legal is = absurd cc
 
-says_so : (b : Block) (j : Judgement) (t : Bool) → judges_legal j ≡ t → IsJudgement b j → Says b (judgement_line j) t
-says_so b j t e is = subst (Says b (judgement_line j)) e (says_of b j is)
+pub illegal_said : (b : Block) (j : Judgement) → judges_legal j ≡ false → IsJudgement b j → IsIllegalLine b (judgement_line j)
+illegal_said b (J.Legal name entries verdict) illegal is = absurd cc
+illegal_said b (J.OtherReply line given reply) illegal is =
+    IsIllegalLine.other_reply is.at given reply is.differs is.given_is (ap (λ n. other_line n (reply_text given) (reply_text reply)) is.line_is)
+illegal_said b (J.OtherVerdict line given verdict) illegal is =
+    IsIllegalLine.other_verdict is.0 (λ same. is.2 (same ∙ sym is.1)) (rw (is.1, is.3, is.4) refl)
 
 -- one more block, for which something is printed
 pub printed_more : (blocks : List Block) (b : Block) (j : Judgement) (out out' : List ℕ) (t : Bool) → judges_legal j ≡ t → Feeds blocks out true → IsJudgement b j → out' ≡ out ++ judgement_line j → Feeds (blocks ++ b ∷ []) out' t
 printed_more blocks b j out out' true e before is added = λ more tail legal checks.
     let lines : out' ++ tail ≡ out ++ (judgement_line j ++ tail) = ap (λ x. x ++ tail) added ∙ append_assoc out (judgement_line j) tail in
-    rw (behind blocks more b, lines) (before (b ∷ more) (judgement_line j ++ tail) legal (Checks.goes_on b more (judgement_line j) tail legal (says_so b j true e is) checks))
-printed_more blocks b j out out' false e before is added = λ more. rw (behind blocks more b, added) (before (b ∷ more) (judgement_line j) false (Checks.stops b more (judgement_line j) (says_so b j false e is)))
+    rw (behind blocks more b, lines) (before (b ∷ more) (judgement_line j ++ tail) legal (Checks.goes_on b more (judgement_line j) tail legal (legal_said b j e is) checks))
+printed_more blocks b j out out' false e before is added = λ more. rw (behind blocks more b, added) (before (b ∷ more) (judgement_line j) false (Checks.stops b more (judgement_line j) (illegal_said b j e is)))
 
 -- one more block, after one that is not legal
 pub passed_more : (blocks : List Block) (b : Block) (out : List ℕ) → Feeds blocks out false → Feeds (blocks ++ b ∷ []) out false

@@ -1,5 +1,5 @@
 -- The test cases of histories, one history after the other.
-use Rattle.std.proofs.Common.{ℕ, ◌≡◌, ◌∙◌, ◌+◌, All, true, false, if◌then◌else◌, Option, Some, None, List, [], ◌∷◌, ◌++◌, length, map, reverse, refl, ap, sym, subst}
+use Rattle.std.proofs.Common.{ℕ, ◌≡◌, ◌∙◌, ◌+◌, All, true, false, if◌then◌else◌, Option, Some, None, List, [], ◌∷◌, ◌++◌, length, map, reverse, refl, ap, sym, subst, append_assoc}
 use Rattle.std.specs.List.{flat_map}
 use Rattle.std.specs.Prelude.{is_some}
 use Rattle.std.proofs.lemmas.List.{map-append}
@@ -19,17 +19,17 @@ use Rattle.tc_program.specs.declared.judge.Difference.{Difference}
 use Rattle.tc_program.specs.declared.judge.Judgement.{Judgement}
 use Rattle.tc_program.specs.declared.judge.Judgement.TheVariants as J
 use Rattle.tc_program.specs.declared.judge.Playing.{Playing}
-use Rattle.tc_program.specs.Check.{IsChecked, RefusesHistory, Says}
+use Rattle.tc_program.specs.Check.{IsChecked, RefusesHistory}
 use Rattle.tc_program.specs.Inside.{IsJudgement, IsPlayed, IsPlayedTo, Summarizes, WasRun, WereRun, illegal_line, judges_legal, judgement_line}
 use Rattle.tc_program.specs.declared.fault.RunFault.{RunFault}
 use Rattle.tc_program.specs.declared.fault.RunFault.TheVariants as F
 use Rattle.tc_command.specs.declared.task.ReportForm.{ReportForm}
-use Rattle.tc_program.specs.Report.{IsReport, form_of, reported}
+use Rattle.tc_program.specs.Report.{IsFirstIllegal, IsReport, form_of, reported}
 use Rattle.tc_program.specs.declared.reply.Answer.{Answer}
 use Rattle.tc_program.specs.WrittenHistories.{AreFoundLegal, found_legal, legal_case}
 use Rattle.tc_program.proofs.Doing.{answer_of}
-use Rattle.tc_program.proofs.Checking.{passed_more, printed_more, says_of, whole}
-use Rattle.tc_program.proofs.WrittenHistories.{IsRight, are_right, block_of, blocks_of, histories_of, no_difference, only_legal, said_of_written}
+use Rattle.tc_program.proofs.Checking.{illegal_said, printed_more, whole}
+use Rattle.tc_program.proofs.WrittenHistories.{IsRight, are_right, block_of, blocks_of, histories_of, no_difference, none_illegal, said_of_written}
 
 -- a history that is judged legal is right
 right_of_legal : (b : Block) (j : Judgement) → judges_legal j ≡ true → IsJudgement b j → IsRight b
@@ -60,8 +60,16 @@ legal_more blocks b p j s ss ss' before played is legal says added =
 -- one more block that is not legal
 pub illegal_more : (blocks : List Block) (b : Block) (j : Judgement) (ss ss' : List Summary)
     → Summarizes blocks ss None → IsJudgement b j → judges_legal j ≡ false → Summarizes (blocks ++ b ∷ []) ss' (Some j)
-illegal_more blocks b j ss ss' before is illegal =
-    ((b, is), illegal, (before.0.0, printed_more blocks b j before.0.0 (before.0.0 ++ judgement_line j) false illegal before.0.1 is refl))
+illegal_more blocks b j ss ss' so is illegal = record {
+  before = blocks;
+  block = b;
+  behind = [];
+  place = refl;
+  lines = so.0.0;
+  legal = so.0.1;
+  judged = is;
+  illegal = illegal;
+}
 
 -- if no block is illegal so far
 pub legal_next : (o : Option Judgement) (blocks : List Block) (b : Block) (p : Playing) (j : Judgement) (s : Summary) (ss ss' : List Summary)
@@ -77,10 +85,19 @@ illegal_next None blocks b j ss ss' none before is illegal = illegal_more blocks
 illegal_next (Some k) blocks b j ss ss' none before is illegal = absurd cc
 
 -- one more block after one that is not legal
-pub illegal_passed : (blocks : List Block) (b : Block) (ss : List Summary) (o : Option Judgement) (j : Judgement)
-    → o ≡ Some j → Summarizes blocks ss o → Summarizes (blocks ++ b ∷ []) ss o
-illegal_passed blocks b ss None j is before = absurd cc
-illegal_passed blocks b ss (Some k) j is before = (before.0, before.1, (before.2.0, passed_more blocks b (before.2.0 ++ judgement_line k) before.2.1))
+pub illegal_passed : (o : Option Judgement) (blocks : List Block) (b : Block) (ss : List Summary)
+    → is_some o ≡ true → Summarizes blocks ss o → Summarizes (blocks ++ b ∷ []) ss o
+illegal_passed None blocks b ss some so = absurd cc
+illegal_passed (Some k) blocks b ss some so = record {
+  before = so.before;
+  block = so.block;
+  behind = so.behind ++ b ∷ [];
+  place = ap (λ l. l ++ b ∷ []) so.place ∙ append_assoc so.before (so.block ∷ so.behind) (b ∷ []);
+  lines = so.lines;
+  legal = so.legal;
+  judged = so.judged;
+  illegal = so.illegal;
+}
 
 -- ---- the steps of `report`
 
@@ -103,8 +120,15 @@ pub illegal_report : (form : ReportForm) (text : List ℕ) (blocks : List Block)
     → a.out ≡ [] → a.told ≡ illegal_line j → a.status ≡ 3 → IsReport form text blocks a
 illegal_report form text blocks ss o j a some made out told status =
     let made = subst (Summarizes blocks ss) some made in
-    let says = subst (Says made.0.0 (judgement_line j)) made.1 (says_of made.0.0 j made.0.1) in
-    IsReport.illegal made.0.0 made.2.0 (judgement_line j) says (whole blocks (made.2.0 ++ judgement_line j) false made.2.1)
+    let first : IsFirstIllegal blocks made.block (judgement_line j) = record {
+      before = made.before;
+      behind = made.behind;
+      place = made.place;
+      lines = made.lines;
+      legal = whole made.before made.lines true made.legal;
+      illegal = illegal_said made.block j made.illegal made.judged;
+    } in
+    IsReport.illegal made.block (judgement_line j) first
     (ap (λ x. answer_of x a.told a.status) out ∙ ap (λ x. answer_of [] x a.status) told ∙ ap (λ x. answer_of [] (illegal_line j) x) status)
 
 -- ---- histories that a run writes
@@ -128,9 +152,8 @@ checked_so r a ran is told =
 reported_so : (form : ReportForm) (r : Results) (a : Answer) → WereRun r → IsReport form (histories_text r) (blocks_of 1 r.finished) a
     → a ≡ reported form (histories_text r) (map case_summary r.finished)
 reported_so form r a ran (IsReport.legal lines checks is) = is ∙ ap (reported form (histories_text r)) (summaries_written 1 r.finished ran.each)
-reported_so form r a ran (IsReport.illegal b lines line says checks is) =
-    let two = only_legal (blocks_of 1 r.finished) (lines ++ line) false (are_right 1 r.finished ran.each) checks in
-    absurd (cc two.1)
+reported_so form r a ran (IsReport.illegal b line first is) =
+    absurd (none_illegal (blocks_of 1 r.finished) b line (are_right 1 r.finished ran.each) first)
 
 refused_so : (r : Results) (fault : RunFault) → WereRun r → RefusesHistory (histories_text r) fault → fault ≡ F.NoMemory
 refused_so r (F.Text fault) ran refused = absurd (refused.1 (blocks_of 1 r.finished) (histories_of r ran))

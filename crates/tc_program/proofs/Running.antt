@@ -8,8 +8,8 @@ use Rattle.tc_stream.specs.Output.{AppendsPrefix}
 use Rattle.tc_book.specs.Passes.{PassState}
 use Rattle.tc_exec.specs.declared.job.Back.{Back}
 use Rattle.tc_report.specs.declared.fault.OutFault.{OutFault}
-use Rattle.tc_report.specs.declared.form.Form.{Form as ReportForm}
-use Rattle.tc_report.specs.declared.form.Form.TheVariants as ReportForms
+use Rattle.tc_report.specs.declared.live_form.LiveForm.{LiveForm}
+use Rattle.tc_report.specs.declared.live_form.LiveForm.TheVariants as LiveForms
 use Rattle.tc_report.specs.declared.live.LiveWriter.{LiveWriter}
 use Rattle.tc_report.specs.declared.results.CampaignEnd.{CampaignEnd}
 use Rattle.tc_report.specs.declared.results.CampaignEnd.TheVariants as E
@@ -32,18 +32,18 @@ use Rattle.tc_command.specs.declared.task.Form.TheVariants as Forms
 use Rattle.tc_command.specs.declared.task.RunOptions.{RunOptions}
 use Rattle.tc_program.specs.declared.fault.RunFault.{RunFault}
 use Rattle.tc_program.specs.declared.outcome.Outcome.{Outcome}
-use Rattle.tc_program.specs.Give.{live_form, text_of}
+use Rattle.tc_program.specs.Output.{live_form, text_of}
 use Rattle.tc_program.specs.Inside.{AreGiven}
 use Rattle.tc_program.specs.Limits.{worker_limit}
 use Rattle.tc_program.specs.Run.{IsLeft, IsRun, IsUnwritten, first_fault}
 use Rattle.tc_program.specs.Streams.{Streams}
-use Rattle.tc_program.specs.Tell.{IsTold}
+use Rattle.tc_program.specs.Stderr.{IsTold}
 
 -- the text in a form that is written live is that of the form that was asked for
-live_text : (live : Bool) (form : Form) (found : ReportForm) (r : Results) → live_form live form ≡ Some found → form_text found r ≡ text_of form r
-live_text true Forms.Text found r is = sym (ap (λ o. form_text (unwrap_or o ReportForms.Text) r) is)
-live_text true Forms.Csv found r is = sym (ap (λ o. form_text (unwrap_or o ReportForms.Text) r) is)
-live_text true Forms.History found r is = sym (ap (λ o. form_text (unwrap_or o ReportForms.Text) r) is)
+live_text : (live : Bool) (form : Form) (found : LiveForm) (r : Results) → live_form live form ≡ Some found → form_text found r ≡ text_of form r
+live_text true Forms.Text found r is = sym (ap (λ o. form_text (unwrap_or o LiveForms.Text) r) is)
+live_text true Forms.Csv found r is = sym (ap (λ o. form_text (unwrap_or o LiveForms.Text) r) is)
+live_text true Forms.History found r is = sym (ap (λ o. form_text (unwrap_or o LiveForms.Text) r) is)
 live_text true Forms.Junit found r is = absurd (cc is)
 live_text false form found r is = absurd (cc is)
 
@@ -97,7 +97,7 @@ module _ {B : Type 0} (outcome : B → PassState → Back → Type 0) (cases : L
     told = told_is_prefix options.progress streams.untold streams.told (told_text options.progress r.finished) telling told;
   }
 
-  module _ (streams : Streams) (form : ReportForm) (same : live_form options.live options.form ≡ Some form) where
+  module _ (streams : Streams) (form : LiveForm) (same : live_form options.live options.form ≡ Some form) where
     -- a run that was not written whole as its test cases finished left a prefix
     cut_up : (r : Results) (telling : Result (Unit {0}) OutFault) (fault : OutFault)
         → AreFinished outline_of (IsCalled outcome) cases options.stop_on worker_limit r.finished

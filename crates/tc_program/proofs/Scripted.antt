@@ -16,19 +16,19 @@ use Rattle.tc_book.specs.Passes.{PassState}
 use Rattle.tc_exec.specs.declared.job.Back.{Back}
 use Rattle.tc_exec.specs.Case.{IsCaseReport, IsMadeOf}
 use Rattle.tc_exec.proofs.Lemmas.Logs.{logs_by}
-use Rattle.tc_report.specs.declared.form.Form.{Form as ReportForm}
+use Rattle.tc_report.specs.declared.live_form.LiveForm.{LiveForm}
 use Rattle.tc_report.specs.declared.results.CampaignEnd.{CampaignEnd}
 use Rattle.tc_report.specs.declared.results.Finished.{Finished}
 use Rattle.tc_report.specs.declared.results.Results.{Results}
 use Rattle.tc_campaign.specs.declared.case.Case.{Case}
 use Rattle.tc_campaign.specs.Outline.{Outline, HasNames, outline_of}
 use Rattle.tc_campaign.specs.Campaign.{AreFinished, IsCalled, IsEnding, IsOfCase, IsReported, IsRunTo, IsWhy, IsWithoutRoom}
-use Rattle.tc_program.specs.Give.{live_form}
+use Rattle.tc_program.specs.Output.{live_form}
 use Rattle.tc_program.specs.Limits.{worker_limit}
 use Rattle.tc_command.specs.declared.task.RunOptions.{RunOptions}
 use Rattle.tc_report.specs.declared.fault.OutFault.{OutFault}
 use Rattle.tc_program.specs.Fault.{line_of, of_output}
-use Rattle.tc_program.specs.Tell.{IsRefusal}
+use Rattle.tc_program.specs.Stderr.{IsRefusal}
 use Rattle.tc_program.specs.declared.outcome.Outcome.{Outcome}
 use Rattle.tc_program.specs.Run.{IsLeft, IsRun, IsUnwritten}
 use Rattle.tc_program.specs.Choosing.{AreChosen}
@@ -131,7 +131,7 @@ module _ (o : RunOptions) (text : List ℕ) (cs : List CaseView) (ks : List (Cas
     };
   }
 
-  left_of : (live : Option ReportForm) (s : Streams) (r : Results) (fault : OutFault) → IsLeft outline_of (IsCalled Acts) ks o live s r fault
+  left_of : (live : Option LiveForm) (s : Streams) (r : Results) (fault : OutFault) → IsLeft outline_of (IsCalled Acts) ks o live s r fault
       → IsLeft script_outline IsScripted cs o live s r fault
   left_of None s r fault left = (results cs ks o.stop_on worker_limit lawful each r.finished r.ending left.0, left.1)
   left_of (Some form) s r fault left = (finished cs ks o.stop_on worker_limit lawful each r.finished left.0, left.1)

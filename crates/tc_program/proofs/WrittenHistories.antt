@@ -1,5 +1,5 @@
 -- Written histories are legal.
-use Rattle.std.proofs.Common.{ℕ, ◌≡◌, ◌≢◌, ◌∙◌, ◌+◌, ◌<◌, Bool, true, false, All, inr, List, [], ◌∷◌, ◌++◌, length, reverse, take, drop, get_or, refl, ap, sym, arith, true≢false}
+use Rattle.std.proofs.Common.{ℕ, ◌≡◌, ◌≢◌, ◌∙◌, ◌+◌, ◌<◌, Bool, true, false, All, inr, List, [], ◌∷◌, ◌++◌, length, reverse, take, drop, get_or, refl, ap, sym, subst, arith}
 use Rattle.std.specs.List.{AllZip, flat_map}
 use Rattle.std.proofs.lemmas.List.{reverse-append, take_more, take-append-drop}
 use Rattle.std.proofs.lemmas.List.Elements.{All-nil, All-cons, All-head, All-tail}
@@ -18,7 +18,8 @@ use Rattle.tc_report.specs.declared.results.Results.{Results}
 use Rattle.tc_report.specs.Histories.{case_history, histories_text}
 use Rattle.tc_campaign.specs.Outline.{Outline}
 use Rattle.tc_campaign.specs.Campaign.{IsReported}
-use Rattle.tc_program.specs.Check.{Checks, Says, legal_line}
+use Rattle.tc_program.specs.Check.{Checks, IsIllegalLine, legal_line}
+use Rattle.tc_program.specs.Report.{IsFirstIllegal}
 use Rattle.tc_program.specs.WrittenHistories.{legal_case, AreReported}
 use Rattle.tc_program.specs.Inside.{FitsItsTypes, WasRun, WereRun}
 
@@ -71,19 +72,13 @@ no_difference n (e ∷ es) at reply legal differs =
 abbrev pub IsRight : Block → Type 0
 IsRight b = IsLegal b.behaviours (reverse b.entries) × (b.verdict ≡ overall (reverse b.entries))
 
-no_other : (b : Block) (line : List ℕ) (t : Bool) → IsRight b → t ≡ false → Says b line t → ⊥
-no_other b _ _ right other (Says.right ok verdict) = absurd (true≢false other)
-no_other b _ _ right other (Says.other_reply at given reply differs is) = no_difference b.behaviours b.entries at reply right.0 differs
-no_other b _ _ right other (Says.other_verdict v ok is differs) = differs (right.1 ∙ sym is)
+no_other : (b : Block) (line : List ℕ) → IsRight b → IsIllegalLine b line → ⊥
+no_other b line right (IsIllegalLine.other_reply at given reply differs is said) = no_difference b.behaviours b.entries at reply right.0 differs
+no_other b line right (IsIllegalLine.other_verdict ok differs said) = differs right.1
 
 -- the line of a block that is found legal
 abbrev pub block_line : Block → List ℕ
 block_line b = legal_line b.name (length b.entries) b.verdict
-
-said_of_legal : (b : Block) (line : List ℕ) (t : Bool) → t ≡ true → Says b line t → line ≡ block_line b
-said_of_legal b _ _ same (Says.right ok verdict) = refl
-said_of_legal b _ _ same (Says.other_reply at given reply differs is) = absurd (true≢false (sym same))
-said_of_legal b _ _ same (Says.other_verdict v ok is differs) = absurd (true≢false (sym same))
 
 abbrev pub AreRight : List Block → Type 0
 AreRight [] = Unit {0}
@@ -93,8 +88,16 @@ pub only_legal : (bs : List Block) (out : List ℕ) (legal : Bool) → AreRight 
 only_legal _ _ _ all Checks.none = (refl, refl)
 only_legal _ _ _ all (Checks.goes_on b rest line out legal says more) =
     let two = only_legal rest out legal all.1 more in
-    (ap (λ l. l ++ out) (said_of_legal b line true refl says) ∙ ap (λ l. block_line b ++ l) two.0, two.1)
-only_legal _ _ _ all (Checks.stops b rest line says) = absurd (no_other b line false all.0 refl says)
+    (ap (λ l. l ++ out) says.line_is ∙ ap (λ l. block_line b ++ l) two.0, two.1)
+only_legal _ _ _ all (Checks.stops b rest line says) = absurd (no_other b line all.0 says)
+
+right_at : (before behind : List Block) (b : Block) → AreRight (before ++ b ∷ behind) → IsRight b
+right_at [] behind b all = all.0
+right_at (c ∷ before) behind b all = right_at before behind b all.1
+
+-- none of them is the first that is not legal
+pub none_illegal : (bs : List Block) (b : Block) (line : List ℕ) → AreRight bs → IsFirstIllegal bs b line → ⊥
+none_illegal bs b line all first = no_other b line (right_at first.before first.behind b (subst AreRight first.place all)) first.illegal
 
 pub are_right : (line : ℕ) (fs : List Finished) → All WasRun fs → AreRight (blocks_of line fs)
 are_right line [] all = tt

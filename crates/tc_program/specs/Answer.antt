@@ -14,10 +14,10 @@ use Rattle.tc_command.specs.Words.{text_of}
 use Rattle.tc_program.specs.declared.fault.RunFault.TheVariants as F
 use Rattle.tc_program.specs.declared.outcome.Outcome.{Outcome}
 use Rattle.tc_program.specs.Fault.{line_of, said}
-use Rattle.tc_program.specs.Give.{LeavesUnwritten}
+use Rattle.tc_program.specs.Output.{LeavesUnwritten}
 use Rattle.tc_program.specs.Program.{IsCarriedOut}
 use Rattle.tc_program.specs.Streams.{Streams}
-use Rattle.tc_program.specs.Tell.{IsRefusal, IsTold}
+use Rattle.tc_program.specs.Stderr.{IsRefusal, IsTold}
 use Rattle.tc_program.specs.declared.fault.RunFault.{RunFault}
 
 -- the arguments are refused, and not because memory ran out; they ask neither for help nor for the version

@@ -27,24 +27,27 @@ gives_text = codes ", table gives "
 abbrev pub other_line : ℕ → List ℕ → List ℕ → List ℕ
 other_line line given table = place_text line ++ (given ++ (gives_text ++ (table ++ (10 ∷ []))))
 
--- the line for a history, and whether it is legal: each reply is the table's, and the verdict is right; or the first other reply; or
--- another verdict
-pub data Says (b : Block) : List ℕ → Bool → Type 0 where
-  right : IsLegal b.behaviours (reverse b.entries) → b.verdict ≡ overall (reverse b.entries)
-      → Says b (legal_line b.name (length b.entries) b.verdict) true
+-- the line of a legal history: each reply is the table's, and the verdict is right
+pub record IsLegalLine (b : Block) (line : List ℕ) : Type 0 where
+  pub replies : IsLegal b.behaviours (reverse b.entries)
+  pub verdict : b.verdict ≡ overall (reverse b.entries)
+  pub line_is : line ≡ legal_line b.name (length b.entries) b.verdict
+
+-- the line of a history that is not legal: its first other reply, or, if there is none, its verdict
+pub data IsIllegalLine (b : Block) (line : List ℕ) : Type 0 where
   other_reply : (at : ℕ) (given reply : Reply) → DiffersAt b.behaviours b.entries at reply
       → ((d : Entry) → (slice_index_or b.entries at d).reply ≡ given)
-      → Says b (other_line (b.first_line + at + 1) (reply_text given) (reply_text reply)) false
-  other_verdict : (v : Verdict) → IsLegal b.behaviours (reverse b.entries) → v ≡ overall (reverse b.entries)
-      → b.verdict ≢ v
-      → Says b (other_line (b.first_line + length b.entries + 1) (name_of b.verdict) (name_of v)) false
+      → line ≡ other_line (b.first_line + at + 1) (reply_text given) (reply_text reply) → IsIllegalLine b line
+  other_verdict : IsLegal b.behaviours (reverse b.entries) → b.verdict ≢ overall (reverse b.entries)
+      → line ≡ other_line (b.first_line + length b.entries + 1) (name_of b.verdict) (name_of (overall (reverse b.entries)))
+      → IsIllegalLine b line
 
 -- what is printed for histories, one after the other up to the first that is not legal, and whether all are legal
 pub data Checks : List Block → List ℕ → Bool → Type 0 where
   none : Checks [] [] true
-  goes_on : (b : Block) (rest : List Block) (line out : List ℕ) (legal : Bool) → Says b line true
+  goes_on : (b : Block) (rest : List Block) (line out : List ℕ) (legal : Bool) → IsLegalLine b line
       → Checks rest out legal → Checks (b ∷ rest) (line ++ out) legal
-  stops : (b : Block) (rest : List Block) (line : List ℕ) → Says b line false → Checks (b ∷ rest) line false
+  stops : (b : Block) (rest : List Block) (line : List ℕ) → IsIllegalLine b line → Checks (b ∷ rest) line false
 
 -- The text is that of histories; whatever histories it is of, this output says which are legal. The status is 0 if all
 -- are, otherwise 3.

@@ -1,5 +1,6 @@
 -- What is printed about a text that is refused.
-use Rattle.std.specs.Prelude.{ℕ, true, Option, Some, None, if◌then◌else◌, List, []}
+use Rattle.std.specs.Prelude.{ℕ, Bool, false, Option, Some, None, if◌then◌else◌, List, [], option_map}
+use Rattle.tc_text.specs.declared.fault.TextKind.{TextKind}
 use Rattle.tc_text.specs.declared.fault.TextFault.TheVariants as X
 use Rattle.tc_explain.specs.declared.sort.Refusal.{Refusal}
 use Rattle.tc_explain.specs.declared.sort.Refusal.TheVariants as R
@@ -12,15 +13,41 @@ use Rattle.tc_program.specs.declared.fault.RunFault.{RunFault}
 use Rattle.tc_program.specs.declared.fault.RunFault.TheVariants as F
 use Rattle.tc_program.specs.declared.outcome.Outcome.{Outcome}
 use Rattle.tc_program.specs.Fault.{line_of}
-use Rattle.tc_program.specs.Tell.{IsRefusal}
+use Rattle.tc_program.specs.Stderr.{IsRefusal}
 
--- what a fault says of the text of a task, and the number of its line, if the task is asked to explain it
+-- the task is asked to explain a fault of its text
+abbrev pub explains : Task → Bool
+explains (T.Replay asked) = asked
+explains (T.Check asked) = asked
+explains (T.Report form asked) = asked
+explains (T.Run o) = o.explains
+explains (T.List choice) = false
+explains (T.Explore histories details states) = false
+
+-- what the text of a task should be, which has a fault of this kind; a script has faults of another
+abbrev pub refusal_by : Task → TextKind → Option Refusal
+refusal_by (T.Replay asked) kind = Some (R.Moves kind)
+refusal_by (T.Check asked) kind = Some (R.Histories kind)
+refusal_by (T.Report form asked) kind = Some (R.Histories kind)
+refusal_by (T.Run o) kind = None
+refusal_by (T.List choice) kind = None
+refusal_by (T.Explore histories details states) kind = None
+
+-- what a fault says of the text of a task, and the number of its line, if it is one of a line
+abbrev pub refusal_at : Task → RunFault → Option (Refusal × ℕ)
+refusal_at task (F.Text (X.At line kind)) = option_map (λ refusal. (refusal, line)) (refusal_by task kind)
+refusal_at task (F.Script fault) = Some (R.Script fault.kind, fault.line)
+refusal_at task (F.Text X.NoMemory) = None
+refusal_at task F.TooLong = None
+refusal_at task F.Read = None
+refusal_at task F.Write = None
+refusal_at task F.NoMemory = None
+refusal_at task F.StopOn = None
+refusal_at task F.Only = None
+
+-- the same, if the task is asked to explain it
 abbrev pub refusal_of : Task → RunFault → Option (Refusal × ℕ)
-refusal_of (T.Replay true) (F.Text (X.At line kind)) = Some (R.Moves kind, line)
-refusal_of (T.Check true) (F.Text (X.At line kind)) = Some (R.Histories kind, line)
-refusal_of (T.Report form true) (F.Text (X.At line kind)) = Some (R.Histories kind, line)
-refusal_of (T.Run o) (F.Script fault) = if o.explains then Some (R.Script fault.kind, fault.line) else None
-refusal_of task fault = None
+refusal_of task fault = if explains task then refusal_at task fault else None
 
 -- what is explained of the text, if something is
 abbrev pub notes_of : Option (Refusal × ℕ) → List ℕ → List Note

@@ -4,24 +4,27 @@ use Rattle.std.specs.List.{AllZip, flat_map, list_any}
 use Rattle.tc_script.specs.Campaign.{CampaignView, campaign}
 use Rattle.tc_explore.specs.Details.{details as of_details}
 use Rattle.tc_text.specs.Shown.{Shows}
-use Rattle.tc_explore.specs.Found.{AreWitnesses, AreLegal, AreReached}
+use Rattle.tc_explore.specs.Course.{most_states}
+use Rattle.tc_explore.specs.Found.{AreWitnesses, AreLegal, AreReached, IsOnce}
 use Rattle.tc_explore.specs.Laws.{AllFound}
 use Rattle.tc_explore.specs.declared.explored.Ending.TheVariants as E
 use Rattle.tc_explore.specs.Told.{explored_line, explored_status, witnesses_text}
 use Rattle.tc_program.specs.declared.explore.ExploredCase.{ExploredCase}
 use Rattle.tc_program.specs.Scripted.{CaseView, scripts_of}
 
--- a test case was explored, and each verdict that was found has a witness: a complete course of its scripts, which is
--- legal. If the search says that it is complete, the verdict of each complete course of its scripts was found. Some
--- course of each run carries out as many steps as the run reaches.
+-- A test case was explored, and each verdict that was found has one witness: a complete course of its scripts, which is legal.
+-- If the search says that it is complete, the verdict of each complete course of its scripts was found. If it says that it is
+-- undecided, it looked at as many states as it may. Some course of each run carries out as many steps as it reaches.
 pub record IsExplored (details : Bool) (states : ℕ) (c : CaseView) (e : ExploredCase) : Type 0 where
   pub name : e.name ≡ c.0
   pub behaviours : e.behaviours ≡ length c.1
   pub sound : AreWitnesses (scripts_of c.1) e.explored.found
   pub legal : AreLegal (scripts_of c.1) e.explored.found
+  pub once : IsOnce e.explored.found
   pub complete : e.explored.ending ≡ E.Complete → AllFound (scripts_of c.1) e.explored.found
   pub reached : AreReached (scripts_of c.1) e.explored.reached
-  pub within : e.explored.states ≤ states
+  pub most : e.explored.states ≤ most_states (scripts_of c.1) states
+  pub undecided : e.explored.ending ≡ E.Undecided → 1 ≤ length (scripts_of c.1) → e.explored.states ≡ most_states (scripts_of c.1) states
   pub details_are : Shows (if details then of_details (scripts_of c.1) e.explored else []) [] e.details
 
 -- what is written of a test case: its line and its details, or the histories of its witnesses

@@ -71,7 +71,7 @@ use Rattle.tc_program.specs.Program.{IsDone}
 use Rattle.tc_program.specs.declared.reply.Answer.{Answer}
 use Rattle.tc_report.specs.declared.summary.Summary.{Summary}
 use Rattle.tc_report.specs.Summary.{block_summary}
-use Rattle.tc_program.specs.Give.{LeavesUnwritten}
+use Rattle.tc_program.specs.Output.{LeavesUnwritten}
 
 -- the number of the line of the input that has a fault, if it is one of a line
 abbrev pub line_number : RunFault → Option ℕ
@@ -200,11 +200,21 @@ Feeds blocks out false = (more : List Block) → Checks (blocks ++ more) out fal
 abbrev pub illegal_line : Judgement → List ℕ
 illegal_line j = codes "ttrun: " ++ judgement_line j
 
+-- this is the judgement of the first of these blocks that is not legal
+pub record IsFirstJudged (blocks : List Block) (j : Judgement) : Type 0 where
+  pub before : List Block
+  pub block : Block
+  pub behind : List Block
+  pub place : blocks ≡ before ++ block ∷ behind
+  pub lines : List ℕ
+  pub legal : Feeds before lines true
+  pub judged : IsJudgement block j
+  pub illegal : judges_legal j ≡ false
+
 -- these are the test cases of the blocks, each of which is found legal; or this is the judgement of the first that is not
 abbrev pub Summarizes : List Block → List Summary → Option Judgement → Type 0
 Summarizes blocks ss None = ((lines : List ℕ) × Feeds blocks lines true) × (ss ≡ map block_summary blocks)
-Summarizes blocks ss (Some j) =
-    ((b : Block) × IsJudgement b j) × (judges_legal j ≡ false) × ((lines : List ℕ) × Feeds blocks (lines ++ judgement_line j) false)
+Summarizes blocks ss (Some j) = IsFirstJudged blocks j
 
 -- the details of a test case with these scripts, if they are asked for
 abbrev pub details_if : Bool → List ScriptView → Explored → List Shown

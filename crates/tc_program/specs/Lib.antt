@@ -3,9 +3,9 @@ pub mod Replay
 pub mod Fault
 pub mod Input
 pub mod Streams
-pub mod Give
+pub mod Output
 pub mod Limits
-pub mod Tell
+pub mod Stderr
 pub mod Explained
 pub mod Run
 pub mod Scripted

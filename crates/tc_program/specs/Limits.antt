@@ -2,12 +2,13 @@
 use Rattle.std.specs.Prelude.{ℕ}
 use Rattle.tc_command.specs.declared.task.Task.{Task}
 use Rattle.tc_command.specs.declared.task.Task.TheVariants as T
+use Rattle.tc_program.specs.declared.limits.TheConstants.{HISTORY_LIMIT, SCRIPT_LIMIT}
 
 -- the bytes of the input of a task: a text of histories, otherwise a script or a list of moves
 abbrev pub limit_of : Task → ℕ
-limit_of (T.Check explains) = 16777216
-limit_of (T.Report form explains) = 16777216
-limit_of task = 1048576
+limit_of (T.Check explains) = HISTORY_LIMIT
+limit_of (T.Report form explains) = HISTORY_LIMIT
+limit_of task = SCRIPT_LIMIT
 
 -- the workers of a test case
 abbrev pub worker_limit : ℕ

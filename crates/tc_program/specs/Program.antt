@@ -20,7 +20,7 @@ use Rattle.tc_program.specs.Made.{IsMade}
 use Rattle.tc_program.specs.Run.{IsRun, IsUnwritten}
 use Rattle.tc_program.specs.Scripted.{script_outline, IsScripted}
 use Rattle.tc_program.specs.Streams.{Streams}
-use Rattle.tc_program.specs.Tell.{IsRefusal, IsTold}
+use Rattle.tc_program.specs.Stderr.{IsRefusal, IsTold}
 
 -- The chosen test cases of the campaign that the text spells were run as it is asked for. Their right results were
 -- written, and their status and the line of an aborted campaign are those of the outcome. Each report is of the test

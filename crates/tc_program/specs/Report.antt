@@ -1,5 +1,5 @@
 -- What `report` writes of histories.
-use Rattle.std.specs.Prelude.{ℕ, ◌≡◌, ◌==◌, ◌&&◌, ◌||◌, nat_le, Bool, false, true, List, [], ◌++◌, codes, map}
+use Rattle.std.specs.Prelude.{ℕ, ◌≡◌, ◌==◌, ◌&&◌, ◌||◌, nat_le, Bool, true, List, [], ◌∷◌, ◌++◌, codes, map}
 use Rattle.std.specs.List.{list_all}
 use Rattle.tc_command.specs.declared.command.TheConstants.{VERSION}
 use Rattle.tc_command.specs.declared.task.ReportForm.{ReportForm}
@@ -13,7 +13,7 @@ use Rattle.tc_report.specs.Junit.{junit_of}
 use Rattle.tc_report.specs.Status.{status_of_summaries}
 use Rattle.tc_report.specs.Summary.{block_summary}
 use Rattle.tc_program.specs.declared.reply.Answer.{Answer}
-use Rattle.tc_program.specs.Check.{Checks, Says}
+use Rattle.tc_program.specs.Check.{Checks, IsIllegalLine}
 
 -- the form of histories by their text and the summaries of their test cases
 abbrev pub form_of : ReportForm → List ℕ → List Summary → List ℕ
@@ -29,12 +29,20 @@ reported form text ss = record { out = form_of form text ss; told = []; status =
 abbrev pub unreported : List ℕ → Answer
 unreported line = record { out = []; told = codes "ttrun: " ++ line; status = 3 }
 
--- what is answered for the histories of a text: `check` finds each legal, or the last that it prints says that one is not
+-- of these histories this is the first that is not legal, with its line
+pub record IsFirstIllegal (blocks : List Block) (b : Block) (line : List ℕ) : Type 0 where
+  pub before : List Block
+  pub behind : List Block
+  pub place : blocks ≡ before ++ b ∷ behind
+  pub lines : List ℕ
+  pub legal : Checks before lines true
+  pub illegal : IsIllegalLine b line
+
+-- what is answered for the histories of a text: `check` finds each legal, or this is the first that it does not
 pub data IsReport (form : ReportForm) (text : List ℕ) (blocks : List Block) (a : Answer) : Type 0 where
   legal : (lines : List ℕ) → Checks blocks lines true
       → a ≡ reported form text (map block_summary blocks) → IsReport form text blocks a
-  illegal : (b : Block) (lines line : List ℕ) → Says b line false
-      → Checks blocks (lines ++ line) false → a ≡ unreported line → IsReport form text blocks a
+  illegal : (b : Block) (line : List ℕ) → IsFirstIllegal blocks b line → a ≡ unreported line → IsReport form text blocks a
 
 -- the text is that of histories, and whatever histories it is of, this is answered for them
 pub record IsReported (form : ReportForm) (text : List ℕ) (a : Answer) : Type 0 where

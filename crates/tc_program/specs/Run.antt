@@ -5,7 +5,7 @@ use Rattle.tc_stream.specs.Output.{AppendsPrefix}
 use Rattle.tc_campaign.specs.Outline.{Outline}
 use Rattle.tc_campaign.specs.Campaign.{AreFinished, IsRunTo}
 use Rattle.tc_report.specs.declared.fault.OutFault.{OutFault}
-use Rattle.tc_report.specs.declared.form.Form.{Form as ReportForm}
+use Rattle.tc_report.specs.declared.live_form.LiveForm.{LiveForm}
 use Rattle.tc_report.specs.declared.results.Finished.{Finished}
 use Rattle.tc_report.specs.declared.results.Results.{Results}
 use Rattle.tc_report.specs.Ending.{abort_text}
@@ -16,10 +16,10 @@ use Rattle.tc_command.specs.declared.task.RunOptions.{RunOptions}
 use Rattle.tc_program.specs.declared.fault.RunFault.{RunFault}
 use Rattle.tc_program.specs.declared.outcome.Outcome.{Outcome}
 use Rattle.tc_program.specs.Fault.{of_output}
-use Rattle.tc_program.specs.Give.{live_form, text_of}
+use Rattle.tc_program.specs.Output.{live_form, text_of}
 use Rattle.tc_program.specs.Limits.{worker_limit}
 use Rattle.tc_program.specs.Streams.{Streams}
-use Rattle.tc_program.specs.Tell.{IsTold}
+use Rattle.tc_program.specs.Stderr.{IsTold}
 
 -- the first fault, of the lines about test cases as they finish, and of the line after them
 abbrev pub first_fault : Result (Unit {0}) OutFault → Result (Unit {0}) RunFault → Result (Unit {0}) RunFault
@@ -50,7 +50,7 @@ module _ {C : Type 0} (outline : C → Outline) (called : C → Finished → Typ
 
   -- by this fault the text of the results was not written whole: at the end, or as the test cases finished. Then a
   -- prefix of it is out, and the fault may have ended the campaign.
-  abbrev pub IsLeft : Option ReportForm → Streams → Results → OutFault → Type 0
+  abbrev pub IsLeft : Option LiveForm → Streams → Results → OutFault → Type 0
   IsLeft None s r fault =
       IsRunTo outline called cases options.stop_on worker_limit r.finished r.ending × LeavesPrefix s.before s.after (text_of options.form r) fault
   IsLeft (Some form) s r fault =

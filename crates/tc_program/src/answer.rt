@@ -6,14 +6,14 @@ ghost use Rattle.clap.specs.declared.error.kind.ErrorKind.TheVariants.{DisplayHe
 ghost use Rattle.tc_program.specs.Answer.{IsAnswered, IsHelped, IsMistake, IsUnread};
 ghost use Rattle.tc_program.specs.Fault.{line_of};
 ghost use Rattle.tc_program.specs.Inside.{ShowsNoTask, ShowsText};
-ghost use Rattle.tc_program.specs.Tell.{IsRefusal};
+ghost use Rattle.tc_program.specs.Stderr.{IsRefusal};
 ghost use Rattle.tc_program.specs.declared.fault.RunFault.TheVariants.{NoMemory as WithoutMemory};
 ghost use Rattle.tc_program.specs.Streams.{held};
 
 use crate::carry_out::carry_out;
 use crate::fault::RunFault;
 use crate::outcome::{Outcome, REFUSED};
-use crate::tell::{refuse, refuse_with, refuse_words, tell};
+use crate::stderr::{refuse, refuse_with, refuse_words, tell};
 use clap::Error;
 use clap::error::ErrorKind;
 use std::alloc::Global;

@@ -1,38 +1,28 @@
 //! What the program does with a task.
 ghost use Rattle.std.specs.Prelude.{◌≡◌};
 ghost use Rattle.tc_command.specs.declared.task.Task.TheVariants.{Run};
-ghost use Rattle.tc_program.specs.Limits.{limit_of as spec_limit};
 ghost use Rattle.tc_program.specs.Program.{IsCarriedOut, IsDone};
 ghost use Rattle.tc_program.specs.Streams.{held};
 
+use crate::cases::chosen_cases;
 use crate::check::check_text;
 use crate::explained::refuse_text;
 use crate::explore::explore_text;
 use crate::fault::RunFault;
 use crate::input::read_text;
-use crate::jobs::chosen_cases;
+use crate::limits::limit_of;
 use crate::listing::list_text;
 use crate::made::finish;
 use crate::outcome::Outcome;
 use crate::replay::replay_text;
 use crate::report::report_text;
 use crate::run::run_cases;
-use crate::tell::refuse;
+use crate::stderr::refuse;
 use std::alloc::Global;
 use std::io::{Read, Write};
 use std::sync::Wait;
 use std::thread::Threads;
 use tc_command::{RunOptions, Task};
-
-// How many bytes the input of the task may have.
-fn limit_of(task: &Task) -> usize
-    ensures { result ≡ spec_limit task.now }
-{
-    match task {
-        Task::Check { .. } | Task::Report { .. } => 16_777_216,
-        Task::Replay { .. } | Task::Explore { .. } | Task::List(_) | Task::Run(_) => 1_048_576,
-    }
-}
 
 // Runs the chosen test cases of the script that the text is, as the task, a run, asks for it.
 fn run_text<R, W: Write, E: Write>(

@@ -9,6 +9,7 @@ use crate::check_lines::append_judgement;
 use crate::fault::RunFault;
 use crate::input::read_text;
 use crate::judge::{Playing, is_legal};
+use crate::limits::HISTORY_LIMIT;
 use crate::made::write_answer;
 use crate::outcome::REFUSED;
 use crate::reply::Answer;
@@ -17,9 +18,6 @@ use std::io::{Read, Write};
 use tc_entry::Sequence;
 use tc_history::{Header, TakesHistories, read_history_into};
 use tc_table::{Entry, NoMemory, Verdict};
-
-/// How many bytes a history text may have.
-const LIMIT: usize = 16_777_216;
 
 /// What is printed for histories, up to the first that is not legal.
 #[derive(Drop)]
@@ -109,6 +107,6 @@ pub fn check<R: Read, W: Write>(
 ) -> Result<u8, RunFault>
     ensures { (explains : Bool) → Does (Check explains) (R.remaining reader.old) (W.contents writer.old) (W.contents writer.new) result }
 {
-    let text = read_text(alloc, reader, LIMIT)?;
+    let text = read_text(alloc, reader, HISTORY_LIMIT)?;
     write_answer(check_text(alloc, text.as_slice()), writer)
 }

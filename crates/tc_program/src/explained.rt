@@ -2,34 +2,69 @@
 ghost use Rattle.std.specs.Prelude.{◌≡◌, IfOk, OnOk};
 ghost use Rattle.tc_explain.specs.Explanation.{explanation};
 ghost use Rattle.tc_text.specs.Shown.{Shows};
-ghost use Rattle.tc_program.specs.Explained.{IsExplained, IsToldOf, notes_of, refusal_of as spec_refusal};
+ghost use Rattle.tc_program.specs.Explained.{IsExplained, IsToldOf, explains as spec_explains, notes_of, refusal_at as spec_at, refusal_by as spec_by, refusal_of as spec_refusal};
 
 use crate::fault::{RunFault, fault_line};
 use crate::outcome::Outcome;
-use crate::tell::refuse_with;
+use crate::stderr::refuse_with;
 use std::alloc::Global;
 use std::io::Write;
 use tc_command::Task;
 use tc_entry::NoMemory;
 use tc_explain::{Refusal, explain};
-use tc_text::TextFault;
+use tc_text::{TextFault, TextKind};
 
 // What the fault says of the text of the task, and the number of its line, if the task is asked to explain it.
+fn explains(task: &Task) -> bool
+    ensures { result ≡ spec_explains task.now }
+{
+    match task {
+        Task::Replay { explains } | Task::Check { explains } | Task::Report { explains, .. } => {
+            *explains
+        }
+        Task::Run(options) => options.explains,
+        Task::List(_) | Task::Explore { .. } => false,
+    }
+}
+
+// What the text of the task should be, which has a fault of this kind; a script has faults of another.
+fn refusal_by(task: &Task, kind: TextKind) -> Option<Refusal>
+    ensures { result ≡ spec_by task.now kind }
+{
+    match task {
+        Task::Replay { .. } => Some(Refusal::Moves(kind)),
+        Task::Check { .. } | Task::Report { .. } => Some(Refusal::Histories(kind)),
+        Task::Run(_) | Task::List(_) | Task::Explore { .. } => None,
+    }
+}
+
+// What the fault says of the text of the task, and the number of its line, if it is one of a line.
+fn refusal_at(task: &Task, fault: RunFault) -> Option<(Refusal, usize)>
+    ensures { result ≡ spec_at task.now fault }
+{
+    match fault {
+        RunFault::Text(TextFault::At { line, kind }) => {
+            refusal_by(task, kind).map(|refusal| (refusal, line))
+        }
+        RunFault::Script(fault) => Some((Refusal::Script(fault.kind), fault.line)),
+        RunFault::Text(TextFault::NoMemory)
+        | RunFault::TooLong
+        | RunFault::Read
+        | RunFault::Write
+        | RunFault::NoMemory
+        | RunFault::StopOn
+        | RunFault::Only => None,
+    }
+}
+
+// The same, if the task is asked to explain it.
 fn refusal_of(task: &Task, fault: RunFault) -> Option<(Refusal, usize)>
     ensures { result ≡ spec_refusal task.now fault }
 {
-    match (task, fault) {
-        (Task::Replay { explains: true }, RunFault::Text(TextFault::At { line, kind })) => {
-            Some((Refusal::Moves(kind), line))
-        }
-        (
-            Task::Check { explains: true } | Task::Report { explains: true, .. },
-            RunFault::Text(TextFault::At { line, kind }),
-        ) => Some((Refusal::Histories(kind), line)),
-        (Task::Run(options), RunFault::Script(fault)) if options.explains => {
-            Some((Refusal::Script(fault.kind), fault.line))
-        }
-        _ => None,
+    if explains(task) {
+        refusal_at(task, fault)
+    } else {
+        None
     }
 }
 

@@ -129,7 +129,13 @@ impl RunFault {
         match self {
             RunFault::Text(TextFault::At { line, .. }) => Some(*line),
             RunFault::Script(fault) => Some(fault.line),
-            _ => None,
+            RunFault::Text(TextFault::NoMemory)
+            | RunFault::TooLong
+            | RunFault::Read
+            | RunFault::Write
+            | RunFault::NoMemory
+            | RunFault::StopOn
+            | RunFault::Only => None,
         }
     }
 

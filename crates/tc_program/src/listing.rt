@@ -5,8 +5,8 @@ ghost use Rattle.tc_program.specs.Choosing.{RefusesChoice};
 ghost use Rattle.tc_program.specs.Inside.{case_line};
 ghost use Rattle.tc_program.specs.Made.{IsListed};
 
+use crate::cases::chosen_cases;
 use crate::fault::RunFault;
-use crate::jobs::chosen_cases;
 use crate::reply::Answer;
 use std::alloc::Global;
 use std::sync::Wait;

@@ -10,7 +10,7 @@ use crate::explained::refuse_text;
 use crate::fault::RunFault;
 use crate::outcome::Outcome;
 use crate::reply::Answer;
-use crate::tell::{refuse, tell};
+use crate::stderr::{refuse, tell};
 use std::alloc::Global;
 use std::io::Write;
 use tc_command::Task;

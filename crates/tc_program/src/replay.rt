@@ -9,6 +9,7 @@ ghost use Rattle.tc_report.specs.Status.{verdict_status as spec_status};
 
 use crate::fault::RunFault;
 use crate::input::read_text;
+use crate::limits::SCRIPT_LIMIT;
 use crate::made::write_answer;
 use crate::reply::Answer;
 use std::alloc::Global;
@@ -17,9 +18,6 @@ use tc_entry::Sequence;
 use tc_report::{append_verdict, verdict_status};
 use tc_table::{CaseState, NoMemory, Op, Reply, Run, Verdict};
 use tc_text::{TakesMoves, read_moves_into, write_reply};
-
-/// How many bytes a move list may have.
-const LIMIT: usize = 1_048_576;
 
 // Appends the reply's line; if memory runs out, a part of it.
 fn append_reply(out: &mut Vec<u8>, reply: Reply) -> Result<(), NoMemory>
@@ -90,6 +88,6 @@ pub fn replay<R: Read, W: Write>(
 ) -> Result<u8, RunFault>
     ensures { (explains : Bool) → Does (Replay explains) (R.remaining reader.old) (W.contents writer.old) (W.contents writer.new) result }
 {
-    let text = read_text(alloc, reader, LIMIT)?;
+    let text = read_text(alloc, reader, SCRIPT_LIMIT)?;
     write_answer(replay_text(alloc, text.as_slice()), writer)
 }

@@ -10,15 +10,15 @@ ghost use Rattle.tc_report.specs.Output.{LeavesPrefix};
 ghost use Rattle.tc_report.specs.Progress.{IsToldBy, told_text};
 ghost use Rattle.tc_report.specs.Status.{ending_status};
 ghost use Rattle.tc_report.specs.Tally.{tally_of_cases};
-ghost use Rattle.tc_program.specs.Give.{live_form as spec_form};
+ghost use Rattle.tc_program.specs.Output.{live_form as spec_form};
 ghost use Rattle.tc_program.specs.Inside.{WasTold};
 ghost use Rattle.tc_program.specs.Limits.{worker_limit};
 ghost use Rattle.tc_program.specs.Run.{IsRun, IsUnwritten};
 ghost use Rattle.tc_program.specs.Streams.{held};
 
-use crate::give::{live_form, write_results};
 use crate::outcome::Outcome;
-use crate::tell::tell_end;
+use crate::output::{live_form, write_results};
+use crate::stderr::tell_end;
 use std::alloc::Global;
 use std::io::Write;
 use std::sync::Wait;

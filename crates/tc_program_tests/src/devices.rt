@@ -11,8 +11,8 @@ use tc_command::{Form, Task};
 use tc_entry::{Name, Sequence};
 use tc_exec::CaseError;
 use tc_program::fault::{RunFault, abort_line};
-use tc_program::give::give;
 use tc_program::outcome::Outcome;
+use tc_program::output::give;
 use tc_stream::devices::{NarrowWriter, SlowReader, WriteFailure};
 
 /// The words of a task, its input, and its status.

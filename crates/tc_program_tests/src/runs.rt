@@ -9,7 +9,7 @@ use std::test::Fail;
 use std::thread::Threads;
 use std::{io, str};
 use tc_program::fault::RunFault;
-use tc_program::script::stop_word;
+use tc_program::stop_on::stop_word;
 use tc_stream::devices::SlowReader;
 use tc_verdict::Verdict;
 

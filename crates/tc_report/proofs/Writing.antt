@@ -7,8 +7,8 @@ use Rattle.std.specs.Io.KnownBytes.{Appends, Keeps}
 use Rattle.tc_stream.specs.Output.{AppendsPrefix}
 use Rattle.tc_report.specs.declared.fault.OutFault.{OutFault}
 use Rattle.tc_report.specs.declared.fault.OutFault.TheVariants as O
-use Rattle.tc_report.specs.declared.form.Form.{Form}
-use Rattle.tc_report.specs.declared.form.Form.TheVariants as F
+use Rattle.tc_report.specs.declared.live_form.LiveForm.{LiveForm}
+use Rattle.tc_report.specs.declared.live_form.LiveForm.TheVariants as F
 use Rattle.tc_report.specs.declared.results.CampaignEnd.{CampaignEnd}
 use Rattle.tc_report.specs.declared.results.Finished.{Finished}
 use Rattle.tc_report.specs.Csv.{header_text, row_line}
@@ -59,11 +59,11 @@ pub prefix_longer : (a b : Option (List ℕ)) (xs ys : List ℕ) → AppendsPref
 prefix_longer a b xs ys p = (p.0, omega (arith, p.1, length-append xs ys), subst (Appends a b) (sym (take-append-le p.0 xs ys p.1)) p.2)
 
 -- a test case more
-pub so_far_more : (form : Form) (fs : List Finished) (f : Finished) → text_so_far form fs ++ part_text form f ≡ text_so_far form (fs ++ f ∷ [])
+pub so_far_more : (form : LiveForm) (fs : List Finished) (f : Finished) → text_so_far form fs ++ part_text form f ≡ text_so_far form (fs ++ f ∷ [])
 so_far_more form fs f = flat_map_more (part_text form) _ fs f
 
 -- the whole text is what comes up to the last test case, and what follows it
-pub whole_text : (form : Form) (fs : List Finished) (ending : CampaignEnd)
+pub whole_text : (form : LiveForm) (fs : List Finished) (ending : CampaignEnd)
     → text_so_far form fs ++ closing_text form (tally_of_cases fs) ending ≡ form_text form (record { finished = fs; ending = ending })
 whole_text F.Text fs ending = refl
 whole_text F.Csv fs ending = append-nil _ ∙ ap (λ l. header_text ++ l) (sym (flat_map-map row_line case_summary fs))

@@ -22,7 +22,8 @@ ending_line ending = ending_text ending ++ (10 ∷ [])
 -- whether a case was refused
 abbrev pub is_aborted : CampaignEnd → Bool
 is_aborted (E.Aborted name why) = true
-is_aborted ending = false
+is_aborted E.Complete = false
+is_aborted (E.StoppedAfter name) = false
 
 -- the line on standard error that says so
 abbrev pub aborted_line : List ℕ → CaseError → List ℕ
@@ -31,4 +32,5 @@ aborted_line name why = codes "ttrun: " ++ (aborted_text name why ++ (10 ∷ [])
 -- that line, if a case was refused
 abbrev pub abort_text : CampaignEnd → List ℕ
 abort_text (E.Aborted name why) = aborted_line name why
-abort_text ending = []
+abort_text E.Complete = []
+abort_text (E.StoppedAfter name) = []

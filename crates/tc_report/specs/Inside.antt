@@ -5,7 +5,7 @@ use Rattle.csv.specs.declared.writer.Writer.{Writer}
 use Rattle.csv.specs.Writing.{default_writer, writer_setup, fields_written, has_written, writer_under, writer_pending}
 use Rattle.tc_report.specs.Csv.{header_text}
 use Rattle.std.specs.List.{flat_map, join_with_byte}
-use Rattle.tc_report.specs.declared.form.Form.{Form}
+use Rattle.tc_report.specs.declared.live_form.LiveForm.{LiveForm}
 use Rattle.tc_report.specs.declared.results.Finished.{Finished}
 use Rattle.tc_report.specs.Live.{opening_text, part_text}
 
@@ -29,5 +29,5 @@ abbrev pub csv_line : List (List ℕ) → List ℕ
 csv_line fields = join_with_byte 44 fields ++ (10 ∷ [])
 
 -- what of a campaign's text comes up to the last of these test cases
-abbrev pub text_so_far : Form → List Finished → List ℕ
+abbrev pub text_so_far : LiveForm → List Finished → List ℕ
 text_so_far form fs = opening_text form ++ flat_map (part_text form) fs

@@ -5,8 +5,8 @@ use Rattle.tc_verdict.specs.declared.verdict.Verdict.{Verdict}
 use Rattle.tc_verdict.specs.declared.verdict.Verdict.TheVariants as V
 use Rattle.tc_verdict.specs.Verdict.{level_of, worse}
 use Rattle.tc_report.specs.declared.fault.OutFault.{OutFault}
-use Rattle.tc_report.specs.declared.form.Form.{Form}
-use Rattle.tc_report.specs.declared.form.Form.TheVariants as F
+use Rattle.tc_report.specs.declared.live_form.LiveForm.{LiveForm}
+use Rattle.tc_report.specs.declared.live_form.LiveForm.TheVariants as F
 use Rattle.tc_report.specs.declared.live.LiveWriter.{LiveWriter}
 use Rattle.tc_report.specs.declared.results.CampaignEnd.{CampaignEnd}
 use Rattle.tc_report.specs.declared.results.Finished.{Finished}
@@ -21,24 +21,24 @@ use Rattle.tc_report.specs.Summary.{case_summary}
 use Rattle.tc_report.specs.Tally.{tally_line}
 
 -- the text of the results in this form
-abbrev pub form_text : Form → Results → List ℕ
+abbrev pub form_text : LiveForm → Results → List ℕ
 form_text F.Text r = report_text r
 form_text F.Csv r = csv_of (map case_summary r.finished)
 form_text F.History r = histories_text r
 
 -- what of it is before the test cases
-abbrev pub opening_text : Form → List ℕ
+abbrev pub opening_text : LiveForm → List ℕ
 opening_text F.Csv = header_text
 opening_text form = []
 
 -- what of it says one test case
-abbrev pub part_text : Form → Finished → List ℕ
+abbrev pub part_text : LiveForm → Finished → List ℕ
 part_text F.Text f = case_text f
 part_text F.Csv f = row_line (case_summary f)
 part_text F.History f = case_history f
 
 -- what of it is after the test cases
-abbrev pub closing_text : Form → Tally → CampaignEnd → List ℕ
+abbrev pub closing_text : LiveForm → Tally → CampaignEnd → List ℕ
 closing_text F.Text tally ending = tally_line tally ++ ending_line ending
 closing_text form tally ending = []
 
@@ -61,7 +61,7 @@ tally_with t v = record {
 -- the state of a live writer: its form, what its writer holds, the test cases that it has counted, their worst verdict,
 -- and why it has ended the campaign
 pub record LiveState : Type 0 where
-  pub form : Form
+  pub form : LiveForm
   pub out : Option (List ℕ)
   pub tally : Tally
   pub worst : Verdict

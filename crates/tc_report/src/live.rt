@@ -11,8 +11,8 @@ ghost use Rattle.tc_report.specs.Tally.{tally_of_cases};
 use crate::counts::{no_cases, with_case};
 use crate::ending::append_ending;
 use crate::fault::OutFault;
-use crate::form::Form;
 use crate::histories::append_history;
+use crate::live_form::LiveForm;
 use crate::observer::Observer;
 use crate::output::write_flushed;
 use crate::records::{case_row, csv_header};
@@ -25,24 +25,24 @@ use tc_entry::{NoMemory, Verdict};
 use tc_verdict::worse_of;
 
 // What is before the test cases.
-fn opening_text(alloc: Global, form: Form) -> Result<Vec<u8>, NoMemory>
+fn opening_text(alloc: Global, form: LiveForm) -> Result<Vec<u8>, NoMemory>
     ensures { IfOk result (λ v. v.items ≡ spec_opening form) }
 {
     match form {
-        Form::Csv => csv_header(alloc),
-        Form::Text | Form::History => Ok(Vec::new(alloc)),
+        LiveForm::Csv => csv_header(alloc),
+        LiveForm::Text | LiveForm::History => Ok(Vec::new(alloc)),
     }
 }
 
 // What says one test case.
-fn part_text(alloc: Global, form: Form, case: &Finished) -> Result<Vec<u8>, NoMemory>
+fn part_text(alloc: Global, form: LiveForm, case: &Finished) -> Result<Vec<u8>, NoMemory>
     ensures { IfOk result (λ v. v.items ≡ spec_part form case.now) }
 {
     let mut text = Vec::new(alloc);
     match form {
-        Form::Text => append_case(&mut text, case)?,
-        Form::Csv => return case_row(alloc, case),
-        Form::History => append_history(&mut text, case)?,
+        LiveForm::Text => append_case(&mut text, case)?,
+        LiveForm::Csv => return case_row(alloc, case),
+        LiveForm::History => append_history(&mut text, case)?,
     }
     Ok(text)
 }
@@ -50,14 +50,14 @@ fn part_text(alloc: Global, form: Form, case: &Finished) -> Result<Vec<u8>, NoMe
 // What follows the test cases.
 fn closing_text(
     alloc: Global,
-    form: Form,
+    form: LiveForm,
     tally: &Tally,
     ending: &CampaignEnd,
 ) -> Result<Vec<u8>, NoMemory>
     ensures { IfOk result (λ v. v.items ≡ spec_closing form tally.now ending.now) }
 {
     let mut text = Vec::new(alloc);
-    if form == Form::Text {
+    if form == LiveForm::Text {
         append_tally(&mut text, tally)?;
         append_ending(&mut text, ending)?;
     }
@@ -71,7 +71,7 @@ fn closing_text(
 pub struct LiveWriter<'a, W: Write> {
     alloc: Global,
     /// The form of the text.
-    pub form: Form,
+    pub form: LiveForm,
     /// What is written to.
     pub writer: &'a mut W,
     /// The test cases that were written.
@@ -84,7 +84,7 @@ pub struct LiveWriter<'a, W: Write> {
 
 impl<'a, W: Write> LiveWriter<'a, W> {
     /// Writes to this writer in this form; nothing is written so far.
-    pub fn new(alloc: Global, form: Form, writer: &'a mut W) -> LiveWriter<'a, W>
+    pub fn new(alloc: Global, form: LiveForm, writer: &'a mut W) -> LiveWriter<'a, W>
         ensures same { result.writer.ghost_name ≡ writer.entry.ghost_name }
         ensures now { result.writer.now ≡ writer.old }
         ensures form { result.form ≡ form }

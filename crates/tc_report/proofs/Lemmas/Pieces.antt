@@ -10,7 +10,7 @@ use Rattle.tc_verdict.specs.declared.verdict.Verdict.TheVariants as V
 use Rattle.tc_verdict.specs.Verdict.{level_of, worse}
 use Rattle.tc_stream.specs.Output.{AppendsPrefix}
 use Rattle.tc_report.specs.declared.fault.OutFault.{OutFault}
-use Rattle.tc_report.specs.declared.form.Form.{Form}
+use Rattle.tc_report.specs.declared.live_form.LiveForm.{LiveForm}
 use Rattle.tc_report.specs.declared.results.CampaignEnd.{CampaignEnd}
 use Rattle.tc_report.specs.declared.results.Finished.{Finished}
 use Rattle.tc_report.specs.Live.{LiveState, IsWritten, Writes, closing_text, form_text, one_if, opening_text, part_text, tally_with}
@@ -42,14 +42,14 @@ tally_more fs f =
     rw (length-append fs (f ∷ []), cases_more V.None fs f, cases_more V.Pass fs f, cases_more V.Inconc fs f, cases_more V.Fail fs f, cases_more V.Error fs f) refl
 
 -- the state of a writer that held `start`, when these test cases were written
-pub record IsAt (form : Form) (start : Option (List ℕ)) (fs : List Finished) (state : LiveState) : Type 0 where
+pub record IsAt (form : LiveForm) (start : Option (List ℕ)) (fs : List Finished) (state : LiveState) : Type 0 where
   pub form_is : state.form ≡ form
   pub out : Appends start state.out (text_so_far form fs)
   pub tally : state.tally ≡ tally_of_cases fs
   pub worst_is : state.worst ≡ worst_of (map case_summary fs)
 
 -- where it is when only what is before the test cases was written
-pub begun : (form : Form) (start : Option (List ℕ)) (state : LiveState) → state.form ≡ form → Appends start state.out (opening_text form)
+pub begun : (form : LiveForm) (start : Option (List ℕ)) (state : LiveState) → state.form ≡ form → Appends start state.out (opening_text form)
     → state.tally ≡ tally_of_cases [] → state.worst ≡ V.None → IsAt form start [] state
 begun form start state same out tally worst = record {
   form_is = same;
@@ -59,19 +59,19 @@ begun form start state same out tally worst = record {
 }
 
 -- a prefix of what comes up to some test case is one of the whole text
-cut_left : (form : Form) (start after : Option (List ℕ)) (fs : List Finished) (ending : CampaignEnd) → AppendsPrefix start after (text_so_far form fs)
+cut_left : (form : LiveForm) (start after : Option (List ℕ)) (fs : List Finished) (ending : CampaignEnd) → AppendsPrefix start after (text_so_far form fs)
     → AppendsPrefix start after (form_text form (record { finished = fs; ending = ending }))
 cut_left form start after fs ending left =
     subst (AppendsPrefix start after) (whole_text form fs ending) (prefix_longer start after (text_so_far form fs) (closing_text form (tally_of_cases fs) ending) left)
 
 -- what is before the test cases was not written whole
-pub opening_left : (form : Form) (start after : Option (List ℕ)) (fault : OutFault) (ending : CampaignEnd) → LeavesPrefix start after (opening_text form) fault
+pub opening_left : (form : LiveForm) (start after : Option (List ℕ)) (fault : OutFault) (ending : CampaignEnd) → LeavesPrefix start after (opening_text form) fault
     → AppendsPrefix start after (form_text form (record { finished = []; ending = ending }))
 opening_left form start after fault ending left =
     cut_left form start after [] ending
     (subst (AppendsPrefix start after) (sym (append-nil (opening_text form))) (left_is_prefix start after (opening_text form) fault left))
 
-one_more : (form : Form) (start : Option (List ℕ)) (fs : List Finished) (f : Finished) (before after : LiveState)
+one_more : (form : LiveForm) (start : Option (List ℕ)) (fs : List Finished) (f : Finished) (before after : LiveState)
     → IsAt form start fs before → IsWritten before f after → IsAt form start (fs ++ f ∷ []) after
 one_more form start fs f before after at one = record {
   form_is = one.form ∙ at.form_is;
@@ -87,7 +87,7 @@ module _ {O : Type 0} (state : O → LiveState) (name : O → GName) where
   Takes before f after goes_on = Writes (state before) f (state after) goes_on × (name after ≡ name before)
 
   -- the test cases that were taken were written
-  pub all_at : (form : Form) (start : Option (List ℕ)) (done fs : List Finished) (before after : O)
+  pub all_at : (form : LiveForm) (start : Option (List ℕ)) (done fs : List Finished) (before after : O)
       → IsAt form start done (state before) → AreTaken Takes fs before after → IsAt form start (done ++ fs) (state after) × (name after ≡ name before)
   all_at form start done [] before after at same = (
     subst (λ l. IsAt form start l (state after)) (sym (append-nil done)) (subst (λ o. IsAt form start done (state o)) (sym same) at),
@@ -98,7 +98,7 @@ module _ {O : Type 0} (state : O → LiveState) (name : O → GName) where
       (subst (λ l. IsAt form start l (state after)) (append_assoc done (f ∷ []) fs) rest.0, rest.1 ∙ taken.1.1)
 
   -- if the writer ended the campaign, a prefix of the text is out
-  pub ended_at : (form : Form) (start : Option (List ℕ)) (fs : List Finished) (before after : O)
+  pub ended_at : (form : LiveForm) (start : Option (List ℕ)) (fs : List Finished) (before after : O)
       → IsAt form start [] (state before) → IsEndedAt Takes fs before after
       → AppendsPrefix start (state after).out (text_so_far form fs) × (name after ≡ name before)
   ended_at form start fs before after at ended =
@@ -112,7 +112,7 @@ module _ {O : Type 0} (state : O → LiveState) (name : O → GName) where
         ended.at_last.1 ∙ others.1,
       )
 
-  module _ (form : Form) (start : Option (List ℕ)) (before after : O) (first : IsAt form start [] (state before)) (finished : List Finished) where
+  module _ (form : LiveForm) (start : Option (List ℕ)) (before after : O) (first : IsAt form start [] (state before)) (finished : List Finished) where
     -- if it ended the campaign, a prefix of the text of the results is out
     pub case_left : (ending : CampaignEnd) → IsEndedAt Takes finished before after
         → AppendsPrefix start (state after).out (form_text form (record { finished = finished; ending = ending }))

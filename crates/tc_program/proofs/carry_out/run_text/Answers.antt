@@ -3,7 +3,7 @@ use Rattle.tc_program.specs.Fault.{line_of}
 use Rattle.tc_program.specs.Inside.{Refuses}
 use Rattle.tc_program.specs.Program.{IsDone}
 use Rattle.tc_program.specs.Streams.{held}
-use Rattle.tc_program.specs.Tell.{IsRefusal}
+use Rattle.tc_program.specs.Stderr.{IsRefusal}
 use Rattle.tc_program.proofs.Doing.{keeps_same}
 use Rattle.tc_program.proofs.Scripted.{even, run_done, run_left}
 use Rattle.tc_program.proofs.carry_out.run_text.Goals as goal

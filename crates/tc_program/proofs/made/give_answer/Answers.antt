@@ -3,7 +3,7 @@ use Rattle.std.specs.Io.KnownBytes.{Appends}
 use Rattle.tc_stream.specs.Output.{AppendsPrefix}
 use Rattle.tc_program.specs.Fault.{line_of}
 use Rattle.tc_program.specs.Program.{IsDone}
-use Rattle.tc_program.specs.Tell.{IsRefusal, IsTold}
+use Rattle.tc_program.specs.Stderr.{IsRefusal, IsTold}
 use Rattle.tc_program.proofs.made.give_answer.Goals as goal
 
 pub returns-in-Ok : goal.returns-in-Ok

@@ -1,7 +1,7 @@
 use Rattle.std.proofs.Common.{◌≡◌, true, false}
 use Rattle.std.specs.Prelude.{is_some}
 use Rattle.tc_program.specs.Inside.{judges_legal}
-use Rattle.tc_program.proofs.Reporting.{illegal_next, legal_next}
+use Rattle.tc_program.proofs.Reporting.{illegal_next, illegal_passed, legal_next}
 use Rattle.tc_program.proofs.report.ReportingTakesHistories.close.Goals as goal
 
 pub returns-in_ok-push : goal.returns-in_ok-push
@@ -26,3 +26,10 @@ returns-else-is_legal c blocks b first line verdict played stood =
     let illegal : judges_legal c.judge-judgement.result ≡ false = cc in
     illegal_next c.args.self.now.illegal blocks b c.judge-judgement.result c.args.self.now.summaries.items c.args.self.now.summaries.items
     none stood (c.judge-judgement.ensures b played first line verdict) illegal
+
+pub returns-then-is_some : goal.returns-then-is_some
+returns-then-is_some c blocks b first line verdict played stood =
+    let said = c.is_some.ensures in
+    let tested = c.if-is_some.true in
+    let some : is_some c.args.self.now.illegal ≡ true = cc in
+    illegal_passed c.args.self.now.illegal blocks b c.args.self.now.summaries.items some stood

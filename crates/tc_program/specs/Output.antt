@@ -1,8 +1,8 @@
 -- What `run` writes.
 use Rattle.std.specs.Prelude.{ℕ, ◌≡◌, Bool, true, false, List, Option, Some, None}
 use Rattle.tc_report.specs.declared.results.Results.{Results}
-use Rattle.tc_report.specs.declared.form.Form.{Form as ReportForm}
-use Rattle.tc_report.specs.declared.form.Form.TheVariants as ReportForms
+use Rattle.tc_report.specs.declared.live_form.LiveForm.{LiveForm}
+use Rattle.tc_report.specs.declared.live_form.LiveForm.TheVariants as LiveForms
 use Rattle.tc_report.specs.Live.{form_text}
 use Rattle.tc_report.specs.Output.{LeavesPrefix}
 use Rattle.tc_report.specs.declared.fault.OutFault.{OutFault}
@@ -16,18 +16,18 @@ use Rattle.tc_program.specs.Fault.{of_output}
 
 -- the form in which test cases are written as they finish, if it is asked for that they are; a JUnit report has none,
 -- since its head counts all of them
-abbrev pub live_form : Bool → Form → Option ReportForm
+abbrev pub live_form : Bool → Form → Option LiveForm
 live_form false form = None
-live_form true Forms.Text = Some ReportForms.Text
-live_form true Forms.Csv = Some ReportForms.Csv
-live_form true Forms.History = Some ReportForms.History
+live_form true Forms.Text = Some LiveForms.Text
+live_form true Forms.Csv = Some LiveForms.Csv
+live_form true Forms.History = Some LiveForms.History
 live_form true Forms.Junit = None
 
 -- the text of the results in this form
 abbrev pub text_of : Form → Results → List ℕ
-text_of Forms.Text r = form_text ReportForms.Text r
-text_of Forms.Csv r = form_text ReportForms.Csv r
-text_of Forms.History r = form_text ReportForms.History r
+text_of Forms.Text r = form_text LiveForms.Text r
+text_of Forms.Csv r = form_text LiveForms.Csv r
+text_of Forms.History r = form_text LiveForms.History r
 text_of Forms.Junit r = junit_of VERSION.now (results_summaries r)
 
 -- why a text was not written whole: without memory nothing was, if the writer failed a prefix; there is no other fault

@@ -1,8 +1,8 @@
-//! The forms of a campaign's text.
+//! The forms in which results can be written as test cases finish.
 
-/// In which form the results of a campaign are written.
+/// In which form a `LiveWriter` writes the results of a campaign.
 #[derive(Clone, Copy, Debug, PartialEq, Eq)]
-pub enum Form {
+pub enum LiveForm {
     /// The text report.
     Text,
     /// The CSV report.

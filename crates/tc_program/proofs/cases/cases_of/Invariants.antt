@@ -1,7 +1,7 @@
 use Rattle.std.proofs.Common.{length}
 use Rattle.tc_program.specs.Inside.{IsCaseOf}
 use Rattle.tc_campaign.specs.Inside.{AreDone}
-use Rattle.tc_program.proofs.jobs.cases_of.Given as goal
+use Rattle.tc_program.proofs.cases.cases_of.Given as goal
 
 abbrev pub invariant-loop-name : goal.invariant-loop-name
 invariant-loop-name g l = AreDone IsCaseOf l.fn.campaign l.campaign l.cases.items

@@ -1,22 +1,22 @@
-//! The test cases of a campaign, ready to be run.
-ghost use Rattle.std.specs.Prelude.{IfOk, IfErr};
+//! The chosen test cases of a script, ready to be run.
+ghost use Rattle.std.specs.Prelude.{◌≡◌, IfOk, IfErr, true};
 ghost use Rattle.std.specs.List.{AllZip};
+ghost use Rattle.tc_campaign.specs.Choosing.{case_name, chosen, have_names};
 ghost use Rattle.tc_program.specs.Choosing.{RefusesChoice};
-ghost use Rattle.tc_program.specs.Inside.{AreReady, IsCaseOf};
+ghost use Rattle.tc_program.specs.Inside.{AreReady, IsCaseOf, RefusesNames};
 
-use crate::choosing::choose_cases;
 use crate::fault::RunFault;
 use crate::script::read_script;
 use std::alloc::Global;
 use std::sync::Wait;
 use tc_behaviour::ScriptJob;
-use tc_campaign::Case;
+use tc_campaign::{Case, choose, have_all};
 use tc_command::Choice;
 use tc_entry::Name;
 use tc_script::{Campaign, CaseScript};
 use tc_verdict::NoMemory;
 
-/// The test case of these scripts.
+// The test case of these scripts.
 fn case_of<R: Wait + Copy + Send + 'static>(
     rt: &R,
     alloc: Global,
@@ -38,7 +38,7 @@ fn case_of<R: Wait + Copy + Send + 'static>(
     Ok(case)
 }
 
-/// The test cases of a campaign.
+// The test cases of a campaign.
 fn cases_of<R: Wait + Copy + Send + 'static>(
     rt: &R,
     alloc: Global,
@@ -52,6 +52,24 @@ fn cases_of<R: Wait + Copy + Send + 'static>(
         cases.push(case_of(rt, alloc, name, scripts)?)?;
     }
     Ok(cases)
+}
+
+// The test cases of the names that are asked for, in their order, and of these those of the shard. Each name has to be that
+// of a test case.
+fn choose_cases<B: Drop>(
+    alloc: Global,
+    cases: Vec<Case<B>>,
+    choice: &Choice,
+) -> Result<Vec<Case<B>>, RunFault>
+    ensures chosen { IfOk result (λ r. r.items ≡ chosen case_name choice.now.only.items choice.now.shard cases.items) }
+    ensures named { IfOk result (λ r. have_names case_name choice.now.only.items cases.items ≡ true) }
+    ensures refused { IfErr result (RefusesNames (have_names case_name choice.now.only.items cases.items)) }
+{
+    let only = choice.only.as_slice();
+    if !have_all(cases.as_slice(), only) {
+        return Err(RunFault::Only);
+    }
+    Ok(choose(alloc, cases, only, choice.shard)?)
 }
 
 /// The chosen test cases of the campaign that the text spells.

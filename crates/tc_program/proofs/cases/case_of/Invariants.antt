@@ -1,7 +1,7 @@
 use Rattle.std.proofs.Common.{◌≡◌, ◌++◌, length}
 use Rattle.tc_program.specs.Inside.{names_of}
 use Rattle.tc_program.specs.Scripted.{scripts_of}
-use Rattle.tc_program.proofs.jobs.case_of.Given as goal
+use Rattle.tc_program.proofs.cases.case_of.Given as goal
 
 -- what the test case has so far, and what is left, are the behaviours as they were given
 abbrev pub invariant-loop-behaviour : goal.invariant-loop-behaviour

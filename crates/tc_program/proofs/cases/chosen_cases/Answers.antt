@@ -1,7 +1,7 @@
 use Rattle.std.proofs.lemmas.Result.{IfErr-weaker}
 use Rattle.tc_program.proofs.Chosen.{ready, unready}
 use Rattle.tc_program.proofs.Doing.{both_ok}
-use Rattle.tc_program.proofs.jobs.chosen_cases.Goals as goal
+use Rattle.tc_program.proofs.cases.chosen_cases.Goals as goal
 
 pub returns-clause-chosen : goal.returns-clause-chosen
 returns-clause-chosen g c =

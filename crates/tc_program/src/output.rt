@@ -3,29 +3,27 @@ ghost use Rattle.std.specs.Prelude.{◌≡◌, IfOk, IfErr, OnOk};
 ghost use Rattle.std.specs.Io.KnownBytes.{Appends};
 ghost use Rattle.tc_report.specs.Status.{results_status};
 ghost use Rattle.tc_report.specs.Output.{LeavesPrefix};
-ghost use Rattle.tc_program.specs.Give.{LeavesUnwritten, live_form as spec_form, text_of};
+ghost use Rattle.tc_program.specs.Output.{LeavesUnwritten, live_form as spec_form, text_of};
 
 use crate::fault::RunFault;
 use std::alloc::Global;
 use std::io::Write;
-use tc_campaign::{
-    Form as ReportForm, OutFault, Results, status_of, write_csv, write_history, write_text,
-};
+use tc_campaign::{LiveForm, OutFault, Results, status_of, write_csv, write_history, write_text};
 use tc_command::{Form, VERSION};
 use tc_report::write_junit;
 
 /// The form in which test cases are written as they finish, if it is asked for that they are; a JUnit report has none,
 /// since its head counts all of them.
-pub(crate) fn live_form(live: bool, form: Form) -> Option<ReportForm>
+pub(crate) fn live_form(live: bool, form: Form) -> Option<LiveForm>
     ensures { result ≡ spec_form live form }
 {
     if !live {
         return None;
     }
     match form {
-        Form::Text => Some(ReportForm::Text),
-        Form::Csv => Some(ReportForm::Csv),
-        Form::History => Some(ReportForm::History),
+        Form::Text => Some(LiveForm::Text),
+        Form::Csv => Some(LiveForm::Csv),
+        Form::History => Some(LiveForm::History),
         Form::Junit => None,
     }
 }
