@@ -1,6 +1,6 @@
 #!/usr/bin/env bash
-# Makes all figures anew, or those of the folders that are named, one folder after the other: bench/run.sh [FOLDER..]
-# Each stands below the state of the sources, the toolchains, and the load of the machine before and behind it.
+# Makes all figures again, or those of the folders that are named, one folder after the other: bench/run.sh [FOLDER..]
+# Before each come the state of the sources, the toolchains and the load of the machine, and after it the load again.
 set -u
 here=$(cd "$(dirname "${BASH_SOURCE[0]}")" && pwd)
 top=$here/..
