@@ -7,6 +7,8 @@ mod board;
 #[cfg(test)]
 mod checks;
 #[cfg(test)]
+mod deciding;
+#[cfg(test)]
 mod entries;
 #[cfg(test)]
 mod evidence;

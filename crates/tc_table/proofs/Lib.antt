@@ -7,6 +7,7 @@ pub mod Opening
 pub mod Settled
 pub mod Runs
 pub mod Counting
+pub mod Decided
 pub mod Determined
 pub mod Named
 pub mod Elsewhere

@@ -105,7 +105,7 @@ local_same : (past : List Entry) (c : ℕ) → local (map unnamed past) c ≡ lo
 unfolding local
 local_same past c = rw (verdicts_same past c)
 
-map_same : {A B : Type 0} (f g : A → B) (xs : List A) → ((x : A) → f x ≡ g x) → map f xs ≡ map g xs
+pub map_same : {A B : Type 0} (f g : A → B) (xs : List A) → ((x : A) → f x ≡ g x) → map f xs ≡ map g xs
 map_same f g [] h = refl
 map_same f g (x ∷ xs) h = rw (h x, map_same f g xs h)
 

@@ -10,6 +10,7 @@ pub mod Legal
 pub mod Laws
 pub mod WorkedCases
 pub mod Check
+pub mod Deciding
 pub mod Case
 pub mod Standing
 pub mod Inside

@@ -5,6 +5,7 @@ mod awaited;
 mod check;
 mod component_state;
 mod component_states;
+mod deciding;
 mod ending;
 mod entries;
 pub mod laws;
@@ -16,6 +17,7 @@ mod table;
 
 pub use awaited::Awaited;
 pub use check::{CheckFault, replay, replay_check};
+pub use deciding::{component_of, deciding_entry, name_of};
 pub use ending::ends_pass;
 pub use entries::{created, ends_case, is_alive_create, is_comp, started_on};
 pub use locals::locals_of;

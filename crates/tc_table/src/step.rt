@@ -58,7 +58,7 @@ fn next_excused(start: Option<Run>, outside: bool, phase: Phase, excused: bool) 
     }
 }
 
-fn next_local(op: &Op, reply: Reply, local: Verdict) -> Verdict
+pub fn next_local(op: &Op, reply: Reply, local: Verdict) -> Verdict
     ensures { result ≡ step.next_local (verdicts.gives op.now reply) local }
 {
     match reply {
