@@ -38,6 +38,7 @@ WITHOUT_ALLOCATOR = (
     "WordFault::text", "Step::operation", "Step::is_bound", "Place::is_bound", "Place::map", "GroupPlace::map", "TargetPlace::map",
     "Places::new", "Places::push", "Places::as_slice", "Script::is_script", "ScriptKind::text", "read_reference", "is_comment", "is_word",
     "Keyword::text", "read_keyword", "read_verdict", "tc_line::read_name", "Lines::new", "Lines::next", "awaited_line",
+    "deciding_entry", "component_of", "name_of",
 )
 # These take no memory, and are not made with every growth refused by themselves.
 UNTRIED: Tuple[Exempt, ...] = (

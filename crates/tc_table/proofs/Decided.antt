@@ -1,5 +1,5 @@
 -- What the deciding entry says of the overall verdict.
-use Rattle.std.proofs.Common.{ℕ, suc, ◌≡◌, ◌≢◌, ◌+◌, ◌<◌, ◌≤◌, ◌↔◌, ◌==◌, ◌||◌, if◌then◌else◌, nat_lt, Bool, true, false, Option, Some, None, List, [], ◌∷◌, ◌++◌, IfSome, length, map, take, get_or, reverse, refl, ap, subst, sym, ◌∙◌, arith, length-append}
+use Rattle.std.proofs.Common.{ℕ, ◌≡◌, ◌+◌, ◌<◌, ◌≤◌, ◌↔◌, ◌==◌, ◌||◌, if◌then◌else◌, nat_lt, Bool, true, false, Option, Some, None, List, [], ◌∷◌, ◌++◌, IfSome, length, map, take, get_or, reverse, refl, ap, subst, sym, ◌∙◌, arith, length-append}
 use Rattle.std.specs.Option.{MatchOption}
 use Rattle.std.specs.List.{flat_map}
 use Rattle.std.proofs.lemmas.Bool.Decides.{nat_tests}
@@ -187,7 +187,7 @@ unchanged n past e legal none = by_made (created e.op e.reply)
     by_made None = same (comps past)
     by_made (Some d) = by_test d (is_in d.0 (comps past)) refl
 
--- an entry that gives a verdict makes no component, its caller goes on, and it gives one alone
+-- an entry that gives a verdict makes no component, gives only one, and its reply is not Ended
 
 makes_none : (op : Op) (reply : Reply) (v : Verdict) (vs : List Verdict) → gives op reply ≡ v ∷ vs → created op reply ≡ None
 makes_none (O.Create alive name) (R.Made c) v vs h = absurd cc
@@ -286,10 +286,10 @@ decided_more xs i x w w' o o' h is before place within step choice =
     let worst_is : w' ≡ worst_given (x ∷ past) = step ∙ (ap (next_local (gives x.op x.reply)) before ∙ sym (given_more x past)) in
     let long : length past ≡ i = length-reverse (take i xs) ∙ length-take-le i xs (omega arith) in
     let same : o' ≡ deciding (x ∷ past) =
-        choice ∙ (ap (λ u. if nat_lt (level_of u) (level_of w') then Some i else o) before
-        ∙ (ap (λ u. if nat_lt (level_of (worst_given past)) (level_of u) then Some i else o) worst_is
-        ∙ (ap (λ k. if nat_lt (level_of (worst_given past)) (level_of (worst_given (x ∷ past))) then Some k else o) (sym long)
-        ∙ ap (λ p. if nat_lt (level_of (worst_given past)) (level_of (worst_given (x ∷ past))) then Some (length past) else p) place))) in (
+    choice ∙ (ap (λ u. if nat_lt (level_of u) (level_of w') then Some i else o) before
+    ∙ (ap (λ u. if nat_lt (level_of (worst_given past)) (level_of u) then Some i else o) worst_is
+    ∙ (ap (λ k. if nat_lt (level_of (worst_given past)) (level_of (worst_given (x ∷ past))) then Some k else o) (sym long)
+    ∙ ap (λ p. if nat_lt (level_of (worst_given past)) (level_of (worst_given (x ∷ past))) then Some (length past) else p) place))) in (
       worst_is ∙ ap worst_given (sym next),
       same ∙ ap deciding (sym next),
       subst (λ p. IfSome p (λ at. at < i + 1)) (sym choice) (within_more (nat_lt (level_of w) (level_of w')) i o within),
