@@ -18,11 +18,11 @@ use Rattle.tc_evidence.specs.Laws.{HistoriesAreRead, kind_of, of_history}
 record IsKindOf (f n : ℕ) (k : Kind) : Type 0 where
   words : kind_text k ≡ format_text f
   format : format_of k ≡ f
-  few : k ≡ K.History1 → n ≤ 64
+  few : told.IsFormat (format_of k) n
 
 kind_is : (f n : ℕ) → told.IsFormat f n → IsKindOf f n (kind_of f)
-kind_is f n (inl one) = rw one.0 (record { words = refl; format = refl; few = λ _. one.1 })
-kind_is f n (inr two) = rw two (record { words = refl; format = refl; few = λ e. absurd cc })
+kind_is f n (inl one) = rw one.0 (record { words = refl; format = refl; few = inl (refl, one.1) })
+kind_is f n (inr two) = rw two (record { words = refl; format = refl; few = inr refl })
 
 inside_lines : (es : List Entry) → map line_text (map L.Entry es) ≡ map entry_text es
 inside_lines [] = refl

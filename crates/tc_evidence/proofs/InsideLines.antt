@@ -15,8 +15,7 @@ use Rattle.tc_evidence.specs.declared.line.Line.{Line}
 use Rattle.tc_evidence.specs.Line.{line_text}
 use Rattle.tc_evidence.specs.Block.{header_text}
 use Rattle.tc_evidence.specs.Text.{AreLines, IsBlock, IsHeader, IsLine, block_lines}
-use Rattle.tc_evidence.specs.Inside.{AreTaken, IsNext, IsNone}
-use Rattle.tc_evidence.specs.OneBlock.{IsBadInside, IsBadStart, IsBlockFault, IsCutInside, IsInsideFault, IsTaken}
+use Rattle.tc_evidence.specs.Inside.{AreTaken, IsBadInside, IsBadStart, IsBlockFault, IsCutInside, IsInsideFault, IsNext, IsNone, IsTaken}
 use Rattle.tc_evidence.proofs.Notes.{line_no_end}
 
 -- the first line is no last line of a block

@@ -4,6 +4,7 @@ pub mod Histories
 pub mod InsideLines
 pub mod Judged
 pub mod Lemmas
+pub mod Meeting
 pub mod NextLines
 pub mod Notes
 pub mod Texts

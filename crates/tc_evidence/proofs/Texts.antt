@@ -11,7 +11,7 @@ use Rattle.tc_evidence.specs.declared.block.Block.{Block}
 use Rattle.tc_evidence.specs.Line.{line_text}
 use Rattle.tc_evidence.specs.Block.{header_text}
 use Rattle.tc_evidence.specs.Text.{AreBlocks, AreEvidence, IsBlock, IsEvidenceFault, all_lines, block_lines, open_lines}
-use Rattle.tc_evidence.specs.OneBlock.{IsBlockFault, IsTaken}
+use Rattle.tc_evidence.specs.Inside.{IsBlockFault, IsTaken}
 
 -- the blocks are the ones read, and those that the rest spells
 pub record Others (blocks : List Block) (rest : List ℕ) (line : ℕ) (all : List Block) : Type 0 where

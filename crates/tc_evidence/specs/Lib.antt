@@ -1,9 +1,9 @@
 -- The definitions that the contracts of this crate cite.
 pub mod Sentence
 pub mod Line
+pub mod Met
 pub mod Block
 pub mod Text
-pub mod OneBlock
 pub mod Written
 pub mod Laws
 pub mod Inside

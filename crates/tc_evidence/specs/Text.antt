@@ -9,7 +9,7 @@ use Rattle.tc_text.specs.declared.fault.TextKind.{TextKind}
 use Rattle.tc_text.specs.declared.fault.TextKind.TheVariants as T
 use Rattle.tc_text.specs.Lines.{lines_of}
 use Rattle.tc_history.specs.Block.{end_text}
-use Rattle.tc_history.specs.Text.{IsEntry}
+use Rattle.tc_history.specs.Text.{IsEntry, IsFormat}
 use Rattle.tc_evidence.specs.declared.block.Block.{Block}
 use Rattle.tc_evidence.specs.declared.header.Header.{Header}
 use Rattle.tc_evidence.specs.declared.header.Kind.{Kind}
@@ -51,11 +51,11 @@ abbrev pub AreLines : Kind → ℕ → List Line → List Line → Type 0
 AreLines kind n before [] = Unit {0}
 AreLines kind n before (l ∷ ls) = IsLine kind n before l × AreLines kind n (before ++ l ∷ []) ls
 
--- a name, a number of behaviours that a case may have, and a kind for it: format 1 of histories has at most 64
+-- a name, a number of behaviours that a case may have, and a kind for it
 pub record IsHeader (h : Header) : Type 0 where
   pub name_is : IsName h.name
   pub few : IsBehaviours h.behaviours
-  pub kind_fits : h.kind ≡ K.History1 → h.behaviours ≤ 64
+  pub kind_fits : IsFormat (format_of h.kind) h.behaviours
 
 -- a block whose first line is the line of this number
 pub record IsBlock (line : ℕ) (b : Block) : Type 0 where

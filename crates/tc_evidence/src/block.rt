@@ -1,10 +1,9 @@
 //! A block of a text.
 ghost use Rattle.std.specs.Prelude.{◌≡◌, IfOk, OnOk, ◌++◌};
 ghost use Rattle.tc_evidence.specs.Line.{entries_of};
-ghost use Rattle.tc_evidence.specs.Text.{format_of as entry_format};
 ghost use Rattle.tc_evidence.specs.Laws.{history_of};
 
-use crate::header::{Header, Kind};
+use crate::header::Header;
 use crate::line::Line;
 use std::alloc::Global;
 use tc_entry::{Entry, NoMemory, Sequence, Verdict};
@@ -21,16 +20,6 @@ pub struct Block {
     pub lines: Sequence<Line>,
     /// The overall verdict.
     pub verdict: Verdict,
-}
-
-// The format of the entries of a block of this kind.
-fn format_of(kind: Kind) -> u16
-    ensures { result ≡ entry_format kind }
-{
-    match kind {
-        Kind::History1 => 1,
-        Kind::History2 | Kind::Evidence => 2,
-    }
 }
 
 // Adds a copy of each entry among the lines.
@@ -53,7 +42,7 @@ impl Block {
         let mut entries = Vec::new(alloc);
         match add_entries(&mut entries, self.lines.as_slice()) {
             Ok(()) => Ok(History {
-                format: format_of(self.header.kind),
+                format: self.header.kind.format(),
                 name: self.header.name.copy(),
                 behaviours: self.header.behaviours,
                 first_line: self.first_line,

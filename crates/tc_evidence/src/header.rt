@@ -1,19 +1,16 @@
 //! The first line of a block.
-ghost use Rattle.std.specs.Prelude.{◌≡◌, ◌<◌, ◌≤◌, ◌↔◌, ◌++◌, ◌∷◌, ℕ, List, length, IfSome, IsTrue};
-ghost use Rattle.std.specs.Fmt.{decimal};
-ghost use Rattle.tc_entry.specs.Limits.{IsBehaviours};
+ghost use Rattle.std.specs.Prelude.{◌≡◌, ◌<◌, ◌++◌, ◌∷◌, ℕ, List, length, IfSome};
 ghost use Rattle.tc_text.specs.Lines.{lines_of};
 ghost use Rattle.tc_text.specs.Inside.{TakesLine};
-ghost use Rattle.tc_text.specs.Reading.{EndsLine, Takes};
+ghost use Rattle.tc_text.specs.Reading.{Takes};
 ghost use Rattle.tc_evidence.specs.declared.header.Header.{Header as AnyHeader};
 ghost use Rattle.tc_evidence.specs.declared.header.Kind.{Kind as AnyKind};
-ghost use Rattle.tc_evidence.specs.declared.header.Kind.TheVariants as kinds;
 ghost use Rattle.tc_evidence.specs.Block.{header_text, kind_text};
-ghost use Rattle.tc_evidence.specs.Text.{IsHeader};
+ghost use Rattle.tc_evidence.specs.Text.{IsHeader, format_of};
 
 use tc_entry::Name;
-use tc_history::FORMAT_1_BEHAVIOURS;
-use tc_text::{after, as_behaviours, take_line_end, take_name, take_number};
+use tc_history::take_behaviours;
+use tc_text::{after, take_name};
 
 /// What a block is.
 #[derive(Clone, Copy, PartialEq, Eq, Debug, Drop)]
@@ -26,6 +23,18 @@ pub enum Kind {
     Evidence,
 }
 
+impl Kind {
+    /// The format of the entries; those of evidence are spelled as in format 2.
+    pub(crate) fn format(self) -> u16
+        ensures { result ≡ format_of self }
+    {
+        match self {
+            Kind::History1 => 1,
+            Kind::History2 | Kind::Evidence => 2,
+        }
+    }
+}
+
 /// What the first line of a block says.
 #[derive(Debug, Drop)]
 pub struct Header {
@@ -35,16 +44,6 @@ pub struct Header {
     pub name: Name,
     /// How many behaviours it had.
     pub behaviours: u16,
-}
-
-// Whether a block of that many behaviours may be of this kind.
-fn may_have(kind: Kind, behaviours: u16) -> bool
-    ensures { IsTrue result ↔ (kind ≡ kinds.History1 → behaviours ≤ 64) }
-{
-    match kind {
-        Kind::History1 => behaviours <= FORMAT_1_BEHAVIOURS,
-        Kind::History2 | Kind::Evidence => true,
-    }
 }
 
 // The kind that the text begins with the words of, and what follows them.
@@ -63,25 +62,6 @@ fn take_kind(text: &[u8]) -> Option<(Kind, &[u8])>
     }
 }
 
-// The number of behaviours after the name, if a block of this kind may have that many, and what follows the line, which
-// it ends.
-fn take_behaviours(kind: Kind, text: &[u8]) -> Option<(u16, &[u8])>
-    ensures spelled { IfSome result (λ r. (rest : List ℕ) × (text.now ≡ 32 ∷ (decimal r.0 ++ rest)) × EndsLine rest r.1.now) }
-    ensures fits { IfSome result (λ r. IsBehaviours r.0 × (kind ≡ kinds.History1 → r.0 ≤ 64)) }
-    ensures less { IfSome result (λ r. length r.1.now < length text.now) }
-    ensures only { (n : ℕ) (rest behind : List ℕ) → IsBehaviours n → (kind ≡ kinds.History1 → n ≤ 64) → EndsLine rest behind
-        → text.now ≡ 32 ∷ (decimal n ++ rest) → Takes result n behind }
-{
-    let rest = after(text, b" ")?;
-    let (number, rest) = take_number(rest)?;
-    let rest = take_line_end(rest)?;
-    let behaviours = as_behaviours(number)?;
-    if !may_have(kind, behaviours) {
-        return None;
-    }
-    Some((behaviours, rest))
-}
-
 /// What the first line says, if it is the first one of a block, and what follows that line.
 pub(crate) fn take_first_line(text: &[u8]) -> Option<(Header, &[u8])>
     ensures spelled { IfSome result (λ r. lines_of text.now ≡ header_text r.0 ∷ lines_of r.1.now) }
@@ -92,7 +72,7 @@ pub(crate) fn take_first_line(text: &[u8]) -> Option<(Header, &[u8])>
 {
     let (kind, rest) = take_kind(text)?;
     let (name, rest) = take_name(rest)?;
-    match take_behaviours(kind, rest) {
+    match take_behaviours(kind.format(), rest) {
         Some((behaviours, rest)) => {
             let header = Header {
                 kind,

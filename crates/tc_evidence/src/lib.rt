@@ -2,10 +2,10 @@
 #![tactic(auto)]
 
 mod block;
-mod entry_line;
 mod header;
 pub mod laws;
 mod line;
+mod met;
 mod note;
 mod read;
 mod sentence;
@@ -14,6 +14,7 @@ mod write;
 pub use block::Block;
 pub use header::{Header, Kind};
 pub use line::Line;
-pub use read::{read_evidence, take_block};
+pub use met::MetRuns;
+pub use read::read_evidence;
 pub use sentence::{SENTENCE_BYTES, Sentence};
-pub use write::{append_end, append_first_line, append_line, append_whole_block};
+pub use write::{append_first_line, append_line, append_said, append_whole_block};

@@ -5,12 +5,15 @@ ghost use Rattle.tc_entry.specs.Name.{IsName};
 ghost use Rattle.tc_text.specs.Lines.{lines_of};
 ghost use Rattle.tc_text.specs.Inside.{TakesLine};
 ghost use Rattle.tc_text.specs.Reading.{EndsNumber, Takes};
+ghost use Rattle.tc_evidence.specs.declared.line.Line.{Line as AnyLine};
 ghost use Rattle.tc_evidence.specs.declared.line.Line.TheVariants as lines;
-ghost use Rattle.tc_evidence.specs.Line.{is_met as met, mark_text, naming_text, said_text};
+ghost use Rattle.tc_evidence.specs.Line.{is_met, mark_text, naming_text, said_text};
+ghost use Rattle.tc_evidence.specs.Met.{AreMet};
 ghost use Rattle.tc_evidence.specs.Sentence.{IsSentence};
 ghost use Rattle.tc_evidence.specs.Inside.{ArePlain, IsFound, IsNote, IsSaidBy, NoPlainFirst, line_said};
 
-use crate::line::{Line, is_met};
+use crate::line::Line;
+use crate::met::MetRuns;
 use crate::sentence::Sentence;
 use std::alloc::Global;
 use tc_entry::{Name, NoMemory, Run};
@@ -125,29 +128,31 @@ fn take_said_line(
 }
 
 // The line that names the run's behaviour, and what follows it, unless a line before is about the run.
-fn name_run<'a>(before: &[Line], naming: (Run, Name), rest: &'a [u8]) -> Option<(Line, &'a [u8])>
-    ensures { MatchOption result (met naming.0.0 before.now ≡ true)
-        (λ r. (met naming.0.0 before.now ≡ false) × (r.0 ≡ lines.Named naming.0 naming.1) × (r.1.now ≡ rest.now)) }
+fn name_run<'a>(met: &MetRuns, naming: (Run, Name), rest: &'a [u8]) -> Option<(Line, &'a [u8])>
+    requires { naming.0.0 < 256 }
+    ensures { (before : List AnyLine) → AreMet met.now before → MatchOption result (is_met naming.0.0 before ≡ true)
+        (λ r. (is_met naming.0.0 before ≡ false) × (r.0 ≡ lines.Named naming.0 naming.1) × (r.1.now ≡ rest.now)) }
 {
     let (run, name) = naming;
-    if is_met(before, run) {
+    if met.contains(run) {
         return None;
     }
     Some((Line::Named { run, name }, rest))
 }
 
-/// The line of evidence that is no entry and may come after these lines, which the first line spells, and what follows
-/// that line.
+/// The line of evidence that is no entry and may come after lines that are about these runs, which the first line spells, and
+/// what follows that line.
 pub(crate) fn take_note<'a>(
     alloc: Global,
     behaviours: u16,
-    before: &[Line],
+    met: &MetRuns,
     text: &'a [u8],
 ) -> Result<Option<(Line, &'a [u8])>, NoMemory>
-    ensures { IfOk result (IsFound (IsNote behaviours before.now) text.now) }
+    requires { behaviours ≤ 256 }
+    ensures { IfOk result (λ found. (before : List AnyLine) → AreMet met.now before → IsFound (IsNote behaviours before) text.now found) }
 {
     match take_naming(behaviours, text) {
-        Some((naming, rest)) => Ok(name_run(before, naming, rest)),
+        Some((naming, rest)) => Ok(name_run(met, naming, rest)),
         None => take_said_line(alloc, behaviours, text),
     }
 }

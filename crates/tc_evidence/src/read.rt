@@ -6,35 +6,37 @@ ghost use Rattle.tc_history.specs.Block.{end_text};
 ghost use Rattle.tc_evidence.specs.declared.block.Block.{Block as AnyBlock};
 ghost use Rattle.tc_evidence.specs.declared.line.Line.{Line as AnyLine};
 ghost use Rattle.tc_evidence.specs.Line.{line_text};
+ghost use Rattle.tc_evidence.specs.Met.{AreMet};
 ghost use Rattle.tc_evidence.specs.Text.{AreEvidence, AreLines, IsBlock, IsEvidenceFault, IsLine, block_lines};
-ghost use Rattle.tc_evidence.specs.Inside.{AreTaken, IsFound};
-ghost use Rattle.tc_evidence.specs.OneBlock.{IsBlockFault, IsInsideFault, IsTaken};
+ghost use Rattle.tc_evidence.specs.Inside.{AreTaken, IsBlockFault, IsFound, IsInsideFault, IsTaken};
 
 use crate::block::Block;
-use crate::entry_line::{take_end_line, take_entry};
 use crate::header::{Kind, take_first_line};
 use crate::line::Line;
+use crate::met::MetRuns;
 use crate::note::take_note;
 use std::alloc::Global;
 use tc_entry::{NoMemory, Sequence, Verdict};
+use tc_history::{take_end_line, take_entry_line};
 use tc_text::{TextFault, TextKind};
 
-// The line that may come inside such a block after these lines, which the first line spells, and what follows that
-// line.
+// The line that may come inside such a block after lines that are about these runs, which the first line spells, and what
+// follows that line.
 fn take_line<'a>(
     alloc: Global,
     kind: Kind,
     behaviours: u16,
-    before: &[Line],
+    met: &MetRuns,
     text: &'a [u8],
 ) -> Result<Option<(Line, &'a [u8])>, NoMemory>
-    ensures { IfOk result (IsFound (IsLine kind behaviours before.now) text.now) }
+    requires { behaviours ≤ 256 }
+    ensures { IfOk result (λ found. (before : List AnyLine) → AreMet met.now before → IsFound (IsLine kind behaviours before) text.now found) }
 {
-    if let Some((entry, rest)) = take_entry(kind, text) {
+    if let Some((entry, rest)) = take_entry_line(kind.format(), text) {
         return Ok(Some((Line::Entry(entry), rest)));
     }
     match kind {
-        Kind::Evidence => take_note(alloc, behaviours, before, text),
+        Kind::Evidence => take_note(alloc, behaviours, met, text),
         Kind::History1 | Kind::History2 => Ok(None),
     }
 }
@@ -50,6 +52,7 @@ fn take_lines<'a>(
     first_line: usize,
 ) -> Result<(Verdict, &'a [u8]), TextFault>
     requires none { inside.old ≡ [] }
+    requires few { behaviours ≤ 256 }
     requires room { first_line + length text.now ≤ usize.MAX }
     ensures taken { IfOk result (λ r. AreTaken kind behaviours text.now inside.new r.0 r.1.now) }
     ensures fault { IfErr result (λ e. IsInsideFault kind behaviours text.now first_line e) }
@@ -58,14 +61,15 @@ fn take_lines<'a>(
 {
     let mut rest = text;
     let mut line = first_line;
+    let mut met = MetRuns::none();
     while !rest.is_empty() {
         if let Some((verdict, behind)) = take_end_line(rest) {
             return Ok((verdict, behind));
         }
-        let Some((next, behind)) = take_line(alloc, kind, behaviours, inside.as_slice(), rest)?
-        else {
+        let Some((next, behind)) = take_line(alloc, kind, behaviours, &met, rest)? else {
             return Err(TextFault::at(line, TextKind::Entry));
         };
+        met.add_line(&next);
         inside.push(next)?;
         line += 1;
         rest = behind;
@@ -73,12 +77,8 @@ fn take_lines<'a>(
     Err(TextFault::at(line, TextKind::Early))
 }
 
-/// Takes the block that the text begins with, whose first line has this number; gives what follows it.
-pub fn take_block(
-    alloc: Global,
-    text: &[u8],
-    first_line: usize,
-) -> Result<(Block, &[u8]), TextFault>
+// Takes the block that the text begins with, whose first line has this number; gives what follows it.
+fn take_block(alloc: Global, text: &[u8], first_line: usize) -> Result<(Block, &[u8]), TextFault>
     requires some { text.now ≢ [] }
     requires room { first_line + length text.now ≤ usize.MAX }
     ensures taken { IfOk result (λ r. IsTaken text.now first_line r.0 r.1.now) }

@@ -2,16 +2,14 @@
 ghost use Rattle.std.specs.Prelude.{◌≡◌, ◌++◌, Bool, OnOk, OnErr};
 ghost use Rattle.std.specs.List.{flat_map};
 ghost use Rattle.std.specs.Io.{StartsWith};
-ghost use Rattle.tc_history.specs.Block.{end_text, entry_text};
 ghost use Rattle.tc_evidence.specs.Block.{block_text, ended, header_text, kind_text};
 ghost use Rattle.tc_evidence.specs.Line.{line_text, mark_text, naming_text, said_text};
 
 use crate::header::{Header, Kind};
 use crate::line::Line;
-use crate::sentence::Sentence;
-use tc_entry::{Entry, Name, NoMemory, Run, Verdict};
-use tc_text::{append_number, append_text, write_move, write_reply};
-use tc_verdict::name as name_of;
+use tc_entry::{Name, NoMemory, Run, Verdict};
+use tc_history::{append_end, append_entry};
+use tc_text::{append_number, append_text};
 
 // The words of a first line that say the kind of its block.
 fn words_of(kind: Kind) -> &'static str
@@ -37,26 +35,17 @@ pub fn append_first_line(out: &mut Vec<u8>, header: &Header) -> Result<(), NoMem
     Ok(())
 }
 
-// Appends the name of a run's behaviour, without the line's end; if memory runs out, a part of it.
+// Appends the name of a run's behaviour; if memory runs out, a part of it.
 fn append_naming(out: &mut Vec<u8>, run: Run, name: &Name) -> Result<(), NoMemory>
-    ensures ok { OnOk result (out.new.items ≡ out.old.items ++ naming_text run.0 name.now) }
+    ensures ok { OnOk result (out.new.items ≡ out.old.items ++ ended (naming_text run.0 name.now)) }
     ensures err { OnErr result (StartsWith out.new.items out.old.items) }
 {
     append_text(out, "behaviour ")?;
     append_number(out, u64::from(run.0))?;
     append_text(out, " ")?;
     out.extend_from_slice(name.bytes())?;
+    out.push(b'\n')?;
     Ok(())
-}
-
-// Appends an entry, without the line's end; if memory runs out, a part of it.
-fn append_entry(out: &mut Vec<u8>, entry: &Entry) -> Result<(), NoMemory>
-    ensures ok { OnOk result (out.new.items ≡ out.old.items ++ entry_text entry.now) }
-    ensures err { OnErr result (StartsWith out.new.items out.old.items) }
-{
-    write_move(out, entry.caller, &entry.op)?;
-    append_text(out, " -> ")?;
-    write_reply(out, &entry.reply)
 }
 
 // What is between a run and its sentence.
@@ -66,33 +55,21 @@ fn mark_of(refused: bool) -> &'static str
     if refused { " ! " } else { " # " }
 }
 
-// Appends what a run says, without the line's end; if memory runs out, a part of it.
-fn append_said(
+/// Appends a remark of the run, or that a line of it was refused; if memory runs out, a part of it.
+pub fn append_said(
     out: &mut Vec<u8>,
     run: Run,
     refused: bool,
-    sentence: &Sentence,
+    sentence: &[u8],
 ) -> Result<(), NoMemory>
-    ensures ok { OnOk result (out.new.items ≡ out.old.items ++ said_text refused run.0 sentence.now) }
+    ensures ok { OnOk result (out.new.items ≡ out.old.items ++ ended (said_text refused run.0 sentence.now)) }
     ensures err { OnErr result (StartsWith out.new.items out.old.items) }
 {
     append_number(out, u64::from(run.0))?;
     append_text(out, mark_of(refused))?;
-    out.extend_from_slice(sentence.bytes())?;
+    out.extend_from_slice(sentence)?;
+    out.push(b'\n')?;
     Ok(())
-}
-
-// Appends the line without its end; if memory runs out, a part of it.
-fn append_words(out: &mut Vec<u8>, line: &Line) -> Result<(), NoMemory>
-    ensures ok { OnOk result (out.new.items ≡ out.old.items ++ line_text line.now) }
-    ensures err { OnErr result (StartsWith out.new.items out.old.items) }
-{
-    match line {
-        Line::Named { run, name } => append_naming(out, *run, name),
-        Line::Entry(entry) => append_entry(out, entry),
-        Line::Remark { run, sentence } => append_said(out, *run, false, sentence),
-        Line::Refused { run, sentence } => append_said(out, *run, true, sentence),
-    }
 }
 
 /// Appends a line inside a block; if memory runs out, a part of it.
@@ -100,9 +77,12 @@ pub fn append_line(out: &mut Vec<u8>, line: &Line) -> Result<(), NoMemory>
     ensures ok { OnOk result (out.new.items ≡ out.old.items ++ ended (line_text line.now)) }
     ensures err { OnErr result (StartsWith out.new.items out.old.items) }
 {
-    append_words(out, line)?;
-    out.push(b'\n')?;
-    Ok(())
+    match line {
+        Line::Named { run, name } => append_naming(out, *run, name),
+        Line::Entry(entry) => append_entry(out, entry),
+        Line::Remark { run, sentence } => append_said(out, *run, false, sentence.bytes()),
+        Line::Refused { run, sentence } => append_said(out, *run, true, sentence.bytes()),
+    }
 }
 
 // Appends each line; if memory runs out, a part of them.
@@ -113,17 +93,6 @@ fn append_lines(out: &mut Vec<u8>, lines: &[Line]) -> Result<(), NoMemory>
     for line in lines {
         append_line(out, line)?;
     }
-    Ok(())
-}
-
-/// Appends the last line of a block; if memory runs out, a part of it.
-pub fn append_end(out: &mut Vec<u8>, verdict: Verdict) -> Result<(), NoMemory>
-    ensures ok { OnOk result (out.new.items ≡ out.old.items ++ ended (end_text verdict)) }
-    ensures err { OnErr result (StartsWith out.new.items out.old.items) }
-{
-    append_text(out, "end ")?;
-    append_text(out, name_of(verdict))?;
-    out.push(b'\n')?;
     Ok(())
 }
 

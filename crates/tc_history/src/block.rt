@@ -22,8 +22,8 @@ fn append_header(out: &mut Vec<u8>, name: &Name, behaviours: u16) -> Result<(), 
     Ok(())
 }
 
-// Appends the line of the entry; if memory runs out, a part of it.
-fn append_entry(out: &mut Vec<u8>, entry: &Entry) -> Result<(), NoMemory>
+/// Appends the line of the entry; if memory runs out, a part of it.
+pub fn append_entry(out: &mut Vec<u8>, entry: &Entry) -> Result<(), NoMemory>
     ensures ok { OnOk result (out.new.items ≡ out.old.items ++ entry_line entry.now) }
     ensures err { OnErr result (StartsWith out.new.items out.old.items) }
 {
@@ -45,8 +45,8 @@ fn append_entries(out: &mut Vec<u8>, entries: &[Entry]) -> Result<(), NoMemory>
     Ok(())
 }
 
-// Appends the last line; if memory runs out, a part of it.
-fn append_end(out: &mut Vec<u8>, verdict: Verdict) -> Result<(), NoMemory>
+/// Appends the last line of a block; if memory runs out, a part of it.
+pub fn append_end(out: &mut Vec<u8>, verdict: Verdict) -> Result<(), NoMemory>
     ensures ok { OnOk result (out.new.items ≡ out.old.items ++ (end_text verdict ++ (10 ∷ []))) }
     ensures err { OnErr result (StartsWith out.new.items out.old.items) }
 {

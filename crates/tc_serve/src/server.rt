@@ -10,7 +10,8 @@ use crate::open_case::OpenCase;
 use crate::order::{Order, read_order};
 use std::alloc::Global;
 use tc_entry::{Name, NoMemory, Op, Run, Verdict};
-use tc_evidence::{Header, Kind, Sentence, append_end, append_first_line};
+use tc_evidence::{Header, Kind, Sentence, append_first_line};
+use tc_history::append_end;
 use tc_text::take_number;
 use tc_verdict::worse_of;
 

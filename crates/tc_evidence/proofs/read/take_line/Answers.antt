@@ -1,24 +1,27 @@
-use Rattle.std.proofs.Common.{arith, subst, sym}
+use Rattle.std.proofs.Common.{List, arith, subst, sym}
 use Rattle.std.proofs.lemmas.Result.{IfOk-weaker}
 use Rattle.std.specs.Result.{IfOk}
 use Rattle.tc_evidence.specs.declared.header.Kind.{Kind}
 use Rattle.tc_evidence.specs.declared.header.Kind.TheVariants as K
+use Rattle.tc_evidence.specs.declared.line.Line.{Line}
+use Rattle.tc_evidence.specs.Met.{AreMet}
 use Rattle.tc_evidence.specs.Text.{IsLine, format_of}
 use Rattle.tc_evidence.specs.Inside.{IsFound, IsNote}
 use Rattle.tc_evidence.proofs.NextLines.{IsNoEntryLine, entry_next, line_of_note}
 use Rattle.tc_evidence.proofs.read.take_line.Goals as goal
 
 pub returns-in-Some : goal.returns-in-Some
-returns-in-Some c =
+returns-in-Some c = λ before kept.
     let taken = c.in-Some.ensures in
     let low = c.ranges.behaviours.fits in
-    entry_next c.args.kind c.args.behaviours c.args.before.now c.args.text.now c.in-Some.entry c.in-Some.rest.now (omega (arith, low)) taken.spelled taken.fits taken.less taken.only
+    entry_next c.args.kind c.args.behaviours before c.args.text.now c.in-Some.entry c.in-Some.rest.now (omega (arith, low)) taken.spelled (rw c.format.ensures at taken.fits) taken.less (rw c.format.ensures at taken.only)
 
 pub returns-in-Evidence : goal.returns-in-Evidence
 returns-in-Evidence c =
     let n = c.args.behaviours in
-    let before = c.args.before.now in
     let text = c.args.text.now in
-    subst (λ (k : Kind). IfOk c.take_note.result (IsFound (IsLine k n before) text)) (sym c.in-Evidence.is)
-    (IfOk-weaker c.take_note.result (IsFound (IsNote n before) text) (IsFound (IsLine K.Evidence n before) text)
-    (λ found is. line_of_note n before text (subst (λ (k : Kind). IsNoEntryLine (format_of k) text) c.in-Evidence.is c.in_default.ensures.only) found is) c.take_note.ensures)
+    let met = c.args.met.now in
+    subst (λ (k : Kind). IfOk c.take_note.result (λ found. (before : List Line) → AreMet met before → IsFound (IsLine k n before) text found)) (sym c.in-Evidence.is)
+    (IfOk-weaker c.take_note.result (λ found. (before : List Line) → AreMet met before → IsFound (IsNote n before) text found)
+    (λ found. (before : List Line) → AreMet met before → IsFound (IsLine K.Evidence n before) text found)
+    (λ found is before kept. line_of_note n before text (subst (λ (k : Kind). IsNoEntryLine (format_of k) text) c.in-Evidence.is (rw c.format.ensures at c.in_default.ensures.only)) found (is before kept)) c.take_note.ensures)
