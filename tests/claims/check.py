@@ -198,19 +198,21 @@ def squeezed(text: str) -> str:
 
 
 def quoted_code(documents: List[Document]) -> Iterator[str]:
-    """Blocks of Rattle that are in no file of the crate that the document, right before them, names."""
+    """Blocks of Rattle, and of definitions, that are in no file of the crate that the document, right before them, names."""
     for document in documents:
         text = "\n".join(document.lines)
         named = [(text.count("\n", 0, it.start()) + 1, it.group(1))
                  for it in re.finditer(r"(?:program\s+is|code\s+below\s+is\s+of)\s+`crates/(\w+)`", text)]
         for block in document.blocks():
-            if block.language != "rust":
+            if block.language not in ("rust", "antt"):
                 continue
             before = [crate for line, crate in named if line < block.line]
             if not before:
                 yield f"{document.path}:{block.line}: it does not say of which crate its code is"
                 continue
-            code = [squeezed(open(it, encoding="utf-8").read()) for it in files_below(os.path.join(TOP, "crates", before[-1], "src"), ".rt")]
+            folder, ending = ("src", ".rt") if block.language == "rust" else ("specs", ".antt")
+            files = files_below(os.path.join(TOP, "crates", before[-1], folder), ending)
+            code = [squeezed(open(it, encoding="utf-8").read()) for it in files]
             if not any(squeezed(block.text) in it for it in code):
                 yield f"{document.path}:{block.line}: this code stands in no file of crates/{before[-1]}"
 
