@@ -1,15 +1,23 @@
-"""Numbers of the documents that a program can count: each is that of the sources."""
+#!/usr/bin/env python3
+"""Numbers of the documents that a program can count: each is that of the sources.
+
+`python3 tests/claims/counted.py --write` writes them, and the table of what must be believed.
+"""
 from __future__ import annotations
 
 import os
 import re
+import sys
 from typing import Callable, Dict, Iterator, List, Tuple
+
+TOP = os.path.dirname(os.path.dirname(os.path.dirname(os.path.abspath(__file__))))
+sys.dont_write_bytecode = True
+sys.path += [os.path.join(TOP, it) for it in ("tests/program", "tests/lies")]
 
 import believed
 import edits
 from documents import read
 
-TOP = os.path.dirname(os.path.dirname(os.path.dirname(os.path.abspath(__file__))))
 WORDS = ("none", "one", "two", "three", "four", "five", "six", "seven", "eight", "nine", "ten", "eleven", "twelve")
 FEWEST_ROWS_OF_LIMITS = 11
 FEWEST_NUMBERS = 40
@@ -154,10 +162,15 @@ def number_of(said: str) -> int:
     return WORDS.index(said) if said in WORDS else int(said.replace(",", ""))
 
 
+def pattern_of(said: str) -> str:
+    """What matches what is said, with a number in the place of #."""
+    number = r"(\d[\d,]*\d|\d|" + "|".join(WORDS) + ")"
+    return re.escape(said).replace(r"\#", number).replace(r"\ ", r"\s+")
+
+
 def said_in(text: str, said: str) -> List[int]:
     """The numbers that are in a text where # is in what is said."""
-    pattern = re.escape(said).replace(r"\#", r"(\d[\d,]*\d|\d|" + "|".join(WORDS) + ")").replace(r"\ ", r"\s+")
-    return [number_of(it) for it in re.findall(pattern, text)]
+    return [number_of(it) for it in re.findall(pattern_of(said), text)]
 
 
 def wrong_in(text: str, path: str, said: str, count: int) -> Iterator[str]:
@@ -235,3 +248,32 @@ def unsaid() -> Iterator[str]:
     yield from (f"{place}: no source says {it!r}" for place, it in found if not re.search(rf"(?<![\w-]){re.escape(it)}(?![\w-])", said))
     if len(found) < FEWEST_TEXTS:
         yield f"{len(found)} texts, where there are no fewer than {FEWEST_TEXTS}"
+
+
+def written(text: str, said: str, count: int) -> str:
+    """The text with this number, in a word if it was one and there is one."""
+    def put(found: "re.Match[str]") -> str:
+        number = WORDS[count] if found[1] in WORDS and count < len(WORDS) else f"{count:,}"
+        return found[0][:found.start(1) - found.start()] + number + found[0][found.end(1) - found.start():]
+    return re.sub(pattern_of(said), put, text)
+
+
+def write() -> None:
+    """Writes the numbers of the documents, and the rows of the table of what must be believed."""
+    for path in sorted({path for path, _, _ in NUMBERS if path.endswith(".md")}):
+        text = text_of(path)
+        for at, said, name in NUMBERS:
+            if at == path:
+                text = written(text, said, COUNTS[name]())
+        if path == "docs/architecture.md":
+            head, _, rest = text.partition("\n## What must be believed\n")
+            rows = "\n".join(believed.table())
+            text = f"{head}\n## What must be believed\n" + re.sub(r"(?m)(^\|---.*\n)(?:\|.*\n)+", lambda it: f"{it[1]}{rows}\n", rest, count=1)
+        with open(os.path.join(TOP, path), "w", encoding="utf-8") as file:
+            file.write(text)
+
+
+if __name__ == "__main__":
+    if sys.argv[1:] == ["--write"]:
+        write()
+    print("\n".join(wrong()) or "each number is that of the sources")
