@@ -391,6 +391,7 @@ def main() -> int:
         "docs/proved.md lists its parts": counted.contents,
         "no sentence stands in two documents": lambda: said_twice(documents),
         "each decision has its reason and its consequence": lambda: forms.decisions(read(TOP, "docs/DECISIONS.md")),
+        "each document begins with who reads it": lambda: forms.readers(documents),
         "each change was added, changed, fixed or removed": lambda: forms.changes(read(TOP, "CHANGELOG.md")),
         "each library and program has a README, and what it names stands in the sources": lambda: readmes_of_crates(sources),
         "each bug can be planted, has a name of its own, and the gate has few": lambda: edits.faults(TOP),

@@ -1,4 +1,4 @@
-"""The form of what is written: decisions with their reasons and consequences, changes of a kind, links on one line."""
+"""The form of what is written: decisions with reasons and consequences, changes of a kind, links on one line, who reads it."""
 from __future__ import annotations
 
 import re
@@ -8,7 +8,7 @@ from documents import Document
 
 PARTS = ["Decision", "Reason", "Consequence"]
 KINDS = ("Added", "Changed", "Fixed", "Removed")
-FEWEST_DECISIONS, FEWEST_VERSIONS = 40, 13
+FEWEST_DECISIONS, FEWEST_VERSIONS, FEWEST_WITH_READERS = 40, 13, 13
 BOLD = re.compile(r"- \*\*(\w+)\.\*\* \S")
 
 
@@ -46,3 +46,14 @@ def broken_links(documents: List[Document]) -> Iterator[str]:
     for document in documents:
         text = re.sub(r"(?ms)^```.*?^```", "", "\n".join(document.lines))
         yield from (f"{document.path}: {it[0]!r}" for it in re.finditer(r"\[[^\]\n]*\n[^\]\n]*\]\(", text))
+
+
+def readers(documents: List[Document]) -> Iterator[str]:
+    """Documents whose first paragraph does not say who reads them."""
+    read = [it for it in documents if re.match(r"docs/|CONTRIBUTING\.md|bench/README\.md", it.path)]
+    for document in read:
+        first = next((line for line in document.lines if line and not line.startswith("#")), "")
+        if not re.match(r"For \w", first):
+            yield f"{document.path}: it begins with {first[:60]!r}, and not with its readers"
+    if len(read) < FEWEST_WITH_READERS:
+        yield f"{len(read)} documents, where there are no fewer than {FEWEST_WITH_READERS}"
