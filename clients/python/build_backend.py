@@ -48,7 +48,7 @@ def record_of(files: Dict[str, str]) -> str:
 
 
 def build_wheel(wheel_directory: str, config_settings: Optional[dict] = None, metadata_directory: Optional[str] = None) -> str:
-    """What pip calls: writes the wheel, and answers its name."""
+    """What pip calls: writes the wheel, and returns its name."""
     files = contents()
     record = f"filskeam-{version()}.dist-info/RECORD"
     files[record] = record_of(files) + f"{record},,\n"

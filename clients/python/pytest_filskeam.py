@@ -18,7 +18,7 @@ class Bench:
         self.results: List[Result] = []
 
     def run(self, name: str, main: object, timeout: Optional[float] = None) -> Result:
-        """Runs a test case. After so many seconds it is stopped, with the verdict error."""
+        """Runs a test case. After that many seconds it is stopped, with the verdict error."""
         self.results.append(self.server.run(name, main, timeout))
         return self.results[-1]
 

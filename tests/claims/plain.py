@@ -13,7 +13,7 @@ from sources import Sources
 MOST_WORDS_OF_A_SENTENCE, MOST_WORDS_OF_A_CELL = 35, 40
 FEWEST_COMMENTS = 5000
 # The sources of Python that nobody has read for this yet.
-UNHELD = ("clients/python/", "page/", "tests/cpp/", "tests/page/", "tests/python/", "tests/serve/")
+UNHELD = ("page/", "tests/page/")
 # What a comment may name that no source defines: what the language and clap have, and a byte.
 KNOWN = ("Drop", "_", "DisplayHelp", "DisplayVersion")
 # Each idiom, and what is written instead. What is in backquotes is a name, and none of these.

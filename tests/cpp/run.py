@@ -4,7 +4,7 @@
 usage: tests/cpp/run.py [--server COMMAND] [--only WORD] [--list]
 
 The benches are in tests/cpp/bench.cpp; without a compiler of C++ the tests fail. The last line is 'N passed, M failed'; the
-status is 0 where nothing failed, else 1. With the variable FILSKEAM_CPP the client is taken from that folder.
+status is 0 if nothing failed, otherwise 1. With the variable FILSKEAM_CPP the client is taken from that folder.
 """
 from __future__ import annotations
 
@@ -159,7 +159,7 @@ def what_a_behaviour_throws_stops_the_case(place: Place) -> str:
 
 @test
 def a_watchdog_kills_who_hangs(place: Place) -> str:
-    """The test case goes on, and who hangs is named."""
+    """The test case continues, and the behaviour that hangs is named."""
     (shown,), _ = place.bench("watchdog")
     same((shown.verdict, shown.hung, shown.why), ("inconc", ["run 1 stuck"], "run 2 watch on component 2 watchdog: setverdict inconc: the device is stuck"))
     same(shown.locals, {"0 mtc": "none", "1 pump": "pass", "2 watchdog": "inconc"})
@@ -281,7 +281,7 @@ def judged(judge: Test, place: Place) -> Tuple[str, str]:
     """What a test reached, or what is wrong."""
     try:
         return judge(place), ""
-    except Exception as error:  # a test that breaks has failed, and the others go on
+    except Exception as error:  # a test that breaks has failed, and the others run on
         return "", f"{type(error).__name__}: {error}"[:2000]
 
 

@@ -1,4 +1,4 @@
-"""Benches with a device: behind a TCP port, behind a pseudo terminal, and one that is stuck."""
+"""Benches with a device: a TCP server, a pseudo terminal, and one that is stuck."""
 from __future__ import annotations
 
 import os
@@ -14,7 +14,7 @@ from kit import FOR_EVER, Place, hold, holds_word, legal, same, test, timed
 
 
 class Thermometer:
-    """A device behind a TCP port: each line that asks for the temperature is answered by the next one."""
+    """A device that is a TCP server: each line that asks for the temperature is answered by the next one."""
 
     def __init__(self, temperatures: List[int]) -> None:
         self.temperatures, self.asked = temperatures, 0
@@ -130,7 +130,7 @@ def stuck(run: Run) -> None:
 
 @test
 def a_stuck_device_is_killed_by_a_watchdog(place: Place) -> None:
-    """The watchdog is a component: it kills the stuck one, the test case goes on, and what hangs is named."""
+    """The watchdog is a component: it kills the stuck one, the test case continues, and what hangs is named."""
 
     def watchdog(run: Run, victim: int) -> None:
         run.sleep(0.1)

@@ -22,7 +22,7 @@ def blocks(kind: str) -> List[str]:
 
 @test
 def the_example_works_when_it_is_pasted(place: Place) -> None:
-    """It prints what stands below it, and leaves legal evidence that begins as is shown."""
+    """It prints what is below it, and leaves legal evidence that begins as is shown."""
     (example,), shown = blocks("python"), blocks("")
     place.write("heater.py", example)
     environment = {**os.environ, "FILSKEAM_TTRUN": place.program(), "PYTHONPATH": CLIENT, "PYTHONDONTWRITEBYTECODE": "1"}

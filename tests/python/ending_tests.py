@@ -55,7 +55,7 @@ def a_behaviour_that_raises_stops_the_case(place: Place) -> None:
 
 
 class Mute(Exception):
-    """An exception without a text that can be had."""
+    """An exception whose text is not available."""
 
     def __str__(self) -> str:
         raise RuntimeError
@@ -63,7 +63,7 @@ class Mute(Exception):
 
 @test
 def an_exception_without_a_text_stops_the_case(place: Place) -> None:
-    """Its name is told."""
+    """Its name is said."""
 
     def worker(run: Run) -> None:
         raise Mute
@@ -170,7 +170,7 @@ def a_case_that_is_late_may_still_end_well(place: Place) -> None:
 
 @test
 def who_hangs_says_nothing_more_once_it_wakes(place: Place) -> None:
-    """A thread that is left behind can put no line into the next test case."""
+    """A thread that keeps running can put no line into the next test case."""
     wakes, woken = threading.Event(), []
 
     def sleeper(run: Run) -> None:
@@ -194,7 +194,7 @@ def who_hangs_says_nothing_more_once_it_wakes(place: Place) -> None:
 
 @test
 def ended_is_no_exception(place: Place) -> None:
-    """A behaviour that catches each Exception ends all the same where it is stopped."""
+    """A behaviour that catches each Exception ends all the same if it is stopped."""
     tries = []
 
     def stubborn(run: Run) -> None:
@@ -223,7 +223,7 @@ def ended_is_no_exception(place: Place) -> None:
 
 @test
 def check_and_sleep_learn_of_a_stop(place: Place) -> None:
-    """A loop with check asks the table only where something was stopped; a long sleep ends at once."""
+    """A loop with check asks the table only if something was stopped; a long sleep ends at once."""
     turns, ended = [], []
 
     def loop(run: Run) -> None:

@@ -29,7 +29,7 @@ class Fault(Exception):
 
 @dataclass
 class Place:
-    """Where a test works: a folder of its own, the command of the server, and what it has reached."""
+    """The place of a test: a folder of its own, the command of the server, and what it has reached."""
 
     room: str
     command: Sequence[str]
@@ -109,7 +109,7 @@ def legal(result: Result) -> evidence.Block:
 
 
 def timed(call: Callable[[], Result], most: float) -> Result:
-    """The result of a call that must be back in so many seconds."""
+    """The result of a call that must be back in that many seconds."""
     began = time.monotonic()
     result = call()
     hold(time.monotonic() - began < most, f"it took {time.monotonic() - began:.1f} seconds, and {most} are allowed")

@@ -1,4 +1,4 @@
-"""The pytest plugin: over a stand-in for the few names of pytest that it uses, and in pytest itself where it is installed."""
+"""The pytest plugin: over a stand-in for the few names of pytest that it uses, and in pytest itself if it is installed."""
 from __future__ import annotations
 
 import importlib
@@ -127,7 +127,7 @@ def the_plugin_shows_what_failed(place: Place) -> None:
 
 @test
 def the_plugin_works_in_pytest(place: Place) -> None:
-    """A session of pytest, where it is installed."""
+    """A session of pytest, if it is installed."""
     if importlib.util.find_spec("pytest") is None:
         place.reached.append("pytest is not installed: skipped")
         return

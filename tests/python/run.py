@@ -4,7 +4,7 @@
 usage: tests/python/run.py [--server COMMAND] [--only WORD] [--jobs N] [--list]
 
 To test over the program: --server "crates/ttrun/out/ttrun serve". The last line is 'N passed, M failed'; the status is 0
-where nothing failed, else 1. With the variable FILSKEAM_CLIENT the client is taken from that folder.
+if nothing failed, otherwise 1. With the variable FILSKEAM_CLIENT the client is taken from that folder.
 """
 from __future__ import annotations
 
@@ -30,7 +30,7 @@ import word_tests
 from lanes import lanes
 
 FEWEST = 39
-# Tests that change what the whole process has, or measure: they run alone, after the others.
+# Tests that change what the whole process has, or measure: they run one by one, after the others.
 ALONE = ("the_program_is_found", "the_plugin_shows_what_failed", "calls_in_a_second")
 
 
@@ -40,7 +40,7 @@ def judged(name: str, command: Sequence[str]) -> Tuple[List[str], List[str]]:
         place = kit.Place(room, command)
         try:
             kit.TESTS[name](place)
-        except Exception as error:  # a test that breaks has failed, and the others go on
+        except Exception as error:  # a test that breaks has failed, and the others run on
             return place.reached, [f"{type(error).__name__}: {error}"[:2000]]
         return place.reached, [] if place.reached else ["Fault: it does not say what it reached"]
 

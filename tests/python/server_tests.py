@@ -151,7 +151,7 @@ def a_server_that_hangs(place: Place) -> None:
 
 @test
 def a_refused_line_changes_nothing(place: Place) -> None:
-    """The run is told, the evidence says so, and the server serves on; its status is 3 at the end."""
+    """The run learns of it, the evidence says so, and the server serves on; its status is 3 at the end."""
     found = []
 
     def main(run: Run) -> None:
@@ -170,7 +170,7 @@ def a_refused_line_changes_nothing(place: Place) -> None:
 
 @test
 def the_evidence_goes_into_a_file(place: Place) -> None:
-    """Each block as the server wrote it, in order; one without its end goes beside it, so that the file can be read."""
+    """Each block as the server wrote it, in order; one without its end goes next to it, so that the file can be read."""
     path = place.path("run.evidence")
     with place.server(evidence=path) as server:
         results = [server.run(f"t{at}", lambda run: run.set_verdict(verdict)) for at, verdict in enumerate(("pass", "fail", "none"))]
@@ -232,7 +232,7 @@ def the_program_is_found(place: Place) -> None:
 
 @test
 def more_runs_than_there_may_be(place: Place) -> None:
-    """A case has 256 behaviours. One more is a dynamic error, which is told as one."""
+    """A case has 256 behaviours. One more is a dynamic error, which is reported as one."""
     started = []
 
     def worker(run: Run) -> None:

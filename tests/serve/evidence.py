@@ -35,7 +35,7 @@ class Block:
     verdict: str = ""
 
     def take(self, line: str) -> bool:
-        """Takes a line inside the block, if it may stand there."""
+        """Takes a line inside the block, if it may be there."""
         naming, said = NAMING.fullmatch(line), SAID.fullmatch(line)
         if naming:
             run = int(naming[1])

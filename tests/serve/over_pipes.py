@@ -10,7 +10,7 @@ from serving import SECONDS, Pipe, Ran, difference
 
 Judge = Callable[[Sequence[str]], List[str]]
 TESTS: Dict[str, Judge] = {}
-# How long nothing must come, where nothing is wanted.
+# How long nothing must come, if nothing is wanted.
 QUIET = 0.2
 
 
@@ -65,7 +65,7 @@ def half_a_line_is_not_answered(command: Sequence[str]) -> List[str]:
 
 @test
 def a_refused_line_without_a_run_is_told_at_once(command: Sequence[str]) -> List[str]:
-    """Standard error has it while the server goes on."""
+    """Standard error has it while the server continues."""
     with Pipe(command) as pipe:
         faults = exchanged(pipe, b"case t 1\n", b"evidence 1 t 1\n")
         pipe.write(b"fly\n")
@@ -85,7 +85,7 @@ def a_server_ends_at_a_fault_though_the_input_goes_on(command: Sequence[str]) ->
 
 @test
 def a_client_that_dies_leaves_whole_evidence(command: Sequence[str]) -> List[str]:
-    """What it wrote before stands, half a line is refused, and the case is closed."""
+    """What it wrote before stays, half a line is refused, and the case is closed."""
     client = (
         "import os, subprocess, sys, time\n"
         "it = subprocess.Popen(sys.argv[1:], stdin=subprocess.PIPE)\n"
@@ -116,14 +116,14 @@ def a_full_device_is_a_write_fault(command: Sequence[str]) -> List[str]:
 
 @test
 def an_input_that_cannot_be_read_is_a_read_fault(command: Sequence[str]) -> List[str]:
-    """Standard input is open for writing alone."""
+    """Standard input is open only for writing."""
     ran = subprocess.run(["sh", "-c", '"$@" 0> /dev/null', "sh", *command], stdout=subprocess.PIPE, stderr=subprocess.PIPE, timeout=SECONDS, check=False)
     return difference(Ran(b"", b"ttrun: read fault\n", 3), Ran(ran.stdout, ran.stderr, ran.returncode))
 
 
 @test
 def a_closed_standard_error_costs_nothing(command: Sequence[str]) -> List[str]:
-    """A line that nobody can be told is left untold."""
+    """A refusal that standard error does not take is not reported."""
     given = b"case t 1\nfly\n0 finish\nend\n"
     ran = subprocess.run(["sh", "-c", '"$@" 2> /dev/full', "sh", *command], input=given, stdout=subprocess.PIPE, timeout=SECONDS, check=False)
     return difference(Ran(b"evidence 1 t 1\n0 finish -> ok\nend none\n", b"", 3), Ran(ran.stdout, b"", ran.returncode))

@@ -23,7 +23,7 @@ JUDGED = ("Fault:", "NoEvidence:", "standard output, ", "standard error, ", "sta
 
 @dataclass(frozen=True)
 class Lie:
-    """A bug: a file, a text that stands in it once, what is put in its place, and the test that finds it."""
+    """A bug: a file, a text that is in it once, what is put in its place, and the test that finds it."""
 
     name: str
     file: str

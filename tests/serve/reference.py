@@ -4,11 +4,11 @@
 usage: tests/serve/reference.py [serve] < LINES
 
 The tests of the clients run over it, and the tests of the protocol hold `ttrun serve` to it, byte by byte. The table is
-tests/program/table.py, the reader of moves tests/program/texts.py. Where the protocol leaves a choice, it is made so here:
+tests/program/table.py, the reader of moves tests/program/texts.py. If the protocol leaves a choice, it is made so here:
 
-- A line is of run B if it begins with the number of a run of the case, as numbers are spelled, and the next byte, if
-  there is one, is below 48: it is neither a digit nor a letter. So `1`, `1,5` and `0 nonsense` are answered in the
-  evidence; `1x`, `01 finish` and, in a case of two, `9 # text` are told on standard error.
+- A line is of run B if it begins with the number of a run of the case, as numbers are spelled. The next byte, if there
+  is one, is below 48: it is neither a digit nor a letter. So lines as `1`, `1,5` and `0 nonsense` are answered in the
+  evidence. Lines as `1x`, `01 finish` and, in a case of two, `9 # text` are printed on standard error.
 - Each refused line is a `bad move`, also one whose fault is a name: the texts have no such fault, and a client checks
   its names.
 - A run that waits may still say a remark. Only its moves are refused.
@@ -61,7 +61,7 @@ class OpenCase:
         return int(found[0]) if found and int(found[0]) < self.behaviours else None
 
     def take(self, line: str) -> Optional[List[str]]:
-        """What is written for the line, or None where it is refused, and changes nothing."""
+        """What is written for the line, or None if it is refused, and changes nothing."""
         remark, naming, move = REMARK.fullmatch(line), NAMING.fullmatch(line), read_move(line)
         if remark and int(remark[1]) < self.behaviours:
             self.met.add(int(remark[1]))
@@ -126,7 +126,7 @@ class Server:
         return ([], [told]) if run is None else ([self.case.refuse(run)], [])
 
     def accepted(self, line: str) -> Optional[List[str]]:
-        """What is written for the line, or None where it is refused."""
+        """What is written for the line, or None if it is refused."""
         if self.case is None:
             return self.begin(line)
         return self.close() if line == "end" else self.case.take(line)
@@ -210,7 +210,7 @@ def serve(server: Server) -> int:
 
 
 def main() -> int:
-    """Serves, and tells what ends the server."""
+    """Serves, and says what ends the server."""
     if sys.argv[1:] not in ([], ["serve"]):
         print(__doc__, file=sys.stderr)
         return 3

@@ -4,7 +4,7 @@
 usage: tests/serve/run.py [--server COMMAND] [--only WORD] [--seed N] [--list]
 
 Without --server it is the reference server itself that is tested, tests/serve/reference.py. To test the program:
---server "crates/ttrun/out/ttrun serve". The last line is 'N passed, M failed'; the status is 0 where nothing failed, else 1.
+--server "crates/ttrun/out/ttrun serve". The last line is 'N passed, M failed'; the status is 0 if nothing failed, otherwise 1.
 """
 from __future__ import annotations
 
@@ -53,10 +53,10 @@ def tests(seed: int) -> Dict[str, Judge]:
 
 
 def faults_in(judge: Judge, command: Sequence[str]) -> List[str]:
-    """What is wrong, nothing where the test passes."""
+    """What is wrong, nothing if the test passes."""
     try:
         return judge(command)
-    except Exception as error:  # a test that breaks has failed, and the others go on
+    except Exception as error:  # a test that breaks has failed, and the others run on
         return [f"{type(error).__name__}: {error}"]
 
 

@@ -38,12 +38,12 @@ class Pipe:
         self.process.stdin.write(text)
 
     def read(self, seconds: float) -> bytes:
-        """What it has written, as soon as there is something; nothing where nothing comes for so long."""
+        """What it has written, as soon as there is something; nothing if nothing comes for so long."""
         ready, _, _ = select.select([self.process.stdout], [], [], seconds)
         return os.read(self.process.stdout.fileno(), 65536) if ready else b""
 
     def read_all_of(self, size: int) -> bytes:
-        """So many bytes, or those that came in time."""
+        """That many bytes, or those that came in time."""
         text = b""
         while len(text) < size:
             more = self.read(SECONDS)

@@ -17,7 +17,7 @@ PROGRAM = os.path.join(TOP, "crates", "ttrun", "out", "ttrun")
 SESSIONS = 30
 RUNS = (1, 2, 3, 5, 9, 64, 256)
 NAMES = ("pump", "probe", "p_1", "A" * 32)
-# Lines that are refused wherever they stand inside a case; those with a run begin with one that each case has.
+# Lines that are refused at every place inside a case; those with a run begin with one that each case has.
 BAD_LINES = (
     "0 fly", "0", "0fly", "00", "0 ", "0 # ", "0 setverdict error", "0 wake done all", "0 create named all", "0 ! no", "0 # \xe4", "0 # " + "x" * 201,
     "0 wait done", "0 start 1 1 ", "fly", "", "end pass", "case t 1", "behaviour 256 a", "behaviour 0 9a", "70000 finish", "0 " + "y" * 999,
@@ -30,7 +30,7 @@ def remark_of(chance: random.Random) -> str:
 
 
 class Session:
-    """A random input. A table of its own says who goes on and who waits, so that most moves may be made."""
+    """A random input. A table of its own says who continues and who waits, so that most moves may be made."""
 
     def __init__(self, chance: random.Random, met: Counter) -> None:
         self.chance, self.met = chance, met
@@ -126,7 +126,7 @@ def reference_of(text: bytes) -> Ran:
 
 
 def faults_of_evidence(session: Session, output: bytes) -> List[str]:
-    """What is wrong with the evidence, by what is read in it alone."""
+    """What is wrong with the evidence, by only what is read in it."""
     blocks = evidence.blocks_of(output.decode("latin-1"))
     if not evidence.is_legal(blocks):
         return ["the evidence is not legal"]
@@ -144,7 +144,7 @@ def faults_of_evidence(session: Session, output: bytes) -> List[str]:
 
 
 def sleepers(block: evidence.Block) -> Optional[Tuple[int, int]]:
-    """A run that sleeps though it may go on, where a turn has ended: in front of an entry that is no wake, or at the end."""
+    """A run that sleeps though it can continue, if a turn has ended: in front of an entry that is no wake, or at the end."""
     table, waits = Table(block.behaviours), {}  # type: Tuple[Table, Dict[int, Op]]
     for at, entry in enumerate([*block.entries, ""]):
         move = evidence.read_move(entry.partition(" -> ")[0])

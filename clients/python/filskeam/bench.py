@@ -48,7 +48,7 @@ class Run:
     def start(self, component: int, behaviour: Behaviour, *arguments: int, **others: object) -> None:
         """Starts a function on a component, as behaviour(run, *arguments, **others).
 
-        The arguments are at most four components, which the table is told. It is not told of the others."""
+        The arguments are at most four components, which the table sees. It does not see the others."""
         words = [component_word(it) for it in (component, *arguments)]
         if not callable(behaviour):
             raise ValueError(f"{behaviour!r} is no function")
@@ -190,7 +190,7 @@ class Run:
         self._answers.put(answer)
 
     def _stop_case_from_outside(self, reason: str, seconds: float) -> None:
-        """Stops the test case in place of the behaviour, unless it waits or is just making a call."""
+        """Stops the test case instead of the behaviour, unless it waits or is just making a call."""
         if self.is_done or self._is_parked or not self._calling.acquire(timeout=0.05):
             return
         try:
@@ -214,7 +214,7 @@ class Case:
         self._fault = ""
         # How many entries there are that may have stopped somebody.
         self._changes = 0
-        # Tells of an end, of a fault and of these entries. Who holds it writes nothing: the server may wait for its reader.
+        # It reports an end, a fault and these entries. Its holder writes nothing: the server may wait for its reader.
         self._news = threading.Condition()
         self._sending = threading.Lock()
         self._is_closed = False
@@ -273,7 +273,7 @@ class Case:
         run.thread.start()
 
     def _behave(self, run: Run, behaviour: Callable[[], object]) -> None:
-        """Runs a behaviour to its end, which the table is told."""
+        """Runs a behaviour to its end, and reports that to the table."""
         try:
             behaviour()
             run._call("finish")
@@ -285,7 +285,7 @@ class Case:
                 self._news.notify_all()
 
     def _note(self, run: Run, raised: BaseException) -> None:
-        """Keeps what a behaviour raised, and ends the test case unless it was told of its own end."""
+        """Keeps what a behaviour raised, and ends the test case unless a call has ended it."""
         if not isinstance(raised, Ended) or isinstance(raised, DynamicError):
             self._raised.append(Raised(run.number, run.behaviour, raised))
         if not isinstance(raised, Ended):
@@ -326,7 +326,7 @@ class Case:
                 return
 
     def _take(self, text: str) -> bool:
-        """Takes a line, if it may stand here."""
+        """Takes a line, if it may be here."""
         line = parsed(text)
         run = self._runs.get(line.run) if line else None
         if not self._lines:
@@ -341,7 +341,7 @@ class Case:
         return is_right
 
     def _spread(self, line: Optional[Line], run: Optional[Run], text: str) -> None:
-        """Tells of a line: first everybody of what it changes, then its run of the answer."""
+        """Reports a line: first to all runs what it changes, then to its run the answer."""
         if text.startswith("end ") or line is not None and may_halt(line):
             with self._news:
                 self._changes += 1
@@ -352,7 +352,7 @@ class Case:
             run._take(line)
 
     def _lose(self, fault: str) -> None:
-        """Tells everybody that there is no server any more. The first reason counts."""
+        """Reports to all runs that there is no server any more. The first reason counts."""
         with self._news:
             self._fault = self._fault or fault
             self._changes += 1
@@ -373,7 +373,7 @@ class Case:
             return self._news.wait_for(lambda: self._changes != seen, max(0.0, deadline - time.monotonic()))
 
     def _stop(self, reason: str) -> None:
-        """Ends the test case through the table, with the verdict error, in place of a run that does not wait in it."""
+        """Ends the test case through the table, with the verdict error, instead of a run that does not wait in it."""
         hanging = ", ".join(str(run) for run in self._going_on() if not run._is_parked)
         deadline = time.monotonic() + self._grace
         while not self._is_over and not self._fault and time.monotonic() < deadline:
@@ -394,14 +394,14 @@ class Case:
 
 
 class Server:
-    """`ttrun serve`, which judges test cases one after the other. Where it has ended, the next test case starts it again."""
+    """`ttrun serve`, which judges test cases one after the other. If it has ended, the next test case starts it again."""
 
     def __init__(self, command: Optional[Sequence[str]] = None, evidence: Optional[str] = None, grace: float = GRACE) -> None:
         """The command is `ttrun serve`, unless another is given. The evidence of each test case is appended to the file.
 
-        A behaviour that does not return for `grace` seconds after the end of its test case is left behind."""
+        A behaviour that does not return for `grace` seconds after the end of its test case is abandoned: its thread keeps running."""
         self._command = list(command) if command is not None else [find_program(), "serve"]
-        if evidence is not None:  # a file that cannot be written is told before a test case is run
+        if evidence is not None:  # a file that cannot be written is reported before a test case is run
             open(evidence, "a", encoding="ascii").close()
         self._evidence, self._grace = evidence, grace
         self._program: Optional[Program] = None
@@ -409,11 +409,11 @@ class Server:
         self._judging = threading.Lock()
 
     def run(self, name: str, main: Behaviour, timeout: Optional[float] = None) -> Result:
-        """Runs a test case. After so many seconds it is stopped, with the verdict error."""
+        """Runs a test case. After that many seconds it is stopped, with the verdict error."""
         return Case(name, main, timeout, self).run()
 
     def close(self) -> int:
-        """Ends it. The status is 0, 1 or 2 by the worst verdict, and 3 where it ended early or refused a line."""
+        """Ends it. The status is 0, 1 or 2 by the worst verdict, and 3 if it ended early or refused a line."""
         if self._program is not None:
             self._status = max(self._status, self._program.close())
             self._program = None
@@ -440,7 +440,7 @@ class Server:
         return result
 
     def _keep(self, result: Result) -> None:
-        """Appends the evidence to the file. A block without its end would spoil the file: it goes into another beside it."""
+        """Appends the evidence to the file. A block without its end would spoil the file: it goes into another next to it."""
         if self._evidence is not None:
             with open(self._evidence + ".cut" * bool(result.fault), "a", encoding="ascii") as file:
                 file.write(result.evidence)

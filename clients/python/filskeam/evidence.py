@@ -53,7 +53,7 @@ def suits(call: str, reply: str) -> bool:
 
 
 def ends_case(line: Line) -> bool:
-    """Whether the test case is over behind this entry."""
+    """Whether the test case is over after this entry."""
     is_end = line.text in ("stopcase", "stop 0", "kill 0") or line.run == 0 and line.text == "finish"
     return line.reply.startswith("error ") or is_end and line.reply == "ok"
 
@@ -113,7 +113,7 @@ class Findings:
         self.locals[component] = worst([self.locals[component], given])
 
     def _why(self, line: Line, component: int) -> str:
-        """Who made the entry, which, and what was said right before it."""
+        """The maker of the entry, which entry, and what was said right before it."""
         who = f"run {line.run} {self.behaviours.get(line.run, '')}".rstrip()
         place = "mtc" if component == 0 else f"component {component} {self.names[component]}".rstrip()
         reply = "" if line.reply == "ok" else f" -> {line.reply}"
@@ -138,9 +138,9 @@ class Result:
     """What is known of a test case: it is there whatever its behaviours did."""
 
     name: str
-    # The overall verdict; error where the server ended before it told one.
+    # The overall verdict; error if the server ended before it wrote one.
     verdict: str
-    # Who made the verdict, by which call, and the reason that was given.
+    # The maker of the verdict, its call, and the reason that was given.
     why: str
     # The local verdicts by component, and the names of the components, empty where one has none.
     locals: Dict[int, str]
@@ -148,7 +148,7 @@ class Result:
     # The block of evidence that the server wrote. Its last line is missing where the server ended early.
     evidence: str
     raised: Tuple[Raised, ...] = ()
-    # The behaviours that had not returned when the test case was closed. Their threads are left behind.
+    # The behaviours that had not returned when the test case was closed. Their threads keep running.
     hung: Tuple[str, ...] = ()
     is_timed_out: bool = False
     # Why the server ended inside the test case; empty where it did not.
@@ -162,7 +162,7 @@ class Result:
         return worst(found)
 
     def report(self, most: int = 20) -> str:
-        """Who, why, what was raised, the local verdicts, and the last entries."""
+        """The maker of the verdict and why, what was raised, the local verdicts, and the last entries."""
         lines = [f"test case {self.name}: {self.verdict}", f"why: {self.why}"]
         lines += ["the test case took longer than it may"] * self.is_timed_out
         lines += [f"has not returned: {it}" for it in self.hung]

@@ -1,4 +1,4 @@
-"""The program `ttrun serve`: where it is, its pipes, its end."""
+"""The program `ttrun serve`: its place, its pipes, its end."""
 from __future__ import annotations
 
 import io
@@ -43,7 +43,7 @@ class Program:
         self._output = io.BufferedReader(self._process.stdout)
 
     def write(self, text: bytes, seconds: Optional[float] = None) -> None:
-        """Gives it lines, unless it takes none for so many seconds. One that has ended is noticed by who reads."""
+        """Gives it lines, unless it takes none for that many seconds. One that has ended is noticed by its reader."""
         pipe = self._process.stdin.fileno()
         try:
             if seconds is None or select.select([], [pipe], [], seconds)[1]:
@@ -75,7 +75,7 @@ class Program:
         self._process.kill()
 
     def close(self) -> int:
-        """Ends its input, and waits for its end: its status, 3 where it was a signal."""
+        """Ends its input, and waits for its end: its status, 3 if it was a signal."""
         self._process.stdin.close()
         try:
             status = self._process.wait(self._grace)

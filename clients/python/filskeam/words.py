@@ -1,4 +1,4 @@
-"""The words of a line: what may stand in one, and how other texts are made to."""
+"""The words of a line: what may be in one, and how other texts are made to."""
 from __future__ import annotations
 
 import contextlib
@@ -36,7 +36,7 @@ def component_word(it: object, groups: Tuple[str, ...] = ()) -> str:
 
 
 def plain_text(text: object, most: int = MOST_BYTES_OF_A_REMARK) -> str:
-    """The text as a remark can hold it: other letters as escapes, white space as one space, cut where it is too long."""
+    """The text as a remark can hold it: other letters as escapes, white space as one space, cut if it is too long."""
     plain = " ".join(str(text).split()).encode("ascii", "backslashreplace").decode()
     plain = "".join(it if " " <= it <= "~" else f"\\x{ord(it):02x}" for it in plain)
     return plain if len(plain) <= most else plain[:most - 2] + ".."
