@@ -1,5 +1,5 @@
 #!/usr/bin/env bash
-# Proves, builds and runs a folder's times.rt.txt beside a copy of the crates: beside.sh FOLDER WORK CRATE..
+# Proves, builds and runs a folder's times.rt.txt next to a copy of the crates: beside.sh FOLDER WORK CRATE..
 # The crates that it uses and all below them are copied into WORK, where the program is out/times of crates/times.
 set -eu
 folder=$1 work=$2

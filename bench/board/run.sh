@@ -1,6 +1,6 @@
 #!/bin/sh
-# Times set and get on a board beside Rust's fetch_max and load, and prints nanoseconds a call: the least of seven runs.
-# The program is proved, built and run in a temporary folder, beside a copy of the crates.
+# Times set and get on a board next to Rust's fetch_max and load, and prints nanoseconds a call: the least of seven runs.
+# The program is proved, built and run in a temporary folder, next to a copy of the crates.
 set -eu
 here=$(cd "$(dirname "$0")" && pwd)
 work=$(mktemp -d)

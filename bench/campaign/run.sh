@@ -1,5 +1,5 @@
 #!/usr/bin/env bash
-# Times `ttrun run` beside a plain Rust program of the same job, on seven scripts, and compares their reports.
+# Times `ttrun run` next to a plain Rust program of the same job, on seven scripts, and compares their reports.
 set -eu
 here=$(cd "$(dirname "${BASH_SOURCE[0]}")" && pwd)
 top=$here/../..

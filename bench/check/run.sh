@@ -1,5 +1,5 @@
 #!/usr/bin/env bash
-# Times `ttrun check` beside a plain Rust program of the same job, on two history texts of nearly 16,777,216 bytes.
+# Times `ttrun check` next to a plain Rust program of the same job, on two history texts of nearly 16,777,216 bytes.
 set -eu
 here=$(cd "$(dirname "${BASH_SOURCE[0]}")" && pwd)
 top=$here/../..

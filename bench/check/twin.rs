@@ -1,4 +1,4 @@
-//! The job of `ttrun check` in plain Rust, written for speed, to be measured beside it: it replays each entry as it reads it.
+//! The job of `ttrun check` in plain Rust, written for speed, to be measured next to it: it replays each entry as it reads it.
 #[path = "../twin/mod.rs"]
 mod twin;
 
@@ -132,7 +132,7 @@ impl<'a> Checker<'a> {
     }
 }
 
-/// What is printed, and whether each block is legal; else the number of the first line that has a fault.
+/// What is printed, and whether each block is legal; otherwise the number of the first line that has a fault.
 fn check(text: &[u8]) -> Result<(Vec<u8>, bool), (u32, Refusal)> {
     let mut checker = Checker::default();
     let mut count = 0;

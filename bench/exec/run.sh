@@ -1,6 +1,6 @@
 #!/usr/bin/env bash
-# Times cases run by `run_case` beside a plain Rust program of the same job, and prints microseconds a case: the median of all cases.
-# The program is proved, built and run in a temporary folder, beside a copy of the crates.
+# Times cases run by `run_case` next to a plain Rust program of the same job, and prints microseconds a case: the median of all cases.
+# The program is proved, built and run in a temporary folder, next to a copy of the crates.
 set -eu
 here=$(cd "$(dirname "${BASH_SOURCE[0]}")" && pwd)
 rounds=${1:-7}

@@ -1,5 +1,5 @@
 #!/usr/bin/env bash
-# Times `ttrun replay` beside a plain Rust program of the same job, on the largest move list and on a tenth of it.
+# Times `ttrun replay` next to a plain Rust program of the same job, on the largest move list and on a tenth of it.
 set -eu
 here=$(cd "$(dirname "${BASH_SOURCE[0]}")" && pwd)
 top=$here/../..

@@ -1,4 +1,4 @@
-//! The job of `ttrun replay` in plain Rust, written for speed, to be measured beside it: it keeps the table, but no history.
+//! The job of `ttrun replay` in plain Rust, written for speed, to be measured next to it: it keeps the table, but no history.
 #[path = "../twin/mod.rs"]
 mod twin;
 

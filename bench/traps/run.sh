@@ -1,5 +1,5 @@
 #!/usr/bin/env bash
-# Times `ttrun run`, `replay` and `check` on inputs that were looked for as traps, beside ordinary ones of the same size.
+# Times `ttrun run`, `replay` and `check` on inputs that were looked for as traps, next to ordinary ones of the same size.
 set -eu
 here=$(cd "$(dirname "${BASH_SOURCE[0]}")" && pwd)
 top=$here/../..

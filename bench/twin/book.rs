@@ -1,4 +1,4 @@
-//! Runs a test case: each behaviour on a thread of its own, an atomic byte for the verdict of each, one lock around the
+//! Runs a test case: each behaviour on a thread of its own, an atomic byte for the verdict of each. There is one lock around the
 //! table with the history of all other calls, and one condition that is notified after each entry.
 use super::entry::{Args, Entry, Op, Reply, Target, Verdict};
 use super::table::Table;
@@ -199,7 +199,7 @@ fn merged(history: &[Entry], behaviours: usize, logs: &[RunLog]) -> Vec<Entry> {
     all
 }
 
-/// Runs a case of as many behaviours as there are jobs; a job answers none where one of its calls ended its run.
+/// Runs a case of as many behaviours as there are jobs; a job returns none if one of its calls ended its run.
 pub fn run_case<Job>(jobs: impl ExactSizeIterator<Item = Job>) -> Report
 where
     Job: FnOnce(&mut Pass) -> Option<()> + Send,

@@ -189,7 +189,7 @@ impl Table {
         (self.comps[comp].phase == Phase::Running(run)).then_some(comp)
     }
 
-    /// Whether no run goes on. The last ones are asked first, as they are the likeliest to.
+    /// Whether no run continues. The last ones are asked first, as they are the likeliest to.
     fn is_stuck(&self) -> bool {
         self.runs.iter().enumerate().rev().all(|(run, state)| {
             self.active(run as u16).is_none()

@@ -43,7 +43,7 @@ fn group(word: &[u8]) -> Option<Target> {
     target(word).filter(|target| *target != Target::Any)
 }
 
-/// Whether a wait is for killed, or else for done.
+/// Whether a wait is for killed, or for done.
 pub fn is_killed(word: &[u8]) -> Option<bool> {
     match word {
         b"done" => Some(false),
@@ -64,7 +64,7 @@ fn start(words: &mut Words, end: Option<&[u8]>) -> Option<Op> {
     }
 }
 
-/// An operation, and behind it what ends it: this word, or the end of the line.
+/// An operation, and after it what ends it: this word, or the end of the line.
 #[inline]
 pub fn op(words: &mut Words, end: Option<&[u8]>) -> Option<Op> {
     let op = match words.next()? {

@@ -1,6 +1,6 @@
 #!/usr/bin/env bash
-# Times a logged setting on 1, 2 and 4 threads beside a plain Rust loop, and prints nanoseconds a setting: the least of seven rounds.
-# The program is proved, built and run in a temporary folder, beside a copy of the crates.
+# Times a logged setting on 1, 2 and 4 threads next to a plain Rust loop, and prints nanoseconds a setting: the least of seven rounds.
+# The program is proved, built and run in a temporary folder, next to a copy of the crates.
 set -eu
 here=$(cd "$(dirname "${BASH_SOURCE[0]}")" && pwd)
 work=$(mktemp -d)

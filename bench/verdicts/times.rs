@@ -22,7 +22,7 @@ struct Entry {
     is_ok: bool,
 }
 
-/// Goes on once so many threads have come here.
+/// Continues once that many threads have come here.
 fn meet(come: &AtomicU16, threads: u16) {
     come.fetch_add(1, Ordering::SeqCst);
     while come.load(Ordering::SeqCst) < threads {

@@ -7,9 +7,9 @@
 //         run.wait_done(heater);
 //     }, std::chrono::seconds(30));
 //
-// A behaviour is a function of a `Run`, on which it makes its calls. Each runs on a thread of its own, and the table is told
+// A behaviour is a function of a `Run`, on which it makes its calls. Each runs on a thread of its own, and the table learns
 // when it returns. A call of a run that was stopped throws `Ended`, which is no std::exception: let it pass. A thread that
-// does not return is left behind; it may still use its `Run`, whose calls throw `Ended`.
+// does not return keeps running; it may still use its `Run`, whose calls throw `Ended`.
 #pragma once
 
 #include <fcntl.h>
@@ -83,9 +83,9 @@ class NoProgram : public std::runtime_error {
 // What is known of a test case: it is there whatever its behaviours did.
 struct Result {
     std::string name;
-    // The overall verdict; error where the server ended before it told one.
+    // The overall verdict; error if the server ended before it wrote one.
     std::string verdict;
-    // Who made the verdict, by which call, and the reason that was given.
+    // The maker of the verdict, its call, and the reason that was given.
     std::string why;
     // The local verdicts by component, and the names of the components, empty where one has none.
     std::map<int, std::string> locals;
@@ -366,7 +366,7 @@ private:
         posix_spawn_file_actions_adddup2(&actions, in, 0);
         posix_spawn_file_actions_adddup2(&actions, out, 1);
         posix_spawn_file_actions_adddup2(&actions, fileno(errors_), 2);
-        // In a group of its own, Ctrl-C at a terminal ends the bench alone.
+        // In a group of its own: Ctrl-C at a terminal ends only the bench.
         posix_spawnattr_setflags(&attributes, POSIX_SPAWN_SETPGROUP);
         int error = posix_spawnp(&pid_, words[0], &actions, &attributes, words.data(), environ);
         posix_spawn_file_actions_destroy(&actions);
@@ -448,7 +448,7 @@ public:
         return std::atoi(call(words).c_str() + 5);
     }
 
-    // Starts a behaviour, by its name in the evidence. The arguments are components, which the table is told.
+    // Starts a behaviour, by its name in the evidence. The arguments are components, which the table sees.
     void start(int component, const std::string& name, Behaviour behaviour, const std::vector<int>& arguments = {});
 
     void stop(const Target& group) { call("stop " + without_any(group)); }
@@ -546,7 +546,7 @@ private:
 
 namespace detail {
 
-// What a fault and a refused line are told as, beside the replies of the table.
+// What comes for a fault and for a refused line, next to the replies of the table.
 inline const std::string lost = "! lost ";
 inline const std::string refused = "! refused ";
 
@@ -629,7 +629,7 @@ private:
         return true;
     }
 
-    // Runs a behaviour to its end, which the table is told.
+    // Runs a behaviour to its end, and reports that to the table.
     void behave(Run& run, const Behaviour& behaviour) {
         run.thread_ = std::this_thread::get_id();
         try {
@@ -694,7 +694,7 @@ private:
         return is_right;
     }
 
-    // Tells of a line: first everybody of what it changes, then its run of the answer.
+    // Reports a line: first to all runs what it changes, then to its run the answer.
     void spread(const std::optional<Line>& line, Run* run, bool is_end) {
         if (is_end || (line && line->kind == 'e' && may_halt(*line))) {
             std::lock_guard<std::mutex> hold(news_);
@@ -706,7 +706,7 @@ private:
         if (run != nullptr) run->take(*line);
     }
 
-    // Tells everybody that there is no server any more. The first reason counts.
+    // Reports to all runs that there is no server any more. The first reason counts.
     void lose(const std::string& fault) {
         std::lock_guard<std::mutex> hold(news_);
         if (fault_.empty()) fault_ = fault;
@@ -715,7 +715,7 @@ private:
         for (const auto& run : runs_) run->answer(lost + fault_);
     }
 
-    // Ends the test case through the table, with the verdict error, in place of a run that does not wait in it.
+    // Ends the test case through the table, with the verdict error, instead of a run that does not wait in it.
     void stop(const std::string& reason) {
         std::string hanging;
         for (const auto& it : locked([&] { return going_on(); }))
@@ -754,7 +754,7 @@ private:
     const std::string name_;
     Program* program_;
     const Seconds grace_;
-    // Tells of an end, of a fault and of changes. Who holds it writes nothing: the server may wait for its reader.
+    // It reports an end, a fault and changes. Its holder writes nothing: the server may wait for its reader.
     std::mutex news_;
     std::condition_variable told_;
     std::timed_mutex sending_;
@@ -858,7 +858,7 @@ inline void Run::answer(const std::string& text) {
     answered_.notify_one();
 }
 
-// Stops the test case in place of the behaviour, unless it waits or is just making a call.
+// Stops the test case instead of the behaviour, unless it waits or is just making a call.
 inline void Run::stop_case_from_outside(const std::string& reason, Seconds limit) {
     std::unique_lock<std::timed_mutex> hold(calling_, std::defer_lock);
     if (is_done_ || is_parked_ || !hold.try_lock_for(Seconds(0.05))) return;
@@ -869,11 +869,11 @@ inline void Run::stop_case_from_outside(const std::string& reason, Seconds limit
     }
 }
 
-// `ttrun serve`, which judges test cases one after the other. Where it has ended, the next test case starts it again.
+// `ttrun serve`, which judges test cases one after the other. If it has ended, the next test case starts it again.
 class Server {
 public:
-    // The program is what FILSKEAM_TTRUN names, else `ttrun` on the path, unless a command is given. A behaviour that does
-    // not return for so long after the end of its test case is left behind.
+    // The program is what FILSKEAM_TTRUN names, or `ttrun` on the path, unless a command is given. A behaviour that does
+    // not return for so long after the end of its test case is abandoned.
     explicit Server(std::vector<std::string> command = {}, Seconds grace = Seconds(5)) : command_(std::move(command)), grace_(grace) {
         const char* named = std::getenv("FILSKEAM_TTRUN");
         if (command_.empty()) command_ = {named != nullptr && *named != 0 ? named : "ttrun", "serve"};

@@ -1,4 +1,4 @@
-// A heater whose thermometer is behind a TCP port: the bench must find out that it gets too hot.
+// A heater whose thermometer is a TCP server: the bench must find out that it gets too hot.
 #include <arpa/inet.h>
 #include <netinet/in.h>
 #include <sys/socket.h>
@@ -38,7 +38,7 @@ private:
     int file_;
 };
 
-// In place of your device: 20, 60, 85 degrees. Returns its port.
+// Instead of your device: 20, 60, 85 degrees. Returns its port.
 int start_thermometer() {
     int listener = socket(AF_INET, SOCK_STREAM, 0);
     sockaddr_in place{};

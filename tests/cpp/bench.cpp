@@ -165,7 +165,7 @@ void random_cases(Server& server) {
     }
 }
 
-// Test cases one after the other, none of which may leave anything behind.
+// Test cases one after the other, none of which may leave anything.
 void leaves(Server& server) {
     for (int at = 0; at < 20; ++at) server.run("t", alone([](Run& run) { run.set_verdict("pass", "a reason"); }));
 }

@@ -1,4 +1,4 @@
-//! The job of `ttrun run` in plain Rust, written for speed, to be measured beside it.
+//! The job of `ttrun run` in plain Rust, written for speed, to be measured next to it.
 mod script;
 mod steps;
 #[path = "../../twin/mod.rs"]

@@ -47,7 +47,7 @@ pub struct Case<'a> {
     pub behaviours: Vec<Behaviour<'a>>,
 }
 
-/// A start whose behaviour may stand further below: the behaviour and the step in it, and the name.
+/// A start whose behaviour may come further below: the behaviour and the step in it, and the name.
 struct Pending<'a> {
     behaviour: usize,
     step: usize,
