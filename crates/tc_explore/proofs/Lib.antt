@@ -16,6 +16,8 @@ pub mod Keeping
 pub mod LastCalls
 pub mod Parking
 pub mod Reaching
+pub mod Kept
+pub mod Tree
 pub mod Room
 pub mod Closed
 pub mod States

@@ -1,5 +1,5 @@
 -- What one more quiet call of a search represents.
-use Rattle.std.proofs.Common.{ℕ, ◌≡◌, ◌==◌, inl, inr, true, false, None, Some, List, ◌∷◌, length, slice_get, refl, ap, sym, subst, ◌∙◌}
+use Rattle.std.proofs.Common.{ℕ, ◌≡◌, ◌==◌, inl, inr, true, false, None, Some, List, [], ◌∷◌, ◌++◌, length, slice_get, refl, ap, sym, subst, ◌∙◌, append_assoc}
 use Rattle.tc_verdict.specs.declared.run.Run.{Run}
 use Rattle.tc_entry.specs.declared.comp.Comp.{Comp}
 use Rattle.tc_entry.specs.declared.entry.Entry.{Entry}
@@ -129,7 +129,10 @@ pub lead_call : (scripts : List ScriptView) (t u : Case) (run : Run) (op : Op) �
     is_fault (answer t.behaviours (past_of t) run.0 op) ≡ false → is_ended (answer t.behaviours (past_of t) run.0 op) ≡ false → IsSilent (past_of t) run.0 op →
     past_of u ≡ taken t.behaviours (past_of t) run op ∷ past_of t → StandsOn scripts t u
 lead_call scripts t u run op on turn plain goes h is =
-    λ p cp f. subst (λ x. IsFor scripts x p) (sym is) (by_call p cp f h)
+    record {
+      further = (taken t.behaviours (past_of t) run op ∷ [], is);
+      stands = λ p cp f. subst (λ x. IsFor scripts x p) (sym is) (by_call p cp f h);
+    }
   where
     by_call : (p : List Entry) → IsCourse scripts p → IsFor scripts (past_of t) p → IsSilent (past_of t) run.0 op → IsFor scripts (taken t.behaviours (past_of t) run op ∷ past_of t) p
     by_call p cp f (inl spent) = lead_spent scripts p (past_of t) (taken t.behaviours (past_of t) run op) cp (turn, on.course) plain goes spent f
@@ -146,10 +149,16 @@ end_of q b op c finish not_main on ordinary = record { finish = finish; not_main
 
 -- a quiet call and then more
 pub stands_then : (scripts : List ScriptView) (t u v : Case) → StandsOn scripts t u → StandsOn scripts u v → StandsOn scripts t v
-stands_then scripts t u v a b = λ p cp f. b p cp (a p cp f)
+stands_then scripts t u v a b = record {
+  further = (
+    b.further.0 ++ a.further.0,
+    b.further.1 ∙ (ap (λ x. b.further.0 ++ x) a.further.1 ∙ sym (append_assoc b.further.0 a.further.0 (past_of t))),
+  );
+  stands = λ p cp f. b.stands p cp (a.stands p cp f);
+}
 
 pub stands_self : (scripts : List ScriptView) (t : Case) → StandsOn scripts t t
-stands_self scripts t = λ p cp f. f
+stands_self scripts t = record { further = ([], refl); stands = λ p cp f. f }
 
 pub ruleset searching_rules = (stands_then, stands_self)
 

@@ -51,7 +51,7 @@ covered_longer scripts a b q more cov = λ p cp f. let c = cov p cp f in (c.0, s
 
 -- what a state of the list is on
 pub covered_by : (scripts : List ScriptView) (states : List Case) (t u : Case) → StandsOn scripts t u → IsSeen states (past_of u) → IsCovered scripts (IsSeen states) (past_of t)
-covered_by scripts states t u stands seen = λ p cp f. (past_of u, seen, stands p cp f)
+covered_by scripts states t u stands seen = λ p cp f. (past_of u, seen, stands.stands p cp f)
 
 pub closed_for_longer : (scripts : List ScriptView) (a b : List Case) (f g : List Witness) (q : List Entry) (e : Entry) → IsLonger a b → IsLonger f g →
     IsClosedFor scripts (IsSeen a) f q e → IsClosedFor scripts (IsSeen b) g q e

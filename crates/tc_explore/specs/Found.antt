@@ -1,5 +1,5 @@
 -- What is found of a test case: the overall verdicts of its complete courses.
-use Rattle.std.specs.Prelude.{ℕ, ◌≡◌, ◌<◌, List, length, reverse, slice_index_or, All}
+use Rattle.std.specs.Prelude.{ℕ, ◌≡◌, ◌<◌, ◌≤◌, List, length, reverse, slice_index_or, All}
 use Rattle.tc_verdict.specs.declared.verdict.Verdict.{Verdict}
 use Rattle.tc_entry.specs.declared.entry.Entry.{Entry}
 use Rattle.tc_step.specs.Steps.{ScriptView}
@@ -35,6 +35,19 @@ Reaches scripts b k = (past : List Entry) × IsCourse scripts past × (carried p
 pub record AreReached (scripts : List ScriptView) (reached : List ℕ) : Type 0 where
   pub as_many : length reached ≡ length scripts
   pub each : (b : ℕ) → b < length reached → Reaches scripts b (slice_index_or reached b 0)
+
+-- for no run fewer calls are counted than it carries out in this course
+abbrev pub Covers : List ℕ → List Entry → Type 0
+Covers reached past = (b : ℕ) → b < length reached → carried past b ≤ slice_index_or reached b 0
+
+-- a search of that many states has met as many different courses, and counts for no run fewer calls than it carries out in
+-- one of them
+pub record AreMet (scripts : List ScriptView) (reached : List ℕ) (states : ℕ) : Type 0 where
+  pub courses : List (List Entry)
+  pub as_many : length courses ≡ states
+  pub each : All (IsCourse scripts) courses
+  pub once : (i j : ℕ) (d : List Entry) → i < length courses → j < length courses → slice_index_or courses i d ≡ slice_index_or courses j d → i ≡ j
+  pub counted : All (Covers reached) courses
 
 -- each is a history in which each reply is the component table's
 abbrev pub AreLegal : List ScriptView → List Witness → Type 0

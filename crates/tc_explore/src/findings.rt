@@ -1,9 +1,10 @@
 //! What a search has found so far.
 ghost use Rattle.std.specs.Prelude.{◌≡◌, ◌≤◌, [], IfOk, length};
+ghost use Rattle.tc_table.specs.Case.{past_of};
 ghost use Rattle.tc_entry.specs.declared.limits.TheConstants.{BEHAVIOURS};
-ghost use Rattle.tc_explore.specs.Found.{AreReached};
+ghost use Rattle.tc_explore.specs.Found.{AreReached, Covers};
 ghost use Rattle.tc_explore.specs.Inside.Going.{IsOn};
-ghost use Rattle.tc_explore.specs.Inside.Seen.{IsNoted};
+ghost use Rattle.tc_explore.specs.Inside.Seen.{IsNoLess, IsNoted};
 
 use crate::course::Course;
 use crate::witness::Witness;
@@ -30,18 +31,17 @@ pub(crate) fn no_findings(alloc: Global, scripts: &[Script]) -> Result<Findings,
 }
 
 /// Takes in how many calls the runs of a course have carried out.
-#[tactic(auto, using(crate::proofs::Reaching::reaching_rules))]
+#[tactic(auto, using(crate::proofs::Kept::counting_rules))]
 pub(crate) fn reach(reached: &mut Vec<usize>, scripts: &[Script], course: &Course)
     requires few { length scripts.now ≤ BEHAVIOURS }
     requires on { IsOn scripts.now course.now }
     requires reached { AreReached scripts.now reached.old.items }
-    ensures { AreReached scripts.now reached.new.items }
+    ensures reached { AreReached scripts.now reached.new.items }
+    ensures more { IsNoLess reached.old.items reached.new.items }
+    ensures covers { Covers reached.new.items (past_of course.now) }
 {
     for run in 0..scripts.len() as u16 {
-        let carried = course.carried(Run(run));
         let at = usize::from(run);
-        if reached[at] < carried {
-            reached[at] = carried;
-        }
+        reached[at] = reached[at].max(course.carried(Run(run)));
     }
 }

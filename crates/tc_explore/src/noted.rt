@@ -9,7 +9,7 @@ ghost use Rattle.tc_explore.specs.Course.{IsComplete};
 ghost use Rattle.tc_explore.specs.Found.{IsWitness};
 ghost use Rattle.tc_explore.specs.Told as told;
 ghost use Rattle.tc_explore.specs.Inside.Going.{IsOn, IsSteppedIfActive, AreNoted};
-ghost use Rattle.tc_explore.specs.Inside.Seen.{IsLonger, IsNoted, IsOpen, AreHeld};
+ghost use Rattle.tc_explore.specs.Inside.Seen.{IsLonger, IsNoLess, IsNoted, IsOpen, AreHeld};
 
 use crate::course::Course;
 use crate::findings::{Findings, reach};
@@ -64,6 +64,7 @@ pub(crate) fn note(
     requires found { IsNoted scripts.now found.old }
     ensures found { IsNoted scripts.now found.new }
     ensures more_found { IsLonger found.old.witnesses.items found.new.witnesses.items }
+    ensures more { IsNoLess found.old.reached.items found.new.reached.items }
     ensures told { OnOk result (told.is_found found.new.witnesses.items (overall (past_of course)) ≡ true) }
 {
     reach(&mut found.reached, scripts, &course);

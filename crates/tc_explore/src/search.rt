@@ -6,10 +6,11 @@ ghost use Rattle.tc_table.specs.Case.{past_of};
 ghost use Rattle.tc_explore.specs.Inside.Going as going;
 ghost use Rattle.tc_explore.specs.Inside.Going.{IsOn, IsNext};
 ghost use Rattle.tc_explore.specs.Inside.Simulation as moves;
+ghost use Rattle.tc_explore.specs.Found.{AreMet};
 ghost use Rattle.tc_explore.specs.Laws.{AllFound};
 ghost use Rattle.tc_explore.specs.Course.{goes_on};
 ghost use Rattle.tc_table.specs.Answers.{answer};
-ghost use Rattle.tc_explore.specs.Inside.Seen.{IsClosedAt, AreClosed, IsSeen, IsLonger, IsNoted, IsOpen, IsState, IsFull, IsStillAt, AreStill, IsCallClosed, IsRunOfClosed, AreRunsClosed, IsCaseClosed};
+ghost use Rattle.tc_explore.specs.Inside.Seen.{IsClosedAt, AreClosed, IsSeen, IsLonger, IsNoted, IsOpen, IsState, AreApart, AreGrown, AreKept, IsGrown, IsGrownAt, IsTree, IsWith, IsFull, IsStillAt, AreStill, IsCallClosed, IsRunOfClosed, AreRunsClosed, IsCaseClosed};
 
 use crate::calm::calmed;
 use crate::course::Course;
@@ -19,17 +20,17 @@ use crate::noted::{note, with_stuck};
 use crate::same::is_same;
 use crate::told::is_found;
 use crate::turns::next_call;
-use indexmap::IndexSet;
+use indexmap::IndexMap;
 use std::alloc::Global;
 use tc_entry::Op;
 use tc_step::Script;
 use tc_verdict::{NoMemory, Run, Verdict};
 
-/// The states that were met, by a course each, at most that many.
+/// The states that were met, by a course each, at most that many; and for each key the index of the last state that has it.
 #[derive(Drop)]
 pub(crate) struct Met {
     pub(crate) states: Vec<Course>,
-    pub(crate) keys: IndexSet<Vec<u16>>,
+    pub(crate) places: IndexMap<Vec<u16>, usize>,
     pub(crate) limit: usize,
 }
 
@@ -56,22 +57,22 @@ fn is_at(states: &[Course], at: usize, course: &Course, scripts: &[Script]) -> b
 }
 
 // Takes in the state of a course, and returns whether it is among those that are seen: it is, unless as many as the
-// limit are met. A key that represents another state as well is no hindrance.
+// limit are met. A key that represents another state as well leads to this one from now on.
 #[tactic(auto, using(crate::proofs::Seeing::seeing_rules, crate::proofs::Keeping::keeping_rules))]
 fn place(alloc: Global, scripts: &[Script], course: Course, met: &mut Met) -> Result<bool, NoMemory>
     requires some { 1 ≤ length scripts.now }
     requires few { length scripts.now ≤ BEHAVIOURS }
     requires state { IsState scripts.now course }
     requires states { All (λ t. IsState scripts.now t) met.old.states.items }
-    ensures states { OnOk result (All (λ t. IsState scripts.now t) met.new.states.items) }
-    ensures longer { OnOk result (IsLonger met.old.states.items met.new.states.items) }
+    ensures with_it { OnOk result (IsWith met.old.states.items course met.new.states.items) }
     ensures limit { met.new.limit ≡ met.old.limit }
     ensures within { length met.old.states.items ≤ met.old.limit → length met.new.states.items ≤ met.old.limit }
     ensures seen { IfOk result (λ is_seen. is_seen ≡ true → IsSeen met.new.states.items (past_of course)) }
     ensures full { IfOk result (λ is_seen. is_seen ≡ false → IsFull met.old) }
 {
     let key = course.key(alloc)?;
-    let is_known = match met.keys.get_index_of(&key) {
+    let known = met.places.get(&key).copied();
+    let is_known = match known {
         Some(at) => is_at(&met.states, at, &course, scripts),
         None => false,
     };
@@ -81,7 +82,8 @@ fn place(alloc: Global, scripts: &[Script], course: Course, met: &mut Met) -> Re
     if met.states.len() >= met.limit {
         return Ok(false);
     }
-    met.keys.insert(key)?;
+    let at = met.states.len();
+    met.places.insert(key, at)?;
     met.states.push(course)?;
     Ok(true)
 }
@@ -104,7 +106,7 @@ fn with_call(
 }
 
 // Makes a call, and returns whether what it leads to is seen, or its verdict is found.
-#[tactic(auto, using(crate::proofs::Closed::closed_rules, crate::proofs::Seeing::seeing_rules, crate::proofs::Keeping::keeping_rules, crate::proofs::Keeping::open_next))]
+#[tactic(auto, using(crate::proofs::Closed::closed_rules, crate::proofs::Seeing::seeing_rules, crate::proofs::Keeping::keeping_rules, crate::proofs::Keeping::open_next, crate::proofs::Kept::kept_rules))]
 fn after_call(
     alloc: Global,
     scripts: &[Script],
@@ -119,12 +121,13 @@ fn after_call(
     requires opened { IsOpen scripts.now course.now }
     requires turn { IsNext scripts.now course.now run op }
     requires goes { goes_on (answer course.now.behaviours (past_of course.now) run.0 op) ≡ true }
-    requires states { All (λ t. IsState scripts.now t) met.old.states.items }
+    requires kept { AreKept scripts.now met.old found.old }
     requires found { IsNoted scripts.now found.old }
-    ensures states { OnOk result (All (λ t. IsState scripts.now t) met.new.states.items) }
+    ensures kept { OnOk result (AreKept scripts.now met.new found.new) }
     ensures more_states { OnOk result (IsLonger met.old.states.items met.new.states.items) }
     ensures found { OnOk result (IsNoted scripts.now found.new) }
     ensures more_found { OnOk result (IsLonger found.old.witnesses.items found.new.witnesses.items) }
+    ensures grown { OnOk result (IsGrown met.old.states.items met.new.states.items (past_of course.now) run.0) }
     ensures limit { OnOk result (met.new.limit ≡ met.old.limit) }
     ensures closed { IfOk result (λ is_closed. is_closed ≡ true → IsCallClosed scripts.now met.new found.new course.now run op) }
     ensures full { IfOk result (λ is_closed. is_closed ≡ false → IsFull met.old) }
@@ -148,7 +151,7 @@ struct Tried {
 }
 
 // Makes the next call of a run.
-#[tactic(auto, using(crate::proofs::Closed::run_rules, crate::proofs::Seeing::seeing_rules, crate::proofs::Keeping::keeping_rules))]
+#[tactic(auto, using(crate::proofs::Closed::run_rules, crate::proofs::Seeing::seeing_rules, crate::proofs::Keeping::keeping_rules, crate::proofs::Tree::growing_rules))]
 fn try_run(
     alloc: Global,
     scripts: &[Script],
@@ -160,12 +163,13 @@ fn try_run(
     requires few { length scripts.now ≤ BEHAVIOURS }
     requires within { run.0 < length scripts.now }
     requires state { IsState scripts.now course.now }
-    requires states { All (λ t. IsState scripts.now t) met.old.states.items }
+    requires kept { AreKept scripts.now met.old found.old }
     requires found { IsNoted scripts.now found.old }
-    ensures states { OnOk result (All (λ t. IsState scripts.now t) met.new.states.items) }
+    ensures kept { OnOk result (AreKept scripts.now met.new found.new) }
     ensures more_states { OnOk result (IsLonger met.old.states.items met.new.states.items) }
     ensures found { OnOk result (IsNoted scripts.now found.new) }
     ensures more_found { OnOk result (IsLonger found.old.witnesses.items found.new.witnesses.items) }
+    ensures grown { OnOk result (IsGrown met.old.states.items met.new.states.items (past_of course.now) run.0) }
     ensures limit { OnOk result (met.new.limit ≡ met.old.limit) }
     ensures closed { IfOk result (λ t. t.is_closed ≡ true → IsRunOfClosed scripts.now met.new found.new course.now run.0) }
     ensures full { IfOk result (λ t. t.is_closed ≡ false → IsFull met.old) }
@@ -203,12 +207,13 @@ fn try_runs(
 ) -> Result<Tried, NoMemory>
     requires few { length scripts.now ≤ BEHAVIOURS }
     requires state { IsState scripts.now course.now }
-    requires states { All (λ t. IsState scripts.now t) met.old.states.items }
+    requires kept { AreKept scripts.now met.old found.old }
     requires found { IsNoted scripts.now found.old }
-    ensures states { OnOk result (All (λ t. IsState scripts.now t) met.new.states.items) }
+    ensures kept { OnOk result (AreKept scripts.now met.new found.new) }
     ensures more_states { OnOk result (IsLonger met.old.states.items met.new.states.items) }
     ensures found { OnOk result (IsNoted scripts.now found.new) }
     ensures more_found { OnOk result (IsLonger found.old.witnesses.items found.new.witnesses.items) }
+    ensures grown { OnOk result (AreGrown met.old.states.items met.new.states.items (past_of course.now) (length scripts.now)) }
     ensures limit { OnOk result (met.new.limit ≡ met.old.limit) }
     ensures closed { IfOk result (λ t. t.is_closed ≡ true → AreRunsClosed scripts.now met.new found.new course.now (length scripts.now)) }
     ensures full { IfOk result (λ t. t.is_closed ≡ false → IsFull met.new) }
@@ -227,7 +232,7 @@ fn try_runs(
 
 // Looks at the state of a course: makes the next call of each run, or ends the case if none continues. It returns
 // whether what comes after the state is seen, or found. It is, unless as many states as the limit are met.
-#[tactic(auto, using(crate::proofs::States::state_rules, crate::proofs::Closed::runs_rules, crate::proofs::Seeing::seeing_rules, crate::proofs::Keeping::keeping_rules, crate::proofs::Parking::held_if))]
+#[tactic(auto, using(crate::proofs::States::state_rules, crate::proofs::Closed::runs_rules, crate::proofs::Seeing::seeing_rules, crate::proofs::Keeping::keeping_rules, crate::proofs::Parking::held_if, crate::proofs::Kept::kept_rules))]
 fn expand_course(
     alloc: Global,
     scripts: &[Script],
@@ -238,12 +243,13 @@ fn expand_course(
     requires some { 1 ≤ length scripts.now }
     requires few { length scripts.now ≤ BEHAVIOURS }
     requires state { IsState scripts.now course.now }
-    requires states { All (λ t. IsState scripts.now t) met.old.states.items }
+    requires kept { AreKept scripts.now met.old found.old }
     requires found { IsNoted scripts.now found.old }
-    ensures states { OnOk result (All (λ t. IsState scripts.now t) met.new.states.items) }
+    ensures kept { OnOk result (AreKept scripts.now met.new found.new) }
     ensures more_states { OnOk result (IsLonger met.old.states.items met.new.states.items) }
     ensures found { OnOk result (IsNoted scripts.now found.new) }
     ensures more_found { OnOk result (IsLonger found.old.witnesses.items found.new.witnesses.items) }
+    ensures grown { OnOk result (AreGrown met.old.states.items met.new.states.items (past_of course.now) (length scripts.now)) }
     ensures limit { OnOk result (met.new.limit ≡ met.old.limit) }
     ensures closed { IfOk result (λ is_closed. is_closed ≡ true → IsCaseClosed scripts.now met.new found.new course.now) }
     ensures full { IfOk result (λ is_closed. is_closed ≡ false → IsFull met.new) }
@@ -265,7 +271,7 @@ fn expand_course(
 }
 
 // Looks at the state at this place.
-#[tactic(auto, using(crate::proofs::Seeing::seeing_rules, crate::proofs::Keeping::keeping_rules))]
+#[tactic(auto, using(crate::proofs::Seeing::seeing_rules, crate::proofs::Keeping::keeping_rules, crate::proofs::Kept::kept_rules))]
 fn expand(
     alloc: Global,
     scripts: &[Script],
@@ -276,12 +282,13 @@ fn expand(
     requires some { 1 ≤ length scripts.now }
     requires few { length scripts.now ≤ BEHAVIOURS }
     requires within { at < length met.old.states.items }
-    requires states { All (λ t. IsState scripts.now t) met.old.states.items }
+    requires kept { AreKept scripts.now met.old found.old }
     requires found { IsNoted scripts.now found.old }
-    ensures states { OnOk result (All (λ t. IsState scripts.now t) met.new.states.items) }
+    ensures kept { OnOk result (AreKept scripts.now met.new found.new) }
     ensures more_states { OnOk result (IsLonger met.old.states.items met.new.states.items) }
     ensures found { OnOk result (IsNoted scripts.now found.new) }
     ensures more_found { OnOk result (IsLonger found.old.witnesses.items found.new.witnesses.items) }
+    ensures grown { OnOk result (IsGrownAt met.old.states.items met.new.states.items at (length scripts.now)) }
     ensures limit { OnOk result (met.new.limit ≡ met.old.limit) }
     ensures closed { IfOk result (λ is_closed. is_closed ≡ true → IsClosedAt scripts.now met.new.states.items found.new.witnesses.items at) }
     ensures full { IfOk result (λ is_closed. is_closed ≡ false → IsFull met.new) }
@@ -292,45 +299,41 @@ fn expand(
     is_closed
 }
 
-// Looks at all states, at most that many.
+// Looks at all states, and returns whether what comes after each is seen, or found.
 #[tactic(auto, using(crate::proofs::States::loop_rules, crate::proofs::Closed::longer_then, crate::proofs::Seeing::seeing_rules))]
 fn expand_all(
     alloc: Global,
     scripts: &[Script],
-    limit: usize,
     met: &mut Met,
     found: &mut Findings,
-) -> Result<Extent, NoMemory>
+) -> Result<bool, NoMemory>
     requires some { 1 ≤ length scripts.now }
     requires few { length scripts.now ≤ BEHAVIOURS }
-    requires limit { met.old.limit ≡ limit }
-    requires states { All (λ t. IsState scripts.now t) met.old.states.items }
+    requires tree { IsTree met.old.states.items 0 0 }
+    requires kept { AreKept scripts.now met.old found.old }
     requires found { IsNoted scripts.now found.old }
     ensures more_states { OnOk result (IsLonger met.old.states.items met.new.states.items) }
     ensures found { OnOk result (IsNoted scripts.now found.new) }
-    ensures closed { IfOk result (λ e. e.is_whole ≡ true → AreClosed scripts.now met.new.states.items found.new.witnesses.items) }
-    ensures within { IfOk result (λ e. e.states ≤ limit) }
-    ensures full { IfOk result (λ e. e.is_whole ≡ false → e.states ≡ limit) }
+    ensures kept { OnOk result (AreKept scripts.now met.new found.new) }
+    ensures apart { OnOk result (AreApart met.new.states.items) }
+    ensures limit { OnOk result (met.new.limit ≡ met.old.limit) }
+    ensures closed { IfOk result (λ is_whole. is_whole ≡ true → AreClosed scripts.now met.new.states.items found.new.witnesses.items) }
+    ensures full { IfOk result (λ is_whole. is_whole ≡ false → IsFull met.new) }
 {
     let mut is_closed = true;
+    let limit = met.limit;
     for at in 0..limit {
         if at >= met.states.len() {
-            return Ok(Extent {
-                states: at,
-                is_whole: is_closed,
-            });
+            return Ok(is_closed);
         }
         let is_one_closed = expand(alloc, scripts, at, met, found)?;
         is_closed = is_closed && is_one_closed;
     }
-    Ok(Extent {
-        states: limit,
-        is_whole: is_closed && limit >= met.states.len(),
-    })
+    Ok(is_closed)
 }
 
 // Makes the calls of all runs from each state that is met, within a limit, if none was met.
-#[tactic(auto, using(crate::proofs::States::complete_by, crate::proofs::Lemmas::Turning::turn_rules, crate::proofs::Seeing::seeing_rules, crate::proofs::Keeping::open_opening))]
+#[tactic(auto, using(crate::proofs::States::complete_by, crate::proofs::Lemmas::Turning::turn_rules, crate::proofs::Seeing::seeing_rules, crate::proofs::Keeping::open_opening, crate::proofs::Kept::kept_rules))]
 fn search_in(
     alloc: Global,
     scripts: &[Script],
@@ -342,22 +345,25 @@ fn search_in(
     requires none { met.old.states.items ≡ [] }
     requires found { IsNoted scripts.now found.old }
     ensures found { OnOk result (IsNoted scripts.now found.new) }
+    ensures met { IfOk result (λ e. AreMet scripts.now found.new.reached.items e.states) }
     ensures complete { IfOk result (λ e. e.is_whole ≡ true → AllFound scripts.now found.new.witnesses.items) }
     ensures within { IfOk result (λ e. e.states ≤ met.old.limit) }
     ensures full { IfOk result (λ e. e.is_whole ≡ false → e.states ≡ met.old.limit) }
 {
-    let limit = met.limit;
     let opening = Course::opening(alloc, scripts.len() as u16)?;
     let calm = calmed(opening, scripts)?;
     reach(&mut found.reached, scripts, &calm);
     if !place(alloc, scripts, calm, met)? {
         return Ok(Extent {
-            states: 0,
+            states: met.states.len(),
             is_whole: false,
         });
     }
-    let extent = expand_all(alloc, scripts, limit, met, found)?;
-    Ok(extent)
+    let is_whole = expand_all(alloc, scripts, met, found)?;
+    Ok(Extent {
+        states: met.states.len(),
+        is_whole,
+    })
 }
 
 /// Makes the calls of all runs from each state that is met, within a limit. It comes to its end unless it meets the limit, and
@@ -373,13 +379,14 @@ pub(crate) fn search_all(
     requires few { length scripts.now ≤ BEHAVIOURS }
     requires found { IsNoted scripts.now found.old }
     ensures found { OnOk result (IsNoted scripts.now found.new) }
+    ensures met { IfOk result (λ e. AreMet scripts.now found.new.reached.items e.states) }
     ensures complete { IfOk result (λ e. e.is_whole ≡ true → AllFound scripts.now found.new.witnesses.items) }
     ensures within { IfOk result (λ e. e.states ≤ limit) }
     ensures full { IfOk result (λ e. e.is_whole ≡ false → e.states ≡ limit) }
 {
     let mut met = Met {
         states: Vec::new(alloc),
-        keys: IndexSet::new(alloc),
+        places: IndexMap::new(alloc),
         limit,
     };
     let extent = search_in(alloc, scripts, &mut met, found);

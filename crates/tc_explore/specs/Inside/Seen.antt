@@ -1,5 +1,5 @@
 -- The states that a search has seen.
-use Rattle.std.specs.Prelude.{ℕ, ◌≡◌, ◌<◌, ◌≤◌, true, None, Option, Some, List, ◌∷◌, ◌++◌, ◌+◌, false, length, slice_get}
+use Rattle.std.specs.Prelude.{ℕ, zero, suc, ◌≡◌, ◌<◌, ◌≤◌, ◌⊎◌, true, None, Option, Some, List, [], ◌∷◌, ◌++◌, ◌+◌, false, length, slice_get, slice_index_or, All}
 use Rattle.tc_verdict.specs.declared.run.Run.{Run}
 use Rattle.tc_entry.specs.declared.comp.Comp.{Comp}
 use Rattle.tc_entry.specs.declared.entry.Entry.{Entry}
@@ -17,9 +17,9 @@ use Rattle.tc_table.specs.Answers.{answer, is_active}
 use Rattle.tc_explore.specs.declared.witness.Witness.{Witness}
 use Rattle.tc_explore.specs.declared.findings.Findings.{Findings}
 use Rattle.tc_explore.specs.declared.search.Met.{Met}
-use Rattle.tc_explore.specs.Found.{AreReached}
+use Rattle.tc_explore.specs.Found.{AreReached, Covers}
 use Rattle.tc_explore.specs.Told.{is_found}
-use Rattle.tc_explore.specs.Course.{stand, goes_on, IsTurn, IsCourse}
+use Rattle.tc_explore.specs.Course.{carried, stand, goes_on, IsTurn, IsCourse}
 use Rattle.tc_explore.specs.Inside.Going.{taken, IsOn, AreNoted}
 use Rattle.tc_explore.specs.Inside.Alike.{IsAlike}
 use Rattle.tc_explore.specs.Inside.Simulation.{is_spent, IsFor, IsCovered, IsClosedFor, IsClosed}
@@ -94,6 +94,57 @@ pub record IsState (scripts : List ScriptView) (t : Case) : Type 0 where
 abbrev pub IsFull : Met → Type 0
 IsFull met = met.limit ≤ length met.states.items
 
+-- the states that a search has met: at most its limit, and each run's calls in them are counted
+pub record AreKept (scripts : List ScriptView) (met : Met) (found : Findings) : Type 0 where
+  pub few : length met.states.items ≤ met.limit
+  pub each : All (λ t. IsState scripts t) met.states.items
+  pub counted : All (λ t. Covers found.reached.items (past_of t)) met.states.items
+
+-- the states are these, or one more
+abbrev pub IsWith : List Case → Case → List Case → Type 0
+IsWith before t after = (after ≡ before) ⊎ (after ≡ before ++ t ∷ [])
+
+-- a course continues another by a call of run b
+pub record GoesOnFrom (past from : List Entry) (b : ℕ) : Type 0 where
+  pub more : List Entry
+  pub entry : Entry
+  pub is : past ≡ more ++ entry ∷ from
+  pub own : entry.caller.0 ≡ b
+
+-- the states are as they were, or there is one more, whose course continues this one by a call of run b
+abbrev pub IsGrown : List Case → List Case → List Entry → ℕ → Type 0
+IsGrown before after from b = (after ≡ before) ⊎ ((t : Case) × (after ≡ before ++ t ∷ []) × GoesOnFrom (past_of t) from b)
+
+-- each of n runs, one after the other, adds at most one state
+abbrev pub AreGrown : List Case → List Case → List Entry → ℕ → Type 0
+AreGrown before after from zero = after ≡ before
+AreGrown before after from (suc n) = (mid : List Case) × AreGrown before mid from n × IsGrown mid after from n
+
+-- the same, by calls from the state at this index
+abbrev pub IsGrownAt : List Case → List Case → ℕ → ℕ → Type 0
+IsGrownAt before after at n = (t : Case) → slice_get before at ≡ Some t → AreGrown before after (past_of t) n
+
+-- no two of the states are at one course
+abbrev pub AreApart : List Case → Type 0
+AreApart states = (i j : ℕ) (s t : Case) → slice_get states i ≡ Some s → slice_get states j ≡ Some t → past_of s ≡ past_of t → i ≡ j
+
+-- no two are at one course, and none continues a state after the one at this index, or that one by a call of run n or a later one
+pub record IsTree (states : List Case) (at n : ℕ) : Type 0 where
+  pub apart : AreApart states
+  pub fresh : (i j b : ℕ) (s t : Case) → at < i → slice_get states i ≡ Some s → slice_get states j ≡ Some t → GoesOnFrom (past_of t) (past_of s) b → ⊥
+  pub unmade : (j b : ℕ) (s t : Case) → n ≤ b → slice_get states at ≡ Some s → slice_get states j ≡ Some t → GoesOnFrom (past_of t) (past_of s) b → ⊥
+
+-- there are as many numbers, and none is less
+pub record IsNoLess (before after : List ℕ) : Type 0 where
+  pub as_many : length after ≡ length before
+  pub each : (b : ℕ) → b < length before → slice_index_or before b 0 ≤ slice_index_or after b 0
+
+-- the runs below n of a course are counted, and nothing less than before
+pub record IsCountedTo (scripts : List ScriptView) (before after : List ℕ) (past : List Entry) (n : ℕ) : Type 0 where
+  pub reached : AreReached scripts after
+  pub more : IsNoLess before after
+  pub covers : (b : ℕ) → b < n → carried past b ≤ slice_index_or after b 0
+
 -- the next call of run b, if it continues, is an error
 abbrev pub IsStillAt : List ScriptView → List Entry → ℕ → Type 0
 IsStillAt scripts past b = (e : Entry) → e.caller.0 ≡ b → IsTurn scripts past e → goes_on e.reply ≡ true → is_fault e.reply ≡ true
@@ -135,9 +186,10 @@ abbrev pub comp_code : Option Comp → ℕ
 comp_code None = 0
 comp_code (Some c) = c.0 + 1
 
--- whatever the one represents, the other does
-abbrev pub StandsOn : List ScriptView → Case → Case → Type 0
-StandsOn scripts before after = (p : List Entry) → IsCourse scripts p → IsFor scripts (past_of before) p → IsFor scripts (past_of after) p
+-- the one continues the other, or is it, and whatever the other represents, it does
+pub record StandsOn (scripts : List ScriptView) (before after : Case) : Type 0 where
+  pub further : (more : List Entry) × (past_of after ≡ more ++ past_of before)
+  pub stands : (p : List Entry) → IsCourse scripts p → IsFor scripts (past_of before) p → IsFor scripts (past_of after) p
 
 -- after this entry the verdict is found, or the state is seen
 pub record IsAfter (scripts : List ScriptView) (states : List Case) (found : List Witness) (q : List Entry) (e : Entry) : Type 0 where

@@ -1,4 +1,5 @@
 use Rattle.std.proofs.Common.{◌∙◌, refl}
+use Rattle.tc_explore.proofs.Kept.{met_none}
 use Rattle.tc_explore.proofs.Legality.{witnesses_legal}
 use Rattle.tc_explore.proofs.explored.explore.Goals as goal
 
@@ -16,3 +17,6 @@ returns-then-is_empty-clause-legal c = rw c.new.ensures (witnesses_legal c.args.
 
 pub returns-then-is_empty-clause-nothing : goal.returns-then-is_empty-clause-nothing
 returns-then-is_empty-clause-nothing c h = (refl, c.new.ensures ∙ c.in_ok-found.ensures.none, refl)
+
+pub returns-then-is_empty-clause-met : goal.returns-then-is_empty-clause-met
+returns-then-is_empty-clause-met c = met_none c.args.scripts.now _

@@ -1,7 +1,8 @@
-use Rattle.std.proofs.Common.{rules, ◌≡◌, ◌+◌, ◌<◌, ◌≤◌, ℕ, true, false, length, ◌∙◌}
+use Rattle.std.proofs.Common.{rules, ◌≡◌, ◌+◌, ◌<◌, ◌≤◌, ℕ, true, false, length, arith, ◌∙◌}
 use Rattle.tc_explore.specs.Inside.Seen.{IsClosedAt, IsFull}
 use Rattle.tc_explore.proofs.Closed.{full_longer, longer_then}
 use Rattle.tc_explore.proofs.States.{closed_ats_more, closed_ats_all}
+use Rattle.tc_explore.proofs.Tree.{tree_next}
 use Rattle.tc_explore.proofs.search.expand_all.Goals as goal
 use Rattle.tc_explore.proofs.search.expand_all.Goals.{then-is_closed, else-is_closed}
 
@@ -22,17 +23,19 @@ loop-at-preserved c =
       | then-is_closed w ↦ λ h. let now : c.in_ok-is_one_closed.is_one_closed ≡ false = search rules in is.full now
       | else-is_closed w ↦ λ h. let before : c.loop-at.is_closed ≡ false = search rules in full_longer c.loop-at.met c.expand.new.met is.more_states is.limit (was.6 before)
     ] in (
-      is.states,
+      is.kept,
       longer_then c.args.met.now.states.items c.loop-at.met.states.items c.expand.new.met.states.items was.1 is.more_states,
       is.found,
       longer_then c.args.found.now.witnesses.items c.loop-at.found.witnesses.items c.expand.new.found.witnesses.items was.3 is.more_found,
       closed,
       is.limit ∙ was.5,
       full,
+      tree_next c.loop-at.met.states.items c.expand.new.met.states.items c.loop-at.at (length c.args.scripts.now) within was.7 is.grown,
     )
 
-pub returns-then-is_closed-2-clause-closed : goal.returns-then-is_closed-2-clause-closed
-returns-then-is_closed-2-clause-closed c h =
-    let whole : length c.loop-at.met.states.items ≤ c.loop-at.at = search rules in
+pub returns-clause-closed : goal.returns-clause-closed
+returns-clause-closed c h =
+    let was = c.loop-at.invariant in
+    let whole : length c.loop-at.met.states.items ≤ c.loop-at.at = omega (arith, was.0.few) in
     let closed : c.loop-at.is_closed ≡ true = search rules in
-    closed_ats_all c.args.scripts.now c.loop-at.met.states.items c.loop-at.found.witnesses.items c.loop-at.at whole (c.loop-at.invariant.4 closed)
+    closed_ats_all c.args.scripts.now c.loop-at.met.states.items c.loop-at.found.witnesses.items c.loop-at.at whole (was.4 closed)

@@ -1,11 +1,13 @@
-use Rattle.std.proofs.lemmas.List.Elements.{All-push}
-use Rattle.tc_explore.specs.Inside.Seen.{IsState}
+use Rattle.std.proofs.Common.{refl, inl, inr}
 use Rattle.tc_explore.proofs.Keeping.{state_self}
 use Rattle.tc_explore.proofs.Seeing.{seen_last}
 use Rattle.tc_explore.proofs.search.place.Goals as goal
 
-pub returns-clause-states : goal.returns-clause-states
-returns-clause-states c = rw c.in_ok-push.ensures.items (All-push (λ t. IsState c.args.scripts.now t) c.args.met.now.states.items c.args.course c.requires.states c.requires.state)
+pub returns-then-is_known-clause-with_it : goal.returns-then-is_known-clause-with_it
+returns-then-is_known-clause-with_it c = inl refl
+
+pub returns-clause-with_it : goal.returns-clause-with_it
+returns-clause-with_it c = inr c.in_ok-push.ensures.items
 
 pub returns-clause-seen : goal.returns-clause-seen
 returns-clause-seen c h =

@@ -1,12 +1,12 @@
-use Rattle.std.proofs.Common.{◌≡◌, ◌<◌, ℕ, true, false, All}
+use Rattle.std.proofs.Common.{◌≡◌, ◌<◌, ℕ, true, false}
 use Rattle.tc_table.specs.Case.{past_of}
 use Rattle.tc_explore.specs.Inside.Simulation.{GoesOn}
-use Rattle.tc_explore.specs.Inside.Seen.{IsLonger, IsNoted, IsRunClosed, IsState, IsFull, AreStill}
+use Rattle.tc_explore.specs.Inside.Seen.{AreGrown, AreKept, IsLonger, IsNoted, IsRunClosed, IsFull, AreStill}
 use Rattle.tc_explore.proofs.search.try_runs.Given as goal
 
 abbrev pub invariant-loop-run : goal.invariant-loop-run
 invariant-loop-run l =
-    All (λ t. IsState l.scripts t) l.met.states.items
+    AreKept l.scripts l.met l.found
     × IsLonger l.initial.met.states.items l.met.states.items
     × IsNoted l.scripts l.found
     × IsLonger l.initial.found.witnesses.items l.found.witnesses.items
@@ -15,3 +15,4 @@ invariant-loop-run l =
     × (l.met.limit ≡ l.initial.met.limit)
     × (l.is_closed ≡ false → IsFull l.met)
     × (l.goes_on ≡ false → AreStill l.scripts (past_of l.course) l.run)
+    × AreGrown l.initial.met.states.items l.met.states.items (past_of l.course) l.run

@@ -1,0 +1,138 @@
+-- The states that a search keeps, and how many calls it counts.
+use Rattle.std.proofs.Common.{ℕ, ◌≡◌, ◌+◌, ◌==◌, ◌<◌, ◌≤◌, ◌⊎◌, inl, inr, max, Bool, true, false, nat_le, nat_lt, All, List, [], ◌∷◌, ◌++◌, length, map, get_or, set, refl, ap, sym, subst, ◌∙◌, arith, append-nil}
+use Rattle.std.proofs.lemmas.Bool.Decides.{nat_tests}
+use Rattle.std.proofs.lemmas.List.{get_or-set_same, get_or-set_other, length-map, length-set}
+use Rattle.std.proofs.lemmas.List.Elements.{All-nil, All-same, All-push, All-map, All-weaker}
+use Rattle.tc_entry.specs.declared.entry.Entry.{Entry}
+use Rattle.tc_step.specs.Steps.{ScriptView}
+use Rattle.tc_table.specs.Case.{Case, past_of}
+use Rattle.tc_table.proofs.Lemmas.Deciding.{equal_if, self_equal}
+use Rattle.tc_explore.specs.declared.findings.Findings.{Findings}
+use Rattle.tc_explore.specs.declared.search.Met.{Met}
+use Rattle.tc_explore.specs.Course.{carried, IsCourse}
+use Rattle.tc_explore.specs.Found.{Reaches, AreReached, Covers, AreMet}
+use Rattle.tc_explore.specs.Inside.Going.{IsOn}
+use Rattle.tc_explore.specs.Inside.Seen.{AreApart, AreKept, IsCountedTo, IsLonger, IsNoLess, IsState, IsWith}
+use Rattle.tc_explore.proofs.Reaching.{reaches, reached_set}
+use Rattle.tc_explore.proofs.Tree.{once_of}
+
+-- ---- numbers of calls
+
+pub no_less_self : (a : List ℕ) → IsNoLess a a
+no_less_self a = record { as_many = refl; each = λ b near. omega arith }
+
+covers_more : (before after : List ℕ) (past : List Entry) → IsNoLess before after → Covers before past → Covers after past
+covers_more before after past more covers b near =
+    let inside : b < length before = omega (arith, more.as_many, near) in
+    omega (arith, covers b inside, more.each b inside)
+
+-- no run is counted yet
+pub counted_none : (scripts : List ScriptView) (reached : List ℕ) (past : List Entry) → AreReached scripts reached → IsCountedTo scripts reached reached past 0
+counted_none scripts reached past are = record { reached = are; more = no_less_self reached; covers = λ b near. absurd (omega arith) }
+
+-- the greater of two numbers is one of them
+reaches_max : (scripts : List ScriptView) (b m n : ℕ) → Reaches scripts b m → Reaches scripts b n → Reaches scripts b (max m n)
+reaches_max scripts b m n one other = by_test (nat_le m n) refl
+  where
+    by_test : (t : Bool) → nat_le m n ≡ t → Reaches scripts b (max m n)
+    by_test true h = let is : n ≡ max m n = grind (arith, nat_tests) in subst (Reaches scripts b) is other
+    by_test false h = let is : m ≡ max m n = grind (arith, nat_tests) in subst (Reaches scripts b) is one
+
+-- one run more
+pub counted_more : (scripts : List ScriptView) (before reached : List ℕ) (t : Case) (n k : ℕ) → IsOn scripts t → n < length reached → k ≡ carried (past_of t) n →
+    IsCountedTo scripts before reached (past_of t) n → IsCountedTo scripts before (set reached n (max (get_or reached n 0) k)) (past_of t) (n + 1)
+counted_more scripts before reached t n k on near is c = record {
+  reached = reached_set scripts reached n (max (get_or reached n 0) k) c.reached near (reaches_max scripts n (get_or reached n 0) k (c.reached.each n near) (reaches scripts t n k on is));
+  more = record {
+    as_many = length-set reached n (max (get_or reached n 0) k) ∙ c.more.as_many;
+    each = λ b inside. by_more b inside (b == n) refl;
+  };
+  covers = λ b below. by_covers b below (b == n) refl;
+}
+  where
+    after : List ℕ
+    after = set reached n (max (get_or reached n 0) k)
+
+    here : (b : ℕ) → b ≡ n → get_or (set reached n (max (get_or reached n 0) k)) b 0 ≡ max (get_or reached n 0) k
+    here b same = ap (λ m. get_or (set reached n (max (get_or reached n 0) k)) m 0) same ∙ get_or-set_same reached n (max (get_or reached n 0) k) 0 near
+
+    there : (b : ℕ) → (b == n) ≡ false → get_or (set reached n (max (get_or reached n 0) k)) b 0 ≡ get_or reached b 0
+    there b h = get_or-set_other reached n b (max (get_or reached n 0) k) 0 (λ same. let yes : (b == n) ≡ true = ap (λ m. m == n) same ∙ self_equal n in absurd cc)
+
+    by_more : (b : ℕ) → b < length before → (s : Bool) → (b == n) ≡ s → get_or before b 0 ≤ get_or (set reached n (max (get_or reached n 0) k)) b 0
+    by_more b inside true h =
+        let same : b ≡ n = equal_if b n h in
+        let was : get_or before b 0 ≤ get_or reached b 0 = c.more.each b inside in
+        let at : get_or reached b 0 ≡ get_or reached n 0 = ap (λ m. get_or reached m 0) same in
+        omega (arith, was, at, here b same)
+    by_more b inside false h = omega (arith, c.more.each b inside, there b h)
+
+    by_covers : (b : ℕ) → b < n + 1 → (s : Bool) → (b == n) ≡ s → carried (past_of t) b ≤ get_or (set reached n (max (get_or reached n 0) k)) b 0
+    by_covers b below true h =
+        let same : b ≡ n = equal_if b n h in
+        let own : carried (past_of t) b ≡ k = ap (carried (past_of t)) same ∙ sym is in
+        omega (arith, own, here b same)
+    by_covers b below false h =
+        let other : b < n = grind (arith, nat_tests) in
+        omega (arith, c.covers b other, there b h)
+
+-- each run
+pub counted_all : (scripts : List ScriptView) (before reached : List ℕ) (past : List Entry) (n : ℕ) → length scripts ≤ n → IsCountedTo scripts before reached past n → Covers reached past
+counted_all scripts before reached past n whole c b near = c.covers b (omega (arith, c.reached.as_many, near))
+
+pub ruleset counting_rules = (counted_none, counted_more, counted_all)
+
+-- ---- states
+
+pub longer_with : (before after : List Case) (t : Case) → IsWith before t after → IsLonger before after
+longer_with before after t (inl same) = ([], same ∙ sym (append-nil before))
+longer_with before after t (inr more) = (t ∷ [], more)
+
+pub kept_none : (scripts : List ScriptView) (met : Met) (found : Findings) → met.states.items ≡ [] → AreKept scripts met found
+kept_none scripts met found none = record {
+  few = let size : length met.states.items ≡ 0 = ap length none in omega (arith, size);
+  each = All-same (λ t. IsState scripts t) met.states.items [] none (All-nil (λ t. IsState scripts t));
+  counted = All-same (λ t. Covers found.reached.items (past_of t)) met.states.items [] none (All-nil (λ t. Covers found.reached.items (past_of t)));
+}
+
+-- more is counted
+pub kept_more : (scripts : List ScriptView) (met : Met) (f g : Findings) → IsNoLess f.reached.items g.reached.items → AreKept scripts met f → AreKept scripts met g
+kept_more scripts met f g more kept = record {
+  few = kept.few;
+  each = kept.each;
+  counted = All-weaker (λ t. Covers f.reached.items (past_of t)) (λ t. Covers g.reached.items (past_of t)) (λ t. covers_more f.reached.items g.reached.items (past_of t) more) met.states.items kept.counted;
+}
+
+all_with : (P : Case → Type 0) (before after : List Case) (t : Case) → IsWith before t after → All P before → P t → All P after
+all_with P before after t (inl same) all one = All-same P after before same all
+all_with P before after t (inr more) all one = All-same P after (before ++ t ∷ []) more (All-push P before t all one)
+
+-- one state more, that is counted
+pub kept_with : (scripts : List ScriptView) (met after : Met) (f g : Findings) (t : Case) → AreKept scripts met f → IsNoLess f.reached.items g.reached.items → IsState scripts t → Covers g.reached.items (past_of t) →
+    IsWith met.states.items t after.states.items → after.limit ≡ met.limit → length after.states.items ≤ met.limit → AreKept scripts after g
+kept_with scripts met after f g t kept more state covers with limit within =
+    let now = kept_more scripts met f g more kept in
+    record {
+      few = omega (arith, limit, within);
+      each = all_with (λ u. IsState scripts u) met.states.items after.states.items t with now.each state;
+      counted = all_with (λ u. Covers g.reached.items (past_of u)) met.states.items after.states.items t with now.counted covers;
+    }
+
+pub kept_states : (scripts : List ScriptView) (met : Met) (found : Findings) → AreKept scripts met found → All (λ t. IsState scripts t) met.states.items
+kept_states scripts met found kept = kept.each
+
+pub ruleset kept_rules = (kept_none, kept_more, kept_states, longer_with)
+
+-- ---- what is told
+
+pub met_none : (scripts : List ScriptView) (reached : List ℕ) → AreMet scripts reached 0
+met_none scripts reached = record { courses = []; as_many = refl; each = All-nil (IsCourse scripts); once = λ i j d near_i near_j same. absurd (omega arith); counted = All-nil (Covers reached) }
+
+pub met_of : (scripts : List ScriptView) (met : Met) (found : Findings) → AreKept scripts met found → AreApart met.states.items → AreMet scripts found.reached.items (length met.states.items)
+met_of scripts met found kept apart = record {
+  courses = map past_of met.states.items;
+  as_many = length-map met.states.items past_of;
+  each = All-map (IsCourse scripts) past_of met.states.items (All-weaker (λ t. IsState scripts t) (λ t. IsCourse scripts (past_of t)) (λ t s. s.opened.on.course) met.states.items kept.each);
+  once = once_of met.states.items apart;
+  counted = All-map (Covers found.reached.items) past_of met.states.items kept.counted;
+}
