@@ -374,6 +374,7 @@ def main() -> int:
         "the commands that name an example name one, with words that there are": lambda: commands(documents),
         "a test runs each block of commands": lambda: shell.unrun(documents),
         "the options that the documents name are options": lambda: shell.no_options(documents),
+        "a planted block of commands and a planted option are found": shell.unseen,
         "the lines of scripts next to those of TTCN-3 are read": shell.unread_lines,
         "all links lead somewhere": lambda: links(documents),
         "the text of each link is on one line": lambda: forms.broken_links(documents),

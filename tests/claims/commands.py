@@ -103,3 +103,12 @@ def no_options(documents: List[Document]) -> Iterator[str]:
                 yield from (f"{document.path}:{number}: nothing takes {it}" for it in OPTION.findall(code) if it not in known)
     if len(seen) < FEWEST_OPTIONS:
         yield f"{len(seen)} options are named, where there are no fewer than {FEWEST_OPTIONS}"
+
+
+def unseen() -> Iterator[str]:
+    """Blocks and options that are planted, and that nobody finds."""
+    plant = Document("docs/plant.md", ["```sh", "./ttrun explore --fly < race.script", "```"])
+    if not any(it.startswith("docs/plant.md:2: no test") for it in unrun([plant])):
+        yield "nobody finds a block that no test runs"
+    if "docs/plant.md:2: nothing takes --fly" not in list(no_options([plant])):
+        yield "nobody finds an option that there is not"
