@@ -11,6 +11,8 @@ from documents import Document
 from sources import Sources
 
 MOST_WORDS_OF_A_SENTENCE, MOST_WORDS_OF_A_CELL = 35, 40
+# Of a document; the history of changes is held only to the words. A list of files has its own marks.
+MOST_SENTENCES_OF_A_PARAGRAPH, MOST_MARKS_OF_A_SENTENCE = 6, 1
 FEWEST_COMMENTS = 5000
 # The sources of Python that nobody has read for this yet.
 UNHELD = ("page/", "tests/page/")
@@ -98,11 +100,22 @@ def cells_and_headings(document: Document) -> Iterator[Tuple[int, str, bool]]:
             yield from ((number, it.strip(), True) for it in re.split(r"(?<!\\)\|", line)[1:-1])
 
 
+def crowded(text: str) -> Iterator[str]:
+    """Whether a paragraph of a document has too many sentences, or one of them too many parts."""
+    parts = list(sentences(text))
+    if len(parts) > MOST_SENTENCES_OF_A_PARAGRAPH:
+        yield f"{len(parts)} sentences, where {MOST_SENTENCES_OF_A_PARAGRAPH} are the most: {text[:60]}.."
+    for part in parts:
+        if not part.startswith("Files:") and len(re.findall(r"[;:](?=\s)", without_names(part))) > MOST_MARKS_OF_A_SENTENCE:
+            yield f"more than {MOST_MARKS_OF_A_SENTENCE} colon or semicolon: {part[:60]}.."
+
+
 def in_documents(documents: List[Document]) -> Iterator[str]:
     """Long sentences and cells of the documents, and their idioms."""
     for document in documents:
         for line, text in paragraphs(document):
             yield from (f"{document.path}:{line}: {it}" for it in faults(text))
+            yield from (f"{document.path}:{line}: {it}" for it in crowded(text) if document.path != "CHANGELOG.md")
         for line, text, is_cell in cells_and_headings(document):
             yield from (f"{document.path}:{line}: {it}" for it in idioms(text))
             if is_cell and count(without_names(text)) > MOST_WORDS_OF_A_CELL:
@@ -206,5 +219,8 @@ def unseen() -> Iterator[str]:
         found = found_in(text)
         is_of_sentences = BEGINNING.match(text) or len(text) > 100
         yield from (f"nobody finds: {text[:60]}" for at, it in enumerate(found) if not it and not (is_of_sentences and at == 1))
+    for text in ("It is: so; and so.", "So. " * (MOST_SENTENCES_OF_A_PARAGRAPH + 1)):
+        if not list(in_documents([Document("plant.md", [text])])):
+            yield f"nobody finds: {text}"
     for text in FAULTLESS:
         yield from (f"{text[:60]} is refused: {it}" for it in found_in(text) if it)
