@@ -313,7 +313,7 @@ class Builder:
         status = it.process.returncode
         if status in KILLED and self.running:
             self.killed.add(it.name)
-            say(f"{said}\n{it.name} was killed, and is built again alone")
+            say(f"{said}\n{it.name} was killed, and is built again by itself")
             return 0
         if status == 0:
             self.built.add(it.name)

@@ -315,7 +315,7 @@ DAMAGES = (
     (lambda it: replace(it, 0, "PTC was created. Component reference: 4", ""), "no log creates it"),
     (lambda it: replace(it, 0, "Starting function f1() on component 3.", ""), "an answer without its call"),
     (lambda it: replace(it, 0, "Function was started.", ""), "a call without an answer"),
-    (lambda it: replace(it, 3, "Final verdict of PTC: pass", "Final verdict of PTC: fail"), "the main component was told"),
+    (lambda it: replace(it, 3, "Final verdict of PTC: pass", "Final verdict of PTC: fail"), "the main component got"),
     (lambda it: replace(it, 3, "Final verdict of PTC: pass", ""), "has no final verdict"),
     (lambda it: replace(it, 0, "(none -> pass)", "(none -> fail)"), "does not follow"),
     (lambda it: replace(it, 0, "finished. Verdict: pass", "finished. Verdict: fail"), "the local verdicts give pass"),

@@ -71,7 +71,7 @@ class Reader:
         if self.run is None:
             self.disagree(f"a line outside of a behaviour: {call.line}")
         elif self.is_over and not call.seen:
-            self.disagree(f"a call behind the end of its behaviour: {call.line}")
+            self.disagree(f"a call after the end of its behaviour: {call.line}")
         else:
             self.run.calls.append(call)
 
@@ -102,7 +102,7 @@ class Reader:
         if call is None:
             return
         if not is_allowed:
-            self.disagree(f"a call without an answer, and its process goes on: {call.line}")
+            self.disagree(f"a call without an answer, and its process continues: {call.line}")
         call.end = self.case.end
         self.add(call)
 
@@ -127,7 +127,7 @@ class Reader:
         if self.told.get(self.role, ("", None))[0] != "error" or not self.lines:
             self.case.missing.append(f"the log of component {self.role} just ends: it is cut")
             return
-        self.case.missing.append(f"component {self.role} was shot: its log just ends, and the main component was told error of it")
+        self.case.missing.append(f"component {self.role} was shot: its log just ends, and the main component got the verdict error of it")
         self.case.is_shot = True
         self.case.errors += 1
         call = self.made(self.lines[-1], operation("kill", self.number(self.role)), "ok", faulty=Op("stopcase"))
@@ -271,7 +271,7 @@ class Reader:
             self.case.missing.append(f"the main component crashed: {line}")
             return
         if self.is_over:
-            self.disagree(f"an error behind the end of the behaviour: {line}")
+            self.disagree(f"an error after the end of the behaviour: {line}")
             return
         faulty, fault = Op("stopcase"), ""
         begin = min(line.before, line.stamp)
@@ -489,11 +489,11 @@ def compare_finals(case: TestCase, own: Finals, told: Finals) -> None:
     """Compares what components say of their ends with what the main component got."""
     for reference in case.numbers:
         if reference in told and reference in own and told[reference][0] != own[reference][0]:
-            case.faults.append(f"component {reference} ended with {own[reference][0]}, and the main component was told {told[reference][0]}")
+            case.faults.append(f"component {reference} ended with {own[reference][0]}, and the main component got {told[reference][0]}")
         elif reference in told and reference not in own and reference in case.logs and not case.is_shot:
             case.missing.append(f"the log of component {reference} has no final verdict")
         elif reference in own and reference not in told and case.verdict is not None:
-            case.faults.append(f"the main component was told no verdict of component {reference}")
+            case.faults.append(f"the main component got no verdict of component {reference}")
     for reference in sorted(set(told) - set(case.numbers)):
         case.faults.append(f"a verdict of a component that no log creates: {told[reference][1]}")
     if case.verdict is not None and MAIN not in own:

@@ -132,7 +132,7 @@ class Search:
         stuck = []
         for call in self.heads():
             entries = self.trail.attempt(call)
-            stuck.append((call, entries if isinstance(entries, str) else "legal, and no order goes on behind it"))
+            stuck.append((call, entries if isinstance(entries, str) else "legal, and no order continues after it"))
         return Answer(outcome, self.trail.entries(), self.states, len(self.best), list(self.best), stuck)
 
 
