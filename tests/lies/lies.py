@@ -111,9 +111,6 @@ LIES = (
         if book.wakes(self.run) {
 """),
     ), "tc_exec_tests"),
-    Lie("each_wait_has_a_condition_of_its_own", (
-        ("""        match self.held.changed.of(run) {""", """        match self.held.changed.of(run).filter(|_| false) {"""),
-    ), "tc_exec_tests"),
     Lie("a_place_is_never_given_up", (
         ("""\
                 shared.give_up(rt, run);

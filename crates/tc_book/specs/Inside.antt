@@ -1,4 +1,5 @@
 -- What only the way a book is kept needs: no public clause names a word of this file.
+pub mod Waiting
 use Rattle.std.specs.Prelude.{ℕ, zero, suc, ◌++◌, ◌∷◌, ◌≡◌, ◌+◌, ◌≤◌, ◌<◌, ◌==◌, Bool, if◌then◌else◌, option_map, Option, Some, None, List, [], length, map, filter, reverse, sum_by, slice_index_or, All, true, false, ◌||◌, not, is_some}
 use Rattle.std.specs.Borrow.{Bor}
 use Rattle.tc_entry.specs.declared.limits.TheConstants.{BEHAVIOURS}

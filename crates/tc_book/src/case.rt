@@ -6,6 +6,7 @@ ghost use Rattle.tc_entry.specs.declared.limits.TheConstants.{BEHAVIOURS};
 ghost use Rattle.tc_board.specs.Board.{new_hand, new_hands, new_keeper};
 ghost use Rattle.tc_verdict.specs.declared.run.Run.{Run};
 ghost use Rattle.tc_book.specs.Closing.{IsWhole};
+ghost use Rattle.tc_book.specs.Inside.Waiting.{waiting_places};
 ghost use Rattle.tc_case.specs.Report.{IsOneHistory};
 
 use crate::book::Book;
@@ -48,6 +49,7 @@ fn ticket_of(
     hand: Hand,
 ) -> Result<Ticket, NoMemory>
     requires above { 0 < run.0 }
+    requires waits { run.0 < waiting_places shared.now }
     requires hand { hand ≡ record { board = arc_value board.now; run = run.0; answers = [] } }
     ensures { IfOk result (λ t. t ≡ run) }
 {
@@ -65,6 +67,7 @@ fn tickets_of(
     behaviours: u16,
 ) -> Result<Vec<Ticket>, NoMemory>
     requires some { 1 ≤ behaviours }
+    requires waits { waiting_places shared.now ≡ behaviours }
     requires hands { hands.old.items ≡ new_hands (arc_value board.now) 1 (behaviours - 1) }
     ensures count { IfOk result (λ v. length v.items + 1 ≡ behaviours) }
     ensures tickets { IfOk result (λ v. (k : ℕ) (d : Run) → k + 1 < behaviours → (slice_index_or v.items k d).0 ≡ k + 1) }
@@ -84,6 +87,7 @@ fn main_pass(
     board: &Arc<Board>,
     hand: Hand,
 ) -> Result<Pass, NoMemory>
+    requires waits { 0 < waiting_places shared.now }
     requires hand { hand ≡ new_hand (arc_value board.now) 0 }
     ensures { IfOk result (λ p. p ≡ record { run = record { 0 = 0 }; me = record { 0 = 0 }; args = []; log = [] }) }
 {
@@ -102,6 +106,7 @@ fn shared_book(
     requires some { 1 ≤ behaviours }
     requires few { behaviours ≤ BEHAVIOURS }
     requires keeper { keeper ≡ new_keeper (arc_value board.now) behaviours }
+    ensures { IfOk result (λ s. waiting_places s ≡ behaviours) }
 {
     let book = Book::new(alloc, behaviours, keeper, another(board)?)?;
     Shared::new(alloc, book, behaviours)

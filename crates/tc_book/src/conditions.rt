@@ -1,7 +1,10 @@
 //! The conditions that the runs of a case wait on.
-ghost use Rattle.std.specs.Prelude.{◌≡◌, false, IfSome};
+ghost use Rattle.std.specs.Prelude.{◌≡◌, ◌<◌, ℕ, false, IfOk, length, slice_index_or};
+ghost use Rattle.tc_book.specs.declared.conditions.condition.Condition.{Condition};
 
-use crate::condition::Condition;
+mod condition;
+
+use crate::conditions::condition::Condition;
 use crate::logged_book::LoggedBook;
 use std::alloc::Global;
 use tc_verdict::{NoMemory, Run};
@@ -20,29 +23,30 @@ impl Told {
     }
 }
 
-/// A condition for each run of a case, on which it waits under the lock.
+/// A condition for each run of a case, on which it waits under the lock, and is woken.
 #[derive(Drop)]
 pub(crate) struct Conditions {
     of_runs: Vec<Condition>,
+    ghost in_order: { (b : ℕ) (d : Condition) → b < length of_runs.items → (slice_index_or of_runs.items b d).run.0 ≡ b },
 }
 
 impl Conditions {
-    pub(crate) fn new(alloc: Global, behaviours: u16) -> Result<Conditions, NoMemory> {
+    pub(crate) fn new(alloc: Global, behaviours: u16) -> Result<Conditions, NoMemory>
+        ensures { IfOk result (λ c. length c.of_runs.items ≡ behaviours) }
+    {
         let mut of_runs = Vec::with_capacity(alloc, usize::from(behaviours))?;
-        for k in 0..behaviours {
-            of_runs.push(Condition::new(Run(k)))?;
+        for b in 0..behaviours {
+            of_runs.push(Condition::new(Run(b)))?;
         }
         Ok(Conditions { of_runs })
     }
 
-    /// The condition of a run; none for a run that does not exist.
-    pub(crate) fn of(&self, run: Run) -> Option<&Condition>
-        ensures { IfSome result (λ c. c.now.run ≡ run) }
+    /// The condition of a run.
+    pub(crate) fn of(&self, run: Run) -> &Condition
+        requires { run.0 < length self.now.of_runs.items }
+        ensures { result.now.run ≡ run }
     {
-        match self.of_runs.get(usize::from(run.0)) {
-            Some(condition) if condition.run().0 == run.0 => Some(condition),
-            _ => None,
-        }
+        &self.of_runs[usize::from(run.0)]
     }
 
     /// Wakes each run that waits and can continue now.

@@ -5,7 +5,6 @@ mod book;
 mod callers;
 mod case;
 mod close;
-mod condition;
 mod conditions;
 mod halt;
 pub mod laws;

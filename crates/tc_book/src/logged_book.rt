@@ -52,6 +52,7 @@ pub(crate) struct LoggedBook {
 impl LoggedBook {
     /// A book of a case of that many behaviours, in which no run waits.
     pub(crate) fn new(alloc: Global, book: Book, behaviours: u16) -> Result<LoggedBook, NoMemory>
+        requires { book.behaviours ≡ behaviours }
         ensures book { IfOk result (λ b. b.book ≡ book) }
         ensures none { IfOk result (λ b. b.waiting.items ≡ replicate behaviours None) }
     {

@@ -1,11 +1,12 @@
 //! The pass of a started run: what its behaviour calls the case by.
-ghost use Rattle.std.specs.Prelude.{◌≡◌, ◌≤◌, [], true, false, IfOk, Some, None};
+ghost use Rattle.std.specs.Prelude.{◌≡◌, ◌<◌, ◌≤◌, [], true, false, IfOk, Some, None};
 ghost use Rattle.tc_entry.specs.declared.op.Op.TheVariants as ops;
 ghost use Rattle.tc_entry.specs.declared.reply.Reply.{Reply};
 ghost use Rattle.tc_entry.specs.declared.reply.Reply.TheVariants as replies;
 ghost use Rattle.tc_book.specs.Hands.{IsHandOf};
 ghost use Rattle.tc_book.specs.Passes.{has_ended, added, By, IsCall, IsWait};
 ghost use Rattle.tc_book.specs.Replies.{suits};
+ghost use Rattle.tc_book.specs.Inside.Waiting.{waiting_places};
 ghost use Rattle.tc_book.specs.Inside.{is_halt};
 ghost use Rattle.tc_case.specs.Merge.{is_verdict_call};
 
@@ -28,14 +29,15 @@ pub struct Pass {
 }
 
 impl Model for Pass {
-    ghost use Rattle.std.specs.Prelude.{◌≤◌};
+    ghost use Rattle.std.specs.Prelude.{◌<◌, ◌≤◌};
     ghost use Rattle.tc_book.specs.Passes.{PassState};
+    ghost use Rattle.tc_book.specs.Inside.Waiting.{waiting_places};
 
     ghost Value = { PassState };
 
     ghost view = { λ p. record { run = p.log.run; me = p.log.own; args = p.args; log = p.log.entries } };
 
-    ghost invariant = { λ p. 1 ≤ p.log.room };
+    ghost invariant = { λ p. (1 ≤ p.log.room) × (p.log.run.0 < waiting_places p.shared) };
 }
 
 /// The answer by a reply.
@@ -53,6 +55,7 @@ fn heard(reply: Reply) -> Result<Reply, Halt>
 impl Pass {
     /// The pass of a run with its log, in which nothing is yet.
     pub(crate) fn new(shared: Shared, log: Log, args: Args) -> Pass
+        requires waits { log.run.0 < waiting_places shared }
         requires empty { log.entries ≡ [] }
         requires room { 1 ≤ log.room }
         ensures { result ≡ record { run = log.run; me = log.own; args = args; log = [] } }

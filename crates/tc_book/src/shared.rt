@@ -1,5 +1,5 @@
 //! The lock and the conditions of a case: each entry but those of verdict calls is added in one hold.
-ghost use Rattle.std.specs.Prelude.{◌≡◌, ◌≢◌, ◌≤◌, ◌+◌, true, false, IfOk, OnOk, OnErr, IfErr, IfSome, IfNone, IsTrue, is_none};
+ghost use Rattle.std.specs.Prelude.{◌≡◌, ◌≢◌, ◌≤◌, ◌<◌, ◌+◌, true, false, IfOk, OnOk, OnErr, IfErr, IfSome, IfNone, IsTrue, is_none};
 ghost use Rattle.tc_entry.specs.declared.op.Op.TheVariants as ops;
 ghost use Rattle.tc_entry.specs.declared.reply.Reply.TheVariants as replies;
 ghost use Rattle.tc_book.specs.Replies.{suits};
@@ -7,6 +7,7 @@ ghost use Rattle.tc_case.specs.declared.closed.CloseFault.TheVariants as faults;
 ghost use Rattle.tc_book.specs.Closing.{IsMerged, IsWhole, merged};
 ghost use Rattle.tc_case.specs.Report.{IsOneHistory};
 ghost use Rattle.tc_book.specs.Inside.{goes_on, is_closed, with_own};
+ghost use Rattle.tc_book.specs.Inside.Waiting.{waiting_places};
 ghost use Rattle.std.specs.Sync.Mutex.{mutex_guard_value};
 ghost use Rattle.tc_table.specs.Legal.{IsLegal};
 ghost use Rattle.tc_book.specs.OpenCase.{AreOthers, has_leave, past_of};
@@ -15,7 +16,6 @@ ghost use Rattle.tc_board.specs.Hand.{answered};
 ghost use Rattle.tc_board.specs.declared.answer.Answer.TheVariants.{Met};
 
 use crate::book::Book;
-use crate::condition::Condition;
 use crate::conditions::Conditions;
 use crate::left::Left;
 use crate::log::Log;
@@ -78,8 +78,11 @@ pub struct Shared {
 }
 
 impl Shared {
-    /// The owner of a book of a case of that many behaviours, at its opening.
-    pub(crate) fn new(alloc: Global, book: Book, behaviours: u16) -> Result<Shared, NoMemory> {
+    /// The owner of a book of a case of that many behaviours, at its opening. Each of its runs has a condition to wait on.
+    pub(crate) fn new(alloc: Global, book: Book, behaviours: u16) -> Result<Shared, NoMemory>
+        requires { book.behaviours ≡ behaviours }
+        ensures { IfOk result (λ s. waiting_places s ≡ behaviours) }
+    {
         let held = Held {
             book: Mutex::new(LoggedBook::new(alloc, book, behaviours)?),
             changed: Conditions::new(alloc, behaviours)?,
@@ -91,22 +94,22 @@ impl Shared {
     }
 
     /// Another owner of the same book.
-    pub(crate) fn another(&self) -> Result<Shared, NoMemory> {
+    pub(crate) fn another(&self) -> Result<Shared, NoMemory>
+        ensures { IfOk result (λ s. waiting_places s ≡ waiting_places self.now) }
+    {
         match Arc::try_clone(&self.held) {
             Ok(held) => Ok(Shared { held }),
             Err(AllocError) => Err(NoMemory),
         }
     }
 
-    /// The book, once the run continues that waits for this. A run that does not exist is never woken.
+    /// The book, once the run continues that waits for this on its own condition.
     fn wait<R: Wait>(&self, rt: &R, run: Run, until: Until) -> MutexGuard<'_, LoggedBook>
+        requires { run.0 < waiting_places self.now }
         ensures { IsTrue (goes_on (mutex_guard_value result).book run until) }
     {
         let book = self.held.book.lock(rt);
-        match self.held.changed.of(run) {
-            Some(condition) => condition.wait(rt, book, until),
-            None => Condition::new(run).wait(rt, book, until),
-        }
+        self.held.changed.of(run).wait(rt, book, until)
     }
 
     /// Records a call of the log's run in the history and in the log, and wakes each run that can continue by it.
@@ -129,6 +132,7 @@ impl Shared {
 
     /// Records the Wake of a parked wait in the first hold in which it is not parked again, in its place in the log.
     pub(crate) fn wake<R: Wait>(&self, rt: &R, killed: bool, target: Target, log: &mut Log) -> Reply
+        requires waits { log.old.run.0 < waiting_places self.now }
         requires room { 1 ≤ log.old.room }
         ensures run { log.new.run ≡ log.old.run }
         ensures own { log.new.own ≡ log.old.own }
@@ -139,7 +143,10 @@ impl Shared {
     {
         let mut book = self.wait(rt, log.run(), Until::Wake { killed, target });
         let Some((reply, wake_up)) = book.wake(killed, target, log) else {
-            Condition::new(log.run()).stay(rt, book, Lack::PlaceForWake);
+            self.held
+                .changed
+                .of(log.run())
+                .stay(rt, book, Lack::PlaceForWake);
             unreachable!()
         };
         wake_up.give(&self.held.changed, &book);
@@ -148,6 +155,7 @@ impl Shared {
 
     /// Gives up the place of the log's run, and records its Finish if the run has not ended.
     pub(crate) fn leave<R: Wait>(&self, rt: &R, log: &mut Log) -> Option<Reply>
+        requires waits { log.old.run.0 < waiting_places self.now }
         requires room { 1 ≤ log.old.room }
         ensures run { log.new.run ≡ log.old.run }
         ensures own { log.new.own ≡ log.old.own }
@@ -158,7 +166,10 @@ impl Shared {
     {
         let mut book = self.held.book.lock(rt);
         let Some((finish, wake_up)) = book.leave(log) else {
-            Condition::new(log.run()).stay(rt, book, Lack::PlaceForLeaving);
+            self.held
+                .changed
+                .of(log.run())
+                .stay(rt, book, Lack::PlaceForLeaving);
             unreachable!()
         };
         wake_up.give(&self.held.changed, &book);
@@ -166,10 +177,15 @@ impl Shared {
     }
 
     /// Gives up the place of a run that was never started.
-    pub(crate) fn give_up<R: Wait>(&self, rt: &R, run: Run) {
+    pub(crate) fn give_up<R: Wait>(&self, rt: &R, run: Run)
+        requires { run.0 < waiting_places self.now }
+    {
         let mut book = self.held.book.lock(rt);
         if !book.give_up(run) {
-            Condition::new(run).stay(rt, book, Lack::PlaceForLeaving);
+            self.held
+                .changed
+                .of(run)
+                .stay(rt, book, Lack::PlaceForLeaving);
         }
     }
 
@@ -181,12 +197,13 @@ impl Shared {
         run: Run,
         hand: &mut RunHand,
     ) -> Result<(Comp, Args), Unstarted>
+        requires waits { run.0 < waiting_places self.now }
         ensures met { OnOk result (hand.new ≡ answered hand.old Met) }
         ensures unstarted { IfErr result (λ u. u.run ≡ run) }
     {
         let mut book = self.wait(rt, run, Until::Start);
         let Some(start) = book.start_or_end(run, hand) else {
-            Condition::new(run).stay(rt, book, Lack::Word);
+            self.held.changed.of(run).stay(rt, book, Lack::Word);
             unreachable!()
         };
         start

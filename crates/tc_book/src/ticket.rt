@@ -1,6 +1,7 @@
 //! The ticket of a run that is not yet started.
 ghost use Rattle.std.specs.Prelude.{◌≡◌, ◌<◌, [], None, IfOk, IfErr};
 ghost use Rattle.std.specs.Vec.{vec_len, vec_capacity};
+ghost use Rattle.tc_book.specs.Inside.Waiting.{waiting_places};
 
 use crate::left::Left;
 use crate::log::Log;
@@ -26,12 +27,13 @@ impl Model for Ticket {
     ghost use Rattle.std.specs.Vec.{vec_len, vec_capacity};
     ghost use Rattle.tc_verdict.specs.declared.run.Run.{Run};
     ghost use Rattle.tc_book.specs.Inside.{IsNewHand};
+    ghost use Rattle.tc_book.specs.Inside.Waiting.{waiting_places};
 
     ghost Value = { Run };
 
     ghost view = { λ t. t.run };
 
-    ghost invariant = { λ t. (0 < t.run.0) × (t.log.items ≡ []) × (vec_len t.log < vec_capacity t.log) × IsNewHand t.hand t.run.0 };
+    ghost invariant = { λ t. (0 < t.run.0) × (t.run.0 < waiting_places t.shared) × (t.log.items ≡ []) × (vec_len t.log < vec_capacity t.log) × IsNewHand t.hand t.run.0 };
 }
 
 impl Ticket {
@@ -39,6 +41,7 @@ impl Ticket {
         requires run { hand.run ≡ run.0 }
         requires answers { hand.answers ≡ [] }
         requires above { 0 < run.0 }
+        requires waits { run.0 < waiting_places shared }
         requires empty { log.items ≡ [] }
         requires room { vec_len log < vec_capacity log }
         ensures { result ≡ run }

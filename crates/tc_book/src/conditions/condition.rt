@@ -16,20 +16,13 @@ pub(crate) struct Condition {
 }
 
 impl Condition {
-    pub(crate) fn new(run: Run) -> Condition
+    pub(super) fn new(run: Run) -> Condition
         ensures { result.run ≡ run }
     {
         Condition {
             run,
             changed: Condvar::new(),
         }
-    }
-
-    /// The run that waits here.
-    pub(crate) fn run(&self) -> Run
-        ensures { result ≡ self.now.run }
-    {
-        self.run
     }
 
     /// The book, once the run continues that waits for this. The look by which it continues and the sleep before are of
@@ -48,15 +41,15 @@ impl Condition {
     }
 
     /// Waits for ever, since by the book in this hold the run lacks what it would continue with, and that can't come.
-    pub(crate) fn stay<R: Wait>(self, rt: &R, book: MutexGuard<'_, LoggedBook>, lack: Lack)
-        requires { IsTrue (lacks (mutex_guard_value book).book self.run lack) }
+    pub(crate) fn stay<R: Wait>(&self, rt: &R, book: MutexGuard<'_, LoggedBook>, lack: Lack)
+        requires { IsTrue (lacks (mutex_guard_value book).book self.now.run lack) }
         ensures { ⊥ }
     {
         self.changed.wait_while(rt, book, |_| true);
     }
 
     /// Wakes the run, if it waits and can continue now.
-    pub(crate) fn tell(&self, book: &LoggedBook) {
+    pub(super) fn tell(&self, book: &LoggedBook) {
         if book.wakes(self.run) {
             self.changed.notify_all();
         }
