@@ -1,6 +1,5 @@
 // The app: what is open and shown, and the short words with which the views are written.
 import { lookOf } from "./drawing.mjs";
-
 export const $ = (selector, within = document) => within.querySelector(selector);
 export const $$ = (selector, within = document) => [...within.querySelectorAll(selector)];
 export const on = (element, type, act) => element.addEventListener(type, act);
@@ -12,4 +11,4 @@ export const goTo = (...ids) => { location.hash = ids.map(id => `/${id}`).join("
 // `found` are the cases that the table shows, `at` the one of them that is marked, `last` the id of the one shown last;
 // `panes` are the charts that are on the page, `pane` the one that the keys are for.
 export const app = { sources: [], cases: [], found: [], hidden: new Set(), search: "", at: 0, last: 0, panes: [], pane: null,
-  options: { questions: true, ended: true, isFolded: true, focus: null, part: -1 }, moveTo: null, showMore: null };
+  options: { questions: true, ended: true, remarks: true, isFolded: true, focus: null }, moveTo: null, showMore: null };

@@ -1,22 +1,27 @@
 // The cases: what the table of test cases says of each block of a text, and the two ends of comparing them.
 import { Fault, Lines, MOST_BYTES, VERDICTS, readBlock } from "./reading.mjs";
 import { Table } from "./table.mjs";
-
 // A block without its entries, and where to read it again. `why` is the first entry after which the overall verdict is the
-// one that it is in the end.
+// one that it is in the end, with the remarks of its run beside it: `before` is the last one since that run's entry before,
+// `behind` the first one until its next entry.
 function summarise(lines) {
-  const from = lines.at, table = new Table();
-  let overall = 0, entries = 0, why = null;
+  const from = lines.at, table = new Table(), remarks = new Map();
+  let entries = 0, index = -1, why = null;
   const block = readBlock(lines, entry => {
-    const { line, text, run } = entry;
+    const { line, text, run, verb, said } = entry, worst = table.overall;
+    index += 1;
+    if (why?.run === run && verb !== "!") why.behind ??= said;
+    if (verb === "#") remarks.set(run, said);
+    if (said) return;
     table.take(entry);
-    if (table.overall > overall) why = { index: entries, line, text, run, on: table.runs.get(run) ?? null };
-    overall = table.overall;
+    const on = table.runs.get(run) ?? null, before = remarks.get(run) ?? "";
+    if (table.overall > worst) why = { index, line, text, run, on, before, behind: null };
+    remarks.delete(run);
     entries += 1;
   });
-  if (why) why.name = table.slots.get(why.on)?.name ?? null;
-  const status = table.isOver ? VERDICTS[overall] : "unfinished";
-  return { ...block, from, entries, components: table.components, overall, isOver: table.isOver, status, why };
+  const { components, overall, isOver } = table;
+  if (why) Object.assign(why, { name: table.slots.get(why.on)?.name ?? null, behaviour: block.names.get(why.run) ?? null });
+  return { ...block, from, entries, components, overall, isOver, status: isOver ? VERDICTS[overall] : "unfinished", why };
 }
 // All blocks of a text, up to its first fault.
 export function readHistories(text) {
@@ -30,8 +35,8 @@ export function readHistories(text) {
     return { cases, fault };
   }
 }
-// How many first entries of two opened cases are alike.
+// How many first entries of two opened cases are alike. Remarks and names count for nothing.
 export function alike(one, other) {
-  const part = one.list.findIndex((entry, index) => entry.text !== other.list[index]?.text);
-  return part < 0 ? one.list.length : part;
+  const part = one.places.findIndex((place, nth) => one.list[place].text !== other.list[other.places[nth]]?.text);
+  return part < 0 ? one.places.length : part;
 }

@@ -4,11 +4,10 @@ import { countWhile, nameOf } from "./lanes.mjs";
 import { filterOf, isDeciding, rowsOf } from "./rows.mjs";
 import { shapeOfRow } from "./shapes.mjs";
 import { cut, escaped, lookOf, svg, twoLines, widthOf } from "./drawing.mjs";
-
 export const ROW = 28, GUTTER = 66, HEAD = 50;
 const FOOT = 90, LOW = 20;  // how far below the top of a row its arrow is
 export class Chart {
-  // options: questions, ended, isFolded (what is shown), focus (a component or null), part (where two cases part, or -1)
+  // options: questions, ended, remarks, isFolded (what is shown), focus (a component or null)
   constructor(game, options) {
     Object.assign(this, { game, options, unfolded: new Set(), chosen: 0, room: 900 });
     this.layout();
@@ -16,7 +15,7 @@ export class Chart {
   // Which rows there are, and which lanes: all, or those that an entry about the component in focus is about.
   layout() {
     const { game, options } = this, { focus } = options, isShown = filterOf(game, options), met = new Set([focus]);
-    this.rows = rowsOf(game.list, isShown, options.isFolded, this.unfolded, options.part);
+    this.rows = rowsOf(game.list, isShown, options.isFolded, this.unfolded, game.part);
     const seen = focus === null ? [] : this.rows.flatMap(row => row.seen).map(index => game.list[index]);
     for (const { on, target, made } of seen) met.add(on).add(target).add(made);
     this.lanes = [...game.lanes.values()].filter(lane => focus === null || met.has(lane.number));
@@ -27,28 +26,27 @@ export class Chart {
     const pitch = Math.max(132, Math.min(200, Math.floor((room - this.left - 16) / this.lanes.length)));
     const width = this.left + pitch * this.lanes.length + 16;
     this.xs = new Map(this.lanes.map((lane, place) => [lane.number, this.left + pitch * (place + 0.5)]));
-    // some room on the right of the last life line
-    Object.assign(this, { room, pitch, width: Math.max(width, Math.min(room, width + 180)) });
+    const more = this.game.list.length > this.game.places.length ? 420 : 180;  // room on the right of the last life line
+    Object.assign(this, { room, pitch, width: Math.max(width, Math.min(room, width + more)) });
   }
   get height() { return this.rows.length * ROW + FOOT; }
   rowAt(index) { return countWhile(this.rows, row => row.first <= index) - 1; }  // the last one that begins there or before
   isNear(x, left, right) { return x > left - this.pitch && x < right + this.pitch; }
   lanesBetween(left, right) { return this.lanes.filter(lane => this.isNear(this.xs.get(lane.number), left, right)); }
-
   heads(left = 0, right = this.width) {
     const width = this.pitch - 10, { focus } = this.options;
     return this.lanesBetween(left, right).map(({ number, name, alive }) => {
-      const x = this.xs.get(number), lines = twoLines(name ?? "", Math.floor((width - 6) / 6.6)), isAlone = focus === number;
-      const title = `${this.game.who(number)}${alive ? ", alive-type" : ""}`, first = lines.length > 1 ? 26 : 31;
+      const x = this.xs.get(number), ran = this.game.ran(number), isAlone = focus === number, most = Math.floor(width / 6.6) - 1;
+      const title = [this.game.who(number), alive && "alive-type", ran].filter(Boolean).join(", ");
+      const lines = [nameOf(number), ...twoLines(name ?? "", most), cut(ran, width - 6)].filter(Boolean);
+      const line = (words, place) => svg.text(x, HEAD * (place + 1) / (lines.length + 1), words, place ? "small" : "strong");
       return `<g class="head" data-lane="${number}" role="button" aria-pressed="${isAlone}"><title>${title}</title>` +
-        svg.rect(x - width / 2, 4, width, HEAD - 8, isAlone ? "box selected" : "box", 5) +
-        svg.text(x, name ? 14 : HEAD / 2, nameOf(number), "strong") +
-        lines.map((line, place) => svg.text(x, first + 12 * place, line, "small")).join("") + "</g>";
+        svg.rect(x - width / 2, 4, width, HEAD - 8, isAlone ? "box selected" : "box", 5) + lines.map(line).join("") + "</g>";
     }).join("") + (this.left > GUTTER ? svg.text(GUTTER + 55, HEAD / 2, "not started", "dim") : "");
   }
   // The rows from one to another, with row `from` at the top, and of them what is to see between left and right.
   draw(from, to, left = 0, right = this.width) {
-    const { rows, game, options } = this, bottom = (to - from) * ROW, parts = [], lanes = this.lanesBetween(left, right);
+    const { rows, game } = this, bottom = (to - from) * ROW, parts = [], lanes = this.lanesBetween(left, right);
     const across = (y, look, x) => svg.line(x, y, this.width, y, look), shown = rows.slice(from, to);
     shown.forEach((row, place) => {
       if (from + place === this.chosen) parts.push(svg.rect(0, place * ROW, this.width, ROW, "selected"));
@@ -56,8 +54,8 @@ export class Chart {
     });
     for (const lane of lanes) parts.push(this.life(lane, from, bottom));
     shown.forEach((row, place) => parts.push(this.row(row, from + place, place * ROW, left, right)));
-    const part = this.rowAt(options.part - 1) + 1, over = this.rowAt(game.overAt ?? -1);
-    if (options.part >= 0 && from <= part && part <= to) parts.push(across((part - from) * ROW, "part", 0));
+    const part = this.rowAt(game.part - 1) + 1, over = this.rowAt(game.overAt ?? -1);
+    if (game.part >= 0 && from <= part && part <= to) parts.push(across((part - from) * ROW, "part", 0));
     if (from <= over && over < to) for (const low of [27.5, 25.5]) parts.push(across((over - from) * ROW + low, "over", GUTTER));
     return parts.join("") + (to === rows.length ? this.foot(bottom, lanes) : "");
   }
@@ -98,7 +96,7 @@ export class Chart {
     const tint = isDeciding(this.game, row) ? "on-why" : place === this.chosen ? "on-selected" : "";
     const number = row.times > 1 ? `${entry.line}\u2013${list[row.last].line}` : entry.line;
     const title = row.seen.map(index => list[index].text).join("\n");
-    const shape = shapeOfRow(this.game, row), say = `${who(entry.on)}: ${shape.label}`;
+    const shape = shapeOfRow(this.game, row), say = cut(`${who(entry.on)}: ${shape.label}`, right - left - GUTTER);
     const edge = x > right ? svg.text(right - 8, y + 14, `${say} \u203a`, "halo dim small", "end")
       : x < left + GUTTER - 8 ? svg.text(left + GUTTER, y + 14, `\u2039 ${say}`, "halo dim small", "start") : "";
     const drawn = edge && /note|box/.test(shape.form) ? "" : this.shape(shape, x, y, left, right);
@@ -125,10 +123,11 @@ export class Chart {
     const width = widthOf(label) + 18, left = Math.max(GUTTER - 6, Math.min(x - width / 2, this.width - width - 4));
     return `<g class="${look}">${svg.rect(left, y - 10, width, 20, "box", 5)}${svg.text(left + width / 2, y, label)}</g>`;
   }
-  // a label on the right of a life line, or on its left where there is no room
+  // a label on the right of a life line, or on its left where there is no room; on the side with more room it is cut
   note(x, y, label, look = "") {
-    const isRight = x + 14 + widthOf(label) < this.width - 4;
-    return svg.text(isRight ? x + 12 : x - 18, y, label, `halo ${look}`, isRight ? "start" : "end");
+    const after = this.width - x - 18, before = x - 18 - GUTTER, words = cut(label, Math.max(after, before));
+    const isAfter = widthOf(words) <= after;
+    return svg.text(isAfter ? x + 12 : x - 18, y, words, `halo ${look}`, isAfter ? "start" : "end");
   }
   // an arrow that ends so much before the life line, with its label beside the caller's life line
   arrow(caller, begin, end, y, label, look, gap = 6) {

@@ -1,18 +1,15 @@
 // Drawing: the pieces of a picture, as SVG, and how wide words are in it.
-const FONT = '12px system-ui, "Segoe UI", Helvetica, Arial, sans-serif';
 export const escaped = text => String(text).replace(/[&<>"]/g, letter => `&#${letter.charCodeAt()};`);
 export const lookOf = status => `v-${status === "unfinished" ? "error" : status}`;  // the class of a verdict
 const pen = document.createElement("canvas").getContext("2d"), widths = new Map();
+pen.font = '12px system-ui, "Segoe UI", Helvetica, Arial, sans-serif';
 export function widthOf(text) {
-  pen.font = FONT;
+  if (widths.size > 10000) widths.clear();
   if (!widths.has(text)) widths.set(text, pen.measureText(text).width);
   return widths.get(text);
 }
-export function cut(text, room) {
-  let { length } = text;
-  while (length > 1 && widthOf(text.slice(0, length)) > room) length -= 1;
-  return length === text.length ? text : `${text.slice(0, length - 1)}\u2026`;
-}
+// The text, or as much of it as there is room for.
+export const cut = (text, room) => widthOf(text) <= room || text.length < 2 ? text : cut(`${text.slice(0, -2)}\u2026`, room);
 // A name in one line or two, parted behind a `_` where that can be.
 export function twoLines(name, room) {
   if (name.length <= room) return [name];

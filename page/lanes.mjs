@@ -1,7 +1,6 @@
 // The lanes: a case with its entries, and how each component's phase, local verdict and wait change with them.
 import { Lines, readBlock } from "./reading.mjs";
 import { Table, phaseOf } from "./table.mjs";
-
 // Of a list of which some first items are `so` and no further one: how many are.
 export function countWhile(list, so) {
   let low = 0, high = list.length;
@@ -13,15 +12,17 @@ export function countWhile(list, so) {
 }
 // The last change that is not behind an entry.
 export const lastAt = (changes, index) => changes[countWhile(changes, change => change.at <= index) - 1];
-// How a component is called.
-export const nameOf = (number, name = null) => number === null ? "no component" : number === 0 ? "mtc" :
-  name ? `${number} ${name}` : `${number}`;
+// How a run with a behaviour is called, or a component.
+export const named = (number, name) => name ? `${number} ${name}` : `${number}`;
+export const quoted = said => `\u201c${said}\u201d`;
+export const nameOf = (number, name = null) => number === null ? "no component" : number === 0 ? "mtc" : named(number, name);
 // Notes the phase and the local verdict that a slot has behind the entry at an index, which was the verb `by`.
 function note(lanes, slot, at, by) {
   if (!slot.exists) return;
   const { number, name, alive, run, local } = slot, phase = phaseOf(slot);
-  if (!lanes.has(number)) lanes.set(number, { number, name, alive, phases: [], locals: [], waits: [], wait: null });
+  if (!lanes.has(number)) lanes.set(number, { number, name, alive, runs: new Set(), phases: [], locals: [], waits: [] });
   const lane = lanes.get(number), last = lane.phases.at(-1);
+  if (phase === "running") lane.runs.add(run);
   if (!last || last.phase !== phase || last.run !== run) {
     lane.phases.push({ at, phase, run, by });
     if (lane.wait) { Object.assign(lane.wait, { to: at, how: "halted" }); lane.wait = null; }
@@ -38,15 +39,20 @@ function noteWait(lane, entry, at) {
   }
   if (isParked && !lane.wait) lane.waits.push(lane.wait = { at, to: Infinity, how: "open", run, operation });
 }
-// The case of a summary. A change at an entry holds from behind it on; that at -1 from the opening. `overAt` is the entry
-// that ended the case, and `on` of an entry the component of its run, or null.
+// The case of a summary: the entries with what was said among them, and `places`, where the entries are in that list. A change
+// at an entry holds from behind it on; that at -1 from the opening. `overAt` is the entry that ended the case, `part` where it
+// parts from another, `on` of an entry the component of its run. `who`, `which` and `ran` call components and runs by names.
 export function openCase(text, summary) {
-  const table = new Table(), list = [], lanes = new Map();
-  const game = { ...summary, list, lanes, overAt: null, who: number => nameOf(number, lanes.get(number)?.name) };
+  const table = new Table(), list = [], places = [], lanes = new Map(), { names } = summary;
+  const who = number => nameOf(number, lanes.get(number)?.name), which = run => named(run, names.get(run));
+  const ran = number => [...lanes.get(number).runs].filter(run => names.has(run)).map(run => `run ${which(run)}`).join(", ");
+  const game = { ...summary, list, places, lanes, overAt: null, part: -1, who, which, ran };
   note(lanes, table.slot(0), -1, null);
   readBlock(new Lines(text, summary.from, summary.line - 1), entry => {
     const at = list.push(entry) - 1, wasOver = table.isOver, on = table.runs.get(entry.run);
     entry.on = lanes.has(on) ? on : null;
+    if (entry.said) return;
+    places.push(at);
     if (entry.on !== null) noteWait(lanes.get(on), entry, at);
     for (const slot of table.take(entry)) note(lanes, slot, at, entry.verb);
     if (table.isOver && !wasOver) game.overAt = at;

@@ -1,7 +1,6 @@
 // Leaving: what is taken from the page, as a picture in a file, or as text for Mermaid.
 import { app, on } from "./app.mjs";
 import { mermaidOf } from "./mermaid.mjs";
-
 const MOST_DRAWN = 20000, MOST_TOLD = 2000;  // rows
 // The picture of a chart for a file. The light colours are written out in it, for programs that know no variables.
 export function fileOf(chart) {

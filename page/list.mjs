@@ -1,10 +1,9 @@
 // The list: all test cases as a table, with counts and filters by verdict, a search by name, and why each verdict came.
 import { VERDICTS } from "./reading.mjs";
 import { $, $$, app, chip, counted, goTo, on, when } from "./app.mjs";
-import { nameOf } from "./lanes.mjs";
+import { nameOf, named, quoted } from "./lanes.mjs";
 import { escaped, lookOf } from "./drawing.mjs";
 import { faults } from "./sources.mjs";
-
 const STATUSES = [...VERDICTS, "unfinished"], PORTION = 500;  // so many rows are made at a time, as they come into sight
 // Why the verdict of a case is what it is, in words.
 export function reasonOf({ told, overall, end, isOver, why }) {
@@ -13,12 +12,13 @@ export function reasonOf({ told, overall, end, isOver, why }) {
     return `<b class="warn">line ${end} says ${VERDICTS[told]}, the entries make ${made}: <code>ttrun check</code> judges</b>`;
   if (!isOver) return `no entry ends the test case; verdict so far ${made}`;
   if (overall < 2) return when(overall === 0, '<span class="dim">no verdict was set</span>');
-  const { run, on, name, text, line } = why;
-  return `run ${run} on <b>${nameOf(on, name)}</b>: <code>${text}</code> <span class="dim">line&nbsp;${line}</span>`;
+  const { run, behaviour, on, name, text, line, before, behind } = why, said = text => when(text, escaped(quoted(text)));
+  return `run ${named(run, behaviour)} on <b>${nameOf(on, name)}</b>: ${said(before)} <code>${text}</code> ${said(behind)}
+    <span class="dim">line&nbsp;${line}</span>`;
 }
 function rowWriter() {
-  const ids = new Map(), hasFiles = app.sources.length > 1;
-  for (const { name, id } of app.cases) { if (ids.has(name)) ids.get(name).push(id); else ids.set(name, [id]); }
+  const ids = new Map(app.cases.map(({ name }) => [name, []])), hasFiles = app.sources.length > 1;
+  for (const { name, id } of app.cases) ids.get(name).push(id);
   const compare = ({ name, id }) => {
     const same = ids.get(name), other = same[(same.indexOf(id) + 1) % same.length];
     return when(same.length > 1, ` <a class="dim" href="#/${Math.min(id, other)}/${Math.max(id, other)}">compare</a>`);

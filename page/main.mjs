@@ -3,7 +3,6 @@ import { $, app, counted, goTo, on, when } from "./app.mjs";
 import { addSource, listenForFiles, showStart } from "./sources.mjs";
 import { showTable } from "./list.mjs";
 import { choose, find, showCases, unfold } from "./view.mjs";
-
 app.show = () => {
   const { sources, cases } = app, names = sources.map(source => source.name).join(", ");
   const shown = (location.hash.match(/\d+/g) ?? []).slice(0, 2).map(id => cases[id]).filter(Boolean);
@@ -35,5 +34,6 @@ on(document, "keydown", event => {
 });
 on(window, "hashchange", app.show);
 listenForFiles();
-if ($("#history").textContent) addSource("histories of this page", $("#history").textContent);
+const held = $("#history").textContent.replaceAll("\u2039", "<");  // which stands in the page for it, and in no text
+if (held) addSource("histories of this page", held);
 app.show();

@@ -1,23 +1,21 @@
-// Reading: the grammar of docs/texts.md ("Moves", "Replies", "Histories"), and the first line that is not of it.
+// Reading: the grammar of docs/texts.md ("Moves" to "Evidence"), and the first line that is not of it.
 export const VERDICTS = ["none", "pass", "inconc", "fail", "error"], MOST_BYTES = 16777216;
 const MOST_RUN = 65535, MOST_COMPONENT = 4294967295;
 const NUMBER = "(?:0|[1-9][0-9]{0,9})";
 const NAME = "(?!(?:all|any|mtc|self)(?!\\w))[A-Za-z]\\w{0,31}";
-const whole = pattern => new RegExp(`^${pattern}$`);
-const HEADER = whole(`history ([12]) (${NAME}) (${NUMBER})`), END = whole(`end (${VERDICTS.join("|")})`);
-const GROUP = whole(` (${NUMBER}|all)`), TARGET = whole(` (${NUMBER}|any|all)`), ALONE = /^$/;
-const OPERANDS = {
-  "create": whole(`( alive)?(?: named (${NAME}))?`),
-  "start": whole(` ${NUMBER} ${NUMBER}(?: ${NUMBER}){0,4}`),
-  "stop": GROUP, "kill": GROUP, "stopcase": ALONE, "getverdict": ALONE, "finish": ALONE,
-  "running": TARGET, "alive": TARGET, "done": TARGET, "killed": TARGET,
-  "wait done": TARGET, "wait killed": TARGET, "wake done": TARGET, "wake killed": TARGET,
-  "setverdict": whole(" (none|pass|inconc|fail)"),
-};
+const OPERATIONS = [
+  `create(?<alive> alive)?(?: named (?<name>${NAME}))?`, `(?:stop|kill) (?<group>${NUMBER}|all)`,
+  `start (?<on>${NUMBER}) (?<started>${NUMBER})(?<args>(?: ${NUMBER}){0,4})`,
+  `(?:running|alive|(?:wait |wake )?(?:done|killed)) (?<asked>${NUMBER}|any|all)`,
+  "setverdict (?<verdict>none|pass|inconc|fail)", "stopcase|getverdict|finish",
+];
 const ERRORS = "no-component|not-main|start-main|already-running|not-startable|no-behaviour|too-many|stuck";
-const REPLY = `made ${NUMBER}|ok|true|false|${VERDICTS.join("|")}|matched|parked|ended|error (?:${ERRORS})`;
-const ENTRY = whole(`(${NUMBER}) (${Object.keys(OPERANDS).join("|")})((?: \\w+)*) -> (${REPLY})`);
-// Where a text is no history text, and why, as `ttrun check` tells it. No line: the text as a whole.
+const REPLY = `made (?<made>${NUMBER})|ok|true|false|${VERDICTS.join("|")}|matched|parked|ended|error (?<error>${ERRORS})`;
+const whole = pattern => new RegExp(`^${pattern}$`);
+const ENTRY = whole(`(?<run>${NUMBER}) (?<operation>${OPERATIONS.join("|")}) -> (?<reply>${REPLY})`);
+const HEADER = whole(`(history [12]|evidence 1) (${NAME}) (${NUMBER})`), END = whole(`end (${VERDICTS.join("|")})`);
+const NAMING = whole(`behaviour (${NUMBER}) (${NAME})`), SAID = whole(`(${NUMBER}) ([#!]) ([ -~]{1,200})`);
+// Where a text is none of histories and evidence, and why, as `ttrun check` tells it. No line: the text as a whole.
 export class Fault extends Error {
   constructor(line, kind, text) { super(kind); Object.assign(this, { line, kind, text }); }
 }
@@ -34,31 +32,38 @@ export class Lines {
     return line;
   }
 }
+const numberOf = word => /^\d/.test(word) ? Number(word) : word ?? null;
 // The entry that the line spells, or null. `target` is a component, "any", "all" or null.
-function readEntry(text, line, format) {
-  const words = ENTRY.exec(text), operands = words && OPERANDS[words[2]].exec(words[3]);
-  if (!operands) return null;
-  const [, run, verb, rest, reply] = words;
-  const entry = { line, text, run: Number(run), verb, operation: verb + rest, reply, target: null, started: null, args: [],
-    made: reply.startsWith("made ") ? Number(reply.slice(5)) : null, error: reply.startsWith("error ") ? reply.slice(6) : null,
-    alive: false, name: null, verdict: null };
-  if (verb === "create") { entry.alive = operands[1] !== undefined; entry.name = operands[2] ?? null; }
-  else if (verb === "setverdict") entry.verdict = operands[1];
-  else if (verb === "start") [entry.target, entry.started, ...entry.args] = rest.slice(1).split(" ").map(Number);
-  else if (operands.length > 1) entry.target = operands[1] === "all" || operands[1] === "any" ? operands[1] : Number(operands[1]);
+function readEntry(line, text, kind) {
+  const words = ENTRY.exec(text)?.groups;
+  if (!words) return null;
+  const { operation, reply, name = null, verdict = null, error = null } = words;
+  const entry = { line, text, run: Number(words.run), verb: /^(?:wait |wake )?\w+/.exec(operation)[0], operation, reply, said: "",
+    name, verdict, error, alive: words.alive !== undefined, target: numberOf(words.on ?? words.group ?? words.asked),
+    started: numberOf(words.started), made: numberOf(words.made), args: (words.args ?? "").split(" ").slice(1).map(Number) };
   const isTooLarge = [entry.target, entry.made, ...entry.args].some(component => component > MOST_COMPONENT);
   if (isTooLarge || entry.run > MOST_RUN || entry.started > MOST_RUN) return null;
-  return format === 1 && entry.name !== null ? null : entry;
+  return kind === "history 1" && name !== null ? null : entry;
 }
-// Reads a block, and hands on each entry.
+// A remark of a run, or why a line of it was refused, or null. It is among the entries; its verb is its mark, `#` or `!`.
+function readSaid(line, text, behaviours) {
+  const [, run, verb, said] = SAID.exec(text) ?? [];
+  return Number(run) < behaviours ? { line, text, run: Number(run), verb, operation: verb, reply: "", said, name: null,
+    verdict: null, error: null, alive: false, target: null, started: null, made: null, args: [] } : null;
+}
+// Reads a block, and hands on each entry and all that was said. `names` are those of the behaviours, by their runs.
 export function readBlock(lines, take) {
-  const first = lines.next(), header = HEADER.exec(first), line = lines.number, format = header && Number(header[1]);
-  if (!header || header[3] < 1 || header[3] > (format === 1 ? 64 : 256)) throw new Fault(line, "bad first line", first);
+  const first = lines.next(), line = lines.number, names = new Map(), met = new Set();
+  const [, kind, name, count] = HEADER.exec(first) ?? [], behaviours = Number(count), isEvidence = kind === "evidence 1";
+  if (!(behaviours >= 1 && behaviours <= (kind === "history 1" ? 64 : 256))) throw new Fault(line, "bad first line", first);
   for (;;) {
-    const text = lines.next(), entry = readEntry(text, lines.number, format);
-    if (entry) { take(entry); continue; }
-    const end = END.exec(text);
-    if (!end) throw new Fault(lines.number, "bad entry", text);
-    return { name: header[2], format, behaviours: Number(header[3]), line, end: lines.number, told: VERDICTS.indexOf(end[1]) };
+    const text = lines.next(), [, told] = END.exec(text) ?? [], number = lines.number;
+    if (told) return { name, names, line, end: number, told: VERDICTS.indexOf(told) };
+    const entry = readEntry(number, text, kind) ?? (isEvidence ? readSaid(number, text, behaviours) : null);
+    const [, named, behaviour] = isEvidence && !entry && NAMING.exec(text) || [], run = entry?.run ?? Number(named);
+    if (entry) take(entry);
+    else if (run < behaviours && !met.has(run)) names.set(run, behaviour);
+    else throw new Fault(number, "bad entry", text);
+    met.add(run).add(entry?.started);
   }
 }

@@ -10,10 +10,10 @@ const isAbout = (entry, component) => entry.on === component || entry.target ===
 export const decidingOf = game => game.overall >= 2 ? game.list[game.why.index] : null;
 export const isDeciding = (game, row) => game.overall >= 2 && row.first <= game.why.index && game.why.index <= row.last;
 // Whether an entry is shown. The one that ends the case and the one that made its verdict always are.
-export function filterOf(game, { focus, questions, ended }) {
+export function filterOf(game, { focus, questions, ended, remarks }) {
   const always = [game.list[game.overAt], decidingOf(game)];
   return entry => always.includes(entry) || ((focus === null || isAbout(entry, focus)) &&
-    (questions || !isQuiet(entry)) && (ended || entry.reply !== "ended"));
+    (questions || !isQuiet(entry)) && (ended || entry.reply !== "ended") && (remarks || !entry.said));
 }
 // The rows of the entries that are shown. Where one run makes the same one to four entries three times or more, one behind
 // the other, they are one row. No row goes over the entry `part`.

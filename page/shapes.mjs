@@ -1,23 +1,24 @@
 // The shapes: what a chart draws for an entry or a row, and the words beside it. It knows no coordinates.
 import { VERDICTS } from "./reading.mjs";
-import { lastAt, nameOf } from "./lanes.mjs";
+import { lastAt, nameOf, quoted } from "./lanes.mjs";
 import { isQuestion } from "./rows.mjs";
-
 // An arrow between two life lines, a create, an arrow to all others that there are, a box on the caller's life line, or a
 // note beside it. An entry that no rule is for is a box with all its words.
-export function shapeOf({ lanes, who }, entry, index) {
-  const { verb, reply, run, on, target, made, operation, started } = entry, isCarriedOut = reply === "ok";
+export function shapeOf({ lanes, who, which }, entry, index) {
+  const { verb, reply, run, on, target, made, operation, started, said } = entry, isCarriedOut = reply === "ok";
   const to = lanes.has(target) && target !== on ? target : null, isHalt = verb === "stop" || verb === "kill";
-  const words = typeof target === "number" ? `${verb} ${who(target)}${verb === "start" ? `, run ${started}` : ""}` : operation;
+  const spoken = verb === "!" ? `refused: ${said}` : quoted(said), ofRun = verb === "start" ? `, run ${which(started)}` : "";
+  const words = typeof target === "number" ? `${verb} ${who(target)}${ofRun}` : operation;
   const shape = (form, label, look = "", from = on, end = to) => ({ form, label, look, from, to: end });
-  if (!lanes.has(on)) return shape("note", `run ${run}: ${operation} \u2192 ${reply}`, "dim");
+  if (!lanes.has(on)) return shape("note", `run ${which(run)}: ${said ? spoken : `${operation} \u2192 ${reply}`}`, "dim");
+  if (said) return verb === "!" ? shape("box", spoken, "kept v-error") : shape("note", spoken, "said");
   if (reply === "ended") return shape("note", `${words} \u2192 ended`, "dim small");
   if (entry.error !== null) return shape("box", `${words} \u2192 error ${entry.error}`, "v-error");
   if (verb === "create" && made !== null && made !== on)
     return shape("create", entry.alive ? "create alive" : "create", "dashed", on, made);
   if (verb === "start" && isCarriedOut && to !== null) {
     const names = entry.args.map(entry.args.length > 1 ? number => nameOf(number) : who);
-    return shape("arrow", `start run ${started}${names.length ? ` with ${names.join(", ")}` : ""}`);
+    return shape("arrow", `start run ${which(started)}${names.length ? ` with ${names.join(", ")}` : ""}`);
   }
   if (isHalt && isCarriedOut && target === "all") {
     const isThere = lane => (lastAt(lane.phases, index - 1)?.phase ?? "killed") !== "killed";
@@ -37,7 +38,7 @@ export function shapeOf({ lanes, who }, entry, index) {
     return to === null ? shape("box", awaited) : shape("arrow", awaited, "dashed", to, on);
   if (isWait && reply === "parked") return shape("note", words);
   if (isWake && reply === "parked") return shape("note", `still waits: ${awaited}`, "dim small");
-  if (verb === "finish" && isCarriedOut) return shape("note", `finish run ${run}`);
+  if (verb === "finish" && isCarriedOut) return shape("note", `finish run ${which(run)}`);
   return isQuestion(entry) ? shape("note", `${words} \u2192 ${reply}`, "dim small") : shape("box", `${words} \u2192 ${reply}`);
 }
 export function shapeOfRow(game, { seen, size, times }) {

@@ -3,7 +3,6 @@ import { $, app, counted, on, when } from "./app.mjs";
 import { MOST_BYTES } from "./reading.mjs";
 import { readHistories } from "./cases.mjs";
 import { escaped } from "./drawing.mjs";
-
 export function addSource(name, text) {
   const source = { name, text, ...readHistories(text) };
   app.sources.push(source);
@@ -28,8 +27,8 @@ export function listenForFiles() {
   on($("#file"), "change", event => openFiles(event.target.files));
 }
 export function showStart() {
-  $("#main").innerHTML = `<div class="start"><div class="drop">Drop files here that <code>ttrun run --history</code> or
-    <code>ttrun explore --history</code> wrote, or open them. More files are shown beside them, to be compared.</div>
+  $("#main").innerHTML = `<div class="start">
+    <div class="drop">Drop files of histories or evidence here, or open them. More are shown beside them, to be compared.</div>
     <textarea id="paste" aria-label="histories" spellcheck="false"
       placeholder="Or paste histories:\n\nhistory 2 t_pumps 4\n0 create alive named inlet_pump -> made 1\n..."></textarea>
     <div><button id="read">Show</button></div></div>`;
@@ -41,7 +40,7 @@ export function faults() {
   return app.sources.filter(source => source.fault).map(({ name, fault, cases }) => `<div class="fault" role="alert">
     <b>${escaped(name)}: ${when(fault.line !== null, `line ${fault.line}: `)}${fault.kind}</b>
     ${when(fault.text !== null, `<code>${escaped(visible(fault.text ?? ""))}</code>`)}
-    <div>This is no history text, so <code>ttrun check</code> prints nothing about it but this fault. ${cases.length
-      ? `Shown are the ${counted(cases.length, "whole history", "whole histories")} above that line, and nothing from there on.`
+    <div>This is no text of histories or evidence, so <code>ttrun check</code> prints nothing about it but this fault.
+      ${cases.length ? `Shown are the ${counted(cases.length, "whole test case")} above that line, and nothing from there on.`
       : "Nothing of it is shown."}</div></div>`).join("");
 }

@@ -1,13 +1,11 @@
 // The table: what follows for each component from the entries so far, by docs/rules.md. No entry is refused here.
 import { VERDICTS } from "./reading.mjs";
-
 const isHalt = verb => verb === "stop" || verb === "kill";
 export class Table {
   constructor() {
     Object.assign(this, { slots: new Map(), components: 0, isOver: false, overall: 0 });
     this.runs = new Map([[0, 0]]);  // the component that a run is on, by the first start of it that was carried out
-    this.slot(0).run = 0;
-    this.make(this.slot(0), null);
+    this.make(0, null).run = 0;
   }
   // What is kept of a component, also of one that is not made.
   slot(number) {
@@ -15,11 +13,13 @@ export class Table {
       { number, exists: false, alive: false, name: null, run: null, isHalted: false, isKilled: false, local: 0 });
     return this.slots.get(number);
   }
-  make(slot, entry) {
-    if (slot.exists) return;
+  make(number, entry) {
+    const slot = this.slot(number);
+    if (slot.exists) return slot;
     Object.assign(slot, { exists: true, alive: entry?.alive ?? false, name: entry?.name ?? null });
     this.components += 1;
     this.overall = Math.max(this.overall, slot.local);
+    return slot;
   }
   endsCase({ verb, run, target, error }) {
     return error !== null || verb === "stopcase" || (verb === "finish" && run === 0) || (isHalt(verb) && target === 0);
@@ -46,13 +46,9 @@ export class Table {
       if (own.exists) this.overall = Math.max(this.overall, own.local);
       if (!ends) touched.push(own);
     }
-    if (entry.verb === "create" && entry.made !== null) {
-      const slot = this.slot(entry.made);
-      this.make(slot, entry); touched.push(slot);
-    }
+    if (entry.verb === "create" && entry.made !== null) touched.push(this.make(entry.made, entry));
     if (entry.verb === "start" && isCarriedOut) {
-      const slot = this.slot(entry.target);
-      slot.run = entry.started; slot.isHalted = false; touched.push(slot);
+      touched.push(Object.assign(this.slot(entry.target), { run: entry.started, isHalted: false }));
       if (!this.runs.has(entry.started)) this.runs.set(entry.started, entry.target);
     }
     return touched;

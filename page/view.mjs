@@ -9,9 +9,8 @@ import { saveChart, showMermaid } from "./leaving.mjs";
 import { faults } from "./sources.mjs";
 import { reasonOf } from "./list.mjs";
 import { showStates } from "./states.mjs";
-
 const TALLEST = 8e6;  // in dots; browsers scroll no much greater height
-function caseFrame(cases, games) {
+function caseFrame(cases, games, part) {
   const [one, two] = cases, namesOf = game => [...game.lanes.keys()].map(number => [number, game.who(number)]);
   const box = (key, label) =>
     `<label><input type="checkbox" data-option="${key}" ${when(app.options[key], "checked")}> ${label}</label>`;
@@ -21,7 +20,7 @@ function caseFrame(cases, games) {
   const choice = other => option(other.id, `${other.status}, ${place(other, other.source !== one.source)}`, other === two);
   const isOdd = ({ isOver, told, overall }) => !isOver || told !== overall;
   const state = shown => chip(shown.status) + when(isOdd(shown), ` <span>${reasonOf(shown)}</span>`);
-  const told = two ? `<span>alike for ${counted(app.options.part, "entry", "entries")}</span>` : state(one);
+  const told = two ? `<span>alike for ${counted(part, "entry", "entries")}</span>` : state(one);
   const pane = shown => `<section class="pane">${when(two, `<h3>${state(shown)} ${place(shown, true)}</h3>`)}
     <div class="scroll" tabindex="0" role="group" aria-label="chart"><svg class="chart heads" height="${HEAD}"></svg>
     <div class="space"><svg class="chart rows" role="listbox" aria-label="entries"></svg></div></div></section>`;
@@ -29,18 +28,18 @@ function caseFrame(cases, games) {
     <input id="search" type="search" size="18" placeholder="entry or name  ( / )" aria-label="search for an entry">
     <select id="focus" aria-label="component">${option("", "all components")}
     ${[...new Map(games.flatMap(namesOf))].map(name => option(...name)).join("")}</select>
-    ${box("questions", "questions")}${box("ended", "ended calls")}${box("isFolded", "fold repeats")}
+    ${box("questions", "questions")}${box("ended", "ended calls")}${box("remarks", "remarks")}${box("isFolded", "fold repeats")}
     ${when(others.length, `<select id="other" aria-label="compare with">${option("", "compare with\u2026")}
     ${others.map(choice).join("")}</select>`)}
     ${when(!two, '<span class="push"></span><button id="save">SVG</button><button id="mermaid">Mermaid</button>')}</div>
     <div class="case ${when(two, "two")}">${cases.map(pane).join("")}<aside class="state"></aside></div>`;
 }
 export function showCases(cases) {
-  const games = cases.map(shown => openCase(shown.source.text, shown)), [one, two] = cases;
-  Object.assign(app.options, { focus: null, part: two ? alike(...games) : -1 });
-  app.last = one.id;
+  const games = cases.map(shown => openCase(shown.source.text, shown)), [one, two] = cases, part = two ? alike(...games) : -1;
+  for (const game of games) game.part = two ? game.places[part] ?? game.list.length : -1;
+  [app.options.focus, app.last] = [null, one.id];
   document.title = `${one.name}, ttrun histories`;
-  $("#main").innerHTML = caseFrame(cases, games);
+  $("#main").innerHTML = caseFrame(cases, games, part);
   app.panes = $$(".pane").map((element, place) => makePane(games[place], element));
   for (const box of $$("[data-option]")) on(box, "change", () => {
     app.options[box.dataset.option] = box.checked;
@@ -52,18 +51,15 @@ export function showCases(cases) {
   if ($("#other")) on($("#other"), "change", ({ target }) => goTo(...[one.id, target.value].filter(id => id !== "")));
   if (!two) { on($("#save"), "click", saveChart); on($("#mermaid"), "click", showMermaid); }
   for (const pane of [...app.panes].reverse()) {
-    const first = two ? app.options.part : pane.chart.game.list.indexOf(decidingOf(pane.chart.game));
-    choose(pane, pane.chart.rowAt(Math.max(0, first)));
+    const { chart } = pane, first = two ? chart.game.part : chart.game.list.indexOf(decidingOf(chart.game));
+    choose(pane, chart.rowAt(Math.max(0, first)));
   }
 }
 function makePane(game, element) {
-  const pane = { chart: new Chart(game, app.options), isAsked: false };
+  const pane = { chart: new Chart(game, app.options) };
   for (const part of ["scroll", "heads", "rows", "space"]) pane[part] = $(`.${part}`, element);
   const { chart, scroll, rows, heads } = pane;
-  const redraw = () => {
-    if (!pane.isAsked) requestAnimationFrame(() => { pane.isAsked = false; draw(pane); });
-    pane.isAsked = true;
-  };
+  const redraw = () => requestAnimationFrame(() => draw(pane));
   const numberAt = (event, name) => Number(event.target.closest(`[data-${name}]`)?.dataset[name] ?? NaN);
   on(scroll, "scroll", () => { redraw(); for (const other of app.panes) other.scroll.scrollTop = scroll.scrollTop; });
   on(rows, "click", event => { if (numberAt(event, "row") >= 0) choose(pane, numberAt(event, "row")); });
@@ -76,8 +72,7 @@ function makePane(game, element) {
   chart.place(scroll.clientWidth);
   return pane;
 }
-// How tall the rows may look, and how far down they are scrolled. Beyond the height that browsers can scroll, a step of
-// the scroll bar is several steps of the chart.
+// How tall the rows look, and how far down they are scrolled: where they are too tall, a step of the scroll bar is several.
 function share({ scroll }) {
   const room = scroll.clientHeight - HEAD, all = Math.max(room, ...app.panes.map(pane => pane.chart.height));
   const tall = Math.min(all, TALLEST), scale = tall > room ? (all - room) / (tall - room) : 1;
@@ -126,10 +121,11 @@ export function unfold({ chart }) {
   const row = chart.rows[chart.chosen];
   if (row?.times > 1) { chart.unfolded.add(row.first); layOutAgain(); }
 }
-// The next row of which an entry, its caller or its target has the word that is searched for.
+// The next row of which an entry, or whom it names, has the word that is searched for.
 export function find(step) {
   const word = $("#search").value.toLowerCase(), { chart } = app.pane, { rows, game } = chart;
-  const says = ({ text, on, target }) => `${text} ${game.who(on)} ${game.who(target)}`.toLowerCase().includes(word);
+  const says = ({ text, run, started, on, target }) => [text, game.which(run), game.which(started ?? run), game.who(on),
+    game.who(target ?? on)].some(words => words.toLowerCase().includes(word));
   for (let far = 1; word && far <= rows.length; far += 1) {
     const place = (chart.chosen + step * far + rows.length) % rows.length;
     if (rows[place].seen.some(index => says(game.list[index]))) { choose(app.pane, place); return; }

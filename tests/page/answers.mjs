@@ -16,14 +16,15 @@ function statesOf({ lanes }, count) {
     return [number, [phase === "running" ? `running ${run}` : phase, local, open.map(wait => wait.operation).join()]];
   }));
 }
+const plain = cases => cases.map(summary => ({ ...summary, names: Object.fromEntries(summary.names) }));
 const asked = {
-  faults: text => { const { cases, fault } = readHistories(text); return { cases, fault: fault && [fault.line, fault.kind] }; },
+  faults: text => { const { cases, fault } = readHistories(text); return { cases: plain(cases), fault: fault && [fault.line, fault.kind] }; },
   games: text => {
     const { cases, fault } = readHistories(text), games = cases.map(summary => openCase(text, summary));
-    return { cases, fault: fault && [fault.line, fault.kind], texts: games.map(game => game.list.map(entry => entry.text)),
+    return { cases: plain(cases), fault: fault && [fault.line, fault.kind], texts: games.map(game => game.list.map(entry => entry.text)),
       ends: games.map(game => game.overAt), shapes: games.map(game => game.list.map((entry, index) => shapeOf(game, entry, index))),
-      alike: games.map(game => alike(games[0], game)),
-      states: games.map(game => Array.from({ length: game.entries + 1 }, (_, count) => statesOf(game, count))),
+      alike: games.map(game => alike(games[0], game)), ran: games.map(game => [...game.lanes.keys()].map(number => [number, game.ran(number)])),
+      states: games.map(game => Array.from({ length: game.list.length + 1 }, (_, count) => statesOf(game, count))),
       mermaid: games.map(game => mermaidOf(game, rowsOf(game.list, () => true, true, new Set()), [...game.lanes.keys()])) };
   },
   rows: text => {

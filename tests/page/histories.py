@@ -32,6 +32,12 @@ def kinds() -> str:
         return file.read()
 
 
+def kinds_of_evidence() -> str:
+    """Cases of evidence, each legal, and a history behind them."""
+    with open(os.path.join(TOP, "tests", "page", "kinds.evidence"), encoding="ascii") as file:
+        return file.read()
+
+
 def random_entry(rng: random.Random, form: int, is_wild: bool) -> str:
     """Any entry; a wild one has replies that fit no operation, and numbers of no component."""
     def some() -> int:

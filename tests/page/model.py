@@ -1,4 +1,4 @@
-"""Tests of the page's model, which need node alone: what is read, refused, concluded and drawn of a history text."""
+"""Tests of the page's model, which need node alone: what is read, refused, concluded and drawn of histories."""
 from __future__ import annotations
 
 import json
@@ -12,8 +12,10 @@ from dataclasses import dataclass
 from functools import lru_cache
 from typing import Any, Dict, List, Optional, Tuple
 
+import said
 from definitions import VERDICTS, History, deciding, ends_case, words
 from histories import MOST_BYTES, TOP, example, examples, kinds, legal_case, random_block, spoilt
+from said import evidence_of
 
 SECONDS = 120
 FAULTS = ("bad first line", "bad entry", "text ends too early")
@@ -135,6 +137,7 @@ def it_reads_spoilt_texts_as_the_program_does(context: Context) -> str:
         told = list(pool.map(lambda it: check(context, it), texts))
     for text, answer, (output, errors, status) in zip(texts, answers, told):
         same(fault_of(errors), answer["fault"], text)
+        same(said.read(text)[1], answer["fault"], text)
         met[answer["fault"][1] if answer["fault"] else "legal" if status == 0 else "read"] += 1
         if answer["fault"] is None:
             legal = re.findall(rb"(?m)^legal (\w+) (\d+) (\w+)$", output)
@@ -171,7 +174,7 @@ def faults_of_a_block(lines: List[str], answer: Dict[str, Any], is_legal: bool) 
     if why is not None:
         run = words(lines[why]).run
         wanted = {"index": why, "line": why + 2, "text": lines[why], "run": run, "on": history.component_of(history.first(why), run)}
-        same(wanted, {it: value for it, value in case["why"].items() if it != "name"}, lines)
+        same(wanted, {it: case["why"][it] for it in wanted}, lines)
     same(why is None, case["why"] is None, lines)
     hold(not is_legal or why == deciding(lines), lines)
     ends = [at for at, it in enumerate(lines) if ends_case(History([it]).past[0])]
@@ -200,6 +203,8 @@ def it_tells_where_two_cases_part(context: Context) -> str:
         hold(lines[:count] == first[:count] and lines[count:count + 1] != first[count:count + 1] or lines == first[:count] == first, lines)
         met[count] += 1
     hold(len(met) >= 3, met)
+    rng = random.Random(context.seed)
+    same(answer["alike"], ask(context, "games", ["".join(evidence_of(rng, it) for it in blocks_of(text))])[0]["alike"], "evidence")
     return f"{len(answer['texts'])} cases, alike for {sorted(met)} entries"
 
 
@@ -219,7 +224,10 @@ def it_folds_without_loss(context: Context) -> str:
     return f"{len(texts)} lists, {folded} folded rows"
 
 
-STATEMENT = re.compile(r"  (%% .*|participant c\d+ as [^;#]+|c\d+(-->>|->>|-x)c\d+: [^;#]+|Note over c\d+(,c\d+)?: [^;#]+|(de)?activate c\d+)")
+# What may be in a label: nothing that means anything to Mermaid, but by its number.
+LABEL = r"(?:[A-Za-z0-9_ ,./()\u00d7\u2192\u201c\u201d-]|:(?= )|#\d+;)+"
+STATEMENT = re.compile(rf"  (%% [\w ,]+|participant c\d+ as [\w ,]+|c\d+(-->>|->>|-x)c\d+: {LABEL}|Note over c\d+(,c\d+)?: {LABEL}"
+                       r"|(de)?activate c\d+)")
 
 
 def it_writes_mermaid(context: Context) -> str:

@@ -1,5 +1,5 @@
 #!/usr/bin/env python3
-"""The page's tests: what page/ makes of histories, beside what the built program says of them.
+"""The page's tests: what page/ makes of histories and evidence, beside what the built program says of them.
 
 usage: tests/page/run.py [--program FILE] [--only WORD] [--seed N] [--lies] [--list]
 
@@ -26,12 +26,15 @@ sys.dont_write_bytecode = True
 import browser
 import lies
 import model
+import model_evidence
 import shown
+import shown_evidence
 from histories import TOP, example, examples
 from model import Context, hold
 
+OF_MODEL, IN_BROWSER = (*model.TESTS, *model_evidence.TESTS), (*shown.TESTS, *shown_evidence.TESTS)
 # There are no fewer tests of the sources, of the model and of what is shown.
-FEWEST = (4, 7, 10)
+FEWEST = (4, 13, 16)
 MOST_LINES, WIDTH, MOST_MADE = 999, 130, 60_000
 
 
@@ -120,7 +123,7 @@ def shown_answers(chosen: List[Callable], context: Context, path: str) -> List[b
 
 def answers(context: Context, only: str, path: Optional[str]) -> List[Optional[bool]]:
     """Runs the tests: whether each has passed, nothing where it was skipped."""
-    groups = [[it for it in group if only in it.__name__] for group in (SOURCES, model.TESTS, shown.TESTS)]
+    groups = [[it for it in group if only in it.__name__] for group in (SOURCES, OF_MODEL, IN_BROWSER)]
     found: List[Optional[bool]] = [passes(it.__name__, lambda it=it: it(context)) for it in groups[0]]
     for group, tool, needed in ((groups[1], context.node, "node"), (groups[2], path, "Chromium")):
         if not tool and group:
@@ -141,9 +144,9 @@ def main() -> int:
     parser.add_argument("--list", action="store_true", help="prints the names of the tests")
     given = parser.parse_args()
     if given.list:
-        print("\n".join(it.__name__ for it in (*SOURCES, *model.TESTS, *shown.TESTS)))
+        print("\n".join(it.__name__ for it in (*SOURCES, *OF_MODEL, *IN_BROWSER)))
         return 0
-    if any(len(group) < least for group, least in zip((SOURCES, model.TESTS, shown.TESTS), FEWEST)):
+    if any(len(group) < least for group, least in zip((SOURCES, OF_MODEL, IN_BROWSER), FEWEST)):
         sys.exit(f"there are fewer tests than {FEWEST}")
     program, node = os.path.abspath(given.program), shutil.which("node") or ""
     if not os.access(program, os.X_OK):

@@ -33,13 +33,13 @@ CONTRASTS = """(() => {
 
 
 def page_of(context: Context, name: str, text: str) -> str:
-    """Writes the page of a history text as the program does: what is before the text, the text, what is behind it."""
+    """Writes the page of a text: what is before it, the text with U+2039 in place of `<`, what is behind it."""
     with open(os.path.join(context.page, "viewer.html"), encoding="ascii") as file:
         head, tail = file.read().split(MARK)
     path = os.path.join(context.room, f"{name}.html")
     if not os.path.exists(path):
         with open(path, "w", encoding="utf-8", newline="") as file:
-            file.write(head + MARK + text + tail)
+            file.write(head + MARK + text.replace("<", "\u2039") + tail)
     return path
 
 

@@ -1,0 +1,184 @@
+"""Tests of the page's model on evidence, which need node alone: what is read, refused, and shown beside the history in it."""
+from __future__ import annotations
+
+import random
+import re
+from collections import Counter
+from concurrent.futures import ThreadPoolExecutor
+from typing import Any, Dict, List, Optional, Tuple
+
+import said
+from definitions import VERDICTS, History, words
+from histories import example, examples, kinds, legal_case, random_block
+from model import FAULTS, STATEMENT, Context, ask, blocks_of, check, fault_of, hold, judged_blocks, same
+from said import evidence_of
+
+
+def edges_of_evidence() -> List[str]:
+    """Texts at the edges of the grammar of evidence."""
+    head, end = "evidence 1 t 3\n", "end none\n"
+    firsts = ["evidence 1 t 0", "evidence 1 t 256", "evidence 1 t 257", "evidence 1 t 65", "evidence 1 t 03", "evidence 2 t 3", "evidence 0 t 3",
+              "evidence 1 t", "evidence 1 all 3", "evidence 1  t 3", "evidence 1 t 3 ", "evidence t 3", "Evidence 1 t 3", "evidences 1 t 3",
+              "evidence 1 " + "n" * 32 + " 3", "evidence 1 " + "n" * 33 + " 3", "history 3 t 3", "evidence 1 t -1"]
+    said_lines = ["0 # x", "0 ! x", "2 # x", "3 # x", "2 ! x", "3 ! x", "10 # x", "00 # x", "0 #", "0 # ", "0 #  ", "0  # x", "0 #x", "0 # x ",
+                  " 0 # x", "0 ? x", "0 ## x", "0 #! x", "# x", "! x", "0 # \t", "0 # \r", "0 # \x7f", "0 # \x80", "0 # \x1f", "0 # \xe9",
+                  "0 # \u2039", "0 # ~", "0 # " + "y" * 200, "0 # " + "y" * 201, "0 ! " + "<" * 200, "0 ! " + "<" * 201, "0 # 0 finish -> ok",
+                  "0 # end none", "0 # behaviour 0 x", "4294967296 # x"]
+    namings = ["0 x", "2 x", "3 x", "00 x", "0  x", "0 x ", "0", "0 all", "0 allx", "0 " + "n" * 32, "0 " + "n" * 33, "0 9x", "0 x-y", " 0 x",
+               "10 x", "0 x\nbehaviour 1 x", "0 x\nbehaviour 0 y", "1 y\n0 start 1 1 -> ok"]
+    before = ["0 # x", "0 ! x", "1 # x", "0 getverdict -> none", "0 start 1 1 -> ok", "0 start 1 0 -> ended", "0 start 0 2 -> ok",
+              "2 start 1 0 1 -> error stuck", "0 stop 0 -> ok", "1 stop 0 -> ok"]
+    others = ["0 start 1 9 -> ok", "9 finish -> ended", "0 create named n -> made 1", "0 create alive named n -> made 1", "0 finish",
+              "0 finish -> ok ", "evidence 1 t 3", "end", "end  none", "Behaviour 0 x"]
+    inside = [*said_lines, *(f"behaviour {it}" for it in namings), *(f"{it}\nbehaviour 0 y" for it in before), *others]
+    texts = [f"{it}\n{end}" for it in firsts] + [f"{head}{it}\n{end}" for it in inside]
+    texts += [f"history {form} t 3\n{it}\n{end}" for it in ("0 # x", "0 ! x", "behaviour 0 x", "0 create named n -> made 1") for form in (1, 2)]
+    old = f"history 1 t 1\n{end}"
+    return texts + [head, head + end, head + end[:-1], head + "0 # x", f"{head}0 # x\n{end}{old}", f"{old}{head}0 # x\n{end}", head + end + head,
+                    head + end + "0 # x\n", head + "\n" + end, head + end + "\n", f"{head}{end}history 2 t 1\n0 # x\n{end}"]
+
+
+def reads_evidence(context: Context) -> bool:
+    """Whether `check` of this program reads evidence; as long as it does not, the tests' own reader is asked alone."""
+    return check(context, b"evidence 1 t 1\nend none\n")[2] == 0
+
+
+def told_of_evidence(context: Context, texts: List[bytes]) -> Counter:
+    """Holds what the model says of these texts to the tests' own reader, and to the program if it reads evidence; the kinds met."""
+    met: Counter = Counter()
+    if reads_evidence(context):
+        with ThreadPoolExecutor(4) as pool:
+            told = [fault_of(errors) for _, errors, _ in pool.map(lambda it: check(context, it), texts)]
+        same(told, [said.read(it)[1] for it in texts], "the program and the tests' reader")
+    for text, answer in zip(texts, ask(context, "faults", [it.decode("latin-1") for it in texts])):
+        cases, fault = said.read(text)
+        same(fault, answer["fault"], text)
+        wanted = [(it.name, {str(run): name for run, name in it.names.items()}, len(it.entries()), it.verdict) for it in cases]
+        same(wanted, [(it["name"], it["names"], it["entries"], VERDICTS[it["told"]]) for it in answer["cases"]], text)
+        met[fault[1] if fault else "read"] += 1
+        met["named"] += sum(bool(it.names) for it in cases)
+        met["said"] += sum(bool(line.said) for it in cases for line in it.lines)
+    return met
+
+
+def it_tells_faults_of_evidence(context: Context) -> str:
+    texts = edges_of_evidence()
+    met = told_of_evidence(context, [it.encode("utf-8" if "\u2039" in it else "latin-1") for it in texts])
+    hold(met["read"] >= 30 and met["bad entry"] >= 45 and met["bad first line"] >= 14 and met["text ends too early"] >= 3, met)
+    return ", ".join(f"{count} {it}" for it, count in sorted(met.items()))
+
+
+def it_reads_spoilt_evidence(context: Context) -> str:
+    rng = random.Random(context.seed + 4)
+    blocks = [it for name in examples() for it in blocks_of(example(name))] + blocks_of(kinds()) + [random_block(rng, False)[0] for _ in range(60)]
+    whole = [evidence_of(rng, it).encode() for it in blocks]
+    whole += [rng.choice(whole) + block.encode() + rng.choice(whole) for block in blocks[:30]]
+    met = told_of_evidence(context, whole + [said.spoilt(rng, whole) for _ in range(1500)])
+    floors = {**dict.fromkeys(FAULTS, 60), "bad entry": 400, "read": 300, "named": 500, "said": 1500}
+    hold(all(met[it] >= least for it, least in floors.items()), met)
+    return ", ".join(f"{count} {it}" for it, count in sorted(met.items()))
+
+
+def shape_of_said(history: History, case: said.Case, entries: int, line: said.Line) -> Tuple[str, str, Optional[int]]:
+    """Form, label and component of a remark or a refused line that is made behind so many entries."""
+    past = history.first(entries)
+    on = history.component_of(past, line.run)
+    spoken = f"refused: {line.said}" if line.mark == "!" else f"\u201c{line.said}\u201d"
+    if on is None or on not in history.components(past):
+        return "note", f"{named(case, f'run {line.run}')}: {spoken}", None
+    return "box" if line.mark == "!" else "note", spoken, on
+
+
+def named(case: said.Case, label: str) -> str:
+    """A label with the names of behaviours beside the numbers of runs."""
+    return re.sub(r"\brun (\d+)", lambda found: f"{found[0]} {case.names.get(int(found[1]), '')}".rstrip(), label)
+
+
+def faults_of_evidence(case: said.Case, told: Dict[str, Any], plain: Dict[str, Any]) -> int:
+    """Holds what is shown of evidence to what is shown of the history in it; how many names and remarks there are."""
+    history, entries, shown = History(case.entries()), 0, told["shapes"][0]
+    same([it.text for it in case.lines], told["texts"][0])
+    for key in ("status", "overall", "told", "isOver", "components", "entries"):
+        same(plain["cases"][0][key], told["cases"][0][key], key)
+    for place, line in enumerate(case.lines):
+        same(plain["states"][0][entries], told["states"][0][place], line)
+        if line.said:
+            same(shape_of_said(history, case, entries, line), (shown[place]["form"], shown[place]["label"], shown[place]["from"]), line)
+        else:
+            wanted = plain["shapes"][0][entries]
+            same({**wanted, "label": named(case, wanted["label"])}, shown[place], line)
+            entries += 1
+    same(plain["states"][0][entries], told["states"][0][-1])
+    over = plain["ends"][0]
+    same(None if over is None else [at for at, it in enumerate(case.lines) if not it.said][over], told["ends"][0])
+    return len(case.names) + len(case.lines) - entries
+
+
+def it_shows_evidence_as_its_history(context: Context) -> str:
+    """Names and remarks change no state, verdict or picture of an entry; each is where it was made, and so is its component."""
+    rng, count = random.Random(context.seed + 5), 0
+    blocks = [text for text, _ in judged_blocks(context)[0][250:]]
+    texts = [evidence_of(rng, it) for it in blocks]
+    for text, told, plain in zip(texts, ask(context, "games", texts), ask(context, "games", blocks)):
+        count += faults_of_evidence(said.read(text.encode())[0][0], told, plain)
+    hold(count >= 1200, count)
+    return f"{len(texts)} blocks, {count} names and remarks"
+
+
+def legal_evidence(context: Context, rounds: int) -> List[str]:
+    """Blocks of evidence, each legal."""
+    rng = random.Random(context.seed + 6)
+    blocks, legal = judged_blocks(context)
+    extra = [legal_case("t", 3, 5, verdict, seed) for seed, verdict in enumerate(VERDICTS[1:4])]
+    return [evidence_of(rng, it, 20) for it in [text for text, _ in blocks[-legal:]] + extra for _ in range(rounds)]
+
+
+def it_tells_reasons(context: Context) -> str:
+    """Beside the entry that made the verdict: the name of its behaviour, and the remarks of its run right before and behind it."""
+    texts, met = legal_evidence(context, 25), Counter()
+    for text, answer in zip(texts, ask(context, "faults", texts)):
+        wanted, came = said.read(text.encode())[0][0].why(), answer["cases"][0]["why"]
+        same(wanted is None, came is None, text)
+        if wanted is not None:
+            same(wanted, {it: came[it] or "" if it == "behind" else came[it] for it in wanted}, text)
+            met.update(it for it in ("behaviour", "before", "behind") if wanted[it])
+    hold(met["behaviour"] >= 200 and met["before"] >= 100 and met["behind"] >= 100, met)
+    return ", ".join(f"{count} {it}" for it, count in sorted(met.items()))
+
+
+def it_names_what_components_run(context: Context) -> str:
+    """By a component are the runs that were started on it and have names, in the order of their starts."""
+    texts, count = legal_evidence(context, 4), 0
+    for text, answer in zip(texts, ask(context, "games", texts)):
+        case = said.read(text.encode())[0][0]
+        ran: Dict[int, List[int]] = {0: [0]}
+        for entry in map(words, case.entries()):
+            if entry.verb == "start" and entry.reply == "ok":
+                ran.setdefault(int(entry.operands[0]), []).append(int(entry.operands[1]))
+        wanted = {at: ", ".join(named(case, f"run {it}") for it in runs if it in case.names) for at, runs in ran.items()}
+        same({at: wanted.get(at, "") for at, _ in answer["ran"][0]}, dict(answer["ran"][0]), text)
+        count += sum(map(bool, wanted.values()))
+    hold(count >= 100, count)
+    return f"{count} components"
+
+
+def it_writes_remarks_for_mermaid(context: Context) -> str:
+    """Each name and remark is in the diagram, a remark in a note, spelled so that Mermaid reads nothing else in it."""
+    texts, count = legal_evidence(context, 2), 0
+    for text, answer in zip(texts, ask(context, "games", texts)):
+        case, lines = said.read(text.encode())[0][0], answer["mermaid"][0].splitlines()
+        hold(all(STATEMENT.fullmatch(it) for it in lines[1:]), [it for it in lines[1:] if not STATEMENT.fullmatch(it)])
+        read = [re.sub(r"#(\d+);", lambda found: chr(int(found[1])), it) for it in lines]
+        for line in case.lines:
+            spoken = f"refused: {line.said}" if line.mark == "!" else f"\u201c{line.said}\u201d"
+            hold(not line.said or any(it.startswith("  Note over ") and spoken in it for it in read), (line, lines))
+        for run, name in case.names.items():
+            is_started = run == 0 or any(words(it).verb == "start" and int(words(it).operands[1]) == run for it in case.entries())
+            hold(not is_started or any(f"run {run} {name}" in it for it in read), (run, name, lines))
+        count += len(case.names) + sum(bool(it.said) for it in case.lines)
+    hold(count >= 250, count)
+    return f"{count} names and remarks"
+
+
+TESTS = (it_tells_faults_of_evidence, it_reads_spoilt_evidence, it_shows_evidence_as_its_history, it_tells_reasons,
+         it_names_what_components_run, it_writes_remarks_for_mermaid)
