@@ -40,7 +40,7 @@ export function faults() {
   return app.sources.filter(source => source.fault).map(({ name, fault, cases }) => `<div class="fault" role="alert">
     <b>${escaped(name)}: ${when(fault.line !== null, `line ${fault.line}: `)}${fault.kind}</b>
     ${when(fault.text !== null, `<code>${escaped(visible(fault.text ?? ""))}</code>`)}
-    <div>This is no text of histories or evidence, so <code>ttrun check</code> prints nothing about it but this fault.
+    <div>This is no text of histories and evidence, and <code>ttrun check</code> prints nothing about it but a fault.
       ${cases.length ? `Shown are the ${counted(cases.length, "whole test case")} above that line, and nothing from there on.`
       : "Nothing of it is shown."}</div></div>`).join("");
 }
