@@ -106,7 +106,7 @@ export class Chart {
       `${edge}${svg.text(left + GUTTER - 14, y + 14, number, "gutter", "end")}</g>`;
   }
   shape({ form, from, to, label, look }, x, y, left, right) {
-    const words = cut(label, 420);
+    const words = cut(label, Math.min(420, this.width - GUTTER - 24));
     if (form === "note") return this.note(x, y + 14, words, look);
     if (form === "box") return this.box(x, y + 14, words, look);
     if (form === "arrow") return this.arrow(x, this.xs.get(from), this.xs.get(to), y, words, look);

@@ -4,15 +4,15 @@ const MOST_RUN = 65535, MOST_COMPONENT = 4294967295;
 const NUMBER = "(?:0|[1-9][0-9]{0,9})";
 const NAME = "(?!(?:all|any|mtc|self)(?!\\w))[A-Za-z]\\w{0,31}";
 const OPERATIONS = [
-  `create(?<alive> alive)?(?: named (?<name>${NAME}))?`, `(?:stop|kill) (?<group>${NUMBER}|all)`,
-  `start (?<on>${NUMBER}) (?<started>${NUMBER})(?<args>(?: ${NUMBER}){0,4})`,
-  `(?:running|alive|(?:wait |wake )?(?:done|killed)) (?<asked>${NUMBER}|any|all)`,
-  "setverdict (?<verdict>none|pass|inconc|fail)", "stopcase|getverdict|finish",
+  `create( alive)?(?: named (${NAME}))?`, `(?:stop|kill) (${NUMBER}|all)`,
+  `start (${NUMBER}) (${NUMBER})((?: ${NUMBER}){0,4})`,
+  `(?:running|alive|(?:wait |wake )?(?:done|killed)) (${NUMBER}|any|all)`,
+  "setverdict (none|pass|inconc|fail)", "stopcase|getverdict|finish",
 ];
 const ERRORS = "no-component|not-main|start-main|already-running|not-startable|no-behaviour|too-many|stuck";
-const REPLY = `made (?<made>${NUMBER})|ok|true|false|${VERDICTS.join("|")}|matched|parked|ended|error (?<error>${ERRORS})`;
+const REPLY = `made (${NUMBER})|ok|true|false|${VERDICTS.join("|")}|matched|parked|ended|error (${ERRORS})`;
 const whole = pattern => new RegExp(`^${pattern}$`);
-const ENTRY = whole(`(?<run>${NUMBER}) (?<operation>${OPERATIONS.join("|")}) -> (?<reply>${REPLY})`);
+const ENTRY = whole(`(${NUMBER}) (${OPERATIONS.join("|")}) -> (${REPLY})`);
 const HEADER = whole(`(history [12]|evidence 1) (${NAME}) (${NUMBER})`), END = whole(`end (${VERDICTS.join("|")})`);
 const NAMING = whole(`behaviour (${NUMBER}) (${NAME})`), SAID = whole(`(${NUMBER}) ([#!]) ([ -~]{1,200})`);
 // Where a text is none of histories and evidence, and why, as `ttrun check` tells it. No line: the text as a whole.
@@ -32,15 +32,15 @@ export class Lines {
     return line;
   }
 }
-const numberOf = word => /^\d/.test(word) ? Number(word) : word ?? null;
-// The entry that the line spells, or null. `target` is a component, "any", "all" or null.
+const numberOf = word => word === undefined ? null : /^\d/.test(word) ? Number(word) : word;
+// The entry that the line spells, by the groups above, or null. `target` is a component, "any", "all" or null.
 function readEntry(line, text, kind) {
-  const words = ENTRY.exec(text)?.groups;
-  if (!words) return null;
-  const { operation, reply, name = null, verdict = null, error = null } = words;
-  const entry = { line, text, run: Number(words.run), verb: /^(?:wait |wake )?\w+/.exec(operation)[0], operation, reply, said: "",
-    name, verdict, error, alive: words.alive !== undefined, target: numberOf(words.on ?? words.group ?? words.asked),
-    started: numberOf(words.started), made: numberOf(words.made), args: (words.args ?? "").split(" ").slice(1).map(Number) };
+  const [, run, operation, alive, name = null, group, on, started, args, asked, verdict = null, reply, made, error = null] =
+    ENTRY.exec(text) ?? [];
+  if (!operation) return null;
+  const entry = { line, text, run: Number(run), verb: /^(?:wait |wake )?\w+/.exec(operation)[0], operation, reply, said: "", name,
+    verdict, error, alive: alive !== undefined, target: numberOf(on ?? group ?? asked), started: numberOf(started),
+    made: numberOf(made), args: args ? args.slice(1).split(" ").map(Number) : [] };
   const isTooLarge = [entry.target, entry.made, ...entry.args].some(component => component > MOST_COMPONENT);
   if (isTooLarge || entry.run > MOST_RUN || entry.started > MOST_RUN) return null;
   return kind === "history 1" && name !== null ? null : entry;
@@ -57,13 +57,13 @@ export function readBlock(lines, take) {
   const [, kind, name, count] = HEADER.exec(first) ?? [], behaviours = Number(count), isEvidence = kind === "evidence 1";
   if (!(behaviours >= 1 && behaviours <= (kind === "history 1" ? 64 : 256))) throw new Fault(line, "bad first line", first);
   for (;;) {
-    const text = lines.next(), [, told] = END.exec(text) ?? [], number = lines.number;
-    if (told) return { name, names, line, end: number, told: VERDICTS.indexOf(told) };
+    const text = lines.next(), number = lines.number;
     const entry = readEntry(number, text, kind) ?? (isEvidence ? readSaid(number, text, behaviours) : null);
-    const [, named, behaviour] = isEvidence && !entry && NAMING.exec(text) || [], run = entry?.run ?? Number(named);
-    if (entry) take(entry);
-    else if (run < behaviours && !met.has(run)) names.set(run, behaviour);
-    else throw new Fault(number, "bad entry", text);
-    met.add(run).add(entry?.started);
+    if (entry) { take(entry); met.add(entry.run).add(entry.started); continue; }
+    const end = END.exec(text), [, named, behaviour] = isEvidence && NAMING.exec(text) || [], run = Number(named);
+    if (end) return { name, names, line, end: number, told: VERDICTS.indexOf(end[1]) };
+    if (!(run < behaviours) || met.has(run)) throw new Fault(number, "bad entry", text);
+    names.set(run, behaviour);
+    met.add(run);
   }
 }

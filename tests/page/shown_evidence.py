@@ -9,8 +9,8 @@ from typing import List
 
 import said
 from browser import Browser
-from histories import examples, example, kinds_of_evidence, random_block
-from model import STATEMENT, Context, blocks_of, hold, same
+from histories import example, kinds_of_evidence, random_block
+from model import STATEMENT, Context, hold, same
 from model_evidence import legal_evidence
 from shown import LOOKS, WALK, fits, page_of, shown_rows, to_case, write
 
@@ -18,6 +18,9 @@ TITLES = "$$('.rows title').map(title => title.textContent)"
 # The texts of the chart that are not within its width, or stand on the numbers of lines.
 OUTSIDE = """$$('.rows text:not(.gutter)').filter(one => { const { x, width } = one.getBBox();
   return x < GUTTER - 8 || x + width > app.pane.chart.width; }).map(one => one.textContent)"""
+
+# Whether a remark of kinds.evidence was taken as markup.
+MARKUP = "[$$('img').length, $$('b').some(one => one.textContent === 'ready')]"
 
 
 def reason(case: said.Case) -> str:
@@ -47,6 +50,7 @@ def it_shows_evidence(context: Context, browser: Browser) -> str:
         browser.open(page_of(context, "evidence", text), width, height, dark)
         same(text, browser.js("app.sources[0].text"))
         same(wanted, [[row[0], row[1], *row[3:]] for row in shown_rows(browser)])
+        same([0, False], browser.js(MARKUP))
         fits(browser, dark)
         browser.js("app.options.isFolded = false")
         for at, case in enumerate(cases):
@@ -55,7 +59,7 @@ def it_shows_evidence(context: Context, browser: Browser) -> str:
             same([f"line {it.number}: {it.text}" for it in case.lines], browser.js(TITLES))
             same([], browser.js(OUTSIDE), case.name)
             count += sum(bool(it.said) for it in case.lines)
-        same((0, 0), (browser.js("$$('img').length"), browser.js("$$('.rows b, .cases td code b').length")))
+            same([0, False], browser.js(MARKUP))
         fits(browser, dark)
     hold(count >= 4 * 100, count)
     return f"{len(cases)} cases in {len(LOOKS)} looks, {count} remarks"
@@ -65,7 +69,7 @@ def it_shows_a_case_of_evidence(context: Context, browser: Browser) -> str:
     """Names in heads, starts and states; remarks by the chart, the panel, the search and the box that hides them."""
     browser.open(page_of(context, "kinds_of_evidence", kinds_of_evidence())), to_case(browser, "t_heater")
     same(["mtc, run 0 bench", "1 heater, run 1 probe"], browser.js("$$('.heads title').map(title => title.textContent)"))
-    same(["mtc", "run 0 bench", "1", "heater", "run 1 probe"], browser.js("$$('.heads text').map(text => text.textContent)"))
+    same(["mtc", "run 0 bench", "1", "heater", "run 1 probe", "not started"], browser.js("$$('.heads text').map(text => text.textContent)"))
     labels = browser.js("$$('.rows [data-row] text:not(.gutter)').map(text => text.textContent)")
     for label in ("start run 1 probe with mtc", "\u201cthe device says <b>ready</b> & \"ok\"\u201d", "refused: bad move", "finish run 1 probe",
                   "\u201ctoo hot: 85 > 80, and 80 <= limit\u201d", "run 2: \u201cfrom a run that was never started\u201d"):
@@ -96,9 +100,13 @@ def it_shows_a_case_of_evidence(context: Context, browser: Browser) -> str:
 def it_compares_evidence(context: Context, browser: Browser) -> str:
     """Where two cases part goes by their entries; the line of parting is before the same entry in both."""
     browser.open(page_of(context, "kinds_of_evidence", kinds_of_evidence())), browser.go("#/1/2")
-    hold("alike for 4 entries" in browser.js("$('.bar').textContent"), browser.js("$('.bar').textContent"))
+    hold("alike for 5 entries" in browser.js("$('.bar').textContent"), browser.js("$('.bar').textContent"))
     parts = browser.js("app.panes.map(({ chart }) => chart.game.list[chart.game.part].text)")
-    same(["0 start 1 2 -> ok", "0 start 1 2 -> ok"], parts)
+    same(["2 finish -> ok", "2 setverdict pass -> ok"], parts)
+    browser.open(page_of(context, "kinds_of_evidence", kinds_of_evidence()), 800), browser.go("#/1/2")
+    for pane in (0, 1):
+        browser.js(f"app.pane = app.panes[{pane}], app.pane.rows.innerHTML = app.pane.chart.draw(0, app.pane.chart.rows.length)")
+        same([], browser.js(OUTSIDE), pane)
     return f"{len(parts)} cases"
 
 
@@ -154,7 +162,6 @@ def it_opens_files_of_evidence(context: Context, browser: Browser) -> str:
     browser.choose_files([write(context, "pasted.evidence", good)]), browser.go("#/0")
     browser.js("choose(app.pane, 1)")
     same('0 # the device says <b>ready</b> & "ok"', browser.js("$('.state code').textContent"))
-    hold(len(examples()) >= 5 and len(blocks_of(example("pumps"))) == 2, "the examples are others")
     return f"{len(texts)} files"
 
 
