@@ -104,8 +104,9 @@ def read(text: bytes) -> Tuple[List[Case], Optional[Told]]:
 
 
 # What may be hard to show, or to copy, or to tell from what is no remark.
-SAYINGS = ("too hot: 85 > 80", "<b>", "</script>", "<!--", "&lt;", "&#60;", "0 finish -> ok", "end pass", "setverdict fail", "# ! #", "behaviour 1 x",
-           " ", "  two  ", "a; b", "%% no", "style x:#1;", "wrap: x", "$$x$$", "\\n", '"it\'s"', "`${x}`", "{}", "=SUM(A1)", "x" * 200, "<" * 200)
+SAYINGS = ("too hot: 85 > 80", "<b>", "</script>", "<!--", "&lt;", "&#60;", "0 finish -> ok", "end pass", "setverdict fail", "# ! #",
+           "behaviour 1 x", " ", "  two  ", "a; b", "%% no", "style x:#1;", "wrap: x", "$$x$$", "\\n", '"it\'s"', "`${x}`", "{}", "=SUM(A1)",
+           "x" * 200, "<" * 200)
 
 
 def saying(rng: random.Random) -> str:
@@ -141,7 +142,8 @@ def evidence_of(rng: random.Random, block: str, most: int = 8) -> str:
 # What a text of evidence may have besides in place of something, or between two bytes.
 MORE = (b"evidence 1 t 1\n", b"evidence 1 t 257\n", b"evidence 2 t 1\n", b"evidence", b"behaviour 0 x\n", b"behaviour 1 y\n",
         b"behaviour 9 z\n", b"behaviour ", b"behaviour 2 all\n", b"#", b"!", b" # ", b" ! ", b"0 # x\n", b"0 ! y\n", b"1 # \n",
-        b"1 #\n", b"9 # late\n", b"255 # z\n", b"\x8b", b"\xe2\x80\xb9", b"\x7f", b"\x1f", b"y" * 200, b"0 # " + b"y" * 201 + b"\n", b"00 # x\n", b"-> ok", b"<")
+        b"1 #\n", b"9 # late\n", b"255 # z\n", b"\x8b", b"\xe2\x80\xb9", b"\x7f",
+        b"\x1f", b"y" * 200, b"0 # " + b"y" * 201 + b"\n", b"00 # x\n", b"-> ok", b"<")
 
 
 def spoilt(rng: random.Random, texts: List[bytes]) -> bytes:
