@@ -5,8 +5,7 @@ const NUMBER = "(?:0|[1-9][0-9]{0,9})";
 const NAME = "(?!(?:all|any|mtc|self)(?!\\w))[A-Za-z]\\w{0,31}";
 const OPERATIONS = [
   `create( alive)?(?: named (${NAME}))?`, `(?:stop|kill) (${NUMBER}|all)`,
-  `start (${NUMBER}) (${NUMBER})((?: ${NUMBER}){0,4})`,
-  `(?:running|alive|(?:wait |wake )?(?:done|killed)) (${NUMBER}|any|all)`,
+  `start (${NUMBER}) (${NUMBER})((?: ${NUMBER}){0,4})`, `(?:running|alive|(?:wait |wake )?(?:done|killed)) (${NUMBER}|any|all)`,
   "setverdict (none|pass|inconc|fail)", "stopcase|getverdict|finish",
 ];
 const ERRORS = "no-component|not-main|start-main|already-running|not-startable|no-behaviour|too-many|stuck";

@@ -28,7 +28,8 @@ function caseFrame(cases, games, part) {
     <input id="search" type="search" size="18" placeholder="entry or name  ( / )" aria-label="search for an entry">
     <select id="focus" aria-label="component">${option("", "all components")}
     ${[...new Map(games.flatMap(namesOf))].map(name => option(...name)).join("")}</select>
-    ${box("questions", "questions")}${box("ended", "ended calls")}${box("remarks", "remarks")}${box("isFolded", "fold repeats")}
+    ${box("questions", "questions")}${box("ended", "ended calls")}${box("isFolded", "fold repeats")}
+    ${when(games.some(game => game.list.length > game.places.length), box("remarks", "remarks"))}
     ${when(others.length, `<select id="other" aria-label="compare with">${option("", "compare with\u2026")}
     ${others.map(choice).join("")}</select>`)}
     ${when(!two, '<span class="push"></span><button id="save">SVG</button><button id="mermaid">Mermaid</button>')}</div>
