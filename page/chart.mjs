@@ -4,7 +4,7 @@ import { countWhile, nameOf } from "./lanes.mjs";
 import { filterOf, isDeciding, rowsOf } from "./rows.mjs";
 import { shapeOfRow } from "./shapes.mjs";
 import { cut, escaped, lookOf, svg, twoLines, widthOf } from "./drawing.mjs";
-export const ROW = 28, GUTTER = 66, HEAD = 50;
+export const ROW = 28, GUTTER = 66, HEAD = 56;
 const FOOT = 90, LOW = 20;  // how far below the top of a row its arrow is
 export class Chart {
   // options: questions, ended, remarks, isFolded (what is shown), focus (a component or null)

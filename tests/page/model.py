@@ -204,7 +204,8 @@ def it_tells_where_two_cases_part(context: Context) -> str:
         met[count] += 1
     hold(len(met) >= 3, met)
     rng = random.Random(context.seed)
-    same(answer["alike"], ask(context, "games", ["".join(evidence_of(rng, it) for it in blocks_of(text))])[0]["alike"], "evidence")
+    for told in ask(context, "games", ["".join(evidence_of(rng, it) for it in blocks_of(text)) for _ in range(20)]):
+        same(answer["alike"], told["alike"], "evidence")
     return f"{len(answer['texts'])} cases, alike for {sorted(met)} entries"
 
 

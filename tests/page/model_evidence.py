@@ -8,7 +8,7 @@ from concurrent.futures import ThreadPoolExecutor
 from typing import Any, Dict, List, Optional, Tuple
 
 import said
-from definitions import VERDICTS, History, words
+from definitions import VERDICTS, Entry, History, words
 from histories import example, examples, kinds, legal_case, random_block
 from model import FAULTS, STATEMENT, Context, ask, blocks_of, check, fault_of, hold, judged_blocks, same
 from said import evidence_of
@@ -94,6 +94,13 @@ def named(case: said.Case, label: str) -> str:
     return re.sub(r"\brun (\d+)", lambda found: f"{found[0]} {case.names.get(int(found[1]), '')}".rstrip(), label)
 
 
+def says_its_run(case: said.Case, entry: Entry, shape: Dict[str, Any]) -> bool:
+    """Whether a start and a finish are shown with their runs."""
+    run = entry.run if entry.verb == "finish" else int(entry.operands[1]) if entry.verb == "start" else None
+    is_shown = run is not None and entry.reply == "ok" and shape["from"] is not None
+    return not is_shown or f"{shape['label']} ".startswith(f"{entry.verb} {named(case, f'run {run}')} ") or shape["form"] == "box"
+
+
 def faults_of_evidence(case: said.Case, told: Dict[str, Any], plain: Dict[str, Any]) -> int:
     """Holds what is shown of evidence to what is shown of the history in it; how many names and remarks there are."""
     history, entries, shown = History(case.entries()), 0, told["shapes"][0]
@@ -107,6 +114,7 @@ def faults_of_evidence(case: said.Case, told: Dict[str, Any], plain: Dict[str, A
         else:
             wanted = plain["shapes"][0][entries]
             same({**wanted, "label": named(case, wanted["label"])}, shown[place], line)
+            hold(says_its_run(case, words(line.text), shown[place]), (line, shown[place]))
             entries += 1
     same(plain["states"][0][entries], told["states"][0][-1])
     over = plain["ends"][0]
