@@ -86,6 +86,8 @@ def it_shows_a_case_of_evidence(context: Context, browser: Browser) -> str:
     same("1 setverdict fail -> ok", browser.js("$('.state code').textContent"))
     browser.js("$('#search').value = '<b>'; find(1)"), browser.settle()
     same('0 # the device says <b>ready</b> & "ok"', browser.js("$('.state code').textContent"))
+    browser.js("$('#search').value = 'bench'; find(1)"), browser.settle()
+    same("0 start 1 1 0 -> ok", browser.js("$('.state code').textContent"))
     browser.key("Escape"), browser.click("[data-option=remarks]")
     same([f"line {it.number}: {it.text}" for it in said.read(kinds_of_evidence().encode())[0][0].lines if not it.said], browser.js(TITLES))
     browser.click("[data-option=remarks]"), to_case(browser, "t_again")
