@@ -28,7 +28,7 @@ export function listenForFiles() {
 }
 export function showStart() {
   $("#main").innerHTML = `<div class="start">
-    <div class="drop">Drop files of histories or evidence here, or open them. More are shown beside them, to be compared.</div>
+    <div class="drop">Drop files here, of histories or evidence, or open them. More are shown beside them, to be compared.</div>
     <textarea id="paste" aria-label="histories" spellcheck="false"
       placeholder="Or paste histories:\n\nhistory 2 t_pumps 4\n0 create alive named inlet_pump -> made 1\n..."></textarea>
     <div><button id="read">Show</button></div></div>`;
