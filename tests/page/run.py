@@ -29,7 +29,7 @@ import model
 import model_evidence
 import shown
 import shown_evidence
-from histories import TOP, example, examples
+from histories import TOP, example, examples, kinds_of_evidence
 from model import Context, hold
 
 OF_MODEL, IN_BROWSER = (*model.TESTS, *model_evidence.TESTS), (*shown.TESTS, *shown_evidence.TESTS)
@@ -79,15 +79,18 @@ def the_page_loads_nothing(_: Context) -> str:
 
 
 def the_program_writes_this_page(context: Context) -> str:
+    """It writes the page of each example, and refuses evidence as long as it cannot read it."""
     with open(os.path.join(TOP, "page", "viewer.html"), "rb") as file:
         head, tail = file.read().split(shown.MARK.encode())
-    names = examples()
-    for name in names:
-        text = example(name).encode()
-        ran = subprocess.run([context.program, "report", "--html"], input=text, capture_output=True, timeout=60, check=False)
-        hold(ran.stdout == head + shown.MARK.encode() + text + tail and not ran.stderr, f"{name}: {ran.stderr[:300]!r}")
+    names, refused = examples(), 0
+    for name, text in [*((it, example(it)) for it in names), ("evidence", kinds_of_evidence())]:
+        ran = subprocess.run([context.program, "report", "--html"], input=text.encode(), capture_output=True, timeout=60, check=False)
+        page = head + shown.MARK.encode() + text.replace("<", "\u2039").encode() + tail
+        is_refused = name == "evidence" and (ran.stdout, ran.stderr) == (b"", b"ttrun: line 1: bad first line\n")
+        hold(is_refused or ran.stdout == page and not ran.stderr, f"{name}: {ran.stderr[:300]!r}")
+        refused += is_refused
     hold(len(names) >= 5, names)
-    return f"{len(names)} pages"
+    return f"{len(names) + 1 - refused} pages, {refused} refused"
 
 
 SOURCES = (the_sources_are_small_and_plain, each_import_names_what_is_there, the_page_loads_nothing, the_program_writes_this_page)
