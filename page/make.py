@@ -34,7 +34,7 @@ def source(name: str) -> str:
 
 
 def modules(name: str, met: List[str]) -> List[str]:
-    """A module behind all that it imports, each once."""
+    """A module after all that it imports, each once."""
     for _, imported in IMPORT.findall(source(f"{name}.mjs")):
         if imported not in met:
             modules(imported, met)

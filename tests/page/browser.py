@@ -11,7 +11,7 @@ import time
 from typing import Any, List, Optional
 
 NAMES = ("chromium", "chromium-browser", "google-chrome", "google-chrome-stable", "chrome")
-# After so many seconds without an answer a browser is given up.
+# The seconds without an answer after which a browser is given up.
 SECONDS = 120
 WORDS = ("--headless=new", "--no-sandbox", "--disable-gpu", "--no-first-run", "--disable-dev-shm-usage", "--hide-scrollbars=false",
          "--remote-debugging-pipe", "--force-device-scale-factor=1", "about:blank")
@@ -31,7 +31,7 @@ class Browser:
         self.folder = tempfile.mkdtemp(prefix="page-chromium-")
 
         def handles() -> None:
-            # the two ends may be 3 or 4 themselves, so each goes by a high number first
+            # the two ends may be 3 or 4 themselves, so each gets a high number first
             os.dup2(to_read, 100), os.dup2(back_write, 101)
             os.dup2(100, 3), os.dup2(101, 4)
 
@@ -130,7 +130,7 @@ class Browser:
         self.settle(), time.sleep(0.1), self.settle()
 
     def picture(self) -> bytes:
-        """What is to be seen, as PNG."""
+        """What the browser shows, as PNG."""
         self.settle()
         return base64.b64decode(self.call("Page.captureScreenshot", format="png", optimizeForSpeed=False)["data"])
 

@@ -119,13 +119,13 @@ class History:
         return max([0, *(given(it) for at, it in enumerate(past) if self.component_of(past[at + 1:], it.run) == component)])
 
     def awaited(self, count: int, run: int) -> str:
-        """What a run waits for behind the first entries, or nothing: its last entry was parked."""
+        """What a run waits for after the first entries, or nothing: its last entry was parked."""
         entry = next((it for it in self.first(count) if it.run == run), None)
         is_wait = entry is not None and entry.reply == "parked" and entry.verb[:2] == "wa"
         return f"{entry.verb.replace('wake', 'wait')} {entry.operands[0]}" if is_wait else ""
 
     def states(self, count: int) -> Dict[str, List[str]]:
-        """Phase and local verdict of each component behind the first entries."""
+        """Phase and local verdict of each component after the first entries."""
         past = self.first(count)
         return {str(it): [self.phase(past, it), VERDICTS[self.local(past, it)]] for it in self.components(past)}
 
@@ -133,7 +133,7 @@ class History:
 def deciding(lines: List[str]) -> Optional[int]:
     """Of a history that a table makes: the first entry after which the overall verdict is the one that it is in the end.
 
-    The overall verdict is the worst that was given so far. Nothing where no entry gives one."""
+    The overall verdict is the worst that was given so far. Nothing if no entry gives one."""
     worst, found = 0, None
     for at, line in enumerate(lines):
         move, _, reply = line.partition(" -> ")

@@ -33,7 +33,7 @@ def kinds() -> str:
 
 
 def kinds_of_evidence() -> str:
-    """Cases of evidence, each legal, and a history behind them."""
+    """Cases of evidence, each legal, and a history after them."""
     with open(os.path.join(TOP, "tests", "page", "kinds.evidence"), encoding="ascii") as file:
         return file.read()
 
@@ -68,7 +68,7 @@ def random_block(rng: random.Random, is_wild: bool) -> Tuple[str, List[str]]:
 
 
 def workers(rng: random.Random, runs: int, steps: int, verdict: str) -> List[str]:
-    """What so many started runs do in turns, the main one waiting for all; the last of them sets the verdict."""
+    """What the started runs do in turns, the main one waiting for all; the last of them sets the verdict."""
     left, out = {run: steps for run in range(1, runs + 1)}, ["0 wait done all -> parked"]
     while left:
         run = rng.choice(list(left))
@@ -84,7 +84,7 @@ def workers(rng: random.Random, runs: int, steps: int, verdict: str) -> List[str
 
 
 def legal_case(name: str, runs: int, steps: int, verdict: str = "pass", seed: int = 1) -> str:
-    """A main behaviour starts workers and waits for them; each makes so many calls, in turns with the others."""
+    """A main behaviour starts workers and waits for them; each makes the given number of calls, in turns with the others."""
     out = [f"history 2 {name} {runs + 1}"]
     for run in range(1, runs + 1):
         out += [f"0 create {'alive ' if run % 3 == 0 else ''}named worker_{run} -> made {run}"]
@@ -106,7 +106,7 @@ def widest_case(name: str) -> str:
 
 
 def campaign(cases: int, size: int) -> str:
-    """About so many bytes in so many test cases of all verdicts that setverdict sets."""
+    """About the given number of bytes in the given number of test cases, of all verdicts that setverdict sets."""
     steps = max(1, size // cases // 24 // 8)
     made = [legal_case("t_NAME", 8, steps, VERDICTS[it % 4], it) for it in range(12)]
     return "".join(made[it % 12].replace("t_NAME", f"t_case_{it}", 1) for it in range(cases))
@@ -121,7 +121,7 @@ def fullest() -> str:
     return f"{text}history 2 t{'x' * (left % len(call))} 1\n{call * (left // len(call))}{ends}"
 
 
-# What a spoilt text may have in place of something, or between two bytes.
+# What a spoilt text may have instead of something, or between two bytes.
 PIECES = (b"", b" ", b"  ", b"\n", b"\n\n", b"\r\n", b"\t", b"\0", b"\xc3\xa9", b"\xef\xbb\xbf", b"x", b"_", b"-", b"<", b"0", b"00", b"1",
           b"65536", b"4294967296", b"-1", b"all", b"any", b"ended", b"error", b"error stuck", b"made 1", b"ok", b" -> ", b"->", b"end pass\n",
           b"end\n", b"history 2 t 1\n", b"history 1 t 65\n", b"named all", b" alive", b" named x", b"wait", b"wake ", b"finish", b"HISTORY")

@@ -1,4 +1,4 @@
-"""Small faults for the page's model: each is put into a copy of it alone, and its tests must find it."""
+"""Small faults for the page's model: each is put into a copy of its own, and the tests must find it."""
 from __future__ import annotations
 
 import os
@@ -126,7 +126,7 @@ def is_found(context: Context, at: int) -> bool:
 
 
 def answers(context: Context, only: str) -> List[Optional[bool]]:
-    """Tells all lies, a few at a time; whether each was found. Without one, no test may fail."""
+    """Plants all lies, a few at a time; whether each was found. Without one, no test may fail."""
     if not context.node:
         print("skipped: the lies, since there is no node")
         return [None] * len(LIES)

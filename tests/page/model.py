@@ -1,4 +1,4 @@
-"""Tests of the page's model, which need node alone: what is read, refused, concluded and drawn of histories."""
+"""Tests of the page's model, which need only node: what is read, refused, concluded and drawn of histories."""
 from __future__ import annotations
 
 import json
@@ -54,7 +54,7 @@ def ask(context: Context, what: str, texts: List[str]) -> List[Any]:
 
 @lru_cache(maxsize=4000)
 def checked(program: str, text: bytes) -> Tuple[bytes, bytes, int]:
-    """What `ttrun check` prints, tells and ends with; a program is asked once about a text."""
+    """The output, standard error and status of `ttrun check`; a program is asked once about a text."""
     ran = subprocess.run([program, "check"], input=text, capture_output=True, timeout=SECONDS, check=False)
     return ran.stdout, ran.stderr, ran.returncode
 
@@ -65,7 +65,7 @@ def check(context: Context, text: bytes) -> Tuple[bytes, bytes, int]:
 
 
 def fault_of(errors: bytes) -> Optional[List[Any]]:
-    """Line and kind of the fault that the program tells."""
+    """Line and kind of the fault that the program prints."""
     if not errors:
         return None
     found = re.fullmatch(rb"ttrun: (?:line (\d+): )?([a-z ]+)\n", errors)
@@ -150,7 +150,7 @@ def it_reads_spoilt_texts_as_the_program_does(context: Context) -> str:
 
 
 def judged_blocks(context: Context) -> Tuple[List[Tuple[str, List[str]]], int]:
-    """Blocks that can be read, hardly one of them legal, and behind them legal ones; how many are legal."""
+    """Blocks that can be read, hardly one of them legal, and after them legal ones; how many are legal."""
     rng = random.Random(context.seed + 1)
     blocks = [random_block(rng, it % 2 == 0) for it in range(400)]
     legal = [block for name in examples() for block in blocks_of(example(name))] + [legal_case("t", 3, 6)]

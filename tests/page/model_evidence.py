@@ -1,4 +1,4 @@
-"""Tests of the page's model on evidence, which need node alone: what is read, refused, and shown beside the history in it."""
+"""Tests of the page's model on evidence, which need only node: what is read, refused, and shown next to the history in it."""
 from __future__ import annotations
 
 import random
@@ -39,7 +39,7 @@ def edges_of_evidence() -> List[str]:
 
 
 def reads_evidence(context: Context) -> bool:
-    """Whether `check` of this program reads evidence; as long as it does not, the tests' own reader is asked alone."""
+    """Whether `check` of this program reads evidence; as long as it does not, only the tests' own reader is asked."""
     return check(context, b"evidence 1 t 1\nend none\n")[2] == 0
 
 
@@ -80,7 +80,7 @@ def it_reads_spoilt_evidence(context: Context) -> str:
 
 
 def shape_of_said(history: History, case: said.Case, entries: int, line: said.Line) -> Tuple[str, str, Optional[int]]:
-    """Form, label and component of a remark or a refused line that is made behind so many entries."""
+    """Form, label and component of a remark or a refused line that is made after the given number of entries."""
     past = history.first(entries)
     on = history.component_of(past, line.run)
     spoken = f"refused: {line.said}" if line.mark == "!" else f"\u201c{line.said}\u201d"
@@ -90,7 +90,7 @@ def shape_of_said(history: History, case: said.Case, entries: int, line: said.Li
 
 
 def named(case: said.Case, label: str) -> str:
-    """A label with the names of behaviours beside the numbers of runs."""
+    """A label with the names of behaviours next to the numbers of runs."""
     return re.sub(r"\brun (\d+)", lambda found: f"{found[0]} {case.names.get(int(found[1]), '')}".rstrip(), label)
 
 
@@ -123,7 +123,7 @@ def faults_of_evidence(case: said.Case, told: Dict[str, Any], plain: Dict[str, A
 
 
 def it_shows_evidence_as_its_history(context: Context) -> str:
-    """Names and remarks change no state, verdict or picture of an entry; each is where it was made, and so is its component."""
+    """Names and remarks change no state, verdict or picture of an entry; each has its place, and so has its component."""
     rng, count = random.Random(context.seed + 5), 0
     blocks = [text for text, _ in judged_blocks(context)[0][250:]]
     texts = [evidence_of(rng, it) for it in blocks]
@@ -142,7 +142,7 @@ def legal_evidence(context: Context, rounds: int) -> List[str]:
 
 
 def it_tells_reasons(context: Context) -> str:
-    """Beside the entry that made the verdict: the name of its behaviour, and the remarks of its run right before and behind it."""
+    """Next to the entry that made the verdict: the name of its behaviour, and the remarks of its run right before and after it."""
     texts, met = legal_evidence(context, 25), Counter()
     for text, answer in zip(texts, ask(context, "faults", texts)):
         wanted, came = said.read(text.encode())[0][0].why(), answer["cases"][0]["why"]

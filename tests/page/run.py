@@ -1,12 +1,12 @@
 #!/usr/bin/env python3
-"""The page's tests: what page/ makes of histories and evidence, beside what the built program says of them.
+"""The page's tests: what page/ makes of histories and evidence, next to what the built program says of them.
 
 usage: tests/page/run.py [--program FILE] [--only WORD] [--seed N] [--lies] [--list]
 
 The program is crates/ttrun/out/ttrun, as for tests/program/run.py. The model of the page is tested by node, without a browser;
-what is to be seen by Chromium, headless. Where there is no node, or no Chromium, these tests are skipped, and said to be. With
+what it shows by Chromium, headless. If there is no node, or no Chromium, these tests are skipped, and said to be. With
 --lies small faults are put into a copy of the model instead, one at a time, and its tests must find each. The last line is
-'N passed, M failed', with ', K skipped' behind it if there are some; the status is 0 where nothing failed, else 1, and 3 where
+'N passed, M failed', with ', K skipped' after it if there are some; the status is 0 if nothing failed, otherwise 1, and 3 if
 there is no program.
 """
 from __future__ import annotations
@@ -102,7 +102,7 @@ def passes(name: str, test: Callable[[], str]) -> bool:
     try:
         print(f"ok {name}: {test()}, in {time.monotonic() - began:.0f} seconds", flush=True)
         return True
-    except Exception as error:  # a test that breaks has failed, and the others go on
+    except Exception as error:  # a test that breaks has failed, and the others are run
         print(f"FAILED {name}\n  {type(error).__name__}: {error}", flush=True)
         return False
 
@@ -125,7 +125,7 @@ def shown_answers(chosen: List[Callable], context: Context, path: str) -> List[b
 
 
 def answers(context: Context, only: str, path: Optional[str]) -> List[Optional[bool]]:
-    """Runs the tests: whether each has passed, nothing where it was skipped."""
+    """Runs the tests: whether each has passed, nothing if it was skipped."""
     groups = [[it for it in group if only in it.__name__] for group in (SOURCES, OF_MODEL, IN_BROWSER)]
     found: List[Optional[bool]] = [passes(it.__name__, lambda it=it: it(context)) for it in groups[0]]
     for group, tool, needed in ((groups[1], context.node, "node"), (groups[2], path, "Chromium")):
@@ -138,7 +138,7 @@ def answers(context: Context, only: str, path: Optional[str]) -> List[Optional[b
 
 
 def main() -> int:
-    """Runs the tests, or tells the lies."""
+    """Runs the tests, or plants the lies."""
     parser = argparse.ArgumentParser(description="tests the page that shows histories")
     parser.add_argument("--program", default=os.path.join(TOP, "crates", "ttrun", "out", "ttrun"))
     parser.add_argument("--only", default="", help="the tests with this in their names")

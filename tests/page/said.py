@@ -44,7 +44,7 @@ class Case:
         return [it.text for it in self.lines if not it.said]
 
     def why(self) -> Optional[Dict[str, object]]:
-        """The entry that made the verdict, the name of its run's behaviour, and the remarks of that run beside it."""
+        """The entry that made the verdict, the name of its run's behaviour, and the remarks of that run next to it."""
         at = deciding(self.entries())
         if at is None:
             return None
@@ -67,7 +67,7 @@ class Inside:
         self.case = Case(self.evidence.name if self.evidence else self.header[1] if self.header else "")
 
     def take(self, number: int, text: str) -> bool:
-        """Takes a line, if it may stand there."""
+        """Takes a line, if it may be there."""
         if self.evidence is None:
             entry = read_entry(number, text, self.header[0])
             if entry is not None:
@@ -103,7 +103,7 @@ def read(text: bytes) -> Tuple[List[Case], Optional[Told]]:
     return cases, [len(lines) + 1, "text ends too early"] if inside is not None or not lines else None
 
 
-# What may be hard to show, or to copy, or to tell from what is no remark.
+# What may be hard to show or to copy, or may be taken for something else than a remark.
 SAYINGS = ("too hot: 85 > 80", "<b>", "</script>", "<!--", "&lt;", "&#60;", "0 finish -> ok", "end pass", "setverdict fail", "# ! #",
            "behaviour 1 x", " ", "  two  ", "a; b", "%% no", "style x:#1;", "wrap: x", "$$x$$", "\\n", '"it\'s"', "`${x}`", "{}", "=SUM(A1)",
            "x" * 200, "<" * 200)
@@ -129,7 +129,7 @@ def evidence_of(rng: random.Random, block: str, most: int = 8) -> str:
     for _ in range(rng.randrange(most + 1)):
         said = f"{rng.randrange(min(int(count), 6))} {rng.choice('###!')} {saying(rng)}"
         lines.insert(rng.randrange(len(lines) + 1), said)
-        if rng.random() < 0.5:  # right beside an entry of the same run, as a reason is
+        if rng.random() < 0.5:  # right next to an entry of the same run, as a reason is
             own = [at for at, line in enumerate(lines) if line.split(" ")[0] == said.split(" ")[0]]
             lines.insert(rng.choice(own) + rng.randrange(2), said[:2] + "# " + saying(rng))
     for run in range(min(int(count), 6)):
@@ -139,7 +139,7 @@ def evidence_of(rng: random.Random, block: str, most: int = 8) -> str:
     return "\n".join([f"evidence 1 {name} {count}", *lines, end]) + "\n"
 
 
-# What a text of evidence may have besides in place of something, or between two bytes.
+# What a text of evidence may have too, instead of something or between two bytes.
 MORE = (b"evidence 1 t 1\n", b"evidence 1 t 257\n", b"evidence 2 t 1\n", b"evidence", b"behaviour 0 x\n", b"behaviour 1 y\n",
         b"behaviour 9 z\n", b"behaviour ", b"behaviour 2 all\n", b"#", b"!", b" # ", b" ! ", b"0 # x\n", b"0 ! y\n", b"1 # \n",
         b"1 #\n", b"9 # late\n", b"255 # z\n", b"\x8b", b"\xe2\x80\xb9", b"\x7f",

@@ -1,4 +1,4 @@
-"""Tests of the page in a browser: what is on it, beside what the program says of the same histories."""
+"""Tests of the page in a browser: what is on it, next to what the program says of the same histories."""
 from __future__ import annotations
 
 import hashlib
@@ -33,7 +33,7 @@ CONTRASTS = """(() => {
 
 
 def page_of(context: Context, name: str, text: str) -> str:
-    """Writes the page of a text: what is before it, the text with U+2039 in place of `<`, what is behind it."""
+    """Writes the page of a text: what is before it, the text with U+2039 instead of `<`, what is after it."""
     with open(os.path.join(context.page, "viewer.html"), encoding="ascii") as file:
         head, tail = file.read().split(MARK)
     path = os.path.join(context.room, f"{name}.html")
@@ -218,7 +218,7 @@ def it_shows_the_kinds(context: Context, browser: Browser) -> str:
 
 
 def it_shows_one_case(context: Context, browser: Browser) -> str:
-    """What is chosen, the states, keys, the search, folding, what is hidden, one component alone."""
+    """What is chosen, the states, keys, the search, folding, what is hidden, only one component."""
     browser.open(page_of_kinds(context)), to_case(browser, "t_kinds")
     same("168", browser.js("$('.on-why .gutter').textContent"))
     browser.key("Home", *"jjjjj")
@@ -261,7 +261,7 @@ def it_shows_one_case(context: Context, browser: Browser) -> str:
     return f"{rows} rows"
 
 
-# Opens all cases, chooses each row, looks at each component alone, and makes what can be saved; how many rows there were.
+# Opens all cases, chooses each row, looks at each component by itself, and makes what can be saved; how many rows there were.
 WALK = """(() => { let rows = 0;
   const plain = text => { if (/NaN|undefined|null/.test(text)) throw new Error(text.match(/.{0,60}(NaN|undefined|null).{0,20}/)[0]) };
   for (const one of app.cases) {
@@ -330,7 +330,7 @@ def it_compares(context: Context, browser: Browser) -> str:
     browser.open(page_of_kinds(context), 800), browser.go(f"#/{wrong - 1}/{wrong}")
     hold("no entry ends the test case" in browser.js("$$('h3')[0].textContent") and "says fail" in browser.js("$$('h3')[1].textContent"), "no word")
     same(1, browser.js("new Set($$('.pane .scroll').map(one => one.getBoundingClientRect().y)).size"))
-    # a longer one beside a shorter one: both scroll to the end of the longer
+    # a longer one next to a shorter one: both scroll to the end of the longer
     two = legal_case("t_two", 2, 3, "pass") + legal_case("t_two", 2, 40, "fail")
     browser.open(page_of(context, "two", two), height=600), browser.go("#/0/1")
     browser.js("app.panes[1].scroll.scrollTop = 1e6"), browser.settle(), browser.settle()
@@ -349,7 +349,7 @@ def write(context: Context, name: str, data: bytes) -> str:
 
 
 def it_opens_files(context: Context, browser: Browser) -> str:
-    """Files that are opened, dropped or pasted, several at a time, and beside one another."""
+    """Files that are opened, dropped or pasted, several at a time, and side by side."""
     good, viewer = example("pumps").encode(), os.path.join(context.page, "viewer.html")
     worse = good.replace(b"2 setverdict pass", b"2 setverdict fail").replace(b"end pass", b"end fail")
     browser.open(viewer)
@@ -370,7 +370,7 @@ def it_opens_files(context: Context, browser: Browser) -> str:
 
 
 def it_tells_faults(context: Context, browser: Browser) -> str:
-    """A file that is refused is told as the program tells it, and nothing is shown from its fault on."""
+    """The fault of a refused file is shown as the program prints it, and nothing of the file from there on."""
     good = example("pumps").encode()
     texts = ((good[:200], 0), (b"", 0), (good + b"history 2 t 1\n", 2), (b"\xef\xbb\xbf" + good, 0), (good.replace(b"\n", b"\r\n"), 0),
              (good + b"<img src=x onerror=alert(1)>\n", 2), (b"\x00\xff", 0), (b"x" * (MOST_BYTES + 1), 0), (good[:-1] + b"\xff\n", 1))

@@ -1,4 +1,4 @@
-"""Tests of the page in a browser: names, remarks, reasons and refused lines, beside what the tests' own reader says of them."""
+"""Tests of the page in a browser: names, remarks, reasons and refused lines, next to what the tests' own reader says of them."""
 from __future__ import annotations
 
 import os
@@ -15,7 +15,7 @@ from model_evidence import legal_evidence
 from shown import LOOKS, WALK, fits, page_of, shown_rows, to_case, write
 
 TITLES = "$$('.rows title').map(title => title.textContent)"
-# The texts of the chart that are not within its width, or stand on the numbers of lines.
+# The texts of the chart that are not within its width, or lie over the numbers of lines.
 OUTSIDE = """$$('.rows text:not(.gutter)').filter(one => { const { x, width } = one.getBBox();
   return x < GUTTER - 8 || x + width > app.pane.chart.width; }).map(one => one.textContent)"""
 
@@ -41,7 +41,7 @@ def reason(case: said.Case) -> str:
 
 
 def it_shows_evidence(context: Context, browser: Browser) -> str:
-    """The table and each chart: every line where it was made, reasons, and nothing in a remark that is taken as markup."""
+    """The table and each chart: every line in its place, reasons, and nothing in a remark that is taken as markup."""
     blocks, count = legal_evidence(context, 1), 0
     text = kinds_of_evidence() + "".join(blocks)
     cases = said.read(text.encode())[0]
@@ -100,7 +100,7 @@ def it_shows_a_case_of_evidence(context: Context, browser: Browser) -> str:
 
 
 def it_compares_evidence(context: Context, browser: Browser) -> str:
-    """Where two cases part goes by their entries; the line of parting is before the same entry in both."""
+    """Two cases part at their first different entries; the line of parting is before the same entry in both."""
     browser.open(page_of(context, "kinds_of_evidence", kinds_of_evidence())), browser.go("#/1/2")
     hold("alike for 5 entries" in browser.js("$('.bar').textContent"), browser.js("$('.bar').textContent"))
     parts = browser.js("app.panes.map(({ chart }) => chart.game.list[chart.game.part].text)")
@@ -150,7 +150,7 @@ def it_gives_evidence_as_picture_and_mermaid(context: Context, browser: Browser)
 
 
 def it_opens_files_of_evidence(context: Context, browser: Browser) -> str:
-    """A file is read as it is: `<` is one, and what stands for it in a page is none."""
+    """A file is read as it is: `<` is one, and what replaces it in a page is none."""
     good, viewer = kinds_of_evidence().encode(), os.path.join(context.page, "viewer.html")
     texts: List[bytes] = [good, good.replace(b"<b>", b"\x8bb>"), good.replace(b"<b>", "\u2039b>".encode()), good.replace(b"\n", b"\r\n"),
                           good.replace(b"behaviour 4 ", b"behaviour 3 "), example("pumps").encode() + good, good.replace(b"closing", b"\x7flosing")]
