@@ -25,7 +25,7 @@ PROGRAM = os.path.join("crates", "refused_memory", "src")
 REFUSALS = {"NoMemory", "AllocError", "AllocFailed", "Error"}
 # What reports a refusal though it is no Result: a campaign that was aborted, a behaviour that was starved, a task that ended so. Only a
 # call that is passed an allocator or a handle makes one of it.
-TELLING = {"Results", "CampaignEnd", "Back", "Outcome"}
+TELLING = {"Results", "CampaignEnd", "Back", "Outcome", "Ending"}
 HEAD = re.compile(r"^( *)(pub )?(?:const |unsafe )*fn (\w+)\s*(?=[<(])")
 TYPE = re.compile(r"(?ms)^(pub )?(struct|enum|trait) (\w+)(.*?)^[};]")
 IMPL = re.compile(r"^(?:unsafe )?(?:impl|pub trait|trait)\b")

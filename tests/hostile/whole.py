@@ -29,8 +29,7 @@ UNREFUSED: Tuple[Exempt, ...] = (
     (("append_first_line", "append_said"), "append_whole_block makes them"),
     (("append_entry", "append_end"), "write_block makes them"),
     (("read_evidence", "append_whole_block", "Block::history"), "no program reads or writes evidence yet"),
-    (("OpenCase::new", "OpenCase::name_run", "OpenCase::remark", "OpenCase::refuse", "OpenCase::play", "read_order", "Server::close",
-      "Server::step"), "no program answers lines yet"),
+    (("Server::step", "serve"), "no program answers lines yet"),
     (("stop_word",), "it is handed no allocator: its one fault is that the word names no verdict"),
 )
 # What these are handed holds no allocator, so that they can ask for no memory; memory.py looks at their heads.
@@ -44,8 +43,7 @@ WITHOUT_ALLOCATOR = (
 # These take no memory, and are not made with every growth refused by themselves.
 UNTRIED: Tuple[Exempt, ...] = (
     (WITHOUT_ALLOCATOR, "they are handed no allocator"),
-    (("OpenCase::may", "OpenCase::may_say", "OpenCase::may_name", "OpenCase::overall", "OpenCase::counted", "Server::new"),
-     "no program answers lines yet"),
+    (("Server::new", "Server::is_open", "Server::worst"), "no program answers lines yet"),
     (("CountedReader::new", "CountedWriter::new", "NarrowWriter::new", "LiveWriter::new", "Progress::new", "Script::new", "ScriptJob::new",
       "Kept::into_results"), "they put together what they are handed"),
     (("write_whole", "write_counted", "write_abort"), "the memory that their writer takes is the writer's"),

@@ -1,4 +1,4 @@
--- How a line changes the state of the server.
+-- How a line changes where the server stands.
 use Rattle.std.proofs.Common.{ℕ, ◌≡◌, ◌∙◌, ◌⊎◌, inl, inr, if◌then◌else◌, Bool, true, false, Option, Some, None, List, [], ◌∷◌, refl, ap, sym}
 use Rattle.tc_verdict.specs.declared.run.Run.{Run}
 use Rattle.tc_entry.specs.declared.op.Op.{Op}
@@ -44,10 +44,10 @@ pub record Closes (s t : Stand) : Type 0 where
 abbrev pub Changes : Stand → Stand → Type 0
 Changes s t = Opens s t ⊎ (AddsNote s t ⊎ (Moves s t ⊎ Closes s t))
 
-same_some : (x t : Stand) → ◌≡◌ {A = Option Stand} (Some x) (Some t) → x ≡ t
+pub same_some : (x t : Stand) → ◌≡◌ {A = Option Stand} (Some x) (Some t) → x ≡ t
 same_some x t e = cc
 
-if_some : (b : Bool) (x t : Stand) → (if b then Some x else None) ≡ Some t → (b ≡ true) × (x ≡ t)
+pub if_some : (b : Bool) (x t : Stand) → (if b then Some x else None) ≡ Some t → (b ≡ true) × (x ≡ t)
 if_some true x t e = (refl, same_some x t e)
 if_some false x t e = absurd cc
 

@@ -1,8 +1,7 @@
 -- A line adds to the text, and changes none of it.
 use Rattle.std.proofs.Common.{ℕ, ◌≡◌, ◌∙◌, inl, inr, if◌then◌else◌, zero, suc, Bool, true, false, Option, Some, None, List, [], ◌∷◌, ◌++◌, reverse, ap, sym, subst, append_assoc}
 use Rattle.std.specs.List.{flat_map}
-use Rattle.std.proofs.lemmas.List.{append-nil, reverse-append}
-use Rattle.std.proofs.lemmas.List.Concat.{flat_map-append}
+use Rattle.std.proofs.lemmas.List.{append-nil}
 use Rattle.tc_table.specs.declared.awaited.Awaited.{Awaited}
 use Rattle.tc_table.specs.Local.{overall}
 use Rattle.tc_table.specs.Waiting.{waiting}
@@ -15,6 +14,7 @@ use Rattle.tc_serve.specs.Laws.{TextGrows}
 use Rattle.tc_serve.specs.Played.{Played, called, is_parked, past_of, wake_op, woken, woken_from}
 use Rattle.tc_serve.specs.Stand.{Stand, block, lines_text, open_text, opening, stand_text, with_current}
 use Rattle.tc_serve.proofs.Changes.{Changes, changes}
+use Rattle.tc_serve.proofs.Going.{line_more}
 use Rattle.tc_serve.proofs.Trying.{grows, one_block}
 
 -- one text begins with the other
@@ -28,11 +28,7 @@ grows_on : (a b c : List ℕ) → Grows a b → Grows b c → Grows a c
 grows_on a b c p q = (p.0 ++ q.0, q.1 ∙ (ap (λ (l : List ℕ). l ++ q.0) p.1 ∙ append_assoc a p.0 q.0))
 
 one_line : (l : Line) (lines : List Line) → Grows (lines_text lines) (lines_text (l ∷ lines))
-one_line l lines = (
-  ended (line_text l),
-  ap (flat_map (λ x. ended (line_text x))) (reverse-append (l ∷ []) lines)
-      ∙ (flat_map-append (λ x. ended (line_text x)) (reverse lines) (l ∷ []) ∙ ap (λ (x : List ℕ). lines_text lines ++ x) (append-nil (ended (line_text l)))),
-)
+one_line l lines = (ended (line_text l), line_more l lines)
 
 one_wake : (n : ℕ) (lines : List Line) (b : ℕ) (o : Option Awaited) → Grows (lines_text lines) (lines_text (woken_from n lines b o))
 one_wake n lines b None = grows_not (lines_text lines)

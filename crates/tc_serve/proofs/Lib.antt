@@ -1,8 +1,15 @@
 -- The lemmas of this crate.
+pub mod Asked
+pub mod Calling
 pub mod Changes
+pub mod Evident
+pub mod Feeding
 pub mod Going
 pub mod Growing
+pub mod Lengths
 pub mod Orders
+pub mod Settled
 pub mod Sound
 pub mod Trying
+pub mod Turns
 pub mod Waking

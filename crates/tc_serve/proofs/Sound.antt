@@ -15,9 +15,9 @@ use Rattle.tc_serve.specs.Stand.{Stand}
 use Rattle.tc_serve.proofs.Changes.{Changes, changes}
 
 -- the entries among the lines are legal, and no wake is replied parked
-record Sound (n : ℕ) (lines : List Line) : Type 0 where
-  legal : IsLegal n (entries_of lines)
-  wakes : NoIdleWake (entries_of lines)
+pub record Sound (n : ℕ) (lines : List Line) : Type 0 where
+  pub legal : IsLegal n (entries_of lines)
+  pub wakes : NoIdleWake (entries_of lines)
 
 one_woken : (n : ℕ) (lines : List Line) (b : ℕ) (o : Option Awaited) → Sound n lines → Sound n (woken_from n lines b o)
 one_woken n lines b None so = so
@@ -27,7 +27,7 @@ one_woken n lines b (Some a) so = by_test (is_parked (called n lines (record { 0
     by_test true parked = so
     by_test false goes = record { legal = (refl, so.legal); wakes = (λ _. goes, so.wakes) }
 
-all_woken : (n : ℕ) (lines : List Line) (k : ℕ) → Sound n lines → Sound n (woken n lines k)
+pub all_woken : (n : ℕ) (lines : List Line) (k : ℕ) → Sound n lines → Sound n (woken n lines k)
 all_woken n lines zero so = so
 all_woken n lines (suc k) so = one_woken n (woken n lines k) k (waiting (entries_of (woken n lines k)) k) (all_woken n lines k so)
 
@@ -35,8 +35,11 @@ no_wake : (a b : Bool) → (not a && b) ≡ true → a ≡ true → ⊥
 no_wake true b may wake = absurd cc
 no_wake false b may wake = absurd cc
 
+pub called_sound : (p : Played) (caller : Run) (op : Op) → may_ask p caller op ≡ true → Sound p.behaviours p.lines → Sound p.behaviours (after_call p caller op)
+called_sound p caller op may so = record { legal = (refl, so.legal); wakes = (λ wake. absurd (no_wake (is_wake op) _ may wake), so.wakes) }
+
 made : (p : Played) (caller : Run) (op : Op) → may_ask p caller op ≡ true → Sound p.behaviours p.lines → Sound p.behaviours (moved p caller op).lines
-made p caller op may so = all_woken p.behaviours (after_call p caller op) p.behaviours (record { legal = (refl, so.legal); wakes = (λ wake. absurd (no_wake (is_wake op) _ may wake), so.wakes) })
+made p caller op may so = all_woken p.behaviours (after_call p caller op) p.behaviours (called_sound p caller op may so)
 
 noted : (n : ℕ) (lines : List Line) (l : Line) → entry_of l ≡ [] → Sound n lines → Sound n (l ∷ lines)
 noted n lines l none so =

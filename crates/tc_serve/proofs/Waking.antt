@@ -1,4 +1,4 @@
--- A run that sleeps and can continue.
+-- A run that sleeps and may go on.
 use Rattle.std.proofs.Common.{ℕ, ◌≡◌, ◌∙◌, ◌<◌, if◌then◌else◌, nat_lt, Bool, true, false, Option, Some, None, ◌∷◌, ap, sym, arith}
 use Rattle.std.proofs.lemmas.Bool.Decides.{nat_tests}
 use Rattle.tc_entry.specs.declared.reply.Reply.{Reply}
@@ -8,7 +8,7 @@ use Rattle.tc_table.specs.Standing.{IsReply}
 use Rattle.tc_table.specs.Waiting.{waiting}
 use Rattle.tc_evidence.specs.declared.line.Line.TheVariants as L
 use Rattle.tc_serve.specs.declared.open_case.OpenCase.{OpenCase}
-use Rattle.tc_serve.specs.Inside.{IsOpen}
+use Rattle.tc_serve.specs.Step.{IsOpen}
 use Rattle.tc_serve.specs.Played.{Played, after_call, called, is_parked, past_of, sleep_of, wake_op, woken_from, woken_once}
 
 below : (a b : ℕ) → a < b → nat_lt a b ≡ true

@@ -1,4 +1,4 @@
--- The state of the server, and its text.
+-- Where the server stands, and its text.
 use Rattle.std.specs.Prelude.{ℕ, ◌≡◌, if◌then◌else◌, Option, Some, None, List, [], ◌∷◌, ◌++◌, map, reverse}
 use Rattle.std.specs.List.{flat_map}
 use Rattle.std.specs.Fmt.{decimal}
@@ -11,6 +11,7 @@ use Rattle.tc_text.specs.Reading.{EndsNumber}
 use Rattle.tc_history.specs.Block.{end_text}
 use Rattle.tc_table.specs.History.{is_over}
 use Rattle.tc_table.specs.Local.{overall}
+use Rattle.tc_evidence.specs.declared.header.Header.{Header}
 use Rattle.tc_evidence.specs.declared.header.Kind.TheVariants as K
 use Rattle.tc_evidence.specs.declared.line.Line.{Line}
 use Rattle.tc_evidence.specs.declared.line.Line.TheVariants as L
@@ -29,9 +30,9 @@ pub record Stand : Type 0 where
 abbrev pub start : Stand
 start = record { closed = []; current = None }
 
--- the first line of the evidence of a test case of this name and that many behaviours
-abbrev pub header_line : List ℕ → ℕ → List ℕ
-header_line name n = ended (header_text (record { kind = K.Evidence; name = name; behaviours = n }))
+-- what the first line of its evidence says
+abbrev pub header_of : Played → Header
+header_of p = record { kind = K.Evidence; name = p.name; behaviours = p.behaviours }
 
 -- the lines of evidence, which are listed with the newest first
 abbrev pub lines_text : List Line → List ℕ
@@ -39,7 +40,7 @@ lines_text lines = flat_map (λ l. ended (line_text l)) (reverse lines)
 
 -- the text of a test case that is open
 abbrev pub opening : Played → List ℕ
-opening p = header_line p.name p.behaviours ++ lines_text p.lines
+opening p = ended (header_text (header_of p)) ++ lines_text p.lines
 
 -- the text of a test case that was closed
 abbrev pub block : Played → List ℕ
@@ -54,7 +55,7 @@ open_text (Some p) = opening p
 abbrev pub stand_text : Stand → List ℕ
 stand_text s = flat_map block (reverse s.closed) ++ open_text s.current
 
--- the verdict that a test case counts as: error if it is not over
+-- the verdict that a test case counts as: error where it is not over
 abbrev pub counted : Played → Verdict
 counted p = if is_over (past_of p) then overall (past_of p) else V.Error
 
@@ -99,8 +100,7 @@ taken s (O.Move caller op) = played s s.current caller op
 taken s (O.Remark run sentence) = remarked s s.current run sentence
 taken s O.End = closed_with s s.current
 
--- a line is refused that run k sent, if it is one of the test case that is open: that is written, and nothing else
--- changes
+-- a line is refused that run k sent, if it is one of the test case that is open: that is written, and nothing else changes
 abbrev pub refused_with : Stand → Option Played → Run → Option Stand
 refused_with s None run = None
 refused_with s (Some p) run = if may_say p run then Some (with_current s (with_line p (L.Refused run why_refused))) else None

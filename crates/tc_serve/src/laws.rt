@@ -7,6 +7,30 @@ pub fn served_is_sound()
     ensures { laws.ServedIsSound }
 {}
 
+/// In the test case that is open nobody sleeps who may go on: the wake of each run that sleeps would be parked.
+#[tactic(auto, using(crate::proofs::Settled::nobody_sleeps_on))]
+pub fn nobody_sleeps_on()
+    ensures { laws.NobodySleepsOn }
+{}
+
+/// The evidence has what was asked for, each once and in its order, and nothing else but wakes and refusals.
+#[tactic(auto, using(crate::proofs::Asked::evidence_is_asked))]
+pub fn evidence_is_asked()
+    ensures { laws.EvidenceIsAsked }
+{}
+
+/// What is written in all is evidence of exactly the test cases, if there is one.
+#[tactic(auto, using(crate::proofs::Evident::served_is_evidence))]
+pub fn served_is_evidence()
+    ensures { laws.ServedIsEvidence }
+{}
+
+/// A line of which not all bytes are looked at asks for nothing.
+#[tactic(auto, using(crate::proofs::Lengths::long_lines_are_refused))]
+pub fn long_lines_are_refused()
+    ensures { laws.LongLinesAreRefused }
+{}
+
 /// A line adds to the text, and changes none of it.
 #[tactic(auto, using(crate::proofs::Growing::text_grows))]
 pub fn text_grows()

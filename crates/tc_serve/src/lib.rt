@@ -1,11 +1,14 @@
 //! Test cases whose lines come one by one, each answered at once: the component table as a judge at the end of a pipe.
 #![tactic(auto)]
 
+mod fault;
 pub mod laws;
 mod open_case;
 mod order;
 mod server;
+mod service;
+mod serving;
 
-pub use open_case::OpenCase;
-pub use order::{Order, read_order};
+pub use fault::ServeFault;
 pub use server::{Answered, Server};
+pub use service::{Ending, Served, serve};

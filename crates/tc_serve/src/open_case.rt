@@ -1,33 +1,40 @@
 //! A test case that is open.
-ghost use Rattle.std.specs.Prelude.{◌≡◌, ◌<◌, ◌++◌, ◌∷◌, ◌||◌, ◌==◌, [], ℕ, Bool, Option, length, slice_index_or, IfOk, OnOk, OnErr, None, false, if◌then◌else◌};
+ghost use Rattle.std.specs.Prelude.{◌≡◌, ◌<◌, ◌++◌, ◌∷◌, [], ℕ, List, Option, length, slice_index_or, IfOk, OnOk, None, if◌then◌else◌};
 ghost use Rattle.std.specs.Io.{StartsWith};
 ghost use Rattle.tc_entry.specs.Limits.{IsBehaviours};
 ghost use Rattle.tc_table.specs.Local as verdicts;
 ghost use Rattle.tc_table.specs.Waiting as waits;
+ghost use Rattle.tc_evidence.specs.declared.line.Line.{Line as AnyLine};
 ghost use Rattle.tc_evidence.specs.declared.line.Line.TheVariants as lines;
 ghost use Rattle.tc_evidence.specs.Block.{ended};
-ghost use Rattle.tc_evidence.specs.Line.{is_about, line_text};
-ghost use Rattle.tc_serve.specs.Inside.{GoesOn, IsOpen};
+ghost use Rattle.tc_evidence.specs.Line.{entry_of, line_text};
+ghost use Rattle.tc_evidence.specs.Met.{AreMet};
+ghost use Rattle.tc_serve.specs.Inside.{GoesOn};
 ghost use Rattle.tc_serve.specs.Played.{Played as AnyPlayed, after_call, is_parked, is_wake as spec_wake, may_ask, may_name as spec_may_name, may_say as spec_may_say, moved, past_of, sleep_of as spec_sleep, why_refused, with_line, woken_once};
 ghost use Rattle.tc_serve.specs.Stand.{counted as spec_counted};
+ghost use Rattle.tc_serve.specs.Step.{IsOpen};
 
 use std::alloc::Global;
-use tc_entry::{Entry, Name, NoMemory, Op, Reply, Run, Verdict};
-use tc_evidence::{Line, Sentence, append_line};
+use tc_entry::{Entry, NoMemory, Op, Reply, Run, Verdict};
+use tc_evidence::{Line, MetRuns, append_line, append_said};
 use tc_table::{Awaited, CaseState};
-use tc_text::{append_number, append_text};
 
-/// A test case that is open: what is kept of it next to its evidence.
+/// A test case that is open: what is kept of it beside its evidence.
 #[derive(Drop)]
-pub struct OpenCase {
-    /// The name of the test case.
-    pub name: Name,
+pub(crate) struct OpenCase {
     /// What is kept of its history.
-    pub state: CaseState,
+    state: CaseState,
     /// What each run waits for, if it sleeps.
-    pub sleeps: Vec<Option<Awaited>>,
-    /// Whether some line is about each run.
-    pub met: Vec<bool>,
+    sleeps: Vec<Option<Awaited>>,
+    /// The runs that some line is about.
+    met: MetRuns,
+}
+
+/// What is said of a line that is refused.
+pub(crate) fn refused_words() -> &'static str
+    ensures { result.now ≡ why_refused }
+{
+    "bad move"
 }
 
 // What a wait or a wake is for.
@@ -61,6 +68,7 @@ fn parks(awaited: Option<Awaited>, reply: Reply) -> Option<Awaited>
     }
 }
 
+// Whether the call is a wake.
 fn is_wake(op: &Op) -> bool
     ensures { result ≡ spec_wake op.now }
 {
@@ -79,56 +87,18 @@ fn nobody(alloc: Global, behaviours: u16) -> Result<Vec<Option<Awaited>>, NoMemo
     Ok(sleeps)
 }
 
-// No line is about any of that many runs.
-fn none_met(alloc: Global, behaviours: u16) -> Result<Vec<bool>, NoMemory>
-    ensures many { IfOk result (λ v. length v.items ≡ behaviours) }
-    ensures each { IfOk result (λ v. (b : ℕ) (d : Bool) → b < behaviours → slice_index_or v.items b d ≡ false) }
-{
-    let mut met = Vec::new(alloc);
-    for _run in 0..behaviours {
-        met.push(false)?;
-    }
-    Ok(met)
-}
-
-// Some line is about the run now.
-fn mark(met: &mut Vec<bool>, run: Run)
-    ensures many { length met.new.items ≡ length met.old.items }
-    ensures each { (b : ℕ) (d : Bool) → b < length met.old.items
-        → slice_index_or met.new.items b d ≡ ((run.0 == b) || slice_index_or met.old.items b d) }
-{
-    let place = usize::from(run.0);
-    if place < met.len() {
-        met[place] = true;
-    }
-}
-
-// Appends that a line of the run was refused; if memory runs out, a part of that line.
-fn append_refusal(out: &mut Vec<u8>, run: Run) -> Result<(), NoMemory>
-    ensures ok { OnOk result (out.new.items ≡ out.old.items ++ ended (line_text (lines.Refused run why_refused))) }
-    ensures err { OnErr result (StartsWith out.new.items out.old.items) }
-{
-    append_number(out, u64::from(run.0))?;
-    append_text(out, " ! ")?;
-    append_text(out, "bad move")?;
-    out.push(b'\n')?;
-    Ok(())
-}
-
 impl OpenCase {
     /// A test case that was just opened.
-    pub fn new(alloc: Global, name: Name, behaviours: u16) -> Result<OpenCase, NoMemory>
+    pub fn new(alloc: Global, behaviours: u16) -> Result<OpenCase, NoMemory>
         requires { IsBehaviours behaviours }
-        ensures { IfOk result (λ o. IsOpen o (record { name = name; behaviours = behaviours; lines = [] })) }
+        ensures { IfOk result (λ o. (name : List ℕ) → IsOpen o (record { name = name; behaviours = behaviours; lines = [] })) }
     {
         let state = CaseState::new(alloc, behaviours)?;
         let sleeps = nobody(alloc, behaviours)?;
-        let met = none_met(alloc, behaviours)?;
         Ok(OpenCase {
-            name,
             state,
             sleeps,
-            met,
+            met: MetRuns::none(),
         })
     }
 
@@ -144,7 +114,7 @@ impl OpenCase {
         }
     }
 
-    /// Whether the client of the run may make the call: it is no wake, and the run does not sleep.
+    /// Whether the call may be made by whoever serves the run: it is no wake, and the run does not sleep.
     pub fn may(&self, caller: Run, op: &Op) -> bool
         ensures { (p : AnyPlayed) → IsOpen self.now p → result ≡ may_ask p caller op.now }
     {
@@ -155,42 +125,35 @@ impl OpenCase {
     pub fn may_say(&self, run: Run) -> bool
         ensures { (p : AnyPlayed) → IsOpen self.now p → result ≡ spec_may_say p run }
     {
-        usize::from(run.0) < self.met.len()
+        run.0 < self.state.behaviours()
     }
 
     /// Whether the run is one of the test case, and no line is about it.
     pub fn may_name(&self, run: Run) -> bool
         ensures { (p : AnyPlayed) → IsOpen self.now p → result ≡ spec_may_name p run }
     {
-        let place = usize::from(run.0);
-        place < self.met.len() && !self.met[place]
+        run.0 < self.state.behaviours() && !self.met.contains(run)
     }
 
-    /// Adds the name of the run's behaviour; if memory runs out, a part of its line is appended.
-    pub fn name_run(&mut self, run: Run, name: Name, out: &mut Vec<u8>) -> Result<(), NoMemory>
-        ensures ok { OnOk result ((p : AnyPlayed) → IsOpen self.old p
-            → GoesOn self.new p (with_line p (lines.Named run name)) out.old.items out.new.items) }
+    // Adds the line to what is kept of the lines, and appends it; if memory runs out, a part of it.
+    fn add(&mut self, line: &Line, out: &mut Vec<u8>) -> Result<(), NoMemory>
+        ensures met { (ls : List AnyLine) → AreMet self.old.met ls → AreMet self.new.met (line.now ∷ ls) }
+        ensures state { self.new.state ≡ self.old.state }
+        ensures sleeps { self.new.sleeps ≡ self.old.sleeps }
+        ensures ok { OnOk result (out.new.items ≡ out.old.items ++ ended (line_text line.now)) }
         ensures any { StartsWith out.new.items out.old.items }
     {
-        append_line(out, &Line::Named { run, name })?;
-        mark(&mut self.met, run);
-        Ok(())
+        self.met.add_line(line);
+        append_line(out, line)
     }
 
-    /// Adds a remark of the run; if memory runs out, a part of its line is appended.
-    pub fn remark(
-        &mut self,
-        run: Run,
-        sentence: Sentence,
-        out: &mut Vec<u8>,
-    ) -> Result<(), NoMemory>
-        ensures ok { OnOk result ((p : AnyPlayed) → IsOpen self.old p
-            → GoesOn self.new p (with_line p (lines.Remark run sentence)) out.old.items out.new.items) }
+    /// Adds a line that is no entry; if memory runs out, a part of it is appended.
+    pub fn note(&mut self, line: &Line, out: &mut Vec<u8>) -> Result<(), NoMemory>
+        requires { entry_of line.now ≡ [] }
+        ensures ok { OnOk result ((p : AnyPlayed) → IsOpen self.old p → GoesOn self.new p (with_line p line.now) out.old.items out.new.items) }
         ensures any { StartsWith out.new.items out.old.items }
     {
-        append_line(out, &Line::Remark { run, sentence })?;
-        mark(&mut self.met, run);
-        Ok(())
+        self.add(line, out)
     }
 
     /// Adds that a line of the run was refused; if memory runs out, a part of that line is appended.
@@ -199,24 +162,9 @@ impl OpenCase {
             → GoesOn self.new p (with_line p (lines.Refused run why_refused)) out.old.items out.new.items) }
         ensures any { StartsWith out.new.items out.old.items }
     {
-        append_refusal(out, run)?;
-        mark(&mut self.met, run);
+        append_said(out, run, true, refused_words().as_bytes())?;
+        self.met.add_refused(run);
         Ok(())
-    }
-
-    // Marks whom the entry is about: its caller, and the run that it starts.
-    fn mark_entry(&mut self, entry: &Entry)
-        ensures state { self.new.state ≡ self.old.state }
-        ensures name { self.new.name ≡ self.old.name }
-        ensures sleeps { self.new.sleeps ≡ self.old.sleeps }
-        ensures many { length self.new.met.items ≡ length self.old.met.items }
-        ensures each { (b : ℕ) (d : Bool) → b < length self.old.met.items
-            → slice_index_or self.new.met.items b d ≡ (is_about b (lines.Entry entry.now) || slice_index_or self.old.met.items b d) }
-    {
-        mark(&mut self.met, entry.caller);
-        if let Op::Start { run, .. } = &entry.op {
-            mark(&mut self.met, *run);
-        }
     }
 
     // Makes the call, and appends its line; if memory runs out, a part of it.
@@ -228,9 +176,7 @@ impl OpenCase {
     {
         let awaited = awaited(&op);
         let reply = self.state.play(caller, op.copy())?;
-        let entry = Entry { caller, op, reply };
-        self.mark_entry(&entry);
-        append_line(out, &Line::Entry(entry))?;
+        self.add(&Line::Entry(Entry { caller, op, reply }), out)?;
         let place = usize::from(caller.0);
         if place < self.sleeps.len() {
             self.sleeps[place] = parks(awaited, reply);
@@ -238,7 +184,7 @@ impl OpenCase {
         Ok(())
     }
 
-    // Wakes the run, if it sleeps and can continue.
+    // Wakes the run, if it sleeps and may go on.
     fn wake(&mut self, run: u16, out: &mut Vec<u8>) -> Result<(), NoMemory>
         requires { run < self.old.state.behaviours }
         ensures ok { OnOk result ((p : AnyPlayed) → IsOpen self.old p →
@@ -259,8 +205,8 @@ impl OpenCase {
         self.call(Run(run), op, out)
     }
 
-    /// Makes the call, and appends its line; then wakes each run that can continue, in the order of their numbers, and
-    /// appends their lines. If memory runs out, a part of these.
+    /// Makes the call, and appends its line; then wakes each run that may go on, in the order of their numbers, and appends
+    /// their lines. If memory runs out, a part of these.
     pub fn play(&mut self, caller: Run, op: Op, out: &mut Vec<u8>) -> Result<(), NoMemory>
         ensures ok { OnOk result ((p : AnyPlayed) → IsOpen self.old p → GoesOn self.new p (moved p caller op) out.old.items out.new.items) }
         ensures any { StartsWith out.new.items out.old.items }
@@ -279,7 +225,7 @@ impl OpenCase {
         self.state.overall()
     }
 
-    /// The verdict that the test case counts as: error if it is not over.
+    /// The verdict that the test case counts as: error where it is not over.
     pub fn counted(&self) -> Verdict
         ensures { (p : AnyPlayed) → IsOpen self.now p → result ≡ spec_counted p }
     {

@@ -17,7 +17,7 @@ use tc_text::{after, as_behaviours, read_move, read_number, take_name, take_numb
 
 /// What a line asks for.
 #[derive(Drop)]
-pub enum Order {
+pub(crate) enum Order {
     /// Opens a test case of this name, with that many behaviours.
     Case { name: Name, behaviours: u16 },
     /// Names the behaviour of a run.
@@ -70,7 +70,7 @@ fn read_remark(text: &[u8]) -> Option<(Run, &[u8])>
     Some((Run(number), sentence))
 }
 
-// What the line asks for, if it is no remark.
+// What the line asks for, where it is no remark.
 fn read_other(text: &[u8]) -> Option<Order>
     ensures spelled { IfSome result (λ o. text.now ≡ order_text o) }
     ensures fits { IfSome result IsOrder }
@@ -93,8 +93,8 @@ fn read_other(text: &[u8]) -> Option<Order>
     }
 }
 
-/// What the line asks for. None if it asks for nothing.
-pub fn read_order(alloc: Global, text: &[u8]) -> Result<Option<Order>, NoMemory>
+/// What the line asks for. None where it asks for nothing.
+pub(crate) fn read_order(alloc: Global, text: &[u8]) -> Result<Option<Order>, NoMemory>
     ensures spelled { IfOk result (λ found. IfSome found (λ o. text.now ≡ order_text o)) }
     ensures fits { IfOk result (λ found. IfSome found IsOrder) }
     ensures only { (o : AnyOrder) → IsOrder o → text.now ≡ order_text o → IfOk result (λ found. found ≡ Some o) }

@@ -1,16 +1,17 @@
 //! What is done with a line.
-ghost use Rattle.std.specs.Prelude.{◌≡◌, ◌<◌, ◌^◌, ℕ, OnErr, IfOk, MatchOption};
+ghost use Rattle.std.specs.Prelude.{◌≡◌, ◌<◌, ◌^◌, ℕ, is_some, OnErr, IfOk, MatchOption};
 ghost use Rattle.std.specs.Io.{StartsWith};
 ghost use Rattle.tc_entry.specs.Limits.{IsBehaviours};
-ghost use Rattle.tc_serve.specs.Inside.{Asks, IsStep, IsTold, StandsAs, Tries};
+ghost use Rattle.tc_serve.specs.Inside.{Asks, Tries};
 ghost use Rattle.tc_serve.specs.Order.{IsOrder};
-ghost use Rattle.tc_serve.specs.Stand.{IsOf, closed_with, named_with, opened_with, played, remarked, start as spec_start, taken};
+ghost use Rattle.tc_serve.specs.Stand.{IsOf, Stand as AnyStand, closed_with, named_with, opened_with, played, remarked, start as spec_start, taken, worst_of};
+ghost use Rattle.tc_serve.specs.Step.{Comes, Goes, IsRefusal, StandsAs};
 
 use crate::open_case::OpenCase;
 use crate::order::{Order, read_order};
 use std::alloc::Global;
 use tc_entry::{Name, NoMemory, Op, Run, Verdict};
-use tc_evidence::{Header, Kind, Sentence, append_first_line};
+use tc_evidence::{Header, Kind, Line, Sentence, append_first_line};
 use tc_history::append_end;
 use tc_text::take_number;
 use tc_verdict::worse_of;
@@ -20,7 +21,7 @@ use tc_verdict::worse_of;
 pub enum Answered {
     /// What it asks for was done.
     Done,
-    /// It was refused, and the evidence says so to the run that it begins with.
+    /// It was refused, and the run that it begins with is told so in the evidence.
     Refused,
     /// It was refused, and begins with no run of a test case that is held.
     Nobody,
@@ -29,10 +30,8 @@ pub enum Answered {
 /// The test case that is open, if one is, and the worst verdict of those that were closed.
 #[derive(Drop)]
 pub struct Server {
-    /// The test case that is held.
-    pub current: Option<OpenCase>,
-    /// The worst of the verdicts that those which were closed count as.
-    pub worst: Verdict,
+    current: Option<OpenCase>,
+    worst: Verdict,
 }
 
 // The run that the line begins with.
@@ -61,6 +60,20 @@ impl Server {
         }
     }
 
+    /// Whether a test case is open.
+    pub fn is_open(&self) -> bool
+        ensures { (s : AnyStand) → StandsAs self.now s → result ≡ is_some s.current }
+    {
+        self.current.is_some()
+    }
+
+    /// The worst verdict of the test cases that were closed; one that was not over counts as error.
+    pub fn worst(&self) -> Verdict
+        ensures { (s : AnyStand) → StandsAs self.now s → result ≡ worst_of s }
+    {
+        self.worst
+    }
+
     // Opens a test case, if none is held.
     fn begin(
         &mut self,
@@ -78,11 +91,11 @@ impl Server {
         }
         let header = Header {
             kind: Kind::Evidence,
-            name: name.copy(),
+            name,
             behaviours,
         };
         append_first_line(out, &header)?;
-        self.current = Some(OpenCase::new(alloc, name, behaviours)?);
+        self.current = Some(OpenCase::new(alloc, behaviours)?);
         Ok(true)
     }
 
@@ -98,7 +111,7 @@ impl Server {
             self.current = Some(held);
             return Ok(false);
         }
-        held.name_run(run, name, out)?;
+        held.note(&Line::Named { run, name }, out)?;
         self.current = Some(held);
         Ok(true)
     }
@@ -120,7 +133,7 @@ impl Server {
         Ok(true)
     }
 
-    // Adds a remark, if the run is one of the test case.
+    // Adds a remark, where the run is one of the test case.
     fn remark(&mut self, run: Run, sentence: Sentence, out: &mut Vec<u8>) -> Result<bool, NoMemory>
         ensures ok { IfOk result (λ done. Tries (λ s. remarked s s.current run sentence) done self.old self.new out.old.items out.new.items) }
         ensures any { StartsWith out.new.items out.old.items }
@@ -132,13 +145,13 @@ impl Server {
             self.current = Some(held);
             return Ok(false);
         }
-        held.remark(run, sentence, out)?;
+        held.note(&Line::Remark { run, sentence }, out)?;
         self.current = Some(held);
         Ok(true)
     }
 
     /// Closes the test case that is open, if one is.
-    pub fn close(&mut self, out: &mut Vec<u8>) -> Result<bool, NoMemory>
+    pub(crate) fn close(&mut self, out: &mut Vec<u8>) -> Result<bool, NoMemory>
         ensures ok { IfOk result (λ done. Tries (λ s. closed_with s s.current) done self.old self.new out.old.items out.new.items) }
         ensures any { StartsWith out.new.items out.old.items }
     {
@@ -176,24 +189,25 @@ impl Server {
         }
     }
 
-    // Writes into the evidence that the line is refused, if it begins with a run of a test case that is held.
-    fn refuse(&mut self, line: &[u8], out: &mut Vec<u8>) -> Result<bool, NoMemory>
-        ensures ok { IfOk result (λ told. IsTold line.now told self.old self.new out.old.items out.new.items) }
+    /// Refuses the line: the run that it begins with is told so, if it is one of a test case that is open. If memory runs out,
+    /// a part of that line is appended.
+    pub(crate) fn refuse(&mut self, line: &[u8], out: &mut Vec<u8>) -> Result<Answered, NoMemory>
+        ensures ok { IfOk result (λ a. (s : AnyStand) → StandsAs self.old s → Goes (IsRefusal a line.now) s self.new out.old.items out.new.items) }
         ensures any { StartsWith out.new.items out.old.items }
     {
         let Some(run) = run_of(line) else {
-            return Ok(false);
+            return Ok(Answered::Nobody);
         };
         let Some(mut held) = self.current.take() else {
-            return Ok(false);
+            return Ok(Answered::Nobody);
         };
         if !held.may_say(run) {
             self.current = Some(held);
-            return Ok(false);
+            return Ok(Answered::Nobody);
         }
         held.refuse(run, out)?;
         self.current = Some(held);
-        Ok(true)
+        Ok(Answered::Refused)
     }
 
     // Does what the line asks for, or refuses it; if memory runs out, a part of its text may have been appended.
@@ -203,29 +217,26 @@ impl Server {
         line: &[u8],
         out: &mut Vec<u8>,
     ) -> Result<Answered, NoMemory>
-        ensures ok { IfOk result (λ a. IsStep a line.now self.old self.new out.old.items out.new.items) }
+        ensures ok { IfOk result (λ a. (s : AnyStand) → StandsAs self.old s → Goes (Comes a line.now) s self.new out.old.items out.new.items) }
         ensures any { StartsWith out.new.items out.old.items }
     {
-        if self.try_line(alloc, line, out)? {
+        let done = self.try_line(alloc, line, out)?;
+        if done {
             return Ok(Answered::Done);
         }
-        if self.refuse(line, out)? {
-            Ok(Answered::Refused)
-        } else {
-            Ok(Answered::Nobody)
-        }
+        self.refuse(line, out)
     }
 
-    /// Does what the line asks for, and appends its text. A line that may not be asked is refused: it changes nothing,
-    /// except that the evidence says so to the run which it begins with. If memory runs out, nothing is appended, and
-    /// the server is of no more use.
+    /// Does what the line asks for, and appends its text. A line that may not be asked is refused: it changes nothing, but that
+    /// the run which it begins with is told so in the evidence. If memory runs out, nothing is appended, and the server is
+    /// of no more use.
     pub fn step(
         &mut self,
         alloc: Global,
         line: &[u8],
         out: &mut Vec<u8>,
     ) -> Result<Answered, NoMemory>
-        ensures ok { IfOk result (λ a. IsStep a line.now self.old self.new out.old.items out.new.items) }
+        ensures ok { IfOk result (λ a. (s : AnyStand) → StandsAs self.old s → Goes (Comes a line.now) s self.new out.old.items out.new.items) }
         ensures err { OnErr result (out.new.items ≡ out.old.items) }
     {
         let start = out.len();

@@ -1,10 +1,11 @@
 use Rattle.std.proofs.Common.{◌≡◌}
 use Rattle.std.specs.Io.{StartsWith}
-use Rattle.tc_serve.specs.Inside.{IsOpen, GoesOn}
+use Rattle.tc_serve.specs.Inside.{GoesOn}
+use Rattle.tc_serve.specs.Step.{IsOpen}
 use Rattle.tc_serve.specs.Played.{Played, after_call, woken}
 use Rattle.tc_serve.proofs.open_case.OpenCase.play.Given as goal
 
--- the call is made, and the runs before this one are woken if they can continue
+-- the call is made, and the runs before this one are woken if they may go on
 abbrev pub invariant-loop-run : goal.invariant-loop-run
 invariant-loop-run l = record {
   so_far : (p : Played) → IsOpen l.fn.self p →

@@ -1,0 +1,283 @@
+-- What is written is evidence.
+use Rattle.std.proofs.Common.{ℕ, ◌≡◌, ◌≢◌, ◌∙◌, ◌==◌, ◌||◌, ◌&&◌, ◌+◌, ◌<◌, ◌≤◌, ◌^◌, inr, not, nat_lt, if◌then◌else◌, zero, suc, Bool, true, false, unwrap_or, Option, Some, None, MatchOption, List, [], ◌∷◌, ◌++◌, length, reverse, refl, ap, sym, subst, append_assoc, arith, rules}
+use Rattle.std.specs.List.{flat_map}
+use Rattle.std.proofs.lemmas.Bool.Decides.{nat_tests}
+use Rattle.std.proofs.lemmas.List.{append-nil, reverse-append, reverse-reverse}
+use Rattle.tc_verdict.specs.declared.run.Run.{Run}
+use Rattle.tc_entry.specs.Name.{IsName}
+use Rattle.tc_entry.specs.declared.comp.Comp.{Comp}
+use Rattle.tc_entry.specs.declared.entry.Entry.{Entry}
+use Rattle.tc_entry.specs.declared.op.Op.{Op}
+use Rattle.tc_entry.specs.declared.op.Op.TheVariants as Ops
+use Rattle.tc_entry.specs.declared.reply.Reply.{Reply}
+use Rattle.tc_entry.specs.declared.reply.Reply.TheVariants as R
+use Rattle.tc_entry.specs.declared.reply.Fault.TheVariants as F
+use Rattle.tc_text.specs.Spelling.{IsOp, IsReply, IsTarget}
+use Rattle.tc_table.specs.declared.awaited.Awaited.{Awaited}
+use Rattle.tc_table.specs.Answers.{answer, local_reply, plain_answer}
+use Rattle.tc_table.specs.History.{comp_of, created}
+use Rattle.tc_table.specs.Local.{overall}
+use Rattle.tc_table.specs.Waiting.{awaited, holds, parks, waiting}
+use Rattle.tc_table.proofs.Lemmas.Sound.{next, plain_if}
+use Rattle.tc_history.specs.Block.{end_text}
+use Rattle.tc_history.specs.Text.{AreEntries, IsEntry}
+use Rattle.tc_evidence.specs.declared.header.Kind.TheVariants as K
+use Rattle.tc_evidence.specs.declared.line.Line.{Line}
+use Rattle.tc_evidence.specs.declared.line.Line.TheVariants as L
+use Rattle.tc_evidence.specs.Block.{ended, header_text}
+use Rattle.tc_evidence.specs.Line.{entries_of, is_about, is_met}
+use Rattle.tc_evidence.specs.Sentence.{IsSentence}
+use Rattle.tc_evidence.specs.Text.{AreBlocks, AreLines, IsLine, block_lines}
+use Rattle.tc_evidence.specs.Written.{text_of_block, text_of_blocks}
+use Rattle.tc_evidence.proofs.Lemmas.WrittenEvidence.{written_evidence}
+use Rattle.tc_serve.specs.declared.order.Order.{Order}
+use Rattle.tc_serve.specs.declared.order.Order.TheVariants as O
+use Rattle.tc_serve.specs.Laws.{AreEvident, IsEvident, ServedIsEvidence, StandIsEvident, block_of, blocks_of}
+use Rattle.tc_serve.specs.Order.{IsOrder}
+use Rattle.tc_serve.specs.Played.{Played, after_call, called, is_parked, may_ask, may_name, may_say, moved, past_of, wake_op, why_refused, with_line, woken, woken_from}
+use Rattle.tc_serve.specs.Served.{finished}
+use Rattle.tc_serve.specs.Stand.{Stand, block, closed_with, header_of, lines_text, named_with, opened_with, played, refused_with, remarked, stand_text, taken, with_current}
+use Rattle.tc_serve.proofs.Changes.{if_some, same_some}
+
+-- ---- the numbers of entries are those of their types
+
+made_by_create : (past : List Entry) (b : ℕ) (op : Op) (c : Comp) → R.Made c ≡ plain_answer past b op → created op (R.Made c) ≡ Some c
+made_by_create past b (Ops.Create alive name) c e = refl
+made_by_create past b (Ops.Wait k t) c e = by_test (holds past (record { killed = k; target = t })) e
+  where
+    by_test : (h : Bool) → R.Made c ≡ (if h then R.Matched else R.Parked) → created (Ops.Wait k t) (R.Made c) ≡ Some c
+    by_test true e = absurd cc
+    by_test false e = absurd cc
+made_by_create past b (Ops.Wake k t) c e = by_test (holds past (record { killed = k; target = t })) _ e
+  where
+    by_stuck : (s : Bool) → R.Made c ≡ (if s then R.Fault F.Stuck else R.Parked) → created (Ops.Wake k t) (R.Made c) ≡ Some c
+    by_stuck true e = absurd cc
+    by_stuck false e = absurd cc
+
+    by_test : (h s : Bool) → R.Made c ≡ (if h then R.Matched else if s then R.Fault F.Stuck else R.Parked) → created (Ops.Wake k t) (R.Made c) ≡ Some c
+    by_test true s e = absurd cc
+    by_test false s e = by_stuck s e
+made_by_create past b Ops.GetVerdict c e = by_comp (comp_of past b) e
+  where
+    by_comp : (o : Option Comp) → R.Made c ≡ local_reply past o → created Ops.GetVerdict (R.Made c) ≡ Some c
+    by_comp None e = absurd cc
+    by_comp (Some d) e = absurd cc
+made_by_create past b (Ops.Start d run args) c e = absurd cc
+made_by_create past b (Ops.Stop g) c e = absurd cc
+made_by_create past b (Ops.Kill g) c e = absurd cc
+made_by_create past b Ops.StopCase c e = absurd cc
+made_by_create past b (Ops.Running t) c e = absurd cc
+made_by_create past b (Ops.Alive t) c e = absurd cc
+made_by_create past b (Ops.Done t) c e = absurd cc
+made_by_create past b (Ops.Killed t) c e = absurd cc
+made_by_create past b (Ops.SetVerdict v) c e = absurd cc
+made_by_create past b Ops.Finish c e = absurd cc
+
+reply_fits : (n : ℕ) (past : List Entry) (run : Run) (op : Op) (reply : Reply) → reply ≡ answer n past run.0 op → IsReply reply
+reply_fits n past run op (R.Made c) legal =
+    let plain = plain_if n past run.0 op (R.Made c) refl refl legal in
+    let is = next n past (record { caller = run; op = op; reply = R.Made c }) c legal (made_by_create past run.0 op c plain.is) in
+    omega (arith, is.number, is.few)
+reply_fits n past run op _ legal = tt
+
+entry_fits : (n : ℕ) (lines : List Line) (run : Run) (op : Op) → run.0 < 2 ^ 16 → IsOp op → IsEntry 2 (called n lines run op)
+entry_fits n lines run op low fits = record {
+  caller = low;
+  op = fits;
+  reply = reply_fits n (entries_of lines) run op (answer n (entries_of lines) run.0 op) refl;
+  names = λ e. absurd (omega (arith, e));
+}
+
+awaited_fits : (op : Op) (a : Awaited) → IsOp op → awaited op ≡ Some a → IsTarget a.target
+awaited_fits (Ops.Wait k t) a fits is = let e : record { killed = k; target = t } ≡ a = cc in rw (← e) fits
+awaited_fits (Ops.Wake k t) a fits is = let e : record { killed = k; target = t } ≡ a = cc in rw (← e) fits
+awaited_fits _ a fits is = absurd cc
+
+parked_fits : (op : Op) (reply : Reply) (a : Awaited) → IsOp op → parks op reply ≡ Some a → IsTarget a.target
+parked_fits op R.Parked a fits is = awaited_fits op a fits is
+parked_fits op _ a fits is = absurd cc
+
+waiting_fits : (past : List Entry) (b : ℕ) (a : Awaited) → AreEntries 2 past → waiting past b ≡ Some a → IsTarget a.target
+waiting_fits [] b a fits is = absurd cc
+waiting_fits (e ∷ past) b a fits is = by_test (e.caller.0 == b) is (λ w. waiting_fits past b a fits.1 w)
+  where
+    by_test : (t : Bool) → (if t then parks e.op e.reply else waiting past b) ≡ Some a → (waiting past b ≡ Some a → IsTarget a.target) → IsTarget a.target
+    by_test true is before = parked_fits e.op e.reply a fits.0.op is
+    by_test false is before = before is
+
+-- ---- lines, each in its place
+
+-- these lines may be in evidence, the newest first in the list
+record Fit (n : ℕ) (lines : List Line) : Type 0 where
+  entries : AreEntries 2 (entries_of lines)
+  are : AreLines K.Evidence n [] (reverse lines)
+
+right_more : (n : ℕ) (before ls : List Line) (l : Line) → AreLines K.Evidence n before ls → IsLine K.Evidence n (before ++ ls) l → AreLines K.Evidence n before (ls ++ l ∷ [])
+right_more n before [] l are one = (subst (λ (b : List Line). IsLine K.Evidence n b l) (append-nil before) one, tt)
+right_more n before (x ∷ xs) l are one =
+    (are.0, right_more n (before ++ x ∷ []) xs l are.1 (subst (λ (b : List Line). IsLine K.Evidence n b l) (sym (append_assoc before (x ∷ []) xs)) one))
+
+fit_more : (n : ℕ) (lines : List Line) (l : Line) → Fit n lines → AreEntries 2 (entries_of (l ∷ lines)) → IsLine K.Evidence n (reverse lines) l → Fit n (l ∷ lines)
+fit_more n lines l fit entries one = record { entries = entries; are = subst (AreLines K.Evidence n []) (sym (reverse-append (l ∷ []) lines)) (right_more n [] (reverse lines) l fit.are one) }
+
+entry_more : (n : ℕ) (lines : List Line) (e : Entry) → Fit n lines → IsEntry 2 e → Fit n (L.Entry e ∷ lines)
+entry_more n lines e fit is = fit_more n lines (L.Entry e) fit (is, fit.entries) is
+
+one_fits : (n : ℕ) (lines : List Line) (b : ℕ) (o : Option Awaited) → b < 2 ^ 16 → waiting (entries_of lines) b ≡ o → Fit n lines → Fit n (woken_from n lines b o)
+one_fits n lines b None low is fit = fit
+one_fits n lines b (Some a) low is fit = by_test (is_parked (called n lines (record { 0 = b }) (wake_op a)).reply)
+  where
+    by_test : (t : Bool) → Fit n (if t then lines else L.Entry (called n lines (record { 0 = b }) (wake_op a)) ∷ lines)
+    by_test true = fit
+    by_test false = entry_more n lines _ fit (entry_fits n lines (record { 0 = b }) (wake_op a) low (waiting_fits (entries_of lines) b a fit.entries is))
+
+woken_fits : (n : ℕ) (lines : List Line) (k : ℕ) → n ≤ 256 → k ≤ n → Fit n lines → Fit n (woken n lines k)
+woken_fits n lines zero few within fit = fit
+woken_fits n lines (suc k) few within fit =
+    one_fits n (woken n lines k) k (waiting (entries_of (woken n lines k)) k) (omega (arith, few, within)) refl (woken_fits n lines k few (omega (arith, within)) fit)
+
+-- ---- who was met does not depend on the order
+
+swap : (a b c : Bool) → (a || (b || c)) ≡ (b || (a || c))
+swap true true c = refl
+swap true false c = refl
+swap false b c = refl
+
+met_last : (b : ℕ) (ls : List Line) (l : Line) → is_met b (l ∷ ls) ≡ is_met b (ls ++ l ∷ [])
+met_last b [] l = refl
+met_last b (x ∷ xs) l = swap (is_about b l) (is_about b x) (is_met b xs) ∙ ap (λ (t : Bool). is_about b x || t) (met_last b xs l)
+
+met_reverse : (b : ℕ) (ls : List Line) → is_met b ls ≡ is_met b (reverse ls)
+met_reverse b [] = refl
+met_reverse b (l ∷ ls) = ap (λ (t : Bool). is_about b l || t) (met_reverse b ls) ∙ (met_last b (reverse ls) l ∙ ap (is_met b) (sym (reverse-append (l ∷ []) ls)))
+
+-- ---- one line
+
+fit_of : (p : Played) → IsEvident p → Fit p.behaviours p.lines
+fit_of p is = record { entries = is.entries; are = is.lines }
+
+-- the test case with other lines
+evident : (p : Played) (ls : List Line) → IsEvident p → Fit p.behaviours ls → IsEvident (record p { lines = ls })
+evident p ls is fit = record { name = is.name; behaviours = is.behaviours; entries = fit.entries; lines = fit.are }
+
+below : (a b : ℕ) → nat_lt a b ≡ true → a < b
+below a b test = grind (arith, nat_tests)
+
+both : (a b : Bool) → (a && not b) ≡ true → (a ≡ true) × (b ≡ false)
+both true true e = absurd cc
+both true false e = (refl, refl)
+both false b e = absurd cc
+
+refusal_plain : IsSentence why_refused
+refusal_plain = record { some = omega arith; short = omega arith; plain = search rules }
+
+named : (p : Played) (run : Run) (name : List ℕ) → may_name p run ≡ true → IsName name → IsEvident p → IsEvident (with_line p (L.Named run name))
+named p run name may fits is =
+    let two = both (nat_lt run.0 p.behaviours) (is_met run.0 p.lines) may in
+    evident p (L.Named run name ∷ p.lines) is
+    (fit_more p.behaviours p.lines (L.Named run name) (fit_of p is) is.entries
+    (record { evidence = refl; few = below run.0 p.behaviours two.0; name_is = fits; first = sym (met_reverse run.0 p.lines) ∙ two.1 }))
+
+said : (p : Played) (run : Run) (sentence : List ℕ) → may_say p run ≡ true → IsSentence sentence → IsEvident p → IsEvident (with_line p (L.Remark run sentence))
+said p run sentence may fits is =
+    evident p (L.Remark run sentence ∷ p.lines) is
+    (fit_more p.behaviours p.lines (L.Remark run sentence) (fit_of p is) is.entries (record { evidence = refl; few = below run.0 p.behaviours may; sentence_is = fits }))
+
+told : (p : Played) (run : Run) → may_say p run ≡ true → IsEvident p → IsEvident (with_line p (L.Refused run why_refused))
+told p run may is =
+    evident p (L.Refused run why_refused ∷ p.lines) is
+    (fit_more p.behaviours p.lines (L.Refused run why_refused) (fit_of p is) is.entries (record { evidence = refl; few = below run.0 p.behaviours may; sentence_is = refusal_plain }))
+
+made : (p : Played) (caller : Run) (op : Op) → caller.0 < 2 ^ 16 → IsOp op → IsEvident p → IsEvident (moved p caller op)
+made p caller op low fits is =
+    evident p (woken p.behaviours (after_call p caller op) p.behaviours) is
+    (woken_fits p.behaviours (after_call p caller op) p.behaviours is.behaviours.1 (omega arith) (entry_more p.behaviours p.lines _ (fit_of p is) (entry_fits p.behaviours p.lines caller op low fits)))
+
+-- ---- the stand
+
+with_open : (s t : Stand) (p q : Played) (b : Bool) → s.current ≡ Some p → StandIsEvident s → (b ≡ true → IsEvident p → IsEvident q) → (if b then Some (with_current s q) else None) ≡ Some t → StandIsEvident t
+with_open s t p q b some so goes e =
+    let two = if_some b (with_current s q) t e in
+    subst StandIsEvident two.1 (record { closed = so.closed; current = goes two.0 (subst (λ (c : Option Played). MatchOption c (Unit {0}) IsEvident) some so.current) })
+
+next_is : (s t : Stand) (o : Order) (c : Option Played) → s.current ≡ c → IsOrder o → StandIsEvident s → taken s o ≡ Some t → StandIsEvident t
+next_is s t (O.Case name n) None is fits so e =
+    let e' : opened_with s None name n ≡ Some t = ap (λ (c : Option Played). opened_with s c name n) (sym is) ∙ e in
+    subst StandIsEvident (same_some _ t e') (record { closed = so.closed; current = record { name = fits.0; behaviours = fits.1; entries = tt; lines = tt } })
+next_is s t (O.Case name n) (Some p) is fits so e = absurd (let e' : opened_with s (Some p) name n ≡ Some t = ap (λ (c : Option Played). opened_with s c name n) (sym is) ∙ e in cc)
+next_is s t (O.Named run name) None is fits so e = absurd (let e' : named_with s None run name ≡ Some t = ap (λ (c : Option Played). named_with s c run name) (sym is) ∙ e in cc)
+next_is s t (O.Named run name) (Some p) is fits so e =
+    with_open s t p (with_line p (L.Named run name)) (may_name p run) is so (λ may. named p run name may fits.1) (ap (λ (c : Option Played). named_with s c run name) (sym is) ∙ e)
+next_is s t (O.Move caller op) None is fits so e = absurd (let e' : played s None caller op ≡ Some t = ap (λ (c : Option Played). played s c caller op) (sym is) ∙ e in cc)
+next_is s t (O.Move caller op) (Some p) is fits so e =
+    with_open s t p (moved p caller op) (may_ask p caller op) is so (λ may. made p caller op fits.0 fits.1) (ap (λ (c : Option Played). played s c caller op) (sym is) ∙ e)
+next_is s t (O.Remark run sentence) None is fits so e = absurd (let e' : remarked s None run sentence ≡ Some t = ap (λ (c : Option Played). remarked s c run sentence) (sym is) ∙ e in cc)
+next_is s t (O.Remark run sentence) (Some p) is fits so e =
+    with_open s t p (with_line p (L.Remark run sentence)) (may_say p run) is so (λ may. said p run sentence may fits.1) (ap (λ (c : Option Played). remarked s c run sentence) (sym is) ∙ e)
+next_is s t O.End None is fits so e = absurd (let e' : closed_with s None ≡ Some t = ap (λ (c : Option Played). closed_with s c) (sym is) ∙ e in cc)
+next_is s t O.End (Some p) is fits so e =
+    let e' : closed_with s (Some p) ≡ Some t = ap (λ (c : Option Played). closed_with s c) (sym is) ∙ e in
+    subst StandIsEvident (same_some _ t e') (record { closed = (subst (λ (c : Option Played). MatchOption c (Unit {0}) IsEvident) is so.current, so.closed); current = tt })
+
+told_is : (s t : Stand) (run : Run) (c : Option Played) → s.current ≡ c → StandIsEvident s → refused_with s c run ≡ Some t → StandIsEvident t
+told_is s t run None is so e = absurd cc
+told_is s t run (Some p) is so e = with_open s t p (with_line p (L.Refused run why_refused)) (may_say p run) is so (λ may. told p run may) e
+
+-- ---- the text
+
+fit_append : (xs ys : List Played) → AreEvident xs → AreEvident ys → AreEvident (xs ++ ys)
+fit_append [] ys a b = b
+fit_append (x ∷ xs) ys a b = (a.0, fit_append xs ys a.1 b)
+
+fit_reverse : (xs : List Played) → AreEvident xs → AreEvident (reverse xs)
+fit_reverse [] a = a
+fit_reverse (x ∷ xs) a = rw (reverse-append (x ∷ []) xs) (fit_append (reverse xs) (x ∷ []) (fit_reverse xs a.1) (a.0, tt))
+
+block_is : (line : ℕ) (p : Played) → text_of_block (block_of line p) ≡ block p
+block_is line p = sym (append_assoc (ended (header_text (header_of p))) (lines_text p.lines) (ended (end_text (overall (past_of p)))))
+
+blocks_text : (line : ℕ) (ps : List Played) → text_of_blocks (blocks_of line ps) ≡ flat_map block ps
+blocks_text line [] = refl
+blocks_text line (p ∷ ps) =
+    ap (λ (l : List ℕ). l ++ text_of_blocks (blocks_of (line + length (block_lines (block_of line p))) ps)) (block_is line p)
+    ∙ ap (λ (l : List ℕ). block p ++ l) (blocks_text (line + length (block_lines (block_of line p))) ps)
+
+are_blocks : (line : ℕ) (ps : List Played) → AreEvident ps → AreBlocks line (blocks_of line ps)
+are_blocks line [] fit = tt
+are_blocks line (p ∷ ps) fit = (
+  record { header = record { name_is = fit.0.name; few = fit.0.behaviours; kind_fits = inr refl }; inside = fit.0.lines; first = refl },
+  are_blocks (line + length (block_lines (block_of line p))) ps fit.1,
+)
+
+some_blocks : (ps : List Played) → ps ≢ [] → blocks_of 1 ps ≢ []
+some_blocks [] some = absurd (some refl)
+some_blocks (p ∷ ps) some = λ e. cc
+
+some_reversed : (ps : List Played) → ps ≢ [] → reverse ps ≢ []
+some_reversed ps some = λ e. some (sym (reverse-reverse ps) ∙ ap reverse e)
+
+abbrev closing : Stand → Option Played → Stand
+closing s c = unwrap_or (closed_with s c) s
+
+finished_is : (s : Stand) (c : Option Played) → s.current ≡ c → StandIsEvident s → AreEvident (closing s c).closed
+finished_is s None is so = so.closed
+finished_is s (Some p) is so = (subst (λ (c : Option Played). MatchOption c (Unit {0}) IsEvident) is so.current, so.closed)
+
+none_left : (s : Stand) (c : Option Played) → s.current ≡ c → (closing s c).current ≡ None
+none_left s None is = is
+none_left s (Some p) is = refl
+
+closed_text : (s : Stand) → s.current ≡ None → stand_text s ≡ flat_map block (reverse s.closed)
+closed_text s none = ap (λ (c : Option Played). stand_text (record { closed = s.closed; current = c })) none ∙ append-nil (flat_map block (reverse s.closed))
+
+pub served_is_evidence : ServedIsEvidence
+served_is_evidence = record {
+  first = record { closed = tt; current = tt };
+  next = λ s t o fits so e. next_is s t o s.current refl fits so e;
+  refused = λ s t run so e. told_is s t run s.current refl so e;
+  text = λ s so some.
+      let ps = reverse (finished s).closed in
+      let fit : AreEvident ps = fit_reverse (finished s).closed (finished_is s s.current refl so) in
+      rw (closed_text (finished s) (none_left s s.current refl))
+      (rw (blocks_text 1 ps) at (written_evidence (blocks_of 1 ps) (some_blocks ps (some_reversed (finished s).closed some)) (are_blocks 1 ps fit)));
+}

@@ -1,0 +1,317 @@
+-- Nobody sleeps on who may go on: one pass over the runs, in the order of their numbers, wakes all who may.
+use Rattle.std.proofs.Common.{ℕ, ◌≡◌, ◌≢◌, ◌<◌, ◌==◌, ◌&&◌, ◌||◌, ◌⊎◌, inl, inr, not, if◌then◌else◌, zero, suc, Bool, true, false, Option, Some, None, MatchOption, List, [], ◌∷◌, ◌++◌, drop, refl, ap, sym, subst, ◌∙◌, arith}
+use Rattle.std.specs.List.{list_any, list_all}
+use Rattle.std.proofs.lemmas.Bool.Decides.{nat_tests}
+use Rattle.tc_verdict.specs.declared.run.Run.{Run}
+use Rattle.tc_entry.specs.declared.comp.Comp.{Comp}
+use Rattle.tc_entry.specs.declared.entry.Entry.{Entry}
+use Rattle.tc_entry.specs.declared.op.Op.{Op}
+use Rattle.tc_entry.specs.declared.op.Op.TheVariants as Ops
+use Rattle.tc_entry.specs.declared.op.Target.{Target}
+use Rattle.tc_entry.specs.declared.op.Target.TheVariants as T
+use Rattle.tc_entry.specs.declared.phase.Phase.{Phase}
+use Rattle.tc_entry.specs.declared.phase.Phase.TheVariants as P
+use Rattle.tc_entry.specs.declared.reply.Fault.TheVariants as F
+use Rattle.tc_entry.specs.declared.reply.Reply.{Reply}
+use Rattle.tc_entry.specs.declared.reply.Reply.TheVariants as R
+use Rattle.tc_table.specs.declared.awaited.Awaited.{Awaited}
+use Rattle.tc_table.specs.History.{comp_of, comps, exists, is_alive_type}
+use Rattle.tc_table.specs.Phases.{phase, phase_if_not_killed, last_run, was_halted, was_killed}
+use Rattle.tc_table.specs.Status.{done, is_done, is_killed, is_running, killed}
+use Rattle.tc_table.specs.Waiting.{holds, is_still, is_stuck, parks, waiting, waits_in_vain}
+use Rattle.tc_table.specs.Faults.{all_exist, asks_many, fault, target_names}
+use Rattle.tc_table.specs.Answers.{answer, is_active, is_active_on, is_run_of}
+use Rattle.tc_table.specs.Legal.{IsLegal}
+use Rattle.tc_table.proofs.Lemmas.Deciding.{and_left, and_no, and_right, equal_if, first_alone, self_equal}
+use Rattle.tc_table.proofs.Lemmas.Going.{last_on_it}
+use Rattle.tc_table.proofs.Lemmas.Over.{on_existing, stays}
+use Rattle.tc_table.proofs.Lemmas.Quiet.{quiet_wakes_nobody}
+use Rattle.tc_table.proofs.Lemmas.Sound.{plain_if}
+use Rattle.tc_evidence.specs.declared.line.Line.{Line}
+use Rattle.tc_evidence.specs.Line.{entries_of, entry_of}
+use Rattle.tc_serve.specs.Laws.{IsSettled, IsSound, NobodySleepsOn, StandIsSound}
+use Rattle.tc_serve.specs.Played.{Played, after_call, may_ask, moved, past_of, wake_op, with_line, woken, woken_from}
+use Rattle.tc_serve.specs.Stand.{Stand}
+use Rattle.tc_serve.proofs.Changes.{Changes, changes}
+use Rattle.tc_serve.proofs.Sound.{Sound, all_woken, called_sound}
+
+-- ---- a wake that is answered Ended changes nothing for the others
+
+abbrev ended_wake : Run → Awaited → Entry
+ended_wake r a = record { caller = r; op = wake_op a; reply = R.Ended }
+
+none_of : (n : ℕ) (past : List Entry) (c : ℕ) → 0 < n → IsLegal n past → exists past c ≡ false → last_run past c ≡ None
+none_of n past c some legal gone = by_last (last_run past c) refl
+  where
+    by_last : (o : Option Run) → last_run past c ≡ o → o ≡ None
+    by_last None is = refl
+    by_last (Some a) is =
+        let there : exists past c ≡ true = on_existing n past a.0 (record { 0 = c }) legal (last_on_it n past c a some legal is).0 in
+        absurd (let e : false ≡ true = sym gone ∙ there in cc)
+
+same_phase : (n : ℕ) (past : List Entry) (r : Run) (a : Awaited) (c : ℕ) → 0 < n → IsLegal n past → phase (ended_wake r a ∷ past) c ≡ phase past c
+unfolding phase
+same_phase n past r a c some legal = by_test (exists past c) refl
+  where
+    by_test : (t : Bool) → exists past c ≡ t →
+        (if was_killed (ended_wake r a ∷ past) c then P.Killed else phase_if_not_killed (last_run past c) (was_halted past c) (is_alive_type (ended_wake r a ∷ past) c))
+        ≡ (if was_killed past c then P.Killed else phase_if_not_killed (last_run past c) (was_halted past c) (is_alive_type past c))
+    by_test true x =
+        let k : was_killed (ended_wake r a ∷ past) c ≡ was_killed past c = rw (and_no (exists past c)) refl in
+        let t : is_alive_type (ended_wake r a ∷ past) c ≡ is_alive_type past c = rw x refl in
+        rw (k, t) refl
+    by_test false x =
+        let k : was_killed (ended_wake r a ∷ past) c ≡ was_killed past c = rw (and_no (exists past c)) refl in
+        rw (k, none_of n past c some legal x) refl
+
+any_ext : (f g : ℕ → Bool) (cs : List ℕ) → ((c : ℕ) → g c ≡ f c) → list_any g cs ≡ list_any f cs
+any_ext f g [] same = refl
+any_ext f g (c ∷ cs) same = rw (same c) (ap (λ (t : Bool). f c || t) (any_ext f g cs same))
+
+all_ext : (f g : ℕ → Bool) (cs : List ℕ) → ((c : ℕ) → g c ≡ f c) → list_all g cs ≡ list_all f cs
+all_ext f g [] same = refl
+all_ext f g (c ∷ cs) same = rw (same c) (ap (λ (t : Bool). f c && t) (all_ext f g cs same))
+
+module _ (n : ℕ) (past : List Entry) (r : Run) (a : Awaited) (some : 0 < n) (legal : IsLegal n past) where
+  same : (c : ℕ) → phase (ended_wake r a ∷ past) c ≡ phase past c
+  same c = same_phase n past r a c some legal
+
+  same_done : (t : Target) → done (ended_wake r a ∷ past) t ≡ done past t
+  unfolding done
+  same_done (T.One c) = ap is_done (same c.0)
+  same_done T.Any = any_ext (λ c. is_done (phase past c)) (λ c. is_done (phase (ended_wake r a ∷ past) c)) (drop 1 (comps past)) (λ c. ap is_done (same c))
+  same_done T.All = all_ext (λ c. not (is_running (phase past c))) (λ c. not (is_running (phase (ended_wake r a ∷ past) c))) (drop 1 (comps past)) (λ c. ap (λ (p : Phase). not (is_running p)) (same c))
+
+  same_killed : (t : Target) → killed (ended_wake r a ∷ past) t ≡ killed past t
+  unfolding killed
+  same_killed (T.One c) = ap is_killed (same c.0)
+  same_killed T.Any = any_ext (λ c. is_killed (phase past c)) (λ c. is_killed (phase (ended_wake r a ∷ past) c)) (drop 1 (comps past)) (λ c. ap is_killed (same c))
+  same_killed T.All = all_ext (λ c. is_killed (phase past c)) (λ c. is_killed (phase (ended_wake r a ∷ past) c)) (drop 1 (comps past)) (λ c. ap is_killed (same c))
+
+  same_holds : (b : Awaited) → holds (ended_wake r a ∷ past) b ≡ holds past b
+  unfolding holds
+  same_holds b = by_kind b.killed
+    where
+      by_kind : (k : Bool) → (if k then killed (ended_wake r a ∷ past) b.target else done (ended_wake r a ∷ past) b.target) ≡ (if k then killed past b.target else done past b.target)
+      by_kind true = same_killed b.target
+      by_kind false = same_done b.target
+
+  same_vain : (o : Option Awaited) → waits_in_vain (ended_wake r a ∷ past) o ≡ waits_in_vain past o
+  same_vain None = refl
+  same_vain (Some b) = ap not (same_holds b)
+
+  running_last : (c : ℕ) (run : Run) → phase past c ≡ P.Running run → last_run past c ≡ Some run
+  unfolding phase
+  running_last c run is = by_killed (was_killed past c) is
+    where
+      by_last : (o : Option Run) (h t : Bool) → phase_if_not_killed o h t ≡ P.Running run → o ≡ Some run
+      by_last None h t e = absurd cc
+      by_last (Some x) true true e = absurd cc
+      by_last (Some x) true false e = absurd cc
+      by_last (Some x) false t e = let s : x ≡ run = cc in ap (λ (y : Run). Some y) s
+
+      by_killed : (k : Bool) → (if k then P.Killed else phase_if_not_killed (last_run past c) (was_halted past c) (is_alive_type past c)) ≡ P.Running run → last_run past c ≡ Some run
+      by_killed true e = absurd cc
+      by_killed false e = by_last (last_run past c) (was_halted past c) (is_alive_type past c) e
+
+  -- a component runs the run that is going on
+  running_active : (c : ℕ) (run : Run) → phase past c ≡ P.Running run → is_active past run.0 ≡ true
+  unfolding is_active
+  running_active c run is = rw ((last_on_it n past c run some legal (running_last c run is)).0, is) (self_equal run.0)
+
+  same_still : (c : ℕ) → is_active past r.0 ≡ false → is_still (ended_wake r a ∷ past) (phase (ended_wake r a ∷ past) c) ≡ is_still past (phase past c)
+  same_still c idle = ap (is_still (ended_wake r a ∷ past)) (same c) ∙ by_phase (phase past c) refl
+    where
+      by_same : (run : Run) (t : Bool) → phase past c ≡ P.Running run → (r.0 == run.0) ≡ t → waits_in_vain (ended_wake r a ∷ past) (if t then None else waiting past run.0) ≡ waits_in_vain past (waiting past run.0)
+      by_same run false is test = same_vain (waiting past run.0)
+      by_same run true is test =
+          let active : is_active past run.0 ≡ true = running_active c run is in
+          let this : r.0 ≡ run.0 = equal_if r.0 run.0 test in
+          absurd (let e : false ≡ true = sym idle ∙ (ap (is_active past) this ∙ active) in cc)
+
+      by_phase : (p : Phase) → phase past c ≡ p → is_still (ended_wake r a ∷ past) p ≡ is_still past p
+      by_phase (P.Running run) is = by_same run (r.0 == run.0) is refl
+      by_phase P.Inactive is = refl
+      by_phase P.Stopped is = refl
+      by_phase P.Killed is = refl
+
+  same_stuck : is_active past r.0 ≡ false → is_stuck (ended_wake r a ∷ past) ≡ is_stuck past
+  unfolding is_stuck
+  same_stuck idle =
+      all_ext (λ c. is_still past (phase past c)) (λ c. is_still (ended_wake r a ∷ past) (phase (ended_wake r a ∷ past) c)) (comps past) (λ c. same_still c idle)
+
+  same_on : (b : ℕ) (o : Option Comp) → is_active_on (ended_wake r a ∷ past) b o ≡ is_active_on past b o
+  same_on b None = refl
+  same_on b (Some c) = ap (is_run_of b) (same c.0)
+
+  same_active : (b : ℕ) → is_active (ended_wake r a ∷ past) b ≡ is_active past b
+  unfolding is_active
+  same_active b = ap (is_active_on (ended_wake r a ∷ past) b) (first_alone (comp_of past b)) ∙ same_on b (comp_of past b)
+
+  same_fault : (b : ℕ) (w : Awaited) → fault n (ended_wake r a ∷ past) b (wake_op w) ≡ fault n past b (wake_op w)
+  unfolding fault all_exist exists
+  same_fault b w = refl
+
+  same_answer : (b : ℕ) (w : Awaited) → is_active past r.0 ≡ false → answer n (ended_wake r a ∷ past) b (wake_op w) ≡ answer n past b (wake_op w)
+  unfolding answer
+  same_answer b w idle = rw (same_active b, same_fault b w, same_holds w, same_stuck idle) refl
+
+-- ---- who waits for something may ask for it
+
+fault_cases : (x y : Bool) → (if not x then Some F.NoComponent else if y then Some F.NotMain else None) ≡ None → (x ≡ true) × (y ≡ false)
+fault_cases true true h = absurd cc
+fault_cases true false h = (refl, refl)
+fault_cases false y h = absurd cc
+
+still_exist : (past : List Entry) (e : Entry) (cs : List Comp) → all_exist past cs ≡ true → all_exist (e ∷ past) cs ≡ true
+unfolding all_exist
+still_exist past e [] h = refl
+still_exist past e (c ∷ cs) h =
+    rw (stays past e c.0 (and_left (exists past c.0) (list_all (λ d. exists past d.0) cs) h))
+    (still_exist past e cs (and_right (exists past c.0) (list_all (λ d. exists past d.0) cs) h))
+
+no_new_fault : (n : ℕ) (past : List Entry) (e : Entry) (b : ℕ) (a : Awaited) → fault n past b (wake_op a) ≡ None → fault n (e ∷ past) b (wake_op a) ≡ None
+unfolding fault
+no_new_fault n past e b a h =
+    let f = fault_cases (all_exist past (target_names a.target)) (asks_many (wake_op a) && not (b == 0)) h in
+    let x : all_exist (e ∷ past) (target_names a.target) ≡ true = still_exist past e (target_names a.target) f.0 in
+    rw (x, f.1) refl
+
+same_wake : (n : ℕ) (past : List Entry) (b : ℕ) (op : Op) (a : Awaited) → parks op R.Parked ≡ Some a → fault n past b op ≡ None → fault n past b (wake_op a) ≡ None
+unfolding fault
+same_wake n past b (Ops.Wait k t) a is none = let e : record { killed = k; target = t } ≡ a = cc in rw (← e) none
+same_wake n past b (Ops.Wake k t) a is none = let e : record { killed = k; target = t } ≡ a = cc in rw (← e) none
+same_wake n past b _ a is none = absurd cc
+
+parked_op : (n : ℕ) (past : List Entry) (b : ℕ) (op : Op) (reply : Reply) (a : Awaited) → reply ≡ answer n past b op → parks op reply ≡ Some a → fault n past b (wake_op a) ≡ None
+parked_op n past b op R.Parked a legal is = same_wake n past b op a is (plain_if n past b op R.Parked refl refl legal).no_fault
+parked_op n past b op _ a legal is = absurd cc
+
+waits_rightly : (n : ℕ) (past : List Entry) (b : ℕ) (a : Awaited) → IsLegal n past → waiting past b ≡ Some a → fault n past b (wake_op a) ≡ None
+waits_rightly n [] b a legal is = absurd cc
+waits_rightly n (e ∷ past) b a legal is = by_test (e.caller.0 == b) refl is (λ w. waits_rightly n past b a legal.1 w)
+  where
+    by_test : (t : Bool) → (e.caller.0 == b) ≡ t → (if t then parks e.op e.reply else waiting past b) ≡ Some a → (waiting past b ≡ Some a → fault n past b (wake_op a) ≡ None) → fault n (e ∷ past) b (wake_op a) ≡ None
+    by_test true own is before =
+        no_new_fault n past e b a (parked_op n past b e.op e.reply a (legal.0 ∙ ap (λ (x : ℕ). answer n past x e.op) (equal_if e.caller.0 b own)) is)
+    by_test false other is before = no_new_fault n past e b a (before is)
+
+-- ---- one wake
+
+-- how a wake of run b is answered
+abbrev Kind : ℕ → List Entry → ℕ → Awaited → Type 0
+Kind n past b a =
+    ((answer n past b (wake_op a) ≡ R.Ended) × (is_active past b ≡ false))
+    ⊎ ((answer n past b (wake_op a) ≡ R.Matched) ⊎ (((b ≡ 0) × (answer n past b (wake_op a) ≡ R.Fault F.Stuck)) ⊎ (answer n past b (wake_op a) ≡ R.Parked)))
+
+kind : (n : ℕ) (past : List Entry) (b : ℕ) (a : Awaited) → fault n past b (wake_op a) ≡ None → Kind n past b a
+unfolding answer
+kind n past b a none = by_active (is_active past b) refl
+  where
+    by_first : (t s : Bool) → is_active past b ≡ true → holds past a ≡ false → (b == 0) ≡ t → is_stuck past ≡ s → Kind n past b a
+    by_first true true active vain first stuck = inr (inr (inl (equal_if b 0 first, rw (active, none, vain, first, stuck) refl)))
+    by_first true false active vain first stuck = inr (inr (inr (rw (active, none, vain, first, stuck) refl)))
+    by_first false s active vain first stuck = inr (inr (inr (rw (active, none, vain, first) refl)))
+
+    by_holds : (h : Bool) → is_active past b ≡ true → holds past a ≡ h → Kind n past b a
+    by_holds true active has = inr (inl (rw (active, none, has) refl))
+    by_holds false active has = by_first (b == 0) (is_stuck past) active has refl refl
+
+    by_active : (t : Bool) → is_active past b ≡ t → Kind n past b a
+    by_active true active = by_holds (holds past a) active refl
+    by_active false idle = inl (rw idle refl, idle)
+
+-- the first k runs sleep only where their wakes would be parked
+abbrev AreSettled : ℕ → List Entry → ℕ → Type 0
+AreSettled n past k = (b : ℕ) (a : Awaited) → b < k → waiting past b ≡ Some a → answer n past b (wake_op a) ≡ R.Parked
+
+other_waits : (b k : ℕ) (o w : Option Awaited) → b < k → (if k == b then o else w) ≡ w
+other_waits b k o w less = by_test (k == b) refl
+  where
+    by_test : (t : Bool) → (k == b) ≡ t → (if t then o else w) ≡ w
+    by_test false test = refl
+    by_test true test = let same : k ≡ b = equal_if k b test in absurd (omega (arith, less, same))
+
+other_than : (b k : ℕ) → (b == k) ≡ false → b ≢ k
+other_than b k test = λ same. grind (arith, nat_tests, test, same)
+
+at_or_below : (b k : ℕ) → b < suc k → (b < k) ⊎ (b ≡ k)
+at_or_below b k less = by_test (b == k) refl
+  where
+    by_test : (t : Bool) → (b == k) ≡ t → (b < k) ⊎ (b ≡ k)
+    by_test true test = inr (equal_if b k test)
+    by_test false test = inl (let other : b ≢ k = other_than b k test in omega (arith, less, other))
+
+own_waits : (k : ℕ) (o w : Option Awaited) → (if k == k then o else w) ≡ o
+own_waits k o w = rw (self_equal k) refl
+
+-- one more run, which sleeps on or does not sleep
+settled_more : (n : ℕ) (past : List Entry) (k : ℕ) → AreSettled n past k → ((a : Awaited) → waiting past k ≡ Some a → answer n past k (wake_op a) ≡ R.Parked) → AreSettled n past (suc k)
+settled_more n past k before this b a less waits = by_place (at_or_below b k less)
+  where
+    by_place : (b < k) ⊎ (b ≡ k) → answer n past b (wake_op a) ≡ R.Parked
+    by_place (inl below) = before b a below waits
+    by_place (inr same) = rw same (this a (ap (waiting past) (sym same) ∙ waits))
+
+never_some : (a : Awaited) (P : Type 0) → ◌≡◌ {A = Option Awaited} None (Some a) → P
+never_some a P e = absurd cc
+
+-- one more run, which was woken by this reply
+settled_woken : (n : ℕ) (past : List Entry) (k : ℕ) (a : Awaited) (reply : Reply) → parks (wake_op a) reply ≡ None →
+    ((b : ℕ) (w : Awaited) → b < k → answer n past b (wake_op w) ≡ R.Parked → answer n (record { caller = record { 0 = k }; op = wake_op a; reply = reply } ∷ past) b (wake_op w) ≡ R.Parked) →
+    AreSettled n past k → AreSettled n (record { caller = record { 0 = k }; op = wake_op a; reply = reply } ∷ past) (suc k)
+settled_woken n past k a reply awake keeps before =
+    let e : Entry = record { caller = record { 0 = k }; op = wake_op a; reply = reply } in
+    settled_more n (e ∷ past) k
+    (λ b w less waits. keeps b w less (before b w less (sym (other_waits b k (parks (wake_op a) reply) (waiting past b) less) ∙ waits)))
+    (λ w waits. never_some w (answer n (e ∷ past) k (wake_op w) ≡ R.Parked) (sym (own_waits k (parks (wake_op a) reply) (waiting past k) ∙ awake) ∙ waits))
+
+some_is : (w v : Awaited) → ◌≡◌ {A = Option Awaited} (Some w) (Some v) → w ≡ v
+some_is w v e = cc
+
+pass_one : (n : ℕ) (lines : List Line) (k : ℕ) (o : Option Awaited) → 0 < n → IsLegal n (entries_of lines) → waiting (entries_of lines) k ≡ o → AreSettled n (entries_of lines) k → AreSettled n (entries_of (woken_from n lines k o)) (suc k)
+pass_one n lines k None some legal is before =
+    settled_more n (entries_of lines) k before (λ a waits. never_some a (answer n (entries_of lines) k (wake_op a) ≡ R.Parked) (sym is ∙ waits))
+pass_one n lines k (Some a) some legal is before = by_kind (kind n (entries_of lines) k a (waits_rightly n (entries_of lines) k a legal is))
+  where
+    by_kind : Kind n (entries_of lines) k a → AreSettled n (entries_of (woken_from n lines k (Some a))) (suc k)
+    by_kind (inl ended) =
+        rw ended.0 (settled_woken n (entries_of lines) k a R.Ended refl (λ b w less parked. same_answer n (entries_of lines) (record { 0 = k }) a some legal b w ended.1 ∙ parked) before)
+    by_kind (inr (inl matched)) =
+        let e : Entry = record { caller = record { 0 = k }; op = wake_op a; reply = R.Matched } in
+        let law = quiet_wakes_nobody n (entries_of lines) e (sym matched, legal) refl in
+        rw matched (settled_woken n (entries_of lines) k a R.Matched refl (λ b w less parked. law.parked b w.killed w.target parked) before)
+    by_kind (inr (inr (inl stuck))) =
+        rw stuck.1 (settled_woken n (entries_of lines) k a (R.Fault F.Stuck) refl (λ b w less parked. absurd (let first = stuck.0 in omega (arith, less, first))) before)
+    by_kind (inr (inr (inr parked))) =
+        rw parked (settled_more n (entries_of lines) k before (λ w waits. let same : w ≡ a = some_is w a (sym waits ∙ is) in rw same parked))
+
+pass_all : (n : ℕ) (lines : List Line) (k : ℕ) → 0 < n → (so : Sound n lines) → AreSettled n (entries_of (woken n lines k)) k
+pass_all n lines zero some so = λ b a less. absurd (omega (arith, less))
+pass_all n lines (suc k) some so =
+    pass_one n (woken n lines k) k (waiting (entries_of (woken n lines k)) k) some (all_woken n lines k so).legal refl (pass_all n lines k some so)
+
+-- ---- all that is served
+
+made : (p : Played) (caller : Run) (op : Op) → may_ask p caller op ≡ true → IsSound p → IsSettled (moved p caller op)
+made p caller op may sound b a less waits =
+    pass_all p.behaviours (after_call p caller op) p.behaviours (omega (arith, less)) (called_sound p caller op may (record { legal = sound.legal; wakes = sound.wakes })) b a less waits
+
+noted : (p : Played) (l : Line) → entry_of l ≡ [] → IsSettled p → IsSettled (with_line p l)
+noted p l none so =
+    let same : past_of p ≡ past_of (with_line p l) = sym (ap (λ (es : List Entry). es ++ past_of p) none) in
+    subst (λ (es : List Entry). (b : ℕ) (a : Awaited) → b < p.behaviours → waiting es b ≡ Some a → answer p.behaviours es b (wake_op a) ≡ R.Parked) same so
+
+of_current : (s : Stand) (p : Played) (P : Played → Type 0) → s.current ≡ Some p → MatchOption s.current (Unit {0}) P → P p
+of_current s p P some so = subst (λ (c : Option Played). MatchOption c (Unit {0}) P) some so
+
+next_settled : (s t : Stand) → StandIsSound s → MatchOption s.current (Unit {0}) IsSettled → Changes s t → MatchOption t.current (Unit {0}) IsSettled
+next_settled s t sound so (inl opens) = subst (λ (x : Stand). MatchOption x.current (Unit {0}) IsSettled) opens.is (λ b a less waits. never_some a (answer opens.behaviours [] b (wake_op a) ≡ R.Parked) waits)
+next_settled s t sound so (inr (inl adds)) =
+    subst (λ (x : Stand). MatchOption x.current (Unit {0}) IsSettled) adds.is (noted adds.case adds.line adds.note (of_current s adds.case IsSettled adds.some so))
+next_settled s t sound so (inr (inr (inl moves))) =
+    subst (λ (x : Stand). MatchOption x.current (Unit {0}) IsSettled) moves.is (made moves.case moves.caller moves.op moves.may (of_current s moves.case IsSound moves.some sound.current))
+next_settled s t sound so (inr (inr (inr closes))) = subst (λ (x : Stand). MatchOption x.current (Unit {0}) IsSettled) closes.is tt
+
+pub nobody_sleeps_on : NobodySleepsOn
+nobody_sleeps_on = record { first = tt; next = λ s t sound so by. next_settled s t sound so (changes s t by) }
