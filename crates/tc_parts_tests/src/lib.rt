@@ -17,6 +17,8 @@ mod histories;
 #[cfg(test)]
 mod merging;
 #[cfg(test)]
+mod serving;
+#[cfg(test)]
 mod streams;
 #[cfg(test)]
 mod tables;
