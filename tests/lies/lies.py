@@ -114,6 +114,9 @@ LIES = (
     Lie("the_main_run_is_never_woken", (
         ("""        for condition in &self.of_runs {""", """        for condition in self.of_runs.iter().skip(1) {"""),
     ), "tc_exec_tests"),
+    Lie("each_key_leads_to_the_first_state", (
+        ("""    met.places.insert(key, at)?;""", """    met.places.insert(key, at - at)?;"""),
+    ), "tc_explore_tests"),
     Lie("a_place_is_never_given_up", (
         ("""\
                 shared.give_up(rt, run);

@@ -443,6 +443,40 @@ fn late_calls_have_no_states(rt: HostRuntime) -> Result<(), Fail> {
     ends_within(&rt, alloc, scripts, MANY, (Ending::Complete, Some(6)))
 }
 
+// Adds a main behaviour that starts that many others, each on an alive-type component of its own, and waits for all.
+fn add_starting_all<R: Abort>(
+    rt: &R,
+    alloc: Global,
+    scripts: &mut Vec<Script>,
+    others: u16,
+) -> Result<(), Fail> {
+    let mut steps = Vec::new(alloc);
+    for run in 1..=others {
+        steps.push(create(true))?;
+        steps.push(start(Place::Bound(run - 1), run))?;
+    }
+    steps.push(wait(TargetPlace::All))?;
+    Ok(scripts.push(script(rt, steps))?)
+}
+
+// Eight behaviours can end in 40,320 orders, and few states are met: those after the same ends are one.
+#[test]
+fn a_state_that_is_met_again_is_known(rt: HostRuntime) -> Result<(), Fail> {
+    let alloc = rt.alloc();
+    let mut scripts = Vec::new(alloc);
+    add_starting_all(&rt, alloc, &mut scripts, 8)?;
+    for _ in 0..8 {
+        add_empty(&rt, alloc, &mut scripts)?;
+    }
+    ends_within(
+        &rt,
+        alloc,
+        scripts.as_slice(),
+        MANY,
+        (Ending::Complete, None),
+    )
+}
+
 #[test]
 fn without_behaviours_nothing_is_decided(rt: HostRuntime) -> Result<(), Fail> {
     let explored = search(&rt, rt.alloc(), &[], MANY)?;
