@@ -1,16 +1,17 @@
 //! The calls on passes, and the close of a case.
-use crate::like::{Like, answered_as, are_like, judged};
-use crate::outcome::{Outcome, refused_if, right_if};
-use crate::refusal::Refusal;
+use crate::outcome::{Outcome, told};
+use crate::stock::Stock;
+use crate::tells::{tell_closed, tell_entries, tell_pass};
+use crate::trial::Trial;
 use std::alloc::Global;
 use std::sync::Wait;
 use tc_book::laws::merge;
 use tc_book::{CloseFault, Closed, Halt, Left, Pass, Shared, Ticket, close_case, open_case};
-use tc_entry::{Entry, Name, NoMemory, Op, Run, Target};
-use tc_text::{MoveList, read_moves};
+use tc_entry::{Entry, Name, NoMemory, Op, Run, Target, name_of_fault};
+use tc_text::{append_text, read_moves};
 
 /// Calls of two runs, none of which waits for a thread.
-const CALLS: &str = "behaviours 2
+pub const CALLS: &str = "behaviours 2
 0 create alive named pump
 0 create
 0 start 1 1 2
@@ -45,8 +46,7 @@ const CALLS: &str = "behaviours 2
 0 create
 ";
 
-/// Lists of calls, of which the last runs out of memory: the end of a case, and waits in vain, each of which is parked
-/// before.
+/// Lists of which the last call is refused memory: the end of a case, and waits in vain, each of which is parked before.
 const LAST: [&str; 5] = [
     "behaviours 2\n0 stopcase\n",
     "behaviours 2\n0 create\n0 start 1 1\n1 stopcase\n",
@@ -55,13 +55,17 @@ const LAST: [&str; 5] = [
     "behaviours 2\n0 create alive\n0 wait killed all\n",
 ];
 
-/// Fewer calls than this ask for the verdict before that one, none, one, two and so on: after one of them its log is
-/// full.
+/// Fewer calls than this ask for the verdict before that one, none, one, two and so on: after one of them its log is full.
 const ASKED: usize = 9;
+
+/// What a ticket gives. It has no contract, so that the proofs of its callers are short.
+pub(crate) fn await_start<R: Wait>(rt: &R, ticket: Ticket) -> Result<Pass, Left> {
+    ticket.await_start(rt)
+}
 
 /// What the run of this ticket leaves.
 fn left_unstarted<R: Wait>(rt: &R, ticket: Ticket) -> Left {
-    match ticket.await_start(rt) {
+    match await_start(rt, ticket) {
         Ok(pass) => pass.leave(rt),
         Err(left) => left,
     }
@@ -135,8 +139,8 @@ pub(crate) fn call_on<R: Wait>(rt: &R, pass: &mut Pass, op: &Op) -> Option<Halt>
     }
 }
 
-/// A case, by the calls that are made in it. What sweeps them knows nothing of passes, so that its proofs wait for none of theirs.
-pub(crate) trait IsCalled: Like + Sized {
+/// A case, by the calls that are made in it. What sweeps them knows nothing of passes, so that its proofs are short.
+pub(crate) trait IsCalled: Drop + Sized {
     /// A new case.
     fn new(alloc: Global) -> Option<Self>;
 
@@ -145,6 +149,9 @@ pub(crate) trait IsCalled: Like + Sized {
 
     /// Takes the pass of run 1 once it was started.
     fn meet<R: Wait>(&mut self, rt: &R, op: &Op);
+
+    /// Appends the texts of its passes.
+    fn tell(&self, out: &mut Vec<u8>) -> Result<(), NoMemory>;
 
     /// The closed case.
     fn closed<R: Wait>(self, rt: &R, alloc: Global) -> Result<Closed, CloseFault>;
@@ -192,20 +199,21 @@ impl IsCalled for Opened {
         if matches!(op, Op::Start { .. })
             && let Some(ticket) = self.tickets.pop()
         {
-            self.other = ticket.await_start(rt).ok();
+            self.other = await_start(rt, ticket).ok();
+        }
+    }
+
+    fn tell(&self, out: &mut Vec<u8>) -> Result<(), NoMemory> {
+        tell_pass(out, &self.main)?;
+        match &self.other {
+            Some(pass) => tell_pass(out, pass),
+            None => Ok(()),
         }
     }
 
     fn closed<R: Wait>(self, rt: &R, alloc: Global) -> Result<Closed, CloseFault> {
         let (shared, lefts) = self.left(rt, alloc);
         close_case(rt, alloc, shared, lefts)
-    }
-}
-
-/// Asks for the verdict of a run that many times.
-fn ask<R: Wait, C: IsCalled>(rt: &R, case: &mut C, run: Run, times: usize) {
-    for _ in 0..times {
-        let _ = case.call(rt, run, &Op::GetVerdict);
     }
 }
 
@@ -217,38 +225,8 @@ fn call_all<R: Wait, C: IsCalled>(rt: &R, case: &mut C, moves: &[(Run, Op)]) {
     }
 }
 
-/// The case, closed after a call that was made and these calls.
-fn closed_behind<R: Wait, C: IsCalled + Drop>(
-    rt: &R,
-    alloc: Global,
-    case: C,
-    op: &Op,
-    moves: &[(Run, Op)],
-) -> Result<Closed, CloseFault> {
-    let mut case = case;
-    case.meet(rt, op);
-    call_all(rt, &mut case, moves);
-    case.closed(rt, alloc)
-}
-
-impl Like for Pass {
-    fn is_like(&self, other: &Pass) -> bool {
-        self.run() == other.run()
-            && self.me() == other.me()
-            && self.args() == other.args()
-            && self.is_ended() == other.is_ended()
-            && are_like(self.log(), other.log())
-    }
-}
-
-impl Like for Opened {
-    fn is_like(&self, other: &Opened) -> bool {
-        self.main.is_like(&other.main) && self.other.is_like(&other.other)
-    }
-}
-
 /// The case after these calls.
-pub(crate) fn opened_behind<R: Wait, C: IsCalled + Drop>(
+pub(crate) fn opened_behind<R: Wait, C: IsCalled>(
     rt: &R,
     alloc: Global,
     moves: &[(Run, Op)],
@@ -258,184 +236,161 @@ pub(crate) fn opened_behind<R: Wait, C: IsCalled + Drop>(
     Some(case)
 }
 
-/// The calls of two runs.
-pub(crate) fn calls(alloc: Global) -> Option<MoveList> {
-    read_moves(alloc, CALLS.as_bytes()).ok()
-}
-
-/// Makes a call in two cases, in one of them with a growth refused, and then again.
-fn call_beside<R: Wait, C: IsCalled>(
-    rt: &R,
-    opened: &mut C,
-    other: &mut C,
-    run: Run,
-    op: &Op,
-    refusal: &mut Refusal,
-) -> Outcome {
-    refusal.begin(
-        "Pass::create Pass::create_named Pass::start Pass::stop Pass::kill Pass::stop_case Pass::running Pass::alive Pass::done Pass::killed Pass::set_verdict Pass::get_verdict Pass::wait_done Pass::wait_killed",
-    );
-    let answer = opened.call(rt, run, op);
-    refusal.end();
-    if answer != Some(Halt::NoMemory) {
-        let is_right = answer == other.call(rt, run, op) && opened.is_like(other);
-        return right_if(is_right, "a call is answered otherwise");
-    }
-    if !opened.is_like(other) {
-        return Outcome::Wrong("a refused call changes its pass");
-    }
-    let is_once = opened.call(rt, run, op) == other.call(rt, run, op);
-    refused_if(
-        is_once && opened.is_like(other),
-        "a refused call made again is answered otherwise",
+/// Appends why a call is not answered, if it is not.
+fn tell_halt(out: &mut Vec<u8>, halt: Option<Halt>) -> Result<(), NoMemory> {
+    append_text(
+        out,
+        match halt {
+            None => "answered",
+            Some(Halt::Ended) => "ended",
+            Some(Halt::Fault(fault)) => name_of_fault(fault),
+            Some(Halt::NoMemory) => "no memory",
+        },
     )
 }
 
-/// Whether two cases close alike, after a call that was made and these calls.
-fn close_alike<R: Wait, C: IsCalled + Drop>(
+/// Makes a call with a growth refused, and then again.
+fn call_again<R: Wait, C: IsCalled>(
     rt: &R,
-    alloc: Global,
-    opened: C,
-    other: C,
+    trial: &mut Trial,
+    case: &mut C,
+    run: Run,
     op: &Op,
-    moves: &[(Run, Op)],
-) -> bool {
-    let closed = closed_behind(rt, alloc, opened, op, moves);
-    let wanted = closed_behind(rt, alloc, other, op, moves);
-    matches!(judged(closed, wanted, ""), Outcome::Right)
+) -> Result<Outcome, NoMemory> {
+    case.tell(&mut trial.out)?;
+    trial.begin(
+        "Pass::create Pass::create_named Pass::start Pass::stop Pass::kill Pass::stop_case Pass::running Pass::alive Pass::done Pass::killed Pass::set_verdict Pass::get_verdict Pass::wait_done Pass::wait_killed",
+    );
+    let first = case.call(rt, run, op);
+    trial.end();
+    if first != Some(Halt::NoMemory) {
+        tell_halt(&mut trial.out, first)?;
+        case.tell(&mut trial.out)?;
+        return Ok(Outcome::Told);
+    }
+    case.tell(&mut trial.out)?;
+    if !trial.is_told_twice() {
+        return Ok(Outcome::Wrong("a refused call changes its pass"));
+    }
+    tell_halt(&mut trial.out, case.call(rt, run, op))?;
+    case.tell(&mut trial.out)?;
+    Ok(Outcome::Repeated)
 }
 
-/// The call in two cases, after as many calls that ask for the verdict of its run, and before the calls after it.
-fn call_in_both<R: Wait, C: IsCalled + Drop>(
+/// Makes a call with a growth refused, after that many that ask for the verdict of its run.
+fn call_behind<R: Wait, C: IsCalled>(
     rt: &R,
-    alloc: Global,
-    opened: C,
-    other: C,
+    trial: &mut Trial,
+    case: &mut C,
     first: &(Run, Op),
-    behind: &[(Run, Op)],
     asked: usize,
-    refusal: &mut Refusal,
-) -> Outcome {
-    let (mut opened, mut other) = (opened, other);
+) -> Result<Outcome, NoMemory> {
     let (run, op) = first;
-    ask(rt, &mut opened, *run, asked);
-    ask(rt, &mut other, *run, asked);
-    let outcome = call_beside(rt, &mut opened, &mut other, *run, op, refusal);
-    let is_alike = close_alike(rt, alloc, opened, other, op, behind);
-    if is_alike || matches!(outcome, Outcome::Wrong(_)) {
-        outcome
-    } else {
-        Outcome::Wrong("a call changes its case")
+    for _ in 0..asked {
+        let _ = case.call(rt, *run, &Op::GetVerdict);
+    }
+    let outcome = call_again(rt, trial, case, *run, op);
+    case.meet(rt, op);
+    outcome
+}
+
+/// Appends the text of a closed case, or why it is not closed.
+fn tell_closing(out: &mut Vec<u8>, closed: Result<Closed, CloseFault>) -> Result<(), NoMemory> {
+    match &closed {
+        Ok(closed) => tell_closed(out, closed),
+        Err(fault) => append_text(out, fault.text()),
     }
 }
 
-/// The call in a place, after those before it and before those after it.
-fn call_in<R: Wait, C: IsCalled + Drop>(
+/// A call in a case: those before it, it with a growth refused, those after it, and the close.
+fn call_in<R: Wait, C: IsCalled>(
     rt: &R,
-    alloc: Global,
+    trial: &mut Trial,
     moves: &[(Run, Op)],
     place: usize,
     asked: usize,
-    refusal: &mut Refusal,
 ) -> Option<Outcome> {
     let (first, behind) = moves.get(place..)?.split_first()?;
-    let before = moves.get(..place)?;
-    let opened: Option<C> = opened_behind(rt, alloc, before);
-    let (opened, other) = opened.zip(opened_behind(rt, alloc, before))?;
-    Some(call_in_both(rt, alloc, opened, other, first, behind, asked, refusal))
+    let mut case: C = opened_behind(rt, trial.alloc, moves.get(..place)?)?;
+    let outcome = call_behind(rt, trial, &mut case, first, asked);
+    call_all(rt, &mut case, behind);
+    let is_told = tell_closing(&mut trial.out, case.closed(rt, trial.alloc));
+    is_told.and(outcome).ok()
 }
 
-/// Each of the calls, after those before it and before those after it, in a case next to one that is refused nothing.
+/// Each of the calls, after those before it and before those after it.
 pub(crate) fn call<R: Wait>(
     rt: &R,
-    alloc: Global,
+    trial: &mut Trial,
+    stock: &Stock,
     place: usize,
-    refusal: &mut Refusal,
 ) -> Option<Outcome> {
-    let list = calls(alloc)?;
-    call_in::<R, Opened>(rt, alloc, list.moves.as_slice(), place, 0, refusal)
+    call_in::<R, Opened>(rt, trial, stock.calls.moves.as_slice(), place, 0)
 }
 
 /// The last call of each list, after none, one, two and so on that ask for the verdict.
-pub(crate) fn call_last<R: Wait>(
-    rt: &R,
-    alloc: Global,
-    place: usize,
-    refusal: &mut Refusal,
-) -> Option<Outcome> {
-    let list = read_moves(alloc, LAST.get(place / ASKED)?.as_bytes()).ok()?;
+pub(crate) fn call_last<R: Wait>(rt: &R, trial: &mut Trial, place: usize) -> Option<Outcome> {
+    let list = read_moves(trial.alloc, LAST.get(place / ASKED)?.as_bytes()).ok()?;
     let moves = list.moves.as_slice();
-    let last = moves.len().checked_sub(1)?;
-    call_in::<R, Opened>(rt, alloc, moves, last, place % ASKED, refusal)
+    let last = moves.len().saturating_sub(1);
+    call_in::<R, Opened>(rt, trial, moves, last, place % ASKED)
 }
 
-/// Adds the entries that are none of verdicts. Whether there was memory for them.
-fn add_locked(history: &[Entry], kept: &mut Vec<Entry>) -> bool {
+/// Adds the entries that are none of verdicts.
+fn add_locked(history: &[Entry], kept: &mut Vec<Entry>) {
     for entry in history {
-        if !matches!(entry.op, Op::SetVerdict(_) | Op::GetVerdict)
-            && kept.push(entry.copy()).is_err()
-        {
-            return false;
+        if !matches!(entry.op, Op::SetVerdict(_) | Op::GetVerdict) {
+            let _ = kept.push(entry.copy());
         }
     }
-    true
 }
 
 /// The merge of the logs of a case with its history, which here has no verdict entries.
-fn merge_logs(alloc: Global, kept: &[Entry], closed: &Closed, refusal: &mut Refusal) -> Outcome {
-    refusal.begin("merge");
-    let answer = merge(alloc, kept, closed.logs.as_slice());
-    refusal.end();
-    let ample = merge(alloc, kept, closed.logs.as_slice());
-    judged(answer, ample, "a merge is another")
-}
-
-fn merged(alloc: Global, closed: &Closed, refusal: &mut Refusal) -> Outcome {
-    let mut kept = Vec::new(alloc);
+fn merge_logs(trial: &mut Trial, closed: &Closed) -> Outcome {
+    let mut kept = Vec::new(trial.alloc);
     add_locked(closed.history.as_slice(), &mut kept);
-    merge_logs(alloc, kept.as_slice(), closed, refusal)
+    trial.begin("merge");
+    let answer = merge(trial.alloc, &kept, closed.logs.as_slice());
+    trial.end();
+    match &answer {
+        Ok(merged) => told(tell_entries(&mut trial.out, 0, merged)),
+        Err(NoMemory) => Outcome::Refused,
+    }
 }
 
-/// A case after all calls.
-fn opened_behind_all<R: Wait, C: IsCalled + Drop>(rt: &R, alloc: Global) -> Option<C> {
-    let list = calls(alloc)?;
-    opened_behind(rt, alloc, list.moves.as_slice())
+/// The merge of the logs of a case after all calls.
+fn merge_one<R: Wait>(rt: &R, trial: &mut Trial, case: Opened) -> Option<Outcome> {
+    let closed = case.closed(rt, trial.alloc).ok()?;
+    Some(merge_logs(trial, &closed))
 }
 
 /// The close of a case after all calls.
-fn closed_behind_all<R: Wait, C: IsCalled + Drop>(rt: &R, alloc: Global) -> Option<Closed> {
-    let case: C = opened_behind_all(rt, alloc)?;
-    case.closed(rt, alloc).ok()
-}
-
-/// The close of a case, which must be this one.
-fn close_one<R: Wait>(
-    rt: &R,
-    alloc: Global,
-    wanted: &Closed,
-    refusal: &mut Refusal,
-) -> Option<Outcome> {
-    let opened: Opened = opened_behind_all(rt, alloc)?;
-    let (shared, lefts) = opened.left(rt, alloc);
-    refusal.begin("close_case");
-    let answer = close_case(rt, alloc, shared, lefts);
-    refusal.end();
-    Some(answered_as(&answer, wanted, "a case is closed otherwise"))
+fn close_one<R: Wait>(rt: &R, trial: &mut Trial, case: Opened) -> Outcome {
+    let (shared, lefts) = case.left(rt, trial.alloc);
+    trial.begin("close_case");
+    let answer = close_case(rt, trial.alloc, shared, lefts);
+    trial.end();
+    match &answer {
+        Ok(closed) => told(tell_closed(&mut trial.out, closed)),
+        Err(CloseFault::NoMemory) => Outcome::Refused,
+        Err(CloseFault::Torn) => Outcome::Wrong("a whole case is torn"),
+    }
 }
 
 /// The close of a case after all calls, and the merge of its logs.
 pub(crate) fn close<R: Wait>(
     rt: &R,
-    alloc: Global,
+    trial: &mut Trial,
+    stock: &Stock,
     place: usize,
-    refusal: &mut Refusal,
 ) -> Option<Outcome> {
-    let wanted = closed_behind_all::<R, Opened>(rt, alloc)?;
-    let outcome = match place {
-        0 => close_one(rt, alloc, &wanted, refusal),
-        1 => Some(merged(alloc, &wanted, refusal)),
-        _ => None,
-    };
-    drop(wanted);
-    outcome
+    if place > 1 {
+        return None;
+    }
+    let case: Opened = opened_behind(rt, trial.alloc, stock.calls.moves.as_slice())?;
+    if place == 0 {
+        Some(close_one(rt, trial, case))
+    } else {
+        merge_one(rt, trial, case)
+    }
 }

@@ -7,22 +7,23 @@ mod books;
 mod campaigns;
 mod forms;
 mod leaving;
-mod like;
 mod live;
 mod opening;
 mod outcome;
 mod quiet;
-mod refusal;
-mod results;
 mod runs;
+mod scripts;
 mod searches;
+mod stock;
 mod tables;
+mod tells;
 mod texts;
+mod trial;
 mod values;
 
 use crate::outcome::{Outcome, Sum};
-use crate::refusal::Refusal;
-use std::alloc::Global;
+use crate::stock::Stock;
+use crate::trial::Trial;
 use std::io;
 use std::process::ExitCode;
 use std::sync::Wait;
@@ -77,75 +78,80 @@ const KINDS: [(Kind, &str); 20] = [
     (Kind::Quiet, "calls that take no memory"),
 ];
 
-/// No kind has more calls, and no call more growths.
+/// More calls of a kind, and more growths of a call, there are not.
 const MOST: u16 = 10_000;
 
 /// What comes of a call with one of its growths refused; none if there is no call in this place.
 fn make<R: Threads + Wait + Copy + Send + 'static>(
     rt: &R,
-    alloc: Global,
+    trial: &mut Trial,
+    stock: &Stock,
     kind: Kind,
     place: usize,
-    refusal: &mut Refusal,
 ) -> Option<Outcome> {
     match kind {
-        Kind::NewTable => tables::open::<Table>(alloc, place, refusal),
-        Kind::Play => tables::play::<Table>(alloc, place, refusal),
-        Kind::MakeRoom => tables::make_room(alloc, place, refusal),
-        Kind::Replay => tables::judge(alloc, place, false, refusal),
-        Kind::State => tables::make_state(alloc, place, refusal),
-        Kind::PlayState => tables::play::<CaseState>(alloc, place, refusal),
-        Kind::Copy => tables::copy_in(alloc, place, refusal),
-        Kind::Read => texts::read(alloc, place, refusal),
-        Kind::Write => texts::write(alloc, place, refusal),
-        Kind::WritePart => texts::write_part(alloc, place, refusal),
-        Kind::Form => forms::make(alloc, place, refusal),
-        Kind::Live => live::make(alloc, place, refusal),
-        Kind::Search => searches::make(alloc, place, refusal),
-        Kind::NewBoard => opening::new_board(alloc, place, refusal),
-        Kind::Open => opening::open(alloc, place, refusal),
-        Kind::Call => books::call(rt, alloc, place, refusal),
-        Kind::LastCall => books::call_last(rt, alloc, place, refusal),
-        Kind::Close => books::close(rt, alloc, place, refusal),
-        Kind::Run => campaigns::run(rt, alloc, place, refusal),
-        Kind::Quiet => quiet::call(rt, alloc, place, refusal),
+        Kind::NewTable => tables::open::<Table>(trial, stock, place),
+        Kind::Play => tables::play::<Table>(trial, stock, place),
+        Kind::MakeRoom => tables::make_room(trial, stock, place),
+        Kind::Replay => tables::check(trial, stock, place),
+        Kind::State => tables::make_state(trial, stock, place),
+        Kind::PlayState => tables::play::<CaseState>(trial, stock, place),
+        Kind::Copy => tables::copy_in(trial, stock, place),
+        Kind::Read => texts::read(trial, place),
+        Kind::Write => texts::write(trial, stock, place),
+        Kind::WritePart => texts::write_part(trial, place),
+        Kind::Form => forms::make(trial, stock, place),
+        Kind::Live => live::make(trial, place),
+        Kind::Search => searches::make(trial, stock, place),
+        Kind::NewBoard => opening::new_board(trial, place),
+        Kind::Open => opening::open(trial, place),
+        Kind::Call => books::call(rt, trial, stock, place),
+        Kind::LastCall => books::call_last(rt, trial, place),
+        Kind::Close => books::close(rt, trial, stock, place),
+        Kind::Run => campaigns::run(rt, trial, place),
+        Kind::Quiet => quiet::call(rt, trial, stock, place),
     }
 }
 
-/// Makes the call in a place with each growth refused in turn, until none was. Whether there is such a call.
+/// Makes the call in a place with nothing refused, and then with each growth refused in turn, until none was. Whether there is such
+/// a call.
 fn sweep<R: Threads + Wait + Copy + Send + 'static>(
     rt: &R,
-    alloc: Global,
+    trial: &mut Trial,
+    stock: &Stock,
     kind: Kind,
     place: usize,
-    refusal: &mut Refusal,
     sum: &mut Sum,
 ) -> bool {
+    trial.set(None);
+    if make(rt, trial, stock, kind, place).is_none() {
+        return false;
+    }
+    trial.keep();
     for number in 0..MOST {
-        refusal.set(number);
-        let Some(outcome) = make(rt, alloc, kind, place, refusal) else {
+        trial.set(Some(number));
+        let Some(outcome) = make(rt, trial, stock, kind, place) else {
             return false;
         };
-        sum.count(refusal.call(), outcome, refusal.was_met());
-        if !refusal.was_met() {
+        sum.count(trial, outcome);
+        if !trial.is_met {
             return true;
         }
     }
-    let endless = Outcome::Wrong("it is refused for ever");
-    sum.count(refusal.call(), endless, true);
+    sum.find(trial.call, "it is refused for ever");
     true
 }
 
 /// Makes all calls of a kind.
 fn sweep_all<R: Threads + Wait + Copy + Send + 'static>(
     rt: &R,
-    alloc: Global,
+    trial: &mut Trial,
+    stock: &Stock,
     kind: Kind,
-    refusal: &mut Refusal,
 ) -> Sum {
     let mut sum = Sum::default();
     for place in 0..usize::from(MOST) {
-        if !sweep(rt, alloc, kind, place, refusal, &mut sum) {
+        if !sweep(rt, trial, stock, kind, place, &mut sum) {
             break;
         }
         sum.calls = sum.calls.saturating_add(1);
@@ -153,60 +159,51 @@ fn sweep_all<R: Threads + Wait + Copy + Send + 'static>(
     sum
 }
 
-/// Prints on standard error how many calls of a kind there were, and how many growths of theirs were refused.
-fn tell_counts<R: Eprint>(rt: &R, name: &str, sum: &Sum) -> io::Result<()> {
+/// Prints what came of the calls of a kind on standard output, and how many there were on standard error. Whether nothing was
+/// wrong.
+fn tell<R: Print + Eprint>(rt: &R, name: &str, sum: &Sum) -> io::Result<bool> {
     let (calls, refused, kept) = (sum.calls, sum.refused, sum.absorbed);
-    eprintln!(rt; "{name}: {calls} calls, {refused} refused, {kept} answered all the same")
-}
-
-/// Prints on standard output what came of the calls of a kind.
-fn tell_outcome<R: Print>(rt: &R, name: &str, sum: &Sum) -> io::Result<()> {
+    eprintln!(rt; "{name}: {calls} calls, {refused} refused, {kept} answered all the same")?;
     match sum.wrong {
-        Some((call, why)) => println!(rt; "{name}: {call}: {why}"),
-        None => println!(rt; "{name}: right"),
+        Some((call, why)) => println!(rt; "{name}: {call}: {why}")?,
+        None => println!(rt; "{name}: right")?,
     }
-}
-
-/// Whether nothing was wrong with the calls of a kind: makes them, and prints what came of them.
-fn run_kind<R: Threads + Wait + Copy + Send + Print + Eprint + 'static>(
-    rt: &R,
-    alloc: Global,
-    kind: Kind,
-    name: &str,
-    refusal: &mut Refusal,
-) -> io::Result<bool> {
-    let sum = sweep_all(rt, alloc, kind, refusal);
-    tell_counts(rt, name, &sum)?;
-    tell_outcome(rt, name, &sum)?;
     Ok(sum.wrong.is_none())
 }
 
-/// Says that no library refuses memory, if so.
-fn tell_unheard<R: Eprint>(rt: &R, refusal: &Refusal) -> io::Result<()> {
-    if refusal.is_heard() {
-        return Ok(());
-    }
-    eprintln!(rt; "nothing refuses memory: each call is made once")
-}
-
-/// Whether nothing was wrong: prints on standard output what came of each kind of call, and on standard error how many there
-/// were, and how many growths of theirs were refused.
+/// Whether nothing was wrong: makes the calls of each kind, and prints what came of them.
 fn run<R: Threads + Wait + Copy + Send + Print + Eprint + 'static>(
     rt: &R,
-    alloc: Global,
+    trial: &mut Trial,
+    stock: &Stock,
 ) -> io::Result<bool> {
-    let mut refusal = Refusal::new(alloc);
-    tell_unheard(rt, &refusal)?;
     let mut is_right = true;
     for (kind, name) in KINDS {
-        let is_kind_right = run_kind(rt, alloc, kind, name, &mut refusal)?;
+        let sum = sweep_all(rt, trial, stock, kind);
+        let is_kind_right = tell(rt, name, &sum)?;
         is_right = is_right && is_kind_right;
     }
     Ok(is_right)
 }
 
+/// Says if there is no library that refuses, and makes all calls.
+fn run_on<R: Threads + Wait + Copy + Send + Print + Eprint + 'static>(
+    rt: &R,
+    trial: &mut Trial,
+    stock: &Stock,
+) -> io::Result<bool> {
+    if !trial.is_heard {
+        eprintln!(rt; "nothing refuses memory: each call is made once")?;
+    }
+    run(rt, trial, stock)
+}
+
 fn main(rt: HostRuntime) -> ExitCode {
-    match run(&rt, rt.alloc()) {
+    let made = Trial::new(rt.alloc()).zip(Stock::new(&rt, rt.alloc()));
+    let Some((mut trial, stock)) = made else {
+        return ExitCode::from(3);
+    };
+    match run_on(&rt, &mut trial, &stock) {
         Ok(true) => ExitCode::from(0),
         Ok(false) => ExitCode::from(1),
         Err(_) => ExitCode::from(3),

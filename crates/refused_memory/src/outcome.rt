@@ -1,31 +1,27 @@
 //! What comes of a call with a growth refused.
+use crate::trial::Trial;
+use tc_entry::NoMemory;
 
 /// What comes of a call.
 #[derive(Clone, Copy)]
 pub enum Outcome {
-    /// It answers as with ample memory.
-    Right,
-    /// It says that memory ran out, all is as before, and made again it answers as if it had been made once.
+    /// It answered: the text says what it answered and left.
+    Told,
+    /// It ran out of memory, and left nothing.
     Refused,
-    /// It is neither.
+    /// It ran out of memory and left all as before. Made again it answered, and the text says what.
+    Repeated,
+    /// It ran out of memory: the text is a part of what it leaves otherwise.
+    Part,
+    /// It is none of these.
     Wrong(&'static str),
 }
 
-/// Right if it is so, otherwise wrong for this reason.
-pub(crate) fn right_if(is_right: bool, why: &'static str) -> Outcome {
-    if is_right {
-        Outcome::Right
-    } else {
-        Outcome::Wrong(why)
-    }
-}
-
-/// Refused if all is as it should be, otherwise wrong for this reason.
-pub(crate) fn refused_if(is_right: bool, why: &'static str) -> Outcome {
-    if is_right {
-        Outcome::Refused
-    } else {
-        Outcome::Wrong(why)
+/// What comes of a call whose answer was appended to the text, if there was memory for that.
+pub(crate) fn told(is_told: Result<(), NoMemory>) -> Outcome {
+    match is_told {
+        Ok(()) => Outcome::Told,
+        Err(NoMemory) => Outcome::Wrong("there is no memory to tell what it answers"),
     }
 }
 
@@ -41,18 +37,20 @@ pub struct Sum {
 }
 
 impl Sum {
-    /// Counts an outcome; nothing may be counted as refused if nothing was.
-    pub(crate) fn count(&mut self, call: &'static str, outcome: Outcome, was_refused: bool) {
-        match outcome {
-            Outcome::Right if was_refused => self.absorbed = self.absorbed.saturating_add(1),
-            Outcome::Right => {}
-            Outcome::Refused if was_refused => self.refused = self.refused.saturating_add(1),
-            Outcome::Refused => self.find(call, "it is refused where memory was given"),
-            Outcome::Wrong(why) => self.find(call, why),
+    /// Counts an outcome.
+    pub(crate) fn count(&mut self, trial: &Trial, outcome: Outcome) {
+        match trial.fault(outcome) {
+            Some(why) => self.find(trial.call, why),
+            None if !trial.is_met => {}
+            None if matches!(outcome, Outcome::Told) => self.absorbed = self
+                .absorbed
+                .saturating_add(1),
+            None => self.refused = self.refused.saturating_add(1),
         }
     }
 
-    fn find(&mut self, call: &'static str, why: &'static str) {
+    /// Takes in what was wrong.
+    pub(crate) fn find(&mut self, call: &'static str, why: &'static str) {
         if self.wrong.is_none() {
             self.wrong = Some((call, why));
         }

@@ -2,13 +2,14 @@
 ghost use Rattle.std.specs.Prelude.{IfSome};
 ghost use Rattle.tc_entry.specs.Limits.{IsBehaviours};
 
-use crate::like::{Like, answered_as, are_like, judged};
-use crate::outcome::{Outcome, refused_if, right_if};
-use crate::refusal::Refusal;
+use crate::outcome::{Outcome, told};
+use crate::stock::Stock;
+use crate::tells::{tell_entries, tell_verdicts};
+use crate::trial::Trial;
 use std::alloc::Global;
-use tc_entry::{BEHAVIOURS, Entry, NoMemory, Op, Reply, Run, Sequence};
-use tc_table::{CaseState, Table, copied_entries, replay, replay_check};
-use tc_text::{MoveList, read_moves};
+use tc_entry::{BEHAVIOURS, Comp, Entry, NoMemory, Op, Reply, Run, Sequence};
+use tc_table::{CaseState, CheckFault, Table, copied_entries, replay, replay_check};
+use tc_text::write_reply;
 
 /// Moves of all kinds, enough that each list of a table grows more than once.
 pub const MOVES: &str = "behaviours 8
@@ -53,7 +54,7 @@ pub const MOVES: &str = "behaviours 8
 ";
 
 /// What moves are played on.
-pub(crate) trait Plays: Like + Sized {
+pub(crate) trait Plays: Drop + Sized {
     /// That of a new case.
     fn begin(alloc: Global, behaviours: u16) -> Result<Self, NoMemory>
         requires { IsBehaviours behaviours };
@@ -66,6 +67,9 @@ pub(crate) trait Plays: Like + Sized {
 
     /// The reply to a move.
     fn would(&self, run: Run, op: &Op) -> Reply;
+
+    /// The entries, where they are kept.
+    fn kept(&self) -> Option<&[Entry]>;
 }
 
 impl Plays for Table {
@@ -83,6 +87,10 @@ impl Plays for Table {
 
     fn would(&self, run: Run, op: &Op) -> Reply {
         Table::would(self, run, op)
+    }
+
+    fn kept(&self) -> Option<&[Entry]> {
+        Some(self.history())
     }
 }
 
@@ -102,6 +110,10 @@ impl Plays for CaseState {
     fn would(&self, run: Run, op: &Op) -> Reply {
         CaseState::would(self, run, op)
     }
+
+    fn kept(&self) -> Option<&[Entry]> {
+        None
+    }
 }
 
 /// Plays these moves, up to one that is refused. Whether none was.
@@ -115,7 +127,7 @@ fn play_all<T: Plays>(on: &mut T, moves: &[(Run, Op)]) -> bool {
 }
 
 /// That of a new case, after these moves.
-fn played<T: Plays + Drop>(alloc: Global, moves: &[(Run, Op)]) -> Option<T> {
+pub(crate) fn played<T: Plays>(alloc: Global, moves: &[(Run, Op)]) -> Option<T> {
     let mut on = T::begin(alloc, BEHAVIOURS as u16).ok()?;
     if play_all(&mut on, moves) {
         Some(on)
@@ -124,15 +136,24 @@ fn played<T: Plays + Drop>(alloc: Global, moves: &[(Run, Op)]) -> Option<T> {
     }
 }
 
-/// The moves.
-pub(crate) fn moves(alloc: Global) -> Option<MoveList> {
-    read_moves(alloc, MOVES.as_bytes()).ok()
+/// The replies to these moves, and the entries that are kept.
+fn tell<T: Plays>(out: &mut Vec<u8>, on: &T, moves: &[(Run, Op)]) -> Result<(), NoMemory> {
+    for (run, op) in moves {
+        write_reply(out, &on.would(*run, op))?;
+        out.push(b'\n')?;
+    }
+    match on.kept() {
+        Some(entries) => tell_entries(out, 0, entries),
+        None => Ok(()),
+    }
 }
 
-/// That of a new case, after all moves.
-pub(crate) fn played_all<T: Plays + Drop>(alloc: Global) -> Option<T> {
-    let list = moves(alloc)?;
-    played(alloc, list.moves.as_slice())
+/// What came of a call that makes what moves are played on.
+fn told_of<T: Plays>(trial: &mut Trial, stock: &Stock, answer: &Result<T, NoMemory>) -> Outcome {
+    match answer {
+        Ok(on) => told(tell(&mut trial.out, on, stock.moves.moves.as_slice())),
+        Err(NoMemory) => Outcome::Refused,
+    }
 }
 
 /// How many behaviours there are in a place.
@@ -148,350 +169,294 @@ pub(crate) fn behaviours_in(place: usize) -> Option<u16>
 }
 
 /// That of a new case of one, some or the most behaviours.
-pub(crate) fn open<T: Plays + Drop>(
-    alloc: Global,
-    place: usize,
-    refusal: &mut Refusal,
-) -> Option<Outcome> {
+pub(crate) fn open<T: Plays>(trial: &mut Trial, stock: &Stock, place: usize) -> Option<Outcome> {
     let behaviours = behaviours_in(place)?;
-    refusal.begin("Table::new CaseState::new");
-    let answer = T::begin(alloc, behaviours);
-    refusal.end();
-    Some(judged(answer, T::begin(alloc, behaviours), "a new case is another"))
+    trial.begin("Table::new CaseState::new");
+    let answer = T::begin(trial.alloc, behaviours);
+    trial.end();
+    Some(told_of(trial, stock, &answer))
 }
 
-/// Plays a move with a growth refused, and then again, next to one that is refused nothing.
-fn play_beside<T: Plays>(
+/// Plays a move with a growth refused, and then again.
+fn play_on<T: Plays>(
+    trial: &mut Trial,
     on: &mut T,
-    other: &mut T,
+    moves: &[(Run, Op)],
     run: Run,
     op: &Op,
-    refusal: &mut Refusal,
-) -> Outcome {
-    let wanted = Ok(other.would(run, op));
-    refusal.begin("Table::play CaseState::play");
-    let reply = on.play(run, op);
-    refusal.end();
-    if reply.is_ok() {
-        let is_right = reply == wanted && other.play(run, op) == wanted;
-        return right_if(is_right && on.is_like(other), "a move is played otherwise");
+) -> Result<Outcome, NoMemory> {
+    tell(&mut trial.out, on, moves)?;
+    trial.begin("Table::play CaseState::play");
+    let first = on.play(run, op);
+    trial.end();
+    if let Ok(reply) = first {
+        write_reply(&mut trial.out, &reply)?;
+        tell(&mut trial.out, on, moves)?;
+        return Ok(Outcome::Told);
     }
-    let is_unchanged = on.is_like(other);
-    let is_once = on.play(run, op) == other.play(run, op);
-    refused_if(
-        is_unchanged && is_once && on.is_like(other),
-        "a refused move leaves something",
-    )
-}
-
-/// The move in a place, after those before it.
-fn play_in<T: Plays + Drop>(
-    alloc: Global,
-    moves: &[(Run, Op)],
-    place: usize,
-    refusal: &mut Refusal,
-) -> Option<Outcome> {
-    let (run, op) = moves.get(place)?;
-    let before = moves.get(..place)?;
-    let (mut on, mut other) = played::<T>(alloc, before).zip(played(alloc, before))?;
-    Some(play_beside(&mut on, &mut other, *run, op, refusal))
+    tell(&mut trial.out, on, moves)?;
+    if !trial.is_told_twice() {
+        return Ok(Outcome::Wrong("a refused move leaves something"));
+    }
+    write_reply(&mut trial.out, &on.play(run, op)?)?;
+    tell(&mut trial.out, on, moves)?;
+    Ok(Outcome::Repeated)
 }
 
 /// Each of the moves, after those before it.
-pub(crate) fn play<T: Plays + Drop>(
-    alloc: Global,
-    place: usize,
-    refusal: &mut Refusal,
-) -> Option<Outcome> {
-    let list = moves(alloc)?;
-    play_in::<T>(alloc, list.moves.as_slice(), place, refusal)
-}
-
-/// A copy.
-fn copy_one<T: Plays + Drop>(alloc: Global, one: &T, refusal: &mut Refusal) -> Outcome {
-    refusal.begin("Table::copied CaseState::copied");
-    let answer = one.copied(alloc);
-    refusal.end();
-    answered_as(&answer, one, "a copy is another")
+pub(crate) fn play<T: Plays>(trial: &mut Trial, stock: &Stock, place: usize) -> Option<Outcome> {
+    let moves = stock.moves.moves.as_slice();
+    let (run, op) = moves.get(place)?;
+    let mut on: T = played(trial.alloc, moves.get(..place)?)?;
+    play_on(trial, &mut on, moves, *run, op).ok()
 }
 
 /// A copy, after all moves.
-fn copy<T: Plays + Drop>(alloc: Global, refusal: &mut Refusal) -> Option<Outcome> {
-    let one: T = played_all(alloc)?;
-    Some(copy_one(alloc, &one, refusal))
+pub(crate) fn copy<T: Plays>(trial: &mut Trial, stock: &Stock) -> Option<Outcome> {
+    let one: T = played(trial.alloc, stock.moves.moves.as_slice())?;
+    trial.begin("Table::copied CaseState::copied");
+    let answer = one.copied(trial.alloc);
+    trial.end();
+    Some(told_of(trial, stock, &answer))
 }
 
-/// Makes room for that many moves on a table, next to one that stays as it is.
-fn make_room_beside(
+/// Makes room for this many moves on a table.
+fn make_room_on(
+    trial: &mut Trial,
     table: &mut Table,
-    other: &Table,
+    moves: &[(Run, Op)],
     more: usize,
-    refusal: &mut Refusal,
-) -> Outcome {
-    refusal.begin("Table::make_room");
+) -> Result<Outcome, NoMemory> {
+    tell(&mut trial.out, table, moves)?;
+    trial.begin("Table::make_room");
     let made = table.make_room(more);
-    refusal.end();
-    let is_kept = table.is_like(other) && table.room() >= other.room();
-    if made.is_ok() {
-        return right_if(is_kept && table.room() >= more, "the room was not made");
+    trial.end();
+    tell(&mut trial.out, table, moves)?;
+    if !trial.is_told_twice() {
+        return Ok(Outcome::Wrong("room changes a table"));
     }
-    let is_made = table.make_room(more).is_ok() && table.room() >= more;
-    refused_if(
-        is_kept && is_made && table.is_like(other),
-        "refused room changes the table",
-    )
+    if made.is_err() {
+        table.make_room(more)?;
+    }
+    Ok(match made {
+        _ if table.room() < more => Outcome::Wrong("the room was not made"),
+        Ok(()) => Outcome::Told,
+        Err(NoMemory) => Outcome::Repeated,
+    })
 }
 
 /// Room for one, some and many moves, on a table with moves.
-pub(crate) fn make_room(alloc: Global, place: usize, refusal: &mut Refusal) -> Option<Outcome> {
+pub(crate) fn make_room(trial: &mut Trial, stock: &Stock, place: usize) -> Option<Outcome> {
     let more = [1usize, 40, 5000].get(place).copied()?;
-    let (mut table, other) = played_all(alloc).zip(played_all(alloc))?;
-    Some(make_room_beside(&mut table, &other, more, refusal))
+    let moves = stock.moves.moves.as_slice();
+    let mut table: Table = played(trial.alloc, moves)?;
+    make_room_on(trial, &mut table, moves, more).ok()
 }
 
-/// A history, and one that lacks its first entry.
-fn history_in(entries: &[Entry], place: usize) -> Option<&[Entry]> {
+/// The history of the moves, and one that lacks its first entry, which is not legal.
+fn history_in(stock: &Stock, place: usize) -> Option<&[Entry]> {
     match place {
-        0 => Some(entries),
-        1 => entries.get(1..),
+        0 => Some(stock.history.as_slice()),
+        1 => stock.history.as_slice().get(1..),
         _ => None,
     }
 }
 
-/// The check of a history.
-fn check_one(alloc: Global, checked: &[Entry], refusal: &mut Refusal) -> Outcome {
-    refusal.begin("replay_check");
-    let answer = replay_check(alloc, BEHAVIOURS as u16, checked);
-    refusal.end();
-    let ample = replay_check(alloc, BEHAVIOURS as u16, checked);
-    judged(answer, ample, "a history is judged otherwise")
-}
-
-/// The replay of a history.
-fn replay_one(alloc: Global, checked: &[Entry], refusal: &mut Refusal) -> Outcome {
-    refusal.begin("tc_table::replay");
-    let answer = replay(alloc, BEHAVIOURS as u16, checked);
-    refusal.end();
-    let ample = replay(alloc, BEHAVIOURS as u16, checked);
-    judged(answer, ample, "a history leaves another state")
-}
-
-/// The check or the replay of the history in a place, of which only the first is legal.
-fn judge_in(
-    alloc: Global,
-    history: &[Entry],
-    place: usize,
-    replays: bool,
-    refusal: &mut Refusal,
-) -> Option<Outcome> {
-    let checked = history_in(history, place)?;
-    if replay_check(alloc, BEHAVIOURS as u16, checked).is_ok() != (place == 0) {
-        return Some(Outcome::Wrong("a history is legal that is not, or is not"));
-    }
-    Some(if replays {
-        replay_one(alloc, checked, refusal)
-    } else {
-        check_one(alloc, checked, refusal)
+/// The check of each of these histories.
+pub(crate) fn check(trial: &mut Trial, stock: &Stock, place: usize) -> Option<Outcome> {
+    let checked = history_in(stock, place)?;
+    trial.begin("replay_check");
+    let answer = replay_check(trial.alloc, BEHAVIOURS as u16, checked);
+    trial.end();
+    Some(match answer {
+        Err(CheckFault::NoMemory) => Outcome::Refused,
+        Ok(verdict) if place == 0 => told(tell_verdicts(&mut trial.out, &[verdict])),
+        Err(CheckFault::Differs { at: 0, reply }) if place == 1 => {
+            told(write_reply(&mut trial.out, &reply))
+        }
+        _ => Outcome::Wrong("a history is judged otherwise"),
     })
 }
 
-/// The check or the replay of the whole history of the moves, and of one that lacks its first entry.
-pub(crate) fn judge(
-    alloc: Global,
-    place: usize,
-    replays: bool,
-    refusal: &mut Refusal,
-) -> Option<Outcome> {
-    let table: Table = played_all(alloc)?;
-    judge_in(alloc, table.history(), place, replays, refusal)
+/// The replay of each of these histories.
+fn play_again(trial: &mut Trial, stock: &Stock, place: usize) -> Option<Outcome> {
+    let checked = history_in(stock, place)?;
+    trial.begin("tc_table::replay");
+    let answer = replay(trial.alloc, BEHAVIOURS as u16, checked);
+    trial.end();
+    Some(match &answer {
+        Err(CheckFault::NoMemory) => Outcome::Refused,
+        Ok(state) if place == 0 => told(tell(&mut trial.out, state, stock.moves.moves.as_slice())),
+        Err(CheckFault::Differs { at: 0, reply }) if place == 1 => {
+            told(write_reply(&mut trial.out, reply))
+        }
+        _ => Outcome::Wrong("a history leaves another state"),
+    })
 }
 
-/// What came of a copy of these entries.
-fn copied_as(answer: &Result<Vec<Entry>, NoMemory>, entries: &[Entry]) -> Outcome {
-    match answer {
-        Ok(copy) => right_if(
-            are_like(copy.as_slice(), entries),
-            "a copy is another history",
-        ),
+/// A copy of the history.
+fn copy_history(trial: &mut Trial, stock: &Stock) -> Outcome {
+    trial.begin("copied_entries");
+    let answer = copied_entries(trial.alloc, stock.history.as_slice());
+    trial.end();
+    match &answer {
+        Ok(copy) => told(tell_entries(&mut trial.out, 0, copy)),
         Err(NoMemory) => Outcome::Refused,
     }
 }
 
-/// A copy of these entries.
-fn copy_entries(alloc: Global, entries: &[Entry], refusal: &mut Refusal) -> Outcome {
-    refusal.begin("copied_entries");
-    let answer = copied_entries(alloc, entries);
-    refusal.end();
-    copied_as(&answer, entries)
-}
-
-/// Pushes the last of a history after the entries before it.
-fn push_last(
+/// Pushes an entry after these.
+fn push_on(
+    trial: &mut Trial,
     entries: &mut Sequence<Entry>,
-    history: &[Entry],
-    before: &[Entry],
     last: &Entry,
-    refusal: &mut Refusal,
-) -> Outcome {
-    refusal.begin("Sequence::push");
-    let answer = entries.push(last.copy());
-    refusal.end();
-    if answer.is_ok() {
-        return right_if(
-            are_like(entries.as_slice(), history),
-            "an entry is pushed otherwise",
-        );
+) -> Result<Outcome, NoMemory> {
+    tell_entries(&mut trial.out, 0, entries.as_slice())?;
+    trial.begin("Sequence::push");
+    let pushed = entries.push(last.copy());
+    trial.end();
+    if pushed.is_ok() {
+        tell_entries(&mut trial.out, 0, entries.as_slice())?;
+        return Ok(Outcome::Told);
     }
-    let is_kept = are_like(entries.as_slice(), before);
-    let is_pushed = entries.push(last.copy()).is_ok();
-    refused_if(
-        is_kept && is_pushed && are_like(entries.as_slice(), history),
-        "a refused push changes its list",
-    )
+    tell_entries(&mut trial.out, 0, entries.as_slice())?;
+    if !trial.is_told_twice() {
+        return Ok(Outcome::Wrong("a refused push changes its list"));
+    }
+    entries.push(last.copy())?;
+    tell_entries(&mut trial.out, 0, entries.as_slice())?;
+    Ok(Outcome::Repeated)
 }
 
-/// The last entry of a history after a list of those before it.
-fn push_on(alloc: Global, history: &[Entry], refusal: &mut Refusal) -> Option<Outcome> {
-    let (last, before) = history.split_last()?;
-    let mut entries: Sequence<Entry> = Sequence::new(copied_entries(alloc, before).ok()?);
-    Some(push_last(&mut entries, history, before, last, refusal))
-}
-
-/// A copy of the history of the moves, or its last entry after those before it.
-fn copy_history(alloc: Global, pushes: bool, refusal: &mut Refusal) -> Option<Outcome> {
-    let table: Table = played_all(alloc)?;
-    if pushes {
-        push_on(alloc, table.history(), refusal)
-    } else {
-        Some(copy_entries(alloc, table.history(), refusal))
-    }
+/// Pushes the last entry of the history after a list of those before it.
+fn push(trial: &mut Trial, stock: &Stock) -> Option<Outcome> {
+    let (last, before) = stock.history.as_slice().split_last()?;
+    let mut entries: Sequence<Entry> = Sequence::new(copied_entries(trial.alloc, before).ok()?);
+    push_on(trial, &mut entries, last).ok()
 }
 
 /// The state of a new case, a copy of one, and the replay of a history.
-pub(crate) fn make_state(alloc: Global, place: usize, refusal: &mut Refusal) -> Option<Outcome> {
+pub(crate) fn make_state(trial: &mut Trial, stock: &Stock, place: usize) -> Option<Outcome> {
     match place {
-        0..=2 => open::<CaseState>(alloc, place, refusal),
-        3 => copy::<CaseState>(alloc, refusal),
-        _ => judge(alloc, place.checked_sub(4)?, true, refusal),
+        0..=2 => open::<CaseState>(trial, stock, place),
+        3 => copy::<CaseState>(trial, stock),
+        _ => play_again(trial, stock, place.checked_sub(4)?),
     }
 }
 
 /// A copy of a table and of a history, and an entry after those of a list.
-pub(crate) fn copy_in(alloc: Global, place: usize, refusal: &mut Refusal) -> Option<Outcome> {
+pub(crate) fn copy_in(trial: &mut Trial, stock: &Stock, place: usize) -> Option<Outcome> {
     match place {
-        0 => copy::<Table>(alloc, refusal),
-        1 => copy_history(alloc, false, refusal),
-        2 => copy_history(alloc, true, refusal),
+        0 => copy::<Table>(trial, stock),
+        1 => Some(copy_history(trial, stock)),
+        2 => push(trial, stock),
         _ => None,
     }
 }
 
-/// Plays a move, with no growth given but to a create, if there is room for it. Whether the answer is right, and there
-/// is room then too; none if memory runs out.
-fn play_one_in_room(table: &mut Table, run: Run, op: &Op, refusal: &mut Refusal) -> Option<bool> {
+/// Plays a move, with no growth given but to a create, where there is room for it. Whether there is room then too.
+fn play_one_in_room(
+    trial: &mut Trial,
+    table: &mut Table,
+    run: Run,
+    op: &Op,
+) -> Result<(), NoMemory> {
     let wanted = Ok(table.would(run, op));
     if matches!(op, Op::Create { .. }) {
-        return Some(table.play(run, op.copy()) == wanted);
+        table.play(run, op.copy())?;
+        return Ok(());
     }
-    table.make_room(1).ok()?;
-    refusal.begin_each("Table::play Table::make_room");
+    table.make_room(1)?;
+    trial.begin_each("Table::play Table::make_room");
     let reply = table.play(run, op.copy());
-    let is_made = table.make_room(0).is_ok();
-    refusal.end();
-    Some(is_made && reply == wanted)
+    let made = table.make_room(0);
+    trial.end();
+    trial.is_wrong = trial.is_wrong || reply != wanted;
+    made
 }
 
-/// Plays each of the moves. Whether all answers are right; none if memory runs out.
-fn play_all_in_room(table: &mut Table, moves: &[(Run, Op)], refusal: &mut Refusal) -> Option<bool> {
-    let mut is_right = true;
-    for (run, op) in moves {
-        let is_answered = play_one_in_room(table, *run, op, refusal)?;
-        is_right = is_right && is_answered;
-    }
-    Some(is_right)
-}
-
-/// What came of a table that must be that of these moves.
-fn played_as(alloc: Global, table: &Table, moves: &[(Run, Op)], is_right: bool) -> Option<Outcome> {
-    let whole: Table = played(alloc, moves)?;
-    Some(right_if(
-        is_right && table.is_like(&whole),
-        "a move with room is played otherwise",
-    ))
-}
-
-/// Each of these moves but the creates, after those before it, if there is room for it.
-fn play_these_in_room(
-    alloc: Global,
+/// Plays each of the moves but the creates, after those before it, where there is room for it.
+fn play_all_in_room(
+    trial: &mut Trial,
+    table: &mut Table,
     moves: &[(Run, Op)],
-    refusal: &mut Refusal,
-) -> Option<Outcome> {
-    let mut table = Table::new(alloc, BEHAVIOURS as u16).ok()?;
-    let is_right = play_all_in_room(&mut table, moves, refusal)?;
-    played_as(alloc, &table, moves, is_right)
+) -> Result<(), NoMemory> {
+    for (run, op) in moves {
+        play_one_in_room(trial, table, *run, op)?;
+    }
+    tell(&mut trial.out, table, moves)
 }
 
-/// Each of the moves but the creates, after those before it, if there is room for it.
-pub(crate) fn play_in_room(alloc: Global, refusal: &mut Refusal) -> Option<Outcome> {
-    let list = moves(alloc)?;
-    play_these_in_room(alloc, list.moves.as_slice(), refusal)
+/// Each of the moves but the creates, after those before it, where there is room for it.
+pub(crate) fn play_in_room(trial: &mut Trial, stock: &Stock) -> Option<Outcome> {
+    let mut table = Table::new(trial.alloc, BEHAVIOURS as u16).ok()?;
+    Some(told(play_all_in_room(trial, &mut table, stock.moves.moves.as_slice())))
+}
+
+/// What is asked of a component of a table and of a state after the same moves.
+fn hold_component(trial: &mut Trial, table: &Table, state: &CaseState, comp: Comp) {
+    trial.holds(
+        "Table::phase_of",
+        table.phase_of(comp) == state.phase_of(comp),
+    );
+    trial.holds("Table::local", table.local(comp) == state.local(comp));
+    trial.holds(
+        "Table::last_run",
+        table.last_run(comp) == state.last_run(comp),
+    );
+    trial.holds(
+        "Table::is_alive_type",
+        table.is_alive_type(comp) == state.is_alive_type(comp),
+    );
 }
 
 /// What is asked of a table and of a state after the same moves, of which one more would be replied so.
-fn hold_replies(told: &mut Refusal, table: &Table, state: &CaseState, moves: &[(Run, Op)]) {
+fn hold_replies(trial: &mut Trial, table: &Table, state: &CaseState, moves: &[(Run, Op)]) {
     for (run, op) in moves {
-        told.holds(
+        trial.holds(
             "Table::would",
             table.would(*run, op) == state.would(*run, op),
+        );
+        trial.holds(
+            "Table::is_active",
+            table.is_active(*run) == state.is_active(*run),
         );
     }
 }
 
-/// What is asked of two tables and of two states after the same moves.
-fn hold_alike(told: &mut Refusal, tables: (&Table, &Table), states: (&CaseState, &CaseState)) {
-    let (one, other) = tables;
-    told.holds(
-        "Table::history",
-        one.is_like(other) && one.history().len() == other.history().len(),
-    );
-    told.holds("Table::room", one.room() == other.room());
-    let (one, other) = states;
-    told.holds(
-        "CaseState::overall",
-        one.is_like(other) && one.overall() == other.overall(),
-    );
-}
-
-/// What is asked of tables and states.
-fn ask_all(
-    tables: (&Table, &Table),
-    states: (&CaseState, &CaseState),
-    moves: &[(Run, Op)],
-    told: &mut Refusal,
-) -> Outcome {
-    told.begin_each(
+/// What is asked of a table and of a state after the same moves, which are these.
+fn hold_all(trial: &mut Trial, table: &Table, state: &CaseState, moves: &[(Run, Op)]) {
+    trial.begin_each(
         "\
-Table::phase_of Table::local Table::last_run Table::is_alive_type Table::is_active \
-Table::components Table::overall Table::is_over Table::behaviours \
-CaseState::phase_of CaseState::local CaseState::last_run CaseState::is_alive_type \
-CaseState::is_active CaseState::components CaseState::is_over CaseState::behaviours \
-CaseState::would",
+CaseState::phase_of CaseState::local CaseState::last_run CaseState::is_alive_type CaseState::is_active \
+CaseState::components CaseState::overall CaseState::is_over CaseState::behaviours CaseState::would",
     );
-    hold_alike(told, tables, states);
-    hold_replies(told, tables.0, states.0, moves);
-    told.end();
-    told.held()
+    trial.holds("Table::history", table.history().len() == moves.len());
+    trial.holds("Table::room", table.room() < 1_000);
+    trial.holds(
+        "Table::components",
+        table.components() == state.components(),
+    );
+    trial.holds("Table::overall", table.overall() == state.overall());
+    trial.holds("Table::is_over", table.is_over() == state.is_over());
+    trial.holds(
+        "Table::behaviours",
+        table.behaviours() == state.behaviours(),
+    );
+    hold_replies(trial, table, state, moves);
+    for comp in 0..table.components().saturating_add(2) {
+        hold_component(trial, table, state, Comp(comp));
+    }
+    trial.end();
 }
 
-/// What is asked of tables and states after these moves.
-fn ask_behind(alloc: Global, moves: &[(Run, Op)], told: &mut Refusal) -> Option<Outcome> {
-    let (one, other): (Table, Table) = played(alloc, moves).zip(played(alloc, moves))?;
-    let (state, copy): (CaseState, CaseState) = played(alloc, moves).zip(played(alloc, moves))?;
-    Some(ask_all((&one, &other), (&state, &copy), moves, told))
-}
-
-/// What is asked of tables and states after the first moves.
-pub(crate) fn ask(alloc: Global, told: &mut Refusal) -> Option<Outcome> {
-    let list = moves(alloc)?;
-    ask_behind(alloc, list.moves.as_slice().get(..12)?, told)
+/// What is asked of a table and of a state after the first moves.
+pub(crate) fn ask(trial: &mut Trial, stock: &Stock) -> Option<Outcome> {
+    let moves = stock.moves.moves.as_slice().get(..12)?;
+    let (table, state): (Table, CaseState) = played(trial.alloc, moves).zip(played(
+        trial.alloc,
+        moves,
+    ))?;
+    hold_all(trial, &table, &state, moves);
+    Some(Outcome::Told)
 }

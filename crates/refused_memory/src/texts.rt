@@ -1,16 +1,19 @@
 //! Readers and writers of texts.
-use crate::like::judged;
-use crate::outcome::{Outcome, refused_if, right_if};
-use crate::refusal::Refusal;
-use crate::tables::{MOVES, moves};
-use std::alloc::Global;
+use crate::outcome::{Outcome, told};
+use crate::scripts::campaign_of;
+use crate::stock::Stock;
+use crate::tables::MOVES;
+use crate::tells::{tell_blocks, tell_campaign, tell_moves};
+use crate::trial::Trial;
 use tc_entry::{Entry, Fault, Name, NoMemory, Op, Reply, Run, Verdict};
 use tc_exec::CaseError;
 use tc_history::{read_history, write_block};
 use tc_report::{append_aborted, append_verdict};
-use tc_script::{Campaign, CaseScript, ReadFault, Script, read_campaign};
+use tc_script::ReadFault;
 use tc_stream::{InputFault, read_input};
-use tc_text::{append_number, append_text, read_moves, write_move, write_op, write_reply};
+use tc_text::{
+    TextFault, append_number, append_text, read_moves, write_move, write_op, write_reply,
+};
 
 /// Histories of both formats.
 pub(crate) const HISTORIES: &str = "history 1 first 2
@@ -52,132 +55,59 @@ end
 end
 ";
 
-/// Whether two behaviours that were taken out are the last, and whether they differ; none if they are the same.
-fn compared_behaviours(
-    left: &Option<(Name, Script)>,
-    right: &Option<(Name, Script)>,
-) -> Option<bool> {
-    match (left, right) {
-        (None, None) => Some(true),
-        (Some((name, script)), Some((other_name, other))) => {
-            if name.same(other_name) && script.steps() == other.steps() {
-                None
-            } else {
-                Some(false)
-            }
-        }
-        _ => Some(false),
+const ANOTHER: Outcome = Outcome::Wrong("a refused reader says something else");
+
+fn read_list(trial: &mut Trial) -> Outcome {
+    trial.begin("read_moves");
+    let answer = read_moves(trial.alloc, MOVES.as_bytes());
+    trial.end();
+    match &answer {
+        Ok(list) => told(tell_moves(&mut trial.out, list.moves.as_slice())),
+        Err(TextFault::NoMemory) => Outcome::Refused,
+        Err(_) => ANOTHER,
     }
 }
 
-/// Takes the next behaviour out of two test cases, and compares them.
-fn compare_behaviours(left: &mut CaseScript, right: &mut CaseScript) -> Option<bool> {
-    let (one, other) = (left.take_first(), right.take_first());
-    compared_behaviours(&one, &other)
-}
-
-/// Whether two test cases have the same behaviours.
-fn are_like_scripts(left: &mut CaseScript, right: &mut CaseScript) -> bool {
-    for _ in 0..10 {
-        if let Some(are_alike) = compare_behaviours(left, right) {
-            return are_alike;
-        }
-    }
-    false
-}
-
-/// Whether two test cases that were taken out are the last, and whether they differ; none if they are the same.
-fn compared_cases(
-    left: &mut Option<(Name, CaseScript)>,
-    right: &mut Option<(Name, CaseScript)>,
-) -> Option<bool> {
-    match (left, right) {
-        (None, None) => Some(true),
-        (Some((name, case)), Some((other_name, other))) => {
-            if name.same(other_name) && are_like_scripts(case, other) {
-                None
-            } else {
-                Some(false)
-            }
-        }
-        _ => Some(false),
+fn read_blocks(trial: &mut Trial) -> Outcome {
+    trial.begin("read_history");
+    let answer = read_history(trial.alloc, HISTORIES.as_bytes());
+    trial.end();
+    match &answer {
+        Ok(blocks) => told(tell_blocks(&mut trial.out, blocks)),
+        Err(TextFault::NoMemory) => Outcome::Refused,
+        Err(_) => ANOTHER,
     }
 }
 
-/// Takes the next test case out of two campaigns, and compares them.
-fn compare_cases(left: &mut Campaign, right: &mut Campaign) -> Option<bool> {
-    let (mut one, mut other) = (left.take_first(), right.take_first());
-    compared_cases(&mut one, &mut other)
-}
-
-/// Whether two campaigns have the same test cases.
-fn are_like_campaigns(left: &mut Campaign, right: &mut Campaign) -> bool {
-    for _ in 0..10 {
-        if let Some(are_alike) = compare_cases(left, right) {
-            return are_alike;
-        }
-    }
-    false
-}
-
-const READ: &str = "a text is read otherwise";
-
-fn read_list(alloc: Global, refusal: &mut Refusal) -> Outcome {
-    refusal.begin("read_moves");
-    let answer = read_moves(alloc, MOVES.as_bytes());
-    refusal.end();
-    judged(answer, read_moves(alloc, MOVES.as_bytes()), READ)
-}
-
-fn read_blocks(alloc: Global, refusal: &mut Refusal) -> Outcome {
-    refusal.begin("read_history");
-    let answer = read_history(alloc, HISTORIES.as_bytes());
-    refusal.end();
-    judged(answer, read_history(alloc, HISTORIES.as_bytes()), READ)
-}
-
-/// The campaign of the script.
-fn campaign(alloc: Global) -> Result<Campaign, ReadFault> {
-    read_campaign(alloc, SCRIPT.as_bytes())
-}
-
-fn campaign_as(answer: &mut Result<Campaign, ReadFault>, wanted: &mut Campaign) -> Outcome {
-    match answer {
-        Ok(campaign) => right_if(are_like_campaigns(campaign, wanted), READ),
-        Err(fault) => refused_if(
-            matches!(fault, ReadFault::NoMemory),
-            "a refused reader says something else",
-        ),
+fn read_script(trial: &mut Trial) -> Outcome {
+    trial.begin("read_campaign");
+    let mut answer = campaign_of(trial.alloc, SCRIPT);
+    trial.end();
+    match &mut answer {
+        Ok(campaign) => told(tell_campaign(&mut trial.out, campaign)),
+        Err(ReadFault::NoMemory) => Outcome::Refused,
+        Err(_) => ANOTHER,
     }
 }
 
-fn read_script(alloc: Global, refusal: &mut Refusal) -> Option<Outcome> {
-    let mut wanted = campaign(alloc).ok()?;
-    refusal.begin("read_campaign");
-    let mut answer = campaign(alloc);
-    refusal.end();
-    Some(campaign_as(&mut answer, &mut wanted))
-}
-
-/// All that the reader of the moves gives.
-fn bytes(alloc: Global) -> Result<Vec<u8>, InputFault> {
-    read_input(alloc, &mut MOVES.as_bytes(), 10_000)
-}
-
-fn read_bytes(alloc: Global, refusal: &mut Refusal) -> Outcome {
-    refusal.begin("read_input");
-    let answer = bytes(alloc);
-    refusal.end();
-    judged(answer, bytes(alloc), READ)
+fn read_bytes(trial: &mut Trial) -> Outcome {
+    trial.begin("read_input");
+    let answer = read_input(trial.alloc, &mut MOVES.as_bytes(), 10_000);
+    trial.end();
+    match &answer {
+        Ok(bytes) => trial.tell_bytes(bytes),
+        Err(InputFault::NoMemory) => Outcome::Refused,
+        Err(_) => ANOTHER,
+    }
 }
 
 /// The readers of moves, of histories, of a script and of an input.
-pub(crate) fn read(alloc: Global, place: usize, refusal: &mut Refusal) -> Option<Outcome> {
+pub(crate) fn read(trial: &mut Trial, place: usize) -> Option<Outcome> {
     match place {
-        0 => Some(read_list(alloc, refusal)),
-        1 => Some(read_blocks(alloc, refusal)),
-        2 => read_script(alloc, refusal),
-        3 => Some(read_bytes(alloc, refusal)),
+        0 => Some(read_list(trial)),
+        1 => Some(read_blocks(trial)),
+        2 => Some(read_script(trial)),
+        3 => Some(read_bytes(trial)),
         _ => None,
     }
 }
@@ -195,7 +125,14 @@ enum Text<'a> {
     Aborted(CaseError),
 }
 
-/// Appends the text, under this name if it has one.
+impl Text<'_> {
+    /// Whether a part of it may be left if memory runs out.
+    fn leaves_part(&self) -> bool {
+        matches!(self, Text::Verdict(_) | Text::Aborted(_))
+    }
+}
+
+/// Appends the text, under this name where it has one.
 fn append(out: &mut Vec<u8>, text: &Text, name: &Name) -> Result<(), NoMemory> {
     match text {
         Text::Move(run, op) => write_move(out, *run, op),
@@ -209,168 +146,80 @@ fn append(out: &mut Vec<u8>, text: &Text, name: &Name) -> Result<(), NoMemory> {
     }
 }
 
-/// What is before a text that is appended: so little that a text of several pieces wants more than one growth.
+/// What is before a text that is appended: so little that a text of several pieces needs more than one growth.
 pub(crate) const HEAD: &[u8] = b"#";
 
-/// A text after what is there.
-fn written(alloc: Global, text: &Text, name: &Name) -> Option<Vec<u8>> {
-    let mut out = HEAD.to_vec(alloc).ok()?;
-    if append(&mut out, text, name).is_ok() {
-        Some(out)
-    } else {
-        None
-    }
-}
-
-/// Appends a text with a growth refused, and then again.
-fn append_as(
+/// Appends a text with a growth refused, and then again where it is to leave nothing.
+fn append_to(
+    trial: &mut Trial,
     out: &mut Vec<u8>,
-    wanted: &[u8],
     text: &Text,
     name: &Name,
-    refusal: &mut Refusal,
-) -> Outcome {
-    refusal.begin("write_move write_op write_reply write_block append_text append_number");
-    let answer = append(out, text, name);
-    refusal.end();
-    if answer.is_ok() {
-        return right_if(out.as_slice() == wanted, "a text is written otherwise");
+) -> Result<Outcome, NoMemory> {
+    trial.begin(
+        "write_move write_op write_reply write_block append_text append_number append_verdict append_aborted",
+    );
+    let first = append(out, text, name);
+    trial.end();
+    if first.is_ok() {
+        return Ok(Outcome::Told);
     }
-    let is_kept = out.as_slice() == HEAD;
-    let is_written = append(out, text, name).is_ok() && out.as_slice() == wanted;
-    refused_if(is_kept && is_written, "a refused writer leaves a part")
-}
-
-/// What came of a writer that was to leave this after what was there, or if memory runs out a part of it.
-pub(crate) fn appended(answer: Result<(), NoMemory>, out: &[u8], wanted: &[u8]) -> Outcome {
-    match answer {
-        Ok(()) => right_if(out == wanted, "a text is written otherwise"),
-        Err(NoMemory) => refused_if(
-            out.starts_with(HEAD) && wanted.starts_with(out),
-            "a refused writer leaves something else than a part",
-        ),
+    if text.leaves_part() {
+        return Ok(Outcome::Part);
     }
+    if out.as_slice() != HEAD {
+        return Ok(Outcome::Wrong("a refused writer leaves a part"));
+    }
+    append(out, text, name)?;
+    Ok(Outcome::Repeated)
 }
 
-/// Appends a text of which a part may be left, with a growth refused.
-fn append_part_as(
-    out: &mut Vec<u8>,
-    wanted: &[u8],
-    text: &Text,
-    name: &Name,
-    refusal: &mut Refusal,
-) -> Outcome {
-    refusal.begin("append_verdict append_aborted");
-    let answer = append(out, text, name);
-    refusal.end();
-    appended(answer, out.as_slice(), wanted)
-}
-
-/// Appends a text after what is there, of which a part may be left or nothing.
-fn append_one(
-    alloc: Global,
-    text: &Text,
-    leaves_part: bool,
-    refusal: &mut Refusal,
-) -> Option<Outcome> {
+/// Appends a text after what is there.
+fn append_one(trial: &mut Trial, text: &Text) -> Option<Outcome> {
     let name = Name::read("a_long_name_of_a_test_case")?;
-    let wanted = written(alloc, text, &name)?;
-    let mut out = HEAD.to_vec(alloc).ok()?;
-    Some(if leaves_part {
-        append_part_as(&mut out, wanted.as_slice(), text, &name, refusal)
-    } else {
-        append_as(&mut out, wanted.as_slice(), text, &name, refusal)
-    })
+    let mut out = HEAD.to_vec(trial.alloc).ok()?;
+    let outcome = append_to(trial, &mut out, text, &name);
+    trial.tell_bytes(&out);
+    outcome.ok()
 }
 
-/// Appends the first of the histories.
-fn append_block(alloc: Global, refusal: &mut Refusal) -> Option<Outcome> {
-    let blocks = read_history(alloc, HISTORIES.as_bytes()).ok()?;
-    let entries = blocks.first()?.entries.as_slice();
-    append_one(alloc, &Text::Block(entries), false, refusal)
-}
-
-/// The writer in a place after those of moves.
-fn append_other(
-    alloc: Global,
-    moves: &[(Run, Op)],
-    place: usize,
-    refusal: &mut Refusal,
-) -> Option<Outcome> {
-    let text = match place {
-        0 => return append_block(alloc, refusal),
-        1 => Text::Reply(Reply::Fault(Fault::AlreadyRunning)),
-        2 => Text::Op(&moves.first()?.1),
-        3 => Text::Words(SCRIPT),
-        4 => Text::Number(u64::MAX),
-        _ => return None,
-    };
-    append_one(alloc, &text, false, refusal)
+/// The text in a place after those of moves.
+fn other_text(stock: &Stock, place: usize) -> Option<Text<'_>> {
+    match place {
+        0 => Some(Text::Block(stock.blocks.first()?.entries.as_slice())),
+        1 => Some(Text::Reply(Reply::Fault(Fault::AlreadyRunning))),
+        2 => Some(Text::Op(&stock.moves.moves.as_slice().first()?.1)),
+        3 => Some(Text::Words(SCRIPT)),
+        4 => Some(Text::Number(u64::MAX)),
+        _ => None,
+    }
 }
 
 /// The writers of each of the moves, of a history, of a reply, of a move without its caller, of words and of a number.
-pub(crate) fn write(alloc: Global, place: usize, refusal: &mut Refusal) -> Option<Outcome> {
-    let list = moves(alloc)?;
-    let moves = list.moves.as_slice();
+pub(crate) fn write(trial: &mut Trial, stock: &Stock, place: usize) -> Option<Outcome> {
+    let moves = stock.moves.moves.as_slice();
     match moves.get(place) {
-        Some((run, op)) => append_one(alloc, &Text::Move(*run, op), false, refusal),
-        None => append_other(alloc, moves, place.checked_sub(moves.len())?, refusal),
+        Some((run, op)) => append_one(trial, &Text::Move(*run, op)),
+        None => append_one(trial, &other_text(stock, place.checked_sub(moves.len())?)?),
     }
 }
 
 /// The line of an overall verdict, and which test case was refused: writers that leave a part.
-pub(crate) fn write_part(alloc: Global, place: usize, refusal: &mut Refusal) -> Option<Outcome> {
-    let text = match place {
-        0 => Text::Verdict(Verdict::Inconc),
-        1 => Text::Aborted(CaseError::TooManyBehaviours),
-        _ => return None,
-    };
-    append_one(alloc, &text, true, refusal)
-}
-
-/// The next behaviour of a test case, taken out; each has a step, and at most two parameters.
-fn takes_behaviour(case: &mut CaseScript) -> bool {
-    match case.take_first() {
-        Some((_, script)) => !script.steps().is_empty() && script.parameters() <= 2,
-        None => false,
+pub(crate) fn write_part(trial: &mut Trial, place: usize) -> Option<Outcome> {
+    match place {
+        0 => append_one(trial, &Text::Verdict(Verdict::Inconc)),
+        1 => append_one(trial, &Text::Aborted(CaseError::TooManyBehaviours)),
+        _ => None,
     }
-}
-
-/// The behaviours of a test case, taken out one by one, as many as are wanted.
-fn takes_behaviours(case: CaseScript, wanted: usize) -> bool {
-    let mut case = case;
-    for _ in 0..wanted {
-        if !takes_behaviour(&mut case) {
-            return false;
-        }
-    }
-    case.take_first().is_none()
-}
-
-/// The behaviours of a test case that was taken out, taken out one by one, as many as are wanted.
-fn takes_case(taken: Option<(Name, CaseScript)>, wanted: usize) -> bool {
-    match taken {
-        Some((_, case)) => takes_behaviours(case, wanted),
-        None => false,
-    }
-}
-
-/// The two test cases of a campaign and their behaviours, taken out one by one.
-fn takes_cases(campaign: &mut Campaign) -> bool {
-    let (first, second) = (campaign.take_first(), campaign.take_first());
-    let is_last = campaign.take_first().is_none();
-    let is_first_right = takes_case(first, 2);
-    let is_second_right = takes_case(second, 1);
-    is_last && is_first_right && is_second_right
 }
 
 /// The test cases of a campaign and their behaviours, taken out one by one.
-pub(crate) fn take_all(alloc: Global, refusal: &mut Refusal) -> Option<Outcome> {
-    let mut campaign = campaign(alloc).ok()?;
-    refusal.begin_each(
+pub(crate) fn take_all(trial: &mut Trial) -> Option<Outcome> {
+    let mut campaign = campaign_of(trial.alloc, SCRIPT).ok()?;
+    trial.begin_each(
         "Campaign::take_first CaseScript::take_first Script::steps Script::parameters",
     );
-    let is_right = takes_cases(&mut campaign);
-    refusal.end();
-    Some(right_if(is_right, "a campaign is taken out otherwise"))
+    let is_told = tell_campaign(&mut trial.out, &mut campaign);
+    trial.end();
+    Some(told(is_told))
 }
