@@ -1,3 +1,3 @@
 -- The lemmas of this crate.
 pub mod Least
-pub mod Lemmas
+pub mod Quoting

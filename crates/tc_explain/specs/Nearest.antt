@@ -1,12 +1,11 @@
 -- The keywords that may be at a place, and the nearest to a word.
-use Rattle.std.specs.Prelude.{ℕ, ◌*◌, nat_le, nat_eq, max, Bool, true, false, if◌then◌else◌, Option, Some, None, List, [], ◌∷◌, ◌++◌, length, map, filter}
+use Rattle.std.specs.Prelude.{ℕ, ◌*◌, nat_le, nat_eq, max, Bool, true, false, if◌then◌else◌, Option, Some, None, List, [], ◌∷◌, ◌++◌, length, map, filter, codes}
 use Rattle.strsim.specs.Edits.{levenshtein_row}
 use Rattle.tc_line.specs.declared.line.Keyword.{Keyword}
 use Rattle.tc_line.specs.declared.line.Keyword.TheVariants as K
 use Rattle.tc_line.specs.declared.spelling.TheConstants.{KEYWORDS}
 use Rattle.tc_line.specs.Words.{keyword_text}
 use Rattle.tc_explain.specs.declared.scan.Opened.{Opened}
-use Rattle.tc_explain.specs.Slots.{wake_text, finish_text}
 
 -- the keyword begins a step
 abbrev pub is_step : Keyword → Bool
@@ -23,9 +22,7 @@ may_stand (Some case) None filled K.Behaviour = true
 may_stand (Some case) None filled K.End = filled
 may_stand (Some case) None filled _ = false
 may_stand (Some case) (Some behaviour) filled K.End = true
-may_stand (Some case) (Some behaviour) filled K.TestCase = false
-may_stand (Some case) (Some behaviour) filled K.Behaviour = false
-may_stand (Some case) (Some behaviour) filled _ = true
+may_stand (Some case) (Some behaviour) filled keyword = is_step keyword
 
 -- the keywords that pass, as they are spelled
 abbrev pub spelled : (Keyword → Bool) → List Keyword → List (List ℕ)
@@ -41,7 +38,7 @@ all_words = map keyword_text KEYWORDS
 
 -- the words that begin an operation in a move
 abbrev pub move_words : List (List ℕ)
-move_words = spelled is_step KEYWORDS ++ wake_text ∷ finish_text ∷ []
+move_words = spelled is_step KEYWORDS ++ codes "wake" ∷ codes "finish" ∷ []
 
 -- how many edits lead from one word to the other
 abbrev pub distance : List ℕ → List ℕ → ℕ

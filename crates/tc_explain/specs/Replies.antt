@@ -1,5 +1,5 @@
 -- What may be at a place of a line of a history, word by word: an entry to the end of its reply, or the last line.
-use Rattle.std.specs.Prelude.{ℕ, suc, ◌&&◌, nat_le, Bool, true, false, if◌then◌else◌, Option, Some, None, List, [], ◌∷◌, codes}
+use Rattle.std.specs.Prelude.{ℕ, suc, ◌&&◌, nat_le, Bool, true, false, if◌then◌else◌, Option, Some, None, List, [], ◌∷◌, ◌++◌, codes}
 use Rattle.std.specs.List.{list_any}
 use Rattle.tc_line.specs.declared.line.Keyword.TheVariants as K
 use Rattle.tc_line.specs.Words.{is_text, keyword_text}
@@ -21,9 +21,8 @@ verdict_words = name_of V.None ∷ name_of V.Pass ∷ name_of V.Inconc ∷ name_
 -- the words that begin a reply
 abbrev pub reply_words : List (List ℕ)
 reply_words =
-    codes "made" ∷ reply_text R.Ok ∷ reply_text (R.Answer true) ∷ reply_text (R.Answer false) ∷ reply_text (R.Local V.None)
-    ∷ reply_text (R.Local V.Pass) ∷ reply_text (R.Local V.Inconc) ∷ reply_text (R.Local V.Fail) ∷ reply_text (R.Local V.Error)
-    ∷ reply_text R.Matched ∷ reply_text R.Parked ∷ reply_text R.Ended ∷ []
+    codes "made" ∷ reply_text R.Ok ∷ reply_text (R.Answer true) ∷ reply_text (R.Answer false)
+    ∷ (verdict_words ++ (reply_text R.Matched ∷ reply_text R.Parked ∷ reply_text R.Ended ∷ []))
 
 -- the names of dynamic errors
 abbrev pub fault_words : List (List ℕ)

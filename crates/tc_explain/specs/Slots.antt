@@ -10,14 +10,6 @@ use Rattle.tc_explain.specs.declared.slot.Slot.{Slot}
 use Rattle.tc_explain.specs.declared.slot.Slot.TheVariants as S
 use Rattle.tc_explain.specs.declared.stop.Stop.{Stop}
 
--- the words of moves that are no keywords of scripts
-abbrev pub wake_text : List ℕ
-wake_text = codes "wake"
-
--- the same
-abbrev pub finish_text : List ℕ
-finish_text = codes "finish"
-
 -- the word is of digits
 abbrev pub is_digits : List ℕ → Bool
 is_digits w = not (length w == 0) && list_all (λ b. nat_le 48 b && nat_le b 57) w
@@ -34,11 +26,8 @@ is_behaviour false w = is_name w
 
 -- what follows a keyword
 abbrev pub behind_keyword : Bool → Keyword → Option Slot
-behind_keyword true K.TestCase = None
 behind_keyword false K.TestCase = Some S.TestCase
-behind_keyword true K.Behaviour = None
 behind_keyword false K.Behaviour = Some S.Behaviour
-behind_keyword true K.End = None
 behind_keyword false K.End = Some S.End
 behind_keyword true K.Create = Some S.Kind
 behind_keyword false K.Create = Some S.Created
@@ -50,6 +39,7 @@ behind_keyword moves (K.Ask status) = Some S.Target
 behind_keyword moves K.Wait = Some S.Status
 behind_keyword moves K.SetVerdict = Some S.Verdict
 behind_keyword moves K.GetVerdict = Some S.End
+behind_keyword true _ = None
 
 -- what follows a word, if it is a keyword
 abbrev pub behind_word : Bool → Option Keyword → Option Slot
@@ -58,7 +48,7 @@ behind_word moves (Some k) = behind_keyword moves k
 
 -- what follows the first word of an operation
 abbrev pub behind_verb : List ℕ → Option Slot
-behind_verb w = if is_text w wake_text then Some S.Status else if is_text w finish_text then Some S.End else behind_word true (keyword w)
+behind_verb w = if is_text w (codes "wake") then Some S.Status else if is_text w (codes "finish") then Some S.End else behind_word true (keyword w)
 
 -- this slot, if the word may be there
 abbrev pub slot_if : Bool → Slot → Option Slot
@@ -83,14 +73,7 @@ next moves S.Group w = slot_if (is_text w (codes "all") || is_component moves w)
 next moves S.Target w = slot_if (is_text w (codes "any") || is_text w (codes "all") || is_component moves w) S.End
 next moves S.Status w = slot_if (is_text w (keyword_text (K.Ask Q.Done)) || is_text w (keyword_text (K.Ask Q.Killed))) S.Target
 next moves S.Verdict w = slot_if (is_some (verdict w)) S.End
-next moves S.End w = None
-next moves S.Entry w = None
-next moves S.Arrow w = None
-next moves S.Reply w = None
-next moves S.Made w = None
-next moves S.Error w = None
-next moves S.Overall w = None
-next moves S.LineEnd w = None
+next moves _ w = None
 
 -- the call may end here
 abbrev pub may_end : Slot → Bool

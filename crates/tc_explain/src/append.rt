@@ -1,35 +1,36 @@
 //! The lines of an explanation.
-ghost use Rattle.std.specs.Prelude.{[], ◌∷◌, OnOk, map, option_copied};
-ghost use Rattle.tc_text.specs.Shown.{AddsLine, Shows};
-ghost use Rattle.tc_explain.specs.Notes.{Listed};
-ghost use Rattle.tc_explain.specs.Explanation.{begun, near_note, nearest_note};
+ghost use Rattle.std.specs.Prelude.{◌≡◌, ◌<◌, ◌+◌, ◌^◌, ◌++◌, [], ◌∷◌, OnOk, flat_map, map, option_copied};
+ghost use Rattle.std.specs.Option.{option_map_or};
+ghost use Rattle.std.specs.Fmt.{decimal};
+ghost use Rattle.tc_text.specs.Said.{Tells, TellsLine, word_of};
+ghost use Rattle.tc_explain.specs.Explanation.{begun, column, nearest_note};
+ghost use Rattle.tc_explain.specs.Places.{quoted};
 
 use crate::nearest::near_word;
-use crate::quote::append_quoted;
+use crate::quote::{quoted_begin, quoted_rest};
 use std::alloc::Global;
-use tc_text::{append_line, append_number, append_text};
+use tc_text::{Part, append_parts};
 use tc_verdict::NoMemory;
 
-/// Appends a line with this text.
-pub(crate) fn append_note(out: &mut Vec<u8>, text: &str) -> Result<(), NoMemory>
-    ensures { OnOk result (AddsLine out.old.items out.new.items) }
+/// What is before what would be understood.
+const UNDERSTOOD: &[u8] = b"understood there:";
+
+/// Appends a line of this prose.
+pub(crate) fn append_note(alloc: Global, out: &mut Vec<u8>, text: &str) -> Result<(), NoMemory>
+    ensures { OnOk result (TellsLine [] out.old.items out.new.items) }
 {
-    append_line(out, text.as_bytes())
+    append_parts(alloc, out, &[Part::Text(text.as_bytes())])
 }
 
-/// Appends a line with this text after others.
-pub(crate) fn append_behind(
-    alloc: Global,
-    out: &mut Vec<u8>,
-    head: &str,
-    text: &str,
-) -> Result<(), NoMemory>
-    ensures { OnOk result (AddsLine out.old.items out.new.items) }
+/// Appends the form of what would be understood.
+pub(crate) fn append_form(alloc: Global, out: &mut Vec<u8>, form: &str) -> Result<(), NoMemory>
+    ensures { OnOk result (TellsLine [] out.old.items out.new.items) }
 {
-    let mut line = Vec::new(alloc);
-    append_text(&mut line, head)?;
-    append_text(&mut line, text)?;
-    append_line(out, line.as_slice())
+    append_parts(
+        alloc,
+        out,
+        &[Part::Text(UNDERSTOOD), Part::Text(form.as_bytes())],
+    )
 }
 
 /// Appends a line with this number after a text.
@@ -39,75 +40,141 @@ pub(crate) fn append_numbered(
     head: &str,
     number: usize,
 ) -> Result<(), NoMemory>
-    ensures { OnOk result (AddsLine out.old.items out.new.items) }
+    ensures { OnOk result (TellsLine (decimal number ∷ []) out.old.items out.new.items) }
 {
-    let mut line = Vec::new(alloc);
-    append_text(&mut line, head)?;
-    append_number(&mut line, number as u64)?;
-    append_line(out, line.as_slice())
+    append_parts(
+        alloc,
+        out,
+        &[Part::Text(head.as_bytes()), Part::Number(number as u64)],
+    )
 }
 
-/// Appends the column that is after that many bytes, before what is there.
-pub(crate) fn append_column(out: &mut Vec<u8>, start: usize) -> Result<(), NoMemory> {
-    append_text(out, "column ")?;
-    append_number(out, (start as u64).saturating_add(1))?;
-    append_text(out, ": ")
+/// Appends the column that comes after that many bytes, and what is wrong there.
+pub(crate) fn append_column(
+    alloc: Global,
+    out: &mut Vec<u8>,
+    start: usize,
+    what: &[u8],
+) -> Result<(), NoMemory>
+    requires { start < 2 ^ 63 }
+    ensures { OnOk result (TellsLine (column start ∷ []) out.old.items out.new.items) }
+{
+    append_parts(
+        alloc,
+        out,
+        &[
+            Part::Text(b"column"),
+            Part::Number(start as u64 + 1),
+            Part::Text(b":"),
+            Part::Text(what),
+        ],
+    )
 }
 
-/// Appends what is where a line stops.
-pub(crate) fn append_stopped(out: &mut Vec<u8>, word: Option<&[u8]>) -> Result<(), NoMemory> {
+// Appends the column of a word, and the word.
+fn append_word(alloc: Global, out: &mut Vec<u8>, start: usize, word: &[u8]) -> Result<(), NoMemory>
+    requires { start < 2 ^ 63 }
+    ensures { OnOk result (TellsLine (column start ∷ quoted word.now ∷ []) out.old.items out.new.items) }
+{
+    let begin = quoted_begin(alloc, word)?;
+    let rest = quoted_rest(alloc, word)?;
+    append_parts(
+        alloc,
+        out,
+        &[
+            Part::Text(b"column"),
+            Part::Number(start as u64 + 1),
+            Part::Text(b":"),
+            Part::Word(begin.as_slice()),
+            Part::Text(rest.as_slice()),
+        ],
+    )
+}
+
+/// Appends the column of a word, and the word; or that of the end of the line.
+pub(crate) fn append_stopped(
+    alloc: Global,
+    out: &mut Vec<u8>,
+    start: usize,
+    word: Option<&[u8]>,
+) -> Result<(), NoMemory>
+    requires { start < 2 ^ 63 }
+    ensures { OnOk result (TellsLine (column start ∷ option_map_or (λ w. quoted w ∷ []) (option_copied word.entry) []) out.old.items out.new.items) }
+{
     match word {
-        Some(word) => append_quoted(out, word),
-        None => append_text(out, "the end of the line"),
+        Some(word) => append_word(alloc, out, start, word),
+        None => append_column(alloc, out, start, b"the end of the line"),
     }
 }
 
-// Appends the words, each with a space in front.
-fn append_words(out: &mut Vec<u8>, words: &[&str]) -> Result<(), NoMemory> {
+/// Appends the line in quotation.
+pub(crate) fn append_shown(alloc: Global, out: &mut Vec<u8>, line: &[u8]) -> Result<(), NoMemory>
+    ensures { OnOk result (TellsLine (quoted line.now ∷ []) out.old.items out.new.items) }
+{
+    let begin = quoted_begin(alloc, line)?;
+    let rest = quoted_rest(alloc, line)?;
+    append_parts(
+        alloc,
+        out,
+        &[
+            Part::Text(b"line:"),
+            Part::Word(begin.as_slice()),
+            Part::Text(rest.as_slice()),
+        ],
+    )
+}
+
+// Appends the words to the parts of a line.
+#[tactic(auto, using(tc_text::proofs::Lemmas::Saying::words_push))]
+fn push_words<'a>(parts: &mut Vec<Part<'a>>, words: &[&'a str]) -> Result<(), NoMemory>
+    ensures { OnOk result (flat_map word_of parts.new.items ≡ flat_map word_of parts.old.items ++ map (λ w. w.now) words.now) }
+{
     for word in words {
-        append_text(out, " ")?;
-        append_text(out, word)?;
+        parts.push(Part::Word(word.as_bytes()))?;
     }
     Ok(())
 }
 
 /// Appends the words that would be understood, and what else would.
-#[tactic(auto, using(crate::proofs::Lemmas::Showing::tell_rules))]
 pub(crate) fn append_list(
     alloc: Global,
     out: &mut Vec<u8>,
     words: &[&str],
-    other: &str,
+    other: &[u8],
 ) -> Result<(), NoMemory>
-    ensures { OnOk result (Shows (Listed (map (λ w. w.now) words.now) ∷ []) out.old.items out.new.items) }
+    ensures { OnOk result (TellsLine (map (λ w. w.now) words.now) out.old.items out.new.items) }
 {
-    let mut line = Vec::new(alloc);
-    append_text(&mut line, "understood there:")?;
-    append_words(&mut line, words)?;
-    append_text(&mut line, other)?;
-    append_line(out, line.as_slice())
+    let mut parts = Vec::new(alloc);
+    parts.push(Part::Text(UNDERSTOOD))?;
+    push_words(&mut parts, words)?;
+    parts.push(Part::Text(other))?;
+    append_parts(alloc, out, parts.as_slice())
 }
 
 // Appends the nearest word, if there is one.
-#[tactic(auto, using(crate::proofs::Lemmas::Showing::tell_rules))]
+#[tactic(auto, using(tc_text::proofs::Lemmas::Saying::tell_rules))]
 fn append_near(alloc: Global, out: &mut Vec<u8>, near: Option<&str>) -> Result<(), NoMemory>
-    ensures { OnOk result (Shows (near_note (option_copied near.entry)) out.old.items out.new.items) }
+    ensures { OnOk result (Tells (option_map_or (λ w. (w ∷ []) ∷ []) (option_copied near.entry) []) out.old.items out.new.items) }
 {
     match near {
-        Some(near) => append_behind(alloc, out, "nearest: ", near),
+        Some(near) => append_parts(
+            alloc,
+            out,
+            &[Part::Text(b"nearest:"), Part::Word(near.as_bytes())],
+        ),
         None => Ok(()),
     }
 }
 
 /// Appends the word of the table that is the nearest to a word.
-#[tactic(auto, using(crate::proofs::Lemmas::Showing::tell_rules))]
+#[tactic(auto, using(tc_text::proofs::Lemmas::Saying::tell_rules))]
 pub(crate) fn append_nearest(
     alloc: Global,
     out: &mut Vec<u8>,
     word: Option<&[u8]>,
     table: &[&str],
 ) -> Result<(), NoMemory>
-    ensures { OnOk result (Shows (nearest_note (option_copied word.entry) (map (λ w. w.now) table.now)) out.old.items out.new.items) }
+    ensures { OnOk result (Tells (nearest_note (option_copied word.entry) (map (λ w. w.now) table.now)) out.old.items out.new.items) }
 {
     let Some(word) = word else {
         return Ok(());
@@ -117,14 +184,14 @@ pub(crate) fn append_nearest(
 }
 
 /// Appends what began in a line, if it is open.
-#[tactic(auto, using(crate::proofs::Lemmas::Showing::tell_rules))]
+#[tactic(auto, using(tc_text::proofs::Lemmas::Saying::tell_rules))]
 pub(crate) fn append_begun(
     alloc: Global,
     out: &mut Vec<u8>,
     what: &str,
     line: Option<usize>,
 ) -> Result<(), NoMemory>
-    ensures { OnOk result (Shows (begun line) out.old.items out.new.items) }
+    ensures { OnOk result (Tells (begun line) out.old.items out.new.items) }
 {
     match line {
         Some(line) => append_numbered(alloc, out, what, line),

@@ -1,19 +1,7 @@
 //! Bytes that no line may have.
-ghost use Rattle.std.specs.Prelude.{◌≡◌, ◌<◌, IfSome, length};
-ghost use Rattle.std.specs.List.{position};
-ghost use Rattle.tc_explain.specs.Places.{is_odd};
-
 use crate::quote::append_hex;
-use tc_text::{append_text, is_plain};
+use tc_text::append_text;
 use tc_verdict::NoMemory;
-
-/// How many bytes are before the first odd byte, if there is one.
-pub(crate) fn odd_place(line: &[u8]) -> Option<usize>
-    ensures place { result ≡ position is_odd line.now }
-    ensures within { IfSome result (λ at. at < length line.now) }
-{
-    line.iter().position(|byte| !is_plain(*byte))
-}
 
 // The name of what begins with an odd byte, if it has one.
 fn name_of(bytes: &[u8]) -> Option<&'static str> {

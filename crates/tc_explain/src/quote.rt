@@ -1,11 +1,14 @@
 //! Bytes of a text, as they are shown.
-ghost use Rattle.std.specs.Prelude.{◌<◌};
+ghost use Rattle.std.specs.Prelude.{◌≡◌, ◌<◌, IfOk, IfSome, length, take};
+ghost use Rattle.std.specs.List.{before_first, position};
+ghost use Rattle.tc_explain.specs.Places.{is_odd, quoted};
 
+use std::alloc::Global;
 use tc_text::{append_text, is_plain};
 use tc_verdict::NoMemory;
 
 /// How many bytes of a line or a word are shown.
-const SHOWN: usize = 60;
+pub const SHOWN: usize = 60;
 
 // The hexadecimal digit of this value.
 fn digit(value: u8) -> u8
@@ -29,11 +32,50 @@ fn append_byte(out: &mut Vec<u8>, byte: u8) -> Result<(), NoMemory> {
     append_hex(out, byte)
 }
 
-/// Appends what is shown of a line or a word: of a long one the first bytes.
-pub(crate) fn append_quoted(out: &mut Vec<u8>, bytes: &[u8]) -> Result<(), NoMemory> {
-    append_text(out, "`")?;
-    for byte in bytes.iter().take(SHOWN) {
-        append_byte(out, *byte)?;
+// What of a line or a word is shown: of a long one the first bytes.
+#[tactic(auto, using(std::proofs::lemmas::List::take_min))]
+fn shown(bytes: &[u8]) -> &[u8]
+    ensures { result.now ≡ take SHOWN bytes.now }
+{
+    &bytes[..SHOWN.min(bytes.len())]
+}
+
+/// How many bytes are before the first odd byte, if there is one.
+pub(crate) fn odd_place(line: &[u8]) -> Option<usize>
+    ensures place { result ≡ position is_odd line.now }
+    ensures within { IfSome result (λ at. at < length line.now) }
+{
+    line.iter().position(|byte| !is_plain(*byte))
+}
+
+// The bytes before the first odd one.
+#[tactic(auto, using(crate::proofs::Quoting::begin_rules))]
+fn plain_begin(bytes: &[u8]) -> &[u8]
+    ensures { result.now ≡ before_first is_odd bytes.now }
+{
+    match odd_place(bytes) {
+        Some(at) => &bytes[..at],
+        None => bytes,
     }
-    append_text(out, if bytes.len() <= SHOWN { "`" } else { "`.." })
+}
+
+/// A backquote, and what is shown of a line or a word before its first odd byte.
+pub(crate) fn quoted_begin(alloc: Global, bytes: &[u8]) -> Result<Vec<u8>, NoMemory>
+    ensures { IfOk result (λ v. v.items ≡ quoted bytes.now) }
+{
+    let mut out = Vec::new(alloc);
+    out.push(b'`')?;
+    out.extend_from_slice(plain_begin(shown(bytes)))?;
+    Ok(out)
+}
+
+/// What is shown of a line or a word from its first odd byte on, and the end of the quotation.
+pub(crate) fn quoted_rest(alloc: Global, bytes: &[u8]) -> Result<Vec<u8>, NoMemory> {
+    let mut out = Vec::new(alloc);
+    let begin = shown(bytes);
+    for byte in begin.iter().skip(plain_begin(begin).len()) {
+        append_byte(&mut out, *byte)?;
+    }
+    append_text(&mut out, if bytes.len() <= SHOWN { "`" } else { "`.." })?;
+    Ok(out)
 }

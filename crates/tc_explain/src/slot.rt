@@ -234,7 +234,7 @@ impl Slot {
             Slot::Verdict => "none, pass, inconc or fail",
             Slot::End => "the end of the call",
             Slot::Entry => "the number of a run, or end",
-            Slot::Arrow => "-> and a reply",
+            Slot::Arrow => " -> and a reply",
             Slot::Reply => "a reply",
             Slot::Made => "the number of a component",
             Slot::Error => "the name of a dynamic error, or the end of the line",

@@ -4,7 +4,7 @@ ghost use Rattle.std.specs.List.{list_any};
 ghost use Rattle.tc_line.specs.Text.{lines};
 ghost use Rattle.tc_explain.specs.Scan.{begins, seems, seems_by};
 ghost use Rattle.tc_explain.specs.declared.sort.Sort.{Sort as AnySort};
-ghost use Rattle.tc_explain.specs.Explanation.{sort_of};
+ghost use Rattle.tc_explain.specs.Explanation.{sort_of, sort_word};
 
 use std::alloc::Global;
 use tc_line::{Keyword, Lines, ScriptKind, is_comment, is_word, read_words};
@@ -52,15 +52,19 @@ impl Refusal {
 }
 
 impl Sort {
-    /// The words for a text that seems to be of this sort.
-    pub(crate) fn text(self) -> &'static str {
+    /// The words for a text that seems to be of this sort: what is before its name, the name, and what is after.
+    pub(crate) fn text(self) -> (&'static [u8], &'static [u8], &'static [u8])
+        ensures { result.1.now ≡ sort_word self }
+    {
         match self {
-            Sort::Script => "the text looks like a script, which ttrun run reads",
-            Sort::Histories => {
-                "the text looks like histories, which ttrun check and ttrun report read"
-            }
-            Sort::Moves => "the text looks like a list of moves, which ttrun replay reads",
-            Sort::Source => "the text looks like TTCN-3, which ttrun does not read",
+            Sort::Script => (b" a", b"script", b", which ttrun run reads"),
+            Sort::Histories => (
+                b"",
+                b"histories",
+                b", which ttrun check and ttrun report read",
+            ),
+            Sort::Moves => (b" a list of", b"moves", b", which ttrun replay reads"),
+            Sort::Source => (b"", b"TTCN-3", b", which ttrun does not read"),
         }
     }
 }

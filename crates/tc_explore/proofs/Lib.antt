@@ -22,7 +22,7 @@ pub mod Room
 pub mod Closed
 pub mod States
 pub mod Numbers
-pub mod Showing
+pub mod Saying
 pub mod Prefixes
 pub mod Taking
 pub mod Late

@@ -1,13 +1,19 @@
 -- What the details say of a test case that was explored.
 use Rattle.std.specs.Prelude.{ℕ, ◌==◌, if◌then◌else◌, List, [], ◌∷◌, ◌++◌, length, reverse, All}
-use Rattle.std.specs.List.{flat_map}
+use Rattle.std.specs.Option.{option_map_or}
+use Rattle.std.specs.List.{flat_map, range_with_len}
 use Rattle.tc_step.specs.Steps.{ScriptView}
-use Rattle.tc_table.specs.Legal.{IsLegal}
 use Rattle.tc_explore.specs.declared.explored.Ending.{Ending}
 use Rattle.tc_explore.specs.declared.explored.Ending.TheVariants as E
 use Rattle.tc_explore.specs.declared.explored.Explored.{Explored}
 use Rattle.tc_explore.specs.declared.witness.Witness.{Witness}
-use Rattle.tc_explore.specs.Shown.{Shown, Locals}
+use Rattle.tc_text.specs.Said.{Line}
+use Rattle.tc_verdict.specs.Verdict.{name_of}
+use Rattle.tc_entry.specs.declared.entry.Entry.{Entry}
+use Rattle.tc_table.specs.Faults.{components}
+use Rattle.tc_table.specs.Legal.{IsLegal}
+use Rattle.tc_table.specs.Local.{local_if_any}
+use Rattle.tc_explore.specs.Naming.{comp_words}
 use Rattle.tc_explore.specs.Race.{races}
 use Rattle.tc_explore.specs.Unseen.{unseen}
 use Rattle.tc_explore.specs.Waits.{waits}
@@ -16,20 +22,24 @@ use Rattle.tc_explore.specs.Waits.{waits}
 abbrev pub AreLegalOf : ℕ → List Witness → Type 0
 AreLegalOf n found = All (λ w. IsLegal n (reverse w.history)) found
 
--- the local verdicts of a witness
-abbrev pub locals : Witness → List Shown
-locals w = Locals w ∷ []
+-- component c and its local verdict at the end of a history
+abbrev pub local_words : List Entry → ℕ → Line
+local_words history c = comp_words history c ++ option_map_or (λ v. name_of v ∷ []) (local_if_any (reverse history) c) []
+
+-- the verdict of a witness, and the local verdicts
+abbrev pub locals : Witness → List Line
+locals w = (name_of w.verdict ∷ flat_map (local_words w.history) (range_with_len 0 (components (reverse w.history)))) ∷ []
 
 -- the components by verdict, the races, and who waits for whom in a test case of n behaviours
-unfoldable pub of_witnesses : ℕ → List Witness → List Shown
+unfoldable pub of_witnesses : ℕ → List Witness → List Line
 of_witnesses n found = flat_map locals found ++ (races found ++ flat_map (waits n) found)
 
--- the steps that no course carries out, if the search came to its end
-abbrev pub unseen_if_complete : Ending → List ScriptView → List ℕ → List Shown
+-- the steps that no course carries out, where the search came to its end
+abbrev pub unseen_if_complete : Ending → List ScriptView → List ℕ → List Line
 unseen_if_complete E.Complete scripts reached = unseen scripts reached
 unseen_if_complete E.Undecided scripts reached = []
 
 -- what the witnesses show, and such steps; of a test case without behaviours nothing
-unfoldable pub details : List ScriptView → Explored → List Shown
+unfoldable pub details : List ScriptView → Explored → List Line
 details scripts e =
     if length scripts == 0 then [] else of_witnesses (length scripts) e.found ++ unseen_if_complete e.ending scripts e.reached

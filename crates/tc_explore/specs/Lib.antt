@@ -4,7 +4,7 @@ pub mod Found
 pub mod Told
 pub mod Inside
 pub mod Laws
-pub mod Shown
+pub mod Naming
 pub mod Race
 pub mod Waits
 pub mod Unseen

@@ -1,5 +1,7 @@
 -- The waits of a witness that ends since no run can continue, and for whom.
-use Rattle.std.specs.Prelude.{ℕ, suc, if◌then◌else◌, nat_lt, Bool, true, false, Option, Some, None, List, [], ◌∷◌, length, take, reverse}
+use Rattle.std.specs.Prelude.{ℕ, suc, if◌then◌else◌, nat_lt, Bool, true, false, Option, Some, None, List, [], ◌∷◌, ◌++◌, codes, length, take, reverse}
+use Rattle.std.specs.Option.{option_map_or}
+use Rattle.std.specs.Fmt.{decimal}
 use Rattle.std.specs.List.{flat_map, range_with_len}
 use Rattle.tc_entry.specs.declared.comp.Comp.{Comp}
 use Rattle.tc_entry.specs.declared.entry.Entry.{Entry}
@@ -12,7 +14,13 @@ use Rattle.tc_table.specs.declared.awaited.Awaited.{Awaited}
 use Rattle.tc_table.specs.Answers.{is_active}
 use Rattle.tc_explore.specs.declared.witness.Witness.{Witness}
 use Rattle.tc_explore.specs.Course.{stand}
-use Rattle.tc_explore.specs.Shown.{Shown, Waits}
+use Rattle.tc_explore.specs.Naming.{comp_words}
+use Rattle.tc_text.specs.Said.{Line}
+use Rattle.tc_entry.specs.declared.phase.Phase.{Phase}
+use Rattle.tc_entry.specs.declared.phase.Phase.TheVariants as P
+use Rattle.tc_entry.specs.declared.op.Target.{Target}
+use Rattle.tc_entry.specs.declared.op.Target.TheVariants as T
+use Rattle.tc_table.specs.Phases.{phase_if_any}
 
 -- the main component gets the reply that no run can continue
 abbrev pub is_stuck : Reply → Bool
@@ -29,18 +37,29 @@ abbrev pub awaited_by : Option Comp → Option Op → Option (Comp × Awaited)
 awaited_by (Some c) (Some (O.Wake killed target)) = Some (c, record { killed = killed; target = target })
 awaited_by comp op = None
 
--- that run b waits, if it does
-abbrev pub waits_if_any : ℕ → Option (Comp × Awaited) → List Shown
-waits_if_any b None = []
-waits_if_any b (Some w) = Waits b w.0 w.1 ∷ []
+-- the run that a component is running, if it is
+abbrev pub running_in : Option Phase → Line
+running_in (Some (P.Running run)) = decimal run.0 ∷ []
+running_in _ = []
 
--- that run b waits, if it continues and does
-unfoldable pub wait : List Entry → ℕ → List Shown
-wait past b = if is_active past b then waits_if_any b (awaited_by (stand past b).comp (stand past b).wake) else []
+-- what is waited for
+abbrev pub target_words : List Entry → List Entry → Target → Line
+target_words history past (T.One c) = comp_words history c.0 ++ running_in (phase_if_any past c.0)
+target_words history past T.Any = codes "any" ∷ []
+target_words history past T.All = codes "all" ∷ []
 
--- the waits of a witness of n behaviours that ends since no run can continue, and for whom; nothing if it ends
--- otherwise
-unfoldable pub waits : ℕ → Witness → List Shown
+-- that run b on this component waits for this
+abbrev pub wait_words : List Entry → List Entry → ℕ → Comp × Awaited → Line
+wait_words history past b w =
+    decimal b ∷ (comp_words history w.0.0 ++ ((if w.1.killed then codes "killed" else codes "done") ∷ target_words history past w.1.target))
+
+-- that run b waits, if it continues and does; the history names the components
+unfoldable pub wait : List Entry → List Entry → ℕ → List Line
+wait history past b =
+    if is_active past b then option_map_or (λ w. wait_words history past b w ∷ []) (awaited_by (stand past b).comp (stand past b).wake) [] else []
+
+-- who waits for whom if a witness of n behaviours ends since no run can continue; nothing if it ends otherwise
+unfoldable pub waits : ℕ → Witness → List Line
 waits n w =
     if nat_lt (stuck_place w.history) (length w.history)
-    then flat_map (wait (reverse (take (stuck_place w.history) w.history))) (range_with_len 0 n) else []
+    then flat_map (wait w.history (reverse (take (stuck_place w.history) w.history))) (range_with_len 0 n) else []

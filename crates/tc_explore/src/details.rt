@@ -3,7 +3,7 @@ ghost use Rattle.std.specs.Prelude.{◌≤◌, OnOk, length};
 ghost use Rattle.std.specs.List.{flat_map};
 ghost use Rattle.tc_entry.specs.declared.limits.TheConstants.{BEHAVIOURS};
 ghost use Rattle.tc_explore.specs.Details.{AreLegalOf, details, locals, of_witnesses};
-ghost use Rattle.tc_text.specs.Shown.{Shows};
+ghost use Rattle.tc_text.specs.Said.{Tells};
 ghost use Rattle.tc_explore.specs.Waits.{waits};
 
 use crate::components::append_locals_line;
@@ -17,7 +17,7 @@ use tc_step::Script;
 use tc_verdict::NoMemory;
 
 // Appends the line of each witness; if memory runs out, a part of them.
-#[tactic(auto, using(tc_text::proofs::Lemmas::Showing::show_rules))]
+#[tactic(auto, using(tc_text::proofs::Lemmas::Saying::tell_rules))]
 fn append_locals_lines(
     alloc: Global,
     out: &mut Vec<u8>,
@@ -27,7 +27,7 @@ fn append_locals_lines(
     requires some { 1 ≤ behaviours }
     requires few { behaviours ≤ BEHAVIOURS }
     requires legal { AreLegalOf behaviours found.now }
-    ensures { OnOk result (Shows (flat_map locals found.now) out.old.items out.new.items) }
+    ensures { OnOk result (Tells (flat_map locals found.now) out.old.items out.new.items) }
 {
     for witness in found {
         append_locals_line(alloc, out, behaviours, witness)?;
@@ -36,7 +36,7 @@ fn append_locals_lines(
 }
 
 // Appends who waits for whom in each witness; if memory runs out, a part of it.
-#[tactic(auto, using(tc_text::proofs::Lemmas::Showing::show_rules))]
+#[tactic(auto, using(tc_text::proofs::Lemmas::Saying::tell_rules))]
 fn append_all_waits(
     alloc: Global,
     out: &mut Vec<u8>,
@@ -46,7 +46,7 @@ fn append_all_waits(
     requires some { 1 ≤ behaviours }
     requires few { behaviours ≤ BEHAVIOURS }
     requires legal { AreLegalOf behaviours found.now }
-    ensures { OnOk result (Shows (flat_map (waits behaviours) found.now) out.old.items out.new.items) }
+    ensures { OnOk result (Tells (flat_map (waits behaviours) found.now) out.old.items out.new.items) }
 {
     for witness in found {
         append_waits(alloc, out, behaviours, witness)?;
@@ -55,7 +55,7 @@ fn append_all_waits(
 }
 
 // Appends what the witnesses show; if memory runs out, a part of it.
-#[tactic(auto, unfolding(crate::specs::Details::of_witnesses), using(tc_text::proofs::Lemmas::Showing::show_rules))]
+#[tactic(auto, unfolding(crate::specs::Details::of_witnesses), using(tc_text::proofs::Lemmas::Saying::tell_rules))]
 fn append_witnesses(
     alloc: Global,
     out: &mut Vec<u8>,
@@ -65,7 +65,7 @@ fn append_witnesses(
     requires some { 1 ≤ behaviours }
     requires few { behaviours ≤ BEHAVIOURS }
     requires legal { AreLegalOf behaviours found.now }
-    ensures { OnOk result (Shows (of_witnesses behaviours found.now) out.old.items out.new.items) }
+    ensures { OnOk result (Tells (of_witnesses behaviours found.now) out.old.items out.new.items) }
 {
     append_locals_lines(alloc, out, behaviours, found)?;
     append_races(alloc, out, found)?;
@@ -77,7 +77,7 @@ impl Explored {
     /// the first witness next to each other one from where they part, and which run waits for whom if no run can
     /// continue. If the search came to its end, it is also which steps no course that it looked at carries out. A test
     /// case without behaviours has no line. If memory runs out, a part of it.
-    #[tactic(auto, unfolding(crate::specs::Details::details), using(tc_text::proofs::Lemmas::Showing::show_rules))]
+    #[tactic(auto, unfolding(crate::specs::Details::details), using(tc_text::proofs::Lemmas::Saying::tell_rules))]
     pub fn append_details(
         &self,
         alloc: Global,
@@ -86,7 +86,7 @@ impl Explored {
     ) -> Result<(), NoMemory>
         requires few { length scripts.now ≤ BEHAVIOURS }
         requires legal { AreLegalOf (length scripts.now) self.now.found }
-        ensures { OnOk result (Shows (details scripts.now self.now) out.old.items out.new.items) }
+        ensures { OnOk result (Tells (details scripts.now self.now) out.old.items out.new.items) }
     {
         if scripts.is_empty() {
             return Ok(());

@@ -10,6 +10,7 @@ mod entries;
 mod explored;
 mod findings;
 mod noted;
+mod parts;
 mod race;
 mod same;
 mod search;

@@ -1,19 +1,24 @@
 //! Two witnesses side by side, from where they part.
-ghost use Rattle.std.specs.Prelude.{◌≡◌, ◌≤◌, ◌++◌, [], ◌∷◌, IfOk, OnOk, bytes_eq, drop, length};
+ghost use Rattle.std.specs.Prelude.{◌≡◌, ◌≤◌, ◌++◌, [], ◌∷◌, IfOk, OnOk, bytes_eq, drop, length, option_copied, slice_get};
+ghost use Rattle.std.specs.Option.{option_map_or};
 ghost use Rattle.std.specs.List.{flat_map, range_with_len};
 ghost use Rattle.tc_history.specs.Block.{entry_text};
 ghost use Rattle.tc_explore.specs.Race.{alike_count as count_alike, more_row, parting, race, races, row_at, rows};
-ghost use Rattle.tc_text.specs.Shown.{AddsLine, Shows};
-ghost use Rattle.tc_explore.specs.Shown.{Alike, Heads};
+ghost use Rattle.tc_text.specs.Said.{Tells, TellsLine};
+ghost use Rattle.tc_verdict.specs.Verdict.{name_of as verdict_name};
+ghost use Rattle.std.specs.Fmt.{decimal};
 
 use crate::witness::Witness;
 use std::alloc::Global;
 use tc_entry::Entry;
-use tc_text::{append_line, append_number, append_text, write_move, write_reply};
+use tc_text::{Part, append_parts, append_text, write_move, write_reply};
 use tc_verdict::{NoMemory, name as name_of};
 
 /// The width of the left one of two columns.
 const COLUMN: usize = 36;
+
+/// The left column, if nothing is in it.
+const EMPTY: &[u8] = b"                                    ";
 
 /// How many lines of entries are shown.
 pub const ROWS: usize = 12;
@@ -61,31 +66,53 @@ fn alike_count(alloc: Global, left: &[Entry], right: &[Entry]) -> Result<usize, 
     Ok(count)
 }
 
+// The rest of the left column after this text.
+fn rest_of_column(text: &[u8]) -> &'static [u8] {
+    &EMPTY[text.len().min(COLUMN)..]
+}
+
 // Appends a line of two columns; if memory runs out, a part of it.
-fn append_row(alloc: Global, out: &mut Vec<u8>, left: &[u8], right: &[u8]) -> Result<(), NoMemory>
-    ensures { OnOk result (AddsLine out.old.items out.new.items) }
+fn append_row<'a>(
+    alloc: Global,
+    out: &mut Vec<u8>,
+    left: &'a [u8],
+    right: &'a [u8],
+) -> Result<(), NoMemory>
+    ensures { OnOk result (TellsLine (left.now ∷ right.now ∷ []) out.old.items out.new.items) }
 {
-    let mut words = Vec::new(alloc);
-    words.extend_from_slice(left)?;
-    for _ in left.len()..COLUMN {
-        words.push(b' ')?;
+    append_parts(
+        alloc,
+        out,
+        &[
+            Part::Word(left),
+            Part::Text(rest_of_column(left)),
+            Part::Text(b" |"),
+            Part::Word(right),
+        ],
+    )
+}
+
+// Appends an entry, if there is one.
+fn append_if_any(out: &mut Vec<u8>, entry: Option<&Entry>) -> Result<(), NoMemory>
+    ensures { OnOk result (out.new.items ≡ out.old.items ++ option_map_or entry_text (option_copied entry.entry) []) }
+{
+    match entry {
+        Some(entry) => append_entry(out, entry),
+        None => Ok(()),
     }
-    append_text(&mut words, " | ")?;
-    words.extend_from_slice(right)?;
-    append_line(out, words.as_slice())
 }
 
 // The text of the entry at a place, if there is one.
-fn text_at(alloc: Global, history: &[Entry], at: usize) -> Result<Vec<u8>, NoMemory> {
+fn text_at(alloc: Global, history: &[Entry], at: usize) -> Result<Vec<u8>, NoMemory>
+    ensures { IfOk result (λ v. v.items ≡ option_map_or entry_text (slice_get history.now at) []) }
+{
     let mut text = Vec::new(alloc);
-    if let Some(entry) = history.get(at) {
-        append_entry(&mut text, entry)?;
-    }
+    append_if_any(&mut text, history.get(at))?;
     Ok(text)
 }
 
 // Appends the line of the entries at a place, if one of both has an entry there; if memory runs out, a part of it.
-#[tactic(auto, unfolding(crate::specs::Race::row_at), using(tc_text::proofs::Lemmas::Showing::show_rules))]
+#[tactic(auto, unfolding(crate::specs::Race::row_at), using(tc_text::proofs::Lemmas::Saying::tell_rules))]
 fn append_row_at(
     alloc: Global,
     out: &mut Vec<u8>,
@@ -93,7 +120,7 @@ fn append_row_at(
     right: &[Entry],
     at: usize,
 ) -> Result<(), NoMemory>
-    ensures { OnOk result (Shows (row_at left.now right.now at) out.old.items out.new.items) }
+    ensures { OnOk result (Tells (row_at left.now right.now at) out.old.items out.new.items) }
 {
     if at >= left.len() && at >= right.len() {
         return Ok(());
@@ -104,14 +131,14 @@ fn append_row_at(
 }
 
 // Appends the first entries of both in two columns; if memory runs out, a part of them.
-#[tactic(auto, using(tc_text::proofs::Lemmas::Showing::show_rules))]
+#[tactic(auto, using(tc_text::proofs::Lemmas::Saying::tell_rules))]
 fn append_first_rows(
     alloc: Global,
     out: &mut Vec<u8>,
     left: &[Entry],
     right: &[Entry],
 ) -> Result<(), NoMemory>
-    ensures { OnOk result (Shows (flat_map (row_at left.now right.now) (range_with_len 0 ROWS)) out.old.items out.new.items) }
+    ensures { OnOk result (Tells (flat_map (row_at left.now right.now) (range_with_len 0 ROWS)) out.old.items out.new.items) }
 {
     for at in 0..ROWS {
         append_row_at(alloc, out, left, right, at)?;
@@ -120,32 +147,36 @@ fn append_first_rows(
 }
 
 // Appends whether there are more entries than are shown; if memory runs out, a part of it.
-#[tactic(auto, unfolding(crate::specs::Race::more_row), using(tc_text::proofs::Lemmas::Showing::show_rules))]
-fn append_more(out: &mut Vec<u8>, left: &[Entry], right: &[Entry]) -> Result<(), NoMemory>
-    ensures { OnOk result (Shows (more_row left.now right.now) out.old.items out.new.items) }
+#[tactic(auto, unfolding(crate::specs::Race::more_row), using(tc_text::proofs::Lemmas::Saying::tell_rules))]
+fn append_more(
+    alloc: Global,
+    out: &mut Vec<u8>,
+    left: &[Entry],
+    right: &[Entry],
+) -> Result<(), NoMemory>
+    ensures { OnOk result (Tells (more_row left.now right.now) out.old.items out.new.items) }
 {
     if left.len() <= ROWS && right.len() <= ROWS {
         return Ok(());
     }
-    append_line(out, b"..")
+    append_parts(alloc, out, &[Part::Text(b" ..")])
 }
 
 // Appends the first entries of both in two columns, and whether there are more; if memory runs out, a part of it.
-#[tactic(auto, unfolding(crate::specs::Race::rows), using(tc_text::proofs::Lemmas::Showing::show_rules))]
+#[tactic(auto, unfolding(crate::specs::Race::rows), using(tc_text::proofs::Lemmas::Saying::tell_rules))]
 fn append_rows(
     alloc: Global,
     out: &mut Vec<u8>,
     left: &[Entry],
     right: &[Entry],
 ) -> Result<(), NoMemory>
-    ensures { OnOk result (Shows (rows left.now right.now) out.old.items out.new.items) }
+    ensures { OnOk result (Tells (rows left.now right.now) out.old.items out.new.items) }
 {
     append_first_rows(alloc, out, left, right)?;
-    append_more(out, left, right)
+    append_more(alloc, out, left, right)
 }
 
 // Appends how far two witnesses go alike; if memory runs out, a part of it.
-#[tactic(auto, using(tc_text::proofs::Lemmas::Showing::show_rules))]
 fn append_alike(
     alloc: Global,
     out: &mut Vec<u8>,
@@ -153,27 +184,30 @@ fn append_alike(
     other: &Witness,
     count: usize,
 ) -> Result<(), NoMemory>
-    ensures { OnOk result (Shows (Alike witness.now other.now count ∷ []) out.old.items out.new.items) }
+    ensures { OnOk result (TellsLine (verdict_name witness.now.verdict ∷ verdict_name other.now.verdict ∷ decimal count ∷ []) out.old.items out.new.items) }
 {
-    let mut words = Vec::new(alloc);
-    append_text(&mut words, name_of(witness.verdict))?;
-    append_text(&mut words, " and ")?;
-    append_text(&mut words, name_of(other.verdict))?;
-    append_text(&mut words, ": alike for ")?;
-    append_number(&mut words, count as u64)?;
-    append_text(&mut words, " entries")?;
-    append_line(out, words.as_slice())
+    append_parts(
+        alloc,
+        out,
+        &[
+            Part::Word(name_of(witness.verdict).as_bytes()),
+            Part::Text(b"and"),
+            Part::Word(name_of(other.verdict).as_bytes()),
+            Part::Text(b": alike for"),
+            Part::Number(count as u64),
+            Part::Text(b"entries"),
+        ],
+    )
 }
 
 // Appends the names of two verdicts in two columns; if memory runs out, a part of it.
-#[tactic(auto, using(tc_text::proofs::Lemmas::Showing::show_rules))]
 fn append_heads(
     alloc: Global,
     out: &mut Vec<u8>,
     witness: &Witness,
     other: &Witness,
 ) -> Result<(), NoMemory>
-    ensures { OnOk result (Shows (Heads witness.now other.now ∷ []) out.old.items out.new.items) }
+    ensures { OnOk result (TellsLine (verdict_name witness.now.verdict ∷ verdict_name other.now.verdict ∷ []) out.old.items out.new.items) }
 {
     let left = name_of(witness.verdict);
     let right = name_of(other.verdict);
@@ -189,7 +223,7 @@ fn behind(history: &[Entry], count: usize) -> &[Entry]
 }
 
 // Appends two witnesses side by side after that many entries; if memory runs out, a part of it.
-#[tactic(auto, using(tc_text::proofs::Lemmas::Showing::show_rules))]
+#[tactic(auto, using(tc_text::proofs::Lemmas::Saying::tell_rules))]
 fn append_parting(
     alloc: Global,
     out: &mut Vec<u8>,
@@ -199,7 +233,7 @@ fn append_parting(
 ) -> Result<(), NoMemory>
     requires within { count ≤ length witness.now.history }
     requires within_other { count ≤ length other.now.history }
-    ensures { OnOk result (Shows (parting witness.now other.now count) out.old.items out.new.items) }
+    ensures { OnOk result (Tells (parting witness.now other.now count) out.old.items out.new.items) }
 {
     let left = behind(witness.history.as_slice(), count);
     let right = behind(other.history.as_slice(), count);
@@ -216,7 +250,7 @@ fn append_race(
     witness: &Witness,
     other: &Witness,
 ) -> Result<(), NoMemory>
-    ensures { OnOk result (Shows (race witness.now other.now) out.old.items out.new.items) }
+    ensures { OnOk result (Tells (race witness.now other.now) out.old.items out.new.items) }
 {
     let left = witness.history.as_slice();
     let right = other.history.as_slice();
@@ -225,13 +259,13 @@ fn append_race(
 }
 
 /// Appends the first witness next to each other one, from where they part. If memory runs out, a part of it.
-#[tactic(auto, using(tc_text::proofs::Lemmas::Showing::show_rules))]
+#[tactic(auto, using(tc_text::proofs::Lemmas::Saying::tell_rules))]
 pub(crate) fn append_races(
     alloc: Global,
     out: &mut Vec<u8>,
     found: &[Witness],
 ) -> Result<(), NoMemory>
-    ensures { OnOk result (Shows (races found.now) out.old.items out.new.items) }
+    ensures { OnOk result (Tells (races found.now) out.old.items out.new.items) }
 {
     let Some((witness, others)) = found.split_first() else {
         return Ok(());

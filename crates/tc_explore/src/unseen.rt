@@ -1,14 +1,15 @@
 //! The steps that no course which was looked at carries out.
-ghost use Rattle.std.specs.Prelude.{◌≡◌, ◌≤◌, OnOk, length, slice_index_or};
+ghost use Rattle.std.specs.Prelude.{◌≡◌, ◌<◌, ◌≤◌, ◌+◌, [], ◌∷◌, OnOk, length, slice_index_or};
 ghost use Rattle.tc_entry.specs.declared.limits.TheConstants.{BEHAVIOURS};
-ghost use Rattle.tc_text.specs.Shown.{Shows};
+ghost use Rattle.tc_text.specs.Said.{Tells, TellsLine};
+ghost use Rattle.std.specs.Fmt.{decimal};
 ghost use Rattle.tc_explore.specs.Unseen.{unseen, unseen_among};
 
 use crate::course::steps_of;
 use crate::steps::append_step;
 use std::alloc::Global;
 use tc_step::{Script, Step};
-use tc_text::{append_line, append_number, append_text};
+use tc_text::{Part, append_parts};
 use tc_verdict::{NoMemory, Run};
 
 // How many calls of a run are reached.
@@ -19,26 +20,37 @@ fn reached_by(reached: &[usize], run: u16) -> usize
     if at < reached.len() { reached[at] } else { 0 }
 }
 
-// Appends the number of a step after that many others, and the step; if memory runs out, a part of it.
-fn append_words(
+// Appends the line of the step of a run after that many others.
+fn append_at(
+    alloc: Global,
     out: &mut Vec<u8>,
     run: u16,
     before: usize,
-    steps: usize,
-    step: &Step,
-) -> Result<(), NoMemory> {
-    append_text(out, "not seen: run ")?;
-    append_number(out, u64::from(run))?;
-    append_text(out, " from step ")?;
-    append_number(out, (before as u64).saturating_add(1))?;
-    append_text(out, " of ")?;
-    append_number(out, steps as u64)?;
-    append_text(out, " on: ")?;
-    append_step(out, step)
+    steps: &[Step],
+) -> Result<(), NoMemory>
+    requires { before < length steps.now }
+    ensures { OnOk result (TellsLine (decimal run ∷ decimal (before + 1) ∷ decimal (length steps.now) ∷ []) out.old.items out.new.items) }
+{
+    let mut step = Vec::new(alloc);
+    append_step(&mut step, &steps[before])?;
+    append_parts(
+        alloc,
+        out,
+        &[
+            Part::Text(b"not seen: run"),
+            Part::Number(u64::from(run)),
+            Part::Text(b"from step"),
+            Part::Number(before as u64 + 1),
+            Part::Text(b"of"),
+            Part::Number(steps.len() as u64),
+            Part::Text(b"on:"),
+            Part::Text(step.as_slice()),
+        ],
+    )
 }
 
 // Appends the line of a run, if one of its steps is not carried out; if memory runs out, a part of it.
-#[tactic(auto, unfolding(crate::specs::Unseen::unseen_among), using(tc_text::proofs::Lemmas::Showing::show_rules))]
+#[tactic(auto, unfolding(crate::specs::Unseen::unseen_among), using(tc_text::proofs::Lemmas::Saying::tell_rules))]
 fn append_among(
     alloc: Global,
     out: &mut Vec<u8>,
@@ -46,19 +58,17 @@ fn append_among(
     before: usize,
     steps: &[Step],
 ) -> Result<(), NoMemory>
-    ensures { OnOk result (Shows (unseen_among run before steps.now) out.old.items out.new.items) }
+    ensures { OnOk result (Tells (unseen_among run before (length steps.now)) out.old.items out.new.items) }
 {
     if before >= steps.len() {
         return Ok(());
     }
-    let mut words = Vec::new(alloc);
-    append_words(&mut words, run, before, steps.len(), &steps[before])?;
-    append_line(out, words.as_slice())
+    append_at(alloc, out, run, before, steps)
 }
 
 /// Appends the lines of the runs of which some steps are carried out in no course that was looked at. If memory runs
 /// out, a part of them.
-#[tactic(auto, unfolding(crate::specs::Unseen::unseen), using(tc_text::proofs::Lemmas::Showing::show_rules))]
+#[tactic(auto, unfolding(crate::specs::Unseen::unseen), using(tc_text::proofs::Lemmas::Saying::tell_rules))]
 pub(crate) fn append_unseen(
     alloc: Global,
     out: &mut Vec<u8>,
@@ -66,7 +76,7 @@ pub(crate) fn append_unseen(
     reached: &[usize],
 ) -> Result<(), NoMemory>
     requires few { length scripts.now ≤ BEHAVIOURS }
-    ensures { OnOk result (Shows (unseen scripts.now reached.now) out.old.items out.new.items) }
+    ensures { OnOk result (Tells (unseen scripts.now reached.now) out.old.items out.new.items) }
 {
     for run in 0..scripts.len() as u16 {
         let before = reached_by(reached, run);

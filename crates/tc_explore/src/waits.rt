@@ -1,19 +1,20 @@
 //! The waits of a witness that ends since no run can continue, and for whom.
-ghost use Rattle.std.specs.Prelude.{◌≡◌, ◌≤◌, OnOk, reverse};
+ghost use Rattle.std.specs.Prelude.{◌≡◌, ◌≤◌, ◌++◌, OnOk, codes, if◌then◌else◌, reverse};
 ghost use Rattle.std.specs.List.{flat_map, range_with_len};
 ghost use Rattle.tc_entry.specs.declared.limits.TheConstants.{BEHAVIOURS};
 ghost use Rattle.tc_table.specs.Legal.{IsLegal};
 ghost use Rattle.tc_table.specs.Standing.{StandsFor};
-ghost use Rattle.tc_text.specs.Shown.{Shows};
-ghost use Rattle.tc_explore.specs.Waits.{is_stuck as is_stuck_reply, stuck_place as place_of_stuck, wait, waits};
+ghost use Rattle.tc_text.specs.Said.{Tells, word_of};
+ghost use Rattle.tc_explore.specs.Waits.{is_stuck as is_stuck_reply, running_in, stuck_place as place_of_stuck, target_words, wait, wait_words, waits};
 
-use crate::components::append_comp;
+use crate::components::push_comp;
+use crate::parts::{push_number, push_text, push_word};
 use crate::state::{standing_after, state_after};
 use crate::witness::Witness;
 use std::alloc::Global;
 use tc_entry::{Comp, Entry, Fault, Phase, Reply, Target};
 use tc_table::{Awaited, CaseState};
-use tc_text::{append_line, append_number, append_text};
+use tc_text::{Part, append_parts};
 use tc_verdict::{NoMemory, Run};
 
 // Whether the main component got the reply that no run can continue.
@@ -39,59 +40,76 @@ fn stuck_place(history: &[Entry]) -> usize
     place
 }
 
-// Appends what a component is doing that is waited for; if memory runs out, a part of it.
-fn append_phase(out: &mut Vec<u8>, phase: Option<Phase>) -> Result<(), NoMemory> {
+// Appends what a component is doing that is waited for.
+fn push_phase(parts: &mut Vec<Part>, phase: Option<Phase>) -> Result<(), NoMemory>
+    ensures { OnOk result (flat_map word_of parts.new.items ≡ flat_map word_of parts.old.items ++ running_in phase) }
+{
     match phase {
         None => Ok(()),
-        Some(Phase::Inactive) => append_text(out, ", not started"),
-        Some(Phase::Stopped) => append_text(out, ", stopped"),
-        Some(Phase::Killed) => append_text(out, ", killed"),
+        Some(Phase::Inactive) => push_text(parts, b", not started"),
+        Some(Phase::Stopped) => push_text(parts, b", stopped"),
+        Some(Phase::Killed) => push_text(parts, b", killed"),
         Some(Phase::Running(run)) => {
-            append_text(out, ", where run ")?;
-            append_number(out, u64::from(run.0))?;
-            append_text(out, " is")
+            push_text(parts, b", where run")?;
+            push_number(parts, u64::from(run.0))?;
+            push_text(parts, b"is")
         }
     }
 }
 
-// Appends what is waited for; if memory runs out, a part of it.
-fn append_target(
-    out: &mut Vec<u8>,
-    history: &[Entry],
+// Appends what is waited for; the history names it.
+fn push_target<'a>(
+    parts: &mut Vec<Part<'a>>,
+    history: &'a [Entry],
+    before: &[Entry],
     state: &CaseState,
     target: Target,
-) -> Result<(), NoMemory> {
+) -> Result<(), NoMemory>
+    requires { StandsFor state.now (reverse before.now) }
+    ensures { OnOk result (flat_map word_of parts.new.items ≡ flat_map word_of parts.old.items ++ target_words history.now (reverse before.now) target) }
+{
     match target {
         Target::One(comp) => {
-            append_comp(out, history, comp)?;
-            append_phase(out, state.phase_of(comp))
+            push_comp(parts, history, comp)?;
+            push_phase(parts, state.phase_of(comp))
         }
-        Target::Any => append_text(out, "any"),
-        Target::All => append_text(out, "all"),
+        Target::Any => push_word(parts, b"any"),
+        Target::All => push_word(parts, b"all"),
     }
 }
 
-// Appends which run waits on which component, and for what; if memory runs out, a part of it.
-fn append_words(
-    out: &mut Vec<u8>,
-    history: &[Entry],
+// The word for what is waited for.
+fn awaited_word(killed: bool) -> &'static [u8]
+    ensures { result.now ≡ (if killed then codes "killed" else codes "done") }
+{
+    if killed { b"killed" } else { b"done" }
+}
+
+// Appends which run waits on which component, and for what.
+fn push_wait<'a>(
+    parts: &mut Vec<Part<'a>>,
+    history: &'a [Entry],
+    before: &[Entry],
     state: &CaseState,
     run: u16,
     comp: Comp,
     awaited: Awaited,
-) -> Result<(), NoMemory> {
-    append_text(out, "stuck: run ")?;
-    append_number(out, u64::from(run))?;
-    append_text(out, " on ")?;
-    append_comp(out, history, comp)?;
-    append_text(out, " waits for ")?;
-    append_text(out, if awaited.killed { "killed" } else { "done" })?;
-    append_text(out, " of ")?;
-    append_target(out, history, state, awaited.target)
+) -> Result<(), NoMemory>
+    requires { StandsFor state.now (reverse before.now) }
+    ensures { OnOk result (flat_map word_of parts.new.items ≡ flat_map word_of parts.old.items ++ wait_words history.now (reverse before.now) run (comp, awaited)) }
+{
+    push_text(parts, b"stuck: run")?;
+    push_number(parts, u64::from(run))?;
+    push_text(parts, b"on")?;
+    push_comp(parts, history, comp)?;
+    push_text(parts, b"waits for")?;
+    push_word(parts, awaited_word(awaited.killed))?;
+    push_text(parts, b"of")?;
+    push_target(parts, history, before, state, awaited.target)
 }
 
 // Appends the line of a run, if it continues and waits; if memory runs out, a part of it.
-#[tactic(auto, unfolding(crate::specs::Waits::wait), using(tc_text::proofs::Lemmas::Showing::show_rules))]
+#[tactic(auto, unfolding(crate::specs::Waits::wait), using(tc_text::proofs::Lemmas::Saying::tell_rules))]
 fn append_wait(
     alloc: Global,
     out: &mut Vec<u8>,
@@ -101,7 +119,7 @@ fn append_wait(
     run: u16,
 ) -> Result<(), NoMemory>
     requires stands { StandsFor state.now (reverse before.now) }
-    ensures { OnOk result (Shows (wait (reverse before.now) run) out.old.items out.new.items) }
+    ensures { OnOk result (Tells (wait history.now (reverse before.now) run) out.old.items out.new.items) }
 {
     if !state.is_active(Run(run)) {
         return Ok(());
@@ -112,13 +130,13 @@ fn append_wait(
     let Some((comp, awaited)) = awaited else {
         return Ok(());
     };
-    let mut words = Vec::new(alloc);
-    append_words(&mut words, history, state, run, comp, awaited)?;
-    append_line(out, words.as_slice())
+    let mut parts = Vec::new(alloc);
+    push_wait(&mut parts, history, before, state, run, comp, awaited)?;
+    append_parts(alloc, out, parts.as_slice())
 }
 
 // Appends the lines of all runs that continue and wait; if memory runs out, a part of them.
-#[tactic(auto, using(tc_text::proofs::Lemmas::Showing::show_rules))]
+#[tactic(auto, using(tc_text::proofs::Lemmas::Saying::tell_rules))]
 fn append_waiting(
     alloc: Global,
     out: &mut Vec<u8>,
@@ -129,7 +147,7 @@ fn append_waiting(
     requires some { 1 ≤ behaviours }
     requires few { behaviours ≤ BEHAVIOURS }
     requires legal { IsLegal behaviours (reverse before.now) }
-    ensures { OnOk result (Shows (flat_map (wait (reverse before.now)) (range_with_len 0 behaviours)) out.old.items out.new.items) }
+    ensures { OnOk result (Tells (flat_map (wait history.now (reverse before.now)) (range_with_len 0 behaviours)) out.old.items out.new.items) }
 {
     let state = state_after(alloc, behaviours, before)?;
     for run in 0..behaviours {
@@ -139,7 +157,7 @@ fn append_waiting(
 }
 
 /// Appends who waits for whom in a witness that ends since no run can continue. If memory runs out, a part of it.
-#[tactic(auto, unfolding(crate::specs::Waits::waits), using(tc_text::proofs::Lemmas::Showing::show_rules))]
+#[tactic(auto, unfolding(crate::specs::Waits::waits), using(tc_text::proofs::Lemmas::Saying::tell_rules))]
 pub(crate) fn append_waits(
     alloc: Global,
     out: &mut Vec<u8>,
@@ -149,7 +167,7 @@ pub(crate) fn append_waits(
     requires some { 1 ≤ behaviours }
     requires few { behaviours ≤ BEHAVIOURS }
     requires legal { IsLegal behaviours (reverse witness.now.history) }
-    ensures { OnOk result (Shows (waits behaviours witness.now) out.old.items out.new.items) }
+    ensures { OnOk result (Tells (waits behaviours witness.now) out.old.items out.new.items) }
 {
     let history = witness.history.as_slice();
     let place = stuck_place(history);

@@ -37,7 +37,7 @@ use Rattle.tc_campaign.specs.Outline.{outline_of}
 use Rattle.tc_command.specs.declared.task.RunOptions.{RunOptions}
 use Rattle.tc_explore.specs.declared.explored.Explored.{Explored}
 use Rattle.tc_explore.specs.Details.{details as of_details}
-use Rattle.tc_explore.specs.Shown.{Shown}
+use Rattle.tc_text.specs.Said.{Line}
 use Rattle.tc_program.specs.Limits.{worker_limit}
 use Rattle.tc_program.specs.declared.fault.RunFault.{RunFault}
 use Rattle.tc_program.specs.declared.fault.RunFault.TheVariants as F
@@ -217,7 +217,7 @@ Summarizes blocks ss None = ((lines : List ℕ) × Feeds blocks lines true) × (
 Summarizes blocks ss (Some j) = IsFirstJudged blocks j
 
 -- the details of a test case with these scripts, if they are asked for
-abbrev pub details_if : Bool → List ScriptView → Explored → List Shown
+abbrev pub details_if : Bool → List ScriptView → Explored → List Line
 details_if asked scripts e = if asked then of_details scripts e else []
 
 -- the line of a test case in a list

@@ -4,4 +4,4 @@ pub mod LinesOf
 pub mod MoveLines
 pub mod Naming
 pub mod Plain
-pub mod Showing
+pub mod Saying

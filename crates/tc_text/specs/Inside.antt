@@ -1,10 +1,14 @@
 -- What only the way the texts are read needs: no public clause names a word of this file.
-use Rattle.std.specs.Prelude.{ℕ, ◌≡◌, ◌≢◌, ◌≤◌, ◌++◌, codes, true, List, [], ◌∷◌, Option, Some, MatchOption, slice_get}
+use Rattle.std.specs.Prelude.{ℕ, ◌≡◌, ◌≢◌, ◌≤◌, ◌++◌, codes, true, if◌then◌else◌, List, [], ◌∷◌, Option, Some, MatchOption, slice_get}
 use Rattle.std.specs.Borrow.{Bor}
 use Rattle.std.specs.Char.{is_ascii_digit}
+use Rattle.std.specs.Fmt.{decimal}
 use Rattle.tc_text.specs.Lines.{lines_of}
 use Rattle.tc_text.specs.declared.verb.Status.{Status}
 use Rattle.tc_text.specs.declared.verb.Status.TheVariants as S
+use Rattle.tc_text.specs.declared.said.Part.{Part}
+use Rattle.tc_text.specs.declared.said.Part.TheVariants as P
+use Rattle.tc_text.specs.Said.{ends_word}
 
 -- this value was read of a line, and these lines are after it
 abbrev pub TakesLine : {A : Type 0} → Option (A × Bor (List ℕ)) → A → List (List ℕ) → Type 0
@@ -34,3 +38,13 @@ NoLow (b ∷ bs) = (48 ≤ b) × NoLow bs
 -- what may be after the kind of a component: it does not begin with the word of a kind
 abbrev pub EndsKind : List ℕ → Type 0
 EndsKind text = (rest : List ℕ) → text ≢ codes " alive" ++ rest
+
+-- prose, as it is written in a line: after a space, if a word does not end before it
+abbrev pub prose_text : List ℕ → List ℕ
+prose_text t = if ends_word t then t else 32 ∷ t
+
+-- a part of a line, as it is written
+abbrev pub part_text : Part → List ℕ
+part_text (P.Text t) = prose_text t.now
+part_text (P.Number n) = 32 ∷ decimal n
+part_text (P.Word w) = 32 ∷ w.now

@@ -5,4 +5,5 @@ pub mod TextKind
 pub mod MoveList
 pub mod Reading
 pub mod Shown
+pub mod Said
 pub mod Inside

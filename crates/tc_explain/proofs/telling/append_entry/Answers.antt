@@ -1,12 +1,9 @@
 use Rattle.std.proofs.Common.{rules, ◌≡◌, true, if◌then◌else◌, [], ◌∷◌, length, subst, sym}
 use Rattle.tc_line.specs.Text.{words as words_of}
-use Rattle.tc_text.specs.declared.fault.TextKind.TheVariants as T
-use Rattle.tc_explain.specs.declared.sort.Refusal.TheVariants as R
-use Rattle.tc_explain.specs.Notes.{Broken}
 use Rattle.tc_explain.specs.Replies.{entry_stop, is_whole}
 use Rattle.tc_explain.specs.Explanation.{stop_note}
-use Rattle.tc_text.specs.Shown.{Shows}
-use Rattle.tc_text.proofs.Lemmas.Showing.{on_ok, shows_one}
+use Rattle.tc_text.specs.Said.{Tells}
+use Rattle.tc_text.proofs.Lemmas.Saying.{on_ok, tells_one}
 use Rattle.tc_explain.proofs.telling.append_entry.Goals as goal
 
 pub returns-then-is_whole : goal.returns-then-is_whole
@@ -16,5 +13,5 @@ returns-then-is_whole c =
     let after = c.append_note.new.out.items in
     let whole : is_whole (entry_stop (words_of c.args.line.now)) (length (words_of c.args.line.now)) ≡ true = search rules in
     on_ok c.append_note.result
-    (λ note. subst (λ t. Shows (if t then Broken (R.Histories T.Entry) ∷ [] else stop_note c.args.opened line (entry_stop (words_of line))) before after) (sym whole) (shows_one (Broken (R.Histories T.Entry)) before after note))
+    (λ note. subst (λ t. Tells (if t then [] ∷ [] else stop_note c.args.opened line (entry_stop (words_of line))) before after) (sym whole) (tells_one [] before after note))
     c.append_note.ensures

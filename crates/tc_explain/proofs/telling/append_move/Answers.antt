@@ -1,13 +1,10 @@
 use Rattle.std.proofs.Common.{rules, ◌≡◌, ◌&&◌, nat_le, true, if◌then◌else◌, [], ◌∷◌, length, subst, sym}
 use Rattle.tc_line.specs.Text.{words as words_of}
-use Rattle.tc_text.specs.declared.fault.TextKind.TheVariants as T
 use Rattle.tc_explain.specs.declared.slot.Slot.TheVariants as S
-use Rattle.tc_explain.specs.declared.sort.Refusal.TheVariants as R
-use Rattle.tc_explain.specs.Notes.{Broken}
 use Rattle.tc_explain.specs.Slots.{may_end, walk}
 use Rattle.tc_explain.specs.Explanation.{stop_note}
-use Rattle.tc_text.specs.Shown.{Shows}
-use Rattle.tc_text.proofs.Lemmas.Showing.{on_ok, shows_one}
+use Rattle.tc_text.specs.Said.{Tells}
+use Rattle.tc_text.proofs.Lemmas.Saying.{on_ok, tells_one}
 use Rattle.tc_explain.proofs.telling.append_move.Goals as goal
 
 pub returns-then-is_move : goal.returns-then-is_move
@@ -18,5 +15,5 @@ returns-then-is_move c =
     let after = c.append_note.new.out.items in
     let is : (may_end (walk true S.Run 0 (words_of c.args.line.now)).slot && nat_le (length (words_of c.args.line.now)) (walk true S.Run 0 (words_of c.args.line.now)).place) ≡ true = search rules in
     on_ok c.append_note.result
-    (λ note. subst (λ t. Shows (if t then Broken (R.Moves T.Move) ∷ [] else stop_note c.args.opened line stop) before after) (sym is) (shows_one (Broken (R.Moves T.Move)) before after note))
+    (λ note. subst (λ t. Tells (if t then [] ∷ [] else stop_note c.args.opened line stop) before after) (sym is) (tells_one [] before after note))
     c.append_note.ensures

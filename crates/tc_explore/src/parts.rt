@@ -1,0 +1,34 @@
+//! The parts of a line, one after another.
+ghost use Rattle.std.specs.Prelude.{◌≡◌, ◌++◌, [], ◌∷◌, OnOk, flat_map};
+ghost use Rattle.std.specs.Fmt.{decimal};
+ghost use Rattle.tc_text.specs.Said.{word_of};
+
+use tc_text::Part;
+use tc_verdict::NoMemory;
+
+/// Appends prose.
+#[tactic(auto, using(tc_text::proofs::Lemmas::Saying::words_push))]
+pub(crate) fn push_text<'a>(parts: &mut Vec<Part<'a>>, text: &'a [u8]) -> Result<(), NoMemory>
+    ensures { OnOk result (flat_map word_of parts.new.items ≡ flat_map word_of parts.old.items) }
+{
+    parts.push(Part::Text(text))?;
+    Ok(())
+}
+
+/// Appends a number.
+#[tactic(auto, using(tc_text::proofs::Lemmas::Saying::words_push))]
+pub(crate) fn push_number(parts: &mut Vec<Part>, number: u64) -> Result<(), NoMemory>
+    ensures { OnOk result (flat_map word_of parts.new.items ≡ flat_map word_of parts.old.items ++ decimal number ∷ []) }
+{
+    parts.push(Part::Number(number))?;
+    Ok(())
+}
+
+/// Appends a word.
+#[tactic(auto, using(tc_text::proofs::Lemmas::Saying::words_push))]
+pub(crate) fn push_word<'a>(parts: &mut Vec<Part<'a>>, word: &'a [u8]) -> Result<(), NoMemory>
+    ensures { OnOk result (flat_map word_of parts.new.items ≡ flat_map word_of parts.old.items ++ word.now ∷ []) }
+{
+    parts.push(Part::Word(word))?;
+    Ok(())
+}

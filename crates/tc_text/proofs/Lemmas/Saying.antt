@@ -1,0 +1,134 @@
+-- Lines that are said, one after another, and what the parts of a line hold.
+use Rattle.std.proofs.Common.{ℕ, ◌≡◌, ◌∙◌, Bool, true, false, if◌then◌else◌, List, [], ◌∷◌, ◌++◌, map, Result, Ok, Err, OnOk, refl, sym, ap, subst, append_assoc}
+use Rattle.std.specs.List.{flat_map}
+use Rattle.std.specs.Fmt.{decimal}
+use Rattle.std.proofs.lemmas.List.{append-nil, flat_map_more}
+use Rattle.tc_text.specs.declared.said.Part.{Part}
+use Rattle.tc_text.specs.declared.said.Part.TheVariants as P
+use Rattle.tc_text.specs.Inside.{part_text, prose_text}
+use Rattle.tc_text.specs.Said.{Holds, Line, Tells, TellsLine, ends_word, printable, word_of}
+
+-- ---- what the parts of a line hold
+
+ends_both : (a b : List ℕ) → ends_word a ≡ true → ends_word b ≡ true → ends_word (a ++ b) ≡ true
+ends_both [] b h k = k
+ends_both (x ∷ a) b h k = h
+
+-- after something
+holds_behind : (words : Line) (front text : List ℕ) → Holds words text → Holds words (front ++ text)
+holds_behind [] front text h = tt
+holds_behind (w ∷ ws) front text h =
+    (front ++ h.0, h.1, ap (λ l. front ++ l) h.2 ∙ sym (append_assoc front h.0 (32 ∷ (w ++ h.1))), h.3, h.4)
+
+-- one text after another
+holds_both : (words others : Line) (text more : List ℕ) → Holds words text → Holds others more → ends_word more ≡ true →
+    Holds (words ++ others) (text ++ more)
+holds_both [] others text more h k ends = holds_behind others text more k
+holds_both (w ∷ ws) others text more h k ends = (
+  h.0,
+  h.1 ++ more,
+  ap (λ l. l ++ more) h.2 ∙ (append_assoc h.0 (32 ∷ (w ++ h.1)) more ∙ ap (λ l. h.0 ++ (32 ∷ l)) (append_assoc w h.1 more)),
+  ends_both h.1 more h.3 ends,
+  holds_both ws others h.1 more h.4 k ends,
+)
+
+-- prose ends a word
+prose_ends : (t : List ℕ) → ends_word (prose_text t) ≡ true
+prose_ends t = by_test (ends_word t) refl
+  where
+    by_test : (b : Bool) → ends_word t ≡ b → ends_word (if b then t else 32 ∷ t) ≡ true
+    by_test true e = e
+    by_test false e = refl
+
+part_ends : (p : Part) → ends_word (part_text p) ≡ true
+part_ends (P.Text t) = prose_ends t.now
+part_ends (P.Number n) = refl
+part_ends (P.Word w) = refl
+
+part_holds : (p : Part) → Holds (word_of p) (part_text p)
+part_holds (P.Text t) = tt
+part_holds (P.Number n) = ([], [], ap (λ l. 32 ∷ l) (sym (append-nil (decimal n))), refl, tt)
+part_holds (P.Word w) = ([], [], ap (λ l. 32 ∷ l) (sym (append-nil w.now)), refl, tt)
+
+parts_end : (ps : List Part) → ends_word (flat_map part_text ps) ≡ true
+parts_end [] = refl
+parts_end (p ∷ ps) = ends_both (part_text p) (flat_map part_text ps) (part_ends p) (parts_end ps)
+
+parts_hold : (ps : List Part) → Holds (flat_map word_of ps) (flat_map part_text ps)
+parts_hold [] = tt
+parts_hold (p ∷ ps) =
+    holds_both (word_of p) (flat_map word_of ps) (part_text p) (flat_map part_text ps) (part_holds p) (parts_hold ps) (parts_end ps)
+
+-- a line of these parts
+pub parts_said : (ps : List Part) (text shown before after : List ℕ) → text ≡ flat_map part_text ps → shown ≡ map printable text →
+    after ≡ before ++ (32 ∷ (shown ++ 10 ∷ [])) → TellsLine (flat_map word_of ps) before after
+unfolding TellsLine
+parts_said ps text shown before after is mapped made =
+    (text, made ∙ ap (λ l. before ++ (32 ∷ (l ++ 10 ∷ []))) mapped, subst (λ t. Holds (flat_map word_of ps) t) (sym is) (parts_hold ps))
+
+-- what follows where a call has not failed
+pub on_ok : {A E P Q : Type 0} (r : Result A E) → (P → Q) → OnOk r P → OnOk r Q
+on_ok (Ok v) so is = so is
+on_ok (Err e) so is = tt
+
+-- ---- lines, one after another
+
+-- nothing
+pub tells_none : (a : List ℕ) → Tells [] a a
+unfolding Tells
+tells_none a = refl
+
+-- one line
+pub tells_one : (words : Line) (a b : List ℕ) → TellsLine words a b → Tells (words ∷ []) a b
+unfolding Tells
+tells_one words a b h = (b, h, refl)
+
+-- some, and others after them
+pub tells_then : (xs ys : List Line) (a b c : List ℕ) → Tells xs a b → Tells ys b c → Tells (xs ++ ys) a c
+unfolding Tells
+tells_then [] ys a b c h k = subst (λ x. Tells ys x c) h k
+tells_then (x ∷ xs) ys a b c h k = (h.0, h.1, tells_then xs ys h.0 b c h.2 k)
+
+-- a line, and others after it
+pub tells_line : (words : Line) (ys : List Line) (a b c : List ℕ) → TellsLine words a b → Tells ys b c → Tells (words ∷ ys) a c
+unfolding Tells
+tells_line words ys a b c h k = (b, h, k)
+
+pub ruleset tell_rules = (tells_none, tells_one, tells_then, tells_line)
+
+-- ---- after something
+
+line_behind : (words : Line) (front a b : List ℕ) → TellsLine words a b → TellsLine words (front ++ a) (front ++ b)
+unfolding TellsLine
+line_behind words front a b h = (h.0, ap (λ l. front ++ l) h.1 ∙ sym (append_assoc front a (32 ∷ (map printable h.0 ++ 10 ∷ []))), h.2)
+
+tells_behind : (lines : List Line) (front a b : List ℕ) → Tells lines a b → Tells lines (front ++ a) (front ++ b)
+unfolding Tells
+tells_behind [] front a b h = ap (λ l. front ++ l) h
+tells_behind (words ∷ lines) front a b h = (front ++ h.0, line_behind words front a h.0 h.1, tells_behind lines front h.0 b h.2)
+
+-- what is said, after something
+pub tells_after : (lines : List Line) (front b c : List ℕ) → Tells lines [] b → c ≡ front ++ b → Tells lines front c
+tells_after lines front b c h is =
+    subst (λ l. Tells lines l c) (append-nil front) (subst (λ l. Tells lines (front ++ []) l) (sym is) (tells_behind lines front [] b h))
+
+-- ---- something can be said
+
+-- a text that holds words
+holding : (words : Line) → (text : List ℕ) × (ends_word text ≡ true) × Holds words text
+holding [] = ([], refl, tt)
+holding (w ∷ ws) = let rest = holding ws in (32 ∷ (w ++ rest.0), refl, ([], rest.0, refl, rest.1, rest.2))
+
+pub tells_some : (lines : List Line) (a : List ℕ) → (b : List ℕ) × Tells lines a b
+unfolding Tells TellsLine
+tells_some [] a = (a, refl)
+tells_some (words ∷ lines) a =
+    let text = holding words in
+    let middle = a ++ (32 ∷ (map printable text.0 ++ 10 ∷ [])) in
+    let rest = tells_some lines middle in
+    (rest.0, (middle, (text.0, refl, text.2), rest.1))
+
+-- ---- a part more
+
+pub words_push : (ps : List Part) (p : Part) → flat_map word_of (ps ++ p ∷ []) ≡ flat_map word_of ps ++ word_of p
+words_push ps p = sym (flat_map_more word_of [] ps p)

@@ -1,0 +1,42 @@
+-- Lines for a reader next to an answer, by what matters of each: its numbers and its names. No clause spells the prose
+-- around them.
+use Rattle.std.specs.Prelude.{ℕ, ◌≡◌, not, Bool, true, if◌then◌else◌, List, [], ◌∷◌, ◌++◌, map}
+use Rattle.std.specs.Fmt.{decimal}
+use Rattle.tc_entry.specs.Name.{is_name_byte}
+use Rattle.tc_text.specs.Shown.{is_plain}
+use Rattle.tc_text.specs.declared.said.Part.{Part}
+use Rattle.tc_text.specs.declared.said.Part.TheVariants as P
+
+-- what a line holds: its words
+abbrev pub Line : Type 0
+Line = List (List ℕ)
+
+-- a word ends before this text: no letter, digit or `_` comes first
+abbrev pub ends_word : List ℕ → Bool
+ends_word [] = true
+ends_word (b ∷ bs) = not (is_name_byte b)
+
+-- the text has these words in this order, each after a space
+abbrev pub Holds : Line → List ℕ → Type 0
+Holds [] text = Unit {0}
+Holds (word ∷ words) text =
+    (front : List ℕ) × (rest : List ℕ) × (text ≡ front ++ (32 ∷ (word ++ rest))) × (ends_word rest ≡ true) × Holds words rest
+
+-- the byte, or a question mark for one that is not printable
+abbrev pub printable : ℕ → ℕ
+printable b = if is_plain b then b else 63
+
+-- one line is appended, which begins with a space and holds these words
+unfoldable pub TellsLine : Line → List ℕ → List ℕ → Type 0
+TellsLine words before after = (text : List ℕ) × (after ≡ before ++ (32 ∷ (map printable text ++ 10 ∷ []))) × Holds words text
+
+-- a line is appended for each of these, in their order
+unfoldable pub Tells : List Line → List ℕ → List ℕ → Type 0
+Tells [] before after = after ≡ before
+Tells (line ∷ lines) before after = (middle : List ℕ) × TellsLine line before middle × Tells lines middle after
+
+-- what a part of a line holds
+abbrev pub word_of : Part → Line
+word_of (P.Text t) = []
+word_of (P.Number n) = decimal n ∷ []
+word_of (P.Word w) = w.now ∷ []
