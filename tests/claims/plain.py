@@ -14,8 +14,8 @@ MOST_WORDS_OF_A_SENTENCE, MOST_WORDS_OF_A_CELL = 35, 40
 # Of a document; the history of changes is held only to the words. A list of files has its own marks.
 MOST_SENTENCES_OF_A_PARAGRAPH, MOST_MARKS_OF_A_SENTENCE = 6, 1
 FEWEST_COMMENTS = 5000
-# The sources that are being rewritten, and are read for this when they are done.
-UNHELD = ("crates/refused_memory/", "crates/tc_serve/")
+# The sources that are being rewritten, and are held to this when they are done.
+UNHELD = ("crates/tc_serve/",)
 # What a comment may name that no source defines: what the language and clap have, and a byte.
 KNOWN = ("Drop", "_", "DisplayHelp", "DisplayVersion")
 # Each idiom, and what is written instead. What is in backquotes is a name, and none of these.
