@@ -19,15 +19,15 @@ HEADER = text("testcase,components,none,pass,inconc,fail,error,verdict")
 RECORD = text("a,1,0,1,0,0,0,pass")
 HISTORY = text("history 2 a 1;0 setverdict pass -> ok;0 finish -> ok;end pass;history 2 b 1;0 finish -> ok;end none")
 
-COUNTS = b'tests="2" failures="0" errors="0" skipped="1"'
-HEAD = (b'<?xml version="1.0" encoding="UTF-8"?>\n<testsuites COUNTS>\n<testsuite name="ttrun" COUNTS>\n'
+COUNTS = b'tests="2" failures="0" errors="0"'
+HEAD = (b'<?xml version="1.0" encoding="UTF-8"?>\n<testsuites COUNTS>\n<testsuite name="ttrun" COUNTS skipped="SKIPPED">\n'
         b'<properties>\n<property name="version" value="1"/>\n</properties>\n')
 OF_A = b'<testcase name="a" classname="ttrun">\n<system-out>\nlocal 0 pass\n</system-out>\n</testcase>\n'
 OF_B = b'<testcase name="b" classname="ttrun">\n<skipped/>\n<system-out>\nlocal 0 none\n</system-out>\n</testcase>\n'
 NOT_B = OF_B.replace(b"<skipped/>", b'<error type="aborted" message="no memory"/>').replace(b"local 0 none\n", b"")
 TAIL = b"</testsuite>\n</testsuites>\n"
-JUNIT = HEAD.replace(b"COUNTS", COUNTS) + OF_A + OF_B + TAIL
-ABORTED_JUNIT = HEAD.replace(b"COUNTS", b'tests="2" failures="0" errors="1" skipped="0"') + OF_A + NOT_B + TAIL
+JUNIT = HEAD.replace(b"COUNTS", COUNTS).replace(b"SKIPPED", b"1") + OF_A + OF_B + TAIL
+ABORTED_JUNIT = HEAD.replace(b"COUNTS", b'tests="2" failures="0" errors="1"').replace(b"SKIPPED", b"0") + OF_A + NOT_B + TAIL
 
 PLAIN = Task("two", ("run",), SCRIPT)
 LIVE = Task("two", ("run", "--live"), SCRIPT)

@@ -94,8 +94,9 @@ def aborted_suite(ample: bytes, pieces: List[bytes], name: str, why: str) -> byt
                "<system-out>\n</system-out>\n</testcase>\n").encode()
     elements = [*pieces, refused]
     failures, errors, skipped = (sum(it.count(kind) for it in elements) for kind in (b"\n<failure ", b"\n<error ", b"\n<skipped/>"))
-    counts = f'tests="{len(elements)}" failures="{failures}" errors="{errors}" skipped="{skipped}"'
-    head = re.sub(rb'tests="\d+" failures="\d+" errors="\d+" skipped="\d+"', counts.encode(), ample[: ample.index(b"<testcase ")])
+    counts = f'tests="{len(elements)}" failures="{failures}" errors="{errors}"'
+    head = re.sub(rb'tests="\d+" failures="\d+" errors="\d+"', counts.encode(), ample[: ample.index(b"<testcase ")])
+    head = re.sub(rb'skipped="\d+"', f'skipped="{skipped}"'.encode(), head)
     return head + b"".join(elements) + SUITE_END.encode()
 
 

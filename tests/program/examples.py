@@ -27,7 +27,7 @@ def bytes_of(name: str) -> bytes:
 
 def status_in(form: str, output: bytes) -> int:
     """The status that belongs to a report, a table or histories, by the verdicts that are there."""
-    patterns = {"report": rb"^verdict (\w+)$", "csv": rb",(\w+)$", "history": rb"^end (\w+)$", "junit": rb'message="verdict (\w+)"'}
+    patterns = {"report": rb"^verdict (\w+)$", "csv": rb",(\w+)$", "history": rb"^end (\w+)$", "junit": rb'type="(\w+)"'}
     verdicts = [it.decode() for it in re.findall(patterns[form], output, re.M) if it != b"verdict"]
     return max((status_of(it) for it in verdicts), default=0)
 

@@ -23,7 +23,7 @@ FLOORS: Dict[str, int] = {"none": 100, "pass": 20, "inconc": 20, "fail": 20, "er
 
 # A schema of our own: each element with its attributes, and the elements that may be in it, by their order.
 SCHEMA: Dict[str, Tuple[Tuple[str, ...], str]] = {
-    "testsuites": (("tests", "failures", "errors", "skipped"), "testsuite"),
+    "testsuites": (("tests", "failures", "errors"), "testsuite"),
     "testsuite": (("name", "tests", "failures", "errors", "skipped"), "properties( testcase)*"),
     "properties": ((), "property"),
     "property": (("name", "value"), ""),
@@ -33,26 +33,53 @@ SCHEMA: Dict[str, Tuple[Tuple[str, ...], str]] = {
     "skipped": ((), ""),
     "system-out": ((), ""),
 }
-# The element for each end of a test case but pass: its name, its type and its message.
-ELEMENTS: Dict[str, Tuple[str, Optional[str], Optional[str]]] = {
-    "none": ("skipped", None, None),
-    "inconc": ("failure", "inconc", "verdict inconc"),
-    "fail": ("failure", "fail", "verdict fail"),
-    "error": ("error", "error", "verdict error"),
-    "unfinished": ("error", "unfinished", "the test case is not over"),
+# The element for each end of a test case but pass: its name and its type.
+ELEMENTS: Dict[str, Tuple[str, str]] = {
+    "none": ("skipped", ""),
+    "inconc": ("failure", "inconc"),
+    "fail": ("failure", "fail"),
+    "error": ("error", "error"),
+    "unfinished": ("error", "unfinished"),
 }
+# The elements that have a text.
+WITH_TEXT = ("failure", "error", "system-out")
+# How many verdicts of random histories are decided by a setting and by an error, at least.
+DECIDED_FLOORS: Dict[str, int] = {": setverdict ": 100, "-> error ": 100}
+
+
+def line_of(entry: Entry) -> str:
+    """A call and its reply; a Wake is shown as the Wait."""
+    text = entry.op.text()
+    return f"{'wait' + text[4:] if entry.op.verb == 'wake' else text} -> {entry.reply}"
+
+
+def who_decided(table: Table, block: Block, at: int) -> str:
+    """The run, the component and the call of the entry at this place."""
+    entry = block.entries[at]
+    on = table.component_of_run[entry.caller]
+    made = [it.op.name for it in block.entries if it.op.verb == "create" and it.reply == f"made {on}"]
+    return f"run {entry.caller} on component {on}{''.join(f' {it}' for it in made if it)}: {line_of(entry)}"
 
 
 class Told:
-    """What a form says about a block: its name, the local verdicts, and how it ended."""
+    """What a form prints of a block: its name, the local verdicts, how it ended, and what decided a verdict worse than pass."""
 
     def __init__(self, block: Block) -> None:
         table = Table(block.behaviours)
+        verdicts: List[str] = []
         for entry in block.entries:
             table.play(entry.caller, entry.op)
+            verdicts.append(table.overall())
         self.name = block.name
         self.locals = [it.verdict for it in table.components]
         self.end = "unfinished" if table.components[0].phase == "running" else table.overall()
+        self.message = "the test case is not over" if self.end == "unfinished" else ""
+        self.lines: List[str] = []
+        if self.end in VERDICTS[2:]:
+            at = verdicts.index(self.end)
+            self.message = who_decided(table, block, at)
+            of_run = [it for it in block.entries if it.caller == block.entries[at].caller]
+            self.lines = [f"  {line_of(it)}" for it in of_run if it.reply != "parked"]
 
 
 def blocks_of(text: bytes) -> List[Told]:
@@ -78,15 +105,17 @@ def csv_of(told: List[Told]) -> bytes:
 def junit_of(told: List[Told], version: str) -> bytes:
     """The JUnit report, byte by byte."""
     kinds = [ELEMENTS.get(it.end, ("",))[0] for it in told]
-    counts = "".join(f' {name}="{count}"' for name, count in (
-        ("tests", len(told)), ("failures", kinds.count("failure")), ("errors", kinds.count("error")), ("skipped", kinds.count("skipped"))))
-    lines = ['<?xml version="1.0" encoding="UTF-8"?>', f"<testsuites{counts}>", f'<testsuite name="ttrun"{counts}>',
+    counts = f' tests="{len(told)}" failures="{kinds.count("failure")}" errors="{kinds.count("error")}"'
+    skipped = f' skipped="{kinds.count("skipped")}"'
+    lines = ['<?xml version="1.0" encoding="UTF-8"?>', f"<testsuites{counts}>", f'<testsuite name="ttrun"{counts}{skipped}>',
              "<properties>", f'<property name="version" value="{version}"/>', "</properties>"]
     for it in told:
         lines.append(f'<testcase name="{it.name}" classname="ttrun">')
-        element, kind, message = ELEMENTS.get(it.end, ("", None, None))
-        if kind:
-            lines.append(f'<{element} type="{kind}" message="{message}"/>')
+        element, kind = ELEMENTS.get(it.end, ("", ""))
+        if kind == "unfinished":
+            lines.append(f'<{element} type="{kind}" message="{it.message}"/>')
+        elif kind:
+            lines += [f'<{element} type="{kind}" message="{it.message}">', it.message, *it.lines, f"</{element}>"]
         elif element:
             lines.append(f"<{element}/>")
         lines += ["<system-out>", *(f"local {at} {v}" for at, v in enumerate(it.locals)), "</system-out>", "</testcase>"]
@@ -103,7 +132,7 @@ def faults_of_element(element: ElementTree.Element) -> Iterator[str]:
         yield f"{element.tag} has the attributes {list(element.attrib)}"
     if not re.fullmatch(inside, " ".join(it.tag for it in element)):
         yield f"{element.tag} has {[it.tag for it in element]}"
-    if element.tag != "system-out" and (element.text or "").strip():
+    if element.tag not in WITH_TEXT and (element.text or "").strip():
         yield f"{element.tag} has the text {element.text!r}"
     for it in element:
         yield from faults_of_element(it)
@@ -124,7 +153,7 @@ def faults_of_junit(text: bytes) -> List[str]:
     faults = list(faults_of_element(root)) + ([] if root.tag == "testsuites" else [f"the root is {root.tag}"])
     for suite in root.findall("testsuite"):
         faults += faults_of_counts(suite)
-        faults += [f"the suites' {it} differs" for it in ("tests", "failures", "errors", "skipped") if suite.get(it) != root.get(it)]
+        faults += [f"the suites' {it} differs" for it in ("tests", "failures", "errors") if suite.get(it) != root.get(it)]
     return faults
 
 
@@ -276,6 +305,8 @@ def judgements(seed: int) -> List[Judgement]:
         met["two components"] = sum("-> made 1" in text for text, _ in blocks)
         faults = [f"{name}: {met[name]} are fewer than {floor}" for name, floor in FLOORS.items() if met[name] < floor]
         text = "".join(it for it, _ in blocks).encode()
+        messages = "\n".join(it.message for it in blocks_of(text))
+        faults += [f"{word!r}: {messages.count(word)} are fewer than {floor}" for word, floor in DECIDED_FLOORS.items() if messages.count(word) < floor]
         for form in FORMS:
             faults += faults_of_report(program, form, text)
             for one, _ in blocks[:40]:
@@ -297,6 +328,12 @@ DRAWN = {
         "0 kill all -> ok;0 wait killed all -> matched;0 wait done 1 -> matched;0 start 7 1 -> error no-component;end error;"
         "history 2 b 1;0 setverdict pass -> ok;0 stopcase -> ok;end error;history 2 c 2;0 create -> made 1;0 create -> made 2;"
         "0 start 1 1 -> ok;0 wait done any -> parked;1 wait killed 2 -> parked;end none"),
+    "decided_by_components": text(
+        "history 2 a 3;0 create named valve -> made 1;0 create alive named pump -> made 2;0 start 2 2 -> ok;0 start 1 1 -> ok;"
+        "2 setverdict fail -> ok;1 setverdict fail -> ok;0 finish -> ok;end fail;"
+        "history 2 b 2;0 create named valve -> made 1;0 start 1 1 -> ok;0 setverdict fail -> ok;1 stopcase -> ok;end error;"
+        "history 2 c 2;0 create -> made 1;0 start 1 1 -> ok;1 setverdict inconc -> ok;0 kill 1 -> ok;1 setverdict fail -> ended;"
+        "0 finish -> ok;end inconc;history 2 d 2;0 create named valve -> made 1;0 start 1 1 -> ok;1 alive any -> error not-main;end error"),
 }
 UNFINISHED = b"history 2 t 1\n0 create -> made 1\n0 setverdict pass -> ok\nend pass\n"
 

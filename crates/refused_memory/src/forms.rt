@@ -99,7 +99,7 @@ fn summarize_state(trial: &mut Trial, stock: &Stock) -> Option<Outcome> {
     let entries = stock.blocks.first()?.entries.as_slice();
     let (name, state) = Name::read("first").zip(replay(trial.alloc, 200, entries).ok())?;
     trial.begin("summary_of_state");
-    let answer = summary_of_state(trial.alloc, &name, &state);
+    let answer = summary_of_state(trial.alloc, &name, &state, entries);
     trial.end();
     Some(told_summary(trial, answer))
 }

@@ -18,7 +18,7 @@ d,0,0,0,0,0,0,aborted
 ";
 
 const SUITE: &str = "<?xml version=\"1.0\" encoding=\"UTF-8\"?>
-<testsuites tests=\"4\" failures=\"2\" errors=\"1\" skipped=\"0\">
+<testsuites tests=\"4\" failures=\"2\" errors=\"1\">
 <testsuite name=\"ttrun\" tests=\"4\" failures=\"2\" errors=\"1\" skipped=\"0\">
 <properties>
 <property name=\"version\" value=\"7\"/>
@@ -29,13 +29,21 @@ local 0 pass
 </system-out>
 </testcase>
 <testcase name=\"b\" classname=\"ttrun\">
-<failure type=\"fail\" message=\"verdict fail\"/>
+<failure type=\"fail\" message=\"run 0 on component 0: setverdict fail -> ok\">
+run 0 on component 0: setverdict fail -> ok
+  setverdict fail -> ok
+  finish -> ok
+</failure>
 <system-out>
 local 0 fail
 </system-out>
 </testcase>
 <testcase name=\"c\" classname=\"ttrun\">
-<failure type=\"inconc\" message=\"verdict inconc\"/>
+<failure type=\"inconc\" message=\"run 0 on component 0: setverdict inconc -> ok\">
+run 0 on component 0: setverdict inconc -> ok
+  setverdict inconc -> ok
+  finish -> ok
+</failure>
 <system-out>
 local 0 inconc
 </system-out>

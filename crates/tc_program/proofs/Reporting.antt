@@ -18,9 +18,9 @@ use Rattle.tc_report.specs.Histories.{histories_text}
 use Rattle.tc_program.specs.declared.judge.Difference.{Difference}
 use Rattle.tc_program.specs.declared.judge.Judgement.{Judgement}
 use Rattle.tc_program.specs.declared.judge.Judgement.TheVariants as J
-use Rattle.tc_program.specs.declared.judge.Playing.{Playing}
+use Rattle.tc_program.specs.declared.report.Recorded.{Recorded}
 use Rattle.tc_program.specs.Check.{IsChecked, RefusesHistory}
-use Rattle.tc_program.specs.Inside.{IsJudgement, IsPlayed, IsPlayedTo, Summarizes, WasRun, WereRun, illegal_line, judges_legal, judgement_line}
+use Rattle.tc_program.specs.Inside.{IsJudgement, IsPlayedTo, IsRecorded, Summarizes, WasRun, WereRun, illegal_line, judges_legal, judgement_line}
 use Rattle.tc_program.specs.declared.fault.RunFault.{RunFault}
 use Rattle.tc_program.specs.declared.fault.RunFault.TheVariants as F
 use Rattle.tc_command.specs.declared.task.ReportForm.{ReportForm}
@@ -38,21 +38,23 @@ right_of_legal b (J.OtherReply line given reply) legal is = absurd cc
 right_of_legal b (J.OtherVerdict line given verdict) legal is = absurd cc
 
 -- the summary of what was played is that of the block, if it is right
-summary_of_right : (b : Block) (p : Playing) (s : Summary) → IsPlayed b.first_line (header_of b) b.entries p → IsRight b
-    → ((past : List Entry) → StandsFor p.state past → s ≡ summary_of p.header.name past) → s ≡ block_summary b
-summary_of_right b p s played right says = go p.difference played.1
+summary_of_right : (b : Block) (r : Recorded) (s : Summary) → IsRecorded b.first_line (header_of b) b.entries r → IsRight b
+    → (StandsFor r.playing.state (reverse r.entries.items) → s ≡ summary_of r.playing.header.name r.entries.items) → s ≡ block_summary b
+summary_of_right b r s played right says = go r.playing.difference played.0.1
   where
-    go : (d : Option Difference) → IsPlayedTo b.behaviours b.first_line b.entries p.state d → s ≡ block_summary b
-    go None is = says (reverse b.entries) is.1 ∙ ap (λ h. summary_of h.name (reverse b.entries)) played.0
+    go : (d : Option Difference) → IsPlayedTo b.behaviours b.first_line b.entries r.playing.state d → s ≡ block_summary b
+    go None is =
+        let stands : StandsFor r.playing.state (reverse r.entries.items) = subst (λ l. StandsFor r.playing.state (reverse l)) (sym played.1) is.1 in
+        says stands ∙ (ap (summary_of r.playing.header.name) played.1 ∙ ap (λ h. summary_of h.name b.entries) played.0.0)
     go (Some d) is = absurd (no_difference b.behaviours b.entries is.at d.reply right.0 is.differs)
 
 -- one more block that is legal
-pub legal_more : (blocks : List Block) (b : Block) (p : Playing) (j : Judgement) (s : Summary) (ss ss' : List Summary)
-    → Summarizes blocks ss None → IsPlayed b.first_line (header_of b) b.entries p → IsJudgement b j → judges_legal j ≡ true
-    → ((past : List Entry) → StandsFor p.state past → s ≡ summary_of p.header.name past) → ss' ≡ ss ++ s ∷ []
+pub legal_more : (blocks : List Block) (b : Block) (r : Recorded) (j : Judgement) (s : Summary) (ss ss' : List Summary)
+    → Summarizes blocks ss None → IsRecorded b.first_line (header_of b) b.entries r → IsJudgement b j → judges_legal j ≡ true
+    → (StandsFor r.playing.state (reverse r.entries.items) → s ≡ summary_of r.playing.header.name r.entries.items) → ss' ≡ ss ++ s ∷ []
     → Summarizes (blocks ++ b ∷ []) ss' None
-legal_more blocks b p j s ss ss' before played is legal says added =
-    let same = summary_of_right b p s played (right_of_legal b j legal is) says in (
+legal_more blocks b r j s ss ss' before played is legal says added =
+    let same = summary_of_right b r s played (right_of_legal b j legal is) says in (
       (before.0.0 ++ judgement_line j, printed_more blocks b j before.0.0 (before.0.0 ++ judgement_line j) true legal before.0.1 is refl),
       added ∙ (ap (λ l. l ++ s ∷ []) before.1 ∙ (ap (λ x. map block_summary blocks ++ x ∷ []) same ∙ sym (map-append block_summary blocks (b ∷ [])))),
     )
@@ -72,12 +74,12 @@ illegal_more blocks b j ss ss' so is illegal = record {
 }
 
 -- if no block is illegal so far
-pub legal_next : (o : Option Judgement) (blocks : List Block) (b : Block) (p : Playing) (j : Judgement) (s : Summary) (ss ss' : List Summary)
-    → is_some o ≡ false → Summarizes blocks ss o → IsPlayed b.first_line (header_of b) b.entries p → IsJudgement b j → judges_legal j ≡ true
-    → ((past : List Entry) → StandsFor p.state past → s ≡ summary_of p.header.name past) → ss' ≡ ss ++ s ∷ []
+pub legal_next : (o : Option Judgement) (blocks : List Block) (b : Block) (r : Recorded) (j : Judgement) (s : Summary) (ss ss' : List Summary)
+    → is_some o ≡ false → Summarizes blocks ss o → IsRecorded b.first_line (header_of b) b.entries r → IsJudgement b j → judges_legal j ≡ true
+    → (StandsFor r.playing.state (reverse r.entries.items) → s ≡ summary_of r.playing.header.name r.entries.items) → ss' ≡ ss ++ s ∷ []
     → Summarizes (blocks ++ b ∷ []) ss' o
-legal_next None blocks b p j s ss ss' none before played is legal says added = legal_more blocks b p j s ss ss' before played is legal says added
-legal_next (Some k) blocks b p j s ss ss' none before played is legal says added = absurd cc
+legal_next None blocks b r j s ss ss' none before played is legal says added = legal_more blocks b r j s ss ss' before played is legal says added
+legal_next (Some k) blocks b r j s ss ss' none before played is legal says added = absurd cc
 
 pub illegal_next : (o : Option Judgement) (blocks : List Block) (b : Block) (j : Judgement) (ss ss' : List Summary)
     → is_some o ≡ false → Summarizes blocks ss o → IsJudgement b j → judges_legal j ≡ false → Summarizes (blocks ++ b ∷ []) ss' (Some j)

@@ -44,6 +44,7 @@ use Rattle.tc_program.specs.declared.fault.RunFault.TheVariants as F
 use Rattle.tc_program.specs.declared.judge.Difference.{Difference}
 use Rattle.tc_program.specs.declared.judge.Judgement.{Judgement}
 use Rattle.tc_program.specs.declared.judge.Playing.{Playing}
+use Rattle.tc_program.specs.declared.report.Recorded.{Recorded}
 use Rattle.tc_program.specs.declared.outcome.Outcome.{Outcome}
 use Rattle.tc_program.specs.declared.replay.Replaying.{Replaying}
 use Rattle.tc_program.specs.Check.{Checks, legal_line, other_line}
@@ -178,6 +179,10 @@ IsPlayedTo n first_line entries k (Some d) = IsOtherReply n first_line entries d
 -- these entries of a history, which are below its first line, are played
 abbrev pub IsPlayed : ℕ → Header → List Entry → Playing → Type 0
 IsPlayed first_line h entries p = (p.header ≡ h) × IsPlayedTo h.behaviours first_line entries p.state p.difference
+
+-- the same, and the entries are kept
+abbrev pub IsRecorded : ℕ → Header → List Entry → Recorded → Type 0
+IsRecorded first_line h entries r = IsPlayed first_line h entries r.playing × (r.entries.items ≡ entries)
 
 -- the entry in this line was played after those of a history, if it is the next
 abbrev pub PlaysNext : ℕ → Entry → Playing → Playing → Type 0

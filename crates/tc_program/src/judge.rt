@@ -1,7 +1,6 @@
 //! What the table says of a history.
-ghost use Rattle.std.specs.Prelude.{◌≡◌, ◌<◌, [], ℕ, List, IfOk, OnOk};
+ghost use Rattle.std.specs.Prelude.{◌≡◌, ◌<◌, [], ℕ, IfOk, OnOk, reverse};
 ghost use Rattle.tc_history.specs.Text.{IsHeader};
-ghost use Rattle.tc_entry.specs.declared.entry.Entry.{Entry as AnyEntry};
 ghost use Rattle.tc_table.specs.Standing.{StandsFor};
 ghost use Rattle.tc_report.specs.Summary.{summary_of};
 ghost use Rattle.tc_program.specs.Inside.{IsPlayed, JudgesPlayed, PlaysNext, judges_legal};
@@ -91,11 +90,11 @@ impl Playing {
         Ok(())
     }
 
-    /// What the forms say of the history, if each of its replies was the table's.
-    pub(crate) fn summary(&self, alloc: Global) -> Result<Summary, NoMemory>
-        ensures { (past : List AnyEntry) → StandsFor self.now.state past → IfOk result (λ s. s ≡ summary_of self.now.header.name past) }
+    /// What the forms say of the history with these entries, if each of its replies was the table's.
+    pub(crate) fn summary(&self, alloc: Global, entries: &[Entry]) -> Result<Summary, NoMemory>
+        ensures { StandsFor self.now.state (reverse entries.now) → IfOk result (λ s. s ≡ summary_of self.now.header.name entries.now) }
     {
-        summary_of_state(alloc, &self.header.name, &self.state)
+        summary_of_state(alloc, &self.header.name, &self.state, entries)
     }
 
     /// What the table says of the history whose first and last lines have these numbers, and which gives this verdict.

@@ -3,7 +3,7 @@ ghost use Rattle.std.specs.Prelude.{◌≡◌, List, IfOk, IfErr, OnOk};
 ghost use Rattle.tc_history.specs.Text.{AreHistories, IsMadeOf};
 ghost use Rattle.tc_history.specs.declared.read.Block.{Block as AnyBlock};
 ghost use Rattle.tc_program.specs.Check.{RefusesHistory};
-ghost use Rattle.tc_program.specs.Inside.{IsPlayed, Summarizes, illegal_line};
+ghost use Rattle.tc_program.specs.Inside.{IsRecorded, Summarizes, illegal_line};
 ghost use Rattle.tc_program.specs.Report.{IsReported, form_of};
 
 use crate::check_lines::append_judgement;
@@ -20,6 +20,13 @@ use tc_report::{Summary, csv_report, junit_report, worst_status};
 use tc_table::{Entry, NoMemory, Verdict};
 use tc_text::append_text;
 
+/// A history that is played as it is read, with its entries.
+#[derive(Drop)]
+pub(crate) struct Recorded {
+    playing: Playing,
+    entries: Vec<Entry>,
+}
+
 /// The test cases of histories, and the judgement of the first history that is not legal, if there is one.
 #[derive(Drop)]
 pub(crate) struct Reporting {
@@ -29,9 +36,9 @@ pub(crate) struct Reporting {
 }
 
 impl TakesHistories for Reporting {
-    type Begun = Playing;
+    type Begun = Recorded;
 
-    ghost opens = { IsPlayed };
+    ghost opens = { IsRecorded };
 
     ghost stands = { λ blocks r. Summarizes blocks r.summaries.items r.illegal };
 
@@ -43,17 +50,22 @@ impl TakesHistories for Reporting {
         }
     }
 
-    fn start(alloc: Global, header: Header) -> Result<Playing, NoMemory> {
-        Playing::new(alloc, header)
+    fn start(alloc: Global, header: Header) -> Result<Recorded, NoMemory> {
+        Ok(Recorded {
+            playing: Playing::new(alloc, header)?,
+            entries: Vec::new(alloc),
+        })
     }
 
-    fn take(begun: &mut Playing, line: usize, entry: Entry) -> Result<(), NoMemory> {
-        begun.play(line, &entry)
+    fn take(begun: &mut Recorded, line: usize, entry: Entry) -> Result<(), NoMemory> {
+        begun.playing.play(line, &entry)?;
+        begun.entries.push(entry)?;
+        Ok(())
     }
 
     fn close(
         &mut self,
-        begun: Playing,
+        begun: Recorded,
         first_line: usize,
         line: usize,
         verdict: Verdict,
@@ -61,8 +73,9 @@ impl TakesHistories for Reporting {
         if self.illegal.is_some() {
             return Ok(());
         }
-        let summary = begun.summary(self.alloc)?;
-        let judgement = begun.judge(first_line, line, verdict);
+        let Recorded { playing, entries } = begun;
+        let summary = playing.summary(self.alloc, entries.as_slice())?;
+        let judgement = playing.judge(first_line, line, verdict);
         if is_legal(&judgement) {
             self.summaries.push(summary)?;
         } else {

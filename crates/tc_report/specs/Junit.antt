@@ -1,15 +1,20 @@
 -- The JUnit report: XML, as servers of continuous integration read it. No text in it needs an escape: names have only
 -- letters, digits and `_`.
-use Rattle.std.specs.Prelude.{ℕ, ◌==◌, List, [], ◌++◌, length, filter, codes}
+use Rattle.std.specs.Prelude.{ℕ, ◌==◌, Bool, Option, List, [], ◌++◌, length, filter, codes}
 use Rattle.std.specs.List.{flat_map}
+use Rattle.std.specs.Option.{option_map_or}
 use Rattle.std.specs.Fmt.{decimal}
 use Rattle.tc_case.specs.Refusals.{refusal_text}
 use Rattle.tc_verdict.specs.declared.verdict.Verdict.{Verdict}
 use Rattle.tc_verdict.specs.declared.verdict.Verdict.TheVariants as V
-use Rattle.tc_verdict.specs.Verdict.{level_of}
+use Rattle.tc_verdict.specs.Verdict.{level_of, name_of}
+use Rattle.tc_entry.specs.declared.comp.Comp.{Comp}
+use Rattle.tc_entry.specs.declared.entry.Entry.{Entry}
+use Rattle.tc_text.specs.Spelling.{op_text, reply_text}
+use Rattle.tc_report.specs.declared.cause.Cause.{Cause}
 use Rattle.tc_report.specs.declared.results.CaseEnd.{CaseEnd}
 use Rattle.tc_report.specs.declared.results.CaseEnd.TheVariants as C
-use Rattle.tc_report.specs.Report.{local_lines}
+use Rattle.tc_report.specs.Report.{local_lines, shown_entry, shown_op}
 use Rattle.tc_report.specs.declared.summary.Summary.{Summary}
 use Rattle.tc_report.specs.Status.{counted_as, verdict_status}
 
@@ -17,9 +22,13 @@ use Rattle.tc_report.specs.Status.{counted_as, verdict_status}
 abbrev pub with_status : ℕ → List Summary → ℕ
 with_status status ss = length (filter (λ s. verdict_status (counted_as s.ending) == status) ss)
 
+-- a test case with this end is skipped
+unfoldable pub is_skipped : CaseEnd → Bool
+is_skipped ending = level_of (counted_as ending) == level_of V.None
+
 -- how many of them are skipped: no verdict was set
 abbrev pub skipped : List Summary → ℕ
-skipped ss = length (filter (λ s. level_of (counted_as s.ending) == level_of V.None) ss)
+skipped ss = length (filter (λ s. is_skipped s.ending) ss)
 
 -- an attribute that is a number
 unfoldable pub number_text : List ℕ → ℕ → List ℕ
@@ -29,26 +38,52 @@ number_text name n = name ++ (decimal n ++ codes "\"")
 unfoldable pub counts_text : List Summary → List ℕ
 counts_text ss =
     number_text (codes " tests=\"") (length ss) ++ (number_text (codes " failures=\"") (with_status 1 ss) ++
-    (number_text (codes " errors=\"") (with_status 2 ss) ++ number_text (codes " skipped=\"") (skipped ss)))
+    number_text (codes " errors=\"") (with_status 2 ss))
+
+-- the same of the suite, which also counts those that are skipped
+unfoldable pub suite_text : List Summary → List ℕ
+suite_text ss =
+    (codes ">\n<testsuite name=\"ttrun\"" ++ counts_text ss) ++ number_text (codes " skipped=\"") (skipped ss)
 
 -- the first tags, each with the counts
 unfoldable pub head_text : List Summary → List ℕ
-head_text ss =
-    (codes "<?xml version=\"1.0\" encoding=\"UTF-8\"?>\n<testsuites" ++ counts_text ss) ++ (codes ">\n<testsuite name=\"ttrun\"" ++ counts_text ss)
+head_text ss = (codes "<?xml version=\"1.0\" encoding=\"UTF-8\"?>\n<testsuites" ++ counts_text ss) ++ suite_text ss
 
 -- the program's version
 unfoldable pub version_text : List ℕ → List ℕ
 version_text version = codes ">\n<properties>\n<property name=\"version\" value=\"" ++ (version ++ codes "\"/>\n</properties>\n")
 
+-- a component by its number, and its name if it has one
+unfoldable pub comp_text : Option (List ℕ) → Comp → List ℕ
+comp_text name c = codes " on component " ++ (decimal c.0 ++ option_map_or (λ n. codes " " ++ n) name [])
+
+-- a call, and its reply
+unfoldable pub call_text : Entry → List ℕ
+call_text e = op_text (shown_op e.op) ++ (codes " -> " ++ reply_text e.reply)
+
+-- what decided the verdict: the run, its component, the call
+unfoldable pub cause_text : Cause → List ℕ
+cause_text c =
+    codes "run " ++ (decimal c.entry.caller.0 ++ (option_map_or (comp_text c.name) c.comp [] ++ (codes ": " ++ call_text c.entry)))
+
+-- what decided the verdict, and all calls of that run, line by line
+unfoldable pub lines_text : Cause → List ℕ
+lines_text c = cause_text c ++ (codes "\n" ++ flat_map shown_entry c.log)
+
+-- the element of a verdict that is worse than pass, between its first text and its last tag
+unfoldable pub verdict_element : List ℕ → Verdict → Option Cause → List ℕ → List ℕ
+verdict_element first v cause last =
+    first ++ (option_map_or cause_text cause (codes "verdict " ++ name_of v) ++ (codes "\">\n" ++ (option_map_or lines_text cause [] ++ last)))
+
 -- what is said of the end of a test case: nothing if its verdict is pass
-unfoldable pub end_element : CaseEnd → List ℕ
-end_element (C.Over V.None) = codes "<skipped/>\n"
-end_element (C.Over V.Pass) = []
-end_element (C.Over V.Inconc) = codes "<failure type=\"inconc\" message=\"verdict inconc\"/>\n"
-end_element (C.Over V.Fail) = codes "<failure type=\"fail\" message=\"verdict fail\"/>\n"
-end_element (C.Over V.Error) = codes "<error type=\"error\" message=\"verdict error\"/>\n"
-end_element C.Unfinished = codes "<error type=\"unfinished\" message=\"the test case is not over\"/>\n"
-end_element (C.Aborted why) = codes "<error type=\"aborted\" message=\"" ++ (refusal_text why ++ codes "\"/>\n")
+unfoldable pub end_element : CaseEnd → Option Cause → List ℕ
+end_element (C.Over V.None) cause = codes "<skipped/>\n"
+end_element (C.Over V.Pass) cause = []
+end_element (C.Over V.Inconc) cause = verdict_element (codes "<failure type=\"inconc\" message=\"") V.Inconc cause (codes "</failure>\n")
+end_element (C.Over V.Fail) cause = verdict_element (codes "<failure type=\"fail\" message=\"") V.Fail cause (codes "</failure>\n")
+end_element (C.Over V.Error) cause = verdict_element (codes "<error type=\"error\" message=\"") V.Error cause (codes "</error>\n")
+end_element C.Unfinished cause = codes "<error type=\"unfinished\" message=\"the test case is not over\"/>\n"
+end_element (C.Aborted why) cause = codes "<error type=\"aborted\" message=\"" ++ (refusal_text why ++ codes "\"/>\n")
 
 -- the first tag of a test case, with its name
 unfoldable pub name_tag : List ℕ → List ℕ
@@ -58,9 +93,9 @@ name_tag name = codes "<testcase name=\"" ++ (name ++ codes "\" classname=\"ttru
 unfoldable pub locals_element : List Verdict → List ℕ
 locals_element locals = codes "<system-out>\n" ++ (local_lines 0 locals ++ codes "</system-out>\n</testcase>\n")
 
--- a test case: its name, how it ended, and the local verdict of each component
+-- a test case: its name, how it ended and why, and the local verdict of each component
 abbrev pub case_element : Summary → List ℕ
-case_element s = name_tag s.name ++ (end_element s.ending ++ locals_element s.locals)
+case_element s = name_tag s.name ++ (end_element s.ending s.cause ++ locals_element s.locals)
 
 -- one suite with all test cases
 abbrev pub junit_of : List ℕ → List Summary → List ℕ

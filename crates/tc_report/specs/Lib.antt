@@ -1,4 +1,5 @@
 -- The definitions that the contracts of this crate cite.
+pub mod Cause
 pub mod Tally
 pub mod Summary
 pub mod Status

@@ -1,9 +1,10 @@
 -- What reports say of a test case: by its history, or by its own report.
-use Rattle.std.specs.Prelude.{ℕ, if◌then◌else◌, List, [], ◌∷◌, ◌++◌, map, reverse}
+use Rattle.std.specs.Prelude.{ℕ, if◌then◌else◌, None, List, [], ◌∷◌, ◌++◌, map, reverse}
 use Rattle.tc_entry.specs.declared.entry.Entry.{Entry}
 use Rattle.tc_table.specs.History.{comps, is_over}
 use Rattle.tc_table.specs.Local.{local, overall}
 use Rattle.tc_history.specs.declared.read.Block.{Block}
+use Rattle.tc_report.specs.Cause.{cause_of}
 use Rattle.tc_report.specs.declared.results.CampaignEnd.{CampaignEnd}
 use Rattle.tc_report.specs.declared.results.CampaignEnd.TheVariants as E
 use Rattle.tc_report.specs.declared.results.CaseEnd.{CaseEnd}
@@ -16,21 +17,25 @@ use Rattle.tc_report.specs.declared.summary.Summary.{Summary}
 abbrev pub end_of : List Entry → CaseEnd
 end_of past = if is_over past then C.Over (overall past) else C.Unfinished
 
--- the test case of this name, with these past entries
+-- the test case of this name, with these entries
 abbrev pub summary_of : List ℕ → List Entry → Summary
-summary_of name past = record { name = name; locals = map (local past) (comps past); ending = end_of past }
+summary_of name history =
+    let past = reverse history in
+    record { name = name; locals = map (local past) (comps past); ending = end_of past; cause = cause_of (end_of past) history }
 
 -- the test case of a block of a history text
 abbrev pub block_summary : Block → Summary
-block_summary b = summary_of b.name (reverse b.entries)
+block_summary b = summary_of b.name b.entries
 
 -- a finished test case, by its report
 abbrev pub case_summary : Finished → Summary
-case_summary f = record { name = f.name; locals = f.report.locals; ending = C.Over f.report.verdict }
+case_summary f =
+    let r = f.report in
+    record { name = f.name; locals = r.locals; ending = C.Over r.verdict; cause = cause_of (C.Over r.verdict) r.history }
 
 -- the test case that has no report, if there is one
 abbrev pub aborted_summary : CampaignEnd → List Summary
-aborted_summary (E.Aborted name why) = record { name = name; locals = []; ending = C.Aborted why } ∷ []
+aborted_summary (E.Aborted name why) = record { name = name; locals = []; ending = C.Aborted why; cause = None } ∷ []
 aborted_summary ending = []
 
 -- each finished test case, and the one that has no report

@@ -1,5 +1,7 @@
 //! The JUnit report.
-ghost use Rattle.std.specs.Prelude.{◌≡◌, ◌++◌, IfOk, IfErr, OnOk};
+ghost use Rattle.std.specs.Prelude.{◌≡◌, ◌++◌, [], codes, IfOk, IfErr, OnOk};
+ghost use Rattle.std.specs.Option.{option_map_or};
+ghost use Rattle.tc_verdict.specs.Verdict.{name_of as verdict_name};
 ghost use Rattle.std.specs.Io.KnownBytes.{Appends};
 ghost use Rattle.std.specs.List.{flat_map};
 ghost use Rattle.tc_report.specs.declared.results.CaseEnd.TheVariants as ends;
@@ -8,16 +10,18 @@ ghost use Rattle.tc_report.specs.Junit as spec;
 ghost use Rattle.tc_report.specs.Summary.{results_summaries};
 ghost use Rattle.tc_report.specs.Status.{counted_as as spec_counted, verdict_status as spec_status};
 
+use crate::cause::Cause;
 use crate::fault::OutFault;
 use crate::output::write_made;
-use crate::report::append_locals;
+use crate::report::{append_entries, append_locals, append_op};
 use crate::results::{CaseEnd, Results};
 use crate::status::{counted_as, verdict_status};
 use crate::summary::{Summary, summaries_of_results};
 use std::alloc::Global;
 use std::io::Write;
-use tc_entry::{Name, NoMemory, Verdict};
-use tc_text::{append_number, append_text};
+use tc_entry::{Comp, Entry, Name, NoMemory, Verdict};
+use tc_text::{append_number, append_text, write_reply};
+use tc_verdict::name as name_of;
 
 // The status with which an end counts.
 fn status_of_end(ending: CaseEnd) -> u8
@@ -36,14 +40,19 @@ fn with_status(cases: &[Summary], status: u8) -> usize
         .count()
 }
 
+// Whether a test case with this end is skipped.
+#[tactic(auto, unfolding(crate::specs::Junit::is_skipped))]
+fn is_skipped(ending: CaseEnd) -> bool
+    ensures { result ≡ spec.is_skipped ending }
+{
+    counted_as(ending) == Verdict::None
+}
+
 // How many of the test cases are skipped.
 fn skipped(cases: &[Summary]) -> usize
     ensures { result ≡ spec.skipped cases.now }
 {
-    cases
-        .iter()
-        .filter(|case| counted_as(case.ending) == Verdict::None)
-        .count()
+    cases.iter().filter(|case| is_skipped(case.ending)).count()
 }
 
 // Appends an attribute that is a number.
@@ -63,8 +72,7 @@ fn append_counts(out: &mut Vec<u8>, cases: &[Summary]) -> Result<(), NoMemory>
 {
     append_attribute(out, " tests=\"", cases.len())?;
     append_attribute(out, " failures=\"", with_status(cases, 1))?;
-    append_attribute(out, " errors=\"", with_status(cases, 2))?;
-    append_attribute(out, " skipped=\"", skipped(cases))
+    append_attribute(out, " errors=\"", with_status(cases, 2))
 }
 
 // Appends a tag, with the counts as attributes.
@@ -73,6 +81,14 @@ fn append_tag(out: &mut Vec<u8>, tag: &str, cases: &[Summary]) -> Result<(), NoM
 {
     append_text(out, tag)?;
     append_counts(out, cases)
+}
+
+// Appends the first tag of the suite, which also counts the test cases that are skipped.
+fn append_suite_tag(out: &mut Vec<u8>, cases: &[Summary]) -> Result<(), NoMemory>
+    ensures { OnOk result (out.new.items ≡ out.old.items ++ spec.suite_text cases.now) }
+{
+    append_tag(out, ">\n<testsuite name=\"ttrun\"", cases)?;
+    append_attribute(out, " skipped=\"", skipped(cases))
 }
 
 // Appends the first tags.
@@ -84,7 +100,7 @@ fn append_head(out: &mut Vec<u8>, cases: &[Summary]) -> Result<(), NoMemory>
         "<?xml version=\"1.0\" encoding=\"UTF-8\"?>\n<testsuites",
         cases,
     )?;
-    append_tag(out, ">\n<testsuite name=\"ttrun\"", cases)
+    append_suite_tag(out, cases)
 }
 
 // Appends the text between two others.
@@ -114,28 +130,155 @@ fn append_version(out: &mut Vec<u8>, version: &str) -> Result<(), NoMemory>
     )
 }
 
+// Appends a name after a space, if there is one.
+fn append_spaced(out: &mut Vec<u8>, name: &Option<Name>) -> Result<(), NoMemory>
+    ensures { OnOk result (out.new.items ≡ out.old.items ++ option_map_or (λ n. codes " " ++ n) name.now []) }
+{
+    match name {
+        None => Ok(()),
+        Some(name) => {
+            append_text(out, " ")?;
+            out.extend_from_slice(name.bytes())?;
+            Ok(())
+        }
+    }
+}
+
+// Appends a component by its number, and its name if it has one.
+#[tactic(auto, unfolding(crate::specs::Junit::comp_text))]
+fn append_comp(out: &mut Vec<u8>, comp: Comp, name: &Option<Name>) -> Result<(), NoMemory>
+    ensures { OnOk result (out.new.items ≡ out.old.items ++ spec.comp_text name.now comp) }
+{
+    append_text(out, " on component ")?;
+    append_number(out, u64::from(comp.0))?;
+    append_spaced(out, name)
+}
+
+// Appends the component that the run is on.
+fn append_on(out: &mut Vec<u8>, cause: &Cause) -> Result<(), NoMemory>
+    ensures { OnOk result (out.new.items ≡ out.old.items ++ option_map_or (spec.comp_text cause.now.name) cause.now.comp []) }
+{
+    match cause.comp {
+        Some(comp) => append_comp(out, comp, &cause.name),
+        None => Ok(()),
+    }
+}
+
+// Appends a call, and its reply.
+#[tactic(auto, unfolding(crate::specs::Junit::call_text))]
+fn append_call(out: &mut Vec<u8>, entry: &Entry) -> Result<(), NoMemory>
+    ensures { OnOk result (out.new.items ≡ out.old.items ++ spec.call_text entry.now) }
+{
+    append_op(out, &entry.op)?;
+    append_text(out, " -> ")?;
+    write_reply(out, &entry.reply)
+}
+
+// Appends what decided the verdict: the run, its component, the call.
+#[tactic(auto, unfolding(crate::specs::Junit::cause_text))]
+fn append_cause(out: &mut Vec<u8>, cause: &Cause) -> Result<(), NoMemory>
+    ensures { OnOk result (out.new.items ≡ out.old.items ++ spec.cause_text cause.now) }
+{
+    append_text(out, "run ")?;
+    append_number(out, u64::from(cause.entry.caller.0))?;
+    append_on(out, cause)?;
+    append_text(out, ": ")?;
+    append_call(out, &cause.entry)
+}
+
+// Appends the message: what decided the verdict, if an entry did.
+fn append_message(
+    out: &mut Vec<u8>,
+    verdict: Verdict,
+    cause: &Option<Cause>,
+) -> Result<(), NoMemory>
+    ensures { OnOk result (out.new.items ≡ out.old.items ++ option_map_or spec.cause_text cause.now (codes "verdict " ++ verdict_name verdict)) }
+{
+    match cause {
+        Some(cause) => append_cause(out, cause),
+        None => {
+            append_text(out, "verdict ")?;
+            append_text(out, name_of(verdict))
+        }
+    }
+}
+
+// Appends what decided the verdict, and all calls of that run, line by line.
+#[tactic(auto, unfolding(crate::specs::Junit::lines_text))]
+fn append_lines(out: &mut Vec<u8>, cause: &Cause) -> Result<(), NoMemory>
+    ensures { OnOk result (out.new.items ≡ out.old.items ++ spec.lines_text cause.now) }
+{
+    append_cause(out, cause)?;
+    append_text(out, "\n")?;
+    append_entries(out, cause.log.as_slice())
+}
+
+// Appends these lines, if an entry decided the verdict.
+fn append_lines_if(out: &mut Vec<u8>, cause: &Option<Cause>) -> Result<(), NoMemory>
+    ensures { OnOk result (out.new.items ≡ out.old.items ++ option_map_or spec.lines_text cause.now []) }
+{
+    match cause {
+        Some(cause) => append_lines(out, cause),
+        None => Ok(()),
+    }
+}
+
+// Appends the element of a verdict that is worse than pass, between its first text and its last tag.
+#[tactic(auto, unfolding(crate::specs::Junit::verdict_element))]
+fn append_verdict_element(
+    out: &mut Vec<u8>,
+    first: &str,
+    verdict: Verdict,
+    cause: &Option<Cause>,
+    last: &str,
+) -> Result<(), NoMemory>
+    ensures { OnOk result (out.new.items ≡ out.old.items ++ spec.verdict_element first.now verdict cause.now last.now) }
+{
+    append_text(out, first)?;
+    append_message(out, verdict, cause)?;
+    append_text(out, "\">\n")?;
+    append_lines_if(out, cause)?;
+    append_text(out, last)
+}
+
 // Appends what is said of an overall verdict.
 #[tactic(auto, unfolding(crate::specs::Junit::end_element))]
-fn append_verdict_element(out: &mut Vec<u8>, verdict: Verdict) -> Result<(), NoMemory>
-    ensures { OnOk result (out.new.items ≡ out.old.items ++ spec.end_element (ends.Over verdict)) }
+fn append_verdict_end(
+    out: &mut Vec<u8>,
+    verdict: Verdict,
+    cause: &Option<Cause>,
+) -> Result<(), NoMemory>
+    ensures { OnOk result (out.new.items ≡ out.old.items ++ spec.end_element (ends.Over verdict) cause.now) }
 {
-    let element = match verdict {
-        Verdict::None => "<skipped/>\n",
-        Verdict::Pass => return Ok(()),
-        Verdict::Inconc => "<failure type=\"inconc\" message=\"verdict inconc\"/>\n",
-        Verdict::Fail => "<failure type=\"fail\" message=\"verdict fail\"/>\n",
-        Verdict::Error => "<error type=\"error\" message=\"verdict error\"/>\n",
-    };
-    append_text(out, element)
+    match verdict {
+        Verdict::None => append_text(out, "<skipped/>\n"),
+        Verdict::Pass => Ok(()),
+        Verdict::Inconc => {
+            let first = "<failure type=\"inconc\" message=\"";
+            append_verdict_element(out, first, verdict, cause, "</failure>\n")
+        }
+        Verdict::Fail => {
+            let first = "<failure type=\"fail\" message=\"";
+            append_verdict_element(out, first, verdict, cause, "</failure>\n")
+        }
+        Verdict::Error => {
+            let first = "<error type=\"error\" message=\"";
+            append_verdict_element(out, first, verdict, cause, "</error>\n")
+        }
+    }
 }
 
 // Appends what is said of the end of a test case.
 #[tactic(auto, unfolding(crate::specs::Junit::end_element))]
-fn append_end_element(out: &mut Vec<u8>, ending: CaseEnd) -> Result<(), NoMemory>
-    ensures { OnOk result (out.new.items ≡ out.old.items ++ spec.end_element ending) }
+fn append_end_element(
+    out: &mut Vec<u8>,
+    ending: CaseEnd,
+    cause: &Option<Cause>,
+) -> Result<(), NoMemory>
+    ensures { OnOk result (out.new.items ≡ out.old.items ++ spec.end_element ending cause.now) }
 {
     match ending {
-        CaseEnd::Over(verdict) => append_verdict_element(out, verdict),
+        CaseEnd::Over(verdict) => append_verdict_end(out, verdict, cause),
         CaseEnd::Unfinished => append_text(
             out,
             "<error type=\"unfinished\" message=\"the test case is not over\"/>\n",
@@ -176,7 +319,7 @@ fn append_element(out: &mut Vec<u8>, case: &Summary) -> Result<(), NoMemory>
     ensures { OnOk result (out.new.items ≡ out.old.items ++ spec.case_element case.now) }
 {
     append_name_tag(out, &case.name)?;
-    append_end_element(out, case.ending)?;
+    append_end_element(out, case.ending, &case.cause)?;
     append_locals_element(out, case.locals.as_slice())
 }
 

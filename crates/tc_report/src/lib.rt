@@ -1,6 +1,7 @@
 //! The results of a campaign, what they and histories say of test cases, and the texts of both.
 #![tactic(auto)]
 
+mod cause;
 mod counts;
 mod ending;
 mod fault;
@@ -19,6 +20,7 @@ mod results;
 mod status;
 mod summary;
 
+pub use cause::Cause;
 pub use counts::tally;
 pub use ending::{append_aborted, write_abort};
 pub use fault::OutFault;

@@ -23,8 +23,8 @@ use tc_entry::{Entry, Name, NoMemory, Op, Reply, Run, Verdict};
 use tc_text::{append_number, append_text, write_op, write_reply};
 use tc_verdict::{UserVerdict, name as name_of};
 
-// A Wake is shown as the Wait with the same target.
-fn append_op(out: &mut Vec<u8>, op: &Op) -> Result<(), NoMemory>
+/// Appends the operation. A Wake is shown as the Wait with the same target.
+pub(crate) fn append_op(out: &mut Vec<u8>, op: &Op) -> Result<(), NoMemory>
     ensures { OnOk result (out.new.items ≡ out.old.items ++ op_text (shown_op op.now)) }
 {
     match op {
@@ -93,8 +93,8 @@ fn append_entry(out: &mut Vec<u8>, entry: &Entry) -> Result<(), NoMemory>
     Ok(())
 }
 
-// Appends what is shown of each entry.
-fn append_entries(out: &mut Vec<u8>, entries: &[Entry]) -> Result<(), NoMemory>
+/// Appends what is shown of each entry.
+pub(crate) fn append_entries(out: &mut Vec<u8>, entries: &[Entry]) -> Result<(), NoMemory>
     ensures { OnOk result (out.new.items ≡ out.old.items ++ flat_map shown_entry entries.now) }
 {
     for entry in entries {

@@ -1,12 +1,13 @@
 //! What reports say of a test case.
-ghost use Rattle.std.specs.Prelude.{◌≡◌, ◌++◌, IfOk, OnOk, List, map};
+ghost use Rattle.std.specs.Prelude.{◌≡◌, ◌++◌, IfOk, OnOk, List, map, reverse};
 ghost use Rattle.tc_entry.specs.declared.entry.Entry.{Entry as AnyEntry};
 ghost use Rattle.tc_table.specs.Standing.{StandsFor};
 ghost use Rattle.tc_report.specs.Summary.{aborted_summary, case_summary, end_of, results_summaries, summary_of};
 
+use crate::cause::{Cause, cause_of};
 use crate::results::{CampaignEnd, CaseEnd, Finished, Results};
 use std::alloc::Global;
-use tc_entry::{Name, NoMemory, Sequence, Verdict};
+use tc_entry::{Entry, Name, NoMemory, Sequence, Verdict};
 use tc_table::{CaseState, locals_of};
 
 /// What reports say of a test case.
@@ -18,6 +19,8 @@ pub struct Summary {
     pub locals: Sequence<Verdict>,
     /// How it ended.
     pub ending: CaseEnd,
+    /// What decided its verdict, if it is over and its verdict is worse than pass.
+    pub cause: Option<Cause>,
 }
 
 // How a test case ended whose history left this state.
@@ -31,15 +34,23 @@ fn end_of_state(state: &CaseState) -> CaseEnd
     }
 }
 
-/// The summary of the test case of this name whose history left this state.
-pub fn summary_of_state(alloc: Global, name: &Name, state: &CaseState) -> Result<Summary, NoMemory>
-    ensures { (past : List AnyEntry) → StandsFor state.now past → IfOk result (λ s. s ≡ summary_of name.now past) }
+/// The summary of the test case of this name with this history, which left this state.
+pub fn summary_of_state(
+    alloc: Global,
+    name: &Name,
+    state: &CaseState,
+    history: &[Entry],
+) -> Result<Summary, NoMemory>
+    ensures { StandsFor state.now (reverse history.now) → IfOk result (λ s. s ≡ summary_of name.now history.now) }
 {
     let locals = locals_of(alloc, state)?;
+    let ending = end_of_state(state);
+    let cause = cause_of(alloc, ending, history)?;
     Ok(Summary {
         name: name.copy(),
         locals: Sequence::new(locals),
-        ending: end_of_state(state),
+        ending,
+        cause,
     })
 }
 
@@ -49,10 +60,13 @@ pub fn summary_of_case(alloc: Global, case: &Finished) -> Result<Summary, NoMemo
 {
     let mut locals = Vec::new(alloc);
     locals.extend_from_slice(case.report.locals.as_slice())?;
+    let ending = CaseEnd::Over(case.report.verdict);
+    let cause = cause_of(alloc, ending, case.report.history.as_slice())?;
     Ok(Summary {
         name: case.name.copy(),
         locals: Sequence::new(locals),
-        ending: CaseEnd::Over(case.report.verdict),
+        ending,
+        cause,
     })
 }
 
@@ -69,6 +83,7 @@ fn add_aborted(
             name: name.copy(),
             locals: Sequence::new(Vec::new(alloc)),
             ending: CaseEnd::Aborted(*why),
+            cause: None,
         })?;
     }
     Ok(())

@@ -1,5 +1,5 @@
 use Rattle.std.proofs.Common.{◌≡◌, ◌∙◌, ◌++◌, OnOk, codes, ap, subst, append_assoc}
-use Rattle.tc_report.specs.Junit.{counts_text, head_text}
+use Rattle.tc_report.specs.Junit.{counts_text, head_text, suite_text}
 use Rattle.tc_report.proofs.junit.append_head.Goals as goal
 
 pub returns : goal.returns
@@ -7,6 +7,6 @@ unfolding head_text
 returns c =
     let old = c.args.out.now.items in
     let first = codes "<?xml version=\"1.0\" encoding=\"UTF-8\"?>\n<testsuites" ++ counts_text c.args.cases.now in
-    let second = codes ">\n<testsuite name=\"ttrun\"" ++ counts_text c.args.cases.now in
-    subst (λ l. OnOk c.append_tag-2.result (c.append_tag-2.new.out.items ≡ l))
-    (ap (λ l. l ++ second) c.in_ok-append_tag.ensures ∙ append_assoc old first second) c.append_tag-2.ensures
+    let second = suite_text c.args.cases.now in
+    subst (λ l. OnOk c.append_suite_tag.result (c.append_suite_tag.new.out.items ≡ l))
+    (ap (λ l. l ++ second) c.in_ok-append_tag.ensures ∙ append_assoc old first second) c.append_suite_tag.ensures

@@ -1,0 +1,6 @@
+use Rattle.std.proofs.Common.{◌≡◌, filter, take}
+use Rattle.tc_case.specs.Parts.{is_by}
+use Rattle.tc_report.proofs.cause.log_of.Given as goal
+
+abbrev pub invariant-loop-entry : goal.invariant-loop-entry
+invariant-loop-entry l = l.log.items ≡ filter (is_by l.run.0) (take l.entry-index l.history)
