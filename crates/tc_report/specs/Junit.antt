@@ -1,6 +1,6 @@
 -- The JUnit report: XML, as servers of continuous integration read it. No text in it needs an escape: names have only
 -- letters, digits and `_`.
-use Rattle.std.specs.Prelude.{ℕ, ◌==◌, Bool, Option, List, [], ◌++◌, length, filter, codes}
+use Rattle.std.specs.Prelude.{ℕ, ◌==◌, Option, Some, None, List, [], ◌++◌, length, filter, codes}
 use Rattle.std.specs.List.{flat_map}
 use Rattle.std.specs.Option.{option_map_or}
 use Rattle.std.specs.Fmt.{decimal}
@@ -22,13 +22,9 @@ use Rattle.tc_report.specs.Status.{counted_as, verdict_status}
 abbrev pub with_status : ℕ → List Summary → ℕ
 with_status status ss = length (filter (λ s. verdict_status (counted_as s.ending) == status) ss)
 
--- a test case with this end is skipped
-unfoldable pub is_skipped : CaseEnd → Bool
-is_skipped ending = level_of (counted_as ending) == level_of V.None
-
 -- how many of them are skipped: no verdict was set
 abbrev pub skipped : List Summary → ℕ
-skipped ss = length (filter (λ s. is_skipped s.ending) ss)
+skipped ss = length (filter (λ s. level_of (counted_as s.ending) == 0) ss)
 
 -- an attribute that is a number
 unfoldable pub number_text : List ℕ → ℕ → List ℕ
@@ -53,9 +49,14 @@ head_text ss = (codes "<?xml version=\"1.0\" encoding=\"UTF-8\"?>\n<testsuites" 
 unfoldable pub version_text : List ℕ → List ℕ
 version_text version = codes ">\n<properties>\n<property name=\"version\" value=\"" ++ (version ++ codes "\"/>\n</properties>\n")
 
+-- a name after a space, if there is one
+abbrev pub spaced_text : Option (List ℕ) → List ℕ
+spaced_text None = []
+spaced_text (Some name) = codes " " ++ name
+
 -- a component by its number, and its name if it has one
 unfoldable pub comp_text : Option (List ℕ) → Comp → List ℕ
-comp_text name c = codes " on component " ++ (decimal c.0 ++ option_map_or (λ n. codes " " ++ n) name [])
+comp_text name c = codes " on component " ++ (decimal c.0 ++ spaced_text name)
 
 -- a call, and its reply
 unfoldable pub call_text : Entry → List ℕ

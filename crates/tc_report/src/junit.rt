@@ -1,7 +1,8 @@
 //! The JUnit report.
-ghost use Rattle.std.specs.Prelude.{◌≡◌, ◌++◌, [], codes, IfOk, IfErr, OnOk};
+ghost use Rattle.std.specs.Prelude.{◌≡◌, ◌==◌, ◌++◌, [], codes, filter, length, IfOk, IfErr, OnOk};
 ghost use Rattle.std.specs.Option.{option_map_or};
-ghost use Rattle.tc_verdict.specs.Verdict.{name_of as verdict_name};
+ghost use Rattle.tc_verdict.specs.Verdict.{level_of, name_of as verdict_name};
+ghost use Rattle.tc_report.specs.declared.summary.Summary.{Summary as AnySummary};
 ghost use Rattle.std.specs.Io.KnownBytes.{Appends};
 ghost use Rattle.std.specs.List.{flat_map};
 ghost use Rattle.tc_report.specs.declared.results.CaseEnd.TheVariants as ends;
@@ -40,19 +41,34 @@ fn with_status(cases: &[Summary], status: u8) -> usize
         .count()
 }
 
-// Whether a test case with this end is skipped.
-#[tactic(auto, unfolding(crate::specs::Junit::is_skipped))]
-fn is_skipped(ending: CaseEnd) -> bool
-    ensures { result ≡ spec.is_skipped ending }
+// The place of the verdict that an end counts as, from best to worst.
+fn level_of_end(ending: CaseEnd) -> u8
+    ensures { result ≡ level_of (spec_counted ending) }
 {
-    counted_as(ending) == Verdict::None
+    match counted_as(ending) {
+        Verdict::None => 0,
+        Verdict::Pass => 1,
+        Verdict::Inconc => 2,
+        Verdict::Fail => 3,
+        Verdict::Error => 4,
+    }
+}
+
+// How many of the test cases count with a verdict in this place.
+fn with_level(cases: &[Summary], level: u8) -> usize
+    ensures { result ≡ length (filter (λ (s : AnySummary). level_of (spec_counted s.ending) == level) cases.now) }
+{
+    cases
+        .iter()
+        .filter(|case| level_of_end(case.ending) == level)
+        .count()
 }
 
 // How many of the test cases are skipped.
 fn skipped(cases: &[Summary]) -> usize
     ensures { result ≡ spec.skipped cases.now }
 {
-    cases.iter().filter(|case| is_skipped(case.ending)).count()
+    with_level(cases, 0)
 }
 
 // Appends an attribute that is a number.
@@ -132,7 +148,7 @@ fn append_version(out: &mut Vec<u8>, version: &str) -> Result<(), NoMemory>
 
 // Appends a name after a space, if there is one.
 fn append_spaced(out: &mut Vec<u8>, name: &Option<Name>) -> Result<(), NoMemory>
-    ensures { OnOk result (out.new.items ≡ out.old.items ++ option_map_or (λ n. codes " " ++ n) name.now []) }
+    ensures { OnOk result (out.new.items ≡ out.old.items ++ spec.spaced_text name.now) }
 {
     match name {
         None => Ok(()),
