@@ -4,10 +4,9 @@ use Rattle.std.specs.List.{flat_map}
 use Rattle.std.specs.Prelude.{is_some}
 use Rattle.std.proofs.lemmas.List.{map-append}
 use Rattle.std.proofs.lemmas.List.Elements.{All-head, All-tail}
-use Rattle.tc_entry.specs.declared.entry.Entry.{Entry}
 use Rattle.tc_table.specs.Standing.{StandsFor}
 use Rattle.tc_history.specs.declared.read.Block.{Block}
-use Rattle.tc_history.specs.Text.{AreHistories, block_lines, header_of}
+use Rattle.tc_history.specs.Text.{block_lines, header_of}
 use Rattle.tc_report.specs.declared.summary.Summary.{Summary}
 use Rattle.tc_report.specs.Status.{status_of_summaries}
 use Rattle.tc_report.specs.Summary.{block_summary, case_summary, summary_of}

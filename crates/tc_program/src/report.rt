@@ -35,6 +35,15 @@ pub(crate) struct Reporting {
     illegal: Option<Judgement>,
 }
 
+// What was played, without its entries.
+fn played_of(recorded: Recorded) -> Playing
+    ensures { result ≡ recorded.playing }
+{
+    let Recorded { playing, entries } = recorded;
+    drop(entries);
+    playing
+}
+
 impl TakesHistories for Reporting {
     type Begun = Recorded;
 
@@ -73,9 +82,8 @@ impl TakesHistories for Reporting {
         if self.illegal.is_some() {
             return Ok(());
         }
-        let Recorded { playing, entries } = begun;
-        let summary = playing.summary(self.alloc, entries.as_slice())?;
-        let judgement = playing.judge(first_line, line, verdict);
+        let summary = begun.playing.summary(self.alloc, begun.entries.as_slice())?;
+        let judgement = played_of(begun).judge(first_line, line, verdict);
         if is_legal(&judgement) {
             self.summaries.push(summary)?;
         } else {

@@ -4,7 +4,6 @@ use Rattle.std.specs.List.{AllZip}
 use Rattle.tc_history.specs.declared.read.Block.{Block}
 use Rattle.tc_report.specs.declared.results.CaseEnd.TheVariants as C
 use Rattle.tc_report.specs.declared.results.Finished.{Finished}
-use Rattle.tc_report.specs.declared.results.Results.{Results}
 use Rattle.tc_report.specs.Laws.{IsBlockOf, SummariesOfHistories}
 use Rattle.tc_report.specs.Summary.{block_summary, case_summary, end_of}
 

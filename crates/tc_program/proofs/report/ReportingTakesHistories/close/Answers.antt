@@ -1,6 +1,6 @@
-use Rattle.std.proofs.Common.{◌≡◌, true, false}
+use Rattle.std.proofs.Common.{◌≡◌, true, false, subst}
 use Rattle.std.specs.Prelude.{is_some}
-use Rattle.tc_program.specs.Inside.{judges_legal}
+use Rattle.tc_program.specs.Inside.{JudgesPlayed, judges_legal}
 use Rattle.tc_program.proofs.Reporting.{illegal_next, illegal_passed, legal_next}
 use Rattle.tc_program.proofs.report.ReportingTakesHistories.close.Goals as goal
 
@@ -12,9 +12,10 @@ returns-in_ok-push c blocks b first line verdict played stood =
     let found = c.is_legal.ensures in
     let is = c.if-is_legal.true in
     let legal : judges_legal c.judge-judgement.result ≡ true = cc in
+    let judged = subst (λ p. JudgesPlayed p c.args.first_line c.args.line c.args.verdict c.judge-judgement.result) c.played_of.ensures c.judge-judgement.ensures in
     let lent : c.as_slice.result.now ≡ c.args.begun.entries.items = c.as_slice.ensures.value in
     legal_next c.args.self.now.illegal blocks b c.args.begun c.judge-judgement.result c.in_ok-summary.summary
-    c.args.self.now.summaries.items c.push.new.self.items none stood played (c.judge-judgement.ensures b played.0 first line verdict) legal
+    c.args.self.now.summaries.items c.push.new.self.items none stood played (judged b played.0 first line verdict) legal
     (rw lent at c.in_ok-summary.ensures) c.in_ok-push.ensures.items
 
 pub returns-else-is_legal : goal.returns-else-is_legal
@@ -25,8 +26,9 @@ returns-else-is_legal c blocks b first line verdict played stood =
     let found = c.is_legal.ensures in
     let is = c.if-is_legal.false in
     let illegal : judges_legal c.judge-judgement.result ≡ false = cc in
+    let judged = subst (λ p. JudgesPlayed p c.args.first_line c.args.line c.args.verdict c.judge-judgement.result) c.played_of.ensures c.judge-judgement.ensures in
     illegal_next c.args.self.now.illegal blocks b c.judge-judgement.result c.args.self.now.summaries.items c.args.self.now.summaries.items
-    none stood (c.judge-judgement.ensures b played.0 first line verdict) illegal
+    none stood (judged b played.0 first line verdict) illegal
 
 pub returns-then-is_some : goal.returns-then-is_some
 returns-then-is_some c blocks b first line verdict played stood =
