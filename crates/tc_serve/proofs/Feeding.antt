@@ -44,7 +44,7 @@ take_full zero l b long = refl
 take_full (suc n) [] b long = absurd (omega (arith, long))
 take_full (suc n) (x ∷ xs) b long = ap (λ (l : List ℕ). x ∷ l) (take_full n xs b (omega (arith, long)))
 
--- what is looked at of a line is nothing where there is no line
+-- what is looked at of a line is nothing if there is no line
 seen_none : (line : List ℕ) → seen line ≡ [] → line ≡ []
 seen_none line e = take_some LINE_BYTES line (omega arith) e
 

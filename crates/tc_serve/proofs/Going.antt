@@ -1,4 +1,4 @@
--- A test case that goes on, and the text that grows by what is appended.
+-- A test case that continues, and the text that grows by what is appended.
 use Rattle.std.proofs.Common.{◌≡◌, ◌∙◌, ◌+◌, [], ◌∷◌, ◌++◌, ℕ, List, reverse, ap, append_assoc, add-one}
 use Rattle.std.specs.List.{flat_map}
 use Rattle.std.proofs.lemmas.List.{append-nil, reverse-append}
@@ -22,7 +22,7 @@ adds_more a b c x y z first second = record {
 pub goes_more : (o o' : OpenCase) (p q r : Played) (x y z : List ℕ) → GoesOn o p q x y → GoesOn o' q r y z → GoesOn o' p r x z
 goes_more o o' p q r x y z first second = record { kept = second.kept; adds = adds_more _ _ _ x y z first.adds second.adds }
 
--- one more run is woken, if it may go on
+-- one more run is woken, if it can continue
 pub woken_next : (n : ℕ) (lines : List Line) (k : ℕ) → woken n lines (k + 1) ≡ woken_once n (woken n lines k) k
 woken_next n lines k = ap (λ i. woken n lines i) (add-one k)
 

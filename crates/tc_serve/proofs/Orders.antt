@@ -19,7 +19,7 @@ use Rattle.tc_serve.specs.declared.order.Order.TheVariants as O
 move_no_letter : (run b : ℕ) (op : Op) (after : List ℕ) → run < 2 ^ 16 → 57 < b → move_text run op ≡ b ∷ after → ⊥
 move_no_letter run b op after fits letter e = no_letter run b (codes " " ++ op_text op) after (omega (arith, fits)) letter e
 
--- what is asked, where this is the move that was read
+-- what is asked, if this is the move that was read
 abbrev asked : Option (Run × Op) → Option Order
 asked None = None
 asked (Some m) = Some (O.Move m.0 m.1)
@@ -57,7 +57,7 @@ not_remark text k bytes low spelled (O.Move r p) fits other e = said_not_move k 
 not_remark text k bytes low spelled (O.Remark r sentence) fits other e = other
 not_remark text k bytes low spelled O.End fits other e = no_letter k 101 (codes " # " ++ bytes) (codes "nd") (wide k low) (omega arith) (sym spelled ∙ e)
 
--- reading a remark tells that the line is no other one
+-- if the line is a remark, it is this one
 abbrev pub IsThatRemark : List ℕ → Run → List ℕ → Type 0
 IsThatRemark text run bytes = (k : ℕ) (sentence : List ℕ) → k < 2 ^ 16 → text ≡ said_text false k sentence → (run.0 ≡ k) × (bytes ≡ sentence)
 

@@ -1,4 +1,4 @@
--- Nobody sleeps on who may go on: one pass over the runs, in the order of their numbers, wakes all who may.
+-- No run that can continue is left asleep: one pass over the runs, in the order of their numbers, wakes all that can.
 use Rattle.std.proofs.Common.{ℕ, ◌≡◌, ◌≢◌, ◌<◌, ◌==◌, ◌&&◌, ◌||◌, ◌⊎◌, inl, inr, not, if◌then◌else◌, zero, suc, Bool, true, false, Option, Some, None, MatchOption, List, [], ◌∷◌, ◌++◌, drop, refl, ap, sym, subst, ◌∙◌, arith}
 use Rattle.std.specs.List.{list_any, list_all}
 use Rattle.std.proofs.lemmas.Bool.Decides.{nat_tests}
@@ -35,7 +35,7 @@ use Rattle.tc_serve.specs.Stand.{Stand}
 use Rattle.tc_serve.proofs.Changes.{Changes, changes}
 use Rattle.tc_serve.proofs.Sound.{Sound, all_woken, called_sound}
 
--- ---- a wake that is answered Ended changes nothing for the others
+-- ---- a wake that is replied Ended changes nothing for the others
 
 abbrev ended_wake : Run → Awaited → Entry
 ended_wake r a = record { caller = r; op = wake_op a; reply = R.Ended }
@@ -114,7 +114,7 @@ module _ (n : ℕ) (past : List Entry) (r : Run) (a : Awaited) (some : 0 < n) (l
       by_killed true e = absurd cc
       by_killed false e = by_last (last_run past c) (was_halted past c) (is_alive_type past c) e
 
-  -- a component runs the run that is going on
+  -- the run that a component runs is active
   running_active : (c : ℕ) (run : Run) → phase past c ≡ P.Running run → is_active past run.0 ≡ true
   unfolding is_active
   running_active c run is = rw ((last_on_it n past c run some legal (running_last c run is)).0, is) (self_equal run.0)
@@ -221,7 +221,7 @@ kind n past b a none = by_active (is_active past b) refl
     by_active true active = by_holds (holds past a) active refl
     by_active false idle = inl (rw idle refl, idle)
 
--- the first k runs sleep only where their wakes would be parked
+-- the first k runs sleep only if their wakes would be parked
 abbrev AreSettled : ℕ → List Entry → ℕ → Type 0
 AreSettled n past k = (b : ℕ) (a : Awaited) → b < k → waiting past b ≡ Some a → answer n past b (wake_op a) ≡ R.Parked
 

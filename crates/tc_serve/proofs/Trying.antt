@@ -143,7 +143,7 @@ same_run a b e = ap (λ (k : ℕ). make k) e
 abbrev pub IsThatRun : List ℕ → Run → Type 0
 IsThatRun line r = (run : ℕ) → run < 2 ^ 16 → IsOf line run → r.0 ≡ run
 
--- nobody can be told
+-- no run gets the refusal
 abbrev pub IsNobodys : List ℕ → Stand → Type 0
 IsNobodys line s = (run : Run) → run.0 < 2 ^ 16 → IsOf line run.0 → refused_with s s.current run ≡ None
 

@@ -1,4 +1,4 @@
--- What is read, written and told, turn by turn.
+-- What is read and written, and what goes to standard error, turn by turn.
 use Rattle.std.proofs.Common.{ℕ, ◌≡◌, ◌∙◌, ◌+◌, ◌≤◌, inl, inr, Bool, true, false, Option, Some, None, Result, Ok, Err, IfErr, OnOk, List, [], ◌∷◌, ◌++◌, length, take, zero-add, suc-add, refl, ap, sym, subst, append_assoc, arith}
 use Rattle.std.specs.Io.KnownBytes.{Appends, Consumes, IsAtEnd, Keeps}
 use Rattle.std.proofs.lemmas.Grind.{common_steps}

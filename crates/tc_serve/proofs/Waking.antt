@@ -1,4 +1,4 @@
--- A run that sleeps and may go on.
+-- A run that sleeps and can continue.
 use Rattle.std.proofs.Common.{ℕ, ◌≡◌, ◌∙◌, ◌<◌, if◌then◌else◌, nat_lt, Bool, true, false, Option, Some, None, ◌∷◌, ap, sym, arith}
 use Rattle.std.proofs.lemmas.Bool.Decides.{nat_tests}
 use Rattle.tc_entry.specs.declared.reply.Reply.{Reply}

@@ -21,12 +21,12 @@ abbrev pub IsNoRemark : Order → Type 0
 IsNoRemark (O.Remark run sentence) = ⊥
 IsNoRemark _ = Unit {0}
 
--- a test case goes on from one value to another, and the lines that are new are appended
+-- a test case continues from one value to another, and the lines that are new are appended
 pub record GoesOn (o : OpenCase) (before after : Played) (out written : List ℕ) : Type 0 where
   pub kept : IsOpen o after
   pub adds : Adds (lines_text before.lines) (lines_text after.lines) out written
 
--- what is asked is done, as far as this says: the server stands there then, and what its text grows by is appended
+-- what is asked is done, according to this: the server has the state after it, and what its text grows by is appended
 pub record Does (s : Stand) (done : Option Stand) (v : Server) (out written : List ℕ) : Type 0 where
   pub after : Stand
   pub done_is : done ≡ Some after
@@ -45,13 +45,13 @@ Asks line false v w out written = (written ≡ out) × ((s : Stand) → StandsAs
 
 -- ---- lines that come in pieces
 
--- the server stands where the course says, and its lines are counted
+-- the server has the state that the course says, and its lines are counted
 pub record Holds (v : Serving) (c : Course) : Type 0 where
   pub stands : StandsAs v.server c.stand
   pub lines : v.lines ≡ c.lines
   pub refused : v.refused ≡ c.refused
 
--- why the line of this number ends the service: it came to nobody, and no test case is open, or that cannot be told
+-- why the line of this number ends the service: it came to nobody, and no test case is open, or memory ran out
 abbrev pub IsLineFault : Answered → ℕ → Stand → ServeFault → Type 0
 IsLineFault a number s (F.Line n) = (a ≡ A.Nobody) × (n ≡ number) × (is_some s.current ≡ false)
 IsLineFault a number s F.NoMemory = (a ≡ A.Nobody) × Unit {0}
@@ -65,7 +65,7 @@ pub record IsCounted (a : Answered) (v : Serving) (c : Course) (told told' : Lis
   pub tells : Adds c.told (then_is a c.stand c).told told told'
   pub may : MayGoOn a c.stand
 
--- the service goes on from one course to another, and what the texts grow by is appended
+-- the service continues from one course to another, and what the texts grow by is appended
 pub record Leads (to : Course → Type 0) (v : Serving) (c : Course) (out written told told' : List ℕ) : Type 0 where
   pub after : Course
   pub is : to after
@@ -95,7 +95,7 @@ pub record IsFed (bytes : List ℕ) (v : Serving) (c : Course) : Type 0 where
   pub kept : v.line.items ≡ seen last
   pub holds : Holds v c
 
--- with these bytes in all, the service goes on
+-- with these bytes in all, the service continues
 pub record Feeds (bytes : List ℕ) (v : Serving) (c : Course) (out written told told' : List ℕ) : Type 0 where
   pub after : Course
   pub fed : IsFed bytes v after
@@ -113,7 +113,7 @@ pub record Stops (bytes : List ℕ) (c : Course) (out written told told' : List 
   pub tells : Adds c.told after.told told told'
   pub why : IsWhy f rest after
 
--- after these lines the test case that is open is closed, and standard error is told of that
+-- after these lines the test case that is open is closed, and standard error is to get a line about it
 pub record IsOver (v : Serving) (c : Course) (out written told told' : List ℕ) : Type 0 where
   pub stands : StandsAs v.server (finished c.stand)
   pub refused : v.refused ≡ c.refused
@@ -144,12 +144,12 @@ pub record StopsAtEnd (bytes : List ℕ) (c : Course) (f : ServeFault) : Type 0 
 
 -- ---- devices
 
--- the text is told where all before it was
+-- standard error gets the text if it took all before it
 abbrev pub Hears : Bool → Bool → Option (List ℕ) → Option (List ℕ) → List ℕ → Type 0
 Hears true told before after text = IsToldBy told before after text
 Hears false told before after text = (told ≡ false) × (after ≡ before)
 
--- these bytes were read so far; the lines of them that have ended are served, and that is written and told
+-- these bytes were read so far; the lines of them that have ended are served, and what comes of them is written
 pub record IsAt (from to : Devices) (told : Bool) (v : Serving) : Type 0 where
   pub bytes : List ℕ
   pub read : Consumes from.input to.input bytes
@@ -158,7 +158,7 @@ pub record IsAt (from to : Devices) (told : Bool) (v : Serving) : Type 0 where
   pub written : Appends from.output to.output (stand_text course.stand)
   pub told_is : IsToldBy told from.errors to.errors course.told
 
--- all was read, and what the service leaves is written and told
+-- all was read, and what the service leaves is written, to standard error too
 pub record IsEnded (from to : Devices) (told : Bool) (v : Serving) : Type 0 where
   pub lines : List (List ℕ)
   pub last : List ℕ

@@ -41,12 +41,12 @@ abbrev pub AreSound : List Played → Type 0
 AreSound [] = Unit {0}
 AreSound (p ∷ ps) = IsSound p × AreSound ps
 
--- and where the server stands
+-- and the server's state
 pub record StandIsSound (s : Stand) : Type 0 where
   pub closed : AreSound s.closed
   pub current : MatchOption s.current (Unit {0}) IsSound
 
--- the server comes from one stand to the other by a line: what it asks is done, or it is refused and that is told
+-- a line leads the server from one state to the other: what it asks is done, or it is refused and the run gets that
 abbrev pub Follows : Stand → Stand → Type 0
 Follows s t = ((o : Order) × (taken s o ≡ Some t)) ⊎ ((run : Run) × (refused_with s s.current run ≡ Some t))
 
@@ -55,7 +55,7 @@ pub record ServedIsSound : Type 0 where
   pub first : StandIsSound start
   pub next : (s t : Stand) → StandIsSound s → Follows s t → StandIsSound t
 
--- nobody sleeps who may go on: the wake of each run that sleeps would be parked
+-- no run that can continue sleeps: the wake of each run that sleeps would be parked
 abbrev pub IsSettled : Played → Type 0
 IsSettled p = (b : ℕ) (a : Awaited) → b < p.behaviours → waiting (past_of p) b ≡ Some a → answer p.behaviours (past_of p) b (wake_op a) ≡ R.Parked
 
@@ -102,7 +102,7 @@ abbrev pub AreEvident : List Played → Type 0
 AreEvident [] = Unit {0}
 AreEvident (p ∷ ps) = IsEvident p × AreEvident ps
 
--- and where the server stands
+-- and the server's state
 pub record StandIsEvident (s : Stand) : Type 0 where
   pub closed : AreEvident s.closed
   pub current : MatchOption s.current (Unit {0}) IsEvident

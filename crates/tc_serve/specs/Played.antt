@@ -1,4 +1,5 @@
--- A test case whose lines come one by one, and what each adds to its evidence: itself, and the wakes of those who may go on.
+-- A test case whose lines come one by one, and what each adds to its evidence: itself, and the wakes of the runs that can
+-- continue.
 use Rattle.std.specs.Prelude.{ℕ, ◌&&◌, not, nat_lt, if◌then◌else◌, zero, suc, Bool, true, false, Option, Some, None, is_some, List, ◌∷◌, codes}
 use Rattle.tc_verdict.specs.declared.run.Run.{Run}
 use Rattle.tc_entry.specs.declared.entry.Entry.{Entry}
@@ -40,12 +41,12 @@ wake_op a = O.Wake a.killed a.target
 abbrev pub unless_parked : Entry → List Line → List Line
 unless_parked e lines = if is_parked e.reply then lines else L.Entry e ∷ lines
 
--- run b, which waits for this if for anything, is woken if it may go on
+-- run b, of which this is the wait if it has one, is woken if it can continue
 abbrev pub woken_from : ℕ → List Line → ℕ → Option Awaited → List Line
 woken_from n lines b None = lines
 woken_from n lines b (Some a) = unless_parked (called n lines (record { 0 = b }) (wake_op a)) lines
 
--- run b is woken if it sleeps and may go on
+-- run b is woken if it sleeps and can continue
 abbrev pub woken_once : ℕ → List Line → ℕ → List Line
 woken_once n lines b = woken_from n lines b (waiting (entries_of lines) b)
 
@@ -54,7 +55,7 @@ abbrev pub woken : ℕ → List Line → ℕ → List Line
 woken n lines zero = lines
 woken n lines (suc k) = woken_once n (woken n lines k) k
 
--- the lines after a call, before anybody is woken
+-- the lines after a call, before any run is woken
 abbrev pub after_call : Played → Run → Op → List Line
 after_call p caller op = L.Entry (called p.behaviours p.lines caller op) ∷ p.lines
 
@@ -75,7 +76,7 @@ abbrev pub is_wake : Op → Bool
 is_wake (O.Wake k t) = true
 is_wake _ = false
 
--- whoever serves the run may make the call: it is no wake, and the run does not sleep
+-- a client may make the call for the run: it is no wake, and the run does not sleep
 abbrev pub may_ask : Played → Run → Op → Bool
 may_ask p caller op = not (is_wake op) && not (is_some (sleep_of p caller.0))
 

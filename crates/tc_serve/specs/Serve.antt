@@ -41,7 +41,7 @@ pub record IsServed (from to : Devices) (told : Bool) (r : Served) : Type 0 wher
   pub worst_is : r.worst ≡ worst_of (finished ended.stand)
   pub refused_is : r.refused ≡ ended.refused
 
--- after these lines the input ends, with this after the last LF; where the server stands then, and what standard error was told
+-- after these lines the input ends, with this after the last LF; the server's state then, and what goes to standard error
 pub record IsEnd (rest : List ℕ) (c : Course) (s : Stand) (told : List ℕ) : Type 0 where
   pub last_is : NoLf rest
   pub ended : Course
@@ -49,12 +49,13 @@ pub record IsEnd (rest : List ℕ) (c : Course) (s : Stand) (told : List ℕ) : 
   pub stand_is : s ≡ finished ended.stand
   pub told_is : told ≡ told_at_end ended
 
--- whose text was to be written as this fault came, and what was to be told: that after the lines, or, where the output failed, that after the end
+-- the state whose text is due when this fault came, and what is due on standard error: both those after the lines, or,
+-- if the output failed, those after the end
 abbrev pub IsDue : ServeFault → List ℕ → Course → Stand → List ℕ → Type 0
 IsDue F.Write rest c s told = ((s ≡ c.stand) × (told ≡ c.told)) ⊎ IsEnd rest c s told
 IsDue f rest c s told = (s ≡ c.stand) × (told ≡ c.told)
 
--- what was written of a text as this fault came: a prefix where the output failed, and else all
+-- what was written of a text when this fault came: a prefix if the output failed, and otherwise all
 abbrev pub IsWritten : ServeFault → Option (List ℕ) → Option (List ℕ) → List ℕ → Type 0
 IsWritten F.Write before after text = AppendsPrefix before after text
 IsWritten f before after text = Appends before after text

@@ -17,7 +17,7 @@ NoLf (b ∷ bs) = ((b == 10) ≡ false) × NoLf bs
 abbrev pub seen : List ℕ → List ℕ
 seen line = take LINE_BYTES line
 
--- after lines: where the server stands, how many lines came, whether one was refused, and what standard error was told
+-- after lines: the server's state, how many lines came, whether one was refused, and what goes to standard error
 pub record Course : Type 0 where
   pub stand : Stand
   pub lines : ℕ
@@ -34,17 +34,17 @@ refuses A.Done = false
 refuses A.Refused = true
 refuses A.Nobody = true
 
--- what standard error is told of the line of this number, of which this came
+-- what goes to standard error about the line of this number, of which this came
 abbrev pub told_of : Answered → ℕ → List ℕ
 told_of A.Done n = []
 told_of A.Refused n = []
 told_of A.Nobody n = codes "ttrun: line " ++ (decimal n ++ (codes ": " ++ (why_refused ++ (10 ∷ []))))
 
--- after one more line, of which this came, and where the server stands so
+-- after one more line, of which this came, and after which this is the server's state
 abbrev pub then_is : Answered → Stand → Course → Course
 then_is a t c = record { stand = t; lines = c.lines + 1; refused = c.refused || refuses a; told = c.told ++ told_of a (c.lines + 1) }
 
--- a line may come to nobody inside a test case alone
+-- a line may come to nobody only inside a test case
 abbrev pub MayGoOn : Answered → Stand → Type 0
 MayGoOn A.Done s = Unit {0}
 MayGoOn A.Refused s = Unit {0}
@@ -80,10 +80,10 @@ bytes_of (line ∷ before) = bytes_of before ++ (line ++ 10 ∷ [])
 abbrev pub Ends : List ℕ → Course → Course → Type 0
 Ends line c d = ((line ≡ []) × (d ≡ c)) ⊎ ((line ≢ []) × RefusesLast line c d)
 
--- where the server follows the end of the input: the test case that is open is closed, if one is
+-- the state after the end of the input: the test case that is open is closed, if one is
 abbrev pub finished : Stand → Stand
 finished s = unwrap_or (closed_with s s.current) s
 
--- what standard error was told then
+-- what goes to standard error then
 abbrev pub told_at_end : Course → List ℕ
 told_at_end c = c.told ++ (if is_some c.stand.current then codes "ttrun: the input ended inside a test case" ++ (10 ∷ []) else [])

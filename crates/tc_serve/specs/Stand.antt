@@ -1,4 +1,4 @@
--- Where the server stands, and its text.
+-- The server's state, and its text.
 use Rattle.std.specs.Prelude.{ℕ, ◌≡◌, if◌then◌else◌, Option, Some, None, List, [], ◌∷◌, ◌++◌, map, reverse}
 use Rattle.std.specs.List.{flat_map}
 use Rattle.std.specs.Fmt.{decimal}
@@ -55,7 +55,7 @@ open_text (Some p) = opening p
 abbrev pub stand_text : Stand → List ℕ
 stand_text s = flat_map block (reverse s.closed) ++ open_text s.current
 
--- the verdict that a test case counts as: error where it is not over
+-- the verdict that a test case counts as: error if it is not over
 abbrev pub counted : Played → Verdict
 counted p = if is_over (past_of p) then overall (past_of p) else V.Error
 

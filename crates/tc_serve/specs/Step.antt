@@ -31,7 +31,7 @@ IsCurrent None (Some p) = ⊥
 IsCurrent (Some o) None = ⊥
 IsCurrent (Some o) (Some p) = IsOpen o p
 
--- the server stands so
+-- this is the server's state
 pub record StandsAs (v : Server) (s : Stand) : Type 0 where
   pub current : IsCurrent v.current s.current
   pub worst : v.worst ≡ worst_of s
@@ -47,13 +47,13 @@ pub record IsDone (line : List ℕ) (s t : Stand) : Type 0 where
 abbrev pub Refuses : List ℕ → Stand → Type 0
 Refuses line s = (o : Order) → IsOrder o → line ≡ order_text o → taken s o ≡ None
 
--- the run that the line begins with is told that it is refused
+-- the run that the line begins with gets the refusal
 pub record IsTold (line : List ℕ) (s t : Stand) : Type 0 where
   pub run : Run
   pub of_run : IsOf line run.0
   pub told : refused_with s s.current run ≡ Some t
 
--- nobody can be told: the line begins with no run of a test case that is open; nothing changes
+-- no run gets the refusal: the line begins with no run of a test case that is open; nothing changes
 pub record IsLost (line : List ℕ) (s t : Stand) : Type 0 where
   pub nobody : (run : Run) → run.0 < 2 ^ 16 → IsOf line run.0 → refused_with s s.current run ≡ None
   pub same : t ≡ s
@@ -76,7 +76,7 @@ pub record Adds (before after out written : List ℕ) : Type 0 where
   pub grows : after ≡ before ++ text
   pub appends : written ≡ out ++ text
 
--- the server stands now where this leads from there, and what its text grows by is appended
+-- the server has now a state to which this leads from that one, and what its text grows by is appended
 pub record Goes (leads : Stand → Stand → Type 0) (s : Stand) (v : Server) (out written : List ℕ) : Type 0 where
   pub after : Stand
   pub is : leads s after

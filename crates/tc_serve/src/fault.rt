@@ -12,7 +12,7 @@ pub enum ServeFault {
     Read,
     /// The output could not be written.
     Write,
-    /// Memory was refused.
+    /// Memory ran out.
     NoMemory,
 }
 

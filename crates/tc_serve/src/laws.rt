@@ -7,7 +7,7 @@ pub fn served_is_sound()
     ensures { laws.ServedIsSound }
 {}
 
-/// In the test case that is open nobody sleeps who may go on: the wake of each run that sleeps would be parked.
+/// In the test case that is open no run sleeps that can continue: the wake of each run that sleeps would be parked.
 #[tactic(auto, using(crate::proofs::Settled::nobody_sleeps_on))]
 pub fn nobody_sleeps_on()
     ensures { laws.NobodySleepsOn }

@@ -19,7 +19,7 @@ use tc_entry::{Entry, NoMemory, Op, Reply, Run, Verdict};
 use tc_evidence::{Line, MetRuns, append_line, append_said};
 use tc_table::{Awaited, CaseState};
 
-/// A test case that is open: what is kept of it beside its evidence.
+/// A test case that is open: what is kept of it besides its evidence.
 #[derive(Drop)]
 pub(crate) struct OpenCase {
     /// What is kept of its history.
@@ -114,7 +114,7 @@ impl OpenCase {
         }
     }
 
-    /// Whether the call may be made by whoever serves the run: it is no wake, and the run does not sleep.
+    /// Whether a client may make the call for the run: it is no wake, and the run does not sleep.
     pub fn may(&self, caller: Run, op: &Op) -> bool
         ensures { (p : AnyPlayed) → IsOpen self.now p → result ≡ may_ask p caller op.now }
     {
@@ -184,7 +184,7 @@ impl OpenCase {
         Ok(())
     }
 
-    // Wakes the run, if it sleeps and may go on.
+    // Wakes the run, if it sleeps and can continue.
     fn wake(&mut self, run: u16, out: &mut Vec<u8>) -> Result<(), NoMemory>
         requires { run < self.old.state.behaviours }
         ensures ok { OnOk result ((p : AnyPlayed) → IsOpen self.old p →
@@ -205,8 +205,8 @@ impl OpenCase {
         self.call(Run(run), op, out)
     }
 
-    /// Makes the call, and appends its line; then wakes each run that may go on, in the order of their numbers, and appends
-    /// their lines. If memory runs out, a part of these.
+    /// Makes the call, and appends its line; then wakes each run that can continue, in the order of their numbers, and
+    /// appends their lines. If memory runs out, a part of these.
     pub fn play(&mut self, caller: Run, op: Op, out: &mut Vec<u8>) -> Result<(), NoMemory>
         ensures ok { OnOk result ((p : AnyPlayed) → IsOpen self.old p → GoesOn self.new p (moved p caller op) out.old.items out.new.items) }
         ensures any { StartsWith out.new.items out.old.items }
@@ -225,7 +225,7 @@ impl OpenCase {
         self.state.overall()
     }
 
-    /// The verdict that the test case counts as: error where it is not over.
+    /// The verdict that the test case counts as: error if it is not over.
     pub fn counted(&self) -> Verdict
         ensures { (p : AnyPlayed) → IsOpen self.now p → result ≡ spec_counted p }
     {

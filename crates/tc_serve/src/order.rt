@@ -70,7 +70,7 @@ fn read_remark(text: &[u8]) -> Option<(Run, &[u8])>
     Some((Run(number), sentence))
 }
 
-// What the line asks for, where it is no remark.
+// What the line asks for, if it is no remark.
 fn read_other(text: &[u8]) -> Option<Order>
     ensures spelled { IfSome result (λ o. text.now ≡ order_text o) }
     ensures fits { IfSome result IsOrder }
@@ -93,7 +93,7 @@ fn read_other(text: &[u8]) -> Option<Order>
     }
 }
 
-/// What the line asks for. None where it asks for nothing.
+/// What the line asks for. None if it asks for nothing.
 pub(crate) fn read_order(alloc: Global, text: &[u8]) -> Result<Option<Order>, NoMemory>
     ensures spelled { IfOk result (λ found. IfSome found (λ o. text.now ≡ order_text o)) }
     ensures fits { IfOk result (λ found. IfSome found IsOrder) }

@@ -21,7 +21,7 @@ use tc_verdict::worse_of;
 pub enum Answered {
     /// What it asks for was done.
     Done,
-    /// It was refused, and the run that it begins with is told so in the evidence.
+    /// It was refused, and the evidence has a refused line of the run that it begins with.
     Refused,
     /// It was refused, and begins with no run of a test case that is held.
     Nobody,
@@ -133,7 +133,7 @@ impl Server {
         Ok(true)
     }
 
-    // Adds a remark, where the run is one of the test case.
+    // Adds a remark, if the run is one of the test case.
     fn remark(&mut self, run: Run, sentence: Sentence, out: &mut Vec<u8>) -> Result<bool, NoMemory>
         ensures ok { IfOk result (λ done. Tries (λ s. remarked s s.current run sentence) done self.old self.new out.old.items out.new.items) }
         ensures any { StartsWith out.new.items out.old.items }
@@ -189,8 +189,8 @@ impl Server {
         }
     }
 
-    /// Refuses the line: the run that it begins with is told so, if it is one of a test case that is open. If memory runs out,
-    /// a part of that line is appended.
+    /// Refuses the line: the run that it begins with gets the refusal, if it is one of a test case that is open. If memory
+    /// runs out, a part of that line is appended.
     pub(crate) fn refuse(&mut self, line: &[u8], out: &mut Vec<u8>) -> Result<Answered, NoMemory>
         ensures ok { IfOk result (λ a. (s : AnyStand) → StandsAs self.old s → Goes (IsRefusal a line.now) s self.new out.old.items out.new.items) }
         ensures any { StartsWith out.new.items out.old.items }
@@ -227,9 +227,9 @@ impl Server {
         self.refuse(line, out)
     }
 
-    /// Does what the line asks for, and appends its text. A line that may not be asked is refused: it changes nothing, but that
-    /// the run which it begins with is told so in the evidence. If memory runs out, nothing is appended, and the server is
-    /// of no more use.
+    /// Does what the line asks for, and appends its text. A line that may not be asked is refused: all that
+    /// it changes is that the evidence gets a refused line of the run that it begins with. If memory runs out, nothing is
+    /// appended, and the server must not be used again.
     pub fn step(
         &mut self,
         alloc: Global,

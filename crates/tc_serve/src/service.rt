@@ -27,7 +27,7 @@ pub struct Served {
 pub struct Ending {
     /// What came of the input, or why no further line was served.
     pub outcome: Result<Served, ServeFault>,
-    /// Whether all that was told was written.
+    /// Whether standard error took all that was written to it.
     pub told: bool,
 }
 
@@ -43,7 +43,7 @@ fn write_flushed<W: Write>(writer: &mut W, text: &[u8]) -> Result<(), WriteFault
     }
 }
 
-// Tells the text, unless an earlier one was not taken whole; whether all was taken.
+// Writes the text to standard error, unless it did not take an earlier one whole; whether all was taken.
 fn tell<E: Write>(errors: &mut E, heard: bool, text: &[u8]) -> bool
     ensures { Hears heard result (E.contents errors.old) (E.contents errors.new) text.now }
 {
@@ -53,7 +53,7 @@ fn tell<E: Write>(errors: &mut E, heard: bool, text: &[u8]) -> bool
     write_whole(errors, text).is_ok()
 }
 
-// Serves the lines that end in these bytes, tells of them, and writes their text.
+// Serves the lines that end in these bytes, reports those that came to nobody, and writes their text.
 fn answer<W: Write, E: Write>(
     alloc: Global,
     serving: &mut Serving,
@@ -82,7 +82,7 @@ fn answer<W: Write, E: Write>(
     }
 }
 
-// The input has ended: serves what is left, tells of it, and writes its text.
+// The input has ended: serves what is left, reports what came to nobody, and writes its text.
 fn end<W: Write, E: Write>(
     alloc: Global,
     serving: &mut Serving,
@@ -171,8 +171,8 @@ fn serve_lines<R: Read, W: Write, E: Write>(
     Err(ServeFault::TooLong)
 }
 
-/// Answers each line of the reader on the writer as soon as it has come, as evidence, and tells of lines that nobody is answered.
-/// At a fault the lines before it were answered.
+/// Answers each line of the reader on the writer as soon as it has come, by evidence, and reports on standard error the
+/// lines that came to nobody. At a fault the lines before it were answered.
 pub fn serve<R: Read, W: Write, E: Write>(
     alloc: Global,
     reader: &mut R,

@@ -36,7 +36,7 @@ fn or_refuses(refused: bool, answered: Answered) -> bool
     refused || !matches!(answered, Answered::Done)
 }
 
-// Appends what is told of the line of this number, which came to nobody; if memory runs out, a part of it.
+// Appends the report of the line of this number, which came to nobody; if memory runs out, a part of it.
 fn append_lost(told: &mut Vec<u8>, line: usize) -> Result<(), NoMemory>
     ensures ok { OnOk result (told.new.items ≡ told.old.items ++ told_of answers.Nobody line) }
     ensures any { StartsWith told.new.items told.old.items }
@@ -89,7 +89,7 @@ impl Serving {
         self.refused
     }
 
-    // Tells of the next line, which came to nobody.
+    // Reports the next line, which came to nobody.
     fn tell_lost(&self, told: &mut Vec<u8>) -> Result<(), ServeFault>
         requires few { self.now.lines < usize.MAX }
         ensures ok { OnOk result (told.new.items ≡ told.old.items ++ told_of answers.Nobody (self.now.lines + 1)) }
@@ -106,7 +106,7 @@ impl Serving {
         }
     }
 
-    // Tells of the next line, of which this came, if nobody else is told of it.
+    // Reports the next line, of which this came, if it came to nobody.
     fn tell(&self, answered: Answered, told: &mut Vec<u8>) -> Result<(), ServeFault>
         requires few { self.now.lines < usize.MAX }
         ensures ok { OnOk result (told.new.items ≡ told.old.items ++ told_of answered (self.now.lines + 1)) }
@@ -121,7 +121,7 @@ impl Serving {
         }
     }
 
-    // Counts the next line, of which this came, and tells of it if nobody else is told.
+    // Counts the next line, of which this came, and reports it if it came to nobody.
     fn count(&mut self, answered: Answered, told: &mut Vec<u8>) -> Result<(), ServeFault>
         requires few { self.old.lines < usize.MAX }
         ensures ok { OnOk result ((c : AnyCourse) → Holds self.old c → IsCounted answered self.new c told.old.items told.new.items) }
@@ -206,8 +206,8 @@ impl Serving {
         }
     }
 
-    /// Takes these bytes, and appends the text of each line that ends in them, and what is told of them. If a fault ends the
-    /// service, the text of the lines before it was appended.
+    /// Takes these bytes, and appends the text of each line that ends in them, and the reports of those that came to nobody.
+    /// If a fault ends the service, the text of the lines before it was appended.
     pub fn feed(
         &mut self,
         alloc: Global,
@@ -248,7 +248,7 @@ impl Serving {
         }
     }
 
-    // Closes the test case that is open, and tells of that, if one is; if memory runs out, a part may have been appended.
+    // Closes the test case that is open, if one is, and reports that. If memory runs out, a part may have been appended.
     fn close(&mut self, out: &mut Vec<u8>, told: &mut Vec<u8>) -> Result<(), NoMemory>
         ensures ok { OnOk result ((c : AnyCourse) → Holds self.old c → IsOver self.new c out.old.items out.new.items told.old.items told.new.items) }
         ensures any { StartsWith out.new.items out.old.items }

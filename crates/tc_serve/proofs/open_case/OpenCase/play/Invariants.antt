@@ -5,7 +5,7 @@ use Rattle.tc_serve.specs.Step.{IsOpen}
 use Rattle.tc_serve.specs.Played.{Played, after_call, woken}
 use Rattle.tc_serve.proofs.open_case.OpenCase.play.Given as goal
 
--- the call is made, and the runs before this one are woken if they may go on
+-- the call is made, and the runs before this one are woken if they can continue
 abbrev pub invariant-loop-run : goal.invariant-loop-run
 invariant-loop-run l = record {
   so_far : (p : Played) → IsOpen l.fn.self p →
