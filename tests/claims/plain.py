@@ -14,8 +14,6 @@ MOST_WORDS_OF_A_SENTENCE, MOST_WORDS_OF_A_CELL = 35, 40
 # Of a document; the history of changes is held only to the words. A list of files has its own marks.
 MOST_SENTENCES_OF_A_PARAGRAPH, MOST_MARKS_OF_A_SENTENCE = 6, 1
 FEWEST_COMMENTS = 5000
-# The sources that are being rewritten, and are held to this when they are done.
-UNHELD = ("crates/tc_serve/",)
 # What a comment may name that no source defines: what the language and clap have, and a byte.
 KNOWN = ("Drop", "_", "DisplayHelp", "DisplayVersion")
 # Each idiom, and what is written instead. What is in backquotes is a name, and none of these.
@@ -155,8 +153,6 @@ def python_comments(text: str) -> Iterator[Tuple[int, str]]:
 
 def comments_of(path: str, text: str) -> Iterator[Tuple[int, str]]:
     """The paragraphs of the comments in a source, by its path; none of a file that is no source, or is not held to this."""
-    if path.startswith(UNHELD):
-        return
     if path.startswith("crates/") and path.endswith((".rt", ".antt")):
         yield from comments(text, marks_of(path))
     elif path.endswith(".py"):
