@@ -136,4 +136,48 @@ LIES = (
         ("""        Err(CheckFault::Differs { .. }) => Err(CloseFault::Torn),""",
          """        Err(CheckFault::Differs { .. }) => Err(CloseFault::NoMemory),"""),
     ), "tc_exec_tests"),
+    Lie("ended_courses_reach_nothing", (
+        ("""\
+    reach(&mut found.reached, scripts, &course);
+    if is_found(&found.witnesses, course.verdict()) {
+""", """\
+    if is_found(&found.witnesses, course.verdict()) {
+"""),
+    ), "tc_explore_tests"),
+    Lie("stuck_courses_reach_nothing", (
+        ("""\
+        reach(&mut found.reached, scripts, &stuck);
+        return Ok(true);
+""", """\
+        return Ok(true);
+"""),
+    ), "tc_explore_tests"),
+    Lie("the_first_step_is_told_as_not_seen", (
+        ("""append_step(&mut step, &steps[before])?;""", """append_step(&mut step, &steps[0])?;"""),
+    ), "tc_explore_tests"),
+    Lie("flushed_before_it_is_written", (
+        ("""\
+    write_made(writer, text)?;
+    match writer.flush() {
+        Ok(()) => Ok(()),
+        Err(_) => Err(OutFault::Write),
+    }
+""", """\
+    if writer.flush().is_err() {
+        return Err(OutFault::Write);
+    }
+    write_made(writer, text)
+"""),
+    ), "tc_campaign_tests"),
+    Lie("another_odd_byte_is_told", (
+        ("""append_hex(out, *byte)""", """append_hex(out, byte.wrapping_add(1))"""),
+    ), "tc_script_tests"),
+    Lie("workers_are_left_behind_a_refusal", (
+        ("""\
+        dismiss(rt, pass, workers, gathered);
+        return Err(CaseError::NoThread);
+""", """\
+        return Err(CaseError::NoThread);
+"""),
+    ), "tc_exec_tests"),
 )
