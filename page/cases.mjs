@@ -1,9 +1,9 @@
-// The cases: what the table of test cases says of each block of a text, and the two ends of comparing them.
+// The cases: what the table of test cases says of each block of a text, and where two opened cases part.
 import { Fault, Lines, MOST_BYTES, VERDICTS, readBlock } from "./reading.mjs";
 import { Table } from "./table.mjs";
 // A block without its entries, and where to read it again. `why` is the first entry after which the overall verdict is the
-// one that it is in the end, with the remarks of its run beside it: `before` is the last one since that run's entry before,
-// `behind` the first one until its next entry.
+// final one. It has two remarks of its run: `before` is the last since the run's entry before it, `behind` the first until
+// the run's next entry.
 function summarise(lines) {
   const from = lines.at, table = new Table(), remarks = new Map();
   let entries = 0, index = -1, why = null;
@@ -35,7 +35,7 @@ export function readHistories(text) {
     return { cases, fault };
   }
 }
-// How many first entries of two opened cases are alike. Remarks and names count for nothing.
+// How many first entries of two opened cases are equal. Remarks and names are not compared.
 export function alike(one, other) {
   const part = one.places.findIndex((place, nth) => one.list[place].text !== other.list[other.places[nth]]?.text);
   return part < 0 ? one.places.length : part;

@@ -1,4 +1,4 @@
-// The chart: one case as a scalable picture, of which only the part in sight is drawn.
+// The chart: one case as a scalable picture. Only the visible part is drawn.
 import { VERDICTS } from "./reading.mjs";
 import { countWhile, nameOf } from "./lanes.mjs";
 import { filterOf, isDeciding, rowsOf } from "./rows.mjs";
@@ -12,7 +12,7 @@ export class Chart {
     Object.assign(this, { game, options, unfolded: new Set(), chosen: 0, room: 900 });
     this.layout();
   }
-  // Which rows there are, and which lanes: all, or those that an entry about the component in focus is about.
+  // Which rows and lanes are shown: all, or those of the entries about the component in focus.
   layout() {
     const { game, options } = this, { focus } = options, isShown = filterOf(game, options), met = new Set([focus]);
     this.rows = rowsOf(game.list, isShown, options.isFolded, this.unfolded, game.part);
@@ -44,7 +44,7 @@ export class Chart {
         svg.rect(x - width / 2, 4, width, HEAD - 8, isAlone ? "box selected" : "box", 5) + lines.map(line).join("") + "</g>";
     }).join("") + (this.left > GUTTER ? svg.text(GUTTER + 55, HEAD / 2, "not started", "dim") : "");
   }
-  // The rows from one to another, with row `from` at the top, and of them what is to see between left and right.
+  // The rows from one to another, with row `from` at the top, and only what is between left and right.
   draw(from, to, left = 0, right = this.width) {
     const { rows, game } = this, bottom = (to - from) * ROW, parts = [], lanes = this.lanesBetween(left, right);
     const across = (y, look, x) => svg.line(x, y, this.width, y, look), shown = rows.slice(from, to);
@@ -59,12 +59,12 @@ export class Chart {
     if (from <= over && over < to) for (const low of [27.5, 25.5]) parts.push(across((over - from) * ROW + low, "over", GUTTER));
     return parts.join("") + (to === rows.length ? this.foot(bottom, lanes) : "");
   }
-  // How far below the top of row `from` an entry is. One that is not shown is between two rows.
+  // How far below the top of row `from` an entry is. A hidden entry is between two rows.
   yOf(index, from) {
     const place = index === Infinity ? this.rows.length : this.rowAt(index), isShown = index <= this.rows[place]?.last;
     return (place - from) * ROW + (isShown ? LOW : index === Infinity ? 0 : ROW);
   }
-  // A life line: thin, thick while a run is running, crossed where it was killed, and the brackets of its waits.
+  // A life line: thick while a run is running, otherwise thin, with a cross at its kill and brackets around its waits.
   life(lane, from, bottom) {
     const x = this.xs.get(lane.number), y = index => this.yOf(index, from), parts = [];
     const near = height => Math.max(-2 * ROW, Math.min(height, bottom + 2 * ROW));
@@ -90,7 +90,7 @@ export class Chart {
       `<g class="${lookOf(status)}">${svg.rect(GUTTER, y + 44, width, 24, "box", 4)}` +
       `${svg.text(middle, y + 56, isOver ? `verdict ${status}` : `not over; verdict so far ${VERDICTS[overall]}`, "strong")}</g>`;
   }
-  // A row: its picture, its lines in the text, and where its life line is out of sight, what it is.
+  // A row: its picture, its lines in the text, and its words at the edge if its life line is not visible.
   row(row, place, y, left, right) {
     const { list, who } = this.game, entry = list[row.first], x = this.xs.get(entry.on) ?? GUTTER;
     const tint = isDeciding(this.game, row) ? "on-why" : place === this.chosen ? "on-selected" : "";
@@ -123,13 +123,13 @@ export class Chart {
     const width = widthOf(label) + 18, left = Math.max(GUTTER - 6, Math.min(x - width / 2, this.width - width - 4));
     return `<g class="${look}">${svg.rect(left, y - 10, width, 20, "box", 5)}${svg.text(left + width / 2, y, label)}</g>`;
   }
-  // a label on the right of a life line, or on its left where there is no room; on the side with more room it is cut
+  // a label to the right of a life line, or to its left if it fits only there; if it fits nowhere, it is cut
   note(x, y, label, look = "") {
     const after = this.width - x - 18, before = x - 18 - GUTTER, words = cut(label, Math.max(after, before));
     const isAfter = widthOf(words) <= after;
     return svg.text(isAfter ? x + 12 : x - 18, y, words, `halo ${look}`, isAfter ? "start" : "end");
   }
-  // an arrow that ends so much before the life line, with its label beside the caller's life line
+  // an arrow that ends a little before the life line, with its label next to the caller's life line
   arrow(caller, begin, end, y, label, look, gap = 6) {
     const way = Math.sign(end - begin), tip = end - gap * way, half = widthOf(label) / 2;
     const beside = caller + (half + 14) * (caller === begin ? way : -way);

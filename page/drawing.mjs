@@ -1,4 +1,4 @@
-// Drawing: the pieces of a picture, as SVG, and how wide words are in it.
+// Drawing: the parts of a picture, as SVG, and how wide words are in it.
 export const escaped = text => String(text).replace(/[&<>"]/g, letter => `&#${letter.charCodeAt()};`);
 export const lookOf = status => `v-${status === "unfinished" ? "error" : status}`;  // the class of a verdict
 const pen = document.createElement("canvas").getContext("2d"), widths = new Map();
@@ -8,9 +8,9 @@ export function widthOf(text) {
   if (!widths.has(text)) widths.set(text, pen.measureText(text).width);
   return widths.get(text);
 }
-// The text, or as much of it as there is room for.
+// The text, cut to the room that there is.
 export const cut = (text, room) => widthOf(text) <= room || text.length < 2 ? text : cut(`${text.slice(0, -2)}\u2026`, room);
-// A name in one line or two, parted behind a `_` where that can be.
+// A name in one line or two, split after a `_` if it has one there.
 export function twoLines(name, room) {
   if (name.length <= room) return [name];
   const at = name.lastIndexOf("_", room - 1) + 1, parting = at > 0 && name.length - at <= room ? at : room;

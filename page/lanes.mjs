@@ -1,7 +1,7 @@
 // The lanes: a case with its entries, and how each component's phase, local verdict and wait change with them.
 import { Lines, readBlock } from "./reading.mjs";
 import { Table, phaseOf } from "./table.mjs";
-// Of a list of which some first items are `so` and no further one: how many are.
+// How many items are `so`, in a list that has these first.
 export function countWhile(list, so) {
   let low = 0, high = list.length;
   while (low < high) {
@@ -10,13 +10,13 @@ export function countWhile(list, so) {
   }
   return low;
 }
-// The last change that is not behind an entry.
+// The last change at an entry, or before it.
 export const lastAt = (changes, index) => changes[countWhile(changes, change => change.at <= index) - 1];
-// How a run with a behaviour is called, or a component.
+// The name of a run with its behaviour, or of a component.
 export const named = (number, name) => name ? `${number} ${name}` : `${number}`;
 export const quoted = said => `\u201c${said}\u201d`;
 export const nameOf = (number, name = null) => number === null ? "no component" : number === 0 ? "mtc" : named(number, name);
-// Notes the phase and the local verdict that a slot has behind the entry at an index, which was the verb `by`.
+// Notes the phase and the local verdict that a slot has after the entry at an index, whose verb is `by`.
 function note(lanes, slot, at, by) {
   if (!slot.exists) return;
   const { number, name, alive, run, local } = slot, phase = phaseOf(slot);
@@ -29,7 +29,7 @@ function note(lanes, slot, at, by) {
   }
   if (lane.locals.at(-1)?.rank !== local) lane.locals.push({ at, rank: local });
 }
-// Begins or ends the wait of the run that made the entry. A wake that is parked goes on with the same wait.
+// Begins or ends the wait of the run that made the entry. A wake that is parked continues the same wait.
 function noteWait(lane, entry, at) {
   const { run, reply, error } = entry, operation = entry.operation.replace("wake", "wait");
   const isParked = operation.startsWith("wait") && reply === "parked";
@@ -39,9 +39,9 @@ function noteWait(lane, entry, at) {
   }
   if (isParked && !lane.wait) lane.waits.push(lane.wait = { at, to: Infinity, how: "open", run, operation });
 }
-// The case of a summary: the entries with what was said among them, and `places`, where the entries are in that list. A change
-// at an entry holds from behind it on; that at -1 from the opening. `overAt` is the entry that ended the case, `part` where it
-// parts from another, `on` of an entry the component of its run. `who`, `which` and `ran` call components and runs by names.
+// The case of a summary: its entries and remarks in one list, and `places`, the indices of the entries in it. A change at an
+// entry holds after it, and a change at -1 from the beginning. `overAt` is the entry that ended the case, `part` the first one
+// that differs from another case, `on` of an entry the component of its run. `who`, `which` and `ran` give names.
 export function openCase(text, summary) {
   const table = new Table(), list = [], places = [], lanes = new Map(), { names } = summary;
   const who = number => nameOf(number, lanes.get(number)?.name), which = run => named(run, names.get(run));

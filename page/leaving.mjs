@@ -1,8 +1,8 @@
-// Leaving: what is taken from the page, as a picture in a file, or as text for Mermaid.
+// Leaving: what a reader saves from the page, as a picture in a file, or as text for Mermaid.
 import { app, on } from "./app.mjs";
 import { mermaidOf } from "./mermaid.mjs";
 const MOST_DRAWN = 20000, MOST_TOLD = 2000;  // rows
-// The picture of a chart for a file. The light colours are written out in it, for programs that know no variables.
+// The picture of a chart for a file. It has the light colours as values, for programs that do not know variables.
 export function fileOf(chart) {
   const rules = [...document.styleSheets[0].cssRules], light = rules[0].style;
   const plain = rule => rule.cssText.replace(/var\((--[\w-]+)\)/g, (_, name) => light.getPropertyValue(name).trim());
@@ -18,7 +18,7 @@ export function saveChart() {
   const href = URL.createObjectURL(new Blob([fileOf(chart)], { type: "image/svg+xml" }));
   Object.assign(document.createElement("a"), { href, download: `${chart.game.name}.svg` }).click();
 }
-// Shows the text for Mermaid, all of it selected, to be copied.
+// Shows the text for Mermaid with all of it selected, so that it can be copied.
 export function showMermaid() {
   const { chart } = app.pane, dialog = document.createElement("dialog"), area = document.createElement("textarea");
   if (!isShort(chart, "The diagram", MOST_TOLD)) return;

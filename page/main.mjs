@@ -1,4 +1,4 @@
-// The page: which view is shown, the keys, and what is done when it is opened.
+// The page: which view is shown, the keys, and what happens when it is opened.
 import { $, app, counted, goTo, on, when } from "./app.mjs";
 import { addSource, listenForFiles, showStart } from "./sources.mjs";
 import { showTable } from "./list.mjs";

@@ -3,7 +3,7 @@ import { VERDICTS } from "./reading.mjs";
 import { lastAt } from "./lanes.mjs";
 import { shapeOfRow } from "./shapes.mjs";
 const ARROWS = { dashed: "-->>", kill: "-x" };
-// Words in which nothing means anything to Mermaid: what might is written by its number.
+// Words that Mermaid takes as they are: a character that may mean something to it is written as its number.
 const plain = words => words.replace(/[^\w ,./():\u00d7\u2192\u201c\u201d-]|:(?! )/g, letter => `#${letter.charCodeAt()};`);
 export function mermaidOf(game, rows, numbers) {
   const lines = ["sequenceDiagram", `%% test case ${game.name}, ${game.status}`], running = new Set();

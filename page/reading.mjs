@@ -1,4 +1,4 @@
-// Reading: the grammar of docs/texts.md ("Moves" to "Evidence"), and the first line that is not of it.
+// Reading: the grammar of docs/texts.md ("Moves" to "Evidence"), and the first line that breaks it.
 export const VERDICTS = ["none", "pass", "inconc", "fail", "error"], MOST_BYTES = 16777216;
 const MOST_RUN = 65535, MOST_COMPONENT = 4294967295;
 const NUMBER = "(?:0|[1-9][0-9]{0,9})";
@@ -14,7 +14,7 @@ const whole = pattern => new RegExp(`^${pattern}$`);
 const ENTRY = whole(`(${NUMBER}) (${OPERATIONS.join("|")}) -> (${REPLY})`);
 const HEADER = whole(`(history [12]|evidence 1) (${NAME}) (${NUMBER})`), END = whole(`end (${VERDICTS.join("|")})`);
 const NAMING = whole(`behaviour (${NUMBER}) (${NAME})`), SAID = whole(`(${NUMBER}) ([#!]) ([ -~]{1,200})`);
-// Where a text is none of histories and evidence, and why, as `ttrun check` tells it. No line: the text as a whole.
+// The line at which a text breaks the grammar, and why, as `ttrun check` prints it; without a line, the text as a whole.
 export class Fault extends Error {
   constructor(line, kind, text) { super(kind); Object.assign(this, { line, kind, text }); }
 }
@@ -44,13 +44,13 @@ function readEntry(line, text, kind) {
   if (isTooLarge || entry.run > MOST_RUN || entry.started > MOST_RUN) return null;
   return kind === "history 1" && name !== null ? null : entry;
 }
-// A remark of a run, or why a line of it was refused, or null. It is among the entries; its verb is its mark, `#` or `!`.
+// A remark of a run, or why a line of it was refused, or null. It is in the list of entries, and its verb is `#` or `!`.
 function readSaid(line, text, behaviours) {
   const [, run, verb, said] = SAID.exec(text) ?? [];
   return Number(run) < behaviours ? { line, text, run: Number(run), verb, operation: verb, reply: "", said, name: null,
     verdict: null, error: null, alive: false, target: null, started: null, made: null, args: [] } : null;
 }
-// Reads a block, and hands on each entry and all that was said. `names` are those of the behaviours, by their runs.
+// Reads a block, and passes on each entry and each remark. `names` are those of the behaviours, by their runs.
 export function readBlock(lines, take) {
   const first = lines.next(), line = lines.number, names = new Map(), met = new Set();
   const [, kind, name, count] = HEADER.exec(first) ?? [], behaviours = Number(count), isEvidence = kind === "evidence 1";

@@ -1,22 +1,22 @@
-// The rows: which entries of a case are shown, and which of them stand in one row since they repeat one another.
+// The rows: which entries of a case are shown, and which share one row since they repeat one another.
 const QUESTIONS = new Set(["running", "alive", "done", "killed", "getverdict"]);
 export const isQuestion = entry => QUESTIONS.has(entry.verb);
-// An entry that changes nothing: a question, or a wait that goes on.
+// An entry that changes nothing: a question, or a wait that continues.
 const isQuiet = entry => entry.error === null && entry.reply !== "ended" &&
   (isQuestion(entry) || (entry.verb.startsWith("wake") && entry.reply === "parked"));
 const isAbout = (entry, component) => entry.on === component || entry.target === component || entry.target === "all" ||
   entry.made === component || entry.args.includes(component);
-// The entry after which the verdict is the one of the case, if that is inconc, fail or error.
+// The entry that made the verdict of the case, if that is inconc, fail or error.
 export const decidingOf = game => game.overall >= 2 ? game.list[game.why.index] : null;
 export const isDeciding = (game, row) => game.overall >= 2 && row.first <= game.why.index && game.why.index <= row.last;
-// Whether an entry is shown. The one that ends the case and the one that made its verdict always are.
+// Whether an entry is shown. The entry that ends the case and the one that made its verdict always are.
 export function filterOf(game, { focus, questions, ended, remarks }) {
   const always = [game.list[game.overAt], decidingOf(game)];
   return entry => always.includes(entry) || ((focus === null || isAbout(entry, focus)) &&
     (questions || !isQuiet(entry)) && (ended || entry.reply !== "ended") && (remarks || !entry.said));
 }
-// The rows of the entries that are shown. Where one run makes the same one to four entries three times or more, one behind
-// the other, they are one row. No row goes over the entry `part`.
+// The rows of the entries that are shown. If a run makes the same one to four entries at least three times in a row, they
+// share one row. No row goes past the entry `part`.
 export function rowsOf(list, isShown, isFolded, unfolded, part = -1) {
   const seen = [], rows = [];
   for (let index = 0; index < list.length; index += 1) if (isShown(list[index])) seen.push(index);

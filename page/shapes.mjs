@@ -1,9 +1,9 @@
-// The shapes: what a chart draws for an entry or a row, and the words beside it. It knows no coordinates.
+// The shapes: what a chart draws for an entry or a row, and the words next to it. There are no coordinates here.
 import { VERDICTS } from "./reading.mjs";
 import { lastAt, nameOf, quoted } from "./lanes.mjs";
 import { isQuestion } from "./rows.mjs";
-// An arrow between two life lines, a create, an arrow to all others that there are, a box on the caller's life line, or a
-// note beside it. An entry that no rule is for is a box with all its words.
+// An arrow between two life lines, a create, an arrow to all other components, a box on the caller's life line, or a note
+// next to it. An entry without a rule is a box with all its words.
 export function shapeOf({ lanes, who, which }, entry, index) {
   const { verb, reply, run, on, target, made, operation, started, said } = entry, isCarriedOut = reply === "ok";
   const to = lanes.has(target) && target !== on ? target : null, isHalt = verb === "stop" || verb === "kill";

@@ -1,4 +1,4 @@
-// The sources: histories in the page, files opened or dropped, a pasted text; and what is said of one that cannot be read.
+// The sources: histories in the page, files opened or dropped, a pasted text, and the message for one that cannot be read.
 import { $, app, counted, on, when } from "./app.mjs";
 import { MOST_BYTES } from "./reading.mjs";
 import { readHistories } from "./cases.mjs";
@@ -8,8 +8,8 @@ export function addSource(name, text) {
   app.sources.push(source);
   for (const summary of source.cases) app.cases.push({ ...summary, source, id: app.cases.length });
 }
-// Files are shown beside what is open, so that two nights can be compared. Each byte is read as one character, so what is
-// not ASCII is refused as `check` refuses it.
+// Files are shown next to what is open, so that two nights can be compared. Each byte is read as one character, so a byte
+// that is not ASCII is refused as `check` refuses it.
 async function openFiles(files) {
   for (const file of [...files]) {
     const bytes = await file.slice(0, MOST_BYTES + 1).arrayBuffer().catch(() => alert(`${file.name} cannot be read.`));

@@ -1,4 +1,4 @@
-// The states: what each component was doing behind the chosen entry, and what that entry changed.
+// The states: what each component was doing after the chosen entry, and what that entry changed.
 import { VERDICTS } from "./reading.mjs";
 import { $, app, chip, when } from "./app.mjs";
 import { countWhile, lastAt } from "./lanes.mjs";
@@ -15,7 +15,7 @@ export function showStates() {
   const { game, rows, chosen } = app.pane.chart, entry = game.list[rows[chosen]?.last];
   $("#said").textContent = when(entry, `line ${entry?.line}, ${game.who(entry?.on ?? null)}: ${entry?.text}`);
 }
-// A component behind a row: what it was doing, what it waited for, its local verdict, and whether the row changed these.
+// A component after a row: what it was doing, what it waited for, its local verdict, and whether the row changed these.
 function stateBehind({ which }, lane, row) {
   const last = lastAt(lane.phases, row.last), local = lastAt(lane.locals, row.last), before = row.first - 1;
   const wait = lane.waits[countWhile(lane.waits, past => past.to <= row.last)], isOpen = wait?.at <= row.last;

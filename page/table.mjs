@@ -7,7 +7,7 @@ export class Table {
     this.runs = new Map([[0, 0]]);  // the component that a run is on, by the first start of it that was carried out
     this.make(0, null).run = 0;
   }
-  // What is kept of a component, also of one that is not made.
+  // What is kept of a component, even of one that was not made.
   slot(number) {
     if (!this.slots.has(number)) this.slots.set(number,
       { number, exists: false, alive: false, name: null, run: null, isHalted: false, isKilled: false, local: 0 });
@@ -32,7 +32,7 @@ export class Table {
     if (entry.target === "all") return [...this.slots.values()].filter(slot => slot.number !== 0);
     return this.slots.has(entry.target) ? [this.slot(entry.target)] : [];
   }
-  // Takes an entry, and gives the slots that it may have changed.
+  // Takes an entry, and returns the slots that it may have changed.
   take(entry) {
     if (entry.reply === "ended") return [];
     const isCarriedOut = entry.reply === "ok", ends = this.endsCase(entry);

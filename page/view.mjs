@@ -1,4 +1,4 @@
-// The view: the chart of one case, or those of two side by side, which are scrolled together.
+// The view: the chart of one case, or the charts of two side by side, which scroll together.
 import { $, $$, app, chip, counted, goTo, on, when } from "./app.mjs";
 import { alike } from "./cases.mjs";
 import { Chart, GUTTER, HEAD, ROW } from "./chart.mjs";
@@ -73,7 +73,7 @@ function makePane(game, element) {
   chart.place(scroll.clientWidth);
   return pane;
 }
-// How tall the rows look, and how far down they are scrolled: where they are too tall, a step of the scroll bar is several.
+// How tall the rows look, and how far down they are scrolled. If they are too tall, one dot of the scroll bar is several.
 function share({ scroll }) {
   const room = scroll.clientHeight - HEAD, all = Math.max(room, ...app.panes.map(pane => pane.chart.height));
   const tall = Math.min(all, TALLEST), scale = tall > room ? (all - room) / (tall - room) : 1;
@@ -100,13 +100,13 @@ function layOutAgain() {
   const last = app.pane;
   for (const pane of [...app.panes.filter(other => other !== last), last]) choose(pane, pane.chart.chosen);
 }
-// Shows what is about one component, or with null everything.
+// Shows what is about one component, or everything for null.
 function focusOn(number) {
   app.options.focus = number;
   $("#focus").value = number ?? "";
   layOutAgain();
 }
-// Chooses a row, and brings it and its caller into sight.
+// Chooses a row, and scrolls to it and its caller.
 export function choose(pane, place) {
   const { chart, scroll } = pane, { room, scale, top } = share(pane), left = scroll.scrollLeft;
   app.pane = pane;
@@ -122,7 +122,7 @@ export function unfold({ chart }) {
   const row = chart.rows[chart.chosen];
   if (row?.times > 1) { chart.unfolded.add(row.first); layOutAgain(); }
 }
-// The next row of which an entry, or whom it names, has the word that is searched for.
+// The next row with the word: in an entry, or in the name of a component or behaviour of it.
 export function find(step) {
   const word = $("#search").value.toLowerCase(), { chart } = app.pane, { rows, game } = chart;
   const says = ({ text, run, started, on, target }) => [text, game.which(run), game.which(started ?? run), game.who(on),

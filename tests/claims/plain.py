@@ -14,6 +14,8 @@ MOST_WORDS_OF_A_SENTENCE, MOST_WORDS_OF_A_CELL = 35, 40
 # Of a document; the history of changes is held only to the words. A list of files has its own marks.
 MOST_SENTENCES_OF_A_PARAGRAPH, MOST_MARKS_OF_A_SENTENCE = 6, 1
 FEWEST_COMMENTS = 5000
+# The sources whose comments are held to the words, besides the crates.
+HELD = (".py", ".mjs", ".hpp", ".cpp")
 # What a comment may name that no source defines: what the language and clap have, and a byte.
 KNOWN = ("Drop", "_", "DisplayHelp", "DisplayVersion")
 # Each idiom, and what is written instead. What is in backquotes is a name, and none of these.
@@ -153,17 +155,17 @@ def python_comments(text: str) -> Iterator[Tuple[int, str]]:
 
 def comments_of(path: str, text: str) -> Iterator[Tuple[int, str]]:
     """The paragraphs of the comments in a source, by its path; none of a file that is no source, or is not held to this."""
-    if path.startswith("crates/") and path.endswith((".rt", ".antt")):
-        yield from comments(text, marks_of(path))
-    elif path.endswith(".py"):
+    if path.endswith(".py"):
         yield from python_comments(text)
+    elif path.endswith(HELD) or path.startswith("crates/") and path.endswith((".rt", ".antt")):
+        yield from comments(text, marks_of(path))
 
 
 def in_comments(top: str, paths: List[str]) -> Iterator[str]:
-    """The same of the comments of the crates, and of Python."""
+    """The same of the comments of the crates, of Python, of the page and of C++."""
     seen = 0
     for path in paths:
-        if path.endswith((".rt", ".antt", ".py")):
+        if path.endswith((".rt", ".antt", *HELD)):
             with open(os.path.join(top, path), encoding="utf-8") as file:
                 for line, text in comments_of(path, file.read()):
                     seen += 1

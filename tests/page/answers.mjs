@@ -7,7 +7,7 @@ const from = name => import(`${folder}${name}.mjs`);
 const { VERDICTS } = await from("reading"), { alike, readHistories } = await from("cases"), { lastAt, openCase } = await from("lanes");
 const { rowsOf } = await from("rows"), { shapeOf } = await from("shapes"), { mermaidOf } = await from("mermaid");
 
-// Behind the first `count` entries: phase, local verdict and wait of each component.
+// After the first `count` entries: phase, local verdict and wait of each component.
 function statesOf({ lanes }, count) {
   const there = [...lanes.values()].filter(lane => lane.phases[0].at < count);
   return Object.fromEntries(there.map(({ number, phases, locals, waits }) => {
