@@ -9,8 +9,8 @@ module _ {G : Type 0} (asks : G → Run → G → Bool → Type 0) where
   AreAllowed [] before after = after ≡ before
   AreAllowed (run ∷ runs) before after = (between : G) × asks before run between true × AreAllowed runs between after
 
-  -- the gate was asked about some of these runs, the first of them, each once, in their order; all except the last were
-  -- allowed
+  -- the gate was asked about the first of these runs, each once, in their order, and allowed each before the last; its
+  -- last answer is open, since the system can refuse a thread too
   pub record IsAskedUpTo (runs : List Run) (before after : G) : Type 0 where
     pub asked : List Run
     pub last : Run
@@ -33,8 +33,8 @@ module _ {G : Type 0} (asks : G → Run → G → Bool → Type 0) where
     pub others : AreOthers n runs
     pub each : AreAllowed asks runs before after
 
-  -- of n behaviours the gate was asked about some runs from 1 on, each once, in their order, and allowed all except the
-  -- last
+  -- of n behaviours the gate was asked about the first runs from 1 on, each once, in their order, and allowed each before
+  -- the last; its answer for the last is open
   pub record IsStopped (n : ℕ) (before after : G) : Type 0 where
     pub runs : List Run
     pub others : AreOthers n runs
