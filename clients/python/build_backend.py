@@ -11,6 +11,8 @@ from typing import Dict, List, Optional
 HERE = os.path.dirname(os.path.abspath(__file__))
 WHEEL = "Wheel-Version: 1.0\nGenerator: filskeam\nRoot-Is-Purelib: true\nTag: py3-none-any\n"
 ENTRY_POINTS = "[pytest11]\nfilskeam = pytest_filskeam\n"
+# What pip may pass; nothing of it is used.
+Settings = Optional[Dict[str, object]]
 
 
 def text_of(path: str) -> str:
@@ -21,7 +23,8 @@ def text_of(path: str) -> str:
 
 def version() -> str:
     """The version that the package says it has."""
-    return re.search('__version__ = "([^"]+)"', text_of("filskeam/__init__.py"))[1]
+    (found,) = re.findall('__version__ = "([^"]+)"', text_of("filskeam/__init__.py"))
+    return str(found)
 
 
 def metadata() -> str:
@@ -47,7 +50,7 @@ def record_of(files: Dict[str, str]) -> str:
     return "".join(f"{name},sha256={sums[name]},{len(text.encode())}\n" for name, text in files.items())
 
 
-def build_wheel(wheel_directory: str, config_settings: Optional[dict] = None, metadata_directory: Optional[str] = None) -> str:
+def build_wheel(wheel_directory: str, config_settings: Settings = None, metadata_directory: Optional[str] = None) -> str:
     """What pip calls: writes the wheel, and returns its name."""
     files = contents()
     record = f"filskeam-{version()}.dist-info/RECORD"
@@ -59,6 +62,6 @@ def build_wheel(wheel_directory: str, config_settings: Optional[dict] = None, me
     return name
 
 
-def get_requires_for_build_wheel(config_settings: Optional[dict] = None) -> List[str]:
+def get_requires_for_build_wheel(config_settings: Settings = None) -> List[str]:
     """Nothing more is needed."""
     return []

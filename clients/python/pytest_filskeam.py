@@ -1,11 +1,11 @@
 """The pytest plugin: the fixture `filskeam`, `--filskeam-evidence=FILE`, and what a failed test shows."""
 from __future__ import annotations
 
-from typing import Generator, List, Optional
+from typing import Any, Generator, List, Optional
 
 import pytest
 
-from filskeam import Result, Server
+from filskeam import Behaviour, Result, Server
 
 RESULTS = "filskeam_results"
 
@@ -17,7 +17,7 @@ class Bench:
         self.server = server
         self.results: List[Result] = []
 
-    def run(self, name: str, main: object, timeout: Optional[float] = None) -> Result:
+    def run(self, name: str, main: Behaviour, timeout: Optional[float] = None) -> Result:
         """Runs a test case. After that many seconds it is stopped, with the verdict error."""
         self.results.append(self.server.run(name, main, timeout))
         return self.results[-1]
@@ -29,13 +29,26 @@ def pytest_addoption(parser: pytest.Parser) -> None:
     group.addoption("--filskeam-evidence", metavar="FILE", help="writes the evidence of all test cases to FILE")
 
 
+def evidence_file(config: pytest.Config) -> Optional[str]:
+    """The file for the evidence. Each worker of pytest-xdist has its own, with the name of the worker at the end."""
+    path, worker = config.getoption("--filskeam-evidence"), getattr(config, "workerinput", None)
+    return f"{path}.{worker['workerid']}" if path and worker else path
+
+
+def pytest_configure(config: pytest.Config) -> None:
+    """Empties the file, so that no evidence of an earlier session stays in it."""
+    path = evidence_file(config)
+    if path:
+        try:
+            open(path, "w", encoding="ascii").close()
+        except OSError as error:
+            raise pytest.UsageError(f"--filskeam-evidence: {error}") from error
+
+
 @pytest.fixture(scope="session")
 def filskeam_server(request: pytest.FixtureRequest) -> Generator[Server, None, None]:
     """The server of the session."""
-    path = request.config.getoption("--filskeam-evidence")
-    if path:
-        open(path, "w", encoding="ascii").close()
-    with Server(evidence=path) as server:
+    with Server(evidence=evidence_file(request.config)) as server:
         yield server
 
 
@@ -48,7 +61,7 @@ def filskeam(request: pytest.FixtureRequest, filskeam_server: Server) -> Bench:
 
 
 @pytest.hookimpl(hookwrapper=True)
-def pytest_runtest_makereport(item: pytest.Item) -> Generator[None, object, None]:
+def pytest_runtest_makereport(item: pytest.Item) -> Generator[None, Any, None]:
     """Shows who, why and the last entries of each test case of a test that failed."""
     outcome = yield
     report = outcome.get_result()

@@ -1,17 +1,22 @@
 """The README of the client: its example is pasted and run, and its table names the calls that there are."""
 from __future__ import annotations
 
+import ast
 import os
 import re
+import shutil
 import subprocess
 import sys
-from typing import List
+from typing import List, Set
 
 import evidence
 from filskeam import Run
 from kit import CLIENT, Place, hold, same, test
 
 SECONDS = 60
+# What the client imports of the standard library of Python 3.8.
+STANDARD = ("__future__", "base64", "contextlib", "dataclasses", "functools", "hashlib", "io", "os", "queue", "re", "select", "shutil",
+            "subprocess", "tempfile", "threading", "time", "traceback", "typing", "zipfile")
 
 
 def blocks(kind: str) -> List[str]:
@@ -36,25 +41,50 @@ def the_example_works_when_it_is_pasted(place: Place) -> None:
     place.reach("lines of evidence", len(text.splitlines()), 12)
 
 
+# What an installed package says of itself.
+ASKS = """import filskeam, importlib.metadata as metadata
+points = metadata.entry_points()
+found = points.select(group="pytest11") if hasattr(points, "select") else points.get("pytest11", ())
+print(filskeam.__file__, metadata.version("filskeam"), *sorted(f"{it.name}={it.value}" for it in found if it.name == "filskeam"))
+"""
+
+
 @test
 def the_package_is_installed_from_its_folder(place: Place) -> None:
-    """Without a network: the wheel has the modules, the plugin and its entry point."""
-    script = f"import sys; sys.path.insert(0, {CLIENT!r}); import build_backend; print(build_backend.build_wheel({place.room!r}))"
-    name = subprocess.run([sys.executable, "-B", "-c", script], stdout=subprocess.PIPE, timeout=SECONDS, check=True).stdout.decode().strip()
-    room = place.path("installed")
-    words = [sys.executable, "-m", "pip", "install", "-q", "--no-index", "--disable-pip-version-check", "--target", room, place.path(name)]
-    ran = subprocess.run(words, stdout=subprocess.PIPE, stderr=subprocess.PIPE, timeout=SECONDS, check=False)
-    if b"No module named pip" in ran.stderr:
-        place.reached.append("pip is not installed: only the wheel was made")
+    """Without a network, in an environment of its own and without one: the modules, the types, the plugin and its entry point."""
+    if subprocess.run([sys.executable, "-m", "pip", "--version"], stdout=subprocess.DEVNULL, stderr=subprocess.DEVNULL, check=False).returncode != 0:
+        place.skip("pip is not installed")
         return
-    hold(ran.returncode == 0, ran.stderr)
-    files = [os.path.join(folder, it) for folder, _, names in os.walk(room) for it in names if not it.endswith(".pyc")]
-    same(sorted(it for it in os.listdir(room) if not it.startswith("__")), ["filskeam", "filskeam-0.1.0.dist-info", "pytest_filskeam.py"])
-    points = os.path.join(room, "filskeam-0.1.0.dist-info", "entry_points.txt")
-    hold(os.path.exists(points), "the plugin has no entry point")
-    with open(points, encoding="ascii") as file:
-        same(file.read(), "[pytest11]\nfilskeam = pytest_filskeam\n")
-    place.reach("files", len(files), 12)
+    folder, files = place.path("client"), []
+    shutil.copytree(CLIENT, folder, ignore=shutil.ignore_patterns("__pycache__"))
+    for words in ([], ["--no-build-isolation"]):
+        room = place.path(f"installed{len(words)}")
+        command = [sys.executable, "-m", "pip", "install", "-q", "--no-index", *words, "--disable-pip-version-check", "--target", room, folder]
+        ran = subprocess.run(command, stdout=subprocess.PIPE, stderr=subprocess.STDOUT, timeout=SECONDS, check=False)
+        hold(ran.returncode == 0, ran.stdout.decode())
+        same(sorted(it for it in os.listdir(room) if not it.startswith("__")), ["filskeam", "filskeam-0.1.0.dist-info", "pytest_filskeam.py"])
+        hold(os.path.exists(os.path.join(room, "filskeam", "py.typed")), "its types are not announced")
+        asked = subprocess.run([sys.executable, "-c", ASKS], cwd=place.room, env={**os.environ, "PYTHONPATH": room}, stdout=subprocess.PIPE, check=False)
+        same(asked.stdout.decode().split(), [os.path.join(room, "filskeam", "__init__.py"), "0.1.0", "filskeam=pytest_filskeam"])
+        files += [os.path.join(at, it) for at, _, names in os.walk(room) for it in names if not it.endswith(".pyc")]
+    place.reach("files", len(files), 24)
+
+
+@test
+def the_client_needs_python_3_8_and_no_package(place: Place) -> None:
+    """Its files have only the grammar of that version, and import only what that version has, and each other."""
+    paths = [os.path.join(at, it) for at, _, names in os.walk(CLIENT) for it in names if it.endswith(".py")]
+    found: Set[str] = set()
+    for path in paths:
+        with open(path, encoding="utf-8") as file:
+            tree = ast.parse(file.read(), path, feature_version=(3, 8))
+        for it in ast.walk(tree):
+            if isinstance(it, ast.Import):
+                found.update(name.name.split(".")[0] for name in it.names)
+            elif isinstance(it, ast.ImportFrom) and it.level == 0:
+                found.add((it.module or "").split(".")[0])
+    same(sorted(found - set(STANDARD)), ["filskeam", "pytest"])
+    place.reach("files", len(paths), 8)
 
 
 @test

@@ -113,6 +113,30 @@ def a_dynamic_error_is_told(place: Place) -> None:
 
 
 @test
+def a_thread_that_cannot_be_made(place: Place) -> None:
+    """Its starter learns of it as of an exception; nobody waits for the behaviour, or names it as hanging."""
+    starts = threading.Thread.start
+
+    def start(thread: threading.Thread) -> None:
+        if thread.name == "t_thread run 1 worker":
+            raise RuntimeError("can't start new thread")
+        starts(thread)
+
+    def worker(run: Run) -> None:
+        run.set_verdict("pass")
+
+    threading.Thread.start = start  # type: ignore[method-assign]
+    try:
+        with place.server(grace=15) as server:
+            result = timed(lambda: server.run("t_thread", alone(worker)), 10)
+    finally:
+        threading.Thread.start = starts  # type: ignore[method-assign]
+    same((result.verdict, result.hung, [it.run for it in result.raised]), ("error", (), [0]))
+    holds_word("run 0 main on mtc: stopcase: RuntimeError: can't start new thread", result.why)
+    place.reach("entries", len(legal(result).entries), 3)
+
+
+@test
 def a_case_past_its_time_out(place: Place) -> None:
     """It ends in error, what hangs is named, and the evidence is whole: a worker hangs, the main one, or all."""
 

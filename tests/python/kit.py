@@ -34,6 +34,7 @@ class Place:
     room: str
     command: Sequence[str]
     reached: List[str] = field(default_factory=list)
+    lacks: str = ""
 
     def server(self, **more: object) -> Server:
         """A server."""
@@ -54,6 +55,10 @@ class Place:
         path = self.write("ttrun", f'#!/bin/sh\n[ "$*" = serve ] || exit 9\nexec {shlex.join(self.command)}\n')
         os.chmod(path, 0o755)
         return path
+
+    def skip(self, lacks: str) -> None:
+        """Says what the test needs and this machine has not."""
+        self.lacks = lacks
 
     def reach(self, what: str, count: int, least: int) -> None:
         """Says how much the test reached; fails below the floor."""

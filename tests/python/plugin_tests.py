@@ -2,7 +2,6 @@
 from __future__ import annotations
 
 import importlib
-import importlib.util
 import os
 import subprocess
 import sys
@@ -11,23 +10,26 @@ from typing import Any, Callable, Dict, List, Optional, Tuple
 
 import evidence
 from filskeam import Run
-from kit import CLIENT, Place, hold, holds_word, same, test
+from kit import CLIENT, Place, holds_word, raises, same, test
 
 SECONDS = 60
 
 
+class UsageError(Exception):
+    """What the plugin raises for a wrong option."""
+
+
 def plugin() -> types.ModuleType:
-    """The plugin, over pytest or the stand-in: decorators that change nothing."""
-    if importlib.util.find_spec("pytest") is None:
-        stand_in: Any = types.ModuleType("pytest")
-        stand_in.fixture = lambda function=None, **_: function if function else lambda it: it
-        stand_in.hookimpl = lambda **_: lambda it: it
-        sys.modules["pytest"] = stand_in
+    """The plugin, over a stand-in for pytest: decorators that change nothing."""
+    stand_in: Any = types.ModuleType("pytest")
+    stand_in.fixture = lambda function=None, **_: function if function else lambda it: it
+    stand_in.hookimpl = lambda **_: lambda it: it
+    stand_in.UsageError = UsageError
+    sys.modules["pytest"] = stand_in
     try:
         return importlib.import_module("pytest_filskeam")
     finally:
-        if not hasattr(sys.modules["pytest"], "__version__"):
-            del sys.modules["pytest"]
+        del sys.modules["pytest"]
 
 
 class Report:
@@ -44,12 +46,15 @@ class Report:
 class Session:
     """What pytest does for a test with the fixture: options, fixtures, the call, the report."""
 
-    def __init__(self, path: Optional[str]) -> None:
+    def __init__(self, path: Optional[str], worker: str = "") -> None:
         self.plugin = plugin()
+        if worker:
+            self.workerinput = {"workerid": worker}
         self.options: Dict[str, object] = {}
         self.plugin.pytest_addoption(self)
         self.options["--filskeam-evidence"] = path
         self.config, self.node = self, types.SimpleNamespace()
+        self.plugin.pytest_configure(self)
 
     def getgroup(self, *_: str) -> Session:
         """The group of options."""
@@ -126,20 +131,76 @@ def the_plugin_shows_what_failed(place: Place) -> None:
 
 
 @test
+def the_file_of_the_evidence_is_emptied(place: Place) -> None:
+    """At the begin of a session, also if no test uses the fixture; each worker of pytest-xdist has a file of its own."""
+    path, other = (place.write(it, "of an earlier session\n") for it in ("run.evidence", "run.evidence.gw1"))
+    Session(None)
+    Session(path)
+    sizes = [os.path.getsize(it) for it in (path, other)]
+    Session(path, "gw1")
+    same((sizes[0], sizes[1] > 0, os.path.getsize(other)), (0, True, 0))
+    holds_word("--filskeam-evidence: ", str(raises(UsageError, lambda: Session("/nowhere/run.evidence"))))
+    place.reach("files", len(sizes), 2)
+
+
+def python_with_pytest() -> str:
+    """A Python that has pytest, this one or the system's; nothing if there is none."""
+    for python in (sys.executable, "/usr/bin/python3"):
+        if os.path.exists(python) and subprocess.run([python, "-c", "import pytest"], stderr=subprocess.DEVNULL, check=False).returncode == 0:
+            return python
+    return ""
+
+
+BENCH = """import time
+
+
+def fails(run):
+    run.set_verdict("fail", "too hot")
+
+
+def hangs(run):
+    time.sleep(1000)
+
+
+def test_fails(filskeam):
+    result = filskeam.run("t_fails", fails)
+    assert result.verdict == "pass", result.why
+
+
+def test_hangs(filskeam):
+    assert filskeam.run("t_hangs", hangs, timeout=0.5).verdict == "pass"
+
+
+def test_passes(filskeam):
+    assert filskeam.run("t_passes", lambda run: run.set_verdict("pass")).verdict == "pass"
+"""
+SHOWN = ("1 passed", "2 failed", "run 0 fails on mtc: setverdict fail: too hot", "filskeam: t_fails", "  end fail", "filskeam: t_hangs",
+         "has not returned: run 0 hangs")
+
+
+@test
 def the_plugin_works_in_pytest(place: Place) -> None:
     """A session of pytest, if it is installed."""
-    if importlib.util.find_spec("pytest") is None:
-        place.reached.append("pytest is not installed: skipped")
+    python = python_with_pytest()
+    if not python:
+        place.skip("pytest is not installed")
         return
-    place.write("test_bench.py", "def fails(run):\n    run.set_verdict('fail', 'too hot')\n\n\n"
-                "def test_bench(filskeam):\n    result = filskeam.run('t_bench', fails)\n    assert result.verdict == 'pass', result.why\n")
-    environment = {**os.environ, "FILSKEAM_TTRUN": place.program(), "PYTHONPATH": CLIENT}
-    words = [sys.executable, "-m", "pytest", "-p", "pytest_filskeam", "-p", "no:cacheprovider", "--filskeam-evidence=run.evidence"]
-    ran = subprocess.run(words, cwd=place.room, env=environment, stdout=subprocess.PIPE, stderr=subprocess.STDOUT, timeout=SECONDS, check=False)
-    shown = ran.stdout.decode()
-    hold(ran.returncode == 1, shown)
-    for word in ("run 0 fails on mtc: setverdict fail: too hot", "filskeam: t_bench", "  end fail"):
+    place.write("test_bench.py", BENCH)
+    environment = {**os.environ, "FILSKEAM_TTRUN": place.program(), "PYTHONDONTWRITEBYTECODE": "1",
+                   "PYTHONPATH": os.pathsep.join(it for it in (CLIENT, os.environ.get("PYTHONPATH")) if it)}
+
+    def session(path: str) -> Tuple[int, str]:
+        words = [python, "-m", "pytest", "-p", "pytest_filskeam", "-p", "no:cacheprovider", f"--filskeam-evidence={path}"]
+        ran = subprocess.run(words, cwd=place.room, env=environment, stdout=subprocess.PIPE, stderr=subprocess.STDOUT, timeout=SECONDS, check=False)
+        return ran.returncode, ran.stdout.decode()
+
+    status, shown = session("run.evidence")
+    same(status, 1, shown)
+    for word in SHOWN:
         holds_word(word, shown)
     with open(place.path("run.evidence"), encoding="ascii") as file:
-        same([it.verdict for it in evidence.blocks_of(file.read())], ["fail"])
-    place.reach("tests of pytest", 1, 1)
+        same([(it.name, it.verdict) for it in evidence.blocks_of(file.read())], [("t_fails", "fail"), ("t_hangs", "error"), ("t_passes", "pass")])
+    status, shown = session("nowhere/run.evidence")
+    same(status, 4, shown)
+    holds_word("--filskeam-evidence: ", shown)
+    place.reach("words that pytest shows", len(SHOWN), 7)

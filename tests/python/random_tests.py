@@ -1,10 +1,12 @@
 """Random test cases of forty behaviours, and how many calls there are in a second."""
 from __future__ import annotations
 
+import os
 import random
+import subprocess
 import time
 from collections import Counter
-from typing import Callable
+from typing import Callable, List
 
 from filskeam import DynamicError, Result, Run
 from kit import Place, hold, legal, same, test
@@ -79,15 +81,29 @@ def judged(result: Result, met: Counter) -> None:
     met["hung"] += len(result.hung)
 
 
+def hold_by_program(place: Place, results: List[Result]) -> None:
+    """Holds the evidence to `ttrun check`, if the server is the program."""
+    program = place.command[0]
+    if os.path.basename(program) != "ttrun":
+        return
+    text = "".join(it.evidence for it in results)
+    ran = subprocess.run([program, "check"], input=text.encode(), stdout=subprocess.PIPE, stderr=subprocess.PIPE, timeout=60, check=False)
+    wanted = [f"legal {it.name} {it.evidence.count(' -> ')} {it.verdict}" for it in results]
+    same((ran.stdout.decode().splitlines(), ran.stderr, ran.returncode), (wanted, b"", 0), "ttrun check:")
+    place.reach("blocks for ttrun check", len(wanted), CASES)
+
+
 @test
 def random_cases_are_legal(place: Place) -> None:
     """Thirty cases of up to forty behaviours at once: legal evidence, and the local verdicts of the table."""
     met: Counter = Counter()
+    results: List[Result] = []
     with place.server(grace=20) as server:
         for at in range(CASES):
-            result = server.run(f"t_{at}", Draw(f"{SEED} {at}").behave, timeout=60)
-            hold(not result.is_timed_out, f"{result.name} took too long")
-            judged(result, met)
+            results.append(server.run(f"t_{at}", Draw(f"{SEED} {at}").behave, timeout=60))
+            hold(not results[-1].is_timed_out, f"{results[-1].name} took too long")
+            judged(results[-1], met)
+    hold_by_program(place, results)
     same(met["hung"], 0, "hanging behaviours:")
     for what, least in (("behaviours", 600), ("create", 600), ("start", 600), ("setverdict", 100), ("wait", 20), ("wake", 15), ("parked", 15),
                         ("ended", 30), ("remarks", 60), ("finish", 40), ("raised", 1), ("dynamic error", 2), ("error", 4), ("fail", 4)):

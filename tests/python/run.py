@@ -3,8 +3,9 @@
 
 usage: tests/python/run.py [--server COMMAND] [--only WORD] [--jobs N] [--list]
 
-To test over the program: --server "crates/ttrun/out/ttrun serve". The last line is 'N passed, M failed'; the status is 0
-if nothing failed, otherwise 1. With the variable FILSKEAM_CLIENT the client is taken from that folder.
+To test over the program: --server "crates/ttrun/out/ttrun serve". The last line is 'N passed, M failed', and says how many
+were skipped if some were; the status is 0 if nothing failed, otherwise 1. With the variable FILSKEAM_CLIENT the client is
+taken from that folder.
 """
 from __future__ import annotations
 
@@ -14,7 +15,8 @@ import shlex
 import sys
 import tempfile
 from concurrent.futures import ThreadPoolExecutor
-from typing import List, Sequence, Tuple
+from dataclasses import dataclass
+from typing import List, Sequence
 
 sys.dont_write_bytecode = True
 
@@ -29,20 +31,37 @@ import server_tests
 import word_tests
 from lanes import lanes
 
-FEWEST = 39
+FEWEST = 44
 # Tests that change what the whole process has, or measure: they run one by one, after the others.
-ALONE = ("the_program_is_found", "the_plugin_shows_what_failed", "calls_in_a_second")
+ALONE = ("the_program_is_found", "the_plugin_shows_what_failed", "the_file_of_the_evidence_is_emptied", "calls_in_a_second")
 
 
-def judged(name: str, command: Sequence[str]) -> Tuple[List[str], List[str]]:
-    """What a test reached, and what is wrong."""
+@dataclass
+class Answer:
+    """What a test reached, why it was skipped, and what is wrong."""
+
+    reached: List[str]
+    lacks: str
+    faults: List[str]
+
+    def line(self, name: str) -> str:
+        """What is printed of the test."""
+        if self.faults:
+            return "\n".join([f"FAILED {name}", *(f"  {it}" for it in self.faults)])
+        return f"skipped {name}: {self.lacks}" if self.lacks else f"{name}: {', '.join(self.reached)}"
+
+
+def judged(name: str, command: Sequence[str]) -> Answer:
+    """Runs a test."""
     with tempfile.TemporaryDirectory(prefix="filskeam-test-") as room:
         place = kit.Place(room, command)
         try:
             kit.TESTS[name](place)
-        except Exception as error:  # a test that breaks has failed, and the others run on
-            return place.reached, [f"{type(error).__name__}: {error}"[:2000]]
-        return place.reached, [] if place.reached else ["Fault: it does not say what it reached"]
+        except KeyboardInterrupt:
+            raise
+        except BaseException as error:  # a test that breaks has failed, also by what is no Exception, and the others run on
+            return Answer(place.reached, "", [f"{type(error).__name__}: {error}"[:2000]])
+        return Answer(place.reached, place.lacks, [] if place.reached or place.lacks else ["Fault: it does not say what it reached"])
 
 
 def main() -> int:
@@ -64,11 +83,10 @@ def main() -> int:
     with ThreadPoolExecutor(given.jobs) as pool:
         answers = dict(zip(side_by_side, pool.map(lambda it: judged(it, command), side_by_side)))
     answers.update({it: judged(it, command) for it in chosen if it in ALONE})
-    failed = 0
-    for name, (reached, faults) in answers.items():
-        failed += bool(faults)
-        print("\n".join([f"FAILED {name}", *(f"  {it}" for it in faults)] if faults else [f"{name}: {', '.join(reached)}"]))
-    print(f"{len(chosen) - failed} passed, {failed} failed")
+    for name, answer in answers.items():
+        print(answer.line(name))
+    failed, skipped = (sum(map(bool, them)) for them in ((it.faults for it in answers.values()), (it.lacks for it in answers.values())))
+    print(f"{len(chosen) - failed - skipped} passed, {failed} failed" + f", {skipped} skipped" * bool(skipped))
     return 1 if failed or not chosen else 0
 
 

@@ -73,6 +73,16 @@ def a_server_that_is_killed(place: Place) -> None:
 
 
 @test
+def a_program_that_does_not_know_serve(place: Place) -> None:
+    """The line that says so is named, and not the last one, which says how to get help."""
+    refusal = "echo \"error: unrecognized subcommand 'serve'\" >&2; echo >&2; echo \"For more information, try '--help'.\" >&2; exit 3"
+    with Server(["sh", "-c", refusal], grace=0.4) as server:
+        result = timed(lambda: server.run("t_old", main_that_calls), 10)
+    same(result.why, "the server ended with status 3: error: unrecognized subcommand 'serve'")
+    place.reach("refusals", 1, 1)
+
+
+@test
 def a_server_that_ends_is_told_by_its_last_line(place: Place) -> None:
     """Its status and the last line of its standard error; half a line that it wrote is no evidence."""
     with Server(stub(place, "0 setverdict pass -> ok\\n0 getv", "3"), grace=0.4) as server:

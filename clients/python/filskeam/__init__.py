@@ -21,6 +21,7 @@ was stopped raises `Ended`; nothing cuts a behaviour off before its next call.
 from .bench import Case, Run, Server
 from .errors import DynamicError, Ended, NoProgram, Refused, ServerEnded
 from .evidence import VERDICTS, Raised, Result
+from .words import Behaviour
 
-__all__ = ["Case", "DynamicError", "Ended", "NoProgram", "Raised", "Refused", "Result", "Run", "Server", "ServerEnded", "VERDICTS"]
+__all__ = ["Behaviour", "Case", "DynamicError", "Ended", "NoProgram", "Raised", "Refused", "Result", "Run", "Server", "ServerEnded", "VERDICTS"]
 __version__ = "0.1.0"

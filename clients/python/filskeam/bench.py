@@ -32,7 +32,7 @@ class Run:
         self.is_done = False
         self._case = case
         self._calling = threading.Lock()
-        self._answers: queue.SimpleQueue = queue.SimpleQueue()
+        self._answers: queue.SimpleQueue[Union[str, BaseException]] = queue.SimpleQueue()
         self._asked = ""
         self._is_parked = False
         self._seen = 0
@@ -269,8 +269,13 @@ class Case:
         return [f"behaviour {run.number} {run.behaviour}"] if run.number < MOST_BEHAVIOURS else []
 
     def _begin(self, run: Run, behaviour: Callable[[], object]) -> None:
-        run.thread = threading.Thread(target=self._behave, args=(run, behaviour), name=f"{self.name} {run}", daemon=True)
-        run.thread.start()
+        thread = threading.Thread(target=self._behave, args=(run, behaviour), name=f"{self.name} {run}", daemon=True)
+        run.thread = thread
+        try:
+            thread.start()
+        except RuntimeError:  # there is no thread for it, so nobody waits for its return
+            run.is_done = True
+            raise
 
     def _behave(self, run: Run, behaviour: Callable[[], object]) -> None:
         """Runs a behaviour to its end, and reports that to the table."""

@@ -7,7 +7,7 @@ import select
 import shutil
 import subprocess
 import tempfile
-from typing import Optional, Sequence
+from typing import BinaryIO, Optional, Sequence, cast
 
 from .errors import NoProgram
 
@@ -40,11 +40,12 @@ class Program:
         except OSError as error:
             self._errors.close()
             raise NoProgram(f"{command[0]} cannot be started: {error.strerror}") from error
-        self._output = io.BufferedReader(self._process.stdout)
+        self._input = cast(BinaryIO, self._process.stdin)
+        self._output = io.BufferedReader(cast(io.RawIOBase, self._process.stdout))
 
     def write(self, text: bytes, seconds: Optional[float] = None) -> None:
         """Gives it lines, unless it takes none for that many seconds. One that has ended is noticed by its reader."""
-        pipe = self._process.stdin.fileno()
+        pipe = self._input.fileno()
         try:
             if seconds is None or select.select([], [pipe], [], seconds)[1]:
                 while text:
@@ -67,8 +68,10 @@ class Program:
             return "the server has closed its output"
         self._errors.seek(0)
         told = self._errors.read().decode("utf-8", "replace").strip().splitlines()
+        # A program that does not know the word serve says so first, and how to get help last.
+        last = next((it for it in told if it.startswith("error: ")), told[-1] if told else "")
         how = f"signal {-status}" if status < 0 else f"status {status}"
-        return f"the server ended with {how}" + (f": {told[-1]}" if told else "")
+        return f"the server ended with {how}" + f": {last}" * bool(last)
 
     def kill(self) -> None:
         """Ends it at once."""
@@ -76,7 +79,7 @@ class Program:
 
     def close(self) -> int:
         """Ends its input, and waits for its end: its status, 3 if it was a signal."""
-        self._process.stdin.close()
+        self._input.close()
         try:
             status = self._process.wait(self._grace)
         except subprocess.TimeoutExpired:
