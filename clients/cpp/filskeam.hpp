@@ -30,6 +30,7 @@
 #include <cstdlib>
 #include <cstring>
 #include <exception>
+#include <fstream>
 #include <functional>
 #include <map>
 #include <memory>
@@ -98,6 +99,13 @@ struct Result {
     bool is_timed_out = false;
     // Why the server ended inside the test case; empty where it did not.
     std::string fault;
+
+    // The local verdict of a component, or the worst of those with this name. Throws std::out_of_range if there is none.
+    std::string local(int component) const { return locals.at(component); }
+    std::string local(const std::string& component) const;
+
+    // The maker of the verdict and why, what was thrown, the local verdicts, and the last entries.
+    std::string report(std::size_t most = 20) const;
 };
 
 namespace detail {
@@ -326,12 +334,16 @@ public:
     std::string how_it_ended() {
         if (!wait_for(grace_)) return "the server has closed its output";
         std::string told, line;
+        auto end_line = [&] {  // a program that does not know the word serve says so first, and how to get help last
+            if (!line.empty() && told.rfind("error: ", 0) != 0) told = line;
+            line.clear();
+        };
         std::rewind(errors_);
         for (int it = std::fgetc(errors_); it != EOF; it = std::fgetc(errors_)) {
-            if (it != '\n') line += static_cast<char>(it);
-            else told = std::exchange(line, "");
+            if (it == '\n') end_line();
+            else line += static_cast<char>(it);
         }
-        if (!line.empty()) told = line;
+        end_line();
         std::string how = WIFSIGNALED(status_) ? "signal " + std::to_string(WTERMSIG(status_)) : "status " + std::to_string(WEXITSTATUS(status_));
         return "the server ended with " + how + (told.empty() ? "" : ": " + told);
     }
@@ -413,6 +425,32 @@ private:
 class Case;
 
 }  // namespace detail
+
+inline std::string Result::local(const std::string& component) const {
+    std::optional<std::string> worst;
+    for (const auto& [number, verdict] : locals)
+        if (names.at(number) == component && (!worst || detail::rank(verdict) > detail::rank(*worst))) worst = verdict;
+    if (!worst) throw std::out_of_range("test case " + name + " has no component '" + component + "'");
+    return *worst;
+}
+
+inline std::string Result::report(std::size_t most) const {
+    std::string text = "test case " + name + ": " + verdict + "\nwhy: " + why + "\n";
+    if (is_timed_out) text += "the test case took longer than it may\n";
+    for (const auto& it : hung) text += "has not returned: " + it + "\n";
+    for (const auto& it : raised) text += "thrown by " + it + "\n";
+    for (const auto& [number, verdict_of] : locals)
+        text += "local " + std::to_string(number) + (names.at(number).empty() ? "" : " " + names.at(number)) + ": " + verdict_of + "\n";
+    const auto lines = static_cast<std::size_t>(std::count(evidence.begin(), evidence.end(), '\n'));
+    text += lines <= most ? "evidence:\n" : "evidence, the last " + std::to_string(most) + " of " + std::to_string(lines) + " lines:\n";
+    std::size_t at = 0;
+    for (std::size_t line = 0; line < lines; ++line) {
+        const auto end = evidence.find('\n', at);
+        if (line + most >= lines) text += "  " + evidence.substr(at, end + 1 - at);
+        at = end + 1;
+    }
+    return text;
+}
 
 // A component by its number, or "all"; where a status is asked or waited for, also "any".
 class Target {
@@ -588,8 +626,8 @@ public:
 
     void begin(const std::shared_ptr<Run>& run, Behaviour behaviour) {
         std::lock_guard<std::mutex> hold(news_);
-        run->is_started_ = true;
         std::thread([self = shared_from_this(), run, behaviour = std::move(behaviour)] { self->behave(*run, behaviour); }).detach();
+        run->is_started_ = true;  // without a thread nobody waits for its return
     }
 
     // Writes lines, unless the test case is closed.
@@ -873,10 +911,13 @@ inline void Run::stop_case_from_outside(const std::string& reason, Seconds limit
 class Server {
 public:
     // The program is what FILSKEAM_TTRUN names, or `ttrun` on the path, unless a command is given. A behaviour that does
-    // not return for so long after the end of its test case is abandoned.
-    explicit Server(std::vector<std::string> command = {}, Seconds grace = Seconds(5)) : command_(std::move(command)), grace_(grace) {
+    // not return for so long after the end of its test case is abandoned. The evidence of each test case is appended to the
+    // file, if one is named.
+    explicit Server(std::vector<std::string> command = {}, std::string evidence = "", Seconds grace = Seconds(5))
+        : command_(std::move(command)), evidence_(std::move(evidence)), grace_(grace) {
         const char* named = std::getenv("FILSKEAM_TTRUN");
         if (command_.empty()) command_ = {named != nullptr && *named != 0 ? named : "ttrun", "serve"};
+        if (!evidence_.empty()) append(evidence_, "");  // a file that cannot be written is reported before a test case is run
     }
 
     Server(const Server&) = delete;
@@ -889,6 +930,8 @@ public:
         detail::checked_name(name);
         if (!program_) program_ = std::make_unique<detail::Program>(command_, grace_);
         auto result = std::make_shared<detail::Case>(name, *program_, grace_)->play("main", std::move(main), limit);
+        // A block without its end would spoil the file: it goes into another next to it.
+        if (!evidence_.empty()) append(evidence_ + (result.fault.empty() ? "" : ".cut"), result.evidence);
         if (!result.fault.empty()) {
             close();
             status_ = 3;
@@ -904,7 +947,13 @@ public:
     }
 
 private:
+    static void append(const std::string& path, const std::string& text) {
+        std::ofstream file(path, std::ios::app);
+        if (!(file << text << std::flush)) throw std::runtime_error(path + " cannot be written");
+    }
+
     std::vector<std::string> command_;
+    std::string evidence_;
     Seconds grace_;
     std::unique_ptr<detail::Program> program_;
     int status_ = 0;

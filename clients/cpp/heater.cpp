@@ -83,8 +83,8 @@ void heater_stays_cool(filskeam::Run& run) {
 }
 
 int main() {
-    filskeam::Server server;
+    filskeam::Server server({}, "heater.evidence");
     auto result = server.run("t_heater", heater_stays_cool, std::chrono::seconds(30));
-    std::cout << result.verdict << "\n" << result.why << "\n" << result.evidence;
+    std::cout << result.verdict << " " << result.local("heater") << "\n" << result.why << "\n";
     return server.close();
 }

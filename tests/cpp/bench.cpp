@@ -2,6 +2,7 @@
 #include <csignal>
 #include <cstdlib>
 #include <ctime>
+#include <fstream>
 #include <functional>
 #include <iostream>
 #include <map>
@@ -165,6 +166,33 @@ void random_cases(Server& server) {
     }
 }
 
+// What a result says, and the file of the evidence: three test cases, of which the second loses its server.
+void reports(Server& server) {
+    auto result = server.run("t_report", [](Run& run) {
+        for (const char* verdict : {"inconc", "fail", "pass"}) {
+            run.start(run.create("pump"), "sets", [verdict](Run& it) { it.set_verdict(verdict, "a reason"); });
+            run.wait_done("all");
+        }
+        run.create("spare");
+        for (int at = 0; at < 50; ++at) run.get_verdict();
+    });
+    std::cout << result.report() << "== " << result.local("pump") << " " << result.local("spare") << " " << result.local("mtc") << " " << result.local(1) << "\n";
+    try {
+        result.local("valve");
+    } catch (const std::out_of_range& error) {
+        std::cout << error.what() << "\n";
+    }
+    result = server.run("t_lost", [](Run& run) {
+        run.set_verdict("fail");
+        pid_t server_process = 0;
+        std::ifstream(std::getenv("SERVER_PROCESS")) >> server_process;
+        kill(server_process, SIGKILL);
+        while (true) run.get_verdict();
+    });
+    std::cout << result.report(0) << "== " << result.evidence.substr(0, 20) << "\n";
+    std::cout << server.run("t_next", [](Run& run) { run.set_verdict("pass"); }).report();
+}
+
 // Test cases one after the other, none of which may leave anything.
 void leaves(Server& server) {
     for (int at = 0; at < 20; ++at) server.run("t", alone([](Run& run) { run.set_verdict("pass", "a reason"); }));
@@ -188,11 +216,12 @@ void speed(Server& server) {
 int main(int count, char** words_given) {
     const std::map<std::string, void (*)(Server&)> cases = {
         {"raises", raises}, {"watchdog", watchdog}, {"late", late}, {"waits", waits}, {"stops", stops},
-        {"words", words}, {"loses", loses}, {"random", random_cases}, {"leaves", leaves}, {"speed", speed},
+        {"words", words}, {"loses", loses}, {"random", random_cases}, {"reports", reports}, {"leaves", leaves}, {"speed", speed},
     };
     int status = 0;
     {
-        Server server(std::vector<std::string>(words_given + 2, words_given + count), grace);
+        const char* file = std::getenv("EVIDENCE");
+        Server server(std::vector<std::string>(words_given + 2, words_given + count), file != nullptr ? file : "", grace);
         cases.at(words_given[1])(server);
         status = server.close();
     }

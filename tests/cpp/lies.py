@@ -43,7 +43,7 @@ LIES = (
         "a_server_that_ends_or_writes_nonsense"),
     Lie("half_a_line_is_evidence", HEADER, "            if (size <= 0) return std::nullopt;\n            kept_", "            if (size <= 0 && kept_.empty()) return std::nullopt;\n"
         "            if (size <= 0) break;\n            kept_", "a_server_that_ends_or_writes_nonsense"),
-    Lie("the_first_line_is_told", HEADER, "else told = std::exchange(line, \"\");", "else if (auto it_was = std::exchange(line, \"\"); told.empty()) told = it_was;",
+    Lie("the_first_line_is_told", HEADER, "told.rfind(\"error: \", 0) != 0) told = line;", "told.empty()) told = line;",
         "a_server_that_ends_or_writes_nonsense"),
     Lie("any_reply_is_believed", HEADER, "line.text == wanted && detail::suits(wanted, line.reply)", "line.text == wanted", "a_server_that_ends_or_writes_nonsense"),
     Lie("any_end_is_believed", HEADER, "is_closed_ && text == \"end \" + Findings(lines_).overall()", "text.rfind(\"end \", 0) == 0",
@@ -51,6 +51,11 @@ LIES = (
     Lie("the_header_is_not_compared", HEADER, "is_right = text == \"evidence 1 \" + name_", "is_right = !text.empty() || text == \"evidence 1 \" + name_",
         "a_server_that_ends_or_writes_nonsense"),
     Lie("a_local_verdict_is_the_last", HEADER, "if (rank(given) > rank(local)) local = given;", "local = given;", "random_cases_are_legal"),
+    Lie("a_name_has_its_last_verdict", HEADER, "detail::rank(verdict) > detail::rank(*worst)) worst", "detail::rank(verdict) >= 0) worst",
+        "a_result_says_who_and_why"),
+    Lie("a_report_has_the_first_entries", HEADER, "if (line + most >= lines) text", "if (line < most) text", "a_result_says_who_and_why"),
+    Lie("a_cut_block_spoils_the_file", HEADER, "append(evidence_ + (result.fault.empty() ? \"\" : \".cut\"), result.evidence);",
+        "append(evidence_, result.evidence);", "a_result_says_who_and_why"),
     Lie("a_test_case_keeps_itself", HEADER, "        locked([&] { runs_.clear(); });", "        locked([&] { runs_.push_back(runs_[0]); });", "nothing_is_left_behind"),
 )
 

@@ -35,6 +35,10 @@ SECONDS = 90
 FLAGS = ("-std=c++17", "-O1", "-Wall", "-Wextra", "-Werror", "-pthread", f"-I{CLIENT}")
 
 
+# The evidence of a test case that sets one verdict.
+NEXT = "evidence 1 t_next 256\nbehaviour 0 main\n0 setverdict pass -> ok\n0 finish -> ok\nend pass\n"
+
+
 class Fault(Exception):
     """Why a test has failed."""
 
@@ -100,10 +104,10 @@ class Place:
     room: str
     command: Sequence[str]
 
-    def bench(self, name: str, command: Sequence[str] = ()) -> Tuple[List[Shown], str]:
+    def bench(self, name: str, command: Sequence[str] = (), **more: str) -> Tuple[List[Shown], str]:
         """Runs a case of the bench: what it shows, and its whole output."""
-        ran = subprocess.run([os.path.join(self.room, "bench"), name, *(command or self.command)], stdout=subprocess.PIPE,
-                             stderr=subprocess.PIPE, timeout=SECONDS, check=False)
+        ran = subprocess.run([os.path.join(self.room, "bench"), name, *(command or self.command)], env={**os.environ, **more},
+                             stdout=subprocess.PIPE, stderr=subprocess.PIPE, timeout=SECONDS, check=False)
         same((ran.returncode, ran.stderr), (0, b""), "the bench:")
         return shown_in(ran.stdout.decode()), ran.stdout.decode()
 
@@ -134,12 +138,14 @@ def the_example_runs(place: Place) -> str:
     compilers = [it for it in ("g++", "clang++") if shutil.which(it)]
     for compiler in compilers:
         place.build(compiler, os.path.join(CLIENT, "heater.cpp"))
-        ran = subprocess.run([os.path.join(place.room, "heater")], env={**os.environ, "FILSKEAM_TTRUN": program}, stdout=subprocess.PIPE,
-                             timeout=SECONDS, check=False)
-        lines = ran.stdout.decode().splitlines()
-        same((ran.returncode, lines[:2]), (1, ["fail", "run 1 probe on component 1 heater: setverdict fail: too hot"]))
-        hold(evidence.is_legal(evidence.blocks_of("".join(f"{it}\n" for it in lines[2:]))), "the evidence is not legal")
-    hold(compilers, "there is no compiler of C++")
+        ran = subprocess.run([os.path.join(place.room, "heater")], env={**os.environ, "FILSKEAM_TTRUN": program}, cwd=place.room,
+                             stdout=subprocess.PIPE, timeout=SECONDS, check=False)
+        with open(os.path.join(CLIENT, "README.md"), encoding="utf-8") as file:
+            shown = re.findall(r"^```\n((?:.*\n)*?)```$", file.read(), re.MULTILINE)
+        same((ran.returncode, [ran.stdout.decode()]), (1, shown))
+        with open(os.path.join(place.room, "heater.evidence"), encoding="ascii") as file:
+            blocks = evidence.blocks_of(file.read())
+        same(([it.verdict for it in blocks], evidence.is_legal(blocks)), (["fail"] * (compilers.index(compiler) + 1), True))
     return f"{len(compilers)} compilers"
 
 
@@ -258,6 +264,31 @@ def random_cases_are_legal(place: Place) -> str:
 
 
 @test
+def a_result_says_who_and_why(place: Place) -> str:
+    """Its report, local verdicts by names; the file has the evidence of whole test cases, and one next to it that which was cut."""
+    process, path = os.path.join(place.room, "process"), os.path.join(place.room, "run.evidence")
+    _, text = place.bench("reports", ["sh", "-c", 'echo $$ > "$SERVER_PROCESS"; exec "$@"', "sh", *place.command],
+                          SERVER_PROCESS=process, EVIDENCE=path)
+    lines = text.splitlines()
+    same(lines[:2], ["test case t_report: fail", "why: run 2 sets on component 2 pump: setverdict fail: a reason"])
+    same(lines[2:7], ["local 0 mtc: none", "local 1 pump: inconc", "local 2 pump: fail", "local 3 pump: pass", "local 4 spare: none"])
+    hold(re.fullmatch(r"evidence, the last 20 of 7\d lines:", lines[7]), lines[7])
+    same(lines[27:30], ["  end fail", "== fail none none inconc", "test case t_report has no component 'valve'"])
+    same(lines[30:32], ["test case t_lost: error", "why: the server ended with signal 9"])
+    same(lines[34:], ["== evidence 1 t_lost 25", "test case t_next: pass", "why: run 0 main on mtc: setverdict pass", "local 0 mtc: pass",
+                      "evidence:", *(f"  {it}" for it in NEXT.splitlines()), "status 3"])
+    with open(path, encoding="ascii") as file:
+        blocks = evidence.blocks_of(file.read())
+    same(([(it.name, it.verdict) for it in blocks], evidence.is_legal(blocks)), ([("t_report", "fail"), ("t_next", "pass")], True))
+    with open(f"{path}.cut", encoding="ascii") as file:
+        hold(file.read().startswith("evidence 1 t_lost 256\n"), "what was cut is not there")
+    ran = subprocess.run([os.path.join(place.room, "bench"), "waits", *place.command], env={**os.environ, "EVIDENCE": "/nowhere/it"},
+                         stdout=subprocess.PIPE, stderr=subprocess.PIPE, timeout=SECONDS, check=False)
+    hold(b"/nowhere/it cannot be written" in ran.stderr and not ran.stdout, "a file that cannot be written is reported late")
+    return f"{len(lines)} lines"
+
+
+@test
 def nothing_is_left_behind(place: Place) -> str:
     """By the sanitizers of addresses, of leaks and of undefined behaviour: twenty test cases leave no memory, and use none wrongly."""
     with tempfile.TemporaryDirectory(prefix="filskeam-cpp-") as room:
@@ -296,6 +327,9 @@ def main() -> int:
     if given.list:
         print("\n".join(chosen))
         return 0
+    if not shutil.which("c++"):
+        print(f"there is no compiler of C++: nothing is known of the C++ client\n0 passed, {len(chosen)} failed")
+        return 1
     failed = 0
     with tempfile.TemporaryDirectory(prefix="filskeam-cpp-") as room:
         place = Place(room, [os.path.abspath(it) if os.path.exists(it) else it for it in shlex.split(given.server)])

@@ -11,7 +11,7 @@ from typing import Callable, Iterator, List, Tuple
 from room import FAILING, PASSING, RACE, SHELLS, TOP, VERDICTS, Room, hold
 from documents import Block, Document, read
 
-README, PIPELINES = "README.md", "docs/pipelines.md"
+README, PIPELINES, BENCHES = "README.md", "docs/pipelines.md", "docs/benches.md"
 # The status of the failing campaign.
 WORST = 2
 LEAVES = re.compile(r"It leaves (?P<names>.*?)(?: in the folder `(?P<folder>\w+)`)?, and ends with (?P<end>the status of the run|\d)\.")
@@ -278,9 +278,25 @@ def the_race_of_the_readme(room: str, program: str) -> str:
     return "3 commands"
 
 
+def the_model_of_a_bench(room: str, program: str) -> str:
+    """Its script has the line that is shown, and another one without the wait."""
+    document = read(TOP, BENCHES)
+    text = " ".join(document.lines)
+    it = Room(os.path.join(room, "model", "it"), program)
+    script = next(block.text for block in document.blocks() if block.text.startswith("testcase "))
+    wait = re.search(r"Without the line `([^`]*)` it prints", text)[1]
+    hold(script.count(f"  {wait}\n") == 1, f"{BENCHES}: no line {wait}")
+    command = re.search(r"`(\./ttrun explore < heater\.script)`", text)[1]
+    for given, status in ((script, 0), (script.replace(f"  {wait}\n", ""), 1)):
+        it.write("heater.script", given)
+        ran = it.shell(("bash",), command)
+        hold(ran.status == status and f"`{ran.output.strip()}`" in text, f"{BENCHES}: {ran}")
+    return "2 scripts"
+
+
 TESTS: Tuple[Callable[[str, str], str], ...] = (
     every_block_on_a_campaign_that_fails, every_block_on_a_campaign_that_passes, a_step_that_runs_out_of_time,
     a_step_on_a_script_that_is_refused, a_step_that_keeps_races_out, evidence_that_was_changed, evidence_that_was_cut,
     evidence_of_a_release, evidence_of_a_campaign_that_runs_out_of_time, blocks_of_the_guide,
-    no_block_of_the_guide_runs_all_again_where_nothing_failed, the_race_of_the_readme,
+    no_block_of_the_guide_runs_all_again_where_nothing_failed, the_race_of_the_readme, the_model_of_a_bench,
 )

@@ -11,7 +11,8 @@ from typing import List, Set
 
 import evidence
 from filskeam import Run
-from kit import CLIENT, Place, hold, same, test
+from kit import CLIENT, TOP, Place, hold, same, test
+from serving import Pipe
 
 SECONDS = 60
 # What the client imports of the standard library of Python 3.8.
@@ -19,9 +20,12 @@ STANDARD = ("__future__", "base64", "contextlib", "dataclasses", "functools", "h
             "subprocess", "tempfile", "threading", "time", "traceback", "typing", "zipfile")
 
 
-def blocks(kind: str) -> List[str]:
-    """The blocks of this kind in the README."""
-    with open(os.path.join(CLIENT, "README.md"), encoding="utf-8") as file:
+README, DOCS = os.path.join(CLIENT, "README.md"), os.path.join(TOP, "docs")
+
+
+def blocks(kind: str, path: str = README) -> List[str]:
+    """The blocks of this kind in a document."""
+    with open(path, encoding="utf-8") as file:
         return [text for it, text in re.findall("^```(.*)\n((?:.*\n)*?)```$", file.read(), re.MULTILINE) if it == kind]
 
 
@@ -39,6 +43,39 @@ def the_example_works_when_it_is_pasted(place: Place) -> None:
     hold(text.startswith(shown[1]), text)
     hold(evidence.is_legal(evidence.blocks_of(text)), "the evidence is not legal")
     place.reach("lines of evidence", len(text.splitlines()), 12)
+
+
+@test
+def the_bench_in_bash(place: Place) -> None:
+    """It leaves the evidence that is shown, and ends with the status of the server: on a device that is too hot, and on one that is not."""
+    page = os.path.join(DOCS, "benches.md")
+    (bench,), (commands,), shown = blocks("bash", page), blocks("sh", page), next(it for it in blocks("", page) if it.startswith("evidence "))
+    place.program()
+    place.write("heater.sh", bench)
+    for degrees, verdict, status in (("85", "fail", 1), ("20", "pass", 0)):
+        ran = subprocess.run(["bash", "-c", commands.replace("85", degrees)], cwd=place.room, stdout=subprocess.PIPE, stderr=subprocess.STDOUT,
+                             timeout=SECONDS, check=False)
+        same((ran.stdout, ran.returncode), (b"", status))
+        with open(place.path("heater.evidence"), encoding="ascii") as file:
+            text = file.read()
+        same(text, shown.replace("85", degrees).replace("fail", verdict))
+        hold(evidence.is_legal(evidence.blocks_of(text)), "the evidence is not legal")
+    place.reach("lines of bash", len(bench.splitlines()), 10)
+
+
+@test
+def the_session_of_the_protocol(place: Place) -> None:
+    """Each line of the client gets the lines below it at once, and no others."""
+    (session,) = (it for it in blocks("", os.path.join(DOCS, "texts.md")) if it.startswith("> "))
+    turns = [part.splitlines() for part in re.findall(r"^(> .*\n(?:< .*\n)*)", session, re.MULTILINE)]
+    same(sum(map(len, turns)), len(session.splitlines()), "lines in turns:")
+    with Pipe(place.command) as pipe:
+        for line, *answers in turns:
+            wanted = "".join(f"{it[2:]}\n" for it in answers)
+            pipe.write(f"{line[2:]}\n".encode())
+            same(pipe.read_all_of(len(wanted)).decode(), wanted, line)
+        same((pipe.read(0.1), pipe.ended().status), (b"", 3), "what is left:")
+    place.reach("turns", len(turns), 11)
 
 
 # What an installed package says of itself.
@@ -90,7 +127,7 @@ def the_client_needs_python_3_8_and_no_package(place: Place) -> None:
 @test
 def the_table_names_the_calls(place: Place) -> None:
     """Each call of a run is in the README, and none that is not there."""
-    with open(os.path.join(CLIENT, "README.md"), encoding="utf-8") as file:
+    with open(README, encoding="utf-8") as file:
         rows = [line for line in file if line.startswith("| `")]
     named = set(re.findall(r"`(\w+)\(", " ".join(row.split("|")[1] for row in rows)))
     same(named, {it for it in vars(Run) if not it.startswith("_")})

@@ -9,6 +9,7 @@ import types
 from typing import Any, Callable, Dict, List, Optional, Tuple
 
 import evidence
+from document_tests import blocks
 from filskeam import Run
 from kit import CLIENT, Place, holds_word, raises, same, test
 
@@ -189,8 +190,8 @@ def the_plugin_works_in_pytest(place: Place) -> None:
     environment = {**os.environ, "FILSKEAM_TTRUN": place.program(), "PYTHONDONTWRITEBYTECODE": "1",
                    "PYTHONPATH": os.pathsep.join(it for it in (CLIENT, os.environ.get("PYTHONPATH")) if it)}
 
-    def session(path: str) -> Tuple[int, str]:
-        words = [python, "-m", "pytest", "-p", "pytest_filskeam", "-p", "no:cacheprovider", f"--filskeam-evidence={path}"]
+    def session(path: str, *files: str) -> Tuple[int, str]:
+        words = [python, "-m", "pytest", "-p", "pytest_filskeam", "-p", "no:cacheprovider", f"--filskeam-evidence={path}", *files]
         ran = subprocess.run(words, cwd=place.room, env=environment, stdout=subprocess.PIPE, stderr=subprocess.STDOUT, timeout=SECONDS, check=False)
         return ran.returncode, ran.stdout.decode()
 
@@ -200,6 +201,10 @@ def the_plugin_works_in_pytest(place: Place) -> None:
         holds_word(word, shown)
     with open(place.path("run.evidence"), encoding="ascii") as file:
         same([(it.name, it.verdict) for it in evidence.blocks_of(file.read())], [("t_fails", "fail"), ("t_hangs", "error"), ("t_passes", "pass")])
+    place.write("heater.py", blocks("python")[0])
+    status, shown = session("run.evidence", "heater.py")
+    same(status, 1, shown)
+    holds_word("run 1 probe on component 1 heater: setverdict fail: too hot", shown)
     status, shown = session("nowhere/run.evidence")
     same(status, 4, shown)
     holds_word("--filskeam-evidence: ", shown)
