@@ -23,11 +23,12 @@ from typing import Callable, Dict, List, Tuple
 TOP = os.path.dirname(os.path.dirname(os.path.dirname(os.path.abspath(__file__))))
 # The parts in their order, each by the command that it runs.
 PARTS = ("tests/claims/check.py", "tests/gate/run.py", "tests/wrapper/run.py", "rt", "tests/program/run.py", "tests/hostile/run.py",
-         "tests/titan/run.py", "tests/page/run.py", "tests/documents/run.py")
+         "tests/python/run.py", "tests/cpp/run.py", "tests/titan/run.py", "tests/page/run.py", "tests/documents/run.py")
 RECORD = "crates/ttrun/out/ttrun.gate"
 LEFT = ("crates/ttrun/out/ttrun", "crates/ttrun/out/ttrun.sources", RECORD, "crates/refused_memory/out/refused_memory")
-# What each part does where a test says nothing else, so that the whole counts 45 passed.
-PASSING = {part: f"echo '{number} passed, 0 failed'" for number, part in enumerate(PARTS, 1)}
+# How many tests each part passes where a test says nothing else.
+NUMBERS = {part: number for number, part in enumerate(PARTS, 1)}
+PASSING = {part: f"echo '{number} passed, 0 failed'" for part, number in NUMBERS.items()}
 # A part that a gate of one second for each ends.
 ENDLESS = "echo '3 passed, 0 failed'; sleep 60"
 SECONDS = 60
@@ -79,9 +80,19 @@ def put_parts(room: str, parts: Dict[str, str]) -> None:
             write_program(os.path.join(room, part), "import os, sys\nos.execvp('bash', ['bash', __file__ + '.sh', *sys.argv[1:]])\n")
 
 
-def run(room: str, *words: str, status: int = 0, last: str = "45 passed, 0 failed", **parts: str) -> Tuple[List[str], str]:
+def part_of(name: str) -> str:
+    """The part whose command has this name in it."""
+    return next(it for it in PARTS if name in it)
+
+
+def counted(failed: int = 0, **passed: int) -> str:
+    """The last line of the gate if these parts pass that many tests."""
+    return f"{sum({**NUMBERS, **{part_of(name): count for name, count in passed.items()}}.values())} passed, {failed} failed"
+
+
+def run(room: str, *words: str, status: int = 0, last: str = counted(), **parts: str) -> Tuple[List[str], str]:
     """Runs the gate over stand-ins, and holds it to a status and a last line: its lines, and its standard error."""
-    put_parts(room, {next(it for it in PARTS if name in it): text for name, text in parts.items()})
+    put_parts(room, {part_of(name): text for name, text in parts.items()})
     environment = {**os.environ, "PATH": f"{room}/bin:/usr/bin:/bin", "TMPDIR": room}
     environment.pop("RT_JOBS", None)
     ran = subprocess.run([f"{room}/gate", *words], cwd="/", env=environment, stdin=subprocess.DEVNULL, capture_output=True,
@@ -110,31 +121,30 @@ def all_parts_pass(room: str) -> None:
 
 @test
 def a_count_that_is_not_zero(room: str) -> None:
-    for part in ("claims", "gate", "wrapper", "rt", "program", "hostile", "titan", "page", "documents"):
-        passed = 45 - [it for it in range(len(PARTS)) if part in PARTS[it]][-1] - 1 + 4
+    for part in PARTS:
         for status in (1, 0):
-            given = {"rt" if part == "rt" else f"tests/{part}/": f"echo '4 passed, 3 failed'; exit {status}"}
-            run(room, status=1, last=f"{passed} passed, 3 failed", **given)
+            run(room, status=1, last=counted(3, **{part: 4}), **{part: f"echo '4 passed, 3 failed'; exit {status}"})
 
 
 @test
 def two_parts_fail_together(room: str) -> None:
-    run(room, status=1, last="44 passed, 5 failed", wrapper="echo '2 passed, 1 failed'; exit 1", hostile="echo '6 passed, 4 failed'; exit 1")
-    run(room, status=1, last="34 passed, 11 failed", **{it: "echo '1 passed, 2 failed'; exit 1" for it in ("claims", "wrapper", "rt")},
-        program="echo '3 passed, 3 failed'", hostile="echo '2 passed, 2 failed'")
+    run(room, status=1, last=counted(5, wrapper=2, hostile=6), wrapper="echo '2 passed, 1 failed'; exit 1",
+        hostile="echo '6 passed, 4 failed'; exit 1")
+    run(room, status=1, last=counted(11, claims=1, wrapper=1, rt=1, program=3, hostile=2), program="echo '3 passed, 3 failed'",
+        hostile="echo '2 passed, 2 failed'", **{it: "echo '1 passed, 2 failed'; exit 1" for it in ("claims", "wrapper", "rt")})
 
 
 @test
 def a_part_that_ends_badly_and_counts_no_failure(room: str) -> None:
     for status in (1, 2, 3, 137):
-        _, errors = run(room, status=1, last="45 passed, 1 failed", program=f"echo '5 passed, 0 failed'; exit {status}")
+        _, errors = run(room, status=1, last=counted(1), program=f"echo '5 passed, 0 failed'; exit {status}")
         hold(f"ended with status {status} and counts no failure" in errors, errors)
-    run(room, status=1, last="45 passed, 1 failed", rt="echo '4 passed, 0 failed'; exit 1")
+    run(room, status=1, last=counted(1), rt="echo '4 passed, 0 failed'; exit 1")
 
 
 @test
 def a_part_that_is_killed(room: str) -> None:
-    _, errors = run(room, status=1, last="41 passed, 1 failed", rt=f"echo '9 passed'; kill -{int(signal.SIGKILL)} $$")
+    _, errors = run(room, status=1, last=counted(1, rt=0), rt=f"echo '9 passed'; kill -{int(signal.SIGKILL)} $$")
     hold("rt ci ended with status 137" in errors, errors)
 
 
@@ -142,20 +152,20 @@ def a_part_that_is_killed(room: str) -> None:
 def a_part_that_counts_nothing(room: str) -> None:
     for text in ("exit 0", "exit 1", "echo 'all is well'", "echo '7 passed, 0 failed'; echo behind it", "echo '7 passed, 0 failed '",
                  "echo 'about 7 passed, 0 failed'", "echo '7 passed, no failed'", "echo '7 passed, 0 failed' >&2"):
-        _, errors = run(room, status=1, last="42 passed, 1 failed", wrapper=text)
+        _, errors = run(room, status=1, last=counted(1, wrapper=0), wrapper=text)
         hold("counts no failure" in errors, f"{text}: {errors}")
 
 
 @test
 def a_part_that_skips_some(room: str) -> None:
-    run(room, page="echo '8 passed, 0 failed, 3 skipped'")
-    run(room, status=1, last="38 passed, 1 failed", page="echo '1 passed, 1 failed, 3 skipped'; exit 1")
-    run(room, status=1, last="37 passed, 1 failed", page="echo '8 passed, 0 failed, some skipped'")
+    run(room, last=counted(page=8), page="echo '8 passed, 0 failed, 3 skipped'")
+    run(room, status=1, last=counted(1, page=1), page="echo '1 passed, 1 failed, 3 skipped'; exit 1")
+    run(room, status=1, last=counted(1, page=0), page="echo '8 passed, 0 failed, some skipped'")
 
 
 @test
 def a_part_that_cannot_be_run(room: str) -> None:
-    run(room, status=1, last="40 passed, 1 failed", program="exec /no/such/program")
+    run(room, status=1, last=counted(1, program=0), program="exec /no/such/program")
 
 
 @test
@@ -165,13 +175,13 @@ def a_part_that_does_not_end(room: str) -> None:
     shortened = re.sub(r"(?m)^part \d+ ", "part 1 ", text)
     hold(len(re.findall(r"(?m)^part 1 ", shortened)) == len(PARTS), "each part has a limit of seconds")
     write_program(os.path.join(room, "gate"), shortened)
-    _, errors = run(room, status=1, last="45 passed, 1 failed", wrapper=ENDLESS)
+    _, errors = run(room, status=1, last=counted(1), wrapper=ENDLESS)
     hold("was ended after 1 seconds" in errors, errors)
 
 
 @test
 def a_part_that_fails_stops_no_other(room: str) -> None:
-    run(room, status=1, last="44 passed, 1 failed", claims="echo '0 passed, 1 failed'; exit 1")
+    run(room, status=1, last=counted(1, claims=0), claims="echo '0 passed, 1 failed'; exit 1")
     hold(len(calls_of(room)) == len(PARTS), f"{calls_of(room)}")
 
 
@@ -211,10 +221,10 @@ SUM = hashlib.sha256(b"program\n").hexdigest()
 def a_record_for_a_release(room: str) -> None:
     name = commit(room)
     run(room, rt=BUILDS)
-    wanted = [f"commit {name}", "tree clean", "toolchain of tests", f"program {SUM}", "gate 45 passed, 0 failed"]
+    wanted = [f"commit {name}", "tree clean", "toolchain of tests", f"program {SUM}", f"gate {counted()}"]
     hold(record_of(room) == wanted, f"{record_of(room)}")
-    run(room, status=1, last="46 passed, 3 failed", rt=BUILDS, program="echo '6 passed, 3 failed'; exit 1")
-    hold(record_of(room) == [*wanted[:4], "gate 46 passed, 3 failed"], f"{record_of(room)}")
+    run(room, status=1, last=counted(3, program=6), rt=BUILDS, program="echo '6 passed, 3 failed'; exit 1")
+    hold(record_of(room) == [*wanted[:4], f"gate {counted(3, program=6)}"], f"{record_of(room)}")
 
 
 @test
@@ -225,7 +235,7 @@ def a_record_of_a_tree_that_was_changed(room: str) -> None:
     hold(record_of(room)[:2] == [f"commit {name}", "tree changed"], f"{record_of(room)}")
     os.remove(os.path.join(room, "more"))
     for change in ("echo >> gate.more", "git -c user.name=a -c user.email=a@b commit --quiet --allow-empty --message more"):
-        run(room, rt=BUILDS, titan=f"{change}; echo '7 passed, 0 failed'")
+        run(room, rt=BUILDS, titan=f"{change}; {PASSING[part_of('titan')]}")
         hold(record_of(room)[:2] == ["commit none", "tree changed"], f"{change}: {record_of(room)}")
         subprocess.run(["git", "-C", room, "clean", "--quiet", "--force"], check=True)
 
@@ -234,7 +244,7 @@ def a_record_of_a_tree_that_was_changed(room: str) -> None:
 def a_record_without_a_program(room: str) -> None:
     commit(room)
     run(room, rt="rm -rf crates; echo '4 passed, 0 failed'")
-    hold(record_of(room)[3:] == ["program ", "gate 45 passed, 0 failed"], f"{record_of(room)}")
+    hold(record_of(room)[3:] == ["program ", f"gate {counted()}"], f"{record_of(room)}")
 
 
 @test
