@@ -141,7 +141,7 @@ def the_example_runs(place: Place) -> str:
         ran = subprocess.run([os.path.join(place.room, "heater")], env={**os.environ, "FILSKEAM_TTRUN": program}, cwd=place.room,
                              stdout=subprocess.PIPE, timeout=SECONDS, check=False)
         with open(os.path.join(CLIENT, "README.md"), encoding="utf-8") as file:
-            shown = re.findall(r"^```\n((?:.*\n)*?)```$", file.read(), re.MULTILINE)
+            shown = [text for it, text in re.findall(r"^```(.*)\n((?:.*\n)*?)```$", file.read(), re.MULTILINE) if not it]
         same((ran.returncode, [ran.stdout.decode()]), (1, shown))
         with open(os.path.join(place.room, "heater.evidence"), encoding="ascii") as file:
             blocks = evidence.blocks_of(file.read())

@@ -21,7 +21,9 @@ TOOLCHAIN = "the toolchain of the tests"
 MARK = '<script type="text/plain" id="history">'
 # What must be in the archive, each by a file of it.
 PARTS = ("ttrun", "MANIFEST", "SHA256SUMS", "README.md", "CHANGELOG.md", "docs/guide.md", "docs/pipelines.md", "docs/library.md",
-         "docs/page-case.png", "examples/restart.script", "page/viewer.html", "clients/titan/ttrun-titan", "tests/program/table.py")
+         "docs/page-case.png", "docs/benches.md", "examples/restart.script", "page/viewer.html", "clients/titan/ttrun-titan",
+         "tests/program/table.py", "clients/python/README.md", "clients/python/build_backend.py", "clients/python/pytest_filskeam.py",
+         "clients/python/filskeam/py.typed", "clients/cpp/README.md", "clients/cpp/filskeam.hpp", "clients/cpp/heater.cpp")
 # What a release is made of and by.
 NEEDED = ("release", ".gitignore", "*.md", "docs", "examples", "page", "clients", "tests/program")
 
@@ -244,6 +246,24 @@ def the_archive_reads_logs_of_titan(room: str, program: str) -> str:
     return f"{logs[0]}, status {ran.status}"
 
 
+def the_archive_runs_benches(room: str, program: str) -> Optional[str]:
+    """The examples in Python and C++, as their pages say; the Python client finds the program of the archive by itself."""
+    folder, environment = unpacked(room, made(room, program)[1]), without_rt(room)
+    if shell(folder, environment, "./ttrun serve").status != 0:
+        return None
+    pages = [read(folder, f"clients/{it}/README.md") for it in ("python", "cpp")]
+    bench, typed = (next(block.text for block in page.blocks() if block.language == it) for page, it in zip(pages, ("python", "sh")))
+    shown = [next(block.text for block in page.blocks() if not block.language) for page in pages]
+    with open(os.path.join(folder, "heater.py"), "w", encoding="utf-8") as file:
+        file.write(bench)
+    for command, wanted in (("PYTHONPATH=clients/python python3 heater.py", shown[0]), (typed, shown[1])):
+        ran = shell(folder, environment, command)
+        hold((ran.output, ran.errors, ran.status) == (wanted, "", 1), f"{command}: {wanted!r} is wanted: {ran}")
+    ran = shell(folder, environment, "./ttrun check < heater.evidence")
+    hold(ran.status == 0 and ran.output.count("legal t_heater ") == 2, f"{ran}")
+    return "2 benches"
+
+
 def links_of_the_archive_lead_to_it_or_to_sources(room: str, program: str) -> str:
     folder, count = unpacked(room, made(room, program)[1]), 0
     for at, _, names in os.walk(folder):
@@ -253,8 +273,7 @@ def links_of_the_archive_lead_to_it_or_to_sources(room: str, program: str) -> st
                 continue
             for _, link in read(folder, path).links():
                 target = os.path.normpath(os.path.join(os.path.dirname(path), link.partition("#")[0])) if link[:1] != "#" else path
-                outside = link.startswith("http") or target == "CONTRIBUTING.md" or target.startswith(
-                    ("crates/", "bench/", "clients/python/", "clients/cpp/"))
+                outside = link.startswith("http") or target == "CONTRIBUTING.md" or target.startswith(("crates/", "bench/"))
                 hold(outside or os.path.exists(os.path.join(folder, target)), f"{path}: {link} leads nowhere")
                 count += 1
     hold(count >= 50, f"{count} links")
@@ -347,7 +366,8 @@ def no_source_names_a_toolchain(_: str, __: str) -> str:
 
 TESTS: Tuple[Callable[[str, str], Optional[str]], ...] = (
     an_archive_is_what_it_says, the_same_bytes_again, the_archive_runs_without_a_toolchain, the_archive_writes_its_page,
-    the_page_of_the_archive_opens, the_archive_reads_logs_of_titan, links_of_the_archive_lead_to_it_or_to_sources,
+    the_page_of_the_archive_opens, the_archive_reads_logs_of_titan, the_archive_runs_benches,
+    links_of_the_archive_lead_to_it_or_to_sources,
     no_release_without_a_green_gate, no_release_of_another_tree, no_release_of_another_program,
     no_release_of_a_version_without_its_changes, words_that_release_does_not_know, no_source_names_a_toolchain,
 )

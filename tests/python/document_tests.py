@@ -37,7 +37,7 @@ def the_example_works_when_it_is_pasted(place: Place) -> None:
     environment = {**os.environ, "FILSKEAM_TTRUN": place.program(), "PYTHONPATH": CLIENT, "PYTHONDONTWRITEBYTECODE": "1"}
     ran = subprocess.run([sys.executable, "heater.py"], cwd=place.room, env=environment, stdout=subprocess.PIPE, stderr=subprocess.PIPE,
                          timeout=SECONDS, check=False)
-    same((ran.stdout.decode(), ran.stderr.decode(), ran.returncode), (shown[0], "", 0))
+    same((ran.stdout.decode(), ran.stderr.decode(), ran.returncode), (shown[0], "", 1))
     with open(place.path("heater.evidence"), encoding="ascii") as file:
         text = file.read()
     hold(text.startswith(shown[1]), text)
