@@ -1,0 +1,212 @@
+#!/usr/bin/env python3
+"""Times `ttrun serve`: calls a second of both clients, processor time a move next to `replay`, and memory.
+
+usage: bench/serve/measure.py PROGRAM [ROUNDS]
+
+PROGRAM is the built ttrun, and each figure is the median of ROUNDS, 5 if none is given. `--server COMMAND` instead of PROGRAM
+tries the script on another server, without the figures of `replay`.
+"""
+from __future__ import annotations
+
+import os
+import shlex
+import statistics
+import subprocess
+import sys
+import tempfile
+import threading
+import time
+from typing import Callable, Iterator, List, Sequence, Tuple
+
+sys.dont_write_bytecode = True
+HERE = os.path.dirname(os.path.abspath(__file__))
+TOP = os.path.dirname(os.path.dirname(HERE))
+CPP = os.path.join(TOP, "clients", "cpp")
+sys.path.insert(0, os.path.join(TOP, "clients", "python"))
+
+from filskeam import Run, Server
+
+CALLERS = (1, 8)
+CALLS = 16_000
+ALONE = 80_000
+MIXED = 60_000
+BEHAVIOURS = 64
+FEW, MANY = 100_000, 2_000_000
+CHUNK = 4_000
+
+
+def median(rounds: int, figure: Callable[[], float]) -> float:
+    """The median of as many measurements."""
+    return statistics.median(figure() for _ in range(rounds))
+
+
+def python_rate(command: Sequence[str], callers: int) -> float:
+    """Calls a second of the Python client."""
+    def busy(run: Run) -> None:
+        for _ in range(CALLS // callers):
+            run.get_verdict()
+
+    def main(run: Run) -> None:
+        for _ in range(callers):
+            run.start(run.create(), busy)
+        run.wait_done("all")
+
+    with Server(command) as server:
+        server.run("warm", lambda run: None)
+        began = time.perf_counter()
+        result = server.run("t_calls", main)
+        seconds = time.perf_counter() - began
+    if result.verdict != "none" or result.evidence.count(" getverdict -> none\n") != CALLS:
+        sys.exit(f"calls are missing: {result.report()}")
+    return CALLS / seconds
+
+
+def cpp_rate(built: str, command: Sequence[str], callers: int) -> float:
+    """Calls a second of the C++ client."""
+    ran = subprocess.run([built, str(callers), str(CALLS), *command], stdout=subprocess.PIPE, check=True)
+    return CALLS / float(ran.stdout)
+
+
+def bare_rate(command: Sequence[str]) -> float:
+    """Round trips a second over two pipes, without a client and without threads."""
+    with subprocess.Popen(list(command), bufsize=0, stdin=subprocess.PIPE, stdout=subprocess.PIPE) as served:
+        def ask(line: bytes) -> bytes:
+            os.write(served.stdin.fileno(), line)
+            return os.read(served.stdout.fileno(), 4096)
+
+        ask(b"case t_bare 1\n")
+        began = time.perf_counter()
+        for _ in range(CALLS):
+            if ask(b"0 getverdict\n") != b"0 getverdict -> none\n":
+                sys.exit("another answer")
+        seconds = time.perf_counter() - began
+        ask(b"0 finish\n")
+        ask(b"end\n")
+        served.stdin.close()
+    return CALLS / seconds
+
+
+def mixed_moves() -> Iterator[str]:
+    """Moves of 64 behaviours, none of which waits."""
+    for run in range(1, BEHAVIOURS):
+        yield from (f"0 create named c_{run}", f"0 start {run} {run}")
+    kinds = ("getverdict", "setverdict pass", "running {0}", "alive all", "done any", "setverdict inconc", "killed {0}", "getverdict")
+    for at in range(MIXED):
+        run = at % BEHAVIOURS
+        yield f"{run} {kinds[at // BEHAVIOURS % len(kinds)].format((run * 7 + 1) % BEHAVIOURS or 1)}"
+    yield from (f"{run} finish" for run in reversed(range(BEHAVIOURS)))
+
+
+def lone_moves() -> Iterator[str]:
+    """Moves of one behaviour."""
+    yield from ("0 getverdict" for _ in range(ALONE))
+    yield "0 finish"
+
+
+def processor_time(words: Sequence[str], text: str) -> Tuple[float, str]:
+    """The seconds that a program worked for a text, and what it wrote."""
+    with tempfile.TemporaryFile("w+") as given, tempfile.TemporaryFile("w+") as written:
+        given.write(text)
+        given.seek(0)
+        process = subprocess.Popen(list(words), stdin=given, stdout=written)
+        _, status, used = os.wait4(process.pid, 0)
+        process.returncode = os.waitstatus_to_exitcode(status) if hasattr(os, "waitstatus_to_exitcode") else status >> 8
+        written.seek(0)
+        return used.ru_utime + used.ru_stime, written.read()
+
+
+def next_to_replay(program: str, rounds: int, moves: Sequence[str], behaviours: int) -> Tuple[float, float]:
+    """Nanoseconds a move of `serve` and of `replay`, which give the same replies. They take turns."""
+    lines = "".join(f"{it}\n" for it in moves)
+    serves, replays = f"case t_moves {behaviours}\n{lines}end\n", f"behaviours {behaviours}\n{lines}"
+    found: List[Tuple[float, float]] = []
+    for _ in range(rounds):
+        (one, evidence), (other, replies) = processor_time([program, "serve"], serves), processor_time([program, "replay"], replays)
+        answers = [it.rpartition(" -> ")[2] for it in evidence.splitlines() if " -> " in it]
+        if answers != replies.splitlines()[:-1] or len(answers) != len(moves):
+            sys.exit("serve and replay do not give the same replies")
+        found.append((one, other))
+    return tuple(1e9 * statistics.median(it) / len(moves) for it in zip(*found))  # type: ignore[return-value]
+
+
+def peak_memory(command: Sequence[str]) -> Tuple[int, int]:
+    """The most KiB of memory after few moves and after many, in one test case."""
+    with subprocess.Popen(list(command), bufsize=0, stdin=subprocess.PIPE, stdout=subprocess.PIPE) as served:
+        lines = served.stdout
+
+        def peak() -> int:
+            with open(f"/proc/{served.pid}/status", encoding="ascii") as file:
+                return next(int(it.split()[1]) for it in file if it.startswith("VmHWM:"))
+
+        def feed(count: int) -> None:
+            for _ in range(count // CHUNK):
+                served.stdin.write(b"0 getverdict\n" * CHUNK)
+
+        def drain(count: int) -> None:
+            left = count * len(b"0 getverdict -> none\n")
+            while left > 0:
+                left -= len(os.read(lines.fileno(), min(left, 1 << 20)))
+
+        def answered(count: int) -> int:
+            feeder = threading.Thread(target=feed, args=(count,))
+            feeder.start()
+            drain(count)
+            feeder.join()
+            return peak()
+
+        served.stdin.write(b"case t_many 1\n")
+        os.read(lines.fileno(), len(b"evidence 1 t_many 1\n"))
+        few = answered(FEW)
+        many = answered(MANY - FEW)
+        served.stdin.write(b"0 finish\nend\n")
+        served.stdin.close()
+        lines.read()
+    return few, many
+
+
+def rates(command: Sequence[str], rounds: int) -> None:
+    """Prints calls a second, and what part of bare round trips they are."""
+    bare = median(rounds, lambda: bare_rate(command))
+    print("| calls a second | one caller | eight callers | one caller to bare round trips |\n|---|---|---|---|")
+    print(f"| bare round trips from Python | {bare:,.0f} | | 1.00 |")
+    one, eight = (median(rounds, lambda: python_rate(command, it)) for it in CALLERS)
+    print(f"| the Python client | {one:,.0f} | {eight:,.0f} | {one / bare:.2f} |", flush=True)
+    with tempfile.TemporaryDirectory() as room:
+        built = os.path.join(room, "callers")
+        flags = ["-std=c++17", "-O2", "-pthread", f"-I{CPP}"]
+        subprocess.run(["c++", *flags, os.path.join(HERE, "callers.cpp"), "-o", built], check=True)
+        one, eight = (median(rounds, lambda: cpp_rate(built, command, it)) for it in CALLERS)
+    print(f"| the C++ client | {one:,.0f} | {eight:,.0f} | {one / bare:.2f} |\n", flush=True)
+
+
+def times(program: str, rounds: int) -> None:
+    """Prints the processor time a move."""
+    print("| processor time a move | serve, ns | replay, ns | ratio |\n|---|---|---|---|")
+    for name, moves, behaviours in ((f"{ALONE:,} getverdict of one behaviour", list(lone_moves()), 1),
+                                    (f"{MIXED:,} mixed moves of {BEHAVIOURS} behaviours", list(mixed_moves()), BEHAVIOURS)):
+        one, other = next_to_replay(program, rounds, moves, behaviours)
+        print(f"| {name} | {one:.0f} | {other:.0f} | {one / other:.2f} |", flush=True)
+    print()
+
+
+def main() -> int:
+    """Makes the figures."""
+    words = sys.argv[1:]
+    if not words or words[0] == "--server" and len(words) < 2:
+        print(__doc__, file=sys.stderr)
+        return 3
+    is_program = words[0] != "--server"
+    command = [words[0], "serve"] if is_program else shlex.split(words[1])
+    rest = words[1:] if is_program else words[2:]
+    rounds = int(rest[0]) if rest else 5
+    rates(command, rounds)
+    if is_program:
+        times(words[0], rounds)
+    few, many = peak_memory(command)
+    print(f"| peak memory | after {FEW:,} moves, KiB | after {MANY:,}, KiB | ratio |\n|---|---|---|---|")
+    print(f"| one test case | {few:,} | {many:,} | {many / few:.2f} |")
+    return 0
+
+
+if __name__ == "__main__":
+    sys.exit(main())
