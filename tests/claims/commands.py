@@ -29,7 +29,8 @@ RUN: Tuple[Tuple[str, str, str, str], ...] = (
 # Options of programs that are not of this repository, by the first word of a command.
 OTHERS: Dict[str, Tuple[str, ...]] = {
     "rt": ("--jobs", "--only", "--test", "--minutes", "--fail-alloc"), "git": ("--short",), "sha256sum": ("--check",),
-    "tar": ("--strip-components", "--wildcards"), "prlimit": ("--nproc",), "c++": ("--wrap",), "what is gone": ("--chart",)}
+    "tar": ("--strip-components", "--wildcards"), "prlimit": ("--nproc",), "c++": ("--wrap",), "pytest": ("--junit-xml",),
+    "what is gone": ("--chart",)}
 OPTION = re.compile(r"(?<![\w-])--[a-z][a-z-]*\b")
 FEWEST_OPTIONS = 25
 # The table of lines that a script has where TTCN-3 has others, and how many there are at least.

@@ -191,7 +191,8 @@ def the_plugin_works_in_pytest(place: Place) -> None:
                    "PYTHONPATH": os.pathsep.join(it for it in (CLIENT, os.environ.get("PYTHONPATH")) if it)}
 
     def session(path: str, *files: str) -> Tuple[int, str]:
-        words = [python, "-m", "pytest", "-p", "pytest_filskeam", "-p", "no:cacheprovider", f"--filskeam-evidence={path}", *files]
+        words = [python, "-m", "pytest", "-p", "pytest_filskeam", "-p", "no:cacheprovider", "--junit-xml=run.xml",
+                 f"--filskeam-evidence={path}", *files]
         ran = subprocess.run(words, cwd=place.room, env=environment, stdout=subprocess.PIPE, stderr=subprocess.STDOUT, timeout=SECONDS, check=False)
         return ran.returncode, ran.stdout.decode()
 
@@ -205,6 +206,8 @@ def the_plugin_works_in_pytest(place: Place) -> None:
     status, shown = session("run.evidence", "heater.py")
     same(status, 1, shown)
     holds_word("run 1 probe on component 1 heater: setverdict fail: too hot", shown)
+    with open(place.path("run.xml"), encoding="utf-8") as file:
+        holds_word('<failure message="AssertionError: run 1 probe on component 1 heater: setverdict fail: too hot', file.read())
     status, shown = session("nowhere/run.evidence")
     same(status, 4, shown)
     holds_word("--filskeam-evidence: ", shown)
