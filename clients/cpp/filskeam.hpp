@@ -707,13 +707,18 @@ private:
 
     // Hands each answer to the run that asked, to the end of the test case.
     void read() {
-        while (locked([&] { return !is_ended_ && fault_.empty(); })) {
-            auto line = program_->read();
-            if (!line) return lose(program_->how_it_ended());
-            if (!take(*line)) {
-                program_->kill();
-                return lose("the server wrote what it may not write here: " + plain(*line));
+        try {
+            while (locked([&] { return !is_ended_ && fault_.empty(); })) {
+                auto line = program_->read();
+                if (!line) return lose(program_->how_it_ended());
+                if (!take(*line)) {
+                    program_->kill();
+                    return lose("the server wrote what it may not write here: " + plain(*line));
+                }
             }
+        } catch (const std::exception& error) {  // as no memory: nobody may wait for an answer that nobody reads
+            program_->kill();
+            lose("the client cannot read on: " + std::string(error.what()));
         }
     }
 

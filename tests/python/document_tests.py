@@ -16,7 +16,7 @@ from serving import Pipe
 
 SECONDS = 60
 # What the client imports of the standard library of Python 3.8.
-STANDARD = ("__future__", "base64", "contextlib", "dataclasses", "functools", "hashlib", "io", "os", "queue", "re", "select", "shutil",
+STANDARD = ("__future__", "base64", "collections", "contextlib", "dataclasses", "functools", "hashlib", "io", "os", "queue", "re", "select", "shutil",
             "subprocess", "tempfile", "threading", "time", "traceback", "typing", "zipfile")
 
 

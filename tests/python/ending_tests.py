@@ -1,13 +1,14 @@
 """How behaviours end: by themselves, by what they raise, by others, and not at all."""
 from __future__ import annotations
 
+import asyncio
 import os
 import signal
 import subprocess
 import sys
 import threading
 import time
-from typing import Callable, List
+from typing import Callable, Iterator, List
 
 import evidence
 from filskeam import Case, DynamicError, Ended, Run
@@ -73,6 +74,27 @@ def an_exception_without_a_text_stops_the_case(place: Place) -> None:
     same((result.verdict, len(result.raised)), ("error", 1))
     holds_word("stopcase: Mute (ending_tests.py:", result.why)
     place.reach("entries", len(legal(result).entries), 4)
+
+
+@test
+def a_behaviour_that_is_no_plain_function(place: Place) -> None:
+    """One that is asynchronous, or a generator, would run nothing and pass: the test case ends in error instead."""
+
+    async def waits(run: Run) -> None:
+        run.set_verdict("pass")
+
+    def yields(run: Run) -> Iterator[None]:
+        run.set_verdict("pass")
+        yield
+
+    with place.server() as server:
+        results = [server.run("t_async", alone(it), timeout=20) for it in (waits, yields)]
+        results.append(server.run("t_inside", lambda run: asyncio.run(waits(run)), timeout=20))
+    for name, result in zip(("waits", "yields"), results):
+        same((result.verdict, result.local("worker"), type(result.raised[0].exception)), ("error", "error", TypeError))
+        holds_word(f"run 1 {name} on component 1 worker: stopcase: TypeError: a behaviour is a plain function", result.why)
+    same((results[2].verdict, results[2].raised), ("pass", ()))
+    place.reach("behaviours", len(results), 3)
 
 
 @test

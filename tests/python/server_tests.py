@@ -83,6 +83,26 @@ def a_program_that_does_not_know_serve(place: Place) -> None:
 
 
 @test
+def a_reader_that_breaks(place: Place) -> None:
+    """What breaks the client's own reader ends the test case in error, and no behaviour hangs."""
+
+    def main(run: Run) -> None:
+        run.set_verdict("pass")
+        run._case._take = breaks
+        run.get_verdict()
+
+    def breaks(_: str) -> bool:
+        raise MemoryError
+
+    with place.server() as server:
+        result = timed(lambda: server.run("t_breaks", main), 10)
+        same((result.verdict, result.hung, result.why), ("error", (), "the client cannot read on: MemoryError (server_tests.py:"
+                                                         f"{breaks.__code__.co_firstlineno + 1})"))
+        legal(server.run("t_next", main_that_calls))
+    place.reach("lines", len(result.evidence.splitlines()), 3)
+
+
+@test
 def a_server_that_ends_is_told_by_its_last_line(place: Place) -> None:
     """Its status and the last line of its standard error; half a line that it wrote is no evidence."""
     with Server(stub(place, "0 setverdict pass -> ok\\n0 getv", "3"), grace=0.4) as server:

@@ -5,6 +5,7 @@ import functools
 import queue
 import threading
 import time
+from collections.abc import Coroutine, Generator
 from typing import Callable, Dict, List, NoReturn, Optional, Sequence, Tuple, Union
 
 from .errors import DynamicError, Ended, Refused, ServerEnded
@@ -280,7 +281,10 @@ class Case:
     def _behave(self, run: Run, behaviour: Callable[[], object]) -> None:
         """Runs a behaviour to its end, and reports that to the table."""
         try:
-            behaviour()
+            returned = behaviour()
+            if isinstance(returned, (Coroutine, Generator)):
+                returned.close()
+                raise TypeError("a behaviour is a plain function, and this one has run nothing: call asyncio.run in it")
             run._call("finish")
         except BaseException as raised:
             self._note(run, raised)
@@ -320,15 +324,17 @@ class Case:
 
     def _read(self) -> None:
         """Hands each answer to the run that asked, to the end of the test case."""
-        while not self._is_ended and not self._fault:
-            line = self._program.read()
-            if line is None:
-                self._lose(self._program.how_it_ended())
-                return
-            if not self._take(line):
-                self._program.kill()
-                self._lose(f"the server wrote what it may not write here: {line[:100]!r}")
-                return
+        try:
+            while not self._is_ended and not self._fault:
+                line = self._program.read()
+                if line is None:
+                    self._lose(self._program.how_it_ended())
+                elif not self._take(line):
+                    self._program.kill()
+                    self._lose(f"the server wrote what it may not write here: {line[:100]!r}")
+        except BaseException as error:  # as no memory: nobody may wait for an answer that nobody reads
+            self._program.kill()
+            self._lose(f"the client cannot read on: {told(error)}")
 
     def _take(self, text: str) -> bool:
         """Takes a line, if it may be here."""

@@ -3,7 +3,7 @@ from __future__ import annotations
 
 import re
 from dataclasses import dataclass
-from typing import Dict, List, Optional, Sequence, Tuple, Union
+from typing import Dict, List, NamedTuple, Optional, Sequence, Tuple, Union
 
 from .words import told
 
@@ -15,8 +15,7 @@ def worst(verdicts: Sequence[str]) -> str:
     return max(verdicts, key=VERDICTS.index, default="none")
 
 
-@dataclass(frozen=True)
-class Line:
+class Line(NamedTuple):
     """A line inside evidence: a naming (`behaviour`), an entry (`->`), a remark (`#`) or a refused line (`!`)."""
 
     kind: str
@@ -32,24 +31,26 @@ _ENTRY = re.compile(r"([0-9]+) ([a-z][a-zA-Z0-9_ ]*) -> ([a-z][a-z0-9 -]*)")
 
 def parsed(text: str) -> Optional[Line]:
     """The line that the text spells."""
-    naming, said, entry = _NAMING.fullmatch(text), _SAID.fullmatch(text), _ENTRY.fullmatch(text)
-    if naming:
-        return Line("behaviour", int(naming[1]), naming[2])
+    entry = _ENTRY.fullmatch(text)
+    if entry:
+        return Line("->", int(entry[1]), entry[2], entry[3])
+    said = _SAID.fullmatch(text)
     if said:
         return Line(said[2], int(said[1]), said[3])
-    return Line("->", int(entry[1]), entry[2], entry[3]) if entry else None
+    naming = _NAMING.fullmatch(text)
+    return Line("behaviour", int(naming[1]), naming[2]) if naming else None
 
 
-_SUITS = {
+_SUITS = {verb: re.compile(f"{replies}|ended|error [a-z-]+") for verb, replies in {
     "create": "made [0-9]+", "getverdict": "|".join(VERDICTS), "wait": "matched|parked", "wake": "matched",
     **dict.fromkeys(("start", "stop", "kill", "stopcase", "setverdict", "finish"), "ok"),
     **dict.fromkeys(("running", "alive", "done", "killed"), "true|false"),
-}
+}.items()}
 
 
 def suits(call: str, reply: str) -> bool:
     """Whether the table may reply so to this call."""
-    return re.fullmatch(f"{_SUITS[call.split()[0]]}|ended|error [a-z-]+", reply) is not None
+    return _SUITS[call.partition(" ")[0]].fullmatch(reply) is not None
 
 
 def ends_case(line: Line) -> bool:
@@ -60,7 +61,7 @@ def ends_case(line: Line) -> bool:
 
 def may_halt(line: Line) -> bool:
     """Whether somebody may have been stopped by this entry, or be done."""
-    return line.reply.startswith("error ") or line.text.split()[0] in ("finish", "stop", "kill", "stopcase") and line.reply == "ok"
+    return line.reply.startswith("error ") or line.text.partition(" ")[0] in ("finish", "stop", "kill", "stopcase") and line.reply == "ok"
 
 
 class Findings:
