@@ -6,9 +6,9 @@ import pty
 import socket
 import threading
 import time
-import tty
-from typing import Callable, List
+from typing import Any, Callable, Dict, List
 
+from document_tests import DOCS, blocks
 from filskeam import Run
 from kit import FOR_EVER, Place, hold, holds_word, legal, same, test, timed
 
@@ -86,41 +86,38 @@ def a_device_behind_tcp(place: Place) -> None:
 
 @test
 def a_device_behind_a_pseudo_terminal(place: Place) -> None:
-    """A serial line: the device echoes a frame and says ok, and two behaviours use it one after the other."""
-    bench_side, device_side = pty.openpty()
-    tty.setraw(bench_side)
-    tty.setraw(device_side)
+    """A serial line, by the code of the page: the device echoes a frame and says ok, until it hangs; behaviours use it one by one."""
+    code: Dict[str, Any] = {}
+    exec(blocks("python", os.path.join(DOCS, "benches.md"))[0], code)  # pylint: disable=exec-used
+    device_side, other_side = pty.openpty()
+    line = code["open_line"](os.ttyname(other_side))
     frames: List[bytes] = []
 
     def device() -> None:
-        with os.fdopen(device_side, "rb", buffering=0) as line:
-            while True:
-                frame = line.readline()
-                frames.append(frame)
-                os.write(device_side, b"ok " + frame)
-                if frame == b"off\n":
-                    return
+        while frames[-1:] != [b"hang\n"]:
+            frames.append(os.read(device_side, 100))
+            if frames[-1] != b"hang\n":
+                os.write(device_side, b"ok " + frames[-1])
 
-    def switch(run: Run, *, frame: bytes) -> None:
-        os.write(bench_side, frame)
-        answer = b""
-        while not answer.endswith(b"\n"):
-            answer += os.read(bench_side, 100)
+    def switch(run: Run, *, frame: bytes, seconds: float) -> None:
+        answer = code["ask"](line, frame, seconds)
         run.set_verdict("pass" if answer == b"ok " + frame else "fail", answer)
 
     def main(run: Run) -> None:
-        for frame in (b"on\n", b"level 7\n", b"off\n"):
-            line = run.create("line")
-            run.start(line, switch, frame=frame)
-            run.wait_done(line)
+        for frame, seconds in ((b"on", 5), (b"level 7", 5), (b"off", 5), (b"hang", 0.2)):
+            it = run.create("line")
+            run.start(it, switch, frame=frame, seconds=seconds)
+            run.wait_done(it)
 
     threading.Thread(target=device, daemon=True).start()
     with place.server() as server:
         result = server.run("t_serial", main, timeout=20)
-    os.close(bench_side)
-    same((result.verdict, result.locals), ("pass", {0: "none", 1: "pass", 2: "pass", 3: "pass"}))
-    hold((3, r"b'ok off\n'") in legal(result).remarks, "the last answer is no reason")
-    place.reach("frames", len(frames), 3)
+    for it in (line, other_side, device_side):
+        os.close(it)
+    same((result.verdict, result.locals), ("error", {0: "none", 1: "pass", 2: "pass", 3: "pass", 4: "error"}))
+    holds_word("stopcase: TimeoutError: no answer to b'hang'", result.why)
+    hold((3, r"b'ok off'") in legal(result).remarks, "the last answer is no reason")
+    place.reach("frames", len(frames), 4)
 
 
 def stuck(run: Run) -> None:
