@@ -51,7 +51,7 @@ LIES = (
     Lie("the_header_is_not_compared", HEADER, "is_right = text == \"evidence 1 \" + name_", "is_right = !text.empty() || text == \"evidence 1 \" + name_",
         "a_server_that_ends_or_writes_nonsense"),
     Lie("a_local_verdict_is_the_last", HEADER, "if (rank(given) > rank(local)) local = given;", "local = given;", "random_cases_are_legal"),
-    Lie("a_name_has_its_last_verdict", HEADER, "detail::rank(verdict) > detail::rank(*worst)) worst", "detail::rank(verdict) >= 0) worst",
+    Lie("a_name_has_its_last_verdict", HEADER, "(!worst || detail::rank(verdict) > detail::rank(*worst))", "true",
         "a_result_says_who_and_why"),
     Lie("a_report_has_the_first_entries", HEADER, "if (line + most >= lines) text", "if (line < most) text", "a_result_says_who_and_why"),
     Lie("a_cut_block_spoils_the_file", HEADER, "append(evidence_ + (result.fault.empty() ? \"\" : \".cut\"), result.evidence);",

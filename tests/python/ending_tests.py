@@ -91,7 +91,7 @@ def a_behaviour_that_is_no_plain_function(place: Place) -> None:
         results = [server.run("t_async", alone(it), timeout=20) for it in (waits, yields)]
         results.append(server.run("t_inside", lambda run: asyncio.run(waits(run)), timeout=20))
     for name, result in zip(("waits", "yields"), results):
-        same((result.verdict, result.local("worker"), type(result.raised[0].exception)), ("error", "error", TypeError))
+        same((result.verdict, result.local("worker"), [type(it.exception) for it in result.raised]), ("error", "error", [TypeError]))
         holds_word(f"run 1 {name} on component 1 worker: stopcase: TypeError: a behaviour is a plain function", result.why)
     same((results[2].verdict, results[2].raised), ("pass", ()))
     place.reach("behaviours", len(results), 3)

@@ -97,7 +97,7 @@ LIES = (
     Lie("the_evidence_of_the_last_session_stays", "pytest_filskeam.py", "open(path, \"w\", encoding=\"ascii\").close()", "pass", "the_plugin_shows_what_failed"),
     Lie("only_the_fixture_empties_the_file", "pytest_filskeam.py", "    path = evidence_file(config)\n    if path:\n", "    path = None\n    if path:\n",
         "the_file_of_the_evidence_is_emptied"),
-    Lie("workers_share_the_file", "pytest_filskeam.py", "if path and worker else path", "if path and not worker else path",
+    Lie("workers_share_the_file", "pytest_filskeam.py", "return f\"{path}.{worker['workerid']}\" if path and worker else path", "return path if path or worker else path",
         "the_file_of_the_evidence_is_emptied"),
     Lie("a_thread_that_is_not_there_hangs", "filskeam/bench.py", "            run.is_done = True\n            raise\n", "            raise\n",
         "a_thread_that_cannot_be_made"),
