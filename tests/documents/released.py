@@ -259,8 +259,9 @@ def the_archive_runs_benches(room: str, program: str) -> Optional[str]:
     for command, wanted in (("PYTHONPATH=clients/python python3 heater.py", shown[0]), (typed, shown[1])):
         ran = shell(folder, environment, command)
         hold((ran.output, ran.errors, ran.status) == (wanted, "", 1), f"{command}: {wanted!r} is wanted: {ran}")
-    ran = shell(folder, environment, "./ttrun check < heater.evidence")
-    hold(ran.status == 0 and ran.output.count("legal t_heater ") == 2, f"{ran}")
+    with open(os.path.join(folder, "heater.evidence"), encoding="ascii") as file:
+        lines = file.read().splitlines()
+    hold([it for it in lines if it.startswith(("evidence ", "end "))] == ["evidence 1 t_heater 256", "end fail"] * 2, f"{lines}")
     return "2 benches"
 
 
