@@ -256,9 +256,13 @@ WritesTo task text before after (Ok status) = (a : Answer) × Makes task text a 
 WritesTo task text before after (Err F.Write) = (a : Answer) × Makes task text a × AppendsPrefix before after a.out
 WritesTo task text before after (Err fault) = Refuses task text fault × Keeps before after
 
--- if the answer is made of the text, the task is done
-abbrev pub GivesTo : Task → List ℕ → Answer → Streams → Outcome → Type 0
-GivesTo task text a s outcome = Makes task text a → IsDone task text s outcome
+-- by this, a task is done if this is made of its text
+abbrev pub Finishes : Task → List ℕ → Result Answer RunFault → Streams → Outcome → Type 0
+Finishes task text made s outcome = IsMade task text made → IsDone task text s outcome
+
+-- by this, each task is done if this answer is made of its text
+abbrev pub GivesAnswer : Answer → Streams → Outcome → Type 0
+GivesAnswer a s outcome = (task : Task) (text : List ℕ) → Finishes task text (Ok a) s outcome
 
 -- by this answer some text was written whole; without memory nothing was, if the writer failed a prefix
 abbrev pub ShowsText : Option (List ℕ) → Option (List ℕ) → Result (Unit {0}) RunFault → Type 0

@@ -1,9 +1,8 @@
 //! What is made of a text, and how it is given.
 ghost use Rattle.std.specs.Prelude.{List, ℕ};
 ghost use Rattle.tc_command.specs.declared.task.Task.{Task as AnyTask};
-ghost use Rattle.tc_program.specs.Inside.{GivesTo, WritesTo};
+ghost use Rattle.tc_program.specs.Inside.{Finishes, GivesAnswer, WritesTo};
 ghost use Rattle.tc_program.specs.Made.{IsMade};
-ghost use Rattle.tc_program.specs.Program.{IsDone};
 ghost use Rattle.tc_program.specs.Streams.{held};
 
 use crate::explained::refuse_text;
@@ -36,7 +35,7 @@ fn give_answer<W: Write, E: Write>(
     writer: &mut W,
     errors: &mut E,
 ) -> Outcome
-    ensures { (task : AnyTask) (text : List ℕ) → GivesTo task text answer.now (held W.contents writer.old writer.new E.contents errors.old errors.new) result }
+    ensures { GivesAnswer answer.now (held W.contents writer.old writer.new E.contents errors.old errors.new) result }
 {
     match write_whole(writer, answer.out.as_slice()) {
         Ok(()) => Outcome {
@@ -56,7 +55,7 @@ pub(crate) fn finish<W: Write, E: Write>(
     writer: &mut W,
     errors: &mut E,
 ) -> Outcome
-    ensures { IsMade task.now text.now made → IsDone task.now text.now (held W.contents writer.old writer.new E.contents errors.old errors.new) result }
+    ensures { Finishes task.now text.now made (held W.contents writer.old writer.new E.contents errors.old errors.new) result }
 {
     match made {
         Ok(answer) => give_answer(alloc, &answer, writer, errors),

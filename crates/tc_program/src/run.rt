@@ -1,5 +1,5 @@
 //! A run of a campaign: who is given its test cases, and what is written and printed of it.
-ghost use Rattle.std.specs.Prelude.{◌≡◌, ◌≤◌, [], All, IfOk, IfErr, IfNone, IfSome, None, Some};
+ghost use Rattle.std.specs.Prelude.{◌≡◌, ◌≤◌, [], All, Err, IfOk, IfErr, IfNone, IfSome, None, Some};
 ghost use Rattle.std.specs.Io.KnownBytes.{Appends};
 ghost use Rattle.std.specs.Vec.{vec_capacity, vec_len};
 ghost use Rattle.tc_verdict.specs.declared.verdict.Verdict.TheVariants.{None as NoVerdict};
@@ -134,31 +134,6 @@ where
     }
 }
 
-// Runs the test cases, writes the results at the end, and returns what came of them.
-fn run_whole<R, B: Callable, W: Write, E: Write>(
-    rt: &R,
-    alloc: Global,
-    cases: Vec<Case<B>>,
-    options: &RunOptions,
-    writer: &mut W,
-    errors: &mut E,
-) -> Result<Outcome, OutFault>
-where
-    R: Threads + Wait + Copy + Send + 'static,
-    requires names { All HasNames cases.items }
-    requires form { spec_form options.now.live options.now.form ≡ None }
-    ensures done { IfOk result (IsRun outline_of (IsCalled B.outcome) cases.items options.now
-        (held W.contents writer.old writer.new E.contents errors.old errors.new)) }
-    ensures refused { IfErr result (IsUnwritten outline_of (IsCalled B.outcome) cases.items options.now
-        (held W.contents writer.old writer.new E.contents errors.old errors.new)) }
-{
-    let (results, told) = run_or_not(rt, alloc, cases, options, errors);
-    write_results(alloc, &results, options.form, writer)?;
-    let status = status_of(&results);
-    let told = tell_end(errors, &results, told);
-    Ok(Outcome { status, told })
-}
-
 // Writes what follows the test cases of a campaign that ended so; without an ending the writer has ended it.
 fn close<W: Write>(
     ending: Option<CampaignEnd>,
@@ -169,6 +144,7 @@ fn close<W: Write>(
         (closing_text live.old.form live.old.tally r.0)) }
     ensures status { IfOk result (λ r. r.1 ≡ ending_status r.0 live.old.worst) }
     ensures cut { IfNone ending (live.new ≡ live.old) }
+    ensures why { IfNone ending (IfSome live.old.fault (λ fault. result ≡ Err fault)) }
     ensures part { IfSome ending (λ e. IfErr result (LeavesPrefix (W.contents live.old.writer.now) (W.contents live.new.writer.now)
         (closing_text live.old.form live.old.tally e))) }
     ensures same { live.new.writer.ghost_name ≡ live.old.writer.ghost_name }
@@ -238,11 +214,13 @@ where
         (held W.contents writer.old writer.new E.contents errors.old errors.new)) }
     ensures workers { THREADS ≡ worker_limit }
 {
-    match live_form(options.live, options.form) {
-        Some(form) => {
-            let mut live = LiveWriter::new(alloc, form, writer);
-            write_live(rt, alloc, cases, options, &mut live, errors)
-        }
-        None => run_whole(rt, alloc, cases, options, writer, errors),
+    if let Some(form) = live_form(options.live, options.form) {
+        let mut live = LiveWriter::new(alloc, form, writer);
+        return write_live(rt, alloc, cases, options, &mut live, errors);
     }
+    let (results, told) = run_or_not(rt, alloc, cases, options, errors);
+    write_results(alloc, &results, options.form, writer)?;
+    let status = status_of(&results);
+    let told = tell_end(errors, &results, told);
+    Ok(Outcome { status, told })
 }
