@@ -45,7 +45,8 @@ subcommand_named name =
     if bytes_eq name (codes "check") then S.Check
     else (if bytes_eq name (codes "replay") then S.Replay
     else (if bytes_eq name (codes "explore") then S.Explore
-    else (if bytes_eq name (codes "report") then S.Report else S.Run)))
+    else (if bytes_eq name (codes "report") then S.Report
+    else (if bytes_eq name (codes "serve") then S.Serve else S.Run))))
 
 -- the subcommand and its options; no subcommand is `run` without options
 abbrev pub line_of : Option (Text × List Row) → Subcommand × List Row
@@ -119,6 +120,7 @@ Asks (S.Explore, rows) (T.Explore histories details states) =
     (histories ≡ is_given rows (codes "history")) × (details ≡ is_given rows (codes "details")) × IsStatesOf (first_of (codes "states") rows) states
 Asks (S.Run, rows) (T.Run o) = (is_given rows (codes "list") ≡ false) × AsksRun rows o
 Asks (S.Run, rows) (T.List c) = (is_given rows (codes "list") ≡ true) × Chooses rows c
+Asks (S.Serve, rows) T.Serve = Unit {0}
 Asks line task = ⊥
 
 -- a value of these options names nothing, and it is the first: that of --shard, then that of --stop-on or --states, and

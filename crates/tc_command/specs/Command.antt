@@ -46,6 +46,11 @@ replay = with_rules (new_app (codes "replay")) (flag_rule (codes "explain") ∷ 
 abbrev pub with_version : App → App
 with_version app = record app { top = record app.top { has_version = true } }
 
--- the program's command prints its version, and has these five subcommands
+-- a command with the subcommands that these commands are, in their order
+abbrev pub with_commands : App → List App → App
+with_commands app [] = app
+with_commands app (sub ∷ subs) = with_commands (with_subcommand app sub.top) subs
+
+-- the program's command prints its version, and has these six subcommands; `serve` has no option
 abbrev pub ttrun : App
-ttrun = with_subcommand (with_subcommand (with_subcommand (with_subcommand (with_subcommand (with_version (new_app (codes "ttrun"))) run.top) explore.top) check.top) report.top) replay.top
+ttrun = with_commands (with_version (new_app (codes "ttrun"))) (run ∷ new_app (codes "serve") ∷ explore ∷ check ∷ report ∷ replay ∷ [])

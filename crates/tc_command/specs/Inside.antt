@@ -1,7 +1,7 @@
 -- What only the reading of the arguments needs: no public clause rests on a word of this file.
-use Rattle.std.specs.Prelude.{◌≡◌, ◌==◌, ◌||◌, ◌∷◌, [], Bool, List, Option, Some, None, if◌then◌else◌, true}
+use Rattle.std.specs.Prelude.{◌≡◌, ◌==◌, ◌||◌, ◌∷◌, [], Bool, List, Option, Some, None, if◌then◌else◌, codes, true}
 use Rattle.std.specs.List.{list_any}
-use Rattle.clap.specs.Words.{App, Row, Rule, Text, app_of, kind_of, with_rule, with_subcommand}
+use Rattle.clap.specs.Words.{App, Row, Rule, Text, app_of, kind_of, new_app, with_rule, with_subcommand}
 use Rattle.clap.specs.declared.builder.command.Command.{Command}
 use Rattle.clap.specs.declared.builder.command.Command.TheViews.{out-Command}
 use Rattle.clap.specs.declared.error.kind.ErrorKind.TheVariants.{ArgumentConflict, MissingRequiredArgument}
@@ -77,6 +77,7 @@ pub record GrowsBy (more : App → App) (old : Command) (new : Command) : Type 0
 -- what each subcommand offers
 abbrev pub app_of_subcommand : Subcommand → App
 app_of_subcommand S.Run = run
+app_of_subcommand S.Serve = new_app (codes "serve")
 app_of_subcommand S.Explore = explore
 app_of_subcommand S.Check = check
 app_of_subcommand S.Report = report

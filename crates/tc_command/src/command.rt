@@ -15,7 +15,8 @@ pub const VERSION: &str = "0.15.0";
 const PROGRAM_HELP: &str = "\
 Each command reads standard input: ttrun run < FILE. No word at all means run.
 
-Status of run, replay and report: 0 for none and pass, 1 for inconc and fail, 2 for error.
+Status of run, serve, replay and report: 0 for none and pass, 1 for inconc and
+fail, 2 for error.
 Status of check: 0 where each history is legal.
 Status of explore: 0 where each test case has one verdict, 1 where one has several.
 3 says that a test case was aborted, a history is not legal, or a search met its limit;
@@ -30,6 +31,19 @@ VERDICT is none, pass, inconc, fail or error. Of the chosen test cases the K-th 
 shards, K from 1 to N, has those whose place, from 0, is K - 1 modulo N.
 --list stands with --only and --shard alone, and --junit not with --live.
 Status: 0 for none and pass, 1 for inconc and fail, 2 for error, 3 for an abort or a refusal.";
+
+// What the help of `serve` says at its end.
+const SERVE_HELP: &str = "\
+Standard input is lines, each answered as soon as it has come:
+  case NAME N       opens a test case of N behaviours, 1 to 256
+  behaviour K NAME  names the behaviour of run K
+  MOVE              a move of a list, but no wake: its reply
+  B # TEXT          a remark of run B, 1 to 200 printable ASCII bytes
+  end               closes the test case: its overall verdict
+Standard output is evidence of the test cases. A refused line changes nothing;
+outside a test case it ends the service.
+Status: 0 for none and pass, 1 for inconc and fail, 2 for error and for a test
+case that is not over, 3 for a refused line or a fault.";
 
 // The values that an option takes, by what the help calls one: none, one, or one each time that the option is given.
 #[derive(Clone, Copy)]
@@ -248,18 +262,32 @@ fn replay_command<'a>(alloc: Global) -> Result<Command<'a>, AllocError>
     with_options(alloc, command, &[EXPLAIN])
 }
 
+fn serve_command<'a>(alloc: Global) -> Command<'a>
+    ensures options { app_of result ≡ new_app (codes "serve") }
+    ensures local { (out-Command result).has_globals ≡ false }
+{
+    described(
+        alloc,
+        "serve",
+        "answers moves line by line, and writes evidence of the test cases",
+    )
+    .after_help(SERVE_HELP)
+}
+
 /// What the program does, by its subcommands.
 #[derive(Clone, Copy)]
 pub(crate) enum Subcommand {
     Run,
+    Serve,
     Explore,
     Check,
     Report,
     Replay,
 }
 
-const SUBCOMMANDS: [Subcommand; 5] = [
+const SUBCOMMANDS: [Subcommand; 6] = [
     Subcommand::Run,
+    Subcommand::Serve,
     Subcommand::Explore,
     Subcommand::Check,
     Subcommand::Report,
@@ -272,6 +300,7 @@ fn subcommand_of<'a>(alloc: Global, subcommand: Subcommand) -> Result<Command<'a
 {
     match subcommand {
         Subcommand::Run => run_command(alloc),
+        Subcommand::Serve => Ok(serve_command(alloc)),
         Subcommand::Explore => explore_command(alloc),
         Subcommand::Check => check_command(alloc),
         Subcommand::Report => report_command(alloc),

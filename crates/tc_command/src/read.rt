@@ -61,7 +61,7 @@ fn apart(subcommand: Subcommand) -> &'static [(&'static str, &'static str)]
         ],
         Subcommand::Explore => &[("history", "details")],
         Subcommand::Report => &[("csv", "junit"), ("csv", "html"), ("junit", "html")],
-        Subcommand::Check | Subcommand::Replay => &[],
+        Subcommand::Check | Subcommand::Replay | Subcommand::Serve => &[],
     }
 }
 
@@ -218,6 +218,7 @@ fn subcommand_task(
         Subcommand::Replay => Ok(Task::Replay {
             explains: has_option(options, "explain"),
         }),
+        Subcommand::Serve => Ok(Task::Serve),
     }
 }
 
@@ -230,6 +231,7 @@ fn subcommand_named(name: &str) -> Subcommand
         "replay" => Subcommand::Replay,
         "explore" => Subcommand::Explore,
         "report" => Subcommand::Report,
+        "serve" => Subcommand::Serve,
         _ => Subcommand::Run,
     }
 }

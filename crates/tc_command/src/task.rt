@@ -61,6 +61,8 @@ pub enum Task {
     },
     /// Run a campaign.
     Run(RunOptions),
+    /// Answer the lines of a client as they come.
+    Serve,
     /// Print the names of the test cases, and run none.
     List(Choice),
     /// Check histories.

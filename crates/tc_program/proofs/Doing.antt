@@ -1,6 +1,6 @@
 -- What comes of a text, and of an input.
 use Rattle.std.proofs.Common.{ℕ, ◌≡◌, ◌≤◌, List, [], Option, None, Some, IfSome, IfOk, IfErr, Result, Ok, Err, ap₂, inl, inr, length, refl, subst, sym}
-use Rattle.std.specs.Prelude.{MatchResult}
+use Rattle.std.specs.Prelude.{◌≢◌, MatchResult}
 use Rattle.std.specs.Global.{Vec}
 use Rattle.tc_program.specs.declared.reply.Answer.{Answer}
 use Rattle.std.specs.Io.KnownBytes.{Keeps}
@@ -12,6 +12,9 @@ use Rattle.tc_program.specs.Input.{IsUnread}
 use Rattle.tc_program.specs.Inside.{Makes, Refuses, WritesTo}
 use Rattle.tc_program.specs.Limits.{limit_of}
 use Rattle.tc_program.specs.Made.{Does, IsMade}
+use Rattle.tc_program.specs.Program.{IsCarriedOut, IsDoneWhole}
+use Rattle.tc_program.specs.Streams.{Streams}
+use Rattle.tc_program.specs.declared.outcome.Outcome.{Outcome}
 
 pub keeps_same : (held : Option (List ℕ)) → Keeps held held
 keeps_same None = tt
@@ -29,6 +32,7 @@ not_write (T.Report form explains) text refused = refused
 not_write (T.Explore histories details states) text refused = refused
 not_write (T.List choice) text refused = refused
 not_write (T.Run o) text refused = refused
+not_write T.Serve text refused = refused
 
 -- of a text that is refused nothing is written
 pub refused_writes : (task : Task) (text : List ℕ) (held : Option (List ℕ)) (fault : RunFault) → Refuses task text fault → WritesTo task text held held (Err fault)
@@ -80,3 +84,9 @@ pub made_by : (task other : Task) (text : List ℕ) (made r : Result Answer RunF
     → IsMade task text made
 made_by task other text made r is same done refused =
     subst (λ x. IsMade task text x) (sym same) (subst (λ t. IsMade t text r) (sym is) (made_either other text r done refused))
+
+-- a task that is no service is carried out by its whole input
+pub carried_out : (task : Task) (input : Option (List ℕ)) (s : Streams) (outcome : Outcome) → task ≢ T.Serve → IsDoneWhole task input s outcome
+    → IsCarriedOut task input s outcome
+carried_out T.Serve input s outcome other done = absurd (other refl)
+carried_out task input s outcome other done = done

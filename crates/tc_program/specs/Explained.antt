@@ -20,29 +20,20 @@ explains (T.Replay asked) = asked
 explains (T.Check asked) = asked
 explains (T.Report form asked) = asked
 explains (T.Run o) = o.explains
-explains (T.List choice) = false
-explains (T.Explore histories details states) = false
+explains task = false
 
 -- what the text of a task should be, which has a fault of this kind; a script has faults of another
 abbrev pub refusal_by : Task → TextKind → Option Refusal
 refusal_by (T.Replay asked) kind = Some (R.Moves kind)
 refusal_by (T.Check asked) kind = Some (R.Histories kind)
 refusal_by (T.Report form asked) kind = Some (R.Histories kind)
-refusal_by (T.Run o) kind = None
-refusal_by (T.List choice) kind = None
-refusal_by (T.Explore histories details states) kind = None
+refusal_by task kind = None
 
 -- what a fault says of the text of a task, and the number of its line, if it is one of a line
 abbrev pub refusal_at : Task → RunFault → Option (Refusal × ℕ)
 refusal_at task (F.Text (X.At line kind)) = option_map (λ refusal. (refusal, line)) (refusal_by task kind)
 refusal_at task (F.Script fault) = Some (R.Script fault.kind, fault.line)
-refusal_at task (F.Text X.NoMemory) = None
-refusal_at task F.TooLong = None
-refusal_at task F.Read = None
-refusal_at task F.Write = None
-refusal_at task F.NoMemory = None
-refusal_at task F.StopOn = None
-refusal_at task F.Only = None
+refusal_at task fault = None
 
 -- the same, if the task is asked to explain it
 abbrev pub refusal_of : Task → RunFault → Option (Refusal × ℕ)

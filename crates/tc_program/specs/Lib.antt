@@ -12,6 +12,7 @@ pub mod Scripted
 pub mod Choosing
 pub mod Explore
 pub mod Made
+pub mod Serve
 pub mod Program
 pub mod Answer
 pub mod Check

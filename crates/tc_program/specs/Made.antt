@@ -34,6 +34,7 @@ IsMade (T.Report form e) text made = MatchResult made (IsReported form text) (Re
 IsMade (T.Explore h d n) text made = MatchResult made (IsSilent (Explores h d n text)) (RefusesScript text)
 IsMade (T.List choice) text made = MatchResult made (IsListed choice text) (RefusesChoice choice text)
 IsMade (T.Run o) text made = MatchResult made (λ a. ⊥) (RefusesChoice o.choice text)
+IsMade T.Serve text made = ⊥
 
 -- what a call of a task over a reader and a writer returns: the status, and what is made of the input is written; or a
 -- fault. Then the writer failed, and a prefix of that is written; or the input is refused, and nothing is.

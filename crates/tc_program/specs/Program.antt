@@ -19,6 +19,7 @@ use Rattle.tc_program.specs.Limits.{limit_of}
 use Rattle.tc_program.specs.Made.{IsMade}
 use Rattle.tc_program.specs.Run.{IsRun, IsUnwritten}
 use Rattle.tc_program.specs.Scripted.{script_outline, IsScripted}
+use Rattle.tc_program.specs.Serve.{Serves}
 use Rattle.tc_program.specs.Streams.{Streams}
 use Rattle.tc_program.specs.Stderr.{IsRefusal, IsTold}
 
@@ -54,9 +55,14 @@ pub data IsDone (task : Task) (text : List ℕ) (s : Streams) (outcome : Outcome
   -- a campaign was run, and its results were written whole or not
   run : (o : RunOptions) → task ≡ T.Run o → RunsScript o text s outcome ⊎ LeavesScript o text s outcome → IsDone task text s outcome
 
--- what the program does with a task: its input was read whole, and the text is done; or it was not, nothing was
+-- what the program does with a task by its whole input: it was read, and the text is done; or it was not, nothing was
 -- written, and why is printed
-abbrev pub IsCarriedOut : Task → Option (List ℕ) → Streams → Outcome → Type 0
-IsCarriedOut task input s outcome =
+abbrev pub IsDoneWhole : Task → Option (List ℕ) → Streams → Outcome → Type 0
+IsDoneWhole task input s outcome =
     IsRead (limit_of task) input (λ text. IsDone task text s outcome)
     ⊎ ((fault : RunFault) × IsUnread (limit_of task) input fault × Keeps s.before s.after × IsRefusal s.untold s.told (line_of fault) outcome)
+
+-- what the program does with a task: it serves the input line by line, or takes it whole
+abbrev pub IsCarriedOut : Task → Option (List ℕ) → Streams → Outcome → Type 0
+IsCarriedOut T.Serve input s outcome = Serves input s outcome
+IsCarriedOut task input s outcome = IsDoneWhole task input s outcome

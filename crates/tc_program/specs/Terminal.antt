@@ -12,5 +12,6 @@ awaited_line None = reading_line (codes "a script from the terminal; end it with
 awaited_line (Some word) =
     if bytes_eq word (codes "check") then reading_line (codes "histories from the terminal; end them with Ctrl-D")
     else (if bytes_eq word (codes "report") then reading_line (codes "histories from the terminal; end them with Ctrl-D")
+    else (if bytes_eq word (codes "serve") then reading_line (codes "lines of test cases from the terminal; end them with Ctrl-D")
     else (if bytes_eq word (codes "replay") then reading_line (codes "a list of moves from the terminal; end it with Ctrl-D")
-    else reading_line (codes "a script from the terminal; end it with Ctrl-D")))
+    else reading_line (codes "a script from the terminal; end it with Ctrl-D"))))

@@ -1,6 +1,6 @@
 //! What the program does with a task.
-ghost use Rattle.std.specs.Prelude.{◌≡◌};
-ghost use Rattle.tc_command.specs.declared.task.Task.TheVariants.{Run};
+ghost use Rattle.std.specs.Prelude.{◌≡◌, ◌≢◌};
+ghost use Rattle.tc_command.specs.declared.task.Task.TheVariants.{Run, Serve};
 ghost use Rattle.tc_program.specs.Program.{IsCarriedOut, IsDone};
 ghost use Rattle.tc_program.specs.Streams.{held};
 
@@ -17,6 +17,7 @@ use crate::outcome::Outcome;
 use crate::replay::replay_text;
 use crate::report::report_text;
 use crate::run::run_cases;
+use crate::serve::serve_input;
 use crate::stderr::refuse;
 use std::alloc::Global;
 use std::io::{Read, Write};
@@ -60,6 +61,7 @@ fn do_text<R, W: Write, E: Write>(
 ) -> Outcome
 where
     R: Threads + Wait + Copy + Send + 'static,
+    requires { task.now ≢ Serve }
     ensures { IsDone task.now text.now (held W.contents writer.old writer.new E.contents errors.old errors.new) result }
 {
     let made = match task {
@@ -73,6 +75,7 @@ where
         } => explore_text(alloc, *histories, *details, *states, text),
         Task::List(choice) => list_text(rt, alloc, choice, text),
         Task::Run(options) => return run_text(rt, alloc, task, options, text, writer, errors),
+        Task::Serve => unreachable!(),
     };
     finish(alloc, task, text, made, writer, errors)
 }
@@ -90,6 +93,9 @@ where
     R: Threads + Wait + Copy + Send + 'static,
     ensures { IsCarriedOut task.now (I.remaining reader.old) (held W.contents writer.old writer.new E.contents errors.old errors.new) result }
 {
+    if let Task::Serve = task {
+        return serve_input(alloc, reader, writer, errors);
+    }
     match read_text(alloc, reader, limit_of(task)) {
         Ok(text) => do_text(rt, alloc, task, text.as_slice(), writer, errors),
         Err(fault) => refuse(alloc, errors, fault),

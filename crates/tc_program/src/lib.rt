@@ -23,6 +23,7 @@ pub mod reply;
 mod report;
 pub mod run;
 pub mod script;
+mod serve;
 mod stderr;
 pub mod stop_on;
 pub mod terminal;

@@ -16,6 +16,7 @@ pub(crate) fn limit_of(task: &Task) -> usize
 {
     match task {
         Task::Check { .. } | Task::Report { .. } => HISTORY_LIMIT,
-        Task::Replay { .. } | Task::Explore { .. } | Task::List(_) | Task::Run(_) => SCRIPT_LIMIT,
+        Task::Replay { .. } | Task::Explore { .. } | Task::List(_) | Task::Run(_) | Task::Serve =>
+            SCRIPT_LIMIT,
     }
 }

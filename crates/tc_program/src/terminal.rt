@@ -13,6 +13,9 @@ pub fn awaited_line(subcommand: Option<&str>) -> &'static str
         Some("check" | "report") => {
             "ttrun: reads histories from the terminal; end them with Ctrl-D\n"
         }
+        Some("serve") => {
+            "ttrun: reads lines of test cases from the terminal; end them with Ctrl-D\n"
+        }
         Some("replay") => "ttrun: reads a list of moves from the terminal; end it with Ctrl-D\n",
         _ => "ttrun: reads a script from the terminal; end it with Ctrl-D\n",
     }

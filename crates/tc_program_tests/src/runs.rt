@@ -121,6 +121,20 @@ fn components_with_names(rt: HostRuntime) -> Result<(), Fail> {
     is_row(&rt, rt.alloc(), row)
 }
 
+#[test]
+fn lines_that_are_served(rt: HostRuntime) -> Result<(), Fail> {
+    for row in [
+        "ttrun serve < case t 1;0 setverdict fail;0 finish;end; => evidence 1 t 1;0 setverdict fail -> ok;0 finish -> ok;end fail;1",
+        "ttrun serve < case t 1;fly;0 fly;0 finish;end; => evidence 1 t 1;0 ! bad move;0 finish -> ok;end none;3ttrun: line 2: bad move;",
+        "ttrun serve < case t 1;0 stopcase; => evidence 1 t 1;0 stopcase -> ok;end error;2ttrun: the input ended inside a test case;",
+        "ttrun serve < case t 1;0 finish;end;0 finish;case u 1; => evidence 1 t 1;0 finish -> ok;end none;3ttrun: line 4: bad move;",
+        "ttrun serve <  => 0",
+    ] {
+        is_row(&rt, rt.alloc(), row)?;
+    }
+    Ok(())
+}
+
 // If memory runs out for the words nothing is read.
 #[test]
 fn words_without_memory(rt: HostRuntime) -> Result<(), Fail> {

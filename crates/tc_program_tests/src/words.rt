@@ -51,6 +51,8 @@ ttrun report --explain --junit => report --junit --explain
 ttrun report --csv => report --csv
 ttrun report --junit => report --junit
 ttrun report --html => report --html
+ttrun serve => serve
+ttrun serve -- => serve
 ttrun explore => explore --states=100000
 ttrun explore --history => explore --history --states=100000
 ttrun explore --states 7 => explore --states=7
@@ -143,6 +145,7 @@ fn append_task(out: &mut String, task: &Task) -> Result<(), Fail> {
         Task::Replay { explains } => append_explaining(out, "replay", *explains),
         Task::Check { explains } => append_explaining(out, "check", *explains),
         Task::Run(options) => append_run(out, options),
+        Task::Serve => Ok(out.push_str("serve")?),
         Task::List(choice) => append_list(out, choice),
         Task::Report { form, explains } => append_explaining(out, word_of_report(*form), *explains),
         Task::Explore {
