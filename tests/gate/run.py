@@ -23,7 +23,9 @@ from typing import Callable, Dict, List, Tuple
 TOP = os.path.dirname(os.path.dirname(os.path.dirname(os.path.abspath(__file__))))
 # The parts in their order, each by the command that it runs.
 PARTS = ("tests/claims/check.py", "tests/gate/run.py", "tests/wrapper/run.py", "rt", "tests/program/run.py", "tests/hostile/run.py",
-         "tests/python/run.py", "tests/cpp/run.py", "tests/titan/run.py", "tests/page/run.py", "tests/documents/run.py")
+         "tests/serve/run.py", "tests/python/run.py", "tests/cpp/run.py", "tests/titan/run.py", "tests/page/run.py", "tests/documents/run.py")
+# The words that a part is run with, if it has any.
+WORDS = {"rt": "ci", "tests/serve/run.py": "--server crates/ttrun/out/ttrun serve"}
 RECORD = "crates/ttrun/out/ttrun.gate"
 LEFT = ("crates/ttrun/out/ttrun", "crates/ttrun/out/ttrun.sources", RECORD, "crates/refused_memory/out/refused_memory")
 # How many tests each part passes where a test says nothing else.
@@ -115,7 +117,7 @@ def calls_of(room: str) -> List[str]:
 @test
 def all_parts_pass(room: str) -> None:
     _, errors = run(room)
-    wanted = [f"{it} {'ci ' if it == 'rt' else ' '}none" for it in PARTS]
+    wanted = [f"{it} {WORDS.get(it, '')} none" for it in PARTS]
     hold(calls_of(room) == wanted and errors == "", f"{calls_of(room)} {errors}")
 
 

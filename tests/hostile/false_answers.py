@@ -35,10 +35,14 @@ TABLE = Task("two", ("run", "--csv"), SCRIPT)
 HISTORIES = Task("two", ("run", "--history"), SCRIPT)
 SUITE = Task("two", ("run", "--junit"), SCRIPT)
 PROGRESS = Task("two", ("run", "--progress"), SCRIPT)
+SERVED = Task("three_lines", ("serve",), text("case t 1;fly;0 finish;end"))
+LINES = text("evidence 1 t 1;0 finish -> ok;end none")
+NOBODY = b"ttrun: line 2: bad move\n"
 LIVE_PROGRESS = Task("two", ("run", "--live", "--progress"), SCRIPT)
-TOLD = {PROGRESS.words: text("a pass;b none"), LIVE_PROGRESS.words: text("a pass;b none")}
+TOLD = {PROGRESS.words: text("a pass;b none"), LIVE_PROGRESS.words: text("a pass;b none"), SERVED.words: NOBODY}
+STATUS = {SERVED.words: 3}
 OF_FIRST = text("a pass")
-AMPLE = {PROGRESS.words: WHOLE, LIVE_PROGRESS.words: WHOLE, PLAIN.words: WHOLE, LIVE.words: WHOLE, TABLE.words: HEADER + RECORD + text("b,1,1,0,0,0,0,none"),
+AMPLE = {SERVED.words: LINES, PROGRESS.words: WHOLE, LIVE_PROGRESS.words: WHOLE, PLAIN.words: WHOLE, LIVE.words: WHOLE, TABLE.words: HEADER + RECORD + text("b,1,1,0,0,0,0,none"),
          HISTORIES.words: HISTORY, SUITE.words: JUNIT}
 
 
@@ -68,6 +72,11 @@ def answers() -> Iterator[Tuple[str, Task, Ran]]:
         (PROGRESS, WHOLE, both + NO_MEMORY, 3), (PROGRESS, WHOLE, both, 3), (LIVE_PROGRESS, FIRST[:-1], OF_FIRST + NO_MEMORY, 3),
         (LIVE_PROGRESS, FIRST, OF_FIRST, 3),
     ]
+    wrong += [
+        (SERVED, LINES, NOBODY, 0), (SERVED, LINES[:-1], NOBODY, 3), (SERVED, LINES, NOBODY * 2, 3), (SERVED, LINES[:15], b"", 3),
+        (SERVED, LINES[:20], NOBODY + NO_MEMORY, 3), (SERVED, LINES[15:], NOBODY + NO_MEMORY, 3), (SERVED, LINES, NO_MEMORY, 3),
+        (SERVED, LINES[:-9], NO_MEMORY + NOBODY, 3), (SERVED, b"", NOBODY + NO_MEMORY, 3), (SERVED, LINES[:-9], NO_MEMORY, 3),
+    ]
     for task, output, errors, status in wrong:
         yield "wrong", task, Ran(output, errors, status, refused=1)
     yield "wrong", PLAIN, Ran(b"", b"", -9, refused=1, is_late=True)
@@ -87,6 +96,10 @@ def answers() -> Iterator[Tuple[str, Task, Ran]]:
         ("refused", PROGRESS, b"", both + NO_MEMORY, 3), ("refused", PROGRESS, b"", NO_MEMORY, 3), ("aborted", PROGRESS, ABORTED, OF_FIRST + AT_B, 3),
         ("refused", LIVE_PROGRESS, FIRST, both + NO_MEMORY, 3), ("right", LIVE_PROGRESS, WHOLE, both, 0),
     ]
+    true += [
+        ("right", SERVED, LINES, NOBODY, 3), ("refused", SERVED, b"", NO_MEMORY, 3), ("refused", SERVED, LINES[:15], NO_MEMORY, 3),
+        ("refused", SERVED, LINES[:15], NOBODY + NO_MEMORY, 3), ("refused", SERVED, LINES[:-9], NOBODY + NO_MEMORY, 3),
+    ]
     for kind, task, output, errors, status in true:
         yield kind, task, Ran(output, errors, status, refused=1)
 
@@ -95,7 +108,7 @@ def judged_answers() -> Sweep:
     """Judges each."""
     done = Sweep("false answers")
     for kind, task, ran in answers():
-        found = judged(task, Ran(AMPLE[task.words], TOLD.get(task.words, b""), 0, refused=0), ran)
+        found = judged(task, Ran(AMPLE[task.words], TOLD.get(task.words, b""), STATUS.get(task.words, 0), refused=0), ran)
         done.runs += 1
         done.met[f"judged {found.kind}"] += 1
         if found.kind != kind:

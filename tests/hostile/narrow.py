@@ -6,6 +6,7 @@ import sys
 from itertools import accumulate
 from typing import Callable, Iterator, List
 
+import served
 from outcomes import HISTORY, PROGRESS, Task, pieces_of, told_of_first
 from refusing import TOP, Ran, Refusing
 from sweeps import Sweep, numbers, tasks
@@ -34,10 +35,20 @@ def told_of(task: Task, ample: Ran, written: int) -> bytes:
     return b"".join(told_of_first(ample.errors, sum(it <= written for it in ends) + 1))
 
 
+def served_of(task: Task, ample: Ran, what: str, number: int) -> Ran:
+    """The same of a service, which answers as it reads."""
+    if what == "read":
+        state = served.after_bytes(task.given, number - 1)
+        return Ran(state.output, state.errors + READ, 3)
+    return Ran(ample.output[:number - 1], served.at_byte(task.given, number - 1) + WRITE, 3)
+
+
 def wanted_of(task: Task, ample: Ran, what: str, number: int) -> Ran:
     """What is to come where the read or write of this number fails, counted from 1."""
     if number > (ample.reads if what == "read" else ample.writes):
         return ample
+    if task.words == served.WORDS:
+        return served_of(task, ample, what, number)
     return Ran(b"", READ, 3) if what == "read" else Ran(ample.output[:number - 1], told_of(task, ample, number - 1) + WRITE, 3)
 
 

@@ -7,6 +7,7 @@ import sys
 from dataclasses import dataclass, replace
 from typing import List, Optional, Tuple
 
+import served
 from refusing import TOP, Ran
 
 sys.path.append(os.path.join(TOP, "tests", "program"))
@@ -215,8 +216,17 @@ def judged(task: Task, ample: Ran, ran: Ran) -> Outcome:
     return judged_refusal(task, ample, ran)
 
 
+def judged_served(task: Task, ran: Ran) -> Outcome:
+    """A service that was refused memory: what comes of its first lines is out, whole, and then that memory ran out."""
+    if any((ran.output, ran.errors) == (it.output, it.errors + NO_MEMORY) for it in served.states(task.given)):
+        return Outcome("refused")
+    return Outcome("wrong", f"half of what comes of a line is out: {ran.output[-200:]!r}, {ran.errors[-200:]!r}")
+
+
 def judged_refusal(task: Task, ample: Ran, ran: Ran) -> Outcome:
     """A run that ended with status 3."""
+    if task.words == served.WORDS:
+        return judged_served(task, ran)
     if ran.errors == NO_MEMORY:
         return judged_refused(task, ample, ran)
     ending = re.fullmatch(rb"ttrun: aborted at (\w+): ([a-z ]+)\n", ran.errors)

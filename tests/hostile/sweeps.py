@@ -21,6 +21,9 @@ from whole import EACH
 LIVE_FORMS: Tuple[Tuple[str, ...], ...] = ((), ("--csv",), ("--history",))
 FORMS = (*LIVE_FORMS, ("--junit",))
 SCRIPTS = ("restart", "workers", "supervisor", "verdicts", "pumps")
+# Lines of two test cases: of each kind, refused ones of a run and of nobody, a run that waits and is woken; the second stays open.
+SESSION = text("case t 3;behaviour 1 probe;0 create alive named pump;0 start 1 1;0 wait done 1;1 # 5 V;1 setverdict inconc;fly;1 finish;0 fly;"
+               "0 start 1 2 0;2 finish;0 finish;end;case u 256;0 create;0 getverdict")
 # A sweep continues until that many runs in a row are refused nothing.
 BEHIND = 3
 # A sweep that has not come to its end by then never does.
@@ -55,6 +58,7 @@ def tasks() -> List[Task]:
     found.append(Task("an_illegal_history", ("check",), text("history 1 t 1;end pass")))
     reported = [(name, form) for name in ("pumps", "supervisor") for form in ("--csv", "--junit", "--html")]
     found += [Task(name, ("report", form), bytes_of(f"{name}.history")) for name, form in reported]
+    found.append(Task("a_session", ("serve",), SESSION))
     words = (("--help",), ("run", "--help"), ("frobnicate",), ("run", "--stop-on", "maybe"))
     return found + [Task("words_alone", it) for it in words]
 

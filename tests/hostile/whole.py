@@ -10,9 +10,9 @@ Exempt = Tuple[Tuple[str, ...], str]
 
 # Each growth of these is refused in turn by the sweeps of the whole program, which goes through them in each of its tasks.
 REFUSED_BY_THE_PROGRAM = ("explain", "html_page", "read_task", "answer", "carry_out", "tc_program::replay",
-                          "check", "take_script", "run_cases", "give", "fault_line", "abort_line", "Progress::end")
+                          "check", "take_script", "run_cases", "give", "fault_line", "abort_line", "Progress::end", "serve")
 # The tasks by which nothing else refuses these calls each growth: in the gate too each one is refused.
-EACH = ("--explain", "--html")
+EACH = ("--explain", "--html", "serve")
 # These can answer that memory ran out, and are refused none by themselves.
 UNREFUSED: Tuple[Exempt, ...] = (
     (("read_counted",), "read_input is this call over a reader that is counted"),
@@ -30,7 +30,7 @@ UNREFUSED: Tuple[Exempt, ...] = (
     (("append_first_line", "append_said"), "append_whole_block makes them"),
     (("append_entry", "append_end"), "write_block makes them"),
     (("read_evidence", "append_whole_block", "Block::history"), "no program reads or writes evidence yet"),
-    (("Server::step", "serve"), "no program answers lines yet"),
+    (("Server::step",), "serve makes it"),
     (("stop_word",), "it is handed no allocator: its one fault is that the word names no verdict"),
 )
 # What these are handed holds no allocator, so that they can ask for no memory; memory.py looks at their heads.
@@ -39,12 +39,11 @@ WITHOUT_ALLOCATOR = (
     "WordFault::text", "Step::operation", "Step::is_bound", "Place::is_bound", "Place::map", "GroupPlace::map", "TargetPlace::map",
     "Places::new", "Places::push", "Places::as_slice", "Script::is_script", "ScriptKind::text", "read_reference", "is_comment", "is_word",
     "Keyword::text", "read_keyword", "read_verdict", "tc_line::read_name", "Lines::new", "Lines::next", "awaited_line",
-    "deciding_entry", "component_of", "name_of",
+    "deciding_entry", "component_of", "name_of", "Server::new", "Server::is_open", "Server::worst",
 )
 # These take no memory, and are not made with every growth refused by themselves.
 UNTRIED: Tuple[Exempt, ...] = (
     (WITHOUT_ALLOCATOR, "they are handed no allocator"),
-    (("Server::new", "Server::is_open", "Server::worst"), "no program answers lines yet"),
     (("CountedReader::new", "CountedWriter::new", "NarrowWriter::new", "LiveWriter::new", "Progress::new", "Script::new", "ScriptJob::new",
       "Kept::into_results"), "they put together what they are handed"),
     (("write_whole", "write_counted", "write_abort"), "the memory that their writer takes is the writer's"),

@@ -21,12 +21,14 @@ TAKEN = (
     ("run", ("run",), STORED_SCRIPT.encode()),
     ("csv", ("run", "--csv"), RESTARTED_SCRIPT.encode()),
     ("history", ("run", "--history"), of_verdicts("error")),
+    ("serve", ("serve",), text("case t 1;0 finish;end")),
     ("no_word", (), of_verdicts("pass")),
 )
 REFUSED = (
     ("replay", ("replay",), b"", b"ttrun: line 1: text ends too early\n"),
     ("check", ("check",), b"\n", b"ttrun: line 1: bad first line\n"),
     ("run", ("run", "--csv"), b"end\n", b"ttrun: line 1: not allowed here\n"),
+    ("serve", ("serve",), b"end\n", b"ttrun: line 1: bad move\n"),
 )
 
 
@@ -48,7 +50,7 @@ def unwritten() -> Iterator[Case]:
 
 def unread() -> Iterator[Case]:
     """Standard input cannot be read, or must not be."""
-    for name, words in (("replay", ("replay",)), ("check", ("check",)), ("run", ("run",)), ("csv", ("run", "--csv")), ("none", ())):
+    for name, words in (("replay", ("replay",)), ("check", ("check",)), ("run", ("run",)), ("csv", ("run", "--csv")), ("serve", ("serve",)), ("none", ())):
         yield Case(f"input_closed_{name}", words, errors=READ, status=3, redirect="<&-")
         yield Case(f"input_is_a_directory_{name}", words, errors=READ, status=3, redirect="</")
         yield Case(f"input_is_write_only_{name}", words, errors=READ, status=3, redirect="0>/dev/null")

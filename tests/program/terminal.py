@@ -30,6 +30,7 @@ CALLS: List[Tuple[str, Tuple[str, ...], bool, bytes]] = [
     ("typed_moves", ("replay",), True, b"behaviours 1\n0 getverdict\n"),
     ("typed_search", ("explore",), True, examples.bytes_of("restart.script")),
     ("typed_list", ("run", "--list"), True, examples.bytes_of("restart.script")),
+    ("typed_lines", ("serve",), True, b"case t 1\n0 getverdict\n0 finish\nend\n"),
     ("typed_nothing", ("replay",), True, b""),
     ("help_with_a_keyboard", ("run", "--help"), True, b""),
     ("refused_with_a_keyboard", ("report",), True, b""),
@@ -38,7 +39,8 @@ CALLS: List[Tuple[str, Tuple[str, ...], bool, bytes]] = [
 # The calls in which a keyboard is no input, since none is read.
 UNREAD = ("help_with_a_keyboard", "refused_with_a_keyboard", "refused_rule_with_a_keyboard")
 HISTORIES = b"ttrun: reads histories from the terminal; end them with Ctrl-D\n"
-AWAITED = {"check": HISTORIES, "report": HISTORIES, "replay": b"ttrun: reads a list of moves from the terminal; end it with Ctrl-D\n"}
+AWAITED = {"check": HISTORIES, "report": HISTORIES, "replay": b"ttrun: reads a list of moves from the terminal; end it with Ctrl-D\n",
+           "serve": b"ttrun: reads lines of test cases from the terminal; end them with Ctrl-D\n"}
 SCRIPT = b"ttrun: reads a script from the terminal; end it with Ctrl-D\n"
 
 

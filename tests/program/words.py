@@ -7,8 +7,8 @@ from typing import List, Tuple
 
 from case import Case, SomeText, Word
 
-COMMANDS = ("run", "check", "replay", "explore", "report", "ttrun run < FILE", "No word at all means run",
-            "Status of run, replay and report: 0 for none and pass, 1 for inconc and fail, 2 for error.",
+COMMANDS = ("run", "serve", "check", "replay", "explore", "report", "ttrun run < FILE", "No word at all means run",
+            "Status of run, serve, replay and report: 0 for none and pass, 1 for inconc and\nfail, 2 for error.",
             "Status of check: 0 where each history is legal.",
             "Status of explore: 0 where each test case has one verdict, 1 where one has several.", "standard error says which.\n")
 EXPLAIN = "after a fault's line, says what stands there and what would be understood\n"
@@ -35,6 +35,10 @@ REPORT = ("reads histories, and writes them in one of these forms\n",
           "  --html     writes a page for a browser\n", "  --explain  " + EXPLAIN)
 CHECK = ("replays histories, and says which are legal\n", "  --explain  " + EXPLAIN)
 REPLAY = ("replays a list of moves, and prints each reply and the overall verdict\n", "  --explain  " + EXPLAIN)
+SERVE = ("answers moves line by line, and writes evidence of the test cases\n",
+         "Standard input is lines, each answered as soon as it has come:\n", "  case NAME N ", "  behaviour K NAME ", "  MOVE ", "  B # TEXT ", "  end ",
+         "Standard output is evidence of the test cases. A refused line changes nothing;\noutside a test case it ends the service.\n",
+         "Status: 0 for none and pass, 1 for inconc and fail, 2 for error and for a test\ncase that is not over, 3 for a refused line or a fault.\n")
 
 # The words, and what the help names.
 HELP: List[Tuple[Tuple[str, ...], Tuple[str, ...]]] = [
@@ -46,6 +50,7 @@ HELP: List[Tuple[Tuple[str, ...], Tuple[str, ...]]] = [
     (("help", "explore"), EXPLORE), (("explore", "-h"), EXPLORE),
     (("help", "report"), REPORT), (("report", "--help"), REPORT),
     (("help", "replay"), REPLAY), (("replay", "--help"), REPLAY), (("replay", "-h"), REPLAY),
+    (("help", "serve"), SERVE), (("serve", "--help"), SERVE), (("serve", "-h"), SERVE),
 ]
 
 # Lines that ask for no task, and what the first line of the refusal says.
@@ -138,6 +143,9 @@ replay more => unexpected argument 'more' found
 report --history => unexpected argument '--history' found
 report --live => unexpected argument '--live' found
 report more => unexpected argument 'more' found
+serve --explain => unexpected argument '--explain' found
+serve --history => unexpected argument '--history' found
+serve more => unexpected argument 'more' found
 run  => unexpected argument '' found
 run - => unexpected argument '-' found
 run -- --csv => unexpected argument '--csv' found

@@ -1,17 +1,23 @@
 """What is seen of a server over pipes: when a line is answered, and what a pipe that is closed on either side does."""
 from __future__ import annotations
 
+import random
 import subprocess
 import sys
 import time
+from collections import Counter
 from typing import Callable, Dict, List, Sequence
 
+from reference import Server
 from serving import SECONDS, Pipe, Ran, difference
+from sessions import Session
 
 Judge = Callable[[Sequence[str]], List[str]]
 TESTS: Dict[str, Judge] = {}
 # How long nothing must come, if nothing is wanted.
 QUIET = 0.2
+# How many lines must be answered, each before the next is written.
+EXCHANGES = 1000
 
 
 def test(judge: Judge) -> Judge:
@@ -48,6 +54,25 @@ def each_line_is_answered_before_the_next(command: Sequence[str]) -> List[str]:
             if faults:
                 return faults
         return difference(Ran(b"", b"", 3), pipe.ended())
+
+
+@test
+def each_line_of_random_sessions_is_answered_before_the_next(command: Sequence[str]) -> List[str]:
+    """Every answer, and every line on standard error, comes before the client writes more."""
+    chance, server, answered = random.Random("exchanges"), Server(), 0
+    with Pipe(command) as pipe:
+        while answered < EXCHANGES:
+            for line in Session(chance, Counter()).lines:
+                output, errors = server.take(line)
+                faults = exchanged(pipe, f"{line}\n".encode("latin-1"), "".join(f"{it}\n" for it in output).encode()) if output else []
+                if errors:
+                    pipe.write(f"{line}\n".encode("latin-1"))
+                    told = pipe.process.stderr.readline()
+                    faults = [] if told == f"ttrun: {errors[0]}\n".encode() else [f"standard error has {told!r} for {line!r}"]
+                if faults:
+                    return faults
+                answered += 1
+        return difference(Ran(b"", b"", server.status()), pipe.ended())
 
 
 @test
@@ -124,6 +149,8 @@ def an_input_that_cannot_be_read_is_a_read_fault(command: Sequence[str]) -> List
 @test
 def a_closed_standard_error_costs_nothing(command: Sequence[str]) -> List[str]:
     """A refusal that standard error does not take is not reported."""
-    given = b"case t 1\nfly\n0 finish\nend\n"
-    ran = subprocess.run(["sh", "-c", '"$@" 2> /dev/full', "sh", *command], input=given, stdout=subprocess.PIPE, timeout=SECONDS, check=False)
-    return difference(Ran(b"evidence 1 t 1\n0 finish -> ok\nend none\n", b"", 3), Ran(ran.stdout, b"", ran.returncode))
+    given, faults = b"case t 1\nfly\n0 finish\nend\n", []
+    for closed in ("2> /dev/full", "2>&-"):
+        ran = subprocess.run(["sh", "-c", f'"$@" {closed}', "sh", *command], input=given, stdout=subprocess.PIPE, timeout=SECONDS, check=False)
+        faults += difference(Ran(b"evidence 1 t 1\n0 finish -> ok\nend none\n", b"", 3), Ran(ran.stdout, b"", ran.returncode))
+    return faults
