@@ -5,7 +5,7 @@ set -u
 here=$(cd "$(dirname "${BASH_SOURCE[0]}")" && pwd)
 top=$here/..
 folders=("$@")
-[ "$#" != 0 ] || folders=(replay check campaign exec verdicts board traps explore)
+[ "$#" != 0 ] || folders=(replay check campaign exec verdicts board traps explore serve)
 
 missing=0
 for it in rt rustc python3 git; do

@@ -246,11 +246,9 @@ def the_archive_reads_logs_of_titan(room: str, program: str) -> str:
     return f"{logs[0]}, status {ran.status}"
 
 
-def the_archive_runs_benches(room: str, program: str) -> Optional[str]:
+def the_archive_runs_benches(room: str, program: str) -> str:
     """The examples in Python and C++, as their pages say; the Python client finds the program of the archive by itself."""
     folder, environment = unpacked(room, made(room, program)[1]), without_rt(room)
-    if shell(folder, environment, "./ttrun serve").status != 0:
-        return None
     pages = [read(folder, f"clients/{it}/README.md") for it in ("python", "cpp")]
     bench, typed = (next(block.text for block in page.blocks() if block.language == it) for page, it in zip(pages, ("python", "sh")))
     shown = [next(block.text for block in page.blocks() if not block.language) for page in pages]

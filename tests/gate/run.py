@@ -25,7 +25,7 @@ TOP = os.path.dirname(os.path.dirname(os.path.dirname(os.path.abspath(__file__))
 PARTS = ("tests/claims/check.py", "tests/gate/run.py", "tests/wrapper/run.py", "rt", "tests/program/run.py", "tests/hostile/run.py",
          "tests/serve/run.py", "tests/python/run.py", "tests/cpp/run.py", "tests/titan/run.py", "tests/page/run.py", "tests/documents/run.py")
 # The words that a part is run with, if it has any.
-WORDS = {"rt": "ci", "tests/serve/run.py": "--server crates/ttrun/out/ttrun serve"}
+WORDS = {"rt": "ci", **{f"tests/{it}/run.py": "--server crates/ttrun/out/ttrun serve" for it in ("serve", "python", "cpp")}}
 RECORD = "crates/ttrun/out/ttrun.gate"
 LEFT = ("crates/ttrun/out/ttrun", "crates/ttrun/out/ttrun.sources", RECORD, "crates/refused_memory/out/refused_memory")
 # How many tests each part passes where a test says nothing else.
