@@ -32,7 +32,7 @@ def blocks(kind: str, path: str = README) -> List[str]:
 @test
 def the_example_works_when_it_is_pasted(place: Place) -> None:
     """It prints what is below it, and leaves legal evidence that begins as is shown."""
-    (example,), shown = blocks("python"), blocks("")
+    (example, _), shown = blocks("python"), blocks("")
     place.write("heater.py", example)
     environment = {**os.environ, "FILSKEAM_TTRUN": place.program(), "PYTHONPATH": CLIENT, "PYTHONDONTWRITEBYTECODE": "1"}
     ran = subprocess.run([sys.executable, "heater.py"], cwd=place.room, env=environment, stdout=subprocess.PIPE, stderr=subprocess.PIPE,
