@@ -1,7 +1,6 @@
 -- The definitions that the contracts of this crate cite.
 pub mod Scan
 pub mod Slots
-pub mod Replies
 pub mod Places
 pub mod Nearest
 pub mod Explanation

@@ -1,44 +1,37 @@
--- The keywords that may be at a place, and the nearest to a word.
-use Rattle.std.specs.Prelude.{ℕ, ◌*◌, nat_le, nat_eq, max, Bool, true, false, if◌then◌else◌, Option, Some, None, List, [], ◌∷◌, ◌++◌, length, map, filter, codes}
+-- The words that may be at a place, and the nearest to a word.
+use Rattle.std.specs.Prelude.{ℕ, ◌*◌, ◌==◌, nat_le, nat_eq, max, if◌then◌else◌, Option, Some, None, List, [], ◌∷◌, length, drop, codes}
+use Rattle.std.specs.List.{flat_map}
 use Rattle.strsim.specs.Edits.{levenshtein_row}
-use Rattle.tc_line.specs.declared.line.Keyword.{Keyword}
-use Rattle.tc_line.specs.declared.line.Keyword.TheVariants as K
-use Rattle.tc_line.specs.declared.spelling.TheConstants.{KEYWORDS}
-use Rattle.tc_line.specs.Words.{keyword_text}
 use Rattle.tc_explain.specs.declared.scan.Opened.{Opened}
+use Rattle.tc_explain.specs.declared.scan.Opened.TheVariants as O
+use Rattle.tc_explain.specs.declared.slot.Slot.{Slot}
+use Rattle.tc_explain.specs.declared.slot.Test.TheVariants as T
+use Rattle.tc_explain.specs.declared.slot.TheConstants.{KEYWORD}
+use Rattle.tc_explain.specs.Slots.{Row, rows}
 
--- the keyword begins a step
-abbrev pub is_step : Keyword → Bool
-is_step K.TestCase = false
-is_step K.Behaviour = false
-is_step K.End = false
-is_step _ = true
+-- the word of a row that is listed
+abbrev pub told : Row → List (List ℕ)
+told (slot, T.Word, text, to) = text ∷ []
+told row = []
 
--- the keyword may be where a test case and a behaviour are open, or not; whether the test case has a behaviour is given
-abbrev pub may_stand : Option ℕ → Option ℕ → Bool → Keyword → Bool
-may_stand None inner filled K.TestCase = true
-may_stand None inner filled _ = false
-may_stand (Some case) None filled K.Behaviour = true
-may_stand (Some case) None filled K.End = filled
-may_stand (Some case) None filled _ = false
-may_stand (Some case) (Some behaviour) filled K.End = true
-may_stand (Some case) (Some behaviour) filled keyword = is_step keyword
+-- the same of a row of this slot
+abbrev pub told_at : Slot → Row → List (List ℕ)
+told_at slot r = if r.0.0 == slot.0 then told r else []
 
--- the keywords that pass, as they are spelled
-abbrev pub spelled : (Keyword → Bool) → List Keyword → List (List ℕ)
-spelled p keywords = map keyword_text (filter p keywords)
+-- the words that may be at a slot
+abbrev pub words_at : Slot → List (List ℕ)
+words_at slot = flat_map (told_at slot) rows
 
 -- the keywords of a script that may come while this is open
-abbrev pub script_words : Opened → List (List ℕ)
-script_words o = spelled (may_stand o.outer o.inner o.filled) KEYWORDS
+abbrev pub open_words : Opened → List (List ℕ)
+open_words O.Nothing = codes "testcase" ∷ []
+open_words (O.Begun outer) = codes "behaviour" ∷ []
+open_words (O.Filled outer) = codes "behaviour" ∷ codes "end" ∷ []
+open_words (O.Inside outer inner) = drop 2 (words_at KEYWORD)
 
--- all keywords of a script
-abbrev pub all_words : List (List ℕ)
-all_words = map keyword_text KEYWORDS
-
--- the words that begin an operation in a move
-abbrev pub move_words : List (List ℕ)
-move_words = spelled is_step KEYWORDS ++ codes "wake" ∷ codes "finish" ∷ []
+-- the words of a slot that may come while this is open
+abbrev pub listed : Opened → Slot → List (List ℕ)
+listed o slot = if slot.0 == KEYWORD.0 then open_words o else words_at slot
 
 -- how many edits lead from one word to the other
 abbrev pub distance : List ℕ → List ℕ → ℕ

@@ -1,5 +1,5 @@
 -- What a text seems to be, and what is open before one of its lines.
-use Rattle.std.specs.Prelude.{ℕ, suc, ◌==◌, ◌||◌, nat_le, true, false, if◌then◌else◌, Option, Some, None, is_some, List, [], ◌∷◌, codes, slice_index}
+use Rattle.std.specs.Prelude.{ℕ, suc, ◌==◌, ◌||◌, nat_le, if◌then◌else◌, Option, Some, None, List, [], ◌∷◌, codes, slice_index}
 use Rattle.std.specs.List.{list_any}
 use Rattle.tc_line.specs.declared.line.Keyword.{Keyword}
 use Rattle.tc_line.specs.declared.line.Keyword.TheVariants as K
@@ -7,38 +7,23 @@ use Rattle.tc_line.specs.Line.{is_comment}
 use Rattle.tc_line.specs.Text.{words}
 use Rattle.tc_line.specs.Words.{is_text, keyword, keyword_text}
 use Rattle.tc_explain.specs.declared.scan.Opened.{Opened}
+use Rattle.tc_explain.specs.declared.scan.Opened.TheVariants as O
 use Rattle.tc_explain.specs.declared.sort.Sort.{Sort}
 use Rattle.tc_explain.specs.declared.sort.Sort.TheVariants as S
 
--- the word that begins a history
-abbrev pub history_text : List ℕ
-history_text = codes "history"
-
--- nothing is open
-abbrev pub nothing : Opened
-nothing = record { outer = None; inner = None; filled = false }
-
 -- what is open after a line of a script, by its number and its keyword
-abbrev pub opened_by : ℕ → Option Keyword → Opened → Opened
-opened_by number (Some K.TestCase) o = record { outer = Some number; inner = None; filled = false }
-opened_by number (Some K.Behaviour) o = record { outer = o.outer; inner = Some number; filled = true }
-opened_by number (Some K.End) o = record { outer = (if is_some o.inner then o.outer else None); inner = None; filled = o.filled }
-opened_by number _ o = o
+abbrev pub after_keyword : ℕ → Option Keyword → Opened → Opened
+after_keyword number (Some K.TestCase) o = O.Begun number
+after_keyword number (Some K.Behaviour) (O.Begun outer) = O.Inside outer number
+after_keyword number (Some K.Behaviour) (O.Filled outer) = O.Inside outer number
+after_keyword number (Some K.End) (O.Inside outer inner) = O.Filled outer
+after_keyword number (Some K.End) o = O.Nothing
+after_keyword number keyword o = o
 
--- what is open after a line of histories, by its number and its first word
-abbrev pub begun_by : ℕ → List ℕ → Opened → Opened
-begun_by number word o =
-    if is_text word history_text then record { outer = Some number; inner = None; filled = false }
-    else if is_text word (keyword_text K.End) then nothing
-    else o
-
--- what is open after the line with this number and these words
-abbrev pub behind : Sort → ℕ → List (List ℕ) → Opened → Opened
-behind sort number [] o = o
-behind S.Script number (w ∷ ws) o = opened_by number (keyword w) o
-behind S.Histories number (w ∷ ws) o = begun_by number w o
-behind S.Moves number (w ∷ ws) o = o
-behind S.Source number (w ∷ ws) o = o
+-- what is open after the line with this number and these words; a history ends by the same word as a test case
+abbrev pub behind : ℕ → List (List ℕ) → Opened → Opened
+behind number [] o = o
+behind number (w ∷ ws) o = if is_text w (codes "history") then O.Begun number else after_keyword number (keyword w) o
 
 -- a line of a text, if there is one, and what is open before it
 pub record Found : Type 0 where
@@ -46,16 +31,15 @@ pub record Found : Type 0 where
   pub line : Option (List ℕ)
 
 -- the wanted line among these, of which the first has this number
-abbrev pub find : Sort → ℕ → ℕ → Opened → List (List ℕ) → Found
-find sort wanted number o [] = record { opened = o; line = None }
-find sort wanted number o (l ∷ ls) =
-    if nat_le wanted number then record { opened = o; line = Some l }
-    else find sort wanted (suc number) (behind sort number (words l) o) ls
+abbrev pub find : ℕ → ℕ → Opened → List (List ℕ) → Found
+find wanted number o [] = record { opened = o; line = None }
+find wanted number o (l ∷ ls) =
+    if nat_le wanted number then record { opened = o; line = Some l } else find wanted (suc number) (behind number (words l) o) ls
 
 -- what a text seems to be whose first line that says something begins with this word
 abbrev pub begins : List ℕ → List ℕ → Option Sort
 begins word line =
-    if is_text word history_text then Some S.Histories
+    if is_text word (codes "history") then Some S.Histories
     else if is_text word (codes "behaviours") then Some S.Moves
     else if is_text word (codes "module") || (slice_index word 0 == 47) then Some S.Source
     else if is_text word (keyword_text K.TestCase) then Some (if list_any (λ b. b == 40) line then S.Source else S.Script)

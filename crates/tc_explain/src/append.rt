@@ -1,9 +1,9 @@
 //! The lines of an explanation.
-ghost use Rattle.std.specs.Prelude.{◌≡◌, ◌<◌, ◌+◌, ◌^◌, ◌++◌, [], ◌∷◌, OnOk, flat_map, map, option_copied};
+ghost use Rattle.std.specs.Prelude.{◌≡◌, ◌<◌, ◌^◌, ◌++◌, [], ◌∷◌, OnOk, flat_map, map, option_copied};
 ghost use Rattle.std.specs.Option.{option_map_or};
 ghost use Rattle.std.specs.Fmt.{decimal};
 ghost use Rattle.tc_text.specs.Said.{Tells, TellsLine, word_of};
-ghost use Rattle.tc_explain.specs.Explanation.{begun, column, nearest_note};
+ghost use Rattle.tc_explain.specs.Explanation.{column, nearest_note};
 ghost use Rattle.tc_explain.specs.Places.{quoted};
 
 use crate::nearest::near_word;
@@ -12,25 +12,11 @@ use std::alloc::Global;
 use tc_text::{Part, append_parts};
 use tc_verdict::NoMemory;
 
-/// What is before what would be understood.
-const UNDERSTOOD: &[u8] = b"understood there:";
-
 /// Appends a line of this prose.
 pub(crate) fn append_note(alloc: Global, out: &mut Vec<u8>, text: &str) -> Result<(), NoMemory>
     ensures { OnOk result (TellsLine [] out.old.items out.new.items) }
 {
     append_parts(alloc, out, &[Part::Text(text.as_bytes())])
-}
-
-/// Appends the form of what would be understood.
-pub(crate) fn append_form(alloc: Global, out: &mut Vec<u8>, form: &str) -> Result<(), NoMemory>
-    ensures { OnOk result (TellsLine [] out.old.items out.new.items) }
-{
-    append_parts(
-        alloc,
-        out,
-        &[Part::Text(UNDERSTOOD), Part::Text(form.as_bytes())],
-    )
 }
 
 /// Appends a line with this number after a text.
@@ -42,11 +28,8 @@ pub(crate) fn append_numbered(
 ) -> Result<(), NoMemory>
     ensures { OnOk result (TellsLine (decimal number ∷ []) out.old.items out.new.items) }
 {
-    append_parts(
-        alloc,
-        out,
-        &[Part::Text(head.as_bytes()), Part::Number(number as u64)],
-    )
+    let head = Part::Text(head.as_bytes());
+    append_parts(alloc, out, &[head, Part::Number(number as u64)])
 }
 
 /// Appends the column that comes after that many bytes, and what is wrong there.
@@ -59,52 +42,35 @@ pub(crate) fn append_column(
     requires { start < 2 ^ 63 }
     ensures { OnOk result (TellsLine (column start ∷ []) out.old.items out.new.items) }
 {
+    let number = Part::Number(start as u64 + 1);
+    let head = Part::Text(b"column");
     append_parts(
         alloc,
         out,
-        &[
-            Part::Text(b"column"),
-            Part::Number(start as u64 + 1),
-            Part::Text(b":"),
-            Part::Text(what),
-        ],
+        &[head, number, Part::Text(b":"), Part::Text(what)],
     )
 }
 
-// Appends the column of a word, and the word.
-fn append_word(alloc: Global, out: &mut Vec<u8>, start: usize, word: &[u8]) -> Result<(), NoMemory>
+/// Appends the column of a word, and the word.
+pub(crate) fn append_word(
+    alloc: Global,
+    out: &mut Vec<u8>,
+    start: usize,
+    word: &[u8],
+) -> Result<(), NoMemory>
     requires { start < 2 ^ 63 }
     ensures { OnOk result (TellsLine (column start ∷ quoted word.now ∷ []) out.old.items out.new.items) }
 {
     let begin = quoted_begin(alloc, word)?;
     let rest = quoted_rest(alloc, word)?;
-    append_parts(
-        alloc,
-        out,
-        &[
-            Part::Text(b"column"),
-            Part::Number(start as u64 + 1),
-            Part::Text(b":"),
-            Part::Word(begin.as_slice()),
-            Part::Text(rest.as_slice()),
-        ],
-    )
-}
-
-/// Appends the column of a word, and the word; or that of the end of the line.
-pub(crate) fn append_stopped(
-    alloc: Global,
-    out: &mut Vec<u8>,
-    start: usize,
-    word: Option<&[u8]>,
-) -> Result<(), NoMemory>
-    requires { start < 2 ^ 63 }
-    ensures { OnOk result (TellsLine (column start ∷ option_map_or (λ w. quoted w ∷ []) (option_copied word.entry) []) out.old.items out.new.items) }
-{
-    match word {
-        Some(word) => append_word(alloc, out, start, word),
-        None => append_column(alloc, out, start, b"the end of the line"),
-    }
+    let parts = [
+        Part::Text(b"column"),
+        Part::Number(start as u64 + 1),
+        Part::Text(b":"),
+        Part::Word(begin.as_slice()),
+        Part::Text(rest.as_slice()),
+    ];
+    append_parts(alloc, out, &parts)
 }
 
 /// Appends the line in quotation.
@@ -113,14 +79,11 @@ pub(crate) fn append_shown(alloc: Global, out: &mut Vec<u8>, line: &[u8]) -> Res
 {
     let begin = quoted_begin(alloc, line)?;
     let rest = quoted_rest(alloc, line)?;
+    let shown = Part::Word(begin.as_slice());
     append_parts(
         alloc,
         out,
-        &[
-            Part::Text(b"line:"),
-            Part::Word(begin.as_slice()),
-            Part::Text(rest.as_slice()),
-        ],
+        &[Part::Text(b"line:"), shown, Part::Text(rest.as_slice())],
     )
 }
 
@@ -140,14 +103,14 @@ pub(crate) fn append_list(
     alloc: Global,
     out: &mut Vec<u8>,
     words: &[&str],
-    other: &[u8],
+    other: &str,
 ) -> Result<(), NoMemory>
     ensures { OnOk result (TellsLine (map (λ w. w.now) words.now) out.old.items out.new.items) }
 {
     let mut parts = Vec::new(alloc);
-    parts.push(Part::Text(UNDERSTOOD))?;
+    parts.push(Part::Text(b"understood there:"))?;
     push_words(&mut parts, words)?;
-    parts.push(Part::Text(other))?;
+    parts.push(Part::Text(other.as_bytes()))?;
     append_parts(alloc, out, parts.as_slice())
 }
 
@@ -156,14 +119,11 @@ pub(crate) fn append_list(
 fn append_near(alloc: Global, out: &mut Vec<u8>, near: Option<&str>) -> Result<(), NoMemory>
     ensures { OnOk result (Tells (option_map_or (λ w. (w ∷ []) ∷ []) (option_copied near.entry) []) out.old.items out.new.items) }
 {
-    match near {
-        Some(near) => append_parts(
-            alloc,
-            out,
-            &[Part::Text(b"nearest:"), Part::Word(near.as_bytes())],
-        ),
-        None => Ok(()),
-    }
+    let Some(near) = near else {
+        return Ok(());
+    };
+    let near = Part::Word(near.as_bytes());
+    append_parts(alloc, out, &[Part::Text(b"nearest:"), near])
 }
 
 /// Appends the word of the table that is the nearest to a word.
@@ -181,20 +141,4 @@ pub(crate) fn append_nearest(
     };
     let near = near_word(alloc, word, table)?;
     append_near(alloc, out, near)
-}
-
-/// Appends what began in a line, if it is open.
-#[tactic(auto, using(tc_text::proofs::Lemmas::Saying::tell_rules))]
-pub(crate) fn append_begun(
-    alloc: Global,
-    out: &mut Vec<u8>,
-    what: &str,
-    line: Option<usize>,
-) -> Result<(), NoMemory>
-    ensures { OnOk result (Tells (begun line) out.old.items out.new.items) }
-{
-    match line {
-        Some(line) => append_numbered(alloc, out, what, line),
-        None => Ok(()),
-    }
 }

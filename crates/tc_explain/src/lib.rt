@@ -7,12 +7,11 @@ mod nearest;
 mod odd;
 mod places;
 mod quote;
-mod reply;
 mod scan;
 mod slot;
 mod sort;
 mod stop;
 mod telling;
 
-pub use sort::{Refusal, Sort};
+pub use sort::Refusal;
 pub use telling::explain;

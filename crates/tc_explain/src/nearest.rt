@@ -1,104 +1,73 @@
-//! The keywords that may be at a place, and the nearest to a word.
-ghost use Rattle.std.specs.Prelude.{◌≡◌, ◌≤◌, ◌*◌, nat_le, max, IfOk, IfSome, Some, map, option_copied, option_map};
-ghost use Rattle.tc_line.specs.Words.{keyword_text};
-ghost use Rattle.tc_explain.specs.Nearest.{all_words as words_of_scripts, distance, is_step as step_test, may_stand, move_words as words_of_moves, near_word as near_of, nearest as nearest_of, script_words as words_at, spelled};
+//! The words that may be at a place, and the nearest to a word.
+ghost use Rattle.std.specs.Prelude.{◌≡◌, ◌≤◌, ◌*◌, ◌++◌, nat_le, max, IfOk, IfSome, OnOk, drop, map, option_copied, option_map};
+ghost use Rattle.std.specs.List.{flat_map};
+ghost use Rattle.tc_explain.specs.Nearest.{distance, listed as listed_at, near_word as near_of, nearest as nearest_of, open_words as words_while, told_at, words_at as words_of};
 ghost use Rattle.tc_explain.specs.Inside.{IsFirstNearest};
 
 use crate::scan::Opened;
-use crate::slot::{FINISH, WAKE};
+use crate::slot::{KEYWORD, Row, Slot, Test, rows};
 use std::alloc::Global;
 use strsim::generic_levenshtein;
-use tc_line::{KEYWORDS, Keyword};
 use tc_verdict::NoMemory;
 
-// Whether the keyword begins a step.
-fn is_step(keyword: Keyword) -> bool
-    ensures { result ≡ step_test keyword }
+// Adds the word of a row of this slot.
+fn add_word(words: &mut Vec<&'static str>, slot: Slot, row: &Row) -> Result<(), NoMemory>
+    ensures { OnOk result (map (λ w. w.now) words.new.items
+        ≡ map (λ w. w.now) words.old.items ++ told_at slot (row.now.0, row.now.1, row.now.2.now, row.now.3)) }
 {
-    match keyword {
-        Keyword::TestCase | Keyword::Behaviour | Keyword::End => false,
-        _ => true,
+    if row.0.0 == slot.0 {
+        if let Test::Word = row.1 {
+            words.push(row.2)?;
+        }
+    }
+    Ok(())
+}
+
+// The words of these rows of a slot.
+fn words_in(alloc: Global, slot: Slot, rows: &[Row]) -> Result<Vec<&'static str>, NoMemory>
+    ensures { IfOk result (λ v. map (λ w. w.now) v.items ≡ flat_map (told_at slot) (map (λ r. (r.0, r.1, r.2.now, r.3)) rows.now)) }
+{
+    let mut words = Vec::new(alloc);
+    for row in rows {
+        add_word(&mut words, slot, row)?;
+    }
+    Ok(words)
+}
+
+/// The words that may be at a slot.
+pub(crate) fn words_at(alloc: Global, slot: Slot) -> Result<Vec<&'static str>, NoMemory>
+    ensures { IfOk result (λ v. map (λ w. w.now) v.items ≡ words_of slot) }
+{
+    words_in(alloc, slot, rows())
+}
+
+// The keywords of a script, which are these, that may come while this is open.
+fn open_words<'t>(opened: Opened, keywords: &'t [&'static str]) -> &'t [&'static str]
+    requires { map (λ w. w.now) keywords.now ≡ words_of KEYWORD }
+    ensures { map (λ w. w.now) result.now ≡ words_while opened }
+{
+    match opened {
+        Opened::Nothing => &["testcase"],
+        Opened::Begun(_) => &["behaviour"],
+        Opened::Filled(_) => &["behaviour", "end"],
+        Opened::Inside(..) => keywords.get(2..).unwrap_or(&[]),
     }
 }
 
-// Whether the keyword may come while this is open.
-fn stands_in(opened: Opened, keyword: Keyword) -> bool
-    ensures { result ≡ may_stand opened.outer opened.inner opened.filled keyword }
-{
-    match (opened.outer, opened.inner) {
-        (None, _) => matches!(keyword, Keyword::TestCase),
-        (Some(_), None) => match keyword {
-            Keyword::Behaviour => true,
-            Keyword::End => opened.filled,
-            _ => false,
-        },
-        (Some(_), Some(_)) => !matches!(keyword, Keyword::TestCase | Keyword::Behaviour),
-    }
-}
-
-// The keywords that may come while this is open, as they are spelled.
-fn standing(
-    alloc: Global,
+/// The words of a slot, which are these, that may come while this is open.
+pub(crate) fn listed<'t>(
     opened: Opened,
-    keywords: &[Keyword],
-) -> Result<Vec<&'static str>, NoMemory>
-    ensures { IfOk result (λ v. map (λ w. w.now) v.items ≡ spelled (may_stand opened.outer opened.inner opened.filled) keywords.now) }
+    slot: Slot,
+    words: &'t [&'static str],
+) -> &'t [&'static str]
+    requires { map (λ w. w.now) words.now ≡ words_of slot }
+    ensures { map (λ w. w.now) result.now ≡ listed_at opened slot }
 {
-    let mut words = Vec::new(alloc);
-    for keyword in keywords {
-        if stands_in(opened, *keyword) {
-            words.push(keyword.text())?;
-        }
+    if slot.0 == KEYWORD.0 {
+        open_words(opened, words)
+    } else {
+        words
     }
-    Ok(words)
-}
-
-// All keywords of these, as they are spelled.
-fn texts(alloc: Global, keywords: &[Keyword]) -> Result<Vec<&'static str>, NoMemory>
-    ensures { IfOk result (λ v. map (λ w. w.now) v.items ≡ map keyword_text keywords.now) }
-{
-    let mut words = Vec::new(alloc);
-    for keyword in keywords {
-        words.push(keyword.text())?;
-    }
-    Ok(words)
-}
-
-// The keywords of these that begin steps, as they are spelled.
-fn steps(alloc: Global, keywords: &[Keyword]) -> Result<Vec<&'static str>, NoMemory>
-    ensures { IfOk result (λ v. map (λ w. w.now) v.items ≡ spelled step_test keywords.now) }
-{
-    let mut words = Vec::new(alloc);
-    for keyword in keywords {
-        if is_step(*keyword) {
-            words.push(keyword.text())?;
-        }
-    }
-    Ok(words)
-}
-
-/// The keywords of a script that may come while this is open.
-pub(crate) fn script_words(alloc: Global, opened: Opened) -> Result<Vec<&'static str>, NoMemory>
-    ensures { IfOk result (λ v. map (λ w. w.now) v.items ≡ words_at opened) }
-{
-    standing(alloc, opened, &KEYWORDS)
-}
-
-/// All keywords of a script.
-pub(crate) fn all_words(alloc: Global) -> Result<Vec<&'static str>, NoMemory>
-    ensures { IfOk result (λ v. map (λ w. w.now) v.items ≡ words_of_scripts) }
-{
-    texts(alloc, &KEYWORDS)
-}
-
-/// The words that begin an operation in a move.
-pub(crate) fn move_words(alloc: Global) -> Result<Vec<&'static str>, NoMemory>
-    ensures { IfOk result (λ v. map (λ w. w.now) v.items ≡ words_of_moves) }
-{
-    let mut words = steps(alloc, &KEYWORDS)?;
-    words.push(WAKE)?;
-    words.push(FINISH)?;
-    Ok(words)
 }
 
 // A word of a table, and how many edits lead to it.

@@ -1,22 +1,24 @@
 //! A line of a text, and what is open before it.
 ghost use Rattle.std.specs.Prelude.{◌≡◌, IfOk, map, option_copied};
 ghost use Rattle.tc_line.specs.Text.{lines};
-ghost use Rattle.tc_explain.specs.Scan.{begun_by, behind, find, nothing, opened_by};
+ghost use Rattle.tc_explain.specs.Scan.{after_keyword as keyword_after, behind, find};
+ghost use Rattle.tc_explain.specs.declared.scan.Opened.TheVariants as O;
 
-use crate::sort::{HISTORY, Sort};
 use std::alloc::Global;
 use tc_line::{Keyword, Lines, is_word, read_keyword, read_words};
 use tc_verdict::NoMemory;
 
-/// What is open before a line.
-#[derive(Clone, Copy, Debug, PartialEq, Eq)]
-pub(crate) struct Opened {
-    /// The line where a test case or a history began.
-    pub(crate) outer: Option<usize>,
-    /// The line where a behaviour began.
-    pub(crate) inner: Option<usize>,
-    /// Whether the test case has a behaviour.
-    pub(crate) filled: bool,
+/// What is open before a line, by the lines where it began.
+#[derive(Clone, Copy)]
+pub(crate) enum Opened {
+    /// Nothing.
+    Nothing,
+    /// A history, or a test case without a behaviour.
+    Begun(usize),
+    /// A test case with a behaviour, outside of its behaviours.
+    Filled(usize),
+    /// A test case, and one of its behaviours.
+    Inside(usize, usize),
 }
 
 /// A line, if there is one, and what is open before it.
@@ -27,96 +29,51 @@ pub(crate) struct Found<'t> {
 }
 
 impl Opened {
-    /// Nothing is open.
-    pub(crate) fn nothing() -> Opened
-        ensures { result ≡ nothing }
-    {
-        Opened {
-            outer: None,
-            inner: None,
-            filled: false,
-        }
-    }
-
     // What is open after a line of a script.
-    fn by_keyword(self, number: usize, keyword: Option<Keyword>) -> Opened
-        ensures { result ≡ opened_by number keyword self }
+    fn after_keyword(self, number: usize, keyword: Option<Keyword>) -> Opened
+        ensures { result ≡ keyword_after number keyword self }
     {
-        match keyword {
-            Some(Keyword::TestCase) => Opened {
-                outer: Some(number),
-                inner: None,
-                filled: false,
-            },
-            Some(Keyword::Behaviour) => Opened {
-                outer: self.outer,
-                inner: Some(number),
-                filled: true,
-            },
-            Some(Keyword::End) => Opened {
-                outer: if self.inner.is_some() {
-                    self.outer
-                } else {
-                    None
-                },
-                inner: None,
-                filled: self.filled,
-            },
+        match (keyword, self) {
+            (Some(Keyword::TestCase), _) => Opened::Begun(number),
+            (Some(Keyword::Behaviour), Opened::Begun(outer) | Opened::Filled(outer)) => {
+                Opened::Inside(outer, number)
+            }
+            (Some(Keyword::End), Opened::Inside(outer, _)) => Opened::Filled(outer),
+            (Some(Keyword::End), _) => Opened::Nothing,
             _ => self,
         }
     }
 
-    // What is open after a line of histories.
-    fn by_word(self, number: usize, word: &[u8]) -> Opened
-        ensures { result ≡ begun_by number word.now self }
-    {
-        if is_word(word, HISTORY) {
-            Opened {
-                outer: Some(number),
-                inner: None,
-                filled: false,
-            }
-        } else if is_word(word, Keyword::End.text().as_bytes()) {
-            Opened::nothing()
-        } else {
-            self
-        }
-    }
-
     // What is open after the line with this number and these words.
-    fn behind(self, sort: Sort, number: usize, words: &[&[u8]]) -> Opened
-        ensures { result ≡ behind sort number (map (λ w. w.now) words.now) self }
+    fn behind(self, number: usize, words: &[&[u8]]) -> Opened
+        ensures { result ≡ behind number (map (λ w. w.now) words.now) self }
     {
-        let [first, ..] = words else {
-            return self;
-        };
-        match sort {
-            Sort::Script => self.by_keyword(number, read_keyword(first)),
-            Sort::Histories => self.by_word(number, first),
-            Sort::Moves | Sort::Source => self,
+        match words {
+            [] => self,
+            [first, ..] if is_word(first, b"history") => Opened::Begun(number),
+            [first, ..] => self.after_keyword(number, read_keyword(first)),
         }
     }
 }
 
-/// The line with this number of a text of this sort, and what is open before it.
+/// The line with this number of a text, and what is open before it.
 pub(crate) fn find_line<'t>(
     alloc: Global,
-    sort: Sort,
     text: &'t [u8],
     wanted: usize,
 ) -> Result<Found<'t>, NoMemory>
-    ensures opened { IfOk result (λ f. f.opened ≡ (find sort wanted 1 nothing (lines text.now)).opened) }
-    ensures line { IfOk result (λ f. option_copied f.line ≡ (find sort wanted 1 nothing (lines text.now)).line) }
+    ensures opened { IfOk result (λ f. f.opened ≡ (find wanted 1 O.Nothing (lines text.now)).opened) }
+    ensures line { IfOk result (λ f. option_copied f.line ≡ (find wanted 1 O.Nothing (lines text.now)).line) }
 {
     let mut words = Vec::new(alloc);
     let mut rest = Lines::new(text);
-    let mut opened = Opened::nothing();
+    let mut opened = Opened::Nothing;
     for number in 1..wanted {
         let Some(line) = rest.next() else {
             return Ok(Found { opened, line: None });
         };
         read_words(line, &mut words)?;
-        opened = opened.behind(sort, number, words.as_slice());
+        opened = opened.behind(number, words.as_slice());
     }
     let line = rest.next();
     Ok(Found { opened, line })

@@ -1,71 +1,215 @@
 //! What may be at a place of a line.
-ghost use Rattle.std.specs.Prelude.{◌≡◌, ◌&&◌, nat_le};
+ghost use Rattle.std.specs.Prelude.{◌≡◌, ◌&&◌, is_ok, map, nat_le};
 ghost use Rattle.std.specs.List.{list_all};
-ghost use Rattle.tc_line.specs.declared.line.Keyword.TheVariants as K;
-ghost use Rattle.tc_line.specs.Words.{is_name as name_test, is_text, keyword_text};
-ghost use Rattle.tc_explain.specs.Slots.{behind_keyword as keyword_slot, behind_verb as verb_slot, behind_word as word_slot, is_behaviour as behaviour, is_component as component, is_digits as digits, may_end, next, slot_if};
+ghost use Rattle.tc_line.specs.Line.{reference};
+ghost use Rattle.tc_line.specs.Words.{is_name as name_test};
+ghost use Rattle.tc_explain.specs.Slots.{ends as slots_of_ends, first_slot as slot_of_first, is_among as among, is_digits as digits, next as next_of, passes as passes_test, rows as all_rows};
 
-use tc_line::{Keyword, Status, is_word, read_keyword, read_name, read_reference, read_verdict};
+use crate::sort::Sort;
+use tc_line::{is_word, read_name, read_reference};
 
-/// The words of moves that are no keywords of scripts.
-pub(crate) const WAKE: &str = "wake";
-
-/// The same.
-pub(crate) const FINISH: &str = "finish";
-
-/// What may be at a place of a line.
+/// What may be at a place of a line, by a number of its own.
 #[derive(Clone, Copy, Debug, PartialEq, Eq)]
-pub(crate) enum Slot {
-    /// The first word of a line of a script.
-    Keyword,
-    /// The run that makes a move.
-    Run,
-    /// The first word of the operation of a move.
-    Verb,
-    /// The name of a test case.
-    TestCase,
-    /// The name of a behaviour.
+pub struct Slot(pub u8);
+
+/// What a word has to be.
+#[derive(Clone, Copy)]
+pub enum Test {
+    /// The word of the row, which an explanation lists.
+    Word,
+    /// The word of the row, which is in the text of the slot.
+    Fixed,
+    /// A name.
+    Name,
+    /// A number.
+    Number,
+    /// A component: in a script by its name, otherwise by its number.
+    Component,
+    /// A behaviour: in a script by its name, otherwise by the number of its run.
     Behaviour,
-    /// A parameter of the behaviour, or no more.
-    Parameters,
-    /// The name of a component that is made.
-    Created,
-    /// The kind of the component, or its name, or no more.
-    Kind,
-    /// The name of the component, or no more.
-    Naming,
-    /// A name for the component.
-    GivenName,
-    /// The component on which a behaviour is started.
-    On,
-    /// The behaviour that is started.
-    Started,
-    /// An argument, or no more.
-    Arguments,
-    /// All components, or one.
-    Group,
-    /// Any component, all, or one.
-    Target,
-    /// What is waited for.
-    Status,
-    /// A verdict that may be set.
-    Verdict,
-    /// Nothing more.
-    End,
-    /// The first word of a line of a history.
-    Entry,
-    /// The arrow after a move of a history.
+    /// The word of the row, in a history.
     Arrow,
-    /// The reply after the arrow.
-    Reply,
-    /// The component that was made.
-    Made,
-    /// The name of a dynamic error, or no more.
-    Error,
-    /// The overall verdict of a history.
-    Overall,
-    /// The end of a line of a history.
-    LineEnd,
+}
+
+/// A slot, what a word has to be there, the word if it is one, and the slot after it.
+pub type Row = (Slot, Test, &'static str, Slot);
+
+// The slots; `TEXTS` says what may be there.
+pub const KEYWORD: Slot = Slot(0);
+
+pub const RUN: Slot = Slot(1);
+
+pub const VERB: Slot = Slot(2);
+
+pub const TEST_CASE: Slot = Slot(3);
+
+pub const BEHAVIOUR: Slot = Slot(4);
+
+pub const PARAMETERS: Slot = Slot(5);
+
+pub const CREATED: Slot = Slot(6);
+
+pub const KIND: Slot = Slot(7);
+
+pub const NAMING: Slot = Slot(8);
+
+pub const GIVEN_NAME: Slot = Slot(9);
+
+pub const ON: Slot = Slot(10);
+
+pub const STARTED: Slot = Slot(11);
+
+pub const ARGUMENTS: Slot = Slot(12);
+
+pub const GROUP: Slot = Slot(13);
+
+pub const TARGET: Slot = Slot(14);
+
+pub const STATUS: Slot = Slot(15);
+
+pub const VERDICT: Slot = Slot(16);
+
+pub const END: Slot = Slot(17);
+
+pub const ENTRY: Slot = Slot(18);
+
+pub const ARROW: Slot = Slot(19);
+
+pub const REPLY: Slot = Slot(20);
+
+pub const MADE: Slot = Slot(21);
+
+pub const ERROR: Slot = Slot(22);
+
+pub const OVERALL: Slot = Slot(23);
+
+pub const LINE_END: Slot = Slot(24);
+
+/// The slots where a call may end.
+pub const CALL_ENDS: [Slot; 5] = [PARAMETERS, KIND, NAMING, ARGUMENTS, END];
+
+/// The slots where a line of a history may end.
+pub const LINE_ENDS: [Slot; 2] = [ERROR, LINE_END];
+
+/// What may be where, and what then.
+pub const ROWS: [Row; 84] = [
+    (KEYWORD, Test::Word, "testcase", TEST_CASE),
+    (KEYWORD, Test::Word, "behaviour", BEHAVIOUR),
+    (KEYWORD, Test::Word, "end", END),
+    (KEYWORD, Test::Word, "create", CREATED),
+    (KEYWORD, Test::Word, "start", ON),
+    (KEYWORD, Test::Word, "stop", GROUP),
+    (KEYWORD, Test::Word, "kill", GROUP),
+    (KEYWORD, Test::Word, "stopcase", END),
+    (KEYWORD, Test::Word, "running", TARGET),
+    (KEYWORD, Test::Word, "alive", TARGET),
+    (KEYWORD, Test::Word, "done", TARGET),
+    (KEYWORD, Test::Word, "killed", TARGET),
+    (KEYWORD, Test::Word, "wait", STATUS),
+    (KEYWORD, Test::Word, "setverdict", VERDICT),
+    (KEYWORD, Test::Word, "getverdict", END),
+    (VERB, Test::Word, "create", KIND),
+    (VERB, Test::Word, "start", ON),
+    (VERB, Test::Word, "stop", GROUP),
+    (VERB, Test::Word, "kill", GROUP),
+    (VERB, Test::Word, "stopcase", END),
+    (VERB, Test::Word, "running", TARGET),
+    (VERB, Test::Word, "alive", TARGET),
+    (VERB, Test::Word, "done", TARGET),
+    (VERB, Test::Word, "killed", TARGET),
+    (VERB, Test::Word, "wait", STATUS),
+    (VERB, Test::Word, "setverdict", VERDICT),
+    (VERB, Test::Word, "getverdict", END),
+    (VERB, Test::Word, "wake", STATUS),
+    (VERB, Test::Word, "finish", END),
+    (RUN, Test::Number, "", VERB),
+    (ENTRY, Test::Fixed, "end", OVERALL),
+    (ENTRY, Test::Number, "", VERB),
+    (TEST_CASE, Test::Name, "", END),
+    (BEHAVIOUR, Test::Name, "", PARAMETERS),
+    (PARAMETERS, Test::Name, "", PARAMETERS),
+    (CREATED, Test::Name, "", KIND),
+    (KIND, Test::Fixed, "alive", NAMING),
+    (KIND, Test::Fixed, "named", GIVEN_NAME),
+    (KIND, Test::Arrow, "->", REPLY),
+    (NAMING, Test::Fixed, "named", GIVEN_NAME),
+    (NAMING, Test::Arrow, "->", REPLY),
+    (GIVEN_NAME, Test::Name, "", END),
+    (ON, Test::Component, "", STARTED),
+    (STARTED, Test::Behaviour, "", ARGUMENTS),
+    (ARGUMENTS, Test::Component, "", ARGUMENTS),
+    (ARGUMENTS, Test::Arrow, "->", REPLY),
+    (GROUP, Test::Fixed, "all", END),
+    (GROUP, Test::Component, "", END),
+    (TARGET, Test::Fixed, "any", END),
+    (TARGET, Test::Fixed, "all", END),
+    (TARGET, Test::Component, "", END),
+    (STATUS, Test::Fixed, "done", TARGET),
+    (STATUS, Test::Fixed, "killed", TARGET),
+    (VERDICT, Test::Fixed, "none", END),
+    (VERDICT, Test::Fixed, "pass", END),
+    (VERDICT, Test::Fixed, "inconc", END),
+    (VERDICT, Test::Fixed, "fail", END),
+    (END, Test::Arrow, "->", REPLY),
+    (REPLY, Test::Word, "made", MADE),
+    (REPLY, Test::Word, "ok", LINE_END),
+    (REPLY, Test::Word, "true", LINE_END),
+    (REPLY, Test::Word, "false", LINE_END),
+    (REPLY, Test::Word, "none", LINE_END),
+    (REPLY, Test::Word, "pass", LINE_END),
+    (REPLY, Test::Word, "inconc", LINE_END),
+    (REPLY, Test::Word, "fail", LINE_END),
+    (REPLY, Test::Word, "error", ERROR),
+    (REPLY, Test::Word, "matched", LINE_END),
+    (REPLY, Test::Word, "parked", LINE_END),
+    (REPLY, Test::Word, "ended", LINE_END),
+    (MADE, Test::Number, "", LINE_END),
+    (ERROR, Test::Word, "no-component", LINE_END),
+    (ERROR, Test::Word, "not-main", LINE_END),
+    (ERROR, Test::Word, "start-main", LINE_END),
+    (ERROR, Test::Word, "already-running", LINE_END),
+    (ERROR, Test::Word, "not-startable", LINE_END),
+    (ERROR, Test::Word, "no-behaviour", LINE_END),
+    (ERROR, Test::Word, "too-many", LINE_END),
+    (ERROR, Test::Word, "stuck", LINE_END),
+    (OVERALL, Test::Fixed, "none", LINE_END),
+    (OVERALL, Test::Fixed, "pass", LINE_END),
+    (OVERALL, Test::Fixed, "inconc", LINE_END),
+    (OVERALL, Test::Fixed, "fail", LINE_END),
+    (OVERALL, Test::Fixed, "error", LINE_END),
+];
+
+// What is printed about a slot after its words.
+const TEXTS: [(Slot, &str); 22] = [
+    (RUN, "the number of a run"),
+    (TEST_CASE, "the name of a test case"),
+    (BEHAVIOUR, "the name of a behaviour"),
+    (PARAMETERS, "a parameter, or the end of the line"),
+    (CREATED, "the name of a component"),
+    (KIND, "alive, named, or the end of the call"),
+    (NAMING, "named, or the end of the call"),
+    (GIVEN_NAME, "a name"),
+    (ON, "a component"),
+    (STARTED, "the behaviour that is started"),
+    (ARGUMENTS, "a component, or the end of the call"),
+    (GROUP, "all or a component"),
+    (TARGET, "any, all or a component"),
+    (STATUS, "done or killed"),
+    (VERDICT, "none, pass, inconc or fail"),
+    (END, "the end of the call"),
+    (ENTRY, "the number of a run, or end"),
+    (ARROW, " -> and a reply"),
+    (MADE, "the number of a component"),
+    (ERROR, ", or the end of the line"),
+    (OVERALL, "none, pass, inconc, fail or error"),
+    (LINE_END, "the end of the line"),
+];
+
+/// The rows.
+pub(crate) fn rows() -> &'static [Row]
+    ensures { map (λ r. (r.0, r.1, r.2.now, r.3)) result.now ≡ all_rows }
+{
+    &ROWS
 }
 
 fn has_digits(word: &[u8]) -> bool
@@ -74,22 +218,11 @@ fn has_digits(word: &[u8]) -> bool
     word.iter().all(|byte| 48 <= *byte && *byte <= 57)
 }
 
-/// Whether the word is of digits.
-pub(crate) fn is_digits(word: &[u8]) -> bool
+// Whether the word is of digits.
+fn is_digits(word: &[u8]) -> bool
     ensures { result ≡ digits word.now }
 {
     !word.is_empty() && has_digits(word)
-}
-
-// Whether the word names a component: in a move by its number.
-fn is_component(moves: bool, word: &[u8]) -> bool
-    ensures { result ≡ component moves word.now }
-{
-    if moves {
-        is_digits(word)
-    } else {
-        read_reference(word).is_ok()
-    }
 }
 
 fn is_name(word: &[u8]) -> bool
@@ -98,148 +231,77 @@ fn is_name(word: &[u8]) -> bool
     read_name(word).is_some()
 }
 
-// Whether the word names a behaviour: in a move by the number of its run.
-fn is_behaviour(moves: bool, word: &[u8]) -> bool
-    ensures { result ≡ behaviour moves word.now }
+fn is_reference(word: &[u8]) -> bool
+    ensures { result ≡ is_ok (reference word.now) }
 {
-    if moves {
-        is_digits(word)
-    } else {
-        is_name(word)
+    read_reference(word).is_ok()
+}
+
+// Whether the word passes in a text of this sort.
+fn passes(sort: Sort, test: Test, text: &[u8], word: &[u8]) -> bool
+    ensures { result ≡ passes_test sort test text.now word.now }
+{
+    match (test, sort) {
+        (Test::Word | Test::Fixed, _) | (Test::Arrow, Sort::Histories) => is_word(word, text),
+        (Test::Name, _) | (Test::Behaviour, Sort::Script) => is_name(word),
+        (Test::Component, Sort::Script) => is_reference(word),
+        (Test::Number | Test::Component | Test::Behaviour, _) => is_digits(word),
+        (Test::Arrow, _) => false,
     }
 }
 
-// What follows a keyword.
-fn behind_keyword(moves: bool, keyword: Keyword) -> Option<Slot>
-    ensures { result ≡ keyword_slot moves keyword }
+/// The slot after the word, by the first of these rows at whose slot it passes.
+pub(crate) fn next(sort: Sort, slot: Slot, word: &[u8], rows: &[Row]) -> Option<Slot>
+    ensures { result ≡ next_of sort slot word.now (map (λ r. (r.0, r.1, r.2.now, r.3)) rows.now) }
 {
-    match keyword {
-        Keyword::TestCase | Keyword::Behaviour | Keyword::End if moves => None,
-        Keyword::TestCase => Some(Slot::TestCase),
-        Keyword::Behaviour => Some(Slot::Behaviour),
-        Keyword::End => Some(Slot::End),
-        Keyword::Create if moves => Some(Slot::Kind),
-        Keyword::Create => Some(Slot::Created),
-        Keyword::Start => Some(Slot::On),
-        Keyword::Stop | Keyword::Kill => Some(Slot::Group),
-        Keyword::StopCase | Keyword::GetVerdict => Some(Slot::End),
-        Keyword::Ask(_) => Some(Slot::Target),
-        Keyword::Wait => Some(Slot::Status),
-        Keyword::SetVerdict => Some(Slot::Verdict),
-    }
-}
-
-// What follows a word, if it is a keyword.
-fn behind_word(moves: bool, keyword: Option<Keyword>) -> Option<Slot>
-    ensures { result ≡ word_slot moves keyword }
-{
-    match keyword {
-        Some(keyword) => behind_keyword(moves, keyword),
-        None => None,
-    }
-}
-
-// What follows the first word of an operation.
-fn behind_verb(word: &[u8]) -> Option<Slot>
-    ensures { result ≡ verb_slot word.now }
-{
-    if is_word(word, WAKE.as_bytes()) {
-        Some(Slot::Status)
-    } else if is_word(word, FINISH.as_bytes()) {
-        Some(Slot::End)
-    } else {
-        behind_word(true, read_keyword(word))
-    }
-}
-
-/// The slot, if the word may be there.
-pub(crate) fn slot_where(stands: bool, slot: Slot) -> Option<Slot>
-    ensures { result ≡ slot_if stands slot }
-{
-    if stands { Some(slot) } else { None }
-}
-
-// Whether the word is this keyword.
-fn is_status(word: &[u8], status: Status) -> bool
-    ensures { result ≡ is_text word.now (keyword_text (K.Ask status)) }
-{
-    is_word(word, Keyword::Ask(status).text().as_bytes())
-}
-
-impl Slot {
-    /// What may be after the word, if the word may be here.
-    pub(crate) fn next(self, moves: bool, word: &[u8]) -> Option<Slot>
-        ensures { result ≡ next moves self word.now }
-    {
-        match self {
-            Slot::Keyword => behind_word(false, read_keyword(word)),
-            Slot::Run => slot_where(is_digits(word), Slot::Verb),
-            Slot::Verb => behind_verb(word),
-            Slot::TestCase | Slot::GivenName => slot_where(is_name(word), Slot::End),
-            Slot::Behaviour | Slot::Parameters => slot_where(is_name(word), Slot::Parameters),
-            Slot::Created => slot_where(is_name(word), Slot::Kind),
-            Slot::Kind if is_status(word, Status::Alive) => Some(Slot::Naming),
-            Slot::Kind | Slot::Naming => slot_where(is_word(word, b"named"), Slot::GivenName),
-            Slot::On => slot_where(is_component(moves, word), Slot::Started),
-            Slot::Started => slot_where(is_behaviour(moves, word), Slot::Arguments),
-            Slot::Arguments => slot_where(is_component(moves, word), Slot::Arguments),
-            Slot::Group => {
-                let stands = is_word(word, b"all") || is_component(moves, word);
-                slot_where(stands, Slot::End)
-            }
-            Slot::Target => {
-                let group = is_word(word, b"any") || is_word(word, b"all");
-                slot_where(group || is_component(moves, word), Slot::End)
-            }
-            Slot::Status => {
-                let stands = is_status(word, Status::Done) || is_status(word, Status::Killed);
-                slot_where(stands, Slot::Target)
-            }
-            Slot::Verdict => slot_where(read_verdict(word).is_some(), Slot::End),
-            Slot::End => None,
-            Slot::Entry | Slot::Arrow | Slot::Reply | Slot::Made => None,
-            Slot::Error | Slot::Overall | Slot::LineEnd => None,
+    for row in rows {
+        if row.0.0 == slot.0 && passes(sort, row.1, row.2.as_bytes(), word) {
+            return Some(row.3);
         }
     }
+    None
+}
 
-    /// Whether the call may end here.
-    pub(crate) fn may_end(self) -> bool
-        ensures { result ≡ may_end self }
-    {
-        match self {
-            Slot::Parameters | Slot::Kind | Slot::Naming | Slot::Arguments | Slot::End => true,
-            _ => false,
+/// The slot of a line's first word.
+pub(crate) fn first_slot(sort: Sort) -> Slot
+    ensures { result ≡ slot_of_first sort }
+{
+    match sort {
+        Sort::Histories => ENTRY,
+        Sort::Moves => RUN,
+        _ => KEYWORD,
+    }
+}
+
+// Whether the slot is one of these.
+fn is_among(slots: &[Slot], slot: Slot) -> bool
+    ensures { result ≡ among slots.now slot }
+{
+    slots.iter().any(|other| other.0 == slot.0)
+}
+
+/// Whether a line may end at the slot.
+pub(crate) fn may_end(sort: Sort, slot: Slot) -> bool
+    ensures { result ≡ among (slots_of_ends sort) slot }
+{
+    match sort {
+        Sort::Histories => is_among(&LINE_ENDS, slot),
+        _ => is_among(&CALL_ENDS, slot),
+    }
+}
+
+/// What is printed about the slot after its words. In a history that is the arrow if a call may end there, and no word is
+/// left or no other may be there.
+pub(crate) fn text(sort: Sort, slot: Slot, last: bool) -> &'static str {
+    let arrow = match sort {
+        Sort::Histories => slot.0 == END.0 || (last && is_among(&CALL_ENDS, slot)),
+        _ => false,
+    };
+    let slot = if arrow { ARROW } else { slot };
+    for (of, text) in &TEXTS {
+        if of.0 == slot.0 {
+            return text;
         }
     }
-
-    /// The words for it.
-    pub(crate) fn text(self) -> &'static str {
-        match self {
-            Slot::Keyword => "a keyword",
-            Slot::Run => "the number of a run",
-            Slot::Verb => "an operation",
-            Slot::TestCase => "the name of a test case",
-            Slot::Behaviour => "the name of a behaviour",
-            Slot::Parameters => "a parameter, or the end of the line",
-            Slot::Created => "the name of a component",
-            Slot::Kind => "alive, named, or the end of the call",
-            Slot::Naming => "named, or the end of the call",
-            Slot::GivenName => "a name",
-            Slot::On => "a component",
-            Slot::Started => "the behaviour that is started",
-            Slot::Arguments => "a component, or the end of the call",
-            Slot::Group => "all or a component",
-            Slot::Target => "any, all or a component",
-            Slot::Status => "done or killed",
-            Slot::Verdict => "none, pass, inconc or fail",
-            Slot::End => "the end of the call",
-            Slot::Entry => "the number of a run, or end",
-            Slot::Arrow => " -> and a reply",
-            Slot::Reply => "a reply",
-            Slot::Made => "the number of a component",
-            Slot::Error => "the name of a dynamic error, or the end of the line",
-            Slot::Overall => "none, pass, inconc, fail or error",
-            Slot::LineEnd => "the end of the line",
-        }
-    }
+    ""
 }

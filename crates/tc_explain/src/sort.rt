@@ -11,12 +11,9 @@ use tc_line::{Keyword, Lines, ScriptKind, is_comment, is_word, read_words};
 use tc_text::TextKind;
 use tc_verdict::NoMemory;
 
-/// The word that begins a history.
-pub(crate) const HISTORY: &[u8] = b"history";
-
 /// A sort of texts.
 #[derive(Clone, Copy, Debug, PartialEq, Eq)]
-pub enum Sort {
+pub(crate) enum Sort {
     /// A script.
     Script,
     /// Histories.
@@ -52,19 +49,25 @@ impl Refusal {
 }
 
 impl Sort {
-    /// The words for a text that seems to be of this sort: what is before its name, the name, and what is after.
-    pub(crate) fn text(self) -> (&'static [u8], &'static [u8], &'static [u8])
-        ensures { result.1.now ≡ sort_word self }
+    /// The name of a text that seems to be of this sort.
+    pub(crate) fn name(self) -> &'static [u8]
+        ensures { result.now ≡ sort_word self }
     {
         match self {
-            Sort::Script => (b" a", b"script", b", which ttrun run reads"),
-            Sort::Histories => (
-                b"",
-                b"histories",
-                b", which ttrun check and ttrun report read",
-            ),
-            Sort::Moves => (b" a list of", b"moves", b", which ttrun replay reads"),
-            Sort::Source => (b"", b"TTCN-3", b", which ttrun does not read"),
+            Sort::Script => b"script",
+            Sort::Histories => b"histories",
+            Sort::Moves => b"moves",
+            Sort::Source => b"TTCN-3",
+        }
+    }
+
+    /// What is before the name in a line about such a text, and what is after it.
+    pub(crate) fn text(self) -> (&'static [u8], &'static [u8]) {
+        match self {
+            Sort::Script => (b" a", b", which ttrun run reads"),
+            Sort::Histories => (b"", b", which ttrun check and ttrun report read"),
+            Sort::Moves => (b" a list of", b", which ttrun replay reads"),
+            Sort::Source => (b"", b", which ttrun does not read"),
         }
     }
 }
@@ -89,7 +92,7 @@ fn has_bracket(line: &[u8]) -> bool
 fn begun_sort(word: &[u8], line: &[u8]) -> Option<Sort>
     ensures { result ≡ begins word.now line.now }
 {
-    if is_word(word, HISTORY) {
+    if is_word(word, b"history") {
         Some(Sort::Histories)
     } else if is_word(word, b"behaviours") {
         Some(Sort::Moves)

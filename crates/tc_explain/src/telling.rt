@@ -1,31 +1,29 @@
 //! What is printed about a refused text.
-ghost use Rattle.std.specs.Prelude.{◌≡◌, ◌<◌, ◌-◌, ◌++◌, [], ◌∷◌, IfOk, OnOk, if◌then◌else◌, length, map, nat_le, option_copied, slice_get, true};
+ghost use Rattle.std.specs.Prelude.{◌≡◌, ◌<◌, ◌-◌, ◌++◌, [], ◌∷◌, IfOk, OnOk, if◌then◌else◌, length, map, nat_le, option_copied, slice_get};
 ghost use Rattle.std.specs.Fmt.{decimal};
 ghost use Rattle.std.specs.List.{position};
-ghost use Rattle.tc_line.specs.Text.{lines, words as words_of};
-ghost use Rattle.tc_explain.specs.declared.slot.Slot.TheVariants as S;
-ghost use Rattle.tc_explain.specs.Places.{is_odd};
-ghost use Rattle.tc_explain.specs.Slots.{walk};
-ghost use Rattle.tc_explain.specs.Replies.{entry_stop as entry_end};
-ghost use Rattle.tc_explain.specs.Nearest.{all_words as words_of_scripts, move_words as words_of_moves, script_words as words_at};
+ghost use Rattle.tc_line.specs.Text.{words as words_of};
 ghost use Rattle.tc_text.specs.Said.{Tells, TellsLine};
-ghost use Rattle.tc_explain.specs.Explanation.{byte_note, column, entry_note, explanation, kind_note, line_note, move_note, nearest_note, open_note, place_note, script_note, sort_note, sort_word, spaced_note, stop_note, text_note, wanted};
+ghost use Rattle.tc_explain.specs.Explanation.{byte_note, column, explanation, kind_note, line_note, open_note, place_note, sort_note, sort_of, sort_word, spaced_note, stop_note, walk_note, wanted as wanted_note, whole_note};
+ghost use Rattle.tc_explain.specs.Nearest.{listed as listed_at, words_at as words_of_slot};
+ghost use Rattle.tc_explain.specs.Places.{is_odd};
+ghost use Rattle.tc_explain.specs.declared.sort.Refusal.TheVariants as R;
+ghost use Rattle.tc_explain.specs.Slots.{first_slot, walk as walk_of};
 
 use crate::append::{
-    append_begun, append_column, append_form, append_list, append_nearest, append_note,
-    append_numbered, append_shown, append_stopped,
+    append_column, append_list, append_nearest, append_note, append_numbered, append_shown,
+    append_word,
 };
-use crate::nearest::{all_words, move_words, script_words};
+use crate::nearest::{listed, words_at};
 use crate::odd::append_odd;
 use crate::places::{space_of, start_of};
 use crate::quote::odd_place;
-use crate::reply::{fault_table, reply_table};
 use crate::scan::{Opened, find_line};
-use crate::slot::Slot;
+use crate::slot::{KEYWORD, Slot, text};
 use crate::sort::{Refusal, Sort, seen_sort};
-use crate::stop::{Stop, entry_stop, is_move, is_whole, move_stop, script_stop};
+use crate::stop::{Stop, is_whole, walk};
 use std::alloc::Global;
-use tc_line::{ScriptKind, read_words};
+use tc_line::{ScriptKind, is_word, read_words};
 use tc_text::{Part, TextKind, append_parts};
 use tc_verdict::NoMemory;
 
@@ -33,16 +31,13 @@ use tc_verdict::NoMemory;
 fn append_seen(alloc: Global, out: &mut Vec<u8>, seen: Sort) -> Result<(), NoMemory>
     ensures { OnOk result (TellsLine (sort_word seen ∷ []) out.old.items out.new.items) }
 {
-    let (before, name, behind) = seen.text();
+    let (before, behind) = seen.text();
+    let head = Part::Text(b"the text looks like");
+    let name = Part::Word(seen.name());
     append_parts(
         alloc,
         out,
-        &[
-            Part::Text(b"the text looks like"),
-            Part::Text(before),
-            Part::Word(name),
-            Part::Text(behind),
-        ],
+        &[head, Part::Text(before), name, Part::Text(behind)],
     )
 }
 
@@ -56,12 +51,9 @@ fn append_sort(
 ) -> Result<(), NoMemory>
     ensures { OnOk result (Tells (sort_note sort seen) out.old.items out.new.items) }
 {
-    match (sort, seen) {
-        (_, None)
-        | (Sort::Script, Some(Sort::Script))
-        | (Sort::Histories, Some(Sort::Histories))
-        | (Sort::Moves, Some(Sort::Moves)) => Ok(()),
-        (_, Some(seen)) => append_seen(alloc, out, seen),
+    match seen {
+        Some(seen) if !is_word(seen.name(), sort.name()) => append_seen(alloc, out, seen),
+        _ => Ok(()),
     }
 }
 
@@ -72,7 +64,7 @@ fn word_at<'t>(words: &[&'t [u8]], place: usize) -> Option<&'t [u8]>
     words.get(place).copied()
 }
 
-// Appends the word at a place of the line, with its column.
+// Appends the word at a place of the line, with its column; or that of the end of the line.
 #[tactic(auto, unfolding(crate::specs::Explanation::place_note), using(tc_text::proofs::Lemmas::Saying::tell_rules))]
 fn append_place(
     alloc: Global,
@@ -84,86 +76,28 @@ fn append_place(
     requires { map (λ w. w.now) words.now ≡ words_of line.now }
     ensures { OnOk result (Tells (place_note line.now place) out.old.items out.new.items) }
 {
-    append_stopped(alloc, out, start_of(line, place), word_at(words, place))
+    let start = start_of(line, place);
+    match word_at(words, place) {
+        Some(word) => append_word(alloc, out, start, word),
+        None => append_column(alloc, out, start, b"the end of the line"),
+    }
 }
 
-// Appends these words, which would be understood, and the nearest to the word.
+// Appends what would be understood at the slot instead of the word, with this text after it.
 #[tactic(auto, using(tc_text::proofs::Lemmas::Saying::tell_rules))]
-fn append_table(
-    alloc: Global,
-    out: &mut Vec<u8>,
-    table: &[&str],
-    other: &[u8],
-    word: Option<&[u8]>,
-) -> Result<(), NoMemory>
-    ensures { OnOk result (Tells ((map (λ w. w.now) table.now ∷ []) ++ nearest_note (option_copied word.entry) (map (λ w. w.now) table.now)) out.old.items out.new.items) }
-{
-    append_list(alloc, out, table, other)?;
-    append_nearest(alloc, out, word, table)
-}
-
-// Appends the keywords of a script that would be understood.
-fn append_script_words(alloc: Global, out: &mut Vec<u8>, opened: Opened) -> Result<(), NoMemory>
-    ensures { OnOk result (TellsLine (words_at opened) out.old.items out.new.items) }
-{
-    let words = script_words(alloc, opened)?;
-    append_list(alloc, out, words.as_slice(), b"")
-}
-
-// Appends the nearest to the word of all keywords of a script.
-fn append_nearest_of_all(
-    alloc: Global,
-    out: &mut Vec<u8>,
-    word: Option<&[u8]>,
-) -> Result<(), NoMemory>
-    ensures { OnOk result (Tells (nearest_note (option_copied word.entry) words_of_scripts) out.old.items out.new.items) }
-{
-    let words = all_words(alloc)?;
-    append_nearest(alloc, out, word, words.as_slice())
-}
-
-// Appends the keywords of a script that would be understood, and the nearest to the word of all.
-#[tactic(auto, using(tc_text::proofs::Lemmas::Saying::tell_rules))]
-fn append_keywords(
-    alloc: Global,
-    out: &mut Vec<u8>,
-    opened: Opened,
-    word: Option<&[u8]>,
-) -> Result<(), NoMemory>
-    ensures { OnOk result (Tells ((words_at opened ∷ []) ++ nearest_note (option_copied word.entry) words_of_scripts) out.old.items out.new.items) }
-{
-    append_script_words(alloc, out, opened)?;
-    append_nearest_of_all(alloc, out, word)
-}
-
-// Appends the words that begin an operation of a move, and the nearest to the word.
-fn append_verbs(alloc: Global, out: &mut Vec<u8>, word: Option<&[u8]>) -> Result<(), NoMemory>
-    ensures { OnOk result (Tells ((words_of_moves ∷ []) ++ nearest_note (option_copied word.entry) words_of_moves) out.old.items out.new.items) }
-{
-    let words = move_words(alloc)?;
-    append_table(alloc, out, words.as_slice(), b"", word)
-}
-
-// Appends what would be understood instead of the word.
-#[tactic(auto, using(tc_text::proofs::Lemmas::Saying::tell_rules))]
-fn append_slot(
+fn append_wanted(
     alloc: Global,
     out: &mut Vec<u8>,
     opened: Opened,
     slot: Slot,
     word: Option<&[u8]>,
+    other: &str,
 ) -> Result<(), NoMemory>
-    ensures { OnOk result (Tells (wanted opened slot (option_copied word.entry)) out.old.items out.new.items) }
+    ensures { OnOk result (Tells (wanted_note opened slot (option_copied word.entry)) out.old.items out.new.items) }
 {
-    match slot {
-        Slot::Keyword => append_keywords(alloc, out, opened, word),
-        Slot::Verb => append_verbs(alloc, out, word),
-        Slot::Reply => append_table(alloc, out, reply_table(), b"", word),
-        Slot::Error => {
-            append_table(alloc, out, fault_table(), b", or the end of the line", word)
-        }
-        _ => append_form(alloc, out, slot.text()),
-    }
+    let words = words_at(alloc, slot)?;
+    append_list(alloc, out, listed(opened, slot, words.as_slice()), other)?;
+    append_nearest(alloc, out, word, words.as_slice())
 }
 
 // Appends where the line stops, and what would be understood there.
@@ -171,6 +105,7 @@ fn append_slot(
 fn append_stop(
     alloc: Global,
     out: &mut Vec<u8>,
+    sort: Sort,
     opened: Opened,
     line: &[u8],
     words: &[&[u8]],
@@ -180,42 +115,108 @@ fn append_stop(
     ensures { OnOk result (Tells (stop_note opened line.now stop) out.old.items out.new.items) }
 {
     append_place(alloc, out, line, words, stop.place)?;
-    append_slot(alloc, out, opened, stop.slot, word_at(words, stop.place))
+    let other = text(sort, stop.slot, words.len() <= stop.place);
+    append_wanted(
+        alloc,
+        out,
+        opened,
+        stop.slot,
+        word_at(words, stop.place),
+        other,
+    )
 }
 
-// The rule that a line of a script breaks.
-fn rule(kind: ScriptKind) -> &'static str {
-    match kind {
-        ScriptKind::TooMany => "one more than there may be",
-        ScriptKind::Twice => {
-            "a name is given once: to a test case of the script, a behaviour of the test case, a component of the behaviour"
-        }
-        ScriptKind::NoReference => "a component is named by a parameter, or by a create above",
-        ScriptKind::UnknownBehaviour => "a start names a behaviour of its test case",
-        ScriptKind::MainParameters => {
-            "the first behaviour of a test case is started by nobody, who could give it arguments"
-        }
-        ScriptKind::Arguments => "a start gives as many arguments as the behaviour has parameters",
-        _ => "the line is understood",
+// Appends where the line stops, or the rule, if its words may be where they are.
+#[tactic(auto, using(tc_text::proofs::Lemmas::Saying::tell_rules))]
+fn append_whole(
+    alloc: Global,
+    out: &mut Vec<u8>,
+    refusal: Refusal,
+    opened: Opened,
+    line: &[u8],
+    words: &[&[u8]],
+    stop: Stop,
+) -> Result<(), NoMemory>
+    requires { map (λ w. w.now) words.now ≡ words_of line.now }
+    ensures { OnOk result (Tells (whole_note (sort_of refusal) opened line.now stop) out.old.items out.new.items) }
+{
+    let sort = refusal.sort();
+    if is_whole(sort, stop, words) {
+        return append_note(alloc, out, rule(refusal));
     }
+    append_stop(alloc, out, sort, opened, line, words, stop)
+}
+
+// Appends what is wrong with the words of a line.
+#[tactic(auto, unfolding(crate::specs::Explanation::walk_note))]
+fn append_walk(
+    alloc: Global,
+    out: &mut Vec<u8>,
+    refusal: Refusal,
+    opened: Opened,
+    line: &[u8],
+) -> Result<(), NoMemory>
+    ensures { OnOk result (Tells (walk_note (sort_of refusal) opened line.now) out.old.items out.new.items) }
+{
+    let mut words = Vec::new(alloc);
+    read_words(line, &mut words)?;
+    let stop = walk(refusal.sort(), words.as_slice());
+    append_whole(alloc, out, refusal, opened, line, words.as_slice(), stop)
 }
 
 // Appends what is wrong with a line of a script that may not be where it is.
+#[tactic(auto, using(tc_text::proofs::Lemmas::Saying::tell_rules))]
 fn append_misplaced(
     alloc: Global,
     out: &mut Vec<u8>,
     opened: Opened,
     line: &[u8],
-    words: &[&[u8]],
 ) -> Result<(), NoMemory>
-    requires { map (λ w. w.now) words.now ≡ words_of line.now }
-    ensures { OnOk result (Tells (place_note line.now 0 ++ (words_at opened ∷ [])) out.old.items out.new.items) }
+    ensures { OnOk result (Tells (place_note line.now 0 ++ (listed_at opened KEYWORD ∷ [])) out.old.items out.new.items) }
 {
-    append_place(alloc, out, line, words, 0)?;
-    append_script_words(alloc, out, opened)
+    let mut words = Vec::new(alloc);
+    read_words(line, &mut words)?;
+    append_place(alloc, out, line, words.as_slice(), 0)?;
+    let keywords = words_at(alloc, KEYWORD)?;
+    append_list(alloc, out, listed(opened, KEYWORD, keywords.as_slice()), "")
 }
 
-// Appends what is wrong with a line of a script.
+// The rule that a line breaks, or its form.
+fn rule(refusal: Refusal) -> &'static str {
+    match refusal {
+        Refusal::Script(ScriptKind::TooMany) => "one more than there may be",
+        Refusal::Script(ScriptKind::Twice) => {
+            "a name is given once: to a test case of the script, a behaviour of the test case, a component of the behaviour"
+        }
+        Refusal::Script(ScriptKind::NoReference) => {
+            "a component is named by a parameter, or by a create above"
+        }
+        Refusal::Script(ScriptKind::UnknownBehaviour) => {
+            "a start names a behaviour of its test case"
+        }
+        Refusal::Script(ScriptKind::MainParameters) => {
+            "the first behaviour of a test case is started by nobody, who could give it arguments"
+        }
+        Refusal::Script(ScriptKind::Arguments) => {
+            "a start gives as many arguments as the behaviour has parameters"
+        }
+        Refusal::Histories(TextKind::Entry) => {
+            "a number is too large or begins with 0, there are more than 4 arguments, or a history of format 1 names a component"
+        }
+        Refusal::Histories(TextKind::FirstLine) => {
+            "understood there: history F NAME N, with F 1 or 2, and N from 1 to 64 or to 256"
+        }
+        Refusal::Moves(TextKind::Move) => {
+            "a number is too large or begins with 0, or there are more than 4 arguments"
+        }
+        Refusal::Moves(TextKind::FirstLine) => {
+            "understood there: behaviours N, with N from 1 to 256"
+        }
+        _ => "the line is understood",
+    }
+}
+
+// Appends what is wrong with a line of a script without odd bytes.
 #[tactic(auto, using(tc_text::proofs::Lemmas::Saying::tell_rules))]
 fn append_script(
     alloc: Global,
@@ -223,120 +224,56 @@ fn append_script(
     kind: ScriptKind,
     opened: Opened,
     line: &[u8],
-    words: &[&[u8]],
 ) -> Result<(), NoMemory>
-    requires { map (λ w. w.now) words.now ≡ words_of line.now }
-    ensures { OnOk result (Tells (script_note kind opened line.now) out.old.items out.new.items) }
+    ensures { OnOk result (Tells (kind_note (R.Script kind) opened line.now) out.old.items out.new.items) }
 {
+    let refusal = Refusal::Script(kind);
     match kind {
         ScriptKind::BadLine | ScriptKind::BadName => {
-            append_stop(alloc, out, opened, line, words, script_stop(words))
+            append_walk(alloc, out, refusal, opened, line)
         }
-        ScriptKind::BadPlace => { append_misplaced(alloc, out, opened, line, words) }
-        _ => append_note(alloc, out, rule(kind)),
+        ScriptKind::BadPlace => append_misplaced(alloc, out, opened, line),
+        _ => append_note(alloc, out, rule(refusal)),
     }
 }
 
-// Appends what is wrong with a move.
-#[tactic(auto, using(tc_text::proofs::Lemmas::Saying::tell_rules))]
-fn append_move(
-    alloc: Global,
-    out: &mut Vec<u8>,
-    opened: Opened,
-    line: &[u8],
-    words: &[&[u8]],
-) -> Result<(), NoMemory>
-    requires { map (λ w. w.now) words.now ≡ words_of line.now }
-    ensures { OnOk result (Tells (move_note opened line.now (walk true S.Run 0 (words_of line.now))) out.old.items out.new.items) }
-{
-    let stop = move_stop(words);
-    if is_move(stop, words) {
-        return append_note(
-            alloc,
-            out,
-            "a number is too large or begins with 0, or there are more than 4 arguments",
-        );
-    }
-    append_stop(alloc, out, opened, line, words, stop)
-}
-
-// Appends what is wrong with a line of histories.
+// Appends what is wrong with a line of histories without odd bytes.
 #[tactic(auto, using(tc_text::proofs::Lemmas::Saying::tell_rules))]
 fn append_entry(
     alloc: Global,
     out: &mut Vec<u8>,
-    opened: Opened,
-    line: &[u8],
-    words: &[&[u8]],
-) -> Result<(), NoMemory>
-    requires { map (λ w. w.now) words.now ≡ words_of line.now }
-    ensures { OnOk result (Tells (entry_note opened line.now (entry_end (words_of line.now))) out.old.items out.new.items) }
-{
-    let stop = entry_stop(words);
-    if is_whole(stop, words) {
-        return append_note(
-            alloc,
-            out,
-            "a number is too large or begins with 0, there are more than 4 arguments, or a history of format 1 names a component",
-        );
-    }
-    append_stop(alloc, out, opened, line, words, stop)
-}
-
-// The form of the first line of moves, or of histories.
-fn first_line(moves: bool) -> &'static str {
-    if moves {
-        "behaviours N, with N from 1 to 256"
-    } else {
-        "history F NAME N, with F 1 or 2, and N from 1 to 64 or to 256"
-    }
-}
-
-// Appends what is wrong with a line of moves or of histories.
-#[tactic(auto, using(tc_text::proofs::Lemmas::Saying::tell_rules))]
-fn append_text_note(
-    alloc: Global,
-    out: &mut Vec<u8>,
-    moves: bool,
     kind: TextKind,
     opened: Opened,
     line: &[u8],
-    words: &[&[u8]],
 ) -> Result<(), NoMemory>
-    requires { map (λ w. w.now) words.now ≡ words_of line.now }
-    ensures { OnOk result (Tells (text_note moves kind opened line.now) out.old.items out.new.items) }
+    ensures { OnOk result (Tells (kind_note (R.Histories kind) opened line.now) out.old.items out.new.items) }
 {
+    let refusal = Refusal::Histories(kind);
     match kind {
-        TextKind::Move => append_move(alloc, out, opened, line, words),
-        TextKind::Entry => append_entry(alloc, out, opened, line, words),
-        TextKind::FirstLine => append_form(alloc, out, first_line(moves)),
-        TextKind::Early => Ok(()),
+        TextKind::Entry => append_walk(alloc, out, refusal, opened, line),
+        _ => append_note(alloc, out, rule(refusal)),
     }
 }
 
-// Appends what is wrong with a line of moves or of histories, first of all a space too many.
+// Appends what is wrong with a line of moves without odd bytes.
 #[tactic(auto, using(tc_text::proofs::Lemmas::Saying::tell_rules))]
-fn append_spaced(
+fn append_move(
     alloc: Global,
     out: &mut Vec<u8>,
-    moves: bool,
     kind: TextKind,
     opened: Opened,
     line: &[u8],
-    words: &[&[u8]],
 ) -> Result<(), NoMemory>
-    requires { map (λ w. w.now) words.now ≡ words_of line.now }
-    ensures { OnOk result (Tells (spaced_note line.now (text_note moves kind opened line.now)) out.old.items out.new.items) }
+    ensures { OnOk result (Tells (kind_note (R.Moves kind) opened line.now) out.old.items out.new.items) }
 {
-    let space = space_of(line);
-    if space < line.len() {
-        return append_column(alloc, out, space, b"a space too many");
+    let refusal = Refusal::Moves(kind);
+    match kind {
+        TextKind::Move => append_walk(alloc, out, refusal, opened, line),
+        _ => append_note(alloc, out, rule(refusal)),
     }
-    append_text_note(alloc, out, moves, kind, opened, line, words)
 }
 
 // Appends what is wrong with a line without odd bytes.
-#[tactic(auto, using(tc_text::proofs::Lemmas::Saying::tell_rules))]
 fn append_kind(
     alloc: Global,
     out: &mut Vec<u8>,
@@ -346,14 +283,32 @@ fn append_kind(
 ) -> Result<(), NoMemory>
     ensures { OnOk result (Tells (kind_note refusal opened line.now) out.old.items out.new.items) }
 {
-    let mut list = Vec::new(alloc);
-    read_words(line, &mut list)?;
-    let words = list.as_slice();
     match refusal {
-        Refusal::Script(kind) => append_script(alloc, out, kind, opened, line, words),
-        Refusal::Histories(kind) => append_spaced(alloc, out, false, kind, opened, line, words),
-        Refusal::Moves(kind) => append_spaced(alloc, out, true, kind, opened, line, words),
+        Refusal::Script(kind) => append_script(alloc, out, kind, opened, line),
+        Refusal::Histories(kind) => append_entry(alloc, out, kind, opened, line),
+        Refusal::Moves(kind) => append_move(alloc, out, kind, opened, line),
     }
+}
+
+// Appends what is wrong with a line without odd bytes; outside of scripts, first of all a space too many.
+#[tactic(auto, using(tc_text::proofs::Lemmas::Saying::tell_rules))]
+fn append_spaced(
+    alloc: Global,
+    out: &mut Vec<u8>,
+    refusal: Refusal,
+    opened: Opened,
+    line: &[u8],
+) -> Result<(), NoMemory>
+    ensures { OnOk result (Tells (spaced_note (sort_of refusal) line.now (kind_note refusal opened line.now)) out.old.items out.new.items) }
+{
+    if let Refusal::Script(_) = refusal {
+        return append_kind(alloc, out, refusal, opened, line);
+    }
+    let space = space_of(line);
+    if space < line.len() {
+        return append_column(alloc, out, space, b"a space too many");
+    }
+    append_kind(alloc, out, refusal, opened, line)
 }
 
 // Appends the odd byte after that many.
@@ -379,7 +334,7 @@ fn append_wrong(
 {
     match odd_place(line) {
         Some(at) => append_odd_at(alloc, out, line, at),
-        None => append_kind(alloc, out, refusal, opened, line),
+        None => append_spaced(alloc, out, refusal, opened, line),
     }
 }
 
@@ -414,6 +369,14 @@ fn append_line(
     }
 }
 
+// What began in a line where a text of this sort has something open.
+fn begun(sort: Sort) -> &'static str {
+    match sort {
+        Sort::Histories => "a history began in line",
+        _ => "a test case began in line",
+    }
+}
+
 // Appends what is open.
 #[tactic(auto, using(tc_text::proofs::Lemmas::Saying::tell_rules))]
 fn append_opened(
@@ -422,15 +385,17 @@ fn append_opened(
     sort: Sort,
     opened: Opened,
 ) -> Result<(), NoMemory>
-    ensures { OnOk result (Tells (open_note sort opened) out.old.items out.new.items) }
+    ensures { OnOk result (Tells (open_note opened) out.old.items out.new.items) }
 {
-    match sort {
-        Sort::Script => {
-            append_begun(alloc, out, "a behaviour began in line", opened.inner)?;
-            append_begun(alloc, out, "a test case began in line", opened.outer)
+    match opened {
+        Opened::Nothing => Ok(()),
+        Opened::Begun(outer) | Opened::Filled(outer) => {
+            append_numbered(alloc, out, begun(sort), outer)
         }
-        Sort::Histories => append_begun(alloc, out, "a history began in line", opened.outer),
-        Sort::Moves | Sort::Source => Ok(()),
+        Opened::Inside(outer, inner) => {
+            append_numbered(alloc, out, "a behaviour began in line", inner)?;
+            append_numbered(alloc, out, begun(sort), outer)
+        }
     }
 }
 
@@ -450,7 +415,7 @@ pub fn explain(
 {
     let sort = refusal.sort();
     let seen = seen_sort(alloc, text)?;
-    let found = find_line(alloc, sort, text, number)?;
+    let found = find_line(alloc, text, number)?;
     let mut out = Vec::new(alloc);
     append_sort(alloc, &mut out, sort, seen)?;
     append_line(alloc, &mut out, refusal, number, found.opened, found.line)?;

@@ -69,36 +69,250 @@ fn expect_form(
     expect(rt, alloc, line.as_bytes(), 1, BAD_LINE, told.as_str())
 }
 
+// What is understood at a place, as it is printed.
+const END: &str = "the end of the call";
+
+const PARAMETERS: &str = "a parameter, or the end of the line";
+
+const KIND: &str = "alive, named, or the end of the call";
+
+const NAMING: &str = "named, or the end of the call";
+
+const STARTED: &str = "the behaviour that is started";
+
+const ARGUMENTS: &str = "a component, or the end of the call";
+
+const GROUP: &str = "all or a component";
+
+const TARGET: &str = "any, all or a component";
+
+const STATUS: &str = "done or killed";
+
+const VERDICT: &str = "none, pass, inconc or fail";
+
+const OVERALL: &str = "none, pass, inconc, fail or error";
+
+const LINE_END: &str = "the end of the line";
+
+// The words of a line, and what is understood after them.
+const SCRIPT_PLACES: [(&str, &str); 37] = [
+    ("testcase", "the name of a test case"),
+    ("testcase t", END),
+    ("behaviour", "the name of a behaviour"),
+    ("behaviour b", PARAMETERS),
+    ("behaviour b p", PARAMETERS),
+    ("end", END),
+    ("create", "the name of a component"),
+    ("create p", KIND),
+    ("create p alive", NAMING),
+    ("create p named", "a name"),
+    ("create p alive named", "a name"),
+    ("create p named l", END),
+    ("start", "a component"),
+    ("start mtc", STARTED),
+    ("start mtc b", ARGUMENTS),
+    ("start mtc b self", ARGUMENTS),
+    ("stop", GROUP),
+    ("stop all", END),
+    ("stop p", END),
+    ("kill", GROUP),
+    ("stopcase", END),
+    ("running", TARGET),
+    ("alive", TARGET),
+    ("done", TARGET),
+    ("killed", TARGET),
+    ("done any", END),
+    ("done all", END),
+    ("done p", END),
+    ("wait", STATUS),
+    ("wait done", TARGET),
+    ("wait killed", TARGET),
+    ("setverdict", VERDICT),
+    ("setverdict none", END),
+    ("setverdict pass", END),
+    ("setverdict inconc", END),
+    ("setverdict fail", END),
+    ("getverdict", END),
+];
+
+const MOVE_PLACES: [(&str, &str); 22] = [
+    ("0 create", KIND),
+    ("0 create alive", NAMING),
+    ("0 create named", "a name"),
+    ("0 create named l", END),
+    ("0 start", "a component"),
+    ("0 start 1", STARTED),
+    ("0 start 1 1", ARGUMENTS),
+    ("0 start 1 1 0", ARGUMENTS),
+    ("0 stop", GROUP),
+    ("0 stop all", END),
+    ("0 stop 1", END),
+    ("0 kill", GROUP),
+    ("0 stopcase", END),
+    ("0 running", TARGET),
+    ("0 alive", TARGET),
+    ("0 done", TARGET),
+    ("0 killed", TARGET),
+    ("0 wait", STATUS),
+    ("0 setverdict", VERDICT),
+    ("0 getverdict", END),
+    ("0 wake", STATUS),
+    ("0 finish", END),
+];
+
+const ENTRY_PLACES: [(&str, &str); 28] = [
+    ("0 create -> made", "the number of a component"),
+    ("0 create -> made 1", LINE_END),
+    ("0 create alive -> ok", LINE_END),
+    ("0 start 1 1 -> ok", LINE_END),
+    ("0 create -> ok", LINE_END),
+    ("0 create -> true", LINE_END),
+    ("0 create -> false", LINE_END),
+    ("0 create -> none", LINE_END),
+    ("0 create -> pass", LINE_END),
+    ("0 create -> inconc", LINE_END),
+    ("0 create -> fail", LINE_END),
+    ("0 create -> matched", LINE_END),
+    ("0 create -> parked", LINE_END),
+    ("0 create -> ended", LINE_END),
+    ("0 stop 1 -> error no-component", LINE_END),
+    ("0 stop 1 -> error not-main", LINE_END),
+    ("0 stop 1 -> error start-main", LINE_END),
+    ("0 stop 1 -> error already-running", LINE_END),
+    ("0 stop 1 -> error not-startable", LINE_END),
+    ("0 stop 1 -> error no-behaviour", LINE_END),
+    ("0 stop 1 -> error too-many", LINE_END),
+    ("0 stop 1 -> error stuck", LINE_END),
+    ("end", OVERALL),
+    ("end none", LINE_END),
+    ("end pass", LINE_END),
+    ("end inconc", LINE_END),
+    ("end fail", LINE_END),
+    ("end error", LINE_END),
+];
+
+/// After these words of a line, which follows this head, a word that may be nowhere is printed, and what is understood
+/// there.
+fn expect_places(
+    rt: &impl Abort,
+    alloc: Global,
+    head: &str,
+    places: &[(&str, &str)],
+    refusal: Refusal,
+    open: &str,
+) -> Result<(), Fail> {
+    for (words, wanted) in places {
+        let text = format!(in alloc; "{head}{words} -\n")?;
+        let column = words.len() + 2;
+        let told = format!(in alloc;
+            "  line: `{words} -`\n  column {column}: `-`\n  understood there: {wanted}\n{open}"
+        )?;
+        let line = if head.is_empty() { 1 } else { 2 };
+        expect(
+            rt,
+            alloc,
+            text.as_str().as_bytes(),
+            line,
+            refusal,
+            told.as_str(),
+        )?;
+    }
+    Ok(())
+}
+
+#[test]
+fn places_of_scripts(rt: HostRuntime) -> Result<(), Fail> {
+    expect_places(&rt, rt.alloc(), "", &SCRIPT_PLACES, BAD_LINE, "")
+}
+
+#[test]
+fn places_of_moves(rt: HostRuntime) -> Result<(), Fail> {
+    let refusal = Refusal::Moves(TextKind::Move);
+    expect_places(&rt, rt.alloc(), "behaviours 1\n", &MOVE_PLACES, refusal, "")
+}
+
+#[test]
+fn places_of_histories(rt: HostRuntime) -> Result<(), Fail> {
+    let open = "  a history began in line 1\n";
+    let refusal = Refusal::Histories(TextKind::Entry);
+    expect_places(
+        &rt,
+        rt.alloc(),
+        "history 1 a 1\n",
+        &ENTRY_PLACES,
+        refusal,
+        open,
+    )
+}
+
 #[test]
 fn words_of_a_form(rt: HostRuntime) -> Result<(), Fail> {
     let lines = [
         ("create p named", "column 15: the end of the line", "a name"),
-        (
-            "create p  alike",
-            "column 11: `alike`",
-            "alive, named, or the end of the call",
-        ),
-        (
-            "start mtc",
-            "column 10: the end of the line",
-            "the behaviour that is started",
-        ),
+        ("create p  alike", "column 11: `alike`", KIND),
+        ("start mtc", "column 10: the end of the line", STARTED),
         ("start all b", "column 7: `all`", "a component"),
-        ("wait running p", "column 6: `running`", "done or killed"),
-        ("stop any", "column 6: `any`", "all or a component"),
-        ("done 1", "column 6: `1`", "any, all or a component"),
-        (
-            "setverdict error",
-            "column 12: `error`",
-            "none, pass, inconc or fail",
-        ),
-        ("getverdict p", "column 12: `p`", "the end of the call"),
-        ("create 1x", "column 8: `1x`", "the name of a component"),
+        ("stop any", "column 6: `any`", GROUP),
+        ("setverdict error", "column 12: `error`", VERDICT),
     ];
     for (line, place, wanted) in lines {
         expect_form(&rt, rt.alloc(), line, place, wanted)?;
     }
     Ok(())
+}
+
+#[test]
+fn rules_that_a_line_breaks(rt: HostRuntime) -> Result<(), Fail> {
+    let rules = [
+        (ScriptKind::TooMany, "one more than there may be"),
+        (
+            ScriptKind::Twice,
+            "a name is given once: to a test case of the script, a behaviour of the test case, a component of the behaviour",
+        ),
+        (
+            ScriptKind::NoReference,
+            "a component is named by a parameter, or by a create above",
+        ),
+        (
+            ScriptKind::UnknownBehaviour,
+            "a start names a behaviour of its test case",
+        ),
+        (
+            ScriptKind::MainParameters,
+            "the first behaviour of a test case is started by nobody, who could give it arguments",
+        ),
+        (
+            ScriptKind::Arguments,
+            "a start gives as many arguments as the behaviour has parameters",
+        ),
+        (ScriptKind::Cut, "the line is understood"),
+    ];
+    for (kind, rule) in rules {
+        let told = format!(in rt.alloc(); "  line: `end`\n  {rule}\n")?;
+        let refusal = Refusal::Script(kind);
+        expect(&rt, rt.alloc(), b"end", 1, refusal, told.as_str())?;
+    }
+    Ok(())
+}
+
+#[test]
+fn first_lines(rt: HostRuntime) -> Result<(), Fail> {
+    expect(
+        &rt,
+        rt.alloc(),
+        b"history 3 a 1",
+        1,
+        Refusal::Histories(TextKind::FirstLine),
+        "  line: `history 3 a 1`\n  understood there: history F NAME N, with F 1 or 2, and N from 1 to 64 or to 256\n",
+    )?;
+    expect(
+        &rt,
+        rt.alloc(),
+        b"behaviours 0",
+        1,
+        Refusal::Moves(TextKind::FirstLine),
+        "  line: `behaviours 0`\n  understood there: behaviours N, with N from 1 to 256\n",
+    )
 }
 
 #[test]
@@ -214,6 +428,11 @@ fn lines_of_moves(rt: HostRuntime) -> Result<(), Fail> {
             "0 stop p",
             "column 8: `p`",
             "  understood there: all or a component\n",
+        ),
+        (
+            "0 stop 01",
+            "a number is too large or begins with 0, or there are more than 4 arguments",
+            "",
         ),
     ];
     for (line, place, wanted) in lines {
