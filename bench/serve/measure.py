@@ -3,13 +3,16 @@
 
 usage: bench/serve/measure.py PROGRAM [ROUNDS]
 
-PROGRAM is the built ttrun, and each figure is the median of ROUNDS, 5 if none is given. `--server COMMAND` instead of PROGRAM
-tries the script on another server, without the figures of `replay`.
+PROGRAM is the built ttrun, and each figure is the median of ROUNDS, 5 if none is given. With valgrind there are instructions
+a move too, which do not depend on other work. `--server COMMAND` instead of PROGRAM tries the script on another server,
+without the figures of `replay`.
 """
 from __future__ import annotations
 
 import os
+import re
 import shlex
+import shutil
 import statistics
 import subprocess
 import sys
@@ -30,7 +33,7 @@ CALLERS = (1, 8)
 CALLS = 16_000
 ALONE = 80_000
 MIXED = 60_000
-BEHAVIOURS = 64
+BEHAVIOURS, MOST = 64, 256
 FEW, MANY = 100_000, 2_000_000
 CHUNK = 4_000
 
@@ -115,10 +118,22 @@ def processor_time(words: Sequence[str], text: str) -> Tuple[float, str]:
         return used.ru_utime + used.ru_stime, written.read()
 
 
+def texts_of(moves: Sequence[str], behaviours: int) -> Tuple[str, str]:
+    """The moves for `serve`, and for `replay`."""
+    lines = "".join(f"{it}\n" for it in moves)
+    return f"case t_moves {behaviours}\n{lines}end\n", f"behaviours {behaviours}\n{lines}"
+
+
+def instructions(words: Sequence[str], text: str) -> float:
+    """How many instructions a program takes for a text, by callgrind."""
+    command = ["valgrind", "--tool=callgrind", "--callgrind-out-file=/dev/null", *words]
+    ran = subprocess.run(command, input=text.encode(), stdout=subprocess.DEVNULL, stderr=subprocess.PIPE, check=False)
+    return float(re.search(rb"Collected : (\d+)", ran.stderr)[1])
+
+
 def next_to_replay(program: str, rounds: int, moves: Sequence[str], behaviours: int) -> Tuple[float, float]:
     """Nanoseconds a move of `serve` and of `replay`, which give the same replies. They take turns."""
-    lines = "".join(f"{it}\n" for it in moves)
-    serves, replays = f"case t_moves {behaviours}\n{lines}end\n", f"behaviours {behaviours}\n{lines}"
+    serves, replays = texts_of(moves, behaviours)
     found: List[Tuple[float, float]] = []
     for _ in range(rounds):
         (one, evidence), (other, replies) = processor_time([program, "serve"], serves), processor_time([program, "replay"], replays)
@@ -180,12 +195,18 @@ def rates(command: Sequence[str], rounds: int) -> None:
 
 
 def times(program: str, rounds: int) -> None:
-    """Prints the processor time a move."""
-    print("| processor time a move | serve, ns | replay, ns | ratio |\n|---|---|---|---|")
-    for name, moves, behaviours in ((f"{ALONE:,} getverdict of one behaviour", list(lone_moves()), 1),
-                                    (f"{MIXED:,} mixed moves of {BEHAVIOURS} behaviours", list(mixed_moves()), BEHAVIOURS)):
+    """Prints the processor time a move, and instructions if they can be counted."""
+    print("| a move | serve, ns | replay, ns | ratio | serve, instructions | replay, instructions | ratio |\n|---|---|---|---|---|---|---|")
+    lone, mixed = list(lone_moves()), list(mixed_moves())
+    for name, moves, behaviours in ((f"{ALONE:,} getverdict of one behaviour", lone, 1),
+                                    (f"{MIXED:,} mixed moves of {BEHAVIOURS} behaviours", mixed, BEHAVIOURS),
+                                    (f"the same, in a test case of {MOST} behaviours, as the clients open it", mixed, MOST)):
         one, other = next_to_replay(program, rounds, moves, behaviours)
-        print(f"| {name} | {one:.0f} | {other:.0f} | {one / other:.2f} |", flush=True)
+        counted = "| | |"
+        if shutil.which("valgrind"):
+            serve, replay = (instructions([program, word], text) / len(moves) for word, text in zip(("serve", "replay"), texts_of(moves, behaviours)))
+            counted = f"{serve:,.0f} | {replay:,.0f} | {serve / replay:.1f} |"
+        print(f"| {name} | {one:.0f} | {other:.0f} | {one / other:.1f} | {counted}", flush=True)
     print()
 
 
