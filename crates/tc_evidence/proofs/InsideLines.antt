@@ -47,7 +47,7 @@ pub record SoFar (kind : Kind) (n : ℕ) (text : List ℕ) (inside : List Line) 
   pub only : (ls : List Line) (w : Verdict) (others : List (List ℕ)) → AreLines kind n [] ls → lines_of text ≡ map line_text ls ++ end_text w ∷ others → Remains kind n inside rest ls w others
   pub room : length inside + length rest ≤ length text
 
-none_yet : (kind : Kind) (n : ℕ) (text : List ℕ) → SoFar kind n text [] text
+pub none_yet : (kind : Kind) (n : ℕ) (text : List ℕ) → SoFar kind n text [] text
 none_yet kind n text = record { right = tt; lines = refl; only = λ ls w others right whole. record { tail = ls; parts = refl; spelled = whole; right = right }; room = omega arith }
 
 pub begins : (kind : Kind) (n : ℕ) (text : List ℕ) (inside : List Line) → inside ≡ [] → SoFar kind n text inside text

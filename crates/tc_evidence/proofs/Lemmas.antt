@@ -1,3 +1,4 @@
 -- The lemmas that other crates cite.
 pub mod Bytes
+pub mod Histories
 pub mod WrittenEvidence

@@ -73,6 +73,13 @@ pub record AreTaken (kind : Kind) (n : ℕ) (text : List ℕ) (inside : List Lin
   -- and it begins with no others
   pub only : (ls : List Line) (w : Verdict) (others : List (List ℕ)) → AreLines kind n [] ls → lines_of text ≡ map line_text ls ++ end_text w ∷ others → (inside ≡ ls) × (v ≡ w) × (lines_of rest ≡ others)
 
+-- the text begins with such lines, of which the first has this number and the last that one, and with the lines before it the value before becomes the one after
+pub record AreTakenBy {O : Type 0} (opens : ℕ → Header → List Line → O → Type 0) (kind : Kind) (n : ℕ) (text : List ℕ) (first : ℕ) (before after : O) (line : ℕ) (v : Verdict) (rest : List ℕ) : Type 0 where
+  pub inside : List Line
+  pub taken : AreTaken kind n text inside v rest
+  pub number : line ≡ first + length inside
+  pub opened : (at : ℕ) (h : Header) → first ≡ at + 1 → opens at h [] before → opens at h inside after
+
 -- ---- one block that a text begins with, and what is wrong with a text that begins with none
 
 -- some lines inside, and then, in the line of this number, neither a line that may come nor the end of the block
@@ -131,3 +138,10 @@ pub record IsTaken (text : List ℕ) (first : ℕ) (b : Block) (rest : List ℕ)
   pub room : length b.lines + 2 + length rest ≤ length text
   -- and it begins with no other block
   pub only : (c : Block) (others : List (List ℕ)) → IsBlock first c → lines_of text ≡ block_lines c ++ others → (b ≡ c) × (lines_of rest ≡ others)
+
+-- the text begins with a block, with it the value before becomes the one after, and the line after it has this number
+pub record IsTakenBy {H : Type 0} (stands : List Block → H → Type 0) (text : List ℕ) (first : ℕ) (before after : H) (next : ℕ) (rest : List ℕ) : Type 0 where
+  pub block : Block
+  pub taken : IsTaken text first block rest
+  pub next_is : next ≡ first + (length block.lines + 2)
+  pub made : (blocks : List Block) → stands blocks before → stands (blocks ++ block ∷ []) after

@@ -15,7 +15,7 @@ pub fn remarks_say_nothing()
 {}
 
 /// A text of histories is read here as these histories.
-#[tactic(auto, using(crate::proofs::Histories::histories_are_read))]
+#[tactic(auto, using(crate::proofs::Lemmas::Histories::histories_are_read))]
 pub fn histories_are_read()
     ensures { laws.HistoriesAreRead }
 {}

@@ -1,10 +1,9 @@
-use Rattle.std.proofs.Common.{◌≡◌, ◌+◌, length}
-use Rattle.tc_evidence.specs.Met.{AreMet}
-use Rattle.tc_evidence.proofs.InsideLines.{SoFar}
+use Rattle.std.proofs.Common.{length}
+use Rattle.tc_evidence.proofs.Reading.{IsOpenSoFar}
 use Rattle.tc_evidence.proofs.read.take_lines.Given as goal
 
 abbrev pub invariant-loop-rest : goal.invariant-loop-rest
-invariant-loop-rest l = SoFar l.kind l.behaviours l.text l.inside l.rest × (l.line ≡ l.first_line + length l.inside) × AreMet l.met l.inside
+invariant-loop-rest g l = IsOpenSoFar g.H.TakesEvidence.opens l.kind l.behaviours l.text l.first_line l.rest l.line l.met l.fn.begun l.begun
 
 abbrev pub decreases-loop-rest : goal.decreases-loop-rest
-decreases-loop-rest l = length l.rest
+decreases-loop-rest g l = length l.rest

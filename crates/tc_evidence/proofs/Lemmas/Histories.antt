@@ -1,12 +1,11 @@
 -- Histories are evidence that has entries only.
-use Rattle.std.proofs.Common.{ℕ, ◌≡◌, ◌≢◌, ◌∙◌, ◌+◌, ◌≤◌, inl, inr, List, [], ◌∷◌, ◌++◌, codes, length, map, ap, sym, subst, refl}
+use Rattle.std.proofs.Common.{ℕ, ◌≡◌, ◌≢◌, ◌∙◌, ◌+◌, inl, inr, List, [], ◌∷◌, ◌++◌, codes, length, map, ap, sym, subst, refl}
 use Rattle.std.specs.Fmt.{decimal}
 use Rattle.tc_entry.specs.declared.entry.Entry.{Entry}
 use Rattle.tc_history.specs.declared.read.Block.{Block as History}
 use Rattle.tc_history.specs.Block.{end_text, entry_text, format_text}
 use Rattle.tc_history.specs.Text as told
 use Rattle.tc_evidence.specs.declared.header.Kind.{Kind}
-use Rattle.tc_evidence.specs.declared.header.Kind.TheVariants as K
 use Rattle.tc_evidence.specs.declared.line.Line.{Line}
 use Rattle.tc_evidence.specs.declared.line.Line.TheVariants as L
 use Rattle.tc_evidence.specs.Line.{line_text}
