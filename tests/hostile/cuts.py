@@ -26,6 +26,8 @@ HISTORY_1 = text("history 1 t 2;0 create -> made 1;0 start 1 1 0 -> ok;1 setverd
                  "0 wait done any -> matched;0 stop 1 -> ok;end fail")
 HISTORY_2 = text("history 2 u 256;0 create alive named pump -> made 1;0 start 1 255 -> ok;255 stopcase -> ok;"
                  "0 getverdict -> ended;end error")
+EVIDENCE = text("evidence 1 v 2;behaviour 0 b;0 create -> made 1;0 # x <b>;behaviour 1 c;0 start 1 1 -> ok;1 ! bad move;"
+                "1 setverdict fail -> ok;1 # hot;end fail")
 MOVES = text("behaviours 1;0 setverdict inconc;0 setverdict pass;0 getverdict")
 
 
@@ -73,6 +75,7 @@ TEXTS: Tuple[Tuple[str, Tuple[str, ...], bytes, Answers], ...] = (
     ("script", ("run", "--history"), SCRIPT, Scripts()),
     ("history_1", ("check",), HISTORY_1, Answers(check)),
     ("history_2", ("check",), HISTORY_2, Answers(check)),
+    ("evidence", ("check",), EVIDENCE, Answers(check)),
     ("moves", ("replay",), MOVES, Answers(replay)),
 )
 

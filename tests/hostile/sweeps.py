@@ -56,6 +56,8 @@ def tasks() -> List[Task]:
     found.append(Task("a_refused_history", ("check", "--explain"), text("history 1 t 1;0 finish")))
     found += [Task(name, ("check",), bytes_of(f"{name}.history")) for name in ("pumps", "restart", "supervisor")]
     found.append(Task("an_illegal_history", ("check",), text("history 1 t 1;end pass")))
+    evidence = text("evidence 1 t 2;behaviour 0 main;0 # too hot: <b>;0 setverdict fail -> ok;1 ! bad move;0 finish -> ok;end fail")
+    found += [Task("evidence", words, evidence) for words in (("check",), ("report", "--csv"), ("report", "--html"))]
     reported = [(name, form) for name in ("pumps", "supervisor") for form in ("--csv", "--junit", "--html")]
     found += [Task(name, ("report", form), bytes_of(f"{name}.history")) for name, form in reported]
     found.append(Task("a_session", ("serve",), SESSION))

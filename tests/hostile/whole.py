@@ -26,10 +26,11 @@ UNREFUSED: Tuple[Exempt, ...] = (
     (("Book::record", "Book::call"), "the calls on a pass make them"),
     (("Look::close", "Book::close", "locals_of"), "close_case makes them"),
     (("Kept::with_room", "without_room"), "run_campaign makes them"),
-    (("Sentence::of_bytes",), "read_evidence makes it"),
+    (("Sentence::of_bytes",), "read_evidence_into makes it"),
     (("append_first_line", "append_said"), "append_whole_block makes them"),
     (("append_entry", "append_end"), "write_block makes them"),
-    (("read_evidence", "append_whole_block", "Block::history"), "no program reads or writes evidence yet"),
+    (("read_evidence_into",), "check and report make it"),
+    (("read_evidence", "append_whole_block", "Block::history"), "no program keeps or writes whole blocks of evidence yet"),
     (("Server::step",), "serve makes it"),
     (("stop_word",), "it is handed no allocator: its one fault is that the word names no verdict"),
 )

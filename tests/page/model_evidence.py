@@ -38,18 +38,12 @@ def edges_of_evidence() -> List[str]:
                     head + end + "0 # x\n", head + "\n" + end, head + end + "\n", f"{head}{end}history 2 t 1\n0 # x\n{end}"]
 
 
-def reads_evidence(context: Context) -> bool:
-    """Whether `check` of this program reads evidence; as long as it does not, only the tests' own reader is asked."""
-    return check(context, b"evidence 1 t 1\nend none\n")[2] == 0
-
-
 def told_of_evidence(context: Context, texts: List[bytes]) -> Counter:
-    """Holds what the model says of these texts to the tests' own reader, and to the program if it reads evidence; the kinds met."""
+    """Holds what the model and the program say of these texts to the tests' own reader; the kinds met."""
     met: Counter = Counter()
-    if reads_evidence(context):
-        with ThreadPoolExecutor(4) as pool:
-            told = [fault_of(errors) for _, errors, _ in pool.map(lambda it: check(context, it), texts)]
-        same(told, [said.read(it)[1] for it in texts], "the program and the tests' reader")
+    with ThreadPoolExecutor(4) as pool:
+        told = [fault_of(errors) for _, errors, _ in pool.map(lambda it: check(context, it), texts)]
+    same(told, [said.read(it)[1] for it in texts], "the program and the tests' reader")
     for text, answer in zip(texts, ask(context, "faults", [it.decode("latin-1") for it in texts])):
         cases, fault = said.read(text)
         same(fault, answer["fault"], text)

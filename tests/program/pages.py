@@ -1,4 +1,4 @@
-"""Pages of histories, made of the constants of the crate tc_page, and read by Python's reader of HTML."""
+"""Pages of histories and evidence, made of the constants of the crate tc_page, and read by Python's reader of HTML."""
 from __future__ import annotations
 
 import os
@@ -9,10 +9,12 @@ from typing import List, Optional, Tuple
 TOP = os.path.dirname(os.path.dirname(os.path.dirname(os.path.abspath(__file__))))
 CONSTANT = re.compile(r'pub const \w+: &\[u8\] =\s+b"((?:[^"\\]|\\.)*)";')
 ESCAPES = {"n": "\n"}
+# What a page has for `<`.
+INSTEAD = "\u2039"
 
 
 def part_of(name: str) -> bytes:
-    """One of the two parts between which a page holds the histories."""
+    """One of the two parts between which a page holds the text."""
     with open(os.path.join(TOP, "crates", "tc_page", "src", f"{name}.rt"), encoding="ascii") as file:
         found = CONSTANT.search(file.read())
     assert found is not None, name
@@ -20,12 +22,12 @@ def part_of(name: str) -> bytes:
 
 
 def page_of(text: bytes) -> bytes:
-    """The page of a history text."""
-    return part_of("head") + text + part_of("tail")
+    """The page of a text."""
+    return part_of("head") + text.replace(b"<", INSTEAD.encode()) + part_of("tail")
 
 
 class Reader(HTMLParser):
-    """Reads a page, and keeps what its element of histories holds."""
+    """Reads a page, and keeps what its element of the text holds."""
 
     def __init__(self) -> None:
         super().__init__(convert_charrefs=True)
@@ -33,7 +35,7 @@ class Reader(HTMLParser):
         self.is_within = False
 
     def handle_starttag(self, tag: str, attrs: List[Tuple[str, Optional[str]]]) -> None:
-        """Begins the element, if it is the one of the histories."""
+        """Begins the element, if it is the one of the text."""
         if tag == "script" and ("id", "history") in attrs:
             self.is_within = True
             self.held.append("")
@@ -50,8 +52,8 @@ class Reader(HTMLParser):
 
 
 def faults_of_page(page: bytes, text: bytes) -> List[str]:
-    """Why a page does not hold the histories in one element, byte by byte."""
+    """Why a page does not hold the text in one element, byte by byte."""
     reader = Reader()
-    reader.feed(page.decode("ascii"))
+    reader.feed(page.decode())
     reader.close()
-    return [] if reader.held == [text.decode("ascii")] else [f"the page holds {[it[:100] for it in reader.held]}"]
+    return [] if [it.replace(INSTEAD, "<") for it in reader.held] == [text.decode("ascii")] else [f"the page holds {[it[:100] for it in reader.held]}"]

@@ -21,6 +21,7 @@ import choosing
 import details
 import devices
 import documents_run
+import evidence_rows
 import examples
 import explain
 import live
@@ -52,6 +53,7 @@ GROUPS = (
     ("progress", progress.cases, 30),
     ("examples", examples.cases, 42),
     ("reports", reports.cases, 30),
+    ("evidence", evidence_rows.cases, 130),
     ("explain", explain.cases, 100),
     ("documents", documents_run.cases, 2),
 )
@@ -68,6 +70,7 @@ def tests(seed: int) -> List[Test]:
     found += random_moves.judgements(seed) + random_scripts.judgements(seed) + random_courses.judgements(seed)
     found += devices.judgements()
     found += reports.judgements(seed)
+    found += evidence_rows.judgements(seed)
     found += choosing.judgements(seed)
     found += details.judgements(seed)
     names = [it.name for it in found]

@@ -1,9 +1,9 @@
-"""The texts of docs/texts.md in Python: move lists and histories, what is printed for them, and their first faults."""
+"""The texts of docs/texts.md in Python: move lists, histories and evidence, what is printed for them, and their first faults."""
 from __future__ import annotations
 
 import re
 from dataclasses import dataclass
-from typing import List, Optional, Tuple
+from typing import List, Optional, Set, Tuple
 
 from table import FAULTS, MOST_BEHAVIOURS, VERDICTS, Op, Table, Target
 
@@ -17,6 +17,8 @@ NO_NAMES = ("all", "any", "mtc", "self")
 MOST_RUN = 65_535
 # The formats of a history, each with its most behaviours.
 FORMATS = {"1": 64, "2": MOST_BEHAVIOURS}
+# What a block of evidence has where a history has its format.
+EVIDENCE = "evidence"
 MOST_COMPONENT = 4_294_967_295
 
 MOVE = re.compile(
@@ -30,6 +32,8 @@ MOVE = re.compile(
     rf"|(?P<plain>stopcase|getverdict|finish)"
     rf")"
 )
+NAMING = re.compile(rf"behaviour ({NUMBER}) ({NAME})")
+SAID = re.compile(rf"({NUMBER}) [#!] [ -~]{{1,200}}")
 REPLY = re.compile(
     rf"made (?P<made>{NUMBER})|ok|true|false|matched|parked|ended|{'|'.join(VERDICTS)}|error (?:{'|'.join(FAULTS)})"
 )
@@ -130,7 +134,7 @@ def replay(text: bytes) -> Judged:
 
 @dataclass
 class Entry:
-    """An entry of a history, with the number of its line."""
+    """An entry of a block, with the number of its line."""
 
     line: int
     caller: int
@@ -140,7 +144,7 @@ class Entry:
 
 @dataclass
 class Block:
-    """The history of one test case, with the number of its last line."""
+    """The history or the evidence of one test case, with the number of its last line."""
 
     format: str
     name: str
@@ -153,12 +157,13 @@ class Block:
 def read_header(line: str) -> Optional[Tuple[str, str, int]]:
     """The format, the name and the number of behaviours in the first line of a block."""
     words = line.split(" ")
-    if len(words) != 4 or words[0] != "history" or words[1] not in FORMATS or not is_name(words[2]):
+    is_evidence = words[:2] == ["evidence", "1"]
+    if len(words) != 4 or not is_evidence and (words[0] != "history" or words[1] not in FORMATS) or not is_name(words[2]):
         return None
     behaviours = behaviours_of(words[3])
-    if behaviours is None or behaviours > FORMATS[words[1]]:
+    if behaviours is None or not is_evidence and behaviours > FORMATS[words[1]]:
         return None
-    return words[1], words[2], behaviours
+    return EVIDENCE if is_evidence else words[1], words[2], behaviours
 
 
 def read_entry(line: int, text: str, format_of_block: str) -> Optional[Entry]:
@@ -170,15 +175,30 @@ def read_entry(line: int, text: str, format_of_block: str) -> Optional[Entry]:
     return None if move[1].name and format_of_block == "1" else Entry(line, *move, reply)
 
 
+def runs_of(entry: Entry) -> Set[int]:
+    """The runs that an entry is about: the caller, and the one that is started."""
+    return {entry.caller, entry.op.run} if entry.op.verb == "start" else {entry.caller}
+
+
+def run_said(line: str, behaviours: int, met: Set[int]) -> Optional[int]:
+    """The run that a remark or a refused line is of, or whose behaviour is named, before any other line about it."""
+    naming, said = NAMING.fullmatch(line), SAID.fullmatch(line)
+    found = naming or said
+    if found is None or int(found[1]) >= behaviours or naming and (int(found[1]) in met or not is_name(naming[2])):
+        return None
+    return int(found[1])
+
+
 def read_history(text: bytes) -> Tuple[List[Block], Optional[Judged]]:
-    """The blocks of a history text, or the refusal of its first fault."""
+    """The blocks of a text of histories and evidence, or the refusal of its first fault."""
     lines = lines_of(text)
     blocks: List[Block] = []
     header: Optional[Tuple[str, str, int]] = None
     entries: List[Entry] = []
+    met: Set[int] = set()
     for number, line in enumerate(lines, 1):
         if header is None:
-            header, entries = read_header(line), []
+            header, entries, met = read_header(line), [], set()
             if header is None:
                 return [], refused(number, "bad first line")
         elif line.startswith("end ") and line[4:] in VERDICTS:
@@ -186,9 +206,11 @@ def read_history(text: bytes) -> Tuple[List[Block], Optional[Judged]]:
             header = None
         else:
             entry = read_entry(number, line, header[0])
-            if entry is None:
+            said = run_said(line, header[2], met) if entry is None and header[0] == EVIDENCE else None
+            if entry is None and said is None:
                 return [], refused(number, "bad entry")
-            entries.append(entry)
+            entries += [entry] if entry else []
+            met |= runs_of(entry) if entry else {said}
     if header is not None or not lines:
         return [], refused(len(lines) + 1, "text ends too early")
     return blocks, None
@@ -207,7 +229,7 @@ def judge_block(block: Block) -> Tuple[str, bool]:
 
 
 def check(text: bytes) -> Judged:
-    """What `check` answers to this history text."""
+    """What `check` answers to this text of histories and evidence."""
     if len(text) > MOST_BYTES_OF_A_HISTORY:
         return Judged(b"", b"ttrun: input too long\n", 3)
     blocks, refusal = read_history(text)

@@ -2,6 +2,7 @@
 #![tactic(auto)]
 
 mod head;
+pub mod laws;
 mod page;
 mod tail;
 

@@ -1,6 +1,6 @@
 //! The page of a text.
 ghost use Rattle.std.specs.Prelude.{◌≡◌, ◌++◌, IfOk, OnOk};
-ghost use Rattle.tc_page.specs.Page.{head as spec_head, page_of, tail as spec_tail};
+ghost use Rattle.tc_page.specs.Page.{head as spec_head, held, page_of, tail as spec_tail};
 
 use crate::head::HEAD;
 use crate::tail::TAIL;
@@ -25,13 +25,27 @@ fn append_tail(page: &mut Vec<u8>) -> Result<(), NoMemory>
     Ok(())
 }
 
+// Appends the text, with the character U+2039 for each `<`.
+fn append_held(page: &mut Vec<u8>, text: &[u8]) -> Result<(), NoMemory>
+    ensures { OnOk result (page.new.items ≡ page.old.items ++ held text.now) }
+{
+    for byte in text {
+        if *byte == b'<' {
+            page.extend_from_slice(b"\xe2\x80\xb9")?;
+        } else {
+            page.push(*byte)?;
+        }
+    }
+    Ok(())
+}
+
 /// The page that holds this text.
 pub fn html_page(alloc: Global, text: &[u8]) -> Result<Vec<u8>, NoMemory>
     ensures { IfOk result (λ v. v.items ≡ page_of text.now) }
 {
     let mut page = Vec::new(alloc);
     append_head(&mut page)?;
-    page.extend_from_slice(text)?;
+    append_held(&mut page, text)?;
     append_tail(&mut page)?;
     Ok(page)
 }

@@ -1,12 +1,12 @@
--- Histories, checked one after the other.
-use Rattle.std.proofs.Common.{ℕ, ◌≡◌, Bool, true, false, List, [], ◌∷◌, ◌++◌, if◌then◌else◌, ap, refl, sym, ◌∙◌, append_assoc}
+-- Blocks, checked one after the other.
+use Rattle.std.proofs.Common.{ℕ, ◌≡◌, Bool, true, false, List, [], ◌∷◌, ◌++◌, if◌then◌else◌, ap, ap₂, refl, sym, ◌∙◌, append_assoc}
 use Rattle.std.proofs.lemmas.List.{append-nil}
 use Rattle.tc_text.specs.declared.fault.TextFault.{TextFault}
 use Rattle.tc_text.specs.declared.fault.TextFault.TheVariants as T
-use Rattle.tc_history.specs.declared.read.Block.{Block}
+use Rattle.tc_evidence.specs.declared.block.Block.{Block}
+use Rattle.tc_evidence.specs.Text.{AreEvidence, IsEvidenceFault}
 use Rattle.tc_program.specs.declared.judge.Judgement.{Judgement}
 use Rattle.tc_program.specs.declared.judge.Judgement.TheVariants as J
-use Rattle.tc_history.specs.Text.{AreHistories, IsMadeOf, IsHistoryFault}
 use Rattle.tc_program.specs.declared.check.Checking.{Checking}
 use Rattle.tc_text.specs.Spelling.{reply_text}
 use Rattle.tc_program.specs.Check.{Checks, IsChecked, IsIllegalLine, IsLegalLine, RefusesHistory, other_line}
@@ -24,7 +24,7 @@ legal_said b (J.OtherVerdict line given verdict) legal is = absurd cc
 pub illegal_said : (b : Block) (j : Judgement) → judges_legal j ≡ false → IsJudgement b j → IsIllegalLine b (judgement_line j)
 illegal_said b (J.Legal name entries verdict) illegal is = absurd cc
 illegal_said b (J.OtherReply line given reply) illegal is =
-    IsIllegalLine.other_reply is.at given reply is.differs is.given_is (ap (λ n. other_line n (reply_text given) (reply_text reply)) is.line_is)
+    IsIllegalLine.other_reply is.before is.behind is.entry reply is.place is.legal is.answers is.other (ap₂ (λ n r. other_line n (reply_text r) (reply_text reply)) is.line_is is.given_is)
 illegal_said b (J.OtherVerdict line given verdict) illegal is =
     IsIllegalLine.other_verdict is.0 (λ same. is.2 (same ∙ sym is.1)) (rw (is.1, is.3, is.4) refl)
 
@@ -43,18 +43,18 @@ pub whole : (blocks : List Block) (out : List ℕ) (legal : Bool) → Feeds bloc
 whole blocks out true feeds = let all : Checks (blocks ++ []) (out ++ []) true = feeds [] [] true Checks.none in rw (append-nil blocks, append-nil out) at all
 whole blocks out false feeds = let all : Checks (blocks ++ []) out false = feeds [] in rw (append-nil blocks) at all
 
--- what is printed for the histories of the text
-pub all_checked : (text : List ℕ) (c : Checking) → IsMadeOf (λ blocks (c : Checking). Feeds blocks c.out.items c.legal) text c
-    → ((all : List Block) → AreHistories text all → Feeds all c.out.items c.legal) → IsChecked text c.out.items (if c.legal then 0 else 3)
+-- what is printed for the blocks of the text
+pub all_checked : (text : List ℕ) (c : Checking) → ((blocks : List Block) × AreEvidence text blocks × Feeds blocks c.out.items c.legal)
+    → ((all : List Block) → AreEvidence text all → Feeds all c.out.items c.legal) → IsChecked text c.out.items (if c.legal then 0 else 3)
 all_checked text c so only = record {
-  blocks = so.blocks;
-  histories = so.histories;
+  blocks = so.0;
+  evidence = so.1;
   legal = c.legal;
   checks = λ all is. whole all c.out.items c.legal (only all is);
   status_is = refl;
 }
 
 -- a fault of the text is the command's
-pub refused : (text : List ℕ) (fault : TextFault) → IsHistoryFault text fault → ((all : List Block) → AreHistories text all → fault ≡ T.NoMemory) → RefusesHistory text (of_text fault)
+pub refused : (text : List ℕ) (fault : TextFault) → IsEvidenceFault text fault → ((all : List Block) → AreEvidence text all → fault ≡ T.NoMemory) → RefusesHistory text (of_text fault)
 refused text (T.At line kind) bad only = (bad, λ all is. let no = only all is in absurd cc)
 refused text T.NoMemory bad only = tt

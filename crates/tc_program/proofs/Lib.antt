@@ -1,5 +1,6 @@
 -- The lemmas of this crate.
 pub mod Doing
+pub mod Playing
 pub mod Replaying
 pub mod Running
 pub mod Telling
@@ -10,5 +11,4 @@ pub mod Exploring
 pub mod Faults
 pub mod WrittenHistories
 pub mod Reporting
-pub mod Inert
 pub mod Explaining

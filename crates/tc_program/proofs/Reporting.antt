@@ -1,12 +1,13 @@
--- The test cases of histories, one history after the other.
-use Rattle.std.proofs.Common.{ℕ, ◌≡◌, ◌∙◌, ◌+◌, All, true, false, if◌then◌else◌, Option, Some, None, List, [], ◌∷◌, ◌++◌, length, map, reverse, refl, ap, sym, subst, append_assoc}
+-- The test cases of blocks, one block after the other.
+use Rattle.std.proofs.Common.{ℕ, ◌≡◌, ◌∙◌, ◌+◌, All, true, false, if◌then◌else◌, Option, Some, None, List, [], ◌∷◌, ◌++◌, map, reverse, refl, ap, sym, subst, append_assoc}
 use Rattle.std.specs.List.{flat_map}
 use Rattle.std.specs.Prelude.{is_some}
 use Rattle.std.proofs.lemmas.List.{map-append}
 use Rattle.std.proofs.lemmas.List.Elements.{All-head, All-tail}
 use Rattle.tc_table.specs.Standing.{StandsFor}
-use Rattle.tc_history.specs.declared.read.Block.{Block}
-use Rattle.tc_history.specs.Text.{block_lines, header_of}
+use Rattle.tc_evidence.specs.declared.block.Block.{Block}
+use Rattle.tc_evidence.specs.Line.{entries_of}
+use Rattle.tc_evidence.specs.Laws.{history_of}
 use Rattle.tc_report.specs.declared.summary.Summary.{Summary}
 use Rattle.tc_report.specs.Status.{status_of_summaries}
 use Rattle.tc_report.specs.Summary.{block_summary, case_summary, summary_of}
@@ -28,34 +29,39 @@ use Rattle.tc_program.specs.declared.reply.Answer.{Answer}
 use Rattle.tc_program.specs.WrittenHistories.{AreFoundLegal, found_legal, legal_case}
 use Rattle.tc_program.proofs.Doing.{answer_of}
 use Rattle.tc_program.proofs.Checking.{illegal_said, printed_more, whole}
-use Rattle.tc_program.proofs.WrittenHistories.{IsRight, are_right, block_of, blocks_of, histories_of, no_difference, none_illegal, said_of_written}
+use Rattle.tc_program.proofs.Playing.{no_difference}
+use Rattle.tc_program.proofs.WrittenHistories.{IsRight, after, are_right, block_of, blocks_of, evidence_of, history_at, none_illegal, said_of_written, same_entries}
 
--- a history that is judged legal is right
+-- a block that is judged legal is right
 right_of_legal : (b : Block) (j : Judgement) → judges_legal j ≡ true → IsJudgement b j → IsRight b
 right_of_legal b (J.Legal name entries verdict) legal is = (is.0, is.1)
 right_of_legal b (J.OtherReply line given reply) legal is = absurd cc
 right_of_legal b (J.OtherVerdict line given verdict) legal is = absurd cc
 
+-- what the forms say of a block
+abbrev summary_at : Block → Summary
+summary_at = λ b. block_summary (history_of b)
+
 -- the summary of what was played is that of the block, if it is right
-summary_of_right : (b : Block) (r : Recorded) (s : Summary) → IsRecorded b.first_line (header_of b) b.entries r → IsRight b
-    → (StandsFor r.playing.state (reverse r.entries.items) → s ≡ summary_of r.playing.header.name r.entries.items) → s ≡ block_summary b
+summary_of_right : (b : Block) (r : Recorded) (s : Summary) → IsRecorded b.first_line b.header b.lines r → IsRight b
+    → (StandsFor r.playing.state (reverse r.entries.items) → s ≡ summary_of r.playing.header.name r.entries.items) → s ≡ summary_at b
 summary_of_right b r s played right says = go r.playing.difference played.0.1
   where
-    go : (d : Option Difference) → IsPlayedTo b.behaviours b.first_line b.entries r.playing.state d → s ≡ block_summary b
+    go : (d : Option Difference) → IsPlayedTo b.header.behaviours b.first_line b.lines r.playing.state r.playing.entries d → s ≡ summary_at b
     go None is =
         let stands : StandsFor r.playing.state (reverse r.entries.items) = subst (λ l. StandsFor r.playing.state (reverse l)) (sym played.1) is.1 in
-        says stands ∙ (ap (summary_of r.playing.header.name) played.1 ∙ ap (λ h. summary_of h.name b.entries) played.0.0)
-    go (Some d) is = absurd (no_difference b.behaviours b.entries is.at d.reply right.0 is.differs)
+        says stands ∙ (ap (summary_of r.playing.header.name) played.1 ∙ ap (λ h. summary_of h.name (entries_of b.lines)) played.0.0)
+    go (Some d) is = absurd (no_difference b.header.behaviours b.lines is.before is.behind is.entry d.reply right.0 is.place is.answers is.other)
 
 -- one more block that is legal
 pub legal_more : (blocks : List Block) (b : Block) (r : Recorded) (j : Judgement) (s : Summary) (ss ss' : List Summary)
-    → Summarizes blocks ss None → IsRecorded b.first_line (header_of b) b.entries r → IsJudgement b j → judges_legal j ≡ true
+    → Summarizes blocks ss None → IsRecorded b.first_line b.header b.lines r → IsJudgement b j → judges_legal j ≡ true
     → (StandsFor r.playing.state (reverse r.entries.items) → s ≡ summary_of r.playing.header.name r.entries.items) → ss' ≡ ss ++ s ∷ []
     → Summarizes (blocks ++ b ∷ []) ss' None
 legal_more blocks b r j s ss ss' before played is legal says added =
     let same = summary_of_right b r s played (right_of_legal b j legal is) says in (
       (before.0.0 ++ judgement_line j, printed_more blocks b j before.0.0 (before.0.0 ++ judgement_line j) true legal before.0.1 is refl),
-      added ∙ (ap (λ l. l ++ s ∷ []) before.1 ∙ (ap (λ x. map block_summary blocks ++ x ∷ []) same ∙ sym (map-append block_summary blocks (b ∷ [])))),
+      added ∙ (ap (λ l. l ++ s ∷ []) before.1 ∙ (ap (λ x. map summary_at blocks ++ x ∷ []) same ∙ sym (map-append summary_at blocks (b ∷ [])))),
     )
 
 -- one more block that is not legal
@@ -74,7 +80,7 @@ illegal_more blocks b j ss ss' so is illegal = record {
 
 -- if no block is illegal so far
 pub legal_next : (o : Option Judgement) (blocks : List Block) (b : Block) (r : Recorded) (j : Judgement) (s : Summary) (ss ss' : List Summary)
-    → is_some o ≡ false → Summarizes blocks ss o → IsRecorded b.first_line (header_of b) b.entries r → IsJudgement b j → judges_legal j ≡ true
+    → is_some o ≡ false → Summarizes blocks ss o → IsRecorded b.first_line b.header b.lines r → IsJudgement b j → judges_legal j ≡ true
     → (StandsFor r.playing.state (reverse r.entries.items) → s ≡ summary_of r.playing.header.name r.entries.items) → ss' ≡ ss ++ s ∷ []
     → Summarizes (blocks ++ b ∷ []) ss' o
 legal_next None blocks b r j s ss ss' none before played is legal says added = legal_more blocks b r j s ss ss' before played is legal says added
@@ -110,11 +116,11 @@ pub legal_report : (form : ReportForm) (text : List ℕ) (blocks : List Block) (
     → a.out ≡ form_of form text lent → a.told ≡ [] → a.status ≡ status_of_summaries lent → IsReport form text blocks a
 legal_report form text blocks ss lent o a none same made out told status =
     let made = made_none ss lent o blocks none same made in
-    let out_is : a.out ≡ form_of form text (map block_summary blocks) = out ∙ ap (form_of form text) made.1 in
-    let status_is : a.status ≡ status_of_summaries (map block_summary blocks) = status ∙ ap status_of_summaries made.1 in
+    let out_is : a.out ≡ form_of form text (map summary_at blocks) = out ∙ ap (form_of form text) made.1 in
+    let status_is : a.status ≡ status_of_summaries (map summary_at blocks) = status ∙ ap status_of_summaries made.1 in
     IsReport.legal made.0.0 (whole blocks made.0.0 true made.0.1)
-    (ap (λ x. answer_of x a.told a.status) out_is ∙ ap (λ x. answer_of (form_of form text (map block_summary blocks)) x a.status) told
-    ∙ ap (λ x. answer_of (form_of form text (map block_summary blocks)) [] x) status_is)
+    (ap (λ x. answer_of x a.told a.status) out_is ∙ ap (λ x. answer_of (form_of form text (map summary_at blocks)) x a.status) told
+    ∙ ap (λ x. answer_of (form_of form text (map summary_at blocks)) [] x) status_is)
 
 -- what is made of a text, one of whose histories is illegal
 pub illegal_report : (form : ReportForm) (text : List ℕ) (blocks : List Block) (ss : List Summary) (o : Option Judgement) (j : Judgement) (a : Answer) → o ≡ Some j → Summarizes blocks ss o
@@ -134,17 +140,20 @@ illegal_report form text blocks ss o j a some made out told status =
 
 -- ---- histories that a run writes
 
-summaries_written : (line : ℕ) (fs : List Finished) → All WasRun fs → map block_summary (blocks_of line fs) ≡ map case_summary fs
+summary_written : (line : ℕ) (f : Finished) → WasRun f → summary_at (block_of line f) ≡ case_summary f
+summary_written line f ran =
+    ap (summary_of f.name) (same_entries f.report.history) ∙ one_same f (history_at line f) (record { name = refl; entries = refl; report = ran.report })
+
+summaries_written : (line : ℕ) (fs : List Finished) → All WasRun fs → map summary_at (blocks_of line fs) ≡ map case_summary fs
 summaries_written line [] all = refl
 summaries_written line (f ∷ fs) all =
-    let this = All-head WasRun f fs all in
-    let first = one_same f (block_of line f) (record { name = refl; entries = refl; report = this.report }) in
-    let rest = summaries_written (line + length (block_lines (block_of line f))) fs (All-tail WasRun f fs all) in
-    rw (first, rest) refl
+    let first = summary_written line f (All-head WasRun f fs all) in
+    let rest = summaries_written (after line f) fs (All-tail WasRun f fs all) in
+    ap (λ s. s ∷ map summary_at (blocks_of (after line f) fs)) first ∙ ap (λ l. case_summary f ∷ l) rest
 
 checked_so : (r : Results) (a : Answer) → WereRun r → IsChecked (histories_text r) a.out a.status → a.told ≡ [] → a ≡ found_legal r
 checked_so r a ran is told =
-    let two = said_of_written r a.out is.legal ran (is.checks (blocks_of 1 r.finished) (histories_of r ran)) in
+    let two = said_of_written r a.out is.legal ran (is.checks (blocks_of 1 r.finished) (evidence_of r ran)) in
     let status_is : a.status ≡ 0 = is.status_is ∙ ap (λ t. if t then 0 else 3) two.1 in
     let lines = flat_map legal_case r.finished in
     ap (λ x. answer_of x a.told a.status) two.0 ∙ ap (λ x. answer_of lines x a.status) told ∙ ap (λ x. answer_of lines [] x) status_is
@@ -157,7 +166,7 @@ reported_so form r a ran (IsReport.illegal b line first is) =
     absurd (none_illegal (blocks_of 1 r.finished) b line (are_right 1 r.finished ran.each) first)
 
 refused_so : (r : Results) (fault : RunFault) → WereRun r → RefusesHistory (histories_text r) fault → fault ≡ F.NoMemory
-refused_so r (F.Text fault) ran refused = absurd (refused.1 (blocks_of 1 r.finished) (histories_of r ran))
+refused_so r (F.Text fault) ran refused = absurd (refused.1 (blocks_of 1 r.finished) (evidence_of r ran))
 refused_so r F.NoMemory ran refused = refl
 refused_so r fault ran refused = absurd refused
 
@@ -165,6 +174,6 @@ refused_so r fault ran refused = absurd refused
 pub found_so : (r : Results) → WereRun r → AreFoundLegal r
 found_so r ran = record {
   checked_so = λ explains a is. checked_so r a ran is.0 is.1;
-  reported_so = λ form explains a is. reported_so form r a ran (is.made (blocks_of 1 r.finished) (histories_of r ran));
+  reported_so = λ form explains a is. reported_so form r a ran (is.made (blocks_of 1 r.finished) (evidence_of r ran));
   refused_so = λ fault refused. refused_so r fault ran refused;
 }

@@ -1,17 +1,20 @@
 -- Written histories are legal.
-use Rattle.std.proofs.Common.{ℕ, ◌≡◌, ◌≢◌, ◌∙◌, ◌+◌, ◌<◌, Bool, true, false, All, inr, List, [], ◌∷◌, ◌++◌, length, reverse, take, drop, get_or, refl, ap, sym, subst, arith}
+use Rattle.std.proofs.Common.{ℕ, ◌≡◌, ◌≢◌, ◌∙◌, ◌+◌, Bool, true, All, inr, List, [], ◌∷◌, ◌++◌, length, map, reverse, take, refl, ap, sym, subst}
 use Rattle.std.specs.List.{AllZip, flat_map}
-use Rattle.std.proofs.lemmas.List.{reverse-append, take_more, take-append-drop}
 use Rattle.std.proofs.lemmas.List.Elements.{All-nil, All-cons, All-head, All-tail}
 use Rattle.tc_entry.specs.declared.entry.Entry.{Entry}
-use Rattle.tc_entry.specs.declared.reply.Reply.{Reply}
 use Rattle.tc_table.specs.Legal.{IsLegal}
 use Rattle.tc_table.specs.Local.{overall}
-use Rattle.tc_table.specs.Check.{DiffersAt}
-use Rattle.tc_history.specs.declared.read.Block.{Block}
+use Rattle.tc_history.specs.declared.read.Block.{Block as History}
 use Rattle.tc_history.specs.Text.{AreBlocks, AreHistories, block_lines}
 use Rattle.tc_history.specs.Written.{text_of_blocks}
 use Rattle.tc_history.proofs.Lemmas.WrittenBlocks.{written_histories}
+use Rattle.tc_evidence.specs.declared.block.Block.{Block}
+use Rattle.tc_evidence.specs.declared.line.Line.TheVariants as L
+use Rattle.tc_evidence.specs.Line.{entries_of}
+use Rattle.tc_evidence.specs.Laws.{AreLegal, of_history, overall_of}
+use Rattle.tc_evidence.specs.Text.{AreEvidence}
+use Rattle.tc_evidence.proofs.Lemmas.Histories.{histories_are_read}
 use Rattle.tc_case.specs.Report.{IsOneHistory}
 use Rattle.tc_report.specs.declared.results.Finished.{Finished}
 use Rattle.tc_report.specs.declared.results.Results.{Results}
@@ -22,63 +25,66 @@ use Rattle.tc_program.specs.Check.{Checks, IsIllegalLine, legal_line}
 use Rattle.tc_program.specs.Report.{IsFirstIllegal}
 use Rattle.tc_program.specs.WrittenHistories.{legal_case, AreReported}
 use Rattle.tc_program.specs.Inside.{FitsItsTypes, WasRun, WereRun}
+use Rattle.tc_program.proofs.Playing.{no_difference}
 
--- the block of a finished test case
+-- the history of a finished test case
+abbrev pub history_at : ℕ → Finished → History
+history_at line f = record { format = 2; name = f.name; behaviours = f.report.behaviours; first_line = line; entries = f.report.history; verdict = f.report.verdict }
+
+-- the line after the history of a finished test case that begins in this line
+abbrev pub after : ℕ → Finished → ℕ
+after line f = line + length (block_lines (history_at line f))
+
+-- the histories of finished test cases, the first of which begins in this line
+abbrev histories_at : ℕ → List Finished → List History
+histories_at line [] = []
+histories_at line (f ∷ fs) = history_at line f ∷ histories_at (after line f) fs
+
+-- and their blocks
 abbrev pub block_of : ℕ → Finished → Block
-block_of line f = record { format = 2; name = f.name; behaviours = f.report.behaviours; first_line = line; entries = f.report.history; verdict = f.report.verdict }
+block_of line f = of_history (history_at line f)
 
--- the blocks of finished test cases, the first of which begins in this line
 abbrev pub blocks_of : ℕ → List Finished → List Block
-blocks_of line [] = []
-blocks_of line (f ∷ fs) = block_of line f ∷ blocks_of (line + length (block_lines (block_of line f))) fs
+blocks_of line fs = map of_history (histories_at line fs)
 
-pub blocks_text : (line : ℕ) (fs : List Finished) → text_of_blocks (blocks_of line fs) ≡ flat_map case_history fs
-blocks_text line [] = refl
-blocks_text line (f ∷ fs) = ap (λ l. case_history f ++ l) (blocks_text (line + length (block_lines (block_of line f))) fs)
+histories_are : (line : ℕ) (fs : List Finished) → text_of_blocks (histories_at line fs) ≡ flat_map case_history fs
+histories_are line [] = refl
+histories_are line (f ∷ fs) = ap (λ l. case_history f ++ l) (histories_are (after line f) fs)
 
-are_blocks : (line : ℕ) (fs : List Finished) → All WasRun fs → AreBlocks line (blocks_of line fs)
+are_blocks : (line : ℕ) (fs : List Finished) → All WasRun fs → AreBlocks line (histories_at line fs)
 are_blocks line [] all = tt
 are_blocks line (f ∷ fs) all =
     let this = All-head WasRun f fs all in
-    (record { header = this.header; entries = this.entries; first = refl }, are_blocks (line + length (block_lines (block_of line f))) fs (All-tail WasRun f fs all))
+    (record { header = this.header; entries = this.entries; first = refl }, are_blocks (after line f) fs (All-tail WasRun f fs all))
 
-some_blocks : (fs : List Finished) → fs ≢ [] → blocks_of 1 fs ≢ []
+some_blocks : (fs : List Finished) → fs ≢ [] → histories_at 1 fs ≢ []
 some_blocks [] some = absurd (some refl)
 some_blocks (f ∷ fs) some = λ e. cc
 
-pub histories_of : (r : Results) → WereRun r → AreHistories (histories_text r) (blocks_of 1 r.finished)
-histories_of r ran = rw blocks_text at (written_histories (blocks_of 1 r.finished) (some_blocks r.finished ran.some) (are_blocks 1 r.finished ran.each))
+pub evidence_of : (r : Results) → WereRun r → AreEvidence (histories_text r) (blocks_of 1 r.finished)
+evidence_of r ran =
+    let are = written_histories (histories_at 1 r.finished) (some_blocks r.finished ran.some) (are_blocks 1 r.finished ran.each) in
+    histories_are_read (histories_text r) (histories_at 1 r.finished) (subst (λ (text : List ℕ). AreHistories text (histories_at 1 r.finished)) (histories_are 1 r.finished) are)
 
 -- ---- a legal history is found legal, and nothing else
 
--- a history that is legal is legal up to each of its entries
-legal_before : (n : ℕ) (later past : List Entry) → IsLegal n (later ++ past) → IsLegal n past
-legal_before n [] past legal = legal
-legal_before n (e ∷ later) past legal = legal_before n later past legal.1
+-- the entries of a history are those of its block
+pub same_entries : (es : List Entry) → entries_of (map L.Entry es) ≡ es
+same_entries [] = refl
+same_entries (e ∷ es) = ap (λ l. e ∷ l) (same_entries es)
 
-up_to : (list : List Entry) (at : ℕ) (d : Entry) → at < length list → reverse list ≡ reverse (drop (at + 1) list) ++ get_or list at d ∷ reverse (take at list)
-up_to list at d within =
-    ap reverse (sym (take-append-drop (at + 1) list) ∙ ap (λ l. l ++ drop (at + 1) list) (take_more list at d within))
-    ∙ (reverse-append (take at list ++ get_or list at d ∷ []) (drop (at + 1) list) ∙ ap (λ l. reverse (drop (at + 1) list) ++ l) (reverse-append (take at list) (get_or list at d ∷ [])))
-
-pub no_difference : (n : ℕ) (list : List Entry) (at : ℕ) (reply : Reply) → IsLegal n (reverse list) → DiffersAt n list at reply → ⊥
-no_difference n [] at reply legal differs = let within = differs.within in absurd (omega (arith, within))
-no_difference n (e ∷ es) at reply legal differs =
-    let list = e ∷ es in
-    let whole : IsLegal n (reverse (drop (at + 1) list) ++ get_or list at e ∷ reverse (take at list)) = rw (sym (up_to list at e differs.within)) legal in
-    differs.other e ((legal_before n (reverse (drop (at + 1) list)) (get_or list at e ∷ reverse (take at list)) whole).0 ∙ sym (differs.answers e))
-
--- each reply is the table's, and the verdict is that of the history
+-- each reply is the table's, and the verdict is that of the block
 abbrev pub IsRight : Block → Type 0
-IsRight b = IsLegal b.behaviours (reverse b.entries) × (b.verdict ≡ overall (reverse b.entries))
+IsRight b = AreLegal b.header.behaviours b.lines × (b.verdict ≡ overall_of b.lines)
 
 no_other : (b : Block) (line : List ℕ) → IsRight b → IsIllegalLine b line → ⊥
-no_other b line right (IsIllegalLine.other_reply at given reply differs is said) = no_difference b.behaviours b.entries at reply right.0 differs
+no_other b line right (IsIllegalLine.other_reply before behind e reply place legal answers other said) =
+    no_difference b.header.behaviours b.lines before behind e reply right.0 place answers other
 no_other b line right (IsIllegalLine.other_verdict ok differs said) = differs right.1
 
 -- the line of a block that is found legal
 abbrev pub block_line : Block → List ℕ
-block_line b = legal_line b.name (length b.entries) b.verdict
+block_line b = legal_line b.header.name (length (entries_of b.lines)) b.verdict
 
 abbrev pub AreRight : List Block → Type 0
 AreRight [] = Unit {0}
@@ -99,15 +105,23 @@ right_at (c ∷ before) behind b all = right_at before behind b all.1
 pub none_illegal : (bs : List Block) (b : Block) (line : List ℕ) → AreRight bs → IsFirstIllegal bs b line → ⊥
 none_illegal bs b line all first = no_other b line (right_at first.before first.behind b (subst AreRight first.place all)) first.illegal
 
+-- the block of a test case that was run
+right_of : (line : ℕ) (f : Finished) → WasRun f → IsRight (block_of line f)
+right_of line f ran =
+    let same = sym (same_entries f.report.history) in (
+      subst (λ (es : List Entry). IsLegal f.report.behaviours (reverse es)) same ran.report.legal,
+      ran.report.verdict ∙ ap (λ (es : List Entry). overall (reverse es)) same,
+    )
+
 pub are_right : (line : ℕ) (fs : List Finished) → All WasRun fs → AreRight (blocks_of line fs)
 are_right line [] all = tt
-are_right line (f ∷ fs) all =
-    let this = All-head WasRun f fs all in
-    ((this.report.legal, this.report.verdict), are_right (line + length (block_lines (block_of line f))) fs (All-tail WasRun f fs all))
+are_right line (f ∷ fs) all = (right_of line f (All-head WasRun f fs all), are_right (after line f) fs (All-tail WasRun f fs all))
 
 same_lines : (line : ℕ) (fs : List Finished) → flat_map block_line (blocks_of line fs) ≡ flat_map legal_case fs
 same_lines line [] = refl
-same_lines line (f ∷ fs) = ap (λ l. legal_case f ++ l) (same_lines (line + length (block_lines (block_of line f))) fs)
+same_lines line (f ∷ fs) =
+    ap (λ (es : List Entry). legal_line f.name (length es) f.report.verdict ++ flat_map block_line (blocks_of (after line f) fs)) (same_entries f.report.history)
+    ∙ ap (λ l. legal_case f ++ l) (same_lines (after line f) fs)
 
 -- what is said of these blocks
 pub said_of_written : (r : Results) (out : List ℕ) (legal : Bool) → WereRun r → Checks (blocks_of 1 r.finished) out legal → (out ≡ flat_map legal_case r.finished) × (legal ≡ true)

@@ -1,5 +1,5 @@
 -- What the functions inside of the program say, which no public clause names.
-use Rattle.std.specs.Prelude.{ℕ, ◌≡◌, ◌≢◌, ◌+◌, All, Bool, true, false, Option, Some, None, Result, Ok, Err, MatchResult, List, [], ◌∷◌, ◌++◌, length, map, reverse, codes, if◌then◌else◌, slice_index_or}
+use Rattle.std.specs.Prelude.{ℕ, ◌≡◌, ◌≢◌, ◌+◌, All, Bool, true, false, Option, Some, None, Result, Ok, Err, MatchResult, List, [], ◌∷◌, ◌++◌, length, map, reverse, codes, if◌then◌else◌}
 use Rattle.std.specs.List.{AllZip, flat_map}
 use Rattle.tc_verdict.specs.declared.verdict.Verdict.{Verdict}
 use Rattle.tc_stream.specs.declared.input.InputFault.{InputFault}
@@ -18,10 +18,14 @@ use Rattle.tc_text.specs.declared.fault.TextFault.TheVariants as T
 use Rattle.tc_text.specs.MoveList.{Move}
 use Rattle.tc_step.specs.Steps.{ScriptView}
 use Rattle.tc_table.specs.Standing.{Kept, StandsFor}
-use Rattle.tc_table.specs.Legal.{IsLegal}
-use Rattle.tc_history.specs.declared.header.Header.{Header}
-use Rattle.tc_history.specs.declared.read.Block.{Block}
-use Rattle.tc_history.specs.Text.{AreEntries, IsHeader, header_of}
+use Rattle.tc_table.specs.Answers.{answer}
+use Rattle.tc_history.specs.Text.{AreEntries, IsHeader}
+use Rattle.tc_evidence.specs.declared.block.Block.{Block}
+use Rattle.tc_evidence.specs.declared.header.Header.{Header}
+use Rattle.tc_evidence.specs.declared.line.Line.{Line as BlockLine}
+use Rattle.tc_evidence.specs.declared.line.Line.TheVariants as L
+use Rattle.tc_evidence.specs.Line.{entries_of}
+use Rattle.tc_evidence.specs.Laws.{AreLegal, history_of, overall_of}
 use Rattle.tc_case.specs.Report.{IsOneHistory}
 use Rattle.tc_report.specs.declared.fault.OutFault.{OutFault}
 use Rattle.tc_report.specs.declared.results.Results.{Results}
@@ -49,8 +53,6 @@ use Rattle.tc_program.specs.declared.outcome.Outcome.{Outcome}
 use Rattle.tc_program.specs.declared.replay.Replaying.{Replaying}
 use Rattle.tc_program.specs.Check.{Checks, legal_line, other_line}
 use Rattle.tc_program.specs.declared.judge.Judgement.TheVariants as J
-use Rattle.tc_table.specs.Check.{DiffersAt}
-use Rattle.tc_table.specs.Local.{overall}
 use Rattle.tc_text.specs.Spelling.{reply_text}
 use Rattle.tc_verdict.specs.Verdict.{name_of}
 use Rattle.tc_entry.specs.declared.reply.Reply.{Reply}
@@ -145,63 +147,68 @@ pub record ArePlayed (n : ℕ) (moves : List Move) (r : Replaying) : Type 0 wher
   pub stands : StandsFor r.state (reverse history)
   pub lines : r.out.items ≡ flat_map reply_line history
 
--- of these entries below a first line, the one in this line is the first with another reply than the table's
-pub record IsOtherReply (n first_line : ℕ) (entries : List Entry) (line : ℕ) (given reply : Reply) : Type 0 where
-  pub at : ℕ
-  pub differs : DiffersAt n entries at reply
-  pub line_is : line ≡ first_line + at + 1
-  pub given_is : (d : Entry) → (slice_index_or entries at d).reply ≡ given
+-- of these lines below a first line, the one with this number is the first entry with another reply than the table's
+pub record IsOtherReply (n first_line : ℕ) (lines : List BlockLine) (line : ℕ) (given reply : Reply) : Type 0 where
+  pub before : List BlockLine
+  pub behind : List BlockLine
+  pub entry : Entry
+  pub place : lines ≡ before ++ L.Entry entry ∷ behind
+  pub legal : AreLegal n before
+  pub answers : reply ≡ answer n (reverse (entries_of before)) entry.caller.0 entry.op
+  pub other : entry.reply ≢ reply
+  pub given_is : given ≡ entry.reply
+  pub line_is : line ≡ first_line + length before + 1
 
--- what the table says of a history: each reply is the table's and the verdict is right, or the first other reply, or another verdict
+-- what the table says of a block: each reply is the table's and the verdict is right, or the first other reply, or another verdict
 abbrev pub IsJudgement : Block → Judgement → Type 0
 IsJudgement b (J.Legal name entries verdict) =
-    IsLegal b.behaviours (reverse b.entries) × (b.verdict ≡ overall (reverse b.entries)) × (name ≡ b.name) × (entries ≡ length b.entries) × (verdict ≡ b.verdict)
-IsJudgement b (J.OtherReply line given reply) = IsOtherReply b.behaviours b.first_line b.entries line given reply
+    AreLegal b.header.behaviours b.lines × (b.verdict ≡ overall_of b.lines) × (name ≡ b.header.name) × (entries ≡ length (entries_of b.lines)) × (verdict ≡ b.verdict)
+IsJudgement b (J.OtherReply line given reply) = IsOtherReply b.header.behaviours b.first_line b.lines line given reply
 IsJudgement b (J.OtherVerdict line given verdict) =
-    IsLegal b.behaviours (reverse b.entries) × (verdict ≡ overall (reverse b.entries)) × (b.verdict ≢ verdict) × (given ≡ b.verdict) × (line ≡ b.first_line + length b.entries + 1)
+    AreLegal b.header.behaviours b.lines × (verdict ≡ overall_of b.lines) × (b.verdict ≢ verdict) × (given ≡ b.verdict) × (line ≡ b.first_line + length b.lines + 1)
 
--- whether it is the judgement of a legal history
+-- whether it is the judgement of a legal block
 abbrev pub judges_legal : Judgement → Bool
 judges_legal (J.Legal name entries verdict) = true
 judges_legal judgement = false
 
--- what is printed for a history
+-- what is printed for a block
 abbrev pub judgement_line : Judgement → List ℕ
 judgement_line (J.Legal name entries verdict) = legal_line name entries verdict
 judgement_line (J.OtherReply line given reply) = other_line line (reply_text given) (reply_text reply)
 judgement_line (J.OtherVerdict line given verdict) = other_line line (name_of given) (name_of verdict)
 
--- this state represents the entries, each of whose replies is the table's, or this is their first difference
-abbrev pub IsPlayedTo : ℕ → ℕ → List Entry → Kept → Option Difference → Type 0
-IsPlayedTo n first_line entries k None = (k.behaviours ≡ n) × StandsFor k (reverse entries) × IsLegal n (reverse entries)
-IsPlayedTo n first_line entries k (Some d) = IsOtherReply n first_line entries d.line d.given d.reply
+-- this state represents the entries among the lines, of which there are that many, and each of whose replies is the table's; or this is their first difference
+abbrev pub IsPlayedTo : ℕ → ℕ → List BlockLine → Kept → ℕ → Option Difference → Type 0
+IsPlayedTo n first_line lines k entries None =
+    (k.behaviours ≡ n) × StandsFor k (reverse (entries_of lines)) × AreLegal n lines × (entries ≡ length (entries_of lines))
+IsPlayedTo n first_line lines k entries (Some d) = IsOtherReply n first_line lines d.line d.given d.reply
 
--- these entries of a history, which are below its first line, are played
-abbrev pub IsPlayed : ℕ → Header → List Entry → Playing → Type 0
-IsPlayed first_line h entries p = (p.header ≡ h) × IsPlayedTo h.behaviours first_line entries p.state p.difference
+-- these lines of a block, which are below its first line, are played
+abbrev pub IsPlayed : ℕ → Header → List BlockLine → Playing → Type 0
+IsPlayed first_line h lines p = (p.header ≡ h) × IsPlayedTo h.behaviours first_line lines p.state p.entries p.difference
 
 -- the same, and the entries are kept
-abbrev pub IsRecorded : ℕ → Header → List Entry → Recorded → Type 0
-IsRecorded first_line h entries r = IsPlayed first_line h entries r.playing × (r.entries.items ≡ entries)
+abbrev pub IsRecorded : ℕ → Header → List BlockLine → Recorded → Type 0
+IsRecorded first_line h lines r = IsPlayed first_line h lines r.playing × (r.entries.items ≡ entries_of lines)
 
--- the entry in this line was played after those of a history, if it is the next
-abbrev pub PlaysNext : ℕ → Entry → Playing → Playing → Type 0
-PlaysNext line e before after =
-    (first_line : ℕ) (h : Header) (entries : List Entry) → line ≡ first_line + length entries + 1
-    → IsPlayed first_line h entries before → IsPlayed first_line h (entries ++ e ∷ []) after
+-- the line with this number was played after those of a block, if it is the next
+abbrev pub PlaysNext : ℕ → BlockLine → Playing → Playing → Type 0
+PlaysNext line l before after =
+    (first_line : ℕ) (h : Header) (lines : List BlockLine) → line ≡ first_line + length lines + 1
+    → IsPlayed first_line h lines before → IsPlayed first_line h (lines ++ l ∷ []) after
 
--- of a block that was played, with these first and last lines and this verdict, it is what the table says
-abbrev pub JudgesPlayed : Playing → ℕ → ℕ → Verdict → Judgement → Type 0
-JudgesPlayed p first_line line given j =
-    (b : Block) → IsPlayed b.first_line (header_of b) b.entries p → first_line ≡ b.first_line
-    → line ≡ b.first_line + length b.entries + 1 → given ≡ b.verdict → IsJudgement b j
+-- of a block that was played, with this last line and this verdict, it is what the table says
+abbrev pub JudgesPlayed : Playing → ℕ → Verdict → Judgement → Type 0
+JudgesPlayed p line given j =
+    (b : Block) → IsPlayed b.first_line b.header b.lines p → line ≡ b.first_line + length b.lines + 1 → given ≡ b.verdict → IsJudgement b j
 
 -- what is printed for these blocks: while all are legal, what is printed for those after comes after it
 abbrev pub Feeds : List Block → List ℕ → Bool → Type 0
 Feeds blocks out true = (more : List Block) (tail : List ℕ) (legal : Bool) → Checks more tail legal → Checks (blocks ++ more) (out ++ tail) legal
 Feeds blocks out false = (more : List Block) → Checks (blocks ++ more) out false
 
--- the line on standard error for a history that is not legal: that of `check`
+-- the line on standard error for a block that is not legal: that of `check`
 abbrev pub illegal_line : Judgement → List ℕ
 illegal_line j = codes "ttrun: " ++ judgement_line j
 
@@ -218,7 +225,7 @@ pub record IsFirstJudged (blocks : List Block) (j : Judgement) : Type 0 where
 
 -- these are the test cases of the blocks, each of which is found legal; or this is the judgement of the first that is not
 abbrev pub Summarizes : List Block → List Summary → Option Judgement → Type 0
-Summarizes blocks ss None = ((lines : List ℕ) × Feeds blocks lines true) × (ss ≡ map block_summary blocks)
+Summarizes blocks ss None = ((lines : List ℕ) × Feeds blocks lines true) × (ss ≡ map (λ b. block_summary (history_of b)) blocks)
 Summarizes blocks ss (Some j) = IsFirstJudged blocks j
 
 -- the details of a test case with these scripts, if they are asked for

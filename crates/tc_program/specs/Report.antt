@@ -1,11 +1,11 @@
--- What `report` writes of histories.
-use Rattle.std.specs.Prelude.{ℕ, ◌≡◌, ◌==◌, ◌&&◌, ◌||◌, nat_le, Bool, true, List, [], ◌∷◌, ◌++◌, codes, map}
-use Rattle.std.specs.List.{list_all}
+-- What `report` writes of histories and evidence.
+use Rattle.std.specs.Prelude.{ℕ, ◌≡◌, true, List, [], ◌∷◌, ◌++◌, codes, map}
 use Rattle.tc_command.specs.declared.command.TheConstants.{VERSION}
 use Rattle.tc_command.specs.declared.task.ReportForm.{ReportForm}
 use Rattle.tc_command.specs.declared.task.ReportForm.TheVariants as Forms
-use Rattle.tc_history.specs.declared.read.Block.{Block}
-use Rattle.tc_history.specs.Text.{AreHistories}
+use Rattle.tc_evidence.specs.declared.block.Block.{Block}
+use Rattle.tc_evidence.specs.Laws.{history_of}
+use Rattle.tc_evidence.specs.Text.{AreEvidence}
 use Rattle.tc_page.specs.Page.{page_of}
 use Rattle.tc_report.specs.declared.summary.Summary.{Summary}
 use Rattle.tc_report.specs.Csv.{csv_of}
@@ -15,7 +15,7 @@ use Rattle.tc_report.specs.Summary.{block_summary}
 use Rattle.tc_program.specs.declared.reply.Answer.{Answer}
 use Rattle.tc_program.specs.Check.{Checks, IsIllegalLine}
 
--- the form of histories by their text and the summaries of their test cases
+-- the form of blocks by their text and the summaries of their test cases
 abbrev pub form_of : ReportForm → List ℕ → List Summary → List ℕ
 form_of Forms.Csv text ss = csv_of ss
 form_of Forms.Junit text ss = junit_of VERSION.now ss
@@ -25,11 +25,11 @@ form_of Forms.Html text ss = page_of text
 abbrev pub reported : ReportForm → List ℕ → List Summary → Answer
 reported form text ss = record { out = form_of form text ss; told = []; status = status_of_summaries ss }
 
--- what is answered if a history is not legal: nothing is written, its line of `check` is printed, and the status is 3
+-- what is answered if a block is not legal: nothing is written, its line of `check` is printed, and the status is 3
 abbrev pub unreported : List ℕ → Answer
 unreported line = record { out = []; told = codes "ttrun: " ++ line; status = 3 }
 
--- of these histories this is the first that is not legal, with its line
+-- of these blocks this is the first that is not legal, with its line
 pub record IsFirstIllegal (blocks : List Block) (b : Block) (line : List ℕ) : Type 0 where
   pub before : List Block
   pub behind : List Block
@@ -38,22 +38,14 @@ pub record IsFirstIllegal (blocks : List Block) (b : Block) (line : List ℕ) : 
   pub legal : Checks before lines true
   pub illegal : IsIllegalLine b line
 
--- what is answered for the histories of a text: `check` finds each legal, or this is the first that it does not
+-- what is answered for the blocks of a text: `check` finds each legal, or this is the first that it does not
 pub data IsReport (form : ReportForm) (text : List ℕ) (blocks : List Block) (a : Answer) : Type 0 where
   legal : (lines : List ℕ) → Checks blocks lines true
-      → a ≡ reported form text (map block_summary blocks) → IsReport form text blocks a
+      → a ≡ reported form text (map (λ b. block_summary (history_of b)) blocks) → IsReport form text blocks a
   illegal : (b : Block) (line : List ℕ) → IsFirstIllegal blocks b line → a ≡ unreported line → IsReport form text blocks a
 
--- the text is that of histories, and whatever histories it is of, this is answered for them
+-- the text is that of histories and evidence, and whatever blocks it is of, this is answered for them
 pub record IsReported (form : ReportForm) (text : List ℕ) (a : Answer) : Type 0 where
   pub blocks : List Block
-  pub histories : AreHistories text blocks
-  pub made : (all : List Block) → AreHistories text all → IsReport form text all a
-
--- a byte that an element of script data holds as it is, and that begins no tag: LF, or one from 32 to 126 but `<`, which is 60
-abbrev pub is_inert : ℕ → Bool
-is_inert b = (b == 10) || ((nat_le 32 b && nat_le b 59) || (nat_le 61 b && nat_le b 126))
-
--- a text of histories has only such bytes
-abbrev pub HistoriesAreInert : Type 0
-HistoriesAreInert = (text : List ℕ) (blocks : List Block) → AreHistories text blocks → list_all is_inert text ≡ true
+  pub evidence : AreEvidence text blocks
+  pub made : (all : List Block) → AreEvidence text all → IsReport form text all a

@@ -16,17 +16,17 @@ use crate::reply::Answer;
 use std::alloc::Global;
 use std::io::{Read, Write};
 use tc_entry::Sequence;
-use tc_history::{Header, TakesHistories, read_history_into};
-use tc_table::{Entry, NoMemory, Verdict};
+use tc_evidence::{Header, Line, TakesEvidence, read_evidence_into};
+use tc_table::{NoMemory, Verdict};
 
-/// What is printed for histories, up to the first that is not legal.
+/// What is printed for blocks, up to the first that is not legal.
 #[derive(Drop)]
 pub(crate) struct Checking {
     out: Vec<u8>,
     legal: bool,
 }
 
-impl TakesHistories for Checking {
+impl TakesEvidence for Checking {
     type Begun = Playing;
 
     ghost opens = { IsPlayed };
@@ -40,23 +40,17 @@ impl TakesHistories for Checking {
         }
     }
 
-    fn start(alloc: Global, header: Header) -> Result<Playing, NoMemory> {
+    fn start(alloc: Global, _first_line: usize, header: Header) -> Result<Playing, NoMemory> {
         Playing::new(alloc, header)
     }
 
-    fn take(begun: &mut Playing, line: usize, entry: Entry) -> Result<(), NoMemory> {
-        begun.play(line, &entry)
+    fn take(begun: &mut Playing, line: usize, taken: Line) -> Result<(), NoMemory> {
+        begun.take(line, &taken)
     }
 
-    fn close(
-        &mut self,
-        begun: Playing,
-        first_line: usize,
-        line: usize,
-        verdict: Verdict,
-    ) -> Result<(), NoMemory> {
+    fn close(&mut self, begun: Playing, line: usize, verdict: Verdict) -> Result<(), NoMemory> {
         if self.legal {
-            let judgement = begun.judge(first_line, line, verdict);
+            let judgement = begun.judge(line, verdict);
             append_judgement(&mut self.out, &judgement)?;
             self.legal = is_legal(&judgement);
         }
@@ -64,26 +58,26 @@ impl TakesHistories for Checking {
     }
 }
 
-// The status if all histories are legal, and if one is not.
+// The status if all blocks are legal, and if one is not.
 fn status_of(legal: bool) -> u8
     ensures { result ≡ (if legal then 0 else 3) }
 {
     if legal { 0 } else { REFUSED }
 }
 
-// What is printed for the histories that the text spells, up to the first that is not legal, and the status; otherwise
-// the text's first fault, or NoMemory. The text is read to its end also after a history that is not legal.
+// What is printed for the blocks that the text spells, up to the first that is not legal, and the status; otherwise the
+// text's first fault, or NoMemory. The text is read to its end also after a block that is not legal.
 fn check_lines(alloc: Global, text: &[u8]) -> Result<(Vec<u8>, u8), RunFault>
     ensures done { IfOk result (λ r. IsChecked text.now r.0.items r.1) }
     ensures refused { IfErr result (RefusesHistory text.now) }
 {
-    let checking: Checking = read_history_into(alloc, text)?;
+    let checking: Checking = read_evidence_into(alloc, text)?;
     let status = status_of(checking.legal);
     Ok((checking.out, status))
 }
 
-/// What `check` makes of a text of histories: which are legal, up to the first that is not, and the status 0 if all
-/// are, otherwise 3.
+/// What `check` makes of a text of histories and evidence: which blocks are legal, up to the first that is not, and the
+/// status 0 if all are, otherwise 3.
 pub(crate) fn check_text(alloc: Global, text: &[u8]) -> Result<Answer, RunFault>
     ensures done { IfOk result (λ a. IsChecked text.now a.out a.status × (a.told ≡ [])) }
     ensures refused { IfErr result (RefusesHistory text.now) }
@@ -96,7 +90,7 @@ pub(crate) fn check_text(alloc: Global, text: &[u8]) -> Result<Answer, RunFault>
     })
 }
 
-/// Checks histories: replays each on a table of its own, writes which are legal, and returns the status: 0 if all are,
+/// Checks histories and evidence: replays each block on a table of its own, writes which are legal, and returns the status: 0 if all are,
 /// otherwise 3.
 ///
 /// The whole text is read, and the output made, before anything is written.

@@ -12,7 +12,7 @@ use tc_table::{NoMemory, Reply, Verdict};
 use tc_text::{append_number, append_text, write_reply};
 use tc_verdict::name as name_of_verdict;
 
-// Appends the line of a legal history; if memory runs out, a part of it.
+// Appends the line of a legal block; if memory runs out, a part of it.
 fn append_legal(
     out: &mut Vec<u8>,
     name: &Name,
@@ -73,7 +73,7 @@ fn append_other_verdict(
     Ok(())
 }
 
-/// Appends what is printed for a history; if memory runs out, a part of it.
+/// Appends what is printed for a block; if memory runs out, a part of it.
 pub(crate) fn append_judgement(out: &mut Vec<u8>, judgement: &Judgement) -> Result<(), NoMemory>
     ensures { OnOk result (out.new.items ≡ out.old.items ++ judgement_line judgement.now) }
 {

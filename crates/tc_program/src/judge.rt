@@ -1,20 +1,21 @@
-//! What the table says of a history.
-ghost use Rattle.std.specs.Prelude.{◌≡◌, ◌<◌, [], ℕ, IfOk, OnOk, reverse};
-ghost use Rattle.tc_history.specs.Text.{IsHeader};
+//! What the table says of a block.
+ghost use Rattle.std.specs.Prelude.{◌≡◌, [], ℕ, IfOk, OnOk, reverse};
+ghost use Rattle.tc_evidence.specs.Text.{IsHeader};
+ghost use Rattle.tc_evidence.specs.declared.line.Line.TheVariants as lines;
 ghost use Rattle.tc_table.specs.Standing.{StandsFor};
 ghost use Rattle.tc_report.specs.Summary.{summary_of};
 ghost use Rattle.tc_program.specs.Inside.{IsPlayed, JudgesPlayed, PlaysNext, judges_legal};
 
 use std::alloc::Global;
 use tc_entry::Name;
-use tc_history::Header;
+use tc_evidence::{Header, Line};
 use tc_report::{Summary, summary_of_state};
 use tc_table::{CaseState, Entry, NoMemory, Reply, Verdict};
 
-/// What the table says of a history, with all that is printed of it.
+/// What the table says of a block, with all that is printed of it.
 #[derive(Debug, Drop)]
 pub(crate) enum Judgement {
-    /// Each reply is the table's, and the verdict is that of the history.
+    /// Each reply is the table's, and the verdict is that of the block.
     Legal {
         name: Name,
         entries: usize,
@@ -26,7 +27,7 @@ pub(crate) enum Judgement {
         given: Reply,
         reply: Reply,
     },
-    /// Each reply is the table's, and this line, the last of the history, gives another verdict.
+    /// Each reply is the table's, and this line, the last of the block, gives another verdict.
     OtherVerdict {
         line: usize,
         given: Verdict,
@@ -34,7 +35,7 @@ pub(crate) enum Judgement {
     },
 }
 
-/// Whether it is the judgement of a legal history.
+/// Whether it is the judgement of a legal block.
 pub(crate) fn is_legal(judgement: &Judgement) -> bool
     ensures { result ≡ judges_legal judgement.now }
 {
@@ -44,7 +45,7 @@ pub(crate) fn is_legal(judgement: &Judgement) -> bool
     }
 }
 
-/// The first entry of a history with another reply than the table's.
+/// The first entry of a block with another reply than the table's.
 #[derive(Debug, Drop)]
 pub(crate) struct Difference {
     /// The number of its line in the text.
@@ -53,16 +54,18 @@ pub(crate) struct Difference {
     reply: Reply,
 }
 
-/// A history that is played as it is read, up to its first difference.
+/// A block that is played as it is read, up to its first difference.
 #[derive(Drop)]
 pub(crate) struct Playing {
     header: Header,
     state: CaseState,
+    /// How many entries were played.
+    entries: usize,
     difference: Option<Difference>,
 }
 
 impl Playing {
-    /// A history with this first line, with no entry yet.
+    /// A block with this first line, with no line below it yet.
     pub(crate) fn new(alloc: Global, header: Header) -> Result<Playing, NoMemory>
         requires { IsHeader header }
         ensures { IfOk result (λ p. (first_line : ℕ) → IsPlayed first_line header [] p) }
@@ -71,14 +74,15 @@ impl Playing {
         Ok(Playing {
             header,
             state,
+            entries: 0,
             difference: None,
         })
     }
 
-    /// Plays the entry of this line, unless the table gave another reply to one before it.
+    // Plays the entry in this line, unless the table gave another reply to one before it.
     #[inline(never)]
-    pub(crate) fn play(&mut self, line: usize, entry: &Entry) -> Result<(), NoMemory>
-        ensures { OnOk result (PlaysNext line entry.now self.old self.new) }
+    fn play(&mut self, line: usize, entry: &Entry) -> Result<(), NoMemory>
+        ensures { OnOk result (PlaysNext line (lines.Entry entry.now) self.old self.new) }
     {
         if self.difference.is_some() {
             return Ok(());
@@ -86,25 +90,38 @@ impl Playing {
         if let Some(reply) = self.state.play_entry(entry)? {
             let given = entry.reply;
             self.difference = Some(Difference { line, given, reply });
+        } else {
+            // There are fewer entries than lines.
+            self.entries = self.entries.saturating_add(1);
         }
         Ok(())
     }
 
-    /// What the forms say of the history with these entries, if each of its replies was the table's.
+    /// Takes the line with this number: plays it if it is an entry.
+    pub(crate) fn take(&mut self, line: usize, taken: &Line) -> Result<(), NoMemory>
+        ensures { OnOk result (PlaysNext line taken.now self.old self.new) }
+    {
+        match taken {
+            Line::Entry(entry) => self.play(line, entry),
+            Line::Named { .. } | Line::Remark { .. } | Line::Refused { .. } => Ok(()),
+        }
+    }
+
+    /// What the forms say of the block with these entries, if each of its replies was the table's.
     pub(crate) fn summary(&self, alloc: Global, entries: &[Entry]) -> Result<Summary, NoMemory>
         ensures { StandsFor self.now.state (reverse entries.now) → IfOk result (λ s. s ≡ summary_of self.now.header.name entries.now) }
     {
         summary_of_state(alloc, &self.header.name, &self.state, entries)
     }
 
-    /// What the table says of the history whose first and last lines have these numbers, and which gives this verdict.
-    pub(crate) fn judge(self, first_line: usize, line: usize, given: Verdict) -> Judgement
-        requires { first_line < line }
-        ensures { JudgesPlayed self first_line line given result }
+    /// What the table says of the block whose last line has this number, and which gives this verdict.
+    pub(crate) fn judge(self, line: usize, given: Verdict) -> Judgement
+        ensures { JudgesPlayed self line given result }
     {
         let Playing {
             header,
             state,
+            entries,
             difference,
         } = self;
         if let Some(Difference { line, given, reply }) = difference {
@@ -114,7 +131,7 @@ impl Playing {
         if verdict == given {
             Judgement::Legal {
                 name: header.name,
-                entries: line - first_line - 1,
+                entries,
                 verdict,
             }
         } else {

@@ -2,7 +2,6 @@
 ghost use Rattle.std.specs.Prelude.{All, List};
 ghost use Rattle.tc_campaign.specs.Outline.{Outline};
 ghost use Rattle.tc_program.specs.Inside.{FitsItsTypes, WereRun};
-ghost use Rattle.tc_program.specs.Report.{HistoriesAreInert};
 ghost use Rattle.tc_program.specs.WrittenHistories.{AreFoundLegal, AreReported};
 
 use tc_campaign::{Finished, Results};
@@ -39,9 +38,3 @@ pub fn written_is_legal(results: &Results)
 {
     were_run(results);
 }
-
-/// No byte of histories ends the element of a page that holds them, or is read there as another.
-#[tactic(auto, using(crate::proofs::Inert::histories_inert))]
-pub fn histories_are_inert()
-    ensures { HistoriesAreInert }
-{}

@@ -1,7 +1,8 @@
 //! The subcommand `report`.
-ghost use Rattle.std.specs.Prelude.{◌≡◌, List, IfOk, IfErr, OnOk};
-ghost use Rattle.tc_history.specs.Text.{AreHistories, IsMadeOf};
-ghost use Rattle.tc_history.specs.declared.read.Block.{Block as AnyBlock};
+ghost use Rattle.std.specs.Prelude.{◌≡◌, ◌++◌, List, IfOk, IfErr, OnOk};
+ghost use Rattle.tc_evidence.specs.Line.{entry_of};
+ghost use Rattle.tc_evidence.specs.Text.{AreEvidence};
+ghost use Rattle.tc_evidence.specs.declared.block.Block.{Block as AnyBlock};
 ghost use Rattle.tc_program.specs.Check.{RefusesHistory};
 ghost use Rattle.tc_program.specs.Inside.{IsRecorded, Summarizes, illegal_line};
 ghost use Rattle.tc_program.specs.Report.{IsReported, form_of};
@@ -14,20 +15,20 @@ use crate::reply::Answer;
 use std::alloc::Global;
 use tc_command::{ReportForm, VERSION};
 use tc_entry::Sequence;
-use tc_history::{Header, TakesHistories, read_history_into};
+use tc_evidence::{Header, Line, TakesEvidence, read_evidence_into};
 use tc_page::html_page;
 use tc_report::{Summary, csv_report, junit_report, worst_status};
 use tc_table::{Entry, NoMemory, Verdict};
 use tc_text::append_text;
 
-/// A history that is played as it is read, with its entries.
+/// A block that is played as it is read, with its entries.
 #[derive(Drop)]
 pub(crate) struct Recorded {
     playing: Playing,
     entries: Vec<Entry>,
 }
 
-/// The test cases of histories, and the judgement of the first history that is not legal, if there is one.
+/// The test cases of blocks, and the judgement of the first block that is not legal, if there is one.
 #[derive(Drop)]
 pub(crate) struct Reporting {
     alloc: Global,
@@ -44,7 +45,17 @@ fn played_of(recorded: Recorded) -> Playing
     playing
 }
 
-impl TakesHistories for Reporting {
+// Keeps the line, if it is an entry.
+fn keep(entries: &mut Vec<Entry>, line: &Line) -> Result<(), NoMemory>
+    ensures { OnOk result (entries.new.items ≡ entries.old.items ++ entry_of line.now) }
+{
+    if let Line::Entry(entry) = line {
+        entries.push(entry.copy())?;
+    }
+    Ok(())
+}
+
+impl TakesEvidence for Reporting {
     type Begun = Recorded;
 
     ghost opens = { IsRecorded };
@@ -59,31 +70,25 @@ impl TakesHistories for Reporting {
         }
     }
 
-    fn start(alloc: Global, header: Header) -> Result<Recorded, NoMemory> {
+    fn start(alloc: Global, _first_line: usize, header: Header) -> Result<Recorded, NoMemory> {
         Ok(Recorded {
             playing: Playing::new(alloc, header)?,
             entries: Vec::new(alloc),
         })
     }
 
-    fn take(begun: &mut Recorded, line: usize, entry: Entry) -> Result<(), NoMemory> {
-        begun.playing.play(line, &entry)?;
-        begun.entries.push(entry)?;
+    fn take(begun: &mut Recorded, line: usize, taken: Line) -> Result<(), NoMemory> {
+        begun.playing.take(line, &taken)?;
+        keep(&mut begun.entries, &taken)?;
         Ok(())
     }
 
-    fn close(
-        &mut self,
-        begun: Recorded,
-        first_line: usize,
-        line: usize,
-        verdict: Verdict,
-    ) -> Result<(), NoMemory> {
+    fn close(&mut self, begun: Recorded, line: usize, verdict: Verdict) -> Result<(), NoMemory> {
         if self.illegal.is_some() {
             return Ok(());
         }
         let summary = begun.playing.summary(self.alloc, begun.entries.as_slice())?;
-        let judgement = played_of(begun).judge(first_line, line, verdict);
+        let judgement = played_of(begun).judge(line, verdict);
         if is_legal(&judgement) {
             self.summaries.push(summary)?;
         } else {
@@ -93,18 +98,18 @@ impl TakesHistories for Reporting {
     }
 }
 
-// The test cases of the histories that the text spells, and the first history that is not legal; otherwise the text's
-// first fault, or NoMemory.
+// The test cases of the blocks that the text spells, and the first block that is not legal; otherwise the text's first
+// fault, or NoMemory.
 fn read_reported(alloc: Global, text: &[u8]) -> Result<Reporting, RunFault>
-    ensures done { IfOk result (IsMadeOf (λ blocks (r : Reporting). Summarizes blocks r.summaries.items r.illegal) text.now) }
+    ensures done { OnOk result ((blocks : List AnyBlock) × AreEvidence text.now blocks) }
     ensures refused { IfErr result (RefusesHistory text.now) }
-    ensures only { OnOk result ((blocks : List AnyBlock) → AreHistories text.now blocks → IfOk result (λ r. Summarizes blocks r.summaries.items r.illegal)) }
+    ensures only { OnOk result ((blocks : List AnyBlock) → AreEvidence text.now blocks → IfOk result (λ r. Summarizes blocks r.summaries.items r.illegal)) }
 {
-    let reporting: Reporting = read_history_into(alloc, text)?;
+    let reporting: Reporting = read_evidence_into(alloc, text)?;
     Ok(reporting)
 }
 
-// The form of the histories that the text spells, whose test cases these are.
+// The form of the blocks that the text spells, whose test cases these are.
 fn form_text(
     alloc: Global,
     form: ReportForm,
@@ -120,7 +125,7 @@ fn form_text(
     }
 }
 
-// The line of `check` for a history that is not legal.
+// The line of `check` for a block that is not legal.
 fn illegal_text(alloc: Global, judgement: &Judgement) -> Result<Vec<u8>, NoMemory>
     ensures { IfOk result (λ v. v.items ≡ illegal_line judgement.now) }
 {
@@ -130,8 +135,8 @@ fn illegal_text(alloc: Global, judgement: &Judgement) -> Result<Vec<u8>, NoMemor
     Ok(line)
 }
 
-/// What `report` makes of a text of histories. Each is replayed on a table of its own. If all are legal, their form is
-/// written; otherwise the line of `check` for the first that is not is printed.
+/// What `report` makes of a text of histories and evidence. Each block is replayed on a table of its own. If all are
+/// legal, their form is written; otherwise the line of `check` for the first that is not is printed.
 pub(crate) fn report_text(alloc: Global, form: ReportForm, text: &[u8]) -> Result<Answer, RunFault>
     ensures done { IfOk result (IsReported form text.now) }
     ensures refused { IfErr result (RefusesHistory text.now) }

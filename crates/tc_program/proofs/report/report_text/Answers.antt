@@ -15,8 +15,8 @@ returns-in-None-clause-done c =
     let same : c.as_slice.result.now ≡ c.in_ok-summaries.field-0.summaries.items = cc in
     let both : c.as_slice-in-None.result.now ≡ c.as_slice.result.now = cc in
     record {
-      blocks = so.blocks;
-      histories = so.histories;
+      blocks = so.0;
+      evidence = so.1;
       made = λ all are. legal_report c.args.form c.args.text.now all c.in_ok-summaries.field-0.summaries.items c.as_slice.result.now c.in_ok-summaries.field-0.illegal _
           none same (c.in_ok-summaries.ensures.only all are) (c.new.ensures ∙ c.in_ok-form_text-in-None.ensures) (c.new-in-None-2.ensures ∙ c.new-in-None.ensures.items)
           (c.worst_status.ensures ∙ ap status_of_summaries both);
@@ -29,8 +29,8 @@ returns-clause-done c =
     let is = c.in-Some.is in
     let some : c.in_ok-summaries.field-0.illegal ≡ Some c.in-Some.judgement = cc in
     record {
-      blocks = so.blocks;
-      histories = so.histories;
+      blocks = so.0;
+      evidence = so.1;
       made = λ all are. illegal_report c.args.form c.args.text.now all c.in_ok-summaries.field-0.summaries.items c.in_ok-summaries.field-0.illegal c.in-Some.judgement _
           some (c.in_ok-summaries.ensures.only all are) (c.new-in-Some-2.ensures ∙ c.new-in-Some.ensures.items) (c.new-in-Some-3.ensures ∙ c.in_ok-illegal_text-in-Some.ensures) refl;
     }

@@ -1,0 +1,209 @@
+"""Evidence through `check` and `report`: worked texts, each fault, long texts, and random and spoilt ones next to the tests' reader."""
+from __future__ import annotations
+
+import os
+import random
+import re
+import sys
+from collections import Counter
+from concurrent.futures import ThreadPoolExecutor
+from typing import Dict, List, Tuple, Union
+
+import examples
+import reports
+from case import Case, difference, faults_of, run
+from judged import Judgement
+from rows import text
+from texts import MOST_BYTES_OF_A_HISTORY, check
+
+# The tests of the page have random evidence, and those of a service the history of a block.
+sys.path += [os.path.join(examples.TOP, "tests", it) for it in ("page", "serve")]
+
+import evidence
+import said
+
+CASE = ("evidence 1 t 3;behaviour 0 main;0 create named heater -> made 1;behaviour 1 probe;0 # first <b>;0 start 1 1 -> ok;"
+        "1 ! bad move;1 setverdict fail -> ok;1 # too hot: 85 > 80, and 80 <= limit;2 # never started;1 finish -> ok")
+# A test case that is over, in which run 1 gives the verdict, and the same without what says nothing to the table.
+WHOLE = f"{CASE};0 finish -> ok;end fail"
+PLAIN = ("history 2 t 3;0 create named heater -> made 1;0 start 1 1 -> ok;1 setverdict fail -> ok;1 finish -> ok;0 finish -> ok;"
+         "end fail")
+
+# Name, text, output, status.
+CHECKED: List[Tuple[str, str, str, int]] = [
+    ("evidence_without_lines", "evidence 1 t 1;end none", "legal t 0 none", 0),
+    ("evidence_of_each_kind_of_line", WHOLE, "legal t 5 fail", 0),
+    ("evidence_without_what_is_said", PLAIN, "legal t 5 fail", 0),
+    ("remarks_are_no_entries", "evidence 1 t 1;0 # 0 setverdict pass -> ok;0 ! 0 setverdict fail -> ok;0 # end fail;end none", "legal t 0 none", 0),
+    ("evidence_of_256_behaviours", "evidence 1 t 256;behaviour 255 last;255 # x;255 ! y;end none", "legal t 0 none", 0),
+    ("a_sentence_of_200_bytes", f"evidence 1 t 1;0 # {'x' * 200};0 ! {'<' * 200};end none", "legal t 0 none", 0),
+    ("a_sentence_of_one_space", "evidence 1 t 1;0 #  ;0 !  ;end none", "legal t 0 none", 0),
+    ("sentences_behind_the_end_of_the_case", f"{CASE};0 finish -> ok;0 # late;1 finish -> ended;1 ! later;end fail", "legal t 6 fail", 0),
+    ("evidence_before_and_behind_histories",
+     f"history 1 a 1;end none;{WHOLE};history 2 b 1;0 create named p -> made 1;end none;evidence 1 c 1;0 # x;end none",
+     "legal a 0 none;legal t 5 fail;legal b 1 none;legal c 0 none", 0),
+    ("another_reply_behind_remarks", CASE.replace("1 setverdict fail -> ok", "1 setverdict fail -> ended") + ";end fail",
+     "line 8: ended, table gives ok", 3),
+    ("the_first_of_two_replies_in_evidence", "evidence 1 t 1;0 # x;0 getverdict -> pass;0 # y;0 getverdict -> fail;0 ! z;end pass",
+     "line 3: pass, table gives none", 3),
+    ("another_verdict_behind_remarks", f"{CASE};end pass", "line 12: pass, table gives fail", 3),
+    ("a_verdict_of_a_remark", "evidence 1 t 1;0 # setverdict fail;0 # 0 setverdict fail -> ok;end fail", "line 4: fail, table gives none", 3),
+    ("an_illegal_history_behind_evidence", f"{WHOLE};history 1 b 1;0 finish -> ended;end none", "legal t 5 fail;line 15: ended, table gives ok", 3),
+    ("illegal_evidence_behind_a_history", "history 1 b 1;end none;evidence 1 a 1;0 # x;0 finish -> ended;end none;evidence 1 c 1;end none",
+     "legal b 0 none;line 5: ended, table gives ok", 3),
+    ("a_run_named_behind_another_one_s_start", "evidence 1 t 3;0 create -> made 1;0 start 1 1 -> ok;behaviour 2 x;end none", "legal t 2 none", 0),
+]
+
+# Name, text, line, fault.
+REFUSED: List[Tuple[str, bytes, int, str]] = [
+    ("evidence_of_format_2", text("evidence 2 t 1;end none"), 1, "bad first line"),
+    ("evidence_of_no_format", text("evidence t 1;end none"), 1, "bad first line"),
+    ("evidence_of_no_behaviours", text("evidence 1 t 0;end none"), 1, "bad first line"),
+    ("evidence_of_257_behaviours", text("evidence 1 t 257;end none"), 1, "bad first line"),
+    ("evidence_of_a_word_that_is_no_name", text("evidence 1 any 1;end none"), 1, "bad first line"),
+    ("evidence_with_a_space_behind_its_number", text("evidence 1 t 1 ;end none"), 1, "bad first line"),
+    ("a_header_inside_of_evidence", text("evidence 1 t 1;evidence 1 t 1;end none"), 2, "bad entry"),
+    ("a_bad_header_behind_evidence", text(f"{WHOLE};evidence 3 t 1"), 14, "bad first line"),
+    ("an_empty_line_behind_evidence", text(f"{WHOLE};"), 14, "bad first line"),
+    ("a_remark_behind_evidence", text(f"{WHOLE};0 # x"), 14, "bad first line"),
+    ("an_empty_line_in_evidence", text("evidence 1 t 1;0 # x;;end none"), 3, "bad entry"),
+    ("a_long_line_in_evidence", text(f"evidence 1 t 1;0 # x;0 # {'x' * 100_000};end none"), 3, "bad entry"),
+    ("an_empty_sentence", text("evidence 1 t 1;0 # ;end none"), 2, "bad entry"),
+    ("no_sentence", text("evidence 1 t 1;0 #;end none"), 2, "bad entry"),
+    ("a_sentence_of_201_bytes", text(f"evidence 1 t 1;0 # {'x' * 201};end none"), 2, "bad entry"),
+    ("a_refused_line_of_201_bytes", text(f"evidence 1 t 1;0 ! {'x' * 201};end none"), 2, "bad entry"),
+    ("a_byte_31_in_a_sentence", b"evidence 1 t 1\n0 # \x1f\nend none\n", 2, "bad entry"),
+    ("a_byte_127_in_a_sentence", b"evidence 1 t 1\n0 # \x7f\nend none\n", 2, "bad entry"),
+    ("the_character_that_stands_for_another", "evidence 1 t 1\n0 # \u2039\nend none\n".encode(), 2, "bad entry"),
+    ("a_remark_of_no_run_of_the_case", text("evidence 1 t 2;1 # x;2 # x;end none"), 3, "bad entry"),
+    ("a_refused_line_of_no_run_of_the_case", text("evidence 1 t 2;1 ! x;2 ! x;end none"), 3, "bad entry"),
+    ("a_name_for_no_run_of_the_case", text("evidence 1 t 2;behaviour 1 x;behaviour 2 y;end none"), 3, "bad entry"),
+    ("a_remark_with_another_mark", text("evidence 1 t 1;0 ? x;end none"), 2, "bad entry"),
+    ("a_remark_of_run_00", text("evidence 1 t 1;00 # x;end none"), 2, "bad entry"),
+    ("a_run_named_twice", text("evidence 1 t 2;behaviour 0 x;behaviour 1 x;behaviour 0 x;end none"), 4, "bad entry"),
+    ("a_run_named_behind_its_remark", text("evidence 1 t 1;0 # x;behaviour 0 x;end none"), 3, "bad entry"),
+    ("a_run_named_behind_its_refused_line", text("evidence 1 t 1;0 ! x;behaviour 0 x;end none"), 3, "bad entry"),
+    ("a_run_named_behind_its_entry", text("evidence 1 t 1;0 getverdict -> none;behaviour 0 x;end none"), 3, "bad entry"),
+    ("a_run_named_behind_its_start", text("evidence 1 t 2;0 create -> made 1;0 start 1 1 -> ok;behaviour 1 x;end none"), 4, "bad entry"),
+    ("a_run_named_behind_a_start_that_failed", text("evidence 1 t 2;0 start 0 1 -> error start-main;behaviour 1 x;end error"), 3, "bad entry"),
+    ("a_behaviour_of_a_word_that_is_no_name", text("evidence 1 t 1;behaviour 0 all;end none"), 2, "bad entry"),
+    ("a_behaviour_without_a_name", text("evidence 1 t 1;behaviour 0;end none"), 2, "bad entry"),
+    ("a_remark_in_a_history", text("history 2 t 1;0 # x;end none"), 2, "bad entry"),
+    ("a_refused_line_in_a_history", text("history 1 t 1;0 ! x;end none"), 2, "bad entry"),
+    ("a_behaviour_in_a_history", text(f"{WHOLE};history 2 t 1;behaviour 0 x;end none"), 15, "bad entry"),
+    ("a_named_create_in_a_history_behind_evidence", text(f"{WHOLE};history 1 t 1;0 create named p -> made 1;end none"), 15, "bad entry"),
+    ("an_end_with_another_word_in_evidence", text("evidence 1 t 1;end x"), 2, "bad entry"),
+    ("a_header_of_evidence_alone", text("evidence 1 t 1"), 2, "text ends too early"),
+    ("evidence_cut_behind_a_remark", text("evidence 1 t 1;0 # x"), 3, "text ends too early"),
+    ("evidence_cut_behind_a_history", text("history 1 t 1;end none;evidence 1 t 1;0 ! x"), 5, "text ends too early"),
+    ("a_fault_behind_illegal_evidence", text("evidence 1 t 1;0 # x;0 finish -> ended;end none;end none"), 5, "bad first line"),
+]
+
+
+def long_texts() -> List[Case]:
+    """A text as long as may be, and one byte more, each of evidence."""
+    head, tail, line = b"evidence 1 t 1\n", b"end none\n", b"0 # " + b"x" * 200 + b"\n"
+    count, rest = divmod(MOST_BYTES_OF_A_HISTORY - len(head) - len(tail), len(line))
+    filled = head + line * count + (b"0 # " + b"x" * (rest - 5) + b"\n" if rest > 5 else b"") + tail
+    assert MOST_BYTES_OF_A_HISTORY - 5 <= len(filled) <= MOST_BYTES_OF_A_HISTORY, len(filled)
+    more = filled + b"\n" * (MOST_BYTES_OF_A_HISTORY + 1 - len(filled))
+    return [Case("the_longest_evidence", ("check",), filled, b"legal t 0 none\n"),
+            Case("evidence_that_is_too_long", ("check",), more, errors=b"ttrun: input too long\n", status=3)]
+
+
+def held_page(program: str) -> List[str]:
+    """No byte of a page of evidence but those of its two parts is `<`; turning U+2039 back gives the text."""
+    given = text(f"{WHOLE};evidence 1 u 1;0 # </script><script>alert(1)</script><!--;0 ! {'<' * 200};end none")
+    page = run(Case("", ("report", "--html"), given), program).output
+    head, tail = reports.pages.part_of("head"), reports.pages.part_of("tail")
+    inside = page[len(head):len(page) - len(tail)]
+    faults = [] if page == head + inside + tail and b"<" not in inside else ["the page has a tag in its text"]
+    return faults + difference("the text", given, inside.replace("\u2039".encode(), b"<"))
+
+
+def reported(name: str, given: bytes) -> List[Judgement]:
+    """Each form of a legal text."""
+    return [Judgement(f"report_of_{name}_{form}", f"ttrun report --{form}", lambda program, form=form: reports.faults_of_report(program, form, given))
+            for form in reports.FORMS]
+
+
+def refused_by_report(name: str, given: bytes, line: bytes) -> Case:
+    """What `check` refuses or finds illegal: `report` prints its line on standard error, and writes nothing."""
+    return Case(f"report_of_{name}", ("report", "--csv"), given, errors=b"ttrun: " + line + b"\n", status=3)
+
+
+def cases() -> List[Union[Case, Judgement]]:
+    """All of them, but the random ones."""
+    found: List[Union[Case, Judgement]] = []
+    for name, given, output, status in CHECKED:
+        found.append(Case(name, ("check",), text(given), text(output), status=status))
+        found += reported(name, text(given)) if status == 0 else [refused_by_report(name, text(given), output.split(";")[-1].encode())]
+    for name, given, line, fault in REFUSED:
+        words = f"line {line}: {fault}".encode()
+        found += [Case(name, ("check",), given, errors=b"ttrun: " + words + b"\n", status=3), refused_by_report(name, given, words)]
+    found.append(Judgement("a_page_of_evidence_has_no_tag_in_its_text", "ttrun report --html", held_page))
+    return [*found, *long_texts()]
+
+
+# What random texts must meet at least.
+FLOORS: Dict[str, int] = {"legal": 200, "another reply": 100, "another verdict": 40, "bad first line": 60, "bad entry": 300,
+                          "text ends too early": 30}
+BLOCKS = 1000
+
+
+def other(source: random.Random, block: str) -> str:
+    """The block with another reply or verdict, now and then."""
+    if source.random() < 0.5:
+        return block
+    lines = block.split("\n")
+    ends = [at for at, it in enumerate(lines) if " -> " in it and it[0].isdigit() and " # " not in it and " ! " not in it or it.startswith("end ")]
+    at = source.choice(ends)
+    lines[at] = re.sub(r"\S+$", source.choice(["none", "pass", "fail"]), lines[at])
+    return "\n".join(lines)
+
+
+def kind_of(judged) -> str:
+    """What `check` answers, in one word or two."""
+    if judged.errors:
+        return judged.errors.decode().rstrip("\n").partition(": ")[2].partition(": ")[2]
+    last = judged.output.splitlines()[-1].decode()
+    return "legal" if last.startswith("legal ") else "another verdict" if last.split(": ")[1].startswith(tuple(
+        f"{it}, table gives {other}" for it in reports.VERDICTS for other in reports.VERDICTS)) else "another reply"
+
+
+def texts_of(source: random.Random) -> Tuple[List[str], List[bytes]]:
+    """Legal blocks of both kinds, and texts of some of them: legal, with another reply or verdict, and spoilt."""
+    blocks = [reports.random_block(source, it)[0] for it in range(BLOCKS)]
+    blocks = [said.evidence_of(source, it) if source.random() < 0.8 else it for it in blocks]
+    some = ["".join(source.choice(blocks) for _ in range(source.randint(1, 3))).encode() for _ in range(300)]
+    other_some = ["".join(other(source, source.choice(blocks)) for _ in range(source.randint(1, 3))).encode() for _ in range(500)]
+    return blocks, some + other_some + [said.spoilt(source, some) for _ in range(900)]
+
+
+def judgements(seed: int) -> List[Judgement]:
+    """Random texts next to what the tests' own reader says, and a text of a thousand blocks."""
+
+    def judge(program: str) -> List[str]:
+        texts = texts_of(random.Random(seed))[1]
+        wanted = [check(it) for it in texts]
+        met = Counter(map(kind_of, wanted))
+        faults = [f"{name}: {met[name]} are fewer than {floor}" for name, floor in FLOORS.items() if met[name] < floor]
+        given = [Case("", ("check",), it, it_wanted.output, it_wanted.errors, it_wanted.status) for it, it_wanted in zip(texts, wanted)]
+        with ThreadPoolExecutor(4) as pool:
+            answers = list(pool.map(lambda it: faults_of(it, run(it, program)), given))
+        return faults + [f"{fault}: {it.given[:200]!r}" for it, found in zip(given, answers) for fault in found][:20]
+
+    def judge_many(program: str) -> List[str]:
+        blocks = texts_of(random.Random(seed + 1))[0]
+        given = "".join(blocks).encode()
+        count = sum(it.startswith("evidence") for it in blocks)
+        faults = [] if count >= 700 and len(blocks) - count >= 100 and given.count(b"<") >= 1000 else [f"{count} blocks of evidence"]
+        for form in reports.FORMS:
+            faults += reports.faults_of_report(program, form, given)
+        plain = "".join(evidence.blocks_of(it)[0].history() if it.startswith("evidence") else it for it in blocks).encode()
+        checked = [run(Case("", ("check",), it), program) for it in (given, plain)]
+        faults += difference("check of the histories", checked[0].output, checked[1].output)
+        return faults + faults_of(Case("", ("check",), given, check(given).output), checked[0])
+
+    return [Judgement("random_and_spoilt_evidence", f"ttrun check, seed {seed}", judge),
+            Judgement("a_thousand_blocks_of_both_kinds", f"ttrun check and report, seed {seed}", judge_many)]
