@@ -24,6 +24,7 @@ RUN: Tuple[Tuple[str, str, str, str], ...] = (
     (LIBRARY, "rt try > bench.history", "tests/documents/tables.py", "histories_of_a_bench_are_read"),
     ("docs/titan.md", "clients/titan/ttrun-titan", "tests/titan/command_tests.py", "the_commands_of_the_document_run"),
     ("docs/benches.md", "bash heater.sh", "tests/python/document_tests.py", "the_bench_in_bash"),
+    ("docs/benches.md", "< heater.evidence", "tests/documents/released.py", "the_archive_runs_benches"),
     ("clients/cpp/README.md", "c++ -std=c++17", "tests/cpp/run.py", "heater.cpp"),
     ("clients/python/README.md", "pip install clients/python", "tests/python/document_tests.py", "the_package_is_installed_from_its_folder"))
 # Options of programs that are not of this repository, by the first word of a command.

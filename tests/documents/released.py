@@ -257,9 +257,15 @@ def the_archive_runs_benches(room: str, program: str) -> str:
     for command, wanted in (("PYTHONPATH=clients/python python3 heater.py", shown[0]), (typed, shown[1])):
         ran = shell(folder, environment, command)
         hold((ran.output, ran.errors, ran.status) == (wanted, "", 1), f"{command}: {wanted!r} is wanted: {ran}")
-    with open(os.path.join(folder, "heater.evidence"), encoding="ascii") as file:
-        lines = file.read().splitlines()
-    hold([it for it in lines if it.startswith(("evidence ", "end "))] == ["evidence 1 t_heater 256", "end fail"] * 2, f"{lines}")
+    typed = next(it.text for it in read(folder, "docs/benches.md").blocks() if "< heater.evidence" in it.text)
+    ran = shell(folder, environment, typed)
+    legal = re.findall(r"(?m)^legal t_heater \d+ fail$", ran.output)
+    hold(len(legal) == 2 and not ran.errors and ran.status == 1, f"{ran}")
+    with open(os.path.join(folder, "run.xml"), encoding="utf-8") as file:
+        message = "run 1 on component 1 heater: setverdict fail -> ok"
+        hold(file.read().count(f'<failure type="fail" message="{message}">') == 2, "the report does not say who failed")
+    with open(os.path.join(folder, "run.html"), encoding="utf-8") as file:
+        hold(MARK + "evidence 1 t_heater 256\n" in file.read(), "the page has no evidence")
     return "2 benches"
 
 

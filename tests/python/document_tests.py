@@ -49,7 +49,7 @@ def the_example_works_when_it_is_pasted(place: Place) -> None:
 def the_bench_in_bash(place: Place) -> None:
     """It leaves the evidence that is shown, and ends with the status of the server: on a device that is too hot, and on one that is not."""
     page = os.path.join(DOCS, "benches.md")
-    (bench,), (commands,), shown = blocks("bash", page), blocks("sh", page), next(it for it in blocks("", page) if it.startswith("evidence "))
+    (bench,), (commands, _), shown = blocks("bash", page), blocks("sh", page), next(it for it in blocks("", page) if it.startswith("evidence "))
     place.program()
     place.write("heater.sh", bench)
     for degrees, verdict, status in (("85", "fail", 1), ("20", "pass", 0)):

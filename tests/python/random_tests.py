@@ -8,7 +8,6 @@ import time
 from collections import Counter
 from typing import Callable, List
 
-import evidence
 from filskeam import DynamicError, Result, Run
 from kit import Place, hold, legal, same, test
 from table import Table
@@ -83,23 +82,15 @@ def judged(result: Result, met: Counter) -> None:
 
 
 def hold_by_program(place: Place, results: List[Result]) -> None:
-    """Holds the evidence to `ttrun check`, if the server is the program: a program that reads no evidence gets the histories in it."""
+    """Holds the evidence to `ttrun check`, if the server is the program."""
     program = place.command[0]
     if os.path.basename(program) != "ttrun":
         return
     text = "".join(it.evidence for it in results)
-    kind = "evidence"
-    if b"bad first line" in checked(program, text).stderr:
-        kind, text = "histories", "".join(it.history() for it in evidence.blocks_of(text))
-    ran = checked(program, text)
+    ran = subprocess.run([program, "check"], input=text.encode(), stdout=subprocess.PIPE, stderr=subprocess.PIPE, timeout=60, check=False)
     wanted = [f"legal {it.name} {len(legal(it).entries)} {it.verdict}" for it in results]
     same((ran.stdout.decode().splitlines(), ran.stderr, ran.returncode), (wanted, b"", 0), "ttrun check:")
-    place.reach(f"blocks of {kind} for ttrun check", len(wanted), CASES)
-
-
-def checked(program: str, text: str) -> "subprocess.CompletedProcess[bytes]":
-    """What `ttrun check` says of a text."""
-    return subprocess.run([program, "check"], input=text.encode(), stdout=subprocess.PIPE, stderr=subprocess.PIPE, timeout=60, check=False)
+    place.reach("blocks for ttrun check", len(wanted), CASES)
 
 
 @test
