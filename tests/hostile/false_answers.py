@@ -97,8 +97,8 @@ def answers() -> Iterator[Tuple[str, Task, Ran]]:
         ("refused", LIVE_PROGRESS, FIRST, both + NO_MEMORY, 3), ("right", LIVE_PROGRESS, WHOLE, both, 0),
     ]
     true += [
-        ("right", SERVED, LINES, NOBODY, 3), ("refused", SERVED, b"", NO_MEMORY, 3), ("refused", SERVED, LINES[:15], NO_MEMORY, 3),
-        ("refused", SERVED, LINES[:15], NOBODY + NO_MEMORY, 3), ("refused", SERVED, LINES[:-9], NOBODY + NO_MEMORY, 3),
+        ("right", SERVED, LINES, NOBODY, 3), ("served in part", SERVED, b"", NO_MEMORY, 3), ("served in part", SERVED, LINES[:15], NO_MEMORY, 3),
+        ("served in part", SERVED, LINES[:15], NOBODY + NO_MEMORY, 3), ("served in part", SERVED, LINES[:-9], NOBODY + NO_MEMORY, 3),
     ]
     for kind, task, output, errors, status in true:
         yield kind, task, Ran(output, errors, status, refused=1)

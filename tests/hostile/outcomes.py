@@ -56,7 +56,7 @@ class Task:
 
 @dataclass
 class Outcome:
-    """What was met: `right`, `refused`, `aborted`, or `wrong` and why."""
+    """What was met: `right`, `refused`, `aborted`, `served in part`, or `wrong` and why."""
 
     kind: str
     fault: str = ""
@@ -219,7 +219,7 @@ def judged(task: Task, ample: Ran, ran: Ran) -> Outcome:
 def judged_served(task: Task, ran: Ran) -> Outcome:
     """A service that was refused memory: what comes of its first lines is out, whole, and then that memory ran out."""
     if any((ran.output, ran.errors) == (it.output, it.errors + NO_MEMORY) for it in served.states(task.given)):
-        return Outcome("refused")
+        return Outcome("served in part")
     return Outcome("wrong", f"half of what comes of a line is out: {ran.output[-200:]!r}, {ran.errors[-200:]!r}")
 
 

@@ -71,7 +71,7 @@ class Sweep:
 
     name: str
     runs: int = 0
-    # How many runs were right, refused, aborted or wrong.
+    # How many runs were right, refused, aborted, served in part or wrong.
     met: Counter = field(default_factory=Counter)
     refused: int = 0
     faults: List[str] = field(default_factory=list)
