@@ -22,7 +22,8 @@ sys.dont_write_bytecode = True
 from room import TOP
 
 SECONDS = 300
-README, PIPELINES, LIBRARY, GUIDE, RELEASE = "README.md", "docs/pipelines.md", "docs/library.md", "docs/guide.md", "release"
+README, RELEASE = "README.md", "release"
+PIPELINES, LIBRARY, GUIDE, BENCHES = "docs/pipelines.md", "docs/library.md", "docs/guide.md", "docs/benches.md"
 FAILS, LATE = "every_block_on_a_campaign_that_fails", "a_step_that_runs_out_of_time"
 
 
@@ -91,6 +92,9 @@ LIES = (
     Lie("an_archive_with_the_time_of_day", RELEASE, "--mtime=\"@$(git log -1 --format=%ct)\" ", "", "the_same_bytes_again"),
     Lie("an_archive_without_the_table", RELEASE, " tests/program/table.py)", ")", "the_archive_reads_logs_of_titan"),
     Lie("an_archive_without_the_page", RELEASE, " page/viewer.html", "", "an_archive_is_what_it_says"),
+    Lie("an_archive_without_the_clients", RELEASE, " clients tests/", " clients/titan tests/", "an_archive_is_what_it_says"),
+    Lie("a_model_that_waits_elsewhere", BENCHES, "  wait done heater\nend\n", "end\n", "the_model_of_a_bench"),
+    Lie("a_model_with_another_line", BENCHES, "`t_heater none fail complete`", "`t_heater fail complete`", "the_model_of_a_bench"),
     Lie("a_manifest_without_the_commit", RELEASE, "\"commit $commit\" ", "", "an_archive_is_what_it_says"),
     Lie("a_file_without_its_sum", RELEASE, "! -name SHA256SUMS", "! -name SHA256SUMS ! -name MANIFEST", "an_archive_is_what_it_says"),
 )
