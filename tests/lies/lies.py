@@ -114,9 +114,6 @@ LIES = (
     Lie("the_main_run_is_never_woken", (
         ("""        for condition in &self.of_runs {""", """        for condition in self.of_runs.iter().skip(1) {"""),
     ), "tc_exec_tests"),
-    Lie("each_key_leads_to_the_first_state", (
-        ("""    met.places.insert(key, at)?;""", """    met.places.insert(key, at - at)?;"""),
-    ), "tc_explore_tests"),
     Lie("a_place_is_never_given_up", (
         ("""\
                 shared.give_up(rt, run);
@@ -136,22 +133,6 @@ LIES = (
         ("""        Err(CheckFault::Differs { .. }) => Err(CloseFault::Torn),""",
          """        Err(CheckFault::Differs { .. }) => Err(CloseFault::NoMemory),"""),
     ), "tc_exec_tests"),
-    Lie("ended_courses_reach_nothing", (
-        ("""\
-    reach(&mut found.reached, scripts, &course);
-    if is_found(&found.witnesses, course.verdict()) {
-""", """\
-    if is_found(&found.witnesses, course.verdict()) {
-"""),
-    ), "tc_explore_tests"),
-    Lie("stuck_courses_reach_nothing", (
-        ("""\
-        reach(&mut found.reached, scripts, &stuck);
-        return Ok(true);
-""", """\
-        return Ok(true);
-"""),
-    ), "tc_explore_tests"),
     Lie("the_first_step_is_told_as_not_seen", (
         ("""append_step(&mut step, &steps[before])?;""", """append_step(&mut step, &steps[0])?;"""),
     ), "tc_explore_tests"),

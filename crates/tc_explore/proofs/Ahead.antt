@@ -32,8 +32,7 @@ use Rattle.tc_table.proofs.Lemmas.Over.{on_existing}
 use Rattle.tc_table.proofs.Lemmas.Going.{starts_still}
 use Rattle.tc_table.proofs.Lemmas.Sound.{plain_if}
 use Rattle.tc_explore.specs.Course.{Stand, stand, goes_on, IsCourse}
-use Rattle.tc_explore.specs.Inside.Alike.{IsAlike}
-use Rattle.tc_explore.specs.Inside.Simulation.{IsQuietAt, call_at, IsLastAt, WasParked, IsLeaving, IsEnding, IsAhead}
+use Rattle.tc_explore.specs.Inside.Simulation.{IsAlike, IsQuietAt, call_at, IsLastAt, WasParked, IsLeaving, IsEnding, IsAhead}
 use Rattle.tc_explore.proofs.Alike.{is_plain_call, phase_next, overall_next}
 use Rattle.tc_explore.proofs.Lemmas.Standings.{stand_comp, stand_other}
 

@@ -37,8 +37,7 @@ use Rattle.tc_table.proofs.Lemmas.Sound.{starts}
 use Rattle.tc_table.proofs.Lemmas.Over.{on_existing, stays}
 use Rattle.tc_table.proofs.Lemmas.LawsOfHistories.{killed_was_halted}
 use Rattle.tc_table.proofs.Lemmas.Deciding.{self_equal, equal_if, if_same}
-use Rattle.tc_explore.specs.Inside.Alike.{IsAlike}
-use Rattle.tc_explore.specs.Inside.Simulation.{is_gone, is_late, is_met}
+use Rattle.tc_explore.specs.Inside.Simulation.{IsAlike, is_gone, is_late, is_met}
 
 -- ---- what is the same
 

@@ -32,10 +32,10 @@ use Rattle.tc_table.proofs.Lemmas.Over.{on_existing, all_over}
 use Rattle.tc_table.proofs.Lemmas.Stuck.{one_false}
 use Rattle.tc_table.proofs.Lemmas.Going.{started_by_entry}
 use Rattle.tc_explore.specs.declared.witness.Witness.{Witness}
-use Rattle.tc_explore.specs.Course.{Stand, stand, goes_on, after_own, after_other_by, is_wake, is_idle_by, wake_or, wake_if, call_of, turn, steps_in, script_of, IsTurn, IsCourse, IsComplete}
+use Rattle.std.specs.Option.{unwrap_or}
+use Rattle.tc_explore.specs.Course.{Stand, stand, goes_on, after_own, after_other_by, is_wake, is_idle, wake_if, call_of, turn, steps_of, IsTurn, IsCourse, IsComplete}
 use Rattle.tc_explore.specs.Told.{is_found}
-use Rattle.tc_explore.specs.Inside.Alike.{IsAlike}
-use Rattle.tc_explore.specs.Inside.Simulation.{is_quiet, is_late, is_met, is_spent, IsQuietAt, call_at, IsWakeOf, IsBefore, IsParkedAt, IsFollowed, IsLastAt, WasParked, IsLeaving, place_of, IsEnding, IsAhead, IsFor, IsCovered, GoesOn, IsClosed}
+use Rattle.tc_explore.specs.Inside.Simulation.{IsAlike, is_quiet, is_late, is_met, is_spent, IsQuietAt, call_at, IsWakeOf, IsBefore, IsParkedAt, IsFollowed, IsLastAt, WasParked, IsLeaving, place_of, IsEnding, IsAhead, IsFor, IsCovered, GoesOn, IsClosed}
 use Rattle.tc_explore.proofs.Legality.{course_legal}
 use Rattle.tc_explore.proofs.Alike.{ChangesNothing, alike_sym, alike_unchanged, active_alike, holds_alike, is_plain_call, overall_next}
 use Rattle.tc_explore.proofs.Ahead.{holds_ahead, ending_active, ended_inactive, not_ending_run, died_before, active_back, active_forth, none_too, some_too, fault_ahead, answer_ahead, ahead_self, ahead_after, ahead_turn, ahead_step}
@@ -152,7 +152,7 @@ pub loud_sets_no_wake : (op : Op) (r : Reply) → goes_on r ≡ true → wake_if
 loud_sets_no_wake op R.Parked h = absurd cc
 loud_sets_no_wake op _ h = refl
 
-idle_never : (op : Op) (r : Reply) → is_wake op ≡ false → is_idle_by op r ≡ false
+idle_never : (op : Op) (r : Reply) → is_wake op ≡ false → is_idle op r ≡ false
 idle_never op R.Parked h = h
 idle_never op _ h = refl
 
@@ -445,7 +445,7 @@ module _ {scripts : List ScriptView} {Seen : List Entry → Type 0} {found : Lis
 
   -- a step, if no Wake is to come
   told_place : (me : Comp) → AtTurn scripts Seen found p q e → IsGoing scripts p q e me → (stand p e.caller.0).wake ≡ None →
-      call_of me (stand p e.caller.0).bound (slice_get (steps_in (script_of scripts e.caller.0)) (stand p e.caller.0).called) ≡ e.op → IsTold scripts Seen found (e ∷ p)
+      call_of me (stand p e.caller.0).bound (slice_get (steps_of scripts e.caller.0) (stand p e.caller.0).called) ≡ e.op → IsTold scripts Seen found (e ∷ p)
   told_place me h g none calls = by_less (nat_lt (stand p e.caller.0).called (stand q e.caller.0).called) refl
     where
       before : IsBefore scripts q e.caller.0 (stand p e.caller.0) (stand q e.caller.0)
@@ -454,10 +454,10 @@ module _ {scripts : List ScriptView} {Seen : List Entry → Type 0} {found : Lis
       call_q : call_at scripts e.caller.0 (stand q e.caller.0) (stand q e.caller.0).comp (stand p e.caller.0).called ≡ e.op
       call_q =
           ap (λ o. call_at scripts e.caller.0 (stand q e.caller.0) o (stand p e.caller.0).called) g.stand_q
-          ∙ (ap (λ bound. call_of me bound (slice_get (steps_in (script_of scripts e.caller.0)) (stand p e.caller.0).called)) (sym g.followed.bound) ∙ calls)
+          ∙ (ap (λ bound. call_of me bound (slice_get (steps_of scripts e.caller.0) (stand p e.caller.0).called)) (sym g.followed.bound) ∙ calls)
 
       wk : is_wake e.op ≡ false
-      wk = ap is_wake (sym calls) ∙ never_wake me (stand p e.caller.0).bound (slice_get (steps_in (script_of scripts e.caller.0)) (stand p e.caller.0).called)
+      wk = ap is_wake (sym calls) ∙ never_wake me (stand p e.caller.0).bound (slice_get (steps_of scripts e.caller.0) (stand p e.caller.0).called)
 
       by_quiet : (stand p e.caller.0).called ≡ (stand q e.caller.0).called → (t : Bool) → is_spent q e.op ≡ t → IsTold scripts Seen found (e ∷ p)
       by_quiet same true k = told_quiet me h g (ap (λ m. call_at scripts e.caller.0 (stand q e.caller.0) (stand q e.caller.0).comp m) (sym same) ∙ call_q) wk k
@@ -620,7 +620,7 @@ module _ {scripts : List ScriptView} {p q : List Entry} where
           let t = has_turn scripts q d.caller.0 d.op go.turn.turn in
           let call : call_at scripts d.caller.0 (stand q d.caller.0) (stand q d.caller.0).comp (stand q d.caller.0).called ≡ d.op =
           ap (λ o. call_at scripts d.caller.0 (stand q d.caller.0) o (stand q d.caller.0).called) t.on
-          ∙ (ap (λ o. wake_or o (call_of t.me (stand q d.caller.0).bound (slice_get (steps_in (script_of scripts d.caller.0)) (stand q d.caller.0).called))) (sym fol.no_wake) ∙ t.calls) in
+          ∙ (ap (λ o. unwrap_or o (call_of t.me (stand q d.caller.0).bound (slice_get (steps_of scripts d.caller.0) (stand q d.caller.0).called))) (sym fol.no_wake) ∙ t.calls) in
           let op_is : d.op ≡ O.Wait of.killed of.target = sym call ∙ (ap (call_at scripts d.caller.0 (stand q d.caller.0) (stand q d.caller.0).comp) (sym same) ∙ of.waits) in
           let a_is : record { killed = of.killed; target = of.target } ≡ w.0 = same_awaited of.killed of.target by.wake w.0 of.wakes by.for_it in
           let no : holds q (record { killed = of.killed; target = of.target }) ≡ false = sym (holds_alike alike (record { killed = of.killed; target = of.target })) ∙ (ap (holds p) a_is ∙ w.2) in
@@ -704,8 +704,8 @@ module _ {scripts : List ScriptView} {Seen : List Entry → Type 0} {found : Lis
           told_stuck h (and_right (e.caller.0 == 0) (is_stuck p) j) is
       by_stuck false j =
           let is : e.reply ≡ R.Parked = r ∙ rw (unmet, j) refl in
-          let idle : is_idle_by e.op e.reply ≡ true = rw (op_is, is) refl in
-          let not_idle : is_idle_by e.op e.reply ≡ false = h.course.0.not_idle in
+          let idle : is_idle e.op e.reply ≡ true = rw (op_is, is) refl in
+          let not_idle : is_idle e.op e.reply ≡ false = h.course.0.not_idle in
           absurd cc
 
   -- the errors of a Wake are those of its Wait
@@ -809,13 +809,13 @@ module _ {scripts : List ScriptView} {Seen : List Entry → Type 0} {found : Lis
       on : comp_of p e.caller.0 ≡ Some (record { 0 = c })
       on = subst (λ b. comp_of p b ≡ Some (record { 0 = c })) own n.on
 
-      t : HasTurn (steps_in (script_of scripts e.caller.0)) (stand p e.caller.0) e.op
+      t : HasTurn (steps_of scripts e.caller.0) (stand p e.caller.0) e.op
       t = has_turn scripts p e.caller.0 e.op h.course.0.turn
 
       call : (stand p e.caller.0).wake ≡ None → call_at scripts e.caller.0 (stand p e.caller.0) (stand p e.caller.0).comp (stand p e.caller.0).called ≡ e.op
       call none =
           ap (λ o. call_at scripts e.caller.0 (stand p e.caller.0) o (stand p e.caller.0).called) t.on
-          ∙ (ap (λ o. wake_or o (call_of t.me (stand p e.caller.0).bound (slice_get (steps_in (script_of scripts e.caller.0)) (stand p e.caller.0).called))) (sym none) ∙ t.calls)
+          ∙ (ap (λ o. unwrap_or o (call_of t.me (stand p e.caller.0).bound (slice_get (steps_of scripts e.caller.0) (stand p e.caller.0).called))) (sym none) ∙ t.calls)
 
       answered : fault (length scripts) q e.caller.0 e.op ≡ None → e.reply ≡ plain_answer p e.caller.0 e.op
       answered none = h.course.0.reply ∙ answer_plain (length scripts) p e.caller.0 e.op active (no_fault_back h none)
@@ -883,7 +883,7 @@ module _ {scripts : List ScriptView} {Seen : List Entry → Type 0} {found : Lis
       woken_turn wake some was = by_holds (holds p (record { killed = was.wake_of.killed; target = was.wake_of.target })) refl
         where
           calls : wake ≡ e.op
-          calls = ap (λ o. wake_or o (call_of t.me (stand p e.caller.0).bound (slice_get (steps_in (script_of scripts e.caller.0)) (stand p e.caller.0).called))) (sym some) ∙ t.calls
+          calls = ap (λ o. unwrap_or o (call_of t.me (stand p e.caller.0).bound (slice_get (steps_of scripts e.caller.0) (stand p e.caller.0).called))) (sym some) ∙ t.calls
 
           op_is : e.op ≡ O.Wake was.wake_of.killed was.wake_of.target
           op_is = sym calls ∙ was.wake_of.wakes
@@ -930,7 +930,7 @@ module _ {scripts : List ScriptView} {Seen : List Entry → Type 0} {found : Lis
   told_step : AtTurn scripts Seen found p q e → IsTold scripts Seen found (e ∷ p)
   told_step h = by_active (is_active p e.caller.0) refl
     where
-      going : is_active p e.caller.0 ≡ true → is_active q e.caller.0 ≡ true → (t : HasTurn (steps_in (script_of scripts e.caller.0)) (stand p e.caller.0) e.op) → IsGoing scripts p q e t.me
+      going : is_active p e.caller.0 ≡ true → is_active q e.caller.0 ≡ true → (t : HasTurn (steps_of scripts e.caller.0) (stand p e.caller.0) e.op) → IsGoing scripts p q e t.me
       going act act_q t =
           let on_p : comp_of p e.caller.0 ≡ Some t.me = sym (stand_comp scripts p e.caller.0 h.course.1) ∙ t.on in
           let on_q : comp_of q e.caller.0 ≡ Some t.me = sym (h.for.ahead.comp_same e.caller.0) ∙ on_p in
@@ -947,11 +947,11 @@ module _ {scripts : List ScriptView} {Seen : List Entry → Type 0} {found : Lis
             in_range = run_in_range (length scripts) p e.caller.0 t.me h.some (course_legal scripts p h.course.1) on_p;
           }
 
-      by_wake : (t : HasTurn (steps_in (script_of scripts e.caller.0)) (stand p e.caller.0) e.op) → IsGoing scripts p q e t.me → (o : Option Op) → (stand p e.caller.0).wake ≡ o → IsTold scripts Seen found (e ∷ p)
+      by_wake : (t : HasTurn (steps_of scripts e.caller.0) (stand p e.caller.0) e.op) → IsGoing scripts p q e t.me → (o : Option Op) → (stand p e.caller.0).wake ≡ o → IsTold scripts Seen found (e ∷ p)
       by_wake t g None k =
-          told_place t.me h g k (ap (λ o. wake_or o (call_of t.me (stand p e.caller.0).bound (slice_get (steps_in (script_of scripts e.caller.0)) (stand p e.caller.0).called))) (sym k) ∙ t.calls)
+          told_place t.me h g k (ap (λ o. unwrap_or o (call_of t.me (stand p e.caller.0).bound (slice_get (steps_of scripts e.caller.0) (stand p e.caller.0).called))) (sym k) ∙ t.calls)
       by_wake t g (Some wake) k =
-          told_wake t.me h g wake k (ap (λ o. wake_or o (call_of t.me (stand p e.caller.0).bound (slice_get (steps_in (script_of scripts e.caller.0)) (stand p e.caller.0).called))) (sym k) ∙ t.calls)
+          told_wake t.me h g wake k (ap (λ o. unwrap_or o (call_of t.me (stand p e.caller.0).bound (slice_get (steps_of scripts e.caller.0) (stand p e.caller.0).called))) (sym k) ∙ t.calls)
 
       by_active : (t : Bool) → is_active p e.caller.0 ≡ t → IsTold scripts Seen found (e ∷ p)
       by_active true k = by_q (active_forth h.for.ahead e.caller.0 k)
@@ -1004,7 +1004,7 @@ module _ (scripts : List ScriptView) (Seen : List Entry → Type 0) (found : Lis
       let fol = f.runs 0 closed.main in
       let here : (stand p 0).comp ≡ Some on.0 = stand_comp scripts p 0 c ∙ (f.ahead.comp_same 0 ∙ on.1) in
       let stays : (stand p 0).left ≡ false = fol.left ∙ closed.main_stays in
-      let t : turn scripts p 0 ≡ Some (wake_or (stand p 0).wake (call_of on.0 (stand p 0).bound (slice_get (steps_in (script_of scripts 0)) (stand p 0).called))) =
+      let t : turn scripts p 0 ≡ Some (unwrap_or (stand p 0).wake (call_of on.0 (stand p 0).bound (slice_get (steps_of scripts 0) (stand p 0).called))) =
       turn_of scripts p 0 _ (record { me = on.0; on = here; stays = stays; calls = refl }) in
       let none : turn scripts p 0 ≡ None = done 0 some in
       absurd cc

@@ -6,7 +6,7 @@ use Rattle.tc_explore.specs.declared.witness.Witness.{Witness}
 use Rattle.tc_explore.specs.Told.{is_found}
 use Rattle.tc_explore.specs.Inside.Simulation.{IsCovered}
 use Rattle.tc_explore.specs.Inside.Seen.{AreClosed, IsSeen}
-use Rattle.tc_explore.specs.Laws.{AllFound}
+use Rattle.tc_explore.specs.Found.{AllFound}
 use Rattle.tc_explore.proofs.Sameness.{same_for}
 use Rattle.tc_explore.proofs.Closing.{SeenIsClosed, complete_is_told}
 

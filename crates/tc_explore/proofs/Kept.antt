@@ -1,7 +1,10 @@
 -- The states that a search keeps, and how many calls it counts.
-use Rattle.std.proofs.Common.{ℕ, ◌≡◌, ◌+◌, ◌==◌, ◌<◌, ◌≤◌, ◌⊎◌, inl, inr, max, Bool, true, false, nat_le, nat_lt, All, List, [], ◌∷◌, ◌++◌, length, map, get_or, set, refl, ap, sym, subst, ◌∙◌, arith, append-nil}
+use Rattle.std.proofs.Common.{ℕ, zero, suc, ◌≡◌, ◌+◌, ◌==◌, ◌<◌, ◌≤◌, ◌⊎◌, inl, inr, max, Bool, true, false, nat_eq, nat_le, nat_lt, All, Option, Some, None, List, [], ◌∷◌, ◌++◌, length, map, reverse, slice_get, get_or, set, refl, ap, sym, subst, ◌∙◌, arith, append-nil}
+use Rattle.std.specs.Cmp.Lexicographic.{pointwise}
+use Rattle.std.specs.List.{IsDistinct}
 use Rattle.std.proofs.lemmas.Bool.Decides.{nat_tests}
-use Rattle.std.proofs.lemmas.List.{get_or-set_same, get_or-set_other, length-map, length-set}
+use Rattle.std.proofs.lemmas.Option.{slice_get_within, get_or_from_slice_get}
+use Rattle.std.proofs.lemmas.List.{get_or-map, get_or-set_same, get_or-set_other, length-map, length-set}
 use Rattle.std.proofs.lemmas.List.Elements.{All-nil, All-same, All-push, All-map, All-weaker}
 use Rattle.tc_entry.specs.declared.entry.Entry.{Entry}
 use Rattle.tc_step.specs.Steps.{ScriptView}
@@ -9,22 +12,34 @@ use Rattle.tc_table.specs.Case.{Case, past_of}
 use Rattle.tc_table.proofs.Lemmas.Deciding.{equal_if, self_equal}
 use Rattle.tc_explore.specs.declared.findings.Findings.{Findings}
 use Rattle.tc_explore.specs.declared.search.Met.{Met}
+use Rattle.tc_explore.specs.declared.witness.Witness.{Witness}
 use Rattle.tc_explore.specs.Course.{carried, IsCourse}
-use Rattle.tc_explore.specs.Found.{Reaches, AreReached, Covers, AreMet}
+use Rattle.tc_explore.specs.Found.{Reaches, AreReached, AreCovered, Covers, AreMet}
 use Rattle.tc_explore.specs.Inside.Going.{IsOn}
-use Rattle.tc_explore.specs.Inside.Seen.{AreApart, AreKept, IsCountedTo, IsLonger, IsNoLess, IsState, IsWith}
+use Rattle.tc_explore.specs.Inside.Keys.{key_of}
+use Rattle.tc_explore.specs.Inside.Seen.{AreKept, AreKeyed, IsCountedTo, IsLonger, IsNoLess, IsState, IsWith}
+use Rattle.tc_explore.proofs.Keys.{AreApart, keys_apart}
 use Rattle.tc_explore.proofs.Reaching.{reaches, reached_set}
-use Rattle.tc_explore.proofs.Tree.{once_of}
 
 -- ---- numbers of calls
 
 pub no_less_self : (a : List ℕ) → IsNoLess a a
 no_less_self a = record { as_many = refl; each = λ b near. omega arith }
 
-covers_more : (before after : List ℕ) (past : List Entry) → IsNoLess before after → Covers before past → Covers after past
+pub covers_more : (before after : List ℕ) (past : List Entry) → IsNoLess before after → Covers before past → Covers after past
 covers_more before after past more covers b near =
     let inside : b < length before = omega (arith, more.as_many, near) in
     omega (arith, covers b inside, more.each b inside)
+
+-- nor any witness
+pub covered_more : (before after : List ℕ) (found : List Witness) → IsNoLess before after → AreCovered before found → AreCovered after found
+covered_more before after found more covered =
+    All-weaker (λ w. Covers before (reverse w.history)) (λ w. Covers after (reverse w.history)) (λ w. covers_more before after (reverse w.history) more) found covered
+
+pub no_less_then : (a b c : List ℕ) → IsNoLess a b → IsNoLess b c → IsNoLess a c
+no_less_then a b c h k = record { as_many = k.as_many ∙ h.as_many; each = λ n near. omega (arith, h.each n near, k.each n (omega (arith, h.as_many, near))) }
+
+pub ruleset covering_rules = (covers_more, covered_more, no_less_then)
 
 -- no run is counted yet
 pub counted_none : (scripts : List ScriptView) (reached : List ℕ) (past : List Entry) → AreReached scripts reached → IsCountedTo scripts reached reached past 0
@@ -88,10 +103,18 @@ pub longer_with : (before after : List Case) (t : Case) → IsWith before t afte
 longer_with before after t (inl same) = ([], same ∙ sym (append-nil before))
 longer_with before after t (inr more) = (t ∷ [], more)
 
-pub kept_none : (scripts : List ScriptView) (met : Met) (found : Findings) → met.states.items ≡ [] → AreKept scripts met found
-kept_none scripts met found none = record {
+pub keyed_none : (scripts : List ScriptView) (met : Met) → met.states.items ≡ [] → met.keys.keys ≡ [] → AreKeyed scripts met
+keyed_none scripts met none no_key = rw (none, no_key) refl
+
+-- there is a key for each state
+pub as_many_keys : (scripts : List ScriptView) (met : Met) → AreKeyed scripts met → length met.keys.keys ≡ length met.states.items
+as_many_keys scripts met keyed = sym (length-map met.keys.keys (λ k. k.items)) ∙ (ap length keyed ∙ length-map met.states.items (λ t. key_of (length scripts) (past_of t)))
+
+pub kept_none : (scripts : List ScriptView) (met : Met) (found : Findings) → met.states.items ≡ [] → AreKeyed scripts met → AreKept scripts met found
+kept_none scripts met found none keyed = record {
   few = let size : length met.states.items ≡ 0 = ap length none in omega (arith, size);
   each = All-same (λ t. IsState scripts t) met.states.items [] none (All-nil (λ t. IsState scripts t));
+  keyed = keyed;
   counted = All-same (λ t. Covers found.reached.items (past_of t)) met.states.items [] none (All-nil (λ t. Covers found.reached.items (past_of t)));
 }
 
@@ -100,6 +123,7 @@ pub kept_more : (scripts : List ScriptView) (met : Met) (f g : Findings) → IsN
 kept_more scripts met f g more kept = record {
   few = kept.few;
   each = kept.each;
+  keyed = kept.keyed;
   counted = All-weaker (λ t. Covers f.reached.items (past_of t)) (λ t. Covers g.reached.items (past_of t)) (λ t. covers_more f.reached.items g.reached.items (past_of t) more) met.states.items kept.counted;
 }
 
@@ -109,30 +133,53 @@ all_with P before after t (inr more) all one = All-same P after (before ++ t ∷
 
 -- one state more, that is counted
 pub kept_with : (scripts : List ScriptView) (met after : Met) (f g : Findings) (t : Case) → AreKept scripts met f → IsNoLess f.reached.items g.reached.items → IsState scripts t → Covers g.reached.items (past_of t) →
-    IsWith met.states.items t after.states.items → after.limit ≡ met.limit → length after.states.items ≤ met.limit → AreKept scripts after g
-kept_with scripts met after f g t kept more state covers with limit within =
+    IsWith met.states.items t after.states.items → AreKeyed scripts after → after.limit ≡ met.limit → length after.states.items ≤ met.limit → AreKept scripts after g
+kept_with scripts met after f g t kept more state covers with keyed limit within =
     let now = kept_more scripts met f g more kept in
     record {
       few = omega (arith, limit, within);
       each = all_with (λ u. IsState scripts u) met.states.items after.states.items t with now.each state;
+      keyed = keyed;
       counted = all_with (λ u. Covers g.reached.items (past_of u)) met.states.items after.states.items t with now.counted covers;
     }
+
+pub kept_keyed : (scripts : List ScriptView) (met : Met) (found : Findings) → AreKept scripts met found → AreKeyed scripts met
+kept_keyed scripts met found kept = kept.keyed
 
 pub kept_states : (scripts : List ScriptView) (met : Met) (found : Findings) → AreKept scripts met found → All (λ t. IsState scripts t) met.states.items
 kept_states scripts met found kept = kept.each
 
-pub ruleset kept_rules = (kept_none, kept_more, kept_states, longer_with)
+pub ruleset kept_rules = (kept_none, kept_more, kept_states, kept_keyed, longer_with, covered_more)
 
 -- ---- what is told
+
+none_within : (xs : List Case) (i : ℕ) → i < length xs → slice_get xs i ≡ None → ⊥
+none_within [] i near h = omega (arith, near)
+none_within (x ∷ xs) zero near h = absurd cc
+none_within (x ∷ xs) (suc i) near h = none_within xs i (omega (arith, near)) h
+
+once_of : (states : List Case) → AreApart states → (i j : ℕ) (d : List Entry) → i < length (map past_of states) → j < length (map past_of states) → get_or (map past_of states) i d ≡ get_or (map past_of states) j d → i ≡ j
+once_of states apart i j d near_i near_j same = by_states (slice_get states i) refl (slice_get states j) refl
+  where
+    within : (k : ℕ) → k < length (map past_of states) → k < length states
+    within k near = omega (arith, near, length-map states past_of)
+
+    course_at : (k : ℕ) (s : Case) → k < length (map past_of states) → slice_get states k ≡ Some s → get_or (map past_of states) k d ≡ past_of s
+    course_at k s near h = get_or-map past_of states k s d (within k near) ∙ ap past_of (get_or_from_slice_get states k s s h)
+
+    by_states : (o : Option Case) → slice_get states i ≡ o → (p : Option Case) → slice_get states j ≡ p → i ≡ j
+    by_states (Some s) h (Some t) k = apart i j s t h k (sym (course_at i s near_i h) ∙ (same ∙ course_at j t near_j k))
+    by_states None h p k = absurd (none_within states i (within i near_i) h)
+    by_states (Some s) h None k = absurd (none_within states j (within j near_j) k)
 
 pub met_none : (scripts : List ScriptView) (reached : List ℕ) → AreMet scripts reached 0
 met_none scripts reached = record { courses = []; as_many = refl; each = All-nil (IsCourse scripts); once = λ i j d near_i near_j same. absurd (omega arith); counted = All-nil (Covers reached) }
 
-pub met_of : (scripts : List ScriptView) (met : Met) (found : Findings) → AreKept scripts met found → AreApart met.states.items → AreMet scripts found.reached.items (length met.states.items)
-met_of scripts met found kept apart = record {
+pub met_of : (scripts : List ScriptView) (met : Met) (found : Findings) → AreKept scripts met found → IsDistinct (λ x y. pointwise nat_eq x.items y.items) met.keys.keys → AreMet scripts found.reached.items (length met.keys.keys)
+met_of scripts met found kept distinct = record {
   courses = map past_of met.states.items;
-  as_many = length-map met.states.items past_of;
+  as_many = length-map met.states.items past_of ∙ sym (as_many_keys scripts met kept.keyed);
   each = All-map (IsCourse scripts) past_of met.states.items (All-weaker (λ t. IsState scripts t) (λ t. IsCourse scripts (past_of t)) (λ t s. s.opened.on.course) met.states.items kept.each);
-  once = once_of met.states.items apart;
+  once = once_of met.states.items (keys_apart (λ k. k.items) (length scripts) met.keys.keys met.states.items kept.keyed distinct);
   counted = All-map (Covers found.reached.items) past_of met.states.items kept.counted;
 }

@@ -13,7 +13,7 @@ use Rattle.tc_table.specs.Local.{overall}
 use Rattle.tc_table.specs.Answers.{answer}
 use Rattle.tc_table.proofs.Lemmas.Deciding.{equal_if}
 use Rattle.tc_table.proofs.Lemmas.Over.{all_over}
-use Rattle.tc_explore.specs.Course.{Stand, stand, after_own, after_other_by, turn, turn_on, steps_in, script_of, is_idle_by, IsTurn, IsCourse, IsComplete}
+use Rattle.tc_explore.specs.Course.{Stand, stand, after_own, after_other_by, turn, turn_on, steps_of, is_idle, IsTurn, IsCourse, IsComplete}
 use Rattle.tc_explore.specs.Inside.Going.{taken, IsOn, CannotGo, IsStepped}
 use Rattle.tc_explore.proofs.Legality.{course_legal}
 use Rattle.tc_explore.proofs.Alike.{alike_unchanged}
@@ -39,7 +39,7 @@ turn_left scripts past b me on left = rw (on, left) refl
 
 pub turn_by : (scripts : List ScriptView) (p q : List Entry) (b : ℕ) → stand p b ≡ stand q b → turn scripts p b ≡ turn scripts q b
 unfolding turn
-turn_by scripts p q b same = ap (λ (s : Stand). turn_on s.comp (steps_in (script_of scripts b)) s) same
+turn_by scripts p q b same = ap (λ (s : Stand). turn_on s.comp (steps_of scripts b) s) same
 
 or_true : (t : Bool) → (t || true) ≡ true
 or_true true = refl
@@ -69,7 +69,7 @@ no_turn scripts past b ended cannot = by_turn (turn scripts past b) refl
     by_turn : (o : Option Op) → turn scripts past b ≡ o → o ≡ None
     by_turn None k = refl
     by_turn (Some op) k =
-        let not_idle : is_idle_by op (answer (length scripts) past b op) ≡ false = rw (ended op) refl in
+        let not_idle : is_idle op (answer (length scripts) past b op) ≡ false = rw (ended op) refl in
         absurd (cannot (record { caller = record { 0 = b }; op = op; reply = answer (length scripts) past b op }) refl (record { turn = k; reply = refl; not_idle = not_idle }))
 
 -- the case is over still, with the verdict that it had, and neither run b nor who had no call left has one

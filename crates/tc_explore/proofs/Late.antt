@@ -26,8 +26,7 @@ use Rattle.tc_table.proofs.Lemmas.Deciding.{self_equal, equal_if, ok_is}
 use Rattle.tc_table.proofs.Lemmas.Sound.{IsPlain, plain_if, no_special, startable}
 use Rattle.tc_table.proofs.Lemmas.Over.{stays}
 use Rattle.tc_explore.specs.Course.{stand, ends, is_wake, wake_if, IsCourse}
-use Rattle.tc_explore.specs.Inside.Alike.{IsAlike}
-use Rattle.tc_explore.specs.Inside.Simulation.{is_gone, is_late, is_met, IsLeaving, IsEnding, IsAhead}
+use Rattle.tc_explore.specs.Inside.Simulation.{IsAlike, is_gone, is_late, is_met, IsLeaving, IsEnding, IsAhead}
 use Rattle.tc_explore.proofs.Alike.{phase_next, fresh, kind_kept, first_kept, kept_by, overall_next}
 use Rattle.tc_explore.proofs.Ahead.{leaving_other}
 

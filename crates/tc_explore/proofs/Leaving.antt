@@ -24,7 +24,7 @@ use Rattle.tc_table.proofs.Lemmas.Deciding.{self_equal, equal_if, and_left}
 use Rattle.tc_table.proofs.Lemmas.Over.{on_existing}
 use Rattle.tc_table.proofs.Lemmas.LawsOfHistories.{runs_if_active}
 use Rattle.tc_table.proofs.Lemmas.Going.{halted_by_entry, started_by_entry}
-use Rattle.tc_explore.specs.Course.{Stand, stand, call_of, steps_in, script_of, IsCourse}
+use Rattle.tc_explore.specs.Course.{Stand, stand, call_of, steps_of, IsCourse}
 use Rattle.tc_explore.specs.Inside.Simulation.{is_gone, is_spent, IsQuietAt, IsWakeOf, call_at, IsBefore, IsParkedAt, IsFollowed, IsLastAt, WasParked, IsLeaving, IsEnding, place_of, place_by, IsOrdered, IsFor}
 use Rattle.tc_explore.proofs.Legality.{course_legal}
 use Rattle.tc_explore.proofs.Alike.{phase_next, kind_kept, first_kept, fresh, overall_next}
@@ -159,8 +159,8 @@ none_behind steps j k l h = by_get (slice_get steps k) refl
 finish_behind : (scripts : List ScriptView) (b : ℕ) (t : Stand) (o : Option Comp) (j k : ℕ) → j ≤ k → call_at scripts b t o j ≡ O.Finish → call_at scripts b t o k ≡ O.Finish
 finish_behind scripts b t None j k l h = refl
 finish_behind scripts b t (Some me) j k l h =
-    let last : slice_get (steps_in (script_of scripts b)) j ≡ None = finish_last me t.bound (slice_get (steps_in (script_of scripts b)) j) h in
-    ap (call_of me t.bound) (none_behind (steps_in (script_of scripts b)) j k l last)
+    let last : slice_get (steps_of scripts b) j ≡ None = finish_last me t.bound (slice_get (steps_of scripts b) j) h in
+    ap (call_of me t.bound) (none_behind (steps_of scripts b) j k l last)
 
 -- a run that follows one whose end comes next is leaving
 followed_leaves : (scripts : List ScriptView) (q : List Entry) (b : ℕ) (s t : Stand) → IsFollowed scripts q b s t → call_at scripts b t t.comp t.called ≡ O.Finish → IsLeaving scripts q b s
@@ -168,7 +168,7 @@ followed_leaves scripts q b s t f ends = by_wake s.wake refl f.place
   where
     same_call : (o : Option Comp) (k : ℕ) → call_at scripts b s o k ≡ call_at scripts b t o k
     same_call None k = refl
-    same_call (Some me) k = ap (λ bound. call_of me bound (slice_get (steps_in (script_of scripts b)) k)) f.bound
+    same_call (Some me) k = ap (λ bound. call_of me bound (slice_get (steps_of scripts b) k)) f.bound
 
     calls_as : (k : ℕ) → call_at scripts b s s.comp k ≡ call_at scripts b t t.comp k
     calls_as k = ap (λ o. call_at scripts b s o k) f.comp ∙ same_call t.comp k

@@ -13,11 +13,11 @@ pub mod Searching
 pub mod Seeing
 pub mod Noting
 pub mod Keeping
+pub mod Keys
 pub mod LastCalls
 pub mod Parking
 pub mod Reaching
 pub mod Kept
-pub mod Tree
 pub mod Room
 pub mod Closed
 pub mod States

@@ -13,9 +13,9 @@ use Rattle.tc_table.specs.Answers.{is_active, is_active_on, is_run_of}
 use Rattle.tc_table.specs.Legal.{IsLegal}
 use Rattle.tc_table.proofs.Lemmas.Deciding.{equal_if, and_left}
 use Rattle.tc_table.proofs.Lemmas.Going.{halted_by_entry, started_by_entry}
-use Rattle.tc_explore.specs.Course.{Stand, stand, after_own, is_wake, wake_if, wake_or, call_of, steps_in, script_of, IsTurn, IsCourse}
-use Rattle.tc_explore.specs.Inside.Alike.{IsAlike}
-use Rattle.tc_explore.specs.Inside.Simulation.{is_gone, call_at, place_by, IsAhead, IsOrdered, AreOrdered}
+use Rattle.std.specs.Option.{unwrap_or}
+use Rattle.tc_explore.specs.Course.{Stand, stand, after_own, is_wake, wake_if, call_of, steps_of, IsTurn, IsCourse}
+use Rattle.tc_explore.specs.Inside.Simulation.{IsAlike, is_gone, call_at, place_by, IsAhead, IsOrdered, AreOrdered}
 use Rattle.tc_explore.proofs.Legality.{course_legal}
 use Rattle.tc_explore.proofs.Alike.{any_phase_same, first_kept}
 use Rattle.tc_explore.proofs.Lemmas.Standings.{HasTurn, has_turn, never_wake, stand_own, stand_other, stand_comp}
@@ -66,14 +66,14 @@ was_active n past e legal no_run b act = by_comp (comp_of past b) refl
 wakes_parked : (scripts : List ScriptView) (past : List Entry) (e : Entry) → IsTurn scripts past e → is_wake e.op ≡ true → is_some (stand past e.caller.0).wake ≡ true
 wakes_parked scripts past e turn wakes = by_wake (stand past e.caller.0).wake refl
   where
-    t : HasTurn (steps_in (script_of scripts e.caller.0)) (stand past e.caller.0) e.op
+    t : HasTurn (steps_of scripts e.caller.0) (stand past e.caller.0) e.op
     t = has_turn scripts past e.caller.0 e.op turn.turn
 
     by_wake : (o : Option Op) → (stand past e.caller.0).wake ≡ o → is_some o ≡ true
     by_wake (Some wake) k = refl
     by_wake None k =
-        let step : Option Step = slice_get (steps_in (script_of scripts e.caller.0)) (stand past e.caller.0).called in
-        let call : call_of t.me (stand past e.caller.0).bound step ≡ e.op = ap (λ o. wake_or o (call_of t.me (stand past e.caller.0).bound step)) (sym k) ∙ t.calls in
+        let step : Option Step = slice_get (steps_of scripts e.caller.0) (stand past e.caller.0).called in
+        let call : call_of t.me (stand past e.caller.0).bound step ≡ e.op = ap (λ o. unwrap_or o (call_of t.me (stand past e.caller.0).bound step)) (sym k) ∙ t.calls in
         let off : is_wake e.op ≡ false = ap is_wake (sym call) ∙ never_wake t.me (stand past e.caller.0).bound step in
         absurd cc
 

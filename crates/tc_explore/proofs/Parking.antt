@@ -1,5 +1,5 @@
 -- A case in which no run can continue: each that is running is parked, and the main component's Wake is an error.
-use Rattle.std.proofs.Common.{ℕ, ◌≡◌, ◌<◌, ◌≤◌, ◌+◌, ◌==◌, ◌⊎◌, inl, inr, nat_lt, if◌then◌else◌, Bool, true, false, Option, Some, None, List, [], ◌∷◌, length, slice_get, refl, ap, sym, subst, ◌∙◌, arith}
+use Rattle.std.proofs.Common.{ℕ, ◌≡◌, ◌<◌, ◌≤◌, ◌+◌, ◌==◌, ◌⊎◌, inl, inr, nat_lt, if◌then◌else◌, Bool, true, false, Option, Some, None, List, [], ◌∷◌, length, slice_get, slice_index_or, refl, ap, sym, subst, ◌∙◌, arith}
 use Rattle.std.specs.List.{list_all}
 use Rattle.std.proofs.lemmas.Bool.Decides.{nat_tests}
 use Rattle.tc_verdict.specs.declared.run.Run.{Run}
@@ -29,18 +29,18 @@ use Rattle.tc_table.proofs.Lemmas.Deciding.{self_equal, equal_if}
 use Rattle.tc_table.proofs.Lemmas.Going.{last_on_it}
 use Rattle.tc_table.proofs.Lemmas.Steps.{phase_by}
 use Rattle.tc_explore.specs.declared.witness.Witness.{Witness}
-use Rattle.tc_explore.specs.Course.{Stand, stand, goes_on, after_other_by, is_wake, call_of, turn, steps_in, script_of, IsTurn, IsCourse}
+use Rattle.tc_explore.specs.Course.{Stand, stand, goes_on, carried, one_more_if, after_other_by, is_wake, call_of, turn, steps_of, IsTurn, IsCourse}
 use Rattle.tc_explore.specs.Told.{is_found}
-use Rattle.tc_explore.specs.Inside.Alike.{IsAlike}
 use Rattle.tc_explore.specs.Inside.Going.{IsOn, IsStepped, IsSteppedIfActive}
-use Rattle.tc_explore.specs.Inside.Simulation.{is_quiet}
+use Rattle.tc_explore.specs.Found.{Covers}
+use Rattle.tc_explore.specs.Inside.Simulation.{IsAlike, is_quiet, GoesOn}
 use Rattle.tc_explore.specs.Inside.Seen.{HasNoWake, IsOpen, IsRunClosed, AreStill, AreHeld}
 use Rattle.tc_explore.proofs.Legality.{course_legal}
 use Rattle.tc_explore.proofs.Alike.{ChangesNothing, holds_alike, active_alike, fault_alike, alike_unchanged, overall_next}
 use Rattle.tc_explore.proofs.Simulation.{unchanged_wait, some_if}
 use Rattle.tc_explore.proofs.Places.{not_ending}
 use Rattle.tc_explore.proofs.Lemmas.Turning.{other_not_idle}
-use Rattle.tc_explore.proofs.Lemmas.Standings.{turn_of, never_wake, stand_own, stand_other, stand_comp, run_in_range}
+use Rattle.tc_explore.proofs.Lemmas.Standings.{has_turn, turn_of, never_wake, stand_own, stand_other, stand_comp, run_in_range}
 use Rattle.tc_explore.proofs.Closing.{not_ended, answer_plain, answer_fault, quiet_reply, parks_wait, fault_of_wait, error_is_worst}
 use Rattle.tc_explore.proofs.Keeping.{active_stays, main_goes, comp_main}
 use Rattle.tc_explore.proofs.LastCalls.{turn_by}
@@ -67,13 +67,13 @@ wait_if scripts q b some course no_wake held act = by_fault (fault (length scrip
     on = some_if q b act
 
     op : Op
-    op = call_of on.0 (stand q b).bound (slice_get (steps_in (script_of scripts b)) (stand q b).called)
+    op = call_of on.0 (stand q b).bound (slice_get (steps_of scripts b) (stand q b).called)
 
     calls : turn scripts q b ≡ Some op
     calls = turn_of scripts q b op (record { me = on.0; on = stand_comp scripts q b course ∙ on.1; stays = active_stays scripts q b course act; calls = rw (no_wake b) refl })
 
     plain : is_wake op ≡ false
-    plain = never_wake on.0 (stand q b).bound (slice_get (steps_in (script_of scripts b)) (stand q b).called)
+    plain = never_wake on.0 (stand q b).bound (slice_get (steps_of scripts b) (stand q b).called)
 
     near : b < length scripts
     near = run_in_range (length scripts) q b on.0 some (course_legal scripts q course) on.1
@@ -128,16 +128,18 @@ pub record AreParked (scripts : List ScriptView) (t u : Case) (k : ℕ) : Type 0
   pub alike : IsAlike (past_of u) (past_of t)
   pub parked : (b : ℕ) → b < k → is_active (past_of t) b ≡ true → IsParkedIn scripts (past_of t) (past_of u) b
   pub later : (b : ℕ) → k ≤ b → stand (past_of u) b ≡ stand (past_of t) b
+  pub main : carried (past_of u) 0 ≡ carried (past_of t) 0
 
 pub parked_none : (scripts : List ScriptView) (t : Case) → AreParked scripts t t 0
 parked_none scripts t = record {
   alike = record { comps_same = refl; phase_same = λ c. refl; kind_same = λ c. refl; comp_same = λ b. refl; overall_same = refl };
   parked = λ b less. absurd (omega arith);
   later = λ b less. refl;
+  main = refl;
 }
 
 pub parked_skip : (scripts : List ScriptView) (t u : Case) (k : ℕ) → is_active (past_of u) k ≡ false → AreParked scripts t u k → AreParked scripts t u (k + 1)
-parked_skip scripts t u k off h = record { alike = h.alike; parked = λ b less act. by_place b less act (nat_lt b k) refl; later = λ b less. h.later b (omega arith) }
+parked_skip scripts t u k off h = record { alike = h.alike; parked = λ b less act. by_place b less act (nat_lt b k) refl; later = λ b less. h.later b (omega arith); main = h.main }
   where
     by_place : (b : ℕ) → b < k + 1 → is_active (past_of t) b ≡ true → (s : Bool) → nat_lt b k ≡ s → IsParkedIn scripts (past_of t) (past_of u) b
     by_place b less act true j = h.parked b (grind (arith, nat_tests)) act
@@ -154,6 +156,11 @@ alike_then p q r a b = record {
   comp_same = λ c. a.comp_same c ∙ b.comp_same c;
   overall_same = a.overall_same ∙ b.overall_same;
 }
+
+-- a call that does not continue is not carried out
+not_carried : (own : Bool) (e : Entry) (k : ℕ) → goes_on e.reply ≡ false → one_more_if own e k ≡ k
+not_carried true e k h = rw h refl
+not_carried false e k h = refl
 
 -- one run more makes its Wait
 module _ (scripts : List ScriptView) (q r : List Entry) (e : Entry) (b : ℕ) (own : e.caller.0 ≡ b) (mine : IsTurn scripts r e) (cq : IsCourse scripts q) (cr : IsCourse scripts r)
@@ -175,6 +182,9 @@ module _ (scripts : List ScriptView) (q r : List Entry) (e : Entry) (b : ℕ) (o
 
   reply_is : e.reply ≡ R.Parked
   reply_is = mine.reply ∙ (ap (λ x. answer (length scripts) r x e.op) own ∙ (ap (answer (length scripts) r b) op_is ∙ parks))
+
+  uncounted : carried (e ∷ r) 0 ≡ carried r 0
+  uncounted = not_carried (e.caller.0 == 0) e (carried r 0) (rw reply_is refl)
 
   unchanged : ChangesNothing r e
   unchanged =
@@ -240,6 +250,7 @@ parked_entry scripts t u v e k is own mine o on act h w = record {
   parked = λ b less act_b. subst (λ x. IsParkedIn scripts q x b) (sym is) (by_place b less act_b (nat_lt b k) refl);
   later = λ b far. subst (λ x. stand x b ≡ stand q b) (sym is)
       (stands_on scripts q r e k own mine o.on.course on.course act h.alike same w b (unequal e.caller.0 k b own (λ x. omega (arith, x, far))) ∙ h.later b (omega (arith, far)));
+  main = ap (λ x. carried x 0) is ∙ (uncounted scripts q r e k own mine o.on.course on.course act h.alike same w ∙ h.main);
 }
   where
     q : List Entry
@@ -296,6 +307,7 @@ parked_next scripts t u v k some o held is_on h (inl s) =
       alike = subst (λ x. IsAlike x (past_of t)) (sym s.0) p.alike;
       parked = λ b less act. subst (λ x. IsParkedIn scripts (past_of t) x b) (sym s.0) (p.parked b less act);
       later = λ b far. subst (λ x. stand x b ≡ stand (past_of t) b) (sym s.0) (p.later b far);
+      main = ap (λ x. carried x 0) s.0 ∙ p.main;
     }
 parked_next scripts t u v k some o held is_on h (inr s) = parked_more scripts t u v k some o held is_on s.0 h s.1
 
@@ -344,8 +356,14 @@ stuck_if n past some legal all = all_true (λ c. is_still past (phase past c)) (
 fault_ends : (n : ℕ) (q : List Entry) (e : Entry) (f : Fault) → IsLegal n (e ∷ q) → e.reply ≡ R.Fault f → (is_over (e ∷ q) ≡ true) × (overall (e ∷ q) ≡ V.Error)
 fault_ends n q e f legal is = (rw is refl, overall_next n q e legal ∙ rw is (error_is_worst (overall q)))
 
+-- the case is over, with error, and its main run has carried out one call more
+pub record IsStuckEnd (t v : Case) : Type 0 where
+  pub over : is_over (past_of v) ≡ true
+  pub error : overall (past_of v) ≡ V.Error
+  pub main : carried (past_of v) 0 ≡ carried (past_of t) 0 + 1
+
 pub stuck_end : (scripts : List ScriptView) (t u v : Case) (n : ℕ) → 1 ≤ length scripts → length scripts ≤ n → IsOpen scripts t → IsOn scripts u → AreParked scripts t u n → IsStepped scripts (past_of u) (past_of v) 0 →
-    (is_over (past_of v) ≡ true) × (overall (past_of v) ≡ V.Error)
+    IsStuckEnd t v
 stuck_end scripts t u v n some whole o on h step = by_step step
   where
     q : List Entry
@@ -379,7 +397,7 @@ stuck_end scripts t u v n some whole o on h step = by_step step
         answer_plain (length scripts) r 0 (O.Wake p.killed p.target) main no_fault
         ∙ rw (holds_alike h.alike (record { killed = p.killed; target = p.target }), p.unmet, stuck) refl
 
-    stuck_entry : (e : Entry) → past_of v ≡ e ∷ r → e.caller.0 ≡ 0 → IsTurn scripts r e → (is_over (past_of v) ≡ true) × (overall (past_of v) ≡ V.Error)
+    stuck_entry : (e : Entry) → past_of v ≡ e ∷ r → e.caller.0 ≡ 0 → IsTurn scripts r e → IsStuckEnd t v
     stuck_entry e is own mine =
         let was : turn scripts r e.caller.0 ≡ Some e.op = mine.turn in
         let now : turn scripts r e.caller.0 ≡ Some (O.Wake p.killed p.target) = ap (turn scripts r) own ∙ calls in
@@ -387,9 +405,9 @@ stuck_end scripts t u v n some whole o on h step = by_step step
         let op_is : e.op ≡ O.Wake p.killed p.target = cc in
         let reply_is : e.reply ≡ R.Fault F.Stuck = mine.reply ∙ (ap (λ x. answer (length scripts) r x e.op) own ∙ (ap (answer (length scripts) r 0) op_is ∙ error)) in
         let ends = fault_ends (length scripts) r e F.Stuck (course_legal scripts (e ∷ r) (mine, on.course)) reply_is in
-        (ap is_over is ∙ ends.0, ap overall is ∙ ends.1)
+        record { over = ap is_over is ∙ ends.0; error = ap overall is ∙ ends.1; main = ap (λ x. carried x 0) is ∙ (rw (own, reply_is) refl ∙ ap (λ k. k + 1) h.main) }
 
-    by_step : ((past_of v ≡ r) × ((e : Entry) → e.caller.0 ≡ 0 → IsTurn scripts r e → ⊥)) ⊎ ((e : Entry) × (past_of v ≡ e ∷ r) × (e.caller.0 ≡ 0) × IsTurn scripts r e) → (is_over (past_of v) ≡ true) × (overall (past_of v) ≡ V.Error)
+    by_step : ((past_of v ≡ r) × ((e : Entry) → e.caller.0 ≡ 0 → IsTurn scripts r e → ⊥)) ⊎ ((e : Entry) × (past_of v ≡ e ∷ r) × (e.caller.0 ≡ 0) × IsTurn scripts r e) → IsStuckEnd t v
     by_step (inl s) =
         let reply = answer (length scripts) r 0 (O.Wake p.killed p.target) in
         absurd (s.1 (record { caller = record { 0 = 0 }; op = O.Wake p.killed p.target; reply = reply }) refl (record { turn = calls; reply = refl; not_idle = rw error refl }))
@@ -411,5 +429,21 @@ held_if scripts states found q course still closed none b near e own mine = by_g
     by_goes : (s : Bool) → goes_on e.reply ≡ s → s ≡ false
     by_goes false k = refl
     by_goes true k = absurd (by_reply k e.reply refl (still b near e own mine k))
+
+-- a run that continues is not held
+pub never_held : (scripts : List ScriptView) (q : List Entry) → 1 ≤ length scripts → IsCourse scripts q → GoesOn scripts q → AreHeld scripts q → ⊥
+never_held scripts q some course goes held =
+    let e = goes.entry in
+    let t = has_turn scripts q e.caller.0 e.op goes.turn.turn in
+    let near : e.caller.0 < length scripts = run_in_range (length scripts) q e.caller.0 t.me some (course_legal scripts q course) (sym (stand_comp scripts q e.caller.0 course) ∙ t.on) in
+    let off : goes_on e.reply ≡ false = held e.caller.0 near e refl goes.turn in
+    let on : goes_on e.reply ≡ true = goes.on in
+    absurd cc
+
+-- more calls of the main run are counted than it carries out in a course that one more continues
+pub reached_main : (scripts : List ScriptView) (reached : List ℕ) (q r : List Entry) → 1 ≤ length scripts → length reached ≡ length scripts → carried r 0 ≡ carried q 0 + 1 → Covers reached r → carried q 0 < slice_index_or reached 0 0
+reached_main scripts reached q r some as_many one covers =
+    let most : carried r 0 ≤ slice_index_or reached 0 0 = covers 0 (omega (arith, some, as_many)) in
+    omega (arith, most, one)
 
 pub ruleset parking_rules = (parked_none)

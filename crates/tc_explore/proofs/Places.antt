@@ -21,7 +21,8 @@ use Rattle.tc_table.specs.Faults.{fault, all_exist, names, asks_many, special_fa
 use Rattle.tc_table.specs.Legal.{IsLegal}
 use Rattle.tc_table.specs.Inside.Step.{next_local}
 use Rattle.tc_table.proofs.Lemmas.Over.{stays}
-use Rattle.tc_explore.specs.Course.{Stand, after_own, ends, as_list, is_wake, wake_for, wake_if}
+use Rattle.std.specs.Option.{option_to_list}
+use Rattle.tc_explore.specs.Course.{Stand, after_own, ends, is_wake, wake_for, wake_if}
 use Rattle.tc_explore.specs.Inside.Simulation.{is_quiet, is_late, is_met, is_spent, WasParked, IsQuietAt, call_at, IsWakeOf, IsBefore, IsParkedAt, IsFollowed, IsLastAt, IsLeaving}
 use Rattle.tc_explore.proofs.Alike.{ChangesNothing, overall_next}
 use Rattle.tc_explore.proofs.Ahead.{KeepsQuiet}
@@ -232,7 +233,7 @@ together scripts q r b s t e f same plain no_wake =
     let now : IsBefore scripts r b (after_own e s) (after_own e t) = record { fewer = omega (arith, cs, ct, same); between = λ k l m. absurd (omega (arith, cs, ct, same)) } in
     record {
       comp = f.comp;
-      bound = ap (λ x. x ++ as_list (created e.op e.reply)) f.bound;
+      bound = ap (λ x. x ++ option_to_list (created e.op e.reply)) f.bound;
       left = rw (f.left, f.comp) refl;
       no_wake = no_wake;
       place = subst (λ o. MatchOption o (IsBefore scripts r b (after_own e s) (after_own e t)) (λ w. IsParkedAt scripts r b (after_own e s) (after_own e t) w)) (sym no_wake) now;

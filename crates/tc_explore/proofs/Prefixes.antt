@@ -1,7 +1,9 @@
--- What is in front of a legal history is legal.
-use Rattle.std.proofs.Common.{ℕ, ◌≡◌, ◌∙◌, ◌+◌, ◌<◌, List, [], ◌∷◌, ◌++◌, length, take, drop, get_or, reverse, sym, ap, subst}
+-- What is in front of a legal history is legal; the names in a history.
+use Rattle.std.proofs.Common.{ℕ, ◌≡◌, ◌∙◌, ◌+◌, ◌<◌, if◌then◌else◌, Option, Some, None, List, [], ◌∷◌, ◌++◌, length, take, drop, get_or, reverse, refl, sym, ap, subst}
 use Rattle.std.proofs.lemmas.List.{take_more, reverse-append, take-append-drop}
 use Rattle.tc_entry.specs.declared.entry.Entry.{Entry}
+use Rattle.tc_table.specs.Deciding.{name_in, name_of}
+use Rattle.tc_table.specs.History.{created, first_some, is_comp}
 use Rattle.tc_table.specs.Legal.{IsLegal}
 
 earlier_legal : (n : ℕ) (later past : List Entry) → IsLegal n (later ++ past) → IsLegal n past
@@ -17,3 +19,25 @@ front_legal n history k legal =
 -- one entry more in front
 pub reverse_more : (xs : List Entry) (i : ℕ) (d : Entry) → i < length xs → reverse (take (i + 1) xs) ≡ get_or xs i d ∷ reverse (take i xs)
 reverse_more xs i d h = ap reverse (take_more xs i d h) ∙ reverse-append (take i xs) (get_or xs i d ∷ [])
+
+-- ---- names
+
+name_last : (past : List Entry) (e : Entry) (c : ℕ) → name_of (past ++ e ∷ []) c ≡ first_some (if is_comp (created e.op e.reply) c then name_in e.op else None) (name_of past c)
+name_last [] e c = by_given (if is_comp (created e.op e.reply) c then name_in e.op else None)
+  where
+    by_given : (o : Option (List ℕ)) → first_some None o ≡ first_some o None
+    by_given (Some x) = refl
+    by_given None = refl
+name_last (x ∷ past) e c =
+    ap (λ o. first_some o (if is_comp (created x.op x.reply) c then name_in x.op else None)) (name_last past e c)
+    ∙ by_given (if is_comp (created e.op e.reply) c then name_in e.op else None) (name_of past c) (if is_comp (created x.op x.reply) c then name_in x.op else None)
+  where
+    by_given : (o p r : Option (List ℕ)) → first_some (first_some o p) r ≡ first_some o (first_some p r)
+    by_given (Some x) p r = refl
+    by_given None p r = refl
+
+-- one entry more in front of a history
+pub name_first : (e : Entry) (later : List Entry) (c : ℕ) → name_of (reverse (e ∷ later)) c ≡ first_some (if is_comp (created e.op e.reply) c then name_in e.op else None) (name_of (reverse later) c)
+name_first e later c = ap (λ l. name_of l c) (reverse-append (e ∷ []) later) ∙ name_last (reverse later) e c
+
+pub ruleset name_rules = (name_first)

@@ -22,7 +22,8 @@ use Rattle.tc_table.proofs.Lemmas.Numbers.{length-numbers_from, numbers_from-mor
 use Rattle.tc_table.proofs.Lemmas.Sound.{next}
 use Rattle.tc_explore.specs.Course.{stand, IsCourse}
 use Rattle.tc_explore.specs.Inside.Simulation.{IsFor, IsFollowed}
-use Rattle.tc_explore.specs.Inside.Seen.{IsSame, HasSame, phase_code, comp_code}
+use Rattle.tc_explore.specs.Inside.Keys.{phase_code, comp_code}
+use Rattle.tc_explore.specs.Inside.Seen.{IsSame}
 use Rattle.tc_explore.proofs.Legality.{course_legal}
 use Rattle.tc_explore.proofs.Alike.{alike_sym, active_alike, fresh}
 use Rattle.tc_explore.proofs.Ahead.{ahead_after}
@@ -66,6 +67,16 @@ exists_below n past c legal = ap (is_in c) (numbered n past legal) ∙ (is_in-nu
 some_same : (t : Bool) (x y : Phase) → t ≡ true → (if t then Some x else None) ≡ (if t then Some y else None) → x ≡ y
 some_same true x y h e = cc
 some_same false x y h e = absurd cc
+
+-- after both each component that there is does the same and is of one kind, each of n runs is on the same component, and
+-- the same is known of each that continues
+pub record HasSame (n : ℕ) (p q : List Entry) : Type 0 where
+  pub verdict : overall p ≡ overall q
+  pub count : components p ≡ components q
+  pub phases : (c : ℕ) → c < components p → phase_if_any p c ≡ phase_if_any q c
+  pub kinds : (c : ℕ) → c < components p → is_alive_type p c ≡ is_alive_type q c
+  pub comps : (b : ℕ) → b < n → (stand p b).comp ≡ (stand q b).comp
+  pub stands : (b : ℕ) → b < n → is_active p b ≡ true → (stand p b ≡ stand q b) × ((stand q b).wake ≡ None)
 
 module _ (scripts : List ScriptView) (p q : List Entry) (cp : IsCourse scripts p) (cq : IsCourse scripts q) (s : HasSame (length scripts) p q) where
   lp : IsLegal (length scripts) p
@@ -120,39 +131,34 @@ module _ (scripts : List ScriptView) (p q : List Entry) (cp : IsCourse scripts p
     stands = λ b act. let on = some_if p b act in s.stands b (run_in_range (length scripts) p b on.0 some lp on.1) act;
   }
 
-pub same_if : (scripts : List ScriptView) (p q : List Entry) → IsCourse scripts p → IsCourse scripts q → 1 ≤ length scripts → level_of (overall p) ≡ level_of (overall q) → components p ≡ components q →
-    ((c : ℕ) → c < components p → phase_if_any p c ≡ phase_if_any q c) → ((c : ℕ) → c < components p → is_alive_type p c ≡ is_alive_type q c) →
-    ((b : ℕ) → b < length scripts → (stand p b).comp ≡ (stand q b).comp) →
-    ((b : ℕ) → b < length scripts → is_active p b ≡ true → (stand p b ≡ stand q b) × ((stand q b).wake ≡ None)) → IsSame p q
-same_if scripts p q cp cq some levels counts phases kinds comps stands =
-    same_of scripts p q cp cq (record { verdict = same_verdict (overall p) (overall q) levels; count = counts; phases = phases; kinds = kinds; comps = comps; stands = stands }) some
-  where
-    same_verdict : (a b : Verdict) → level_of a ≡ level_of b → a ≡ b
-    same_verdict V.None V.None h = refl
-    same_verdict V.Pass V.Pass h = refl
-    same_verdict V.Inconc V.Inconc h = refl
-    same_verdict V.Fail V.Fail h = refl
-    same_verdict V.Error V.Error h = refl
-    same_verdict V.None V.Pass h = absurd (omega arith)
-    same_verdict V.None V.Inconc h = absurd (omega arith)
-    same_verdict V.None V.Fail h = absurd (omega arith)
-    same_verdict V.None V.Error h = absurd (omega arith)
-    same_verdict V.Pass V.None h = absurd (omega arith)
-    same_verdict V.Pass V.Inconc h = absurd (omega arith)
-    same_verdict V.Pass V.Fail h = absurd (omega arith)
-    same_verdict V.Pass V.Error h = absurd (omega arith)
-    same_verdict V.Inconc V.None h = absurd (omega arith)
-    same_verdict V.Inconc V.Pass h = absurd (omega arith)
-    same_verdict V.Inconc V.Fail h = absurd (omega arith)
-    same_verdict V.Inconc V.Error h = absurd (omega arith)
-    same_verdict V.Fail V.None h = absurd (omega arith)
-    same_verdict V.Fail V.Pass h = absurd (omega arith)
-    same_verdict V.Fail V.Inconc h = absurd (omega arith)
-    same_verdict V.Fail V.Error h = absurd (omega arith)
-    same_verdict V.Error V.None h = absurd (omega arith)
-    same_verdict V.Error V.Pass h = absurd (omega arith)
-    same_verdict V.Error V.Inconc h = absurd (omega arith)
-    same_verdict V.Error V.Fail h = absurd (omega arith)
+-- ---- levels
+
+pub same_verdict : (a b : Verdict) → level_of a ≡ level_of b → a ≡ b
+same_verdict V.None V.None h = refl
+same_verdict V.Pass V.Pass h = refl
+same_verdict V.Inconc V.Inconc h = refl
+same_verdict V.Fail V.Fail h = refl
+same_verdict V.Error V.Error h = refl
+same_verdict V.None V.Pass h = absurd (omega arith)
+same_verdict V.None V.Inconc h = absurd (omega arith)
+same_verdict V.None V.Fail h = absurd (omega arith)
+same_verdict V.None V.Error h = absurd (omega arith)
+same_verdict V.Pass V.None h = absurd (omega arith)
+same_verdict V.Pass V.Inconc h = absurd (omega arith)
+same_verdict V.Pass V.Fail h = absurd (omega arith)
+same_verdict V.Pass V.Error h = absurd (omega arith)
+same_verdict V.Inconc V.None h = absurd (omega arith)
+same_verdict V.Inconc V.Pass h = absurd (omega arith)
+same_verdict V.Inconc V.Fail h = absurd (omega arith)
+same_verdict V.Inconc V.Error h = absurd (omega arith)
+same_verdict V.Fail V.None h = absurd (omega arith)
+same_verdict V.Fail V.Pass h = absurd (omega arith)
+same_verdict V.Fail V.Inconc h = absurd (omega arith)
+same_verdict V.Fail V.Error h = absurd (omega arith)
+same_verdict V.Error V.None h = absurd (omega arith)
+same_verdict V.Error V.Pass h = absurd (omega arith)
+same_verdict V.Error V.Inconc h = absurd (omega arith)
+same_verdict V.Error V.Fail h = absurd (omega arith)
 
 -- what represents a history, and is the same as another, so does that
 pub same_for : (scripts : List ScriptView) (q r p : List Entry) → IsSame q r → IsFor scripts q p → IsFor scripts r p
@@ -165,7 +171,7 @@ same_for scripts q r p s f = record {
   order = order_alike scripts p q r (alike_sym q r s.alike) f.order;
 }
 
--- ---- numbers
+-- ---- numbers of phases and components
 
 pub same_phase : (a b : Option Phase) → phase_code a ≡ phase_code b → a ≡ b
 same_phase None None h = refl
@@ -202,5 +208,3 @@ same_comp None None h = refl
 same_comp (Some c) (Some d) h = let e : c.0 ≡ d.0 = omega arith in ap (λ (m : ℕ). Some (record { 0 = m })) e
 same_comp None (Some d) h = absurd (omega arith)
 same_comp (Some c) None h = absurd (omega arith)
-
-pub ruleset same_rules = (same_phase, same_comp)

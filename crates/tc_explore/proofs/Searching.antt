@@ -14,10 +14,10 @@ use Rattle.tc_table.specs.History.{comp_of, is_alive_type}
 use Rattle.tc_table.specs.Local.{overall}
 use Rattle.tc_table.specs.Answers.{answer}
 use Rattle.tc_table.proofs.Lemmas.Sound.{plain_if}
-use Rattle.tc_explore.specs.Course.{stand, wake_or, call_of, steps_in, script_of, IsTurn, IsCourse}
+use Rattle.std.specs.Option.{unwrap_or}
+use Rattle.tc_explore.specs.Course.{stand, call_of, steps_of, IsTurn, IsCourse}
 use Rattle.tc_explore.specs.Inside.Going.{taken, IsOn}
-use Rattle.tc_explore.specs.Inside.Alike.{IsAlike}
-use Rattle.tc_explore.specs.Inside.Simulation.{is_quiet, is_late, is_met, is_spent, IsQuietAt, IsWakeOf, call_at, IsFollowed, IsFor, IsEnd, IsSilent}
+use Rattle.tc_explore.specs.Inside.Simulation.{IsAlike, is_quiet, is_late, is_met, is_spent, IsQuietAt, IsWakeOf, call_at, IsFollowed, IsFor, IsEnd, IsSilent}
 use Rattle.tc_explore.specs.Inside.Seen.{StandsOn}
 use Rattle.tc_explore.proofs.Legality.{course_legal}
 use Rattle.tc_explore.proofs.Alike.{alike_unchanged}
@@ -33,7 +33,7 @@ next_call : (scripts : List ScriptView) (q : List Entry) (e : Entry) → (stand 
 next_call scripts q e none turn =
     let t = has_turn scripts q e.caller.0 e.op turn.turn in
     ap (λ o. call_at scripts e.caller.0 (stand q e.caller.0) o (stand q e.caller.0).called) t.on
-    ∙ (ap (λ o. wake_or o (call_of t.me (stand q e.caller.0).bound (slice_get (steps_in (script_of scripts e.caller.0)) (stand q e.caller.0).called))) (sym none) ∙ t.calls)
+    ∙ (ap (λ o. unwrap_or o (call_of t.me (stand q e.caller.0).bound (slice_get (steps_of scripts e.caller.0) (stand q e.caller.0).called))) (sym none) ∙ t.calls)
 
 -- a quiet call that is no error
 lead_quiet : (scripts : List ScriptView) (p q : List Entry) (e : Entry) → IsCourse scripts p → IsCourse scripts (e ∷ q) → is_fault e.reply ≡ false → is_ended e.reply ≡ false → is_quiet (overall q) e.op ≡ true →

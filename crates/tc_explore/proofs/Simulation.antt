@@ -23,8 +23,7 @@ use Rattle.tc_table.proofs.Lemmas.Deciding.{equal_if, if_same, and_left}
 use Rattle.tc_table.proofs.Lemmas.Going.{others_halt_nothing, halted_by_entry}
 use Rattle.tc_table.proofs.Lemmas.Kept.{inactive}
 use Rattle.tc_explore.specs.Course.{Stand, stand, IsCourse}
-use Rattle.tc_explore.specs.Inside.Alike.{IsAlike}
-use Rattle.tc_explore.specs.Inside.Simulation.{is_quiet, call_at, IsWakeOf, IsBefore, IsParkedAt, IsFollowed, IsLeaving, IsEnding, IsAhead, IsFor}
+use Rattle.tc_explore.specs.Inside.Simulation.{IsAlike, is_quiet, call_at, IsWakeOf, IsBefore, IsParkedAt, IsFollowed, IsLeaving, IsEnding, IsAhead, IsFor}
 use Rattle.tc_explore.proofs.Legality.{course_legal}
 use Rattle.tc_explore.proofs.Alike.{ChangesNothing, alike_sym, alike_unchanged, active_alike, fault_alike, late_alike, met_alike}
 use Rattle.tc_explore.proofs.Ahead.{KeepsQuiet, ahead_after, ahead_turn}

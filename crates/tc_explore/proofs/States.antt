@@ -1,6 +1,5 @@
 -- When a state is closed, and when all are.
-use Rattle.std.specs.Prelude.{IfOk, OnOk}
-use Rattle.std.proofs.Common.{Result, Ok, Err, ℕ, ◌≡◌, ◌+◌, ◌<◌, ◌≤◌, ◌⊎◌, inl, inr, Bool, true, false, Some, List, [], length, reverse, nat_lt, slice_get, get_or, refl, ap, sym, subst, ◌∙◌, arith, append-nil}
+use Rattle.std.proofs.Common.{ℕ, ◌≡◌, ◌+◌, ◌<◌, ◌≤◌, ◌⊎◌, inl, inr, Bool, true, false, Some, List, [], length, reverse, nat_lt, slice_get, get_or, refl, ap, sym, subst, ◌∙◌, arith, append-nil}
 use Rattle.std.proofs.lemmas.Bool.Decides.{nat_tests}
 use Rattle.std.proofs.lemmas.Option.{slice_get_within, slice_get-get_or}
 use Rattle.tc_verdict.specs.declared.verdict.Verdict.TheVariants as V
@@ -14,7 +13,7 @@ use Rattle.tc_explore.specs.Told.{is_found}
 use Rattle.tc_explore.specs.Course.{stand, IsCourse}
 use Rattle.tc_explore.specs.Inside.Simulation.{IsCovered, GoesOn, IsClosed}
 use Rattle.tc_explore.specs.Inside.Seen.{IsClosedAt, AreClosed, IsSeen, IsLonger, StandsOn, IsRunClosed, IsState}
-use Rattle.tc_explore.specs.Laws.{AllFound}
+use Rattle.tc_explore.specs.Found.{AllFound}
 use Rattle.tc_explore.proofs.Seeing.{seen_longer, found_longer, closed_for_longer, covered_by, get_more}
 use Rattle.tc_explore.proofs.Completeness.{closed_is_complete}
 use Rattle.tc_explore.proofs.Keeping.{active_stays, main_goes}
@@ -61,7 +60,7 @@ get_longer : (a b : List Case) (i : ℕ) (t : Case) → IsLonger a b → slice_g
 get_longer a b i t more h = ap (λ x. slice_get x i) more.1 ∙ get_more a more.0 i t h
 
 -- a copy of the state at a place is closed
-closed_at : (scripts : List ScriptView) (a b : List Case) (found : List Witness) (i : ℕ) (u v : Case) → IsLonger a b → i < length a → u.history ≡ v.history → v ≡ get_or a i v → IsClosed scripts (IsSeen b) found (past_of u) →
+pub closed_at : (scripts : List ScriptView) (a b : List Case) (found : List Witness) (i : ℕ) (u v : Case) → IsLonger a b → i < length a → u.history ≡ v.history → v ≡ get_or a i v → IsClosed scripts (IsSeen b) found (past_of u) →
     IsClosedAt scripts b found i
 closed_at scripts a b found i u v more near same at closed t here =
     let there : slice_get b i ≡ Some (get_or a i v) = get_longer a b i (get_or a i v) more (slice_get-get_or a i v near) in
@@ -69,12 +68,6 @@ closed_at scripts a b found i u v more near same at closed t here =
     let is : t ≡ get_or a i v = cc in
     let past : past_of u ≡ past_of t = ap reverse (same ∙ ap (λ (x : Case). x.history) (at ∙ sym is)) in
     subst (IsClosed scripts (IsSeen b) found) past closed
-
--- if such a copy was looked at
-pub closed_at_if : {E : Type 0} (scripts : List ScriptView) (a b : List Case) (found : List Witness) (i : ℕ) (u v : Case) (r : Result Bool E) → i < length a → u.history ≡ v.history → v ≡ get_or a i v → OnOk r (IsLonger a b) →
-    IfOk r (λ is. is ≡ true → IsClosed scripts (IsSeen b) found (past_of u)) → IfOk r (λ is. is ≡ true → IsClosedAt scripts b found i)
-closed_at_if scripts a b found i u v (Ok is) near same at more closed = λ h. closed_at scripts a b found i u v more near same at (closed h)
-closed_at_if scripts a b found i u v (Err e) near same at more closed = tt
 
 closed_longer : (scripts : List ScriptView) (a b : List Case) (f g : List Witness) (q : List Entry) → IsLonger a b → IsLonger f g → IsClosed scripts (IsSeen a) f q → IsClosed scripts (IsSeen b) g q
 closed_longer scripts a b f g q states found c = record {

@@ -1,6 +1,7 @@
 -- Courses of a test case whose behaviours are scripts: what each run has called, and what it calls next. As in the
 -- component table's definitions `past` lists entries, the newest first, and runs are numbers.
 use Rattle.std.specs.Prelude.{ℕ, ◌≡◌, ◌==◌, ◌<◌, ◌+◌, ◌*◌, ◌/◌, ◌++◌, ◌&&◌, ◌||◌, min, if◌then◌else◌, Bool, true, false, Option, Some, None, List, [], ◌∷◌, length, slice_get}
+use Rattle.std.specs.Option.{option_map_or, option_to_list, unwrap_or}
 use Rattle.tc_entry.specs.declared.comp.Comp.{Comp}
 use Rattle.tc_entry.specs.declared.entry.Entry.{Entry}
 use Rattle.tc_entry.specs.declared.op.Op.{Op}
@@ -49,11 +50,6 @@ abbrev pub arguments : Op → ℕ → List Comp
 arguments (O.Start c run args) b = if run.0 == b then args else []
 arguments _ b = []
 
--- the component, if there is one
-abbrev pub as_list : Option Comp → List Comp
-as_list (Some c) = c ∷ []
-as_list None = []
-
 -- the entry, by a run on this component, ends its pass
 abbrev pub ends : Option Comp → Entry → Bool
 ends (Some own) e = ends_pass own e
@@ -63,7 +59,7 @@ ends None e = false
 abbrev pub after_own : Entry → Stand → Stand
 after_own e s = record {
   comp = s.comp;
-  bound = s.bound ++ as_list (created e.op e.reply);
+  bound = s.bound ++ option_to_list (created e.op e.reply);
   called = if is_wake e.op then s.called else s.called + 1;
   left = s.left || ends s.comp e;
   wake = wake_if e.op e.reply;
@@ -111,45 +107,31 @@ abbrev pub call_of : Comp → List Comp → Option Step → Op
 call_of me bound (Some s) = operation me bound s
 call_of me bound None = O.Finish
 
--- the Wake to come, if there is one, before the other call
-abbrev pub wake_or : Option Op → Op → Op
-wake_or (Some wake) op = wake
-wake_or None op = op
-
 -- what a run on this component calls next
 abbrev pub turn_on : Option Comp → List Step → Stand → Option Op
-turn_on (Some me) steps s = if s.left then None else Some (wake_or s.wake (call_of me s.bound (slice_get steps s.called)))
+turn_on (Some me) steps s = if s.left then None else Some (unwrap_or s.wake (call_of me s.bound (slice_get steps s.called)))
 turn_on None steps s = None
 
--- the steps of a script, if there is one
-abbrev pub steps_in : Option ScriptView → List Step
-steps_in (Some script) = script.steps
-steps_in None = []
-
--- the script of run b
-abbrev pub script_of : List ScriptView → ℕ → Option ScriptView
-script_of scripts b = slice_get scripts b
+-- the steps of the script of run b
+abbrev pub steps_of : List ScriptView → ℕ → List Step
+steps_of scripts b = option_map_or (λ s. s.steps) (slice_get scripts b) []
 
 -- what run b calls next, if it was started and its pass has not ended
 unfoldable pub turn : List ScriptView → List Entry → ℕ → Option Op
-turn scripts past b = let s = stand past b in turn_on s.comp (steps_in (script_of scripts b)) s
+turn scripts past b = let s = stand past b in turn_on s.comp (steps_of scripts b) s
 
 -- ---- courses
 
--- a Wake that is parked again
-abbrev pub is_idle_by : Op → Reply → Bool
-is_idle_by op R.Parked = is_wake op
-is_idle_by op _ = false
-
--- the entry is a Wake that is parked again; none is recorded
-abbrev pub is_idle : Entry → Bool
-is_idle e = is_idle_by e.op e.reply
+-- a Wake that is parked again; none is recorded
+abbrev pub is_idle : Op → Reply → Bool
+is_idle op R.Parked = is_wake op
+is_idle op _ = false
 
 -- the entry is what its caller calls next, with the component table's reply
 pub record IsTurn (scripts : List ScriptView) (past : List Entry) (e : Entry) : Type 0 where
   pub turn : turn scripts past e.caller.0 ≡ Some e.op
   pub reply : e.reply ≡ answer (length scripts) past e.caller.0 e.op
-  pub not_idle : is_idle e ≡ false
+  pub not_idle : is_idle e.op e.reply ≡ false
 
 -- a course of the test case whose run b has the b-th of these scripts
 abbrev pub IsCourse : List ScriptView → List Entry → Type 0

@@ -1,5 +1,6 @@
 -- What the details say of a test case that was explored.
-use Rattle.std.specs.Prelude.{ℕ, ◌==◌, if◌then◌else◌, List, [], ◌∷◌, ◌++◌, length, reverse, All}
+use Rattle.std.specs.Prelude.{ℕ, ◌==◌, ◌+◌, nat_lt, if◌then◌else◌, List, [], ◌∷◌, ◌++◌, length, reverse, slice_index_or}
+use Rattle.std.specs.Fmt.{decimal}
 use Rattle.std.specs.Option.{option_map_or}
 use Rattle.std.specs.List.{flat_map, range_with_len}
 use Rattle.tc_step.specs.Steps.{ScriptView}
@@ -11,16 +12,10 @@ use Rattle.tc_text.specs.Said.{Line}
 use Rattle.tc_verdict.specs.Verdict.{name_of}
 use Rattle.tc_entry.specs.declared.entry.Entry.{Entry}
 use Rattle.tc_table.specs.Faults.{components}
-use Rattle.tc_table.specs.Legal.{IsLegal}
 use Rattle.tc_table.specs.Local.{local_if_any}
-use Rattle.tc_explore.specs.Naming.{comp_words}
 use Rattle.tc_explore.specs.Race.{races}
-use Rattle.tc_explore.specs.Unseen.{unseen}
-use Rattle.tc_explore.specs.Waits.{waits}
-
--- each is a history of n behaviours in which each reply is the component table's
-abbrev pub AreLegalOf : ℕ → List Witness → Type 0
-AreLegalOf n found = All (λ w. IsLegal n (reverse w.history)) found
+use Rattle.tc_explore.specs.Course.{steps_of}
+use Rattle.tc_explore.specs.Waits.{comp_words, waits}
 
 -- component c and its local verdict at the end of a history
 abbrev pub local_words : List Entry → ℕ → Line
@@ -34,7 +29,15 @@ locals w = (name_of w.verdict ∷ flat_map (local_words w.history) (range_with_l
 unfoldable pub of_witnesses : ℕ → List Witness → List Line
 of_witnesses n found = flat_map locals found ++ (races found ++ flat_map (waits n) found)
 
--- the steps that no course carries out, where the search came to its end
+-- the number of the first step of run b that is not carried out, where k of that many are
+unfoldable pub unseen_among : ℕ → ℕ → ℕ → List Line
+unseen_among b k count = if nat_lt k count then (decimal b ∷ decimal (k + 1) ∷ decimal count ∷ []) ∷ [] else []
+
+-- the same of all runs of these scripts, of which that many calls are reached
+unfoldable pub unseen : List ScriptView → List ℕ → List Line
+unseen scripts reached = flat_map (λ b. unseen_among b (slice_index_or reached b 0) (length (steps_of scripts b))) (range_with_len 0 (length scripts))
+
+-- the same, if the search came to its end
 abbrev pub unseen_if_complete : Ending → List ScriptView → List ℕ → List Line
 unseen_if_complete E.Complete scripts reached = unseen scripts reached
 unseen_if_complete E.Undecided scripts reached = []

@@ -1,11 +1,12 @@
 -- What is found of a test case: the overall verdicts of its complete courses.
-use Rattle.std.specs.Prelude.{ℕ, ◌≡◌, ◌<◌, ◌≤◌, List, length, reverse, slice_index_or, All}
+use Rattle.std.specs.Prelude.{ℕ, ◌≡◌, ◌<◌, ◌≤◌, true, List, length, reverse, slice_index_or, All}
 use Rattle.tc_verdict.specs.declared.verdict.Verdict.{Verdict}
 use Rattle.tc_entry.specs.declared.entry.Entry.{Entry}
 use Rattle.tc_step.specs.Steps.{ScriptView}
 use Rattle.tc_table.specs.Local.{overall}
 use Rattle.tc_table.specs.Legal.{IsLegal}
 use Rattle.tc_explore.specs.declared.witness.Witness.{Witness}
+use Rattle.tc_explore.specs.Told.{is_found}
 use Rattle.tc_explore.specs.Course.{carried, IsCourse, IsComplete}
 
 -- this list, the oldest entry first, is a complete course that ends with this verdict
@@ -17,6 +18,10 @@ pub record IsWitness (scripts : List ScriptView) (history : List Entry) (v : Ver
 -- a course gives this verdict
 abbrev pub Gives : List ScriptView → Verdict → Type 0
 Gives scripts verdict = (history : List Entry) × IsWitness scripts history verdict
+
+-- the verdict of each complete course is found
+abbrev pub AllFound : List ScriptView → List Witness → Type 0
+AllFound scripts found = (v : Verdict) → Gives scripts v → is_found found v ≡ true
 
 -- each of these is a witness
 abbrev pub AreWitnesses : List ScriptView → List Witness → Type 0
@@ -39,6 +44,10 @@ pub record AreReached (scripts : List ScriptView) (reached : List ℕ) : Type 0 
 -- for no run fewer calls are counted than it carries out in this course
 abbrev pub Covers : List ℕ → List Entry → Type 0
 Covers reached past = (b : ℕ) → b < length reached → carried past b ≤ slice_index_or reached b 0
+
+-- nor than it carries out in one of these
+abbrev pub AreCovered : List ℕ → List Witness → Type 0
+AreCovered reached found = All (λ w. Covers reached (reverse w.history)) found
 
 -- a search of that many states has met as many different courses, and counts for no run fewer calls than it carries out in
 -- one of them

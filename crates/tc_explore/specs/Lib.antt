@@ -3,9 +3,6 @@ pub mod Course
 pub mod Found
 pub mod Told
 pub mod Inside
-pub mod Laws
-pub mod Naming
 pub mod Race
 pub mod Waits
-pub mod Unseen
 pub mod Details

@@ -30,15 +30,10 @@ more_row left right = if nat_lt ROWS (length left) || nat_lt ROWS (length right)
 unfoldable pub rows : List Entry → List Entry → List Line
 rows left right = flat_map (row_at left right) (range_with_len 0 ROWS) ++ more_row left right
 
--- two witnesses that have that many entries alike in front: that, and what comes then
-abbrev pub parting : Witness → Witness → ℕ → List Line
-parting v w k =
-    (name_of v.verdict ∷ name_of w.verdict ∷ decimal k ∷ []) ∷ (name_of v.verdict ∷ name_of w.verdict ∷ [])
-    ∷ rows (drop k v.history) (drop k w.history)
-
--- two witnesses from where they part
+-- two witnesses from where they part: how many entries they have alike in front, and what comes then
 unfoldable pub race : Witness → Witness → List Line
-race v w = parting v w (alike_count v.history w.history)
+race v w = let k = alike_count v.history w.history in
+    (name_of v.verdict ∷ name_of w.verdict ∷ decimal k ∷ []) ∷ (name_of v.verdict ∷ name_of w.verdict ∷ []) ∷ rows (drop k v.history) (drop k w.history)
 
 -- the first witness next to each other one
 abbrev pub races : List Witness → List Line

@@ -24,13 +24,9 @@ abbrev pub verdict_count : List Witness → ℕ
 verdict_count found =
     found_once found V.None + (found_once found V.Pass + (found_once found V.Inconc + (found_once found V.Fail + found_once found V.Error)))
 
--- the status by the number of verdicts: 0 for one, 1 for more; if none was found, 3
-abbrev pub count_status : ℕ → ℕ
-count_status count = if count == 1 then 0 else if nat_lt 1 count then 1 else 3
-
--- the status by the ending too: 3 if the search met its limit
+-- the status by the number of verdicts: 0 for one, 1 for more; 3 if none was found, or the search met its limit
 abbrev pub ending_status : Ending → ℕ → ℕ
-ending_status E.Complete count = count_status count
+ending_status E.Complete count = if count == 1 then 0 else if nat_lt 1 count then 1 else 3
 ending_status E.Undecided count = 3
 
 -- the status of a test case
@@ -46,23 +42,15 @@ abbrev pub verdict_words : List Witness → List ℕ
 verdict_words found =
     verdict_word found V.None ++ (verdict_word found V.Pass ++ (verdict_word found V.Inconc ++ (verdict_word found V.Fail ++ verdict_word found V.Error)))
 
--- after how many states the search ended
-abbrev pub states_words : ℕ → List ℕ
-states_words states = codes " undecided after " ++ (decimal states ++ codes " states")
-
 -- how the search ended, and, if something may be missed, how many states it looked at
 abbrev pub ending_words : Ending → ℕ → List ℕ
 ending_words E.Complete states = codes " complete"
-ending_words E.Undecided states = states_words states
+ending_words E.Undecided states = codes " undecided after " ++ (decimal states ++ codes " states")
 
 -- the line of a test case of this name
 abbrev pub explored_line : List ℕ → Explored → List ℕ
 explored_line name e = name ++ (verdict_words e.found ++ (ending_words e.ending e.states ++ (10 ∷ [])))
 
--- the history of a witness, in a test case of this name and of n behaviours
-abbrev pub witness_text : List ℕ → ℕ → Witness → List ℕ
-witness_text name n w = block_text 2 name n w.history w.verdict
-
--- the histories of all witnesses
+-- the histories of all witnesses, in a test case of this name and of n behaviours
 abbrev pub witnesses_text : List ℕ → ℕ → Explored → List ℕ
-witnesses_text name n e = flat_map (witness_text name n) e.found
+witnesses_text name n e = flat_map (λ w. block_text 2 name n w.history w.verdict) e.found

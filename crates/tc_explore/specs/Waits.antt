@@ -1,6 +1,6 @@
 -- The waits of a witness that ends since no run can continue, and for whom.
-use Rattle.std.specs.Prelude.{ℕ, suc, if◌then◌else◌, nat_lt, Bool, true, false, Option, Some, None, List, [], ◌∷◌, ◌++◌, codes, length, take, reverse}
-use Rattle.std.specs.Option.{option_map_or}
+use Rattle.std.specs.Prelude.{ℕ, suc, ◌==◌, if◌then◌else◌, nat_lt, Bool, true, false, Option, Some, None, List, [], ◌∷◌, ◌++◌, codes, length, take, reverse}
+use Rattle.std.specs.Option.{option_map_or, option_to_list}
 use Rattle.std.specs.Fmt.{decimal}
 use Rattle.std.specs.List.{flat_map, range_with_len}
 use Rattle.tc_entry.specs.declared.comp.Comp.{Comp}
@@ -12,15 +12,19 @@ use Rattle.tc_entry.specs.declared.reply.Reply.{Reply}
 use Rattle.tc_entry.specs.declared.reply.Reply.TheVariants as R
 use Rattle.tc_table.specs.declared.awaited.Awaited.{Awaited}
 use Rattle.tc_table.specs.Answers.{is_active}
+use Rattle.tc_table.specs.Deciding.{name_of}
 use Rattle.tc_explore.specs.declared.witness.Witness.{Witness}
 use Rattle.tc_explore.specs.Course.{stand}
-use Rattle.tc_explore.specs.Naming.{comp_words}
 use Rattle.tc_text.specs.Said.{Line}
 use Rattle.tc_entry.specs.declared.phase.Phase.{Phase}
 use Rattle.tc_entry.specs.declared.phase.Phase.TheVariants as P
 use Rattle.tc_entry.specs.declared.op.Target.{Target}
 use Rattle.tc_entry.specs.declared.op.Target.TheVariants as T
 use Rattle.tc_table.specs.Phases.{phase_if_any}
+
+-- component c: the main one, or another by its number and its name
+abbrev pub comp_words : List Entry → ℕ → Line
+comp_words history c = if c == 0 then codes "mtc" ∷ [] else decimal c ∷ option_to_list (name_of (reverse history) c)
 
 -- the main component gets the reply that no run can continue
 abbrev pub is_stuck : Reply → Bool
@@ -37,14 +41,17 @@ abbrev pub awaited_by : Option Comp → Option Op → Option (Comp × Awaited)
 awaited_by (Some c) (Some (O.Wake killed target)) = Some (c, record { killed = killed; target = target })
 awaited_by comp op = None
 
--- the run that a component is running, if it is
-abbrev pub running_in : Option Phase → Line
-running_in (Some (P.Running run)) = decimal run.0 ∷ []
-running_in _ = []
+-- what a component is doing; the run that it is running
+abbrev pub phase_words : Option Phase → Line
+phase_words None = []
+phase_words (Some P.Inactive) = codes "not started" ∷ []
+phase_words (Some P.Stopped) = codes "stopped" ∷ []
+phase_words (Some P.Killed) = codes "killed" ∷ []
+phase_words (Some (P.Running run)) = decimal run.0 ∷ []
 
 -- what is waited for
 abbrev pub target_words : List Entry → List Entry → Target → Line
-target_words history past (T.One c) = comp_words history c.0 ++ running_in (phase_if_any past c.0)
+target_words history past (T.One c) = comp_words history c.0 ++ phase_words (phase_if_any past c.0)
 target_words history past T.Any = codes "any" ∷ []
 target_words history past T.All = codes "all" ∷ []
 

@@ -1,7 +1,6 @@
 //! The calls of which nobody can see that they were made, and the making of them.
 ghost use Rattle.std.specs.Prelude.{◌≡◌, ◌≤◌, ◌<◌, true, false, IfOk, IsTrue, length};
 ghost use Rattle.tc_entry.specs.declared.limits.TheConstants.{BEHAVIOURS};
-ghost use Rattle.tc_entry.specs.declared.op.Op.TheVariants.{Finish};
 ghost use Rattle.tc_entry.specs.Reply as reply;
 ghost use Rattle.tc_table.specs.Case.{past_of};
 ghost use Rattle.tc_table.specs.Answers as answers;
@@ -60,16 +59,6 @@ fn is_spent(course: &Course, op: &Op) -> bool
     is_quiet_now(op, course.verdict()) || is_late(course, op) || is_met(course, op)
 }
 
-// Whether a call ends a run.
-fn is_finish(op: &Op) -> bool
-    ensures { IsTrue result → op.now ≡ Finish }
-{
-    match op {
-        Op::Finish => true,
-        _ => false,
-    }
-}
-
 // Whether there is a component, and it is killed.
 fn is_gone(phase: Option<Phase>) -> bool
     ensures { result ≡ moves.is_gone phase }
@@ -82,12 +71,9 @@ fn is_gone(phase: Option<Phase>) -> bool
 fn is_end(course: &Course, run: Run, op: &Op) -> bool
     ensures { IsTrue result → moves.IsEnd (past_of course.now) run.0 op.now }
 {
-    if run.0 == 0 || !is_finish(op) {
-        return false;
-    }
-    match course.comp_of(run) {
-        Some(comp) => !course.is_alive_type(comp.0),
-        None => false,
+    match (op, course.comp_of(run)) {
+        (Op::Finish, Some(comp)) => run.0 != 0 && !course.is_alive_type(comp.0),
+        _ => false,
     }
 }
 

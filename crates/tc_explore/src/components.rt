@@ -1,58 +1,62 @@
 //! What is printed about the components of a witness: their names, and their local verdicts at its end.
-ghost use Rattle.std.specs.Prelude.{◌≡◌, ◌≤◌, ◌++◌, [], ◌∷◌, OnOk, flat_map, option_copied, reverse};
-ghost use Rattle.std.specs.Option.{option_map_or};
+ghost use Rattle.std.specs.Prelude.{◌≡◌, ◌≤◌, ◌++◌, [], ◌∷◌, None, OnOk, flat_map, if◌then◌else◌, option_copied, reverse};
+ghost use Rattle.std.specs.Option.{option_map_or, option_to_list};
 ghost use Rattle.std.specs.List.{range_with_len};
 ghost use Rattle.tc_entry.specs.declared.limits.TheConstants.{BEHAVIOURS};
+ghost use Rattle.tc_table.specs.Deciding.{name_in, name_of as name_of_comp};
+ghost use Rattle.tc_table.specs.History.{created as created_by, is_comp as is_this};
 ghost use Rattle.tc_table.specs.Faults.{components};
 ghost use Rattle.tc_table.specs.Legal.{IsLegal};
 ghost use Rattle.tc_table.specs.Standing.{StandsFor};
+ghost use Rattle.tc_explore.specs.Inside.Adding.{AddsWords};
 ghost use Rattle.tc_explore.specs.Details.{local_words, locals as about_locals};
 ghost use Rattle.tc_verdict.specs.Verdict.{name_of as verdict_name};
-ghost use Rattle.tc_explore.specs.Naming.{comp_words, name_given, name_in};
-ghost use Rattle.tc_text.specs.Said.{Tells, word_of};
+ghost use Rattle.tc_explore.specs.Waits.{comp_words};
+ghost use Rattle.tc_text.specs.Said.{Tells};
 
 use crate::parts::{push_number, push_text, push_word};
 use crate::state::state_after;
 use crate::witness::Witness;
 use std::alloc::Global;
-use tc_entry::{Comp, Entry, Op};
+use tc_entry::{Comp, Entry, Name, Op};
 use tc_table::{CaseState, created, is_comp};
 use tc_text::{Part, append_parts};
 use tc_verdict::{NoMemory, Verdict, name as name_of};
 
-// Appends the name that an operation gives to what it makes.
-fn push_given<'a>(parts: &mut Vec<Part<'a>>, op: &'a Op) -> Result<(), NoMemory>
-    ensures { OnOk result (flat_map word_of parts.new.items ≡ flat_map word_of parts.old.items ++ name_given op.now) }
+// The name that an entry gives to this component, if it makes it and gives one.
+fn name_given(entry: &Entry, comp: u32) -> Option<&Name>
+    ensures { option_copied result ≡ (if is_this (created_by entry.now.op entry.now.reply) comp then name_in entry.now.op else None) }
 {
-    match op {
-        Op::Create {
-            name: Some(name),
-            ..
-        } => push_word(parts, name.bytes()),
-        _ => Ok(()),
+    if !is_comp(created(&entry.op, entry.reply), comp) {
+        return None;
+    }
+    match &entry.op {
+        Op::Create { name, .. } => name.as_ref(),
+        _ => None,
     }
 }
 
-// The operation that makes a component, if there is one.
-fn maker_of(history: &[Entry], comp: u32) -> Option<&Op>
-    ensures { option_map_or name_given (option_copied result) [] ≡ name_in history.now comp }
+// The name of a component, if its creation gave it one.
+#[tactic(auto, using(crate::proofs::Prefixes::name_rules))]
+fn name_at(history: &[Entry], comp: u32) -> Option<&Name>
+    ensures { option_copied result ≡ name_of_comp (reverse history.now) comp }
 {
     let mut left = history;
     while let Some((entry, later)) = left.split_first() {
-        if is_comp(created(&entry.op, entry.reply), comp) {
-            return Some(&entry.op);
+        if let Some(name) = name_given(entry, comp) {
+            return Some(name);
         }
         left = later;
     }
     None
 }
 
-// Appends the name of a component, if the operation that makes it gives one.
+// Appends the name of a component, if it has one.
 fn push_name<'a>(parts: &mut Vec<Part<'a>>, history: &'a [Entry], comp: u32) -> Result<(), NoMemory>
-    ensures { OnOk result (flat_map word_of parts.new.items ≡ flat_map word_of parts.old.items ++ name_in history.now comp) }
+    ensures { OnOk result (AddsWords (option_to_list (name_of_comp (reverse history.now) comp)) parts.old.items parts.new.items) }
 {
-    match maker_of(history, comp) {
-        Some(op) => push_given(parts, op),
+    match name_at(history, comp) {
+        Some(name) => push_word(parts, name.bytes()),
         None => Ok(()),
     }
 }
@@ -63,7 +67,7 @@ pub(crate) fn push_comp<'a>(
     history: &'a [Entry],
     comp: Comp,
 ) -> Result<(), NoMemory>
-    ensures { OnOk result (flat_map word_of parts.new.items ≡ flat_map word_of parts.old.items ++ comp_words history.now comp.0) }
+    ensures { OnOk result (AddsWords (comp_words history.now comp.0) parts.old.items parts.new.items) }
 {
     if comp.0 == 0 {
         return push_word(parts, b"mtc");
@@ -74,7 +78,7 @@ pub(crate) fn push_comp<'a>(
 
 // Appends a local verdict.
 fn push_verdict(parts: &mut Vec<Part>, local: Option<Verdict>) -> Result<(), NoMemory>
-    ensures { OnOk result (flat_map word_of parts.new.items ≡ flat_map word_of parts.old.items ++ option_map_or (λ v. verdict_name v ∷ []) local []) }
+    ensures { OnOk result (AddsWords (option_map_or (λ v. verdict_name v ∷ []) local []) parts.old.items parts.new.items) }
 {
     match local {
         Some(verdict) => push_word(parts, name_of(verdict).as_bytes()),
@@ -90,7 +94,7 @@ fn push_local<'a>(
     comp: u32,
 ) -> Result<(), NoMemory>
     requires { StandsFor state.now (reverse history.now) }
-    ensures { OnOk result (flat_map word_of parts.new.items ≡ flat_map word_of parts.old.items ++ local_words history.now comp) }
+    ensures { OnOk result (AddsWords (local_words history.now comp) parts.old.items parts.new.items) }
 {
     push_text(parts, if comp == 0 { b":" } else { b"," })?;
     push_comp(parts, history, Comp(comp))?;
@@ -104,8 +108,7 @@ fn push_locals<'a>(
     state: &CaseState,
 ) -> Result<(), NoMemory>
     requires { StandsFor state.now (reverse history.now) }
-    ensures { OnOk result (flat_map word_of parts.new.items ≡ flat_map word_of parts.old.items
-        ++ flat_map (local_words history.now) (range_with_len 0 (components (reverse history.now)))) }
+    ensures { OnOk result (AddsWords (flat_map (local_words history.now) (range_with_len 0 (components (reverse history.now)))) parts.old.items parts.new.items) }
 {
     for comp in 0..state.components() {
         push_local(parts, history, state, comp)?;

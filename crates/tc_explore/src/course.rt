@@ -1,5 +1,6 @@
 //! A course: what is known of a case after some turns.
-ghost use Rattle.std.specs.Prelude.{◌≡◌, ◌≤◌, ◌<◌, ◌∷◌, ℕ, [], IfOk, IfSome, IsTrue, None, OnOk, Some, length, slice_index_or};
+ghost use Rattle.std.specs.Prelude.{◌≡◌, ◌≤◌, ◌<◌, ◌∷◌, ◌++◌, ℕ, [], IfOk, IfSome, OnOk, Some, length, slice_index_or};
+ghost use Rattle.std.specs.List.{flat_map, range_with_len};
 ghost use Rattle.tc_entry.specs.declared.limits.TheConstants.{BEHAVIOURS};
 ghost use Rattle.tc_table.specs.Case.{past_of};
 ghost use Rattle.tc_table.specs.Answers as answers;
@@ -9,6 +10,7 @@ ghost use Rattle.tc_table.specs.Phases as phases;
 ghost use Rattle.tc_table.specs.Faults as faults;
 ghost use Rattle.tc_explore.specs.Course as courses;
 ghost use Rattle.tc_explore.specs.Inside.Going as going;
+ghost use Rattle.tc_explore.specs.Inside.Keys.{phase_code, comp_key, run_key_of, key_of};
 
 use crate::entries::has_gone_on;
 use crate::standing::Standing;
@@ -105,7 +107,7 @@ fn count_in(carried: &mut Vec<usize>, entry: &Entry) -> Result<(), NoMemory>
 
 /// The steps of a run.
 pub(crate) fn steps_of(scripts: &[Script], run: Run) -> &[Step]
-    ensures { result.now ≡ courses.steps_in (courses.script_of scripts.now run.0) }
+    ensures { result.now ≡ courses.steps_of scripts.now run.0 }
 {
     let at = usize::from(run.0);
     if at < scripts.len() {
@@ -116,13 +118,15 @@ pub(crate) fn steps_of(scripts: &[Script], run: Run) -> &[Step]
 }
 
 // What a component is doing, as a number.
-fn phase_key(phase: Option<Phase>) -> u16 {
+fn phase_number(phase: Option<Phase>) -> u64
+    ensures { result ≡ phase_code phase }
+{
     match phase {
         None => 0,
         Some(Phase::Inactive) => 1,
         Some(Phase::Stopped) => 2,
         Some(Phase::Killed) => 3,
-        Some(Phase::Running(run)) => run.0.saturating_add(4),
+        Some(Phase::Running(run)) => u64::from(run.0) + 4,
     }
 }
 
@@ -248,27 +252,6 @@ impl Course {
         self.table.is_active(run)
     }
 
-    /// Whether a run is on the same component, or on none in both.
-    pub(crate) fn is_on_same(&self, other: &Course, run: Run) -> bool
-        requires mine { run.0 < self.now.behaviours }
-        requires others { run.0 < other.now.behaviours }
-        ensures { IsTrue result → (courses.stand (past_of self.now) run.0).comp ≡ (courses.stand (past_of other.now) run.0).comp }
-    {
-        let at = usize::from(run.0);
-        self.standings[at].is_on_same(&other.standings[at])
-    }
-
-    /// Whether the same is known of a run, and no Wake of it is to come.
-    pub(crate) fn stands_as(&self, other: &Course, run: Run) -> bool
-        requires mine { run.0 < self.now.behaviours }
-        requires others { run.0 < other.now.behaviours }
-        ensures same { IsTrue result → courses.stand (past_of self.now) run.0 ≡ courses.stand (past_of other.now) run.0 }
-        ensures no_wake { IsTrue result → (courses.stand (past_of other.now) run.0).wake ≡ None }
-    {
-        let at = usize::from(run.0);
-        self.standings[at].stands_as(&other.standings[at])
-    }
-
     /// The component that a run is running on, if it continues.
     pub(crate) fn comp_of(&self, run: Run) -> Option<Comp>
         ensures { IfSome result (λ c. (courses.stand (past_of self.now) run.0).comp ≡ Some c) }
@@ -284,20 +267,40 @@ impl Course {
         }
     }
 
-    /// All that what can still come depends on, as numbers.
-    pub(crate) fn key(&self, alloc: Global) -> Result<Vec<u16>, NoMemory> {
+    // Adds what each component does, and its kind.
+    fn add_components(&self, key: &mut Vec<u64>) -> Result<(), NoMemory>
+        ensures { OnOk result (key.new.items ≡ key.old.items ++ flat_map (comp_key (past_of self.now)) (range_with_len 0 (faults.components (past_of self.now)))) }
+    {
+        for comp in 0..self.components() {
+            key.push(phase_number(self.phase_of(Comp(comp))))?;
+            key.push(u64::from(self.is_alive_type(comp)))?;
+        }
+        Ok(())
+    }
+
+    // Adds what each of n runs can still call depends on.
+    fn add_runs(&self, key: &mut Vec<u64>, n: u16) -> Result<(), NoMemory>
+        requires { n ≡ self.now.behaviours }
+        ensures { OnOk result (key.new.items ≡ key.old.items ++ flat_map (run_key_of (past_of self.now)) (range_with_len 0 n)) }
+    {
+        for run in 0..n {
+            let goes_on = self.is_active(Run(run));
+            self.standings[usize::from(run)].add_key(key, goes_on)?;
+        }
+        Ok(())
+    }
+
+    /// All that what can still come in a case of n behaviours depends on, as numbers.
+    #[tactic(auto, unfolding(crate::specs::Inside::Keys::key_of))]
+    pub(crate) fn key(&self, alloc: Global, n: u16) -> Result<Vec<u64>, NoMemory>
+        requires { n ≡ self.now.behaviours }
+        ensures { IfOk result (λ key. key.items ≡ key_of n (past_of self.now)) }
+    {
         let mut key = Vec::new(alloc);
-        key.push(level(self.verdict()) as u16)?;
-        for (at, standing) in self.standings.iter().enumerate() {
-            let Ok(run) = u16::try_from(at) else {
-                return Err(NoMemory);
-            };
-            standing.add_key(&mut key, self.comp_of(Run(run)).is_some())?;
-        }
-        for comp in 0..self.table.components() {
-            key.push(phase_key(self.table.phase_of(Comp(comp))))?;
-            key.push(u16::from(self.is_alive_type(comp)))?;
-        }
+        key.push(level(self.verdict()))?;
+        key.push(u64::from(self.components()))?;
+        self.add_components(&mut key)?;
+        self.add_runs(&mut key, n)?;
         Ok(key)
     }
 

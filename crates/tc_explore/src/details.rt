@@ -1,8 +1,10 @@
 //! What the details say of a test case that was explored.
-ghost use Rattle.std.specs.Prelude.{◌≤◌, OnOk, length};
+ghost use Rattle.std.specs.Prelude.{◌≤◌, All, OnOk, length, reverse};
 ghost use Rattle.std.specs.List.{flat_map};
 ghost use Rattle.tc_entry.specs.declared.limits.TheConstants.{BEHAVIOURS};
-ghost use Rattle.tc_explore.specs.Details.{AreLegalOf, details, locals, of_witnesses};
+ghost use Rattle.tc_explore.specs.Details.{details, locals, of_witnesses};
+ghost use Rattle.tc_explore.specs.Found.{AreLegal};
+ghost use Rattle.tc_table.specs.Legal.{IsLegal};
 ghost use Rattle.tc_text.specs.Said.{Tells};
 ghost use Rattle.tc_explore.specs.Waits.{waits};
 
@@ -26,7 +28,7 @@ fn append_locals_lines(
 ) -> Result<(), NoMemory>
     requires some { 1 ≤ behaviours }
     requires few { behaviours ≤ BEHAVIOURS }
-    requires legal { AreLegalOf behaviours found.now }
+    requires legal { All (λ w. IsLegal behaviours (reverse w.history)) found.now }
     ensures { OnOk result (Tells (flat_map locals found.now) out.old.items out.new.items) }
 {
     for witness in found {
@@ -45,7 +47,7 @@ fn append_all_waits(
 ) -> Result<(), NoMemory>
     requires some { 1 ≤ behaviours }
     requires few { behaviours ≤ BEHAVIOURS }
-    requires legal { AreLegalOf behaviours found.now }
+    requires legal { All (λ w. IsLegal behaviours (reverse w.history)) found.now }
     ensures { OnOk result (Tells (flat_map (waits behaviours) found.now) out.old.items out.new.items) }
 {
     for witness in found {
@@ -64,7 +66,7 @@ fn append_witnesses(
 ) -> Result<(), NoMemory>
     requires some { 1 ≤ behaviours }
     requires few { behaviours ≤ BEHAVIOURS }
-    requires legal { AreLegalOf behaviours found.now }
+    requires legal { All (λ w. IsLegal behaviours (reverse w.history)) found.now }
     ensures { OnOk result (Tells (of_witnesses behaviours found.now) out.old.items out.new.items) }
 {
     append_locals_lines(alloc, out, behaviours, found)?;
@@ -85,7 +87,7 @@ impl Explored {
         scripts: &[Script],
     ) -> Result<(), NoMemory>
         requires few { length scripts.now ≤ BEHAVIOURS }
-        requires legal { AreLegalOf (length scripts.now) self.now.found }
+        requires legal { AreLegal scripts.now self.now.found }
         ensures { OnOk result (Tells (details scripts.now self.now) out.old.items out.new.items) }
     {
         if scripts.is_empty() {

@@ -22,25 +22,17 @@ pub(crate) fn is_wake(op: &Op) -> bool
     matches!(op, Op::Wake { .. })
 }
 
-// The Wake that follows a parked call.
-fn wake_for(op: &Op) -> Option<Op>
-    ensures { result ≡ courses.wake_for op.now }
-{
-    match op {
-        Op::Wait { killed, target } | Op::Wake { killed, target } => Some(Op::Wake {
-            killed: *killed,
-            target: *target,
-        }),
-        _ => None,
-    }
-}
-
 /// The Wake to come after this entry.
 pub(crate) fn wake_after(entry: &Entry) -> Option<Op>
     ensures { result ≡ courses.wake_if entry.now.op entry.now.reply }
 {
-    match entry.reply {
-        Reply::Parked => wake_for(&entry.op),
+    match (entry.reply, &entry.op) {
+        (Reply::Parked, Op::Wait { killed, target } | Op::Wake { killed, target }) => {
+            Some(Op::Wake {
+                killed: *killed,
+                target: *target,
+            })
+        }
         _ => None,
     }
 }

@@ -1,10 +1,10 @@
 //! The search for the overall verdicts of a test case.
 ghost use Rattle.std.specs.Prelude.{◌≡◌, ◌≤◌, [], IfOk, IfSome, OnOk, length};
 ghost use Rattle.tc_entry.specs.declared.limits.TheConstants.{BEHAVIOURS};
-ghost use Rattle.tc_explore.specs.Found.{AreWitnesses, AreLegal, AreMet, AreReached, IsOnce};
+ghost use Rattle.tc_explore.specs.Found.{AreWitnesses, AreLegal, AreCovered, AreMet, AreReached, IsOnce};
 ghost use Rattle.tc_explore.specs.Course as courses;
 ghost use Rattle.tc_explore.specs.Course.{room_of, weight_of};
-ghost use Rattle.tc_explore.specs.Laws.{AllFound};
+ghost use Rattle.tc_explore.specs.Found.{AllFound};
 ghost use Rattle.tc_explore.specs.declared.explored.Ending.TheVariants.{Complete, Undecided};
 
 use crate::findings::no_findings;
@@ -85,6 +85,7 @@ pub fn explore(alloc: Global, scripts: &[Script], limit: usize) -> Result<Explor
     ensures sound { IfOk result (λ e. AreWitnesses scripts.now e.found) }
     ensures legal { IfOk result (λ e. AreLegal scripts.now e.found) }
     ensures reached { IfOk result (λ e. AreReached scripts.now e.reached) }
+    ensures covered { IfOk result (λ e. AreCovered e.reached e.found) }
     ensures met { IfOk result (λ e. AreMet scripts.now e.reached e.states) }
     ensures complete { IfOk result (λ e. e.ending ≡ Complete → AllFound scripts.now e.found) }
     ensures within { IfOk result (λ e. e.states ≤ limit) }

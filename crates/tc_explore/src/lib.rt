@@ -12,7 +12,6 @@ mod findings;
 mod noted;
 mod parts;
 mod race;
-mod same;
 mod search;
 mod standing;
 mod state;

@@ -1,14 +1,14 @@
 //! What a search notes of the cases that are over.
-ghost use Rattle.std.specs.Prelude.{◌≡◌, ◌≤◌, ◌<◌, true, IfOk, OnOk, length};
+ghost use Rattle.std.specs.Prelude.{◌≡◌, ◌≤◌, ◌<◌, ◌+◌, true, IfOk, OnOk, length};
 ghost use Rattle.tc_entry.specs.declared.limits.TheConstants.{BEHAVIOURS};
 ghost use Rattle.tc_verdict.specs.declared.verdict.Verdict.TheVariants.{Error};
 ghost use Rattle.tc_table.specs.Case.{past_of};
 ghost use Rattle.tc_table.specs.History.{is_over};
 ghost use Rattle.tc_table.specs.Local.{overall};
-ghost use Rattle.tc_explore.specs.Course.{IsComplete};
-ghost use Rattle.tc_explore.specs.Found.{IsWitness};
+ghost use Rattle.tc_explore.specs.Course.{carried, IsComplete};
+ghost use Rattle.tc_explore.specs.Found.{Covers, IsWitness};
 ghost use Rattle.tc_explore.specs.Told as told;
-ghost use Rattle.tc_explore.specs.Inside.Going.{IsOn, IsSteppedIfActive, AreNoted};
+ghost use Rattle.tc_explore.specs.Inside.Going.{IsOn, IsSteppedIfActive};
 ghost use Rattle.tc_explore.specs.Inside.Seen.{IsLonger, IsNoLess, IsNoted, IsOpen, AreHeld};
 
 use crate::course::Course;
@@ -28,30 +28,15 @@ fn witness_of(alloc: Global, scripts: &[Script], course: &Course) -> Result<Witn
     requires complete { IsComplete scripts.now (past_of course.now) }
     ensures witness { IfOk result (λ w. IsWitness scripts.now w.history w.verdict) }
     ensures verdict { IfOk result (λ w. w.verdict ≡ overall (past_of course.now)) }
+    ensures history { IfOk result (λ w. w.history ≡ course.now.history) }
 {
     let verdict = course.verdict();
     let history = Sequence::new(copied_entries(alloc, course.history())?);
     Ok(Witness { verdict, history })
 }
 
-// Adds a witness, if its verdict is new.
-#[tactic(auto, using(crate::proofs::Seeing::seeing_rules, crate::proofs::Noting::noting_rules))]
-fn add_new(scripts: &[Script], witness: Witness, found: &mut Vec<Witness>) -> Result<(), NoMemory>
-    requires witness { IsWitness scripts.now witness.history witness.verdict }
-    requires found { AreNoted scripts.now found.old.items }
-    ensures found { AreNoted scripts.now found.new.items }
-    ensures more_found { IsLonger found.old.items found.new.items }
-    ensures told { OnOk result (told.is_found found.new.items witness.verdict ≡ true) }
-{
-    if is_found(found, witness.verdict) {
-        return Ok(());
-    }
-    found.push(witness)?;
-    Ok(())
-}
-
 /// Notes the verdict of a case that is over, if it is new; each run makes its last call first, which is replied Ended.
-#[tactic(auto, using(crate::proofs::Seeing::seeing_rules))]
+#[tactic(auto, using(crate::proofs::Seeing::seeing_rules, crate::proofs::Noting::noting_rules, crate::proofs::Kept::covering_rules))]
 pub(crate) fn note(
     alloc: Global,
     scripts: &[Script],
@@ -65,15 +50,18 @@ pub(crate) fn note(
     ensures found { IsNoted scripts.now found.new }
     ensures more_found { IsLonger found.old.witnesses.items found.new.witnesses.items }
     ensures more { IsNoLess found.old.reached.items found.new.reached.items }
+    ensures covers { Covers found.new.reached.items (past_of course) }
     ensures told { OnOk result (told.is_found found.new.witnesses.items (overall (past_of course)) ≡ true) }
 {
     reach(&mut found.reached, scripts, &course);
     if is_found(&found.witnesses, course.verdict()) {
         return Ok(());
     }
-    let course = step_all(course, scripts)?;
-    let witness = witness_of(alloc, scripts, &course)?;
-    add_new(scripts, witness, &mut found.witnesses)
+    let ended = step_all(course, scripts)?;
+    reach(&mut found.reached, scripts, &ended);
+    let witness = witness_of(alloc, scripts, &ended)?;
+    found.witnesses.push(witness)?;
+    Ok(())
 }
 
 // The course with the next call of a run, if it continues.
@@ -101,6 +89,7 @@ pub(crate) fn with_stuck(course: Course, scripts: &[Script]) -> Result<Course, N
     ensures on { IfOk result (IsOn scripts.now) }
     ensures over { IfOk result (λ c. AreHeld scripts.now (past_of course) → is_over (past_of c) ≡ true) }
     ensures error { IfOk result (λ c. AreHeld scripts.now (past_of course) → overall (past_of c) ≡ Error) }
+    ensures main { IfOk result (λ c. AreHeld scripts.now (past_of course) → carried (past_of c) 0 ≡ carried (past_of course) 0 + 1) }
 {
     let mut course = course;
     for run in 0..scripts.len() as u16 {

@@ -2,6 +2,7 @@
 ghost use Rattle.std.specs.Prelude.{◌≡◌, ◌++◌, [], ◌∷◌, OnOk, flat_map};
 ghost use Rattle.std.specs.Fmt.{decimal};
 ghost use Rattle.tc_text.specs.Said.{word_of};
+ghost use Rattle.tc_explore.specs.Inside.Adding.{AddsWords};
 
 use tc_text::Part;
 use tc_verdict::NoMemory;
@@ -18,7 +19,7 @@ pub(crate) fn push_text<'a>(parts: &mut Vec<Part<'a>>, text: &'a [u8]) -> Result
 /// Appends a number.
 #[tactic(auto, using(tc_text::proofs::Lemmas::Saying::words_push))]
 pub(crate) fn push_number(parts: &mut Vec<Part>, number: u64) -> Result<(), NoMemory>
-    ensures { OnOk result (flat_map word_of parts.new.items ≡ flat_map word_of parts.old.items ++ decimal number ∷ []) }
+    ensures { OnOk result (AddsWords (decimal number ∷ []) parts.old.items parts.new.items) }
 {
     parts.push(Part::Number(number))?;
     Ok(())
@@ -27,7 +28,7 @@ pub(crate) fn push_number(parts: &mut Vec<Part>, number: u64) -> Result<(), NoMe
 /// Appends a word.
 #[tactic(auto, using(tc_text::proofs::Lemmas::Saying::words_push))]
 pub(crate) fn push_word<'a>(parts: &mut Vec<Part<'a>>, word: &'a [u8]) -> Result<(), NoMemory>
-    ensures { OnOk result (flat_map word_of parts.new.items ≡ flat_map word_of parts.old.items ++ word.now ∷ []) }
+    ensures { OnOk result (AddsWords (word.now ∷ []) parts.old.items parts.new.items) }
 {
     parts.push(Part::Word(word))?;
     Ok(())

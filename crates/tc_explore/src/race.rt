@@ -1,9 +1,9 @@
 //! Two witnesses side by side, from where they part.
-ghost use Rattle.std.specs.Prelude.{◌≡◌, ◌≤◌, ◌++◌, [], ◌∷◌, IfOk, OnOk, bytes_eq, drop, length, option_copied, slice_get};
+ghost use Rattle.std.specs.Prelude.{◌≡◌, ◌≤◌, ◌++◌, [], ◌∷◌, IfOk, OnOk, bytes_eq, drop, length, slice_get};
 ghost use Rattle.std.specs.Option.{option_map_or};
 ghost use Rattle.std.specs.List.{flat_map, range_with_len};
 ghost use Rattle.tc_history.specs.Block.{entry_text};
-ghost use Rattle.tc_explore.specs.Race.{alike_count as count_alike, more_row, parting, race, races, row_at, rows};
+ghost use Rattle.tc_explore.specs.Race.{alike_count as count_alike, more_row, race, races, row_at, rows};
 ghost use Rattle.tc_text.specs.Said.{Tells, TellsLine};
 ghost use Rattle.tc_verdict.specs.Verdict.{name_of as verdict_name};
 ghost use Rattle.std.specs.Fmt.{decimal};
@@ -92,22 +92,14 @@ fn append_row<'a>(
     )
 }
 
-// Appends an entry, if there is one.
-fn append_if_any(out: &mut Vec<u8>, entry: Option<&Entry>) -> Result<(), NoMemory>
-    ensures { OnOk result (out.new.items ≡ out.old.items ++ option_map_or entry_text (option_copied entry.entry) []) }
-{
-    match entry {
-        Some(entry) => append_entry(out, entry),
-        None => Ok(()),
-    }
-}
-
 // The text of the entry at a place, if there is one.
 fn text_at(alloc: Global, history: &[Entry], at: usize) -> Result<Vec<u8>, NoMemory>
     ensures { IfOk result (λ v. v.items ≡ option_map_or entry_text (slice_get history.now at) []) }
 {
     let mut text = Vec::new(alloc);
-    append_if_any(&mut text, history.get(at))?;
+    if at < history.len() {
+        append_entry(&mut text, &history[at])?;
+    }
     Ok(text)
 }
 
@@ -222,28 +214,8 @@ fn behind(history: &[Entry], count: usize) -> &[Entry]
     &history[count..]
 }
 
-// Appends two witnesses side by side after that many entries; if memory runs out, a part of it.
-#[tactic(auto, using(tc_text::proofs::Lemmas::Saying::tell_rules))]
-fn append_parting(
-    alloc: Global,
-    out: &mut Vec<u8>,
-    witness: &Witness,
-    other: &Witness,
-    count: usize,
-) -> Result<(), NoMemory>
-    requires within { count ≤ length witness.now.history }
-    requires within_other { count ≤ length other.now.history }
-    ensures { OnOk result (Tells (parting witness.now other.now count) out.old.items out.new.items) }
-{
-    let left = behind(witness.history.as_slice(), count);
-    let right = behind(other.history.as_slice(), count);
-    append_alike(alloc, out, witness, other, count)?;
-    append_heads(alloc, out, witness, other)?;
-    append_rows(alloc, out, left, right)
-}
-
 // Appends two witnesses side by side from where they part; if memory runs out, a part of it.
-#[tactic(auto, unfolding(crate::specs::Race::race))]
+#[tactic(auto, unfolding(crate::specs::Race::race), using(tc_text::proofs::Lemmas::Saying::tell_rules))]
 fn append_race(
     alloc: Global,
     out: &mut Vec<u8>,
@@ -255,7 +227,11 @@ fn append_race(
     let left = witness.history.as_slice();
     let right = other.history.as_slice();
     let count = alike_count(alloc, left, right)?;
-    append_parting(alloc, out, witness, other, count)
+    append_alike(alloc, out, witness, other, count)?;
+    append_heads(alloc, out, witness, other)?;
+    let rest = behind(left, count);
+    let others = behind(right, count);
+    append_rows(alloc, out, rest, others)
 }
 
 /// Appends the first witness next to each other one, from where they part. If memory runs out, a part of it.

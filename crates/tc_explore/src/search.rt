@@ -1,36 +1,36 @@
 //! The search. It follows the calls of all runs, and makes those at once of which nobody can see that they were made.
 //! If it comes to its end nothing is missed.
-ghost use Rattle.std.specs.Prelude.{◌≡◌, ◌≤◌, ◌<◌, [], ◌∷◌, true, false, IfOk, IsTrue, OnOk, All, length};
+ghost use Rattle.std.specs.Prelude.{◌≡◌, ◌≤◌, ◌<◌, [], ◌∷◌, true, false, IfOk, OnOk, All, length, slice_index_or};
 ghost use Rattle.tc_entry.specs.declared.limits.TheConstants.{BEHAVIOURS};
 ghost use Rattle.tc_table.specs.Case.{past_of};
 ghost use Rattle.tc_explore.specs.Inside.Going as going;
 ghost use Rattle.tc_explore.specs.Inside.Going.{IsOn, IsNext};
 ghost use Rattle.tc_explore.specs.Inside.Simulation as moves;
+ghost use Rattle.tc_explore.specs.Inside.Simulation.{IsClosed};
 ghost use Rattle.tc_explore.specs.Found.{AreMet};
-ghost use Rattle.tc_explore.specs.Laws.{AllFound};
-ghost use Rattle.tc_explore.specs.Course.{goes_on};
+ghost use Rattle.tc_explore.specs.Found.{AllFound};
+ghost use Rattle.tc_explore.specs.Course.{carried, goes_on};
 ghost use Rattle.tc_table.specs.Answers.{answer};
-ghost use Rattle.tc_explore.specs.Inside.Seen.{IsClosedAt, AreClosed, IsSeen, IsLonger, IsNoted, IsOpen, IsState, AreApart, AreGrown, AreKept, IsGrown, IsGrownAt, IsTree, IsWith, IsFull, IsStillAt, AreStill, IsCallClosed, IsRunOfClosed, AreRunsClosed, IsCaseClosed};
+ghost use Rattle.tc_explore.specs.Inside.Seen.{AreClosed, IsSeen, IsLonger, IsNoted, IsOpen, IsState, AreKept, AreKeyed, IsWith, IsFull, AreHeld, IsStillAt, AreStill, IsCallClosed, IsRunClosed, AreRunsClosed};
 
 use crate::calm::calmed;
 use crate::course::Course;
 use crate::entries::has_gone_on;
 use crate::findings::{Findings, reach};
 use crate::noted::{note, with_stuck};
-use crate::same::is_same;
 use crate::told::is_found;
 use crate::turns::next_call;
-use indexmap::IndexMap;
+use indexmap::IndexSet;
 use std::alloc::Global;
 use tc_entry::Op;
 use tc_step::Script;
 use tc_verdict::{NoMemory, Run, Verdict};
 
-/// The states that were met, by a course each, at most that many; and for each key the index of the last state that has it.
+/// The states that were met, by a course each, at most that many; and the key of each.
 #[derive(Drop)]
 pub(crate) struct Met {
     pub(crate) states: Vec<Course>,
-    pub(crate) places: IndexMap<Vec<u16>, usize>,
+    pub(crate) keys: IndexSet<Vec<u64>>,
     pub(crate) limit: usize,
 }
 
@@ -41,49 +41,30 @@ pub(crate) struct Extent {
     pub(crate) is_whole: bool,
 }
 
-// Whether the state at this place is that of the course.
-#[tactic(auto, using(crate::proofs::Seeing::seeing_rules, crate::proofs::Keeping::keeping_rules))]
-fn is_at(states: &[Course], at: usize, course: &Course, scripts: &[Script]) -> bool
-    requires some { 1 ≤ length scripts.now }
-    requires few { length scripts.now ≤ BEHAVIOURS }
-    requires on { IsOn scripts.now course.now }
-    requires states { All (λ t. IsState scripts.now t) states.now }
-    ensures { IsTrue result → IsSeen states.now (past_of course.now) }
-{
-    if at >= states.len() {
-        return false;
-    }
-    is_same(course, &states[at], scripts)
-}
-
 // Takes in the state of a course, and returns whether it is among those that are seen: it is, unless as many as the
-// limit are met. A key that represents another state as well leads to this one from now on.
+// limit are met. No two of them have one key.
 #[tactic(auto, using(crate::proofs::Seeing::seeing_rules, crate::proofs::Keeping::keeping_rules))]
 fn place(alloc: Global, scripts: &[Script], course: Course, met: &mut Met) -> Result<bool, NoMemory>
     requires some { 1 ≤ length scripts.now }
     requires few { length scripts.now ≤ BEHAVIOURS }
     requires state { IsState scripts.now course }
     requires states { All (λ t. IsState scripts.now t) met.old.states.items }
+    requires keyed { AreKeyed scripts.now met.old }
     ensures with_it { OnOk result (IsWith met.old.states.items course met.new.states.items) }
+    ensures keyed { OnOk result (AreKeyed scripts.now met.new) }
     ensures limit { met.new.limit ≡ met.old.limit }
     ensures within { length met.old.states.items ≤ met.old.limit → length met.new.states.items ≤ met.old.limit }
     ensures seen { IfOk result (λ is_seen. is_seen ≡ true → IsSeen met.new.states.items (past_of course)) }
     ensures full { IfOk result (λ is_seen. is_seen ≡ false → IsFull met.old) }
 {
-    let key = course.key(alloc)?;
-    let known = met.places.get(&key).copied();
-    let is_known = match known {
-        Some(at) => is_at(&met.states, at, &course, scripts),
-        None => false,
-    };
-    if is_known {
+    let key = course.key(alloc, scripts.len() as u16)?;
+    if met.keys.contains(&key) {
         return Ok(true);
     }
     if met.states.len() >= met.limit {
         return Ok(false);
     }
-    let at = met.states.len();
-    met.places.insert(key, at)?;
+    met.keys.insert(key)?;
     met.states.push(course)?;
     Ok(true)
 }
@@ -127,7 +108,6 @@ fn after_call(
     ensures more_states { OnOk result (IsLonger met.old.states.items met.new.states.items) }
     ensures found { OnOk result (IsNoted scripts.now found.new) }
     ensures more_found { OnOk result (IsLonger found.old.witnesses.items found.new.witnesses.items) }
-    ensures grown { OnOk result (IsGrown met.old.states.items met.new.states.items (past_of course.now) run.0) }
     ensures limit { OnOk result (met.new.limit ≡ met.old.limit) }
     ensures closed { IfOk result (λ is_closed. is_closed ≡ true → IsCallClosed scripts.now met.new found.new course.now run op) }
     ensures full { IfOk result (λ is_closed. is_closed ≡ false → IsFull met.old) }
@@ -151,7 +131,7 @@ struct Tried {
 }
 
 // Makes the next call of a run.
-#[tactic(auto, using(crate::proofs::Closed::run_rules, crate::proofs::Seeing::seeing_rules, crate::proofs::Keeping::keeping_rules, crate::proofs::Tree::growing_rules))]
+#[tactic(auto, using(crate::proofs::Closed::run_rules, crate::proofs::Seeing::seeing_rules, crate::proofs::Keeping::keeping_rules))]
 fn try_run(
     alloc: Global,
     scripts: &[Script],
@@ -169,9 +149,8 @@ fn try_run(
     ensures more_states { OnOk result (IsLonger met.old.states.items met.new.states.items) }
     ensures found { OnOk result (IsNoted scripts.now found.new) }
     ensures more_found { OnOk result (IsLonger found.old.witnesses.items found.new.witnesses.items) }
-    ensures grown { OnOk result (IsGrown met.old.states.items met.new.states.items (past_of course.now) run.0) }
     ensures limit { OnOk result (met.new.limit ≡ met.old.limit) }
-    ensures closed { IfOk result (λ t. t.is_closed ≡ true → IsRunOfClosed scripts.now met.new found.new course.now run.0) }
+    ensures closed { IfOk result (λ t. t.is_closed ≡ true → IsRunClosed scripts.now met.new.states.items found.new.witnesses.items (past_of course.now) run.0) }
     ensures full { IfOk result (λ t. t.is_closed ≡ false → IsFull met.old) }
     ensures goes_on { IfOk result (λ t. t.goes_on ≡ true → moves.GoesOn scripts.now (past_of course.now)) }
     ensures still { IfOk result (λ t. t.goes_on ≡ false → IsStillAt scripts.now (past_of course.now) run.0) }
@@ -213,7 +192,6 @@ fn try_runs(
     ensures more_states { OnOk result (IsLonger met.old.states.items met.new.states.items) }
     ensures found { OnOk result (IsNoted scripts.now found.new) }
     ensures more_found { OnOk result (IsLonger found.old.witnesses.items found.new.witnesses.items) }
-    ensures grown { OnOk result (AreGrown met.old.states.items met.new.states.items (past_of course.now) (length scripts.now)) }
     ensures limit { OnOk result (met.new.limit ≡ met.old.limit) }
     ensures closed { IfOk result (λ t. t.is_closed ≡ true → AreRunsClosed scripts.now met.new found.new course.now (length scripts.now)) }
     ensures full { IfOk result (λ t. t.is_closed ≡ false → IsFull met.new) }
@@ -249,9 +227,9 @@ fn expand_course(
     ensures more_states { OnOk result (IsLonger met.old.states.items met.new.states.items) }
     ensures found { OnOk result (IsNoted scripts.now found.new) }
     ensures more_found { OnOk result (IsLonger found.old.witnesses.items found.new.witnesses.items) }
-    ensures grown { OnOk result (AreGrown met.old.states.items met.new.states.items (past_of course.now) (length scripts.now)) }
     ensures limit { OnOk result (met.new.limit ≡ met.old.limit) }
-    ensures closed { IfOk result (λ is_closed. is_closed ≡ true → IsCaseClosed scripts.now met.new found.new course.now) }
+    ensures closed { IfOk result (λ c. c ≡ true → IsClosed scripts.now (IsSeen met.new.states.items) found.new.witnesses.items (past_of course.now)) }
+    ensures stuck { IfOk result (λ c. c ≡ true → AreHeld scripts.now (past_of course.now) → carried (past_of course.now) 0 < slice_index_or found.new.reached.items 0 0) }
     ensures full { IfOk result (λ is_closed. is_closed ≡ false → IsFull met.new) }
 {
     let tried = try_runs(alloc, scripts, course, met, found)?;
@@ -270,37 +248,8 @@ fn expand_course(
     Ok(true)
 }
 
-// Looks at the state at this place.
-#[tactic(auto, using(crate::proofs::Seeing::seeing_rules, crate::proofs::Keeping::keeping_rules, crate::proofs::Kept::kept_rules))]
-fn expand(
-    alloc: Global,
-    scripts: &[Script],
-    at: usize,
-    met: &mut Met,
-    found: &mut Findings,
-) -> Result<bool, NoMemory>
-    requires some { 1 ≤ length scripts.now }
-    requires few { length scripts.now ≤ BEHAVIOURS }
-    requires within { at < length met.old.states.items }
-    requires kept { AreKept scripts.now met.old found.old }
-    requires found { IsNoted scripts.now found.old }
-    ensures kept { OnOk result (AreKept scripts.now met.new found.new) }
-    ensures more_states { OnOk result (IsLonger met.old.states.items met.new.states.items) }
-    ensures found { OnOk result (IsNoted scripts.now found.new) }
-    ensures more_found { OnOk result (IsLonger found.old.witnesses.items found.new.witnesses.items) }
-    ensures grown { OnOk result (IsGrownAt met.old.states.items met.new.states.items at (length scripts.now)) }
-    ensures limit { OnOk result (met.new.limit ≡ met.old.limit) }
-    ensures closed { IfOk result (λ is_closed. is_closed ≡ true → IsClosedAt scripts.now met.new.states.items found.new.witnesses.items at) }
-    ensures full { IfOk result (λ is_closed. is_closed ≡ false → IsFull met.new) }
-{
-    let course = met.states[at].copied(alloc)?;
-    let is_closed = expand_course(alloc, scripts, &course, met, found);
-    drop(course);
-    is_closed
-}
-
 // Looks at all states, and returns whether what comes after each is seen, or found.
-#[tactic(auto, using(crate::proofs::States::loop_rules, crate::proofs::Closed::longer_then, crate::proofs::Seeing::seeing_rules))]
+#[tactic(auto, using(crate::proofs::States::loop_rules, crate::proofs::Closed::longer_then, crate::proofs::Seeing::seeing_rules, crate::proofs::Keeping::keeping_rules, crate::proofs::Kept::kept_rules))]
 fn expand_all(
     alloc: Global,
     scripts: &[Script],
@@ -309,13 +258,11 @@ fn expand_all(
 ) -> Result<bool, NoMemory>
     requires some { 1 ≤ length scripts.now }
     requires few { length scripts.now ≤ BEHAVIOURS }
-    requires tree { IsTree met.old.states.items 0 0 }
     requires kept { AreKept scripts.now met.old found.old }
     requires found { IsNoted scripts.now found.old }
     ensures more_states { OnOk result (IsLonger met.old.states.items met.new.states.items) }
     ensures found { OnOk result (IsNoted scripts.now found.new) }
     ensures kept { OnOk result (AreKept scripts.now met.new found.new) }
-    ensures apart { OnOk result (AreApart met.new.states.items) }
     ensures limit { OnOk result (met.new.limit ≡ met.old.limit) }
     ensures closed { IfOk result (λ is_whole. is_whole ≡ true → AreClosed scripts.now met.new.states.items found.new.witnesses.items) }
     ensures full { IfOk result (λ is_whole. is_whole ≡ false → IsFull met.new) }
@@ -326,49 +273,16 @@ fn expand_all(
         if at >= met.states.len() {
             return Ok(is_closed);
         }
-        let is_one_closed = expand(alloc, scripts, at, met, found)?;
+        let course = met.states[at].copied(alloc)?;
+        let is_one_closed = expand_course(alloc, scripts, &course, met, found)?;
         is_closed = is_closed && is_one_closed;
     }
     Ok(is_closed)
 }
 
-// Makes the calls of all runs from each state that is met, within a limit, if none was met.
-#[tactic(auto, using(crate::proofs::States::complete_by, crate::proofs::Lemmas::Turning::turn_rules, crate::proofs::Seeing::seeing_rules, crate::proofs::Keeping::open_opening, crate::proofs::Kept::kept_rules))]
-fn search_in(
-    alloc: Global,
-    scripts: &[Script],
-    met: &mut Met,
-    found: &mut Findings,
-) -> Result<Extent, NoMemory>
-    requires some { 1 ≤ length scripts.now }
-    requires few { length scripts.now ≤ BEHAVIOURS }
-    requires none { met.old.states.items ≡ [] }
-    requires found { IsNoted scripts.now found.old }
-    ensures found { OnOk result (IsNoted scripts.now found.new) }
-    ensures met { IfOk result (λ e. AreMet scripts.now found.new.reached.items e.states) }
-    ensures complete { IfOk result (λ e. e.is_whole ≡ true → AllFound scripts.now found.new.witnesses.items) }
-    ensures within { IfOk result (λ e. e.states ≤ met.old.limit) }
-    ensures full { IfOk result (λ e. e.is_whole ≡ false → e.states ≡ met.old.limit) }
-{
-    let opening = Course::opening(alloc, scripts.len() as u16)?;
-    let calm = calmed(opening, scripts)?;
-    reach(&mut found.reached, scripts, &calm);
-    if !place(alloc, scripts, calm, met)? {
-        return Ok(Extent {
-            states: met.states.len(),
-            is_whole: false,
-        });
-    }
-    let is_whole = expand_all(alloc, scripts, met, found)?;
-    Ok(Extent {
-        states: met.states.len(),
-        is_whole,
-    })
-}
-
 /// Makes the calls of all runs from each state that is met, within a limit. It comes to its end unless it meets the limit, and
 /// then the verdict of each complete course is found.
-#[tactic(auto, using(crate::proofs::States::complete_by, crate::proofs::Lemmas::Turning::turn_rules, crate::proofs::Seeing::seeing_rules))]
+#[tactic(auto, using(crate::proofs::States::complete_by, crate::proofs::Lemmas::Turning::turn_rules, crate::proofs::Seeing::seeing_rules, crate::proofs::Keeping::open_opening, crate::proofs::Kept::kept_rules))]
 pub(crate) fn search_all(
     alloc: Global,
     scripts: &[Script],
@@ -386,10 +300,17 @@ pub(crate) fn search_all(
 {
     let mut met = Met {
         states: Vec::new(alloc),
-        places: IndexMap::new(alloc),
+        keys: IndexSet::new(alloc),
         limit,
     };
-    let extent = search_in(alloc, scripts, &mut met, found);
-    drop(met);
-    extent
+    let opening = Course::opening(alloc, scripts.len() as u16)?;
+    let calm = calmed(opening, scripts)?;
+    reach(&mut found.reached, scripts, &calm);
+    let is_placed = place(alloc, scripts, calm, &mut met)?;
+    let is_closed = expand_all(alloc, scripts, &mut met, found)?;
+    let is_whole = is_placed && is_closed;
+    Ok(Extent {
+        states: met.keys.len(),
+        is_whole,
+    })
 }

@@ -1,11 +1,11 @@
 //! What is known of one run.
-ghost use Rattle.std.specs.Prelude.{◌≡◌, ◌++◌, IfOk, IfSome, IsTrue, None, Some, OnOk};
+ghost use Rattle.std.specs.Prelude.{◌≡◌, ◌++◌, IfOk, IfSome, Some, OnOk, map};
 ghost use Rattle.tc_explore.specs.Course as courses;
 ghost use Rattle.tc_explore.specs.Waits.{awaited_by};
+ghost use Rattle.tc_explore.specs.Inside.Keys.{comp_code, number_of, run_key};
 
 use crate::call::call_at;
 use crate::entries::{arguments, ends, is_wake, wake_after};
-use crate::same::{are_same, comp_number};
 use std::alloc::Global;
 use std::marker::Model;
 use tc_entry::{Comp, Entry, Op};
@@ -131,28 +131,6 @@ impl Standing {
         Some((comp, awaited))
     }
 
-    /// Whether both are on the same component, or on none.
-    #[tactic(auto, using(crate::proofs::Sameness::same_rules))]
-    pub(crate) fn is_on_same(&self, other: &Standing) -> bool
-        ensures { IsTrue result → self.now.comp ≡ other.now.comp }
-    {
-        comp_number(self.comp) == comp_number(other.comp)
-    }
-
-    /// Whether the same is known of both, and no Wake is to come.
-    #[tactic(auto, using(crate::proofs::Sameness::same_rules))]
-    pub(crate) fn stands_as(&self, other: &Standing) -> bool
-        ensures same { IsTrue result → self.now ≡ other.now }
-        ensures no_wake { IsTrue result → other.now.wake ≡ None }
-    {
-        comp_number(self.comp) == comp_number(other.comp)
-            && are_same(&self.bound, &other.bound)
-            && self.called == other.called
-            && self.left == other.left
-            && self.wake.is_none()
-            && other.wake.is_none()
-    }
-
     /// The component of the run, if it was started and its pass has not ended.
     pub(crate) fn comp(&self) -> Option<Comp>
         ensures { IfSome result (λ c. self.now.comp ≡ Some c) }
@@ -160,35 +138,38 @@ impl Standing {
         if self.left { None } else { self.comp }
     }
 
-    /// All that what the run can still call depends on, as numbers; of one that is halted its component.
-    pub(crate) fn add_key(&self, key: &mut Vec<u16>, goes_on: bool) -> Result<(), NoMemory> {
-        let Some(comp) = self.comp else {
-            key.push(NOT_STARTED)?;
-            return Ok(());
-        };
+    /// Adds what a run can still call depends on, as numbers; of one that is halted its component.
+    pub(crate) fn add_key(&self, key: &mut Vec<u64>, goes_on: bool) -> Result<(), NoMemory>
+        ensures { OnOk result (key.new.items ≡ key.old.items ++ run_key goes_on self.now) }
+    {
+        key.push(comp_number(self.comp))?;
         if !goes_on {
-            key.push(HALTED)?;
-            key.push(small(u64::from(comp.0)))?;
+            key.push(0)?;
             return Ok(());
         }
-        key.push(small(u64::from(comp.0)))?;
-        key.push(small(self.called as u64))?;
-        key.push(if self.wake.is_some() { 1 } else { 0 })?;
-        for comp in &self.bound {
-            key.push(small(u64::from(comp.0)))?;
-        }
-        key.push(END_OF_BOUND)?;
-        Ok(())
+        key.push(1)?;
+        key.push(self.called as u64)?;
+        key.push(self.bound.len() as u64)?;
+        add_numbers(key, self.bound.as_slice())
     }
 }
 
-// A number in a key. Components and steps have smaller ones than the words below.
-fn small(number: u64) -> u16 {
-    u16::try_from(number).unwrap_or(u16::MAX)
+// A component as a number.
+fn comp_number(comp: Option<Comp>) -> u64
+    ensures { result ≡ comp_code comp }
+{
+    match comp {
+        None => 0,
+        Some(comp) => u64::from(comp.0) + 1,
+    }
 }
 
-const NOT_STARTED: u16 = 65_535;
-
-const HALTED: u16 = 65_534;
-
-const END_OF_BOUND: u16 = 65_533;
+// Adds the numbers of components.
+fn add_numbers(key: &mut Vec<u64>, comps: &[Comp]) -> Result<(), NoMemory>
+    ensures { OnOk result (key.new.items ≡ key.old.items ++ map number_of comps.now) }
+{
+    for comp in comps {
+        key.push(u64::from(comp.0))?;
+    }
+    Ok(())
+}

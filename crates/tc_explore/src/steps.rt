@@ -17,14 +17,6 @@ fn append_place(out: &mut Vec<u8>, place: Place) -> Result<(), NoMemory> {
     }
 }
 
-// Appends components, each after a space; if memory runs out, a part of them.
-fn append_places(out: &mut Vec<u8>, places: &[Place]) -> Result<(), NoMemory> {
-    for place in places {
-        append_place(out, *place)?;
-    }
-    Ok(())
-}
-
 // Appends which components are stopped or killed; if memory runs out, a part of it.
 fn append_group(out: &mut Vec<u8>, group: GroupPlace) -> Result<(), NoMemory> {
     match group {
@@ -42,16 +34,6 @@ fn append_target(out: &mut Vec<u8>, target: TargetPlace) -> Result<(), NoMemory>
     }
 }
 
-// The word that says what is waited for.
-fn wait_word(killed: bool) -> &'static str {
-    if killed { " killed" } else { " done" }
-}
-
-// The word of an alive-type component.
-fn alive_word(alive: bool) -> &'static str {
-    if alive { " alive" } else { "" }
-}
-
 // Appends the name of a component in the report, if there is one; if memory runs out, a part of it.
 fn append_named(out: &mut Vec<u8>, name: &Option<Name>) -> Result<(), NoMemory> {
     if let Some(name) = name {
@@ -66,7 +48,10 @@ fn append_start(out: &mut Vec<u8>, on: Place, run: Run, args: &[Place]) -> Resul
     append_place(out, on)?;
     append_text(out, " run ")?;
     append_number(out, u64::from(run.0))?;
-    append_places(out, args)
+    for place in args {
+        append_place(out, *place)?;
+    }
+    Ok(())
 }
 
 fn keyword_of(step: &Step) -> Keyword {
@@ -87,14 +72,14 @@ fn keyword_of(step: &Step) -> Keyword {
 fn append_operands(out: &mut Vec<u8>, step: &Step) -> Result<(), NoMemory> {
     match step {
         Step::Create { alive, name } => {
-            append_text(out, alive_word(*alive))?;
+            append_text(out, if *alive { " alive" } else { "" })?;
             append_named(out, name)
         }
         Step::Start { on, run, args } => append_start(out, *on, *run, args.as_slice()),
         Step::Stop(group) | Step::Kill(group) => append_group(out, *group),
         Step::Ask(_, target) => append_target(out, *target),
         Step::Wait { killed, target } => {
-            append_text(out, wait_word(*killed))?;
+            append_text(out, if *killed { " killed" } else { " done" })?;
             append_target(out, *target)
         }
         Step::SetVerdict(verdict) => {

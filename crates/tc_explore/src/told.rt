@@ -1,6 +1,7 @@
 //! What is printed about a test case that was explored.
 ghost use Rattle.std.specs.Prelude.{◌≡◌, ◌≤◌, ◌++◌, OnOk};
 ghost use Rattle.tc_verdict.specs.Verdict.{level_of};
+ghost use Rattle.tc_explore.specs.declared.explored.Ending.TheVariants.{Complete};
 ghost use Rattle.tc_explore.specs.Told as told;
 
 use crate::explored::{Ending, Explored};
@@ -73,28 +74,23 @@ fn append_verdicts(out: &mut Vec<u8>, found: &[Witness]) -> Result<(), NoMemory>
     append_verdict(out, found, Verdict::Error)
 }
 
-// Appends after how many states the search ended; if memory runs out, a part of it.
-fn append_states(out: &mut Vec<u8>, states: usize) -> Result<(), NoMemory>
-    ensures { OnOk result (out.new.items ≡ out.old.items ++ told.states_words states) }
-{
-    append_text(out, " undecided after ")?;
-    append_number(out, states as u64)?;
-    append_text(out, " states")
-}
-
 // Appends how the search ended; if memory runs out, a part of it.
 fn append_ending(out: &mut Vec<u8>, ending: Ending, states: usize) -> Result<(), NoMemory>
     ensures { OnOk result (out.new.items ≡ out.old.items ++ told.ending_words ending states) }
 {
     match ending {
         Ending::Complete => append_text(out, " complete"),
-        Ending::Undecided => append_states(out, states),
+        Ending::Undecided => {
+            append_text(out, " undecided after ")?;
+            append_number(out, states as u64)?;
+            append_text(out, " states")
+        }
     }
 }
 
-// The status by the number of verdicts that were found.
+// The status of a complete search by the number of verdicts that were found.
 fn count_status(count: u64) -> u8
-    ensures { result ≡ told.count_status count }
+    ensures { result ≡ told.ending_status Complete count }
 {
     if count == 1 {
         0

@@ -17,7 +17,7 @@ use tc_verdict::{NoMemory, Run};
 // Whether the call would be a Wake that is parked again.
 #[tactic(auto, using(crate::proofs::Lemmas::Turning::other_not_idle))]
 fn is_idle(course: &Course, run: Run, op: &Op) -> bool
-    ensures { result ≡ courses.is_idle_by op.now (answers.answer course.now.behaviours (past_of course.now) run.0 op.now) }
+    ensures { result ≡ courses.is_idle op.now (answers.answer course.now.behaviours (past_of course.now) run.0 op.now) }
 {
     if !is_wake(op) {
         return false;

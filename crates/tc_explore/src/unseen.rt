@@ -3,7 +3,7 @@ ghost use Rattle.std.specs.Prelude.{◌≡◌, ◌<◌, ◌≤◌, ◌+◌, [], 
 ghost use Rattle.tc_entry.specs.declared.limits.TheConstants.{BEHAVIOURS};
 ghost use Rattle.tc_text.specs.Said.{Tells, TellsLine};
 ghost use Rattle.std.specs.Fmt.{decimal};
-ghost use Rattle.tc_explore.specs.Unseen.{unseen, unseen_among};
+ghost use Rattle.tc_explore.specs.Details.{unseen, unseen_among};
 
 use crate::course::steps_of;
 use crate::steps::append_step;
@@ -50,7 +50,7 @@ fn append_at(
 }
 
 // Appends the line of a run, if one of its steps is not carried out; if memory runs out, a part of it.
-#[tactic(auto, unfolding(crate::specs::Unseen::unseen_among), using(tc_text::proofs::Lemmas::Saying::tell_rules))]
+#[tactic(auto, unfolding(crate::specs::Details::unseen_among), using(tc_text::proofs::Lemmas::Saying::tell_rules))]
 fn append_among(
     alloc: Global,
     out: &mut Vec<u8>,
@@ -68,7 +68,7 @@ fn append_among(
 
 /// Appends the lines of the runs of which some steps are carried out in no course that was looked at. If memory runs
 /// out, a part of them.
-#[tactic(auto, unfolding(crate::specs::Unseen::unseen), using(tc_text::proofs::Lemmas::Saying::tell_rules))]
+#[tactic(auto, unfolding(crate::specs::Details::unseen), using(tc_text::proofs::Lemmas::Saying::tell_rules))]
 pub(crate) fn append_unseen(
     alloc: Global,
     out: &mut Vec<u8>,

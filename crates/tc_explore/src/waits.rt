@@ -1,11 +1,12 @@
 //! The waits of a witness that ends since no run can continue, and for whom.
-ghost use Rattle.std.specs.Prelude.{◌≡◌, ◌≤◌, ◌++◌, OnOk, codes, if◌then◌else◌, reverse};
+ghost use Rattle.std.specs.Prelude.{◌≡◌, ◌≤◌, ◌++◌, [], ◌∷◌, OnOk, codes, if◌then◌else◌, reverse};
 ghost use Rattle.std.specs.List.{flat_map, range_with_len};
 ghost use Rattle.tc_entry.specs.declared.limits.TheConstants.{BEHAVIOURS};
 ghost use Rattle.tc_table.specs.Legal.{IsLegal};
 ghost use Rattle.tc_table.specs.Standing.{StandsFor};
-ghost use Rattle.tc_text.specs.Said.{Tells, word_of};
-ghost use Rattle.tc_explore.specs.Waits.{is_stuck as is_stuck_reply, running_in, stuck_place as place_of_stuck, target_words, wait, wait_words, waits};
+ghost use Rattle.tc_text.specs.Said.{Tells};
+ghost use Rattle.tc_explore.specs.Inside.Adding.{AddsWords};
+ghost use Rattle.tc_explore.specs.Waits.{is_stuck as is_stuck_reply, phase_words, stuck_place as place_of_stuck, target_words, wait, wait_words, waits};
 
 use crate::components::push_comp;
 use crate::parts::{push_number, push_text, push_word};
@@ -40,15 +41,23 @@ fn stuck_place(history: &[Entry]) -> usize
     place
 }
 
+// Appends a word after a comma.
+fn push_state<'a>(parts: &mut Vec<Part<'a>>, word: &'a [u8]) -> Result<(), NoMemory>
+    ensures { OnOk result (AddsWords (word.now ∷ []) parts.old.items parts.new.items) }
+{
+    push_text(parts, b",")?;
+    push_word(parts, word)
+}
+
 // Appends what a component is doing that is waited for.
 fn push_phase(parts: &mut Vec<Part>, phase: Option<Phase>) -> Result<(), NoMemory>
-    ensures { OnOk result (flat_map word_of parts.new.items ≡ flat_map word_of parts.old.items ++ running_in phase) }
+    ensures { OnOk result (AddsWords (phase_words phase) parts.old.items parts.new.items) }
 {
     match phase {
         None => Ok(()),
-        Some(Phase::Inactive) => push_text(parts, b", not started"),
-        Some(Phase::Stopped) => push_text(parts, b", stopped"),
-        Some(Phase::Killed) => push_text(parts, b", killed"),
+        Some(Phase::Inactive) => push_state(parts, b"not started"),
+        Some(Phase::Stopped) => push_state(parts, b"stopped"),
+        Some(Phase::Killed) => push_state(parts, b"killed"),
         Some(Phase::Running(run)) => {
             push_text(parts, b", where run")?;
             push_number(parts, u64::from(run.0))?;
@@ -66,7 +75,7 @@ fn push_target<'a>(
     target: Target,
 ) -> Result<(), NoMemory>
     requires { StandsFor state.now (reverse before.now) }
-    ensures { OnOk result (flat_map word_of parts.new.items ≡ flat_map word_of parts.old.items ++ target_words history.now (reverse before.now) target) }
+    ensures { OnOk result (AddsWords (target_words history.now (reverse before.now) target) parts.old.items parts.new.items) }
 {
     match target {
         Target::One(comp) => {
@@ -96,7 +105,7 @@ fn push_wait<'a>(
     awaited: Awaited,
 ) -> Result<(), NoMemory>
     requires { StandsFor state.now (reverse before.now) }
-    ensures { OnOk result (flat_map word_of parts.new.items ≡ flat_map word_of parts.old.items ++ wait_words history.now (reverse before.now) run (comp, awaited)) }
+    ensures { OnOk result (AddsWords (wait_words history.now (reverse before.now) run (comp, awaited)) parts.old.items parts.new.items) }
 {
     push_text(parts, b"stuck: run")?;
     push_number(parts, u64::from(run))?;

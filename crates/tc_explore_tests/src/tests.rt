@@ -459,22 +459,20 @@ fn add_starting_all<R: Abort>(
     Ok(scripts.push(script(rt, steps))?)
 }
 
-// Eight behaviours can end in 40,320 orders, and few states are met: those after the same ends are one.
+// Nine behaviours can end in 362,880 orders, and few states are met: those after the same ends are one. The search is
+// complete only if it knows each of these, also the last ones.
 #[test]
 fn a_state_that_is_met_again_is_known(rt: HostRuntime) -> Result<(), Fail> {
     let alloc = rt.alloc();
     let mut scripts = Vec::new(alloc);
-    add_starting_all(&rt, alloc, &mut scripts, 8)?;
-    for _ in 0..8 {
+    add_starting_all(&rt, alloc, &mut scripts, 9)?;
+    for _ in 0..9 {
         add_empty(&rt, alloc, &mut scripts)?;
     }
-    ends_within(
-        &rt,
-        alloc,
-        scripts.as_slice(),
-        MANY,
-        (Ending::Complete, None),
-    )
+    let explored = search(&rt, alloc, scripts.as_slice(), MANY)?;
+    is(&rt, "the ending", explored.ending, Ending::Complete);
+    holds(&rt, "1,000 states", explored.states > 1_000);
+    Ok(())
 }
 
 #[test]

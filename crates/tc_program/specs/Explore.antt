@@ -6,7 +6,7 @@ use Rattle.tc_explore.specs.Details.{details as of_details}
 use Rattle.tc_text.specs.Said.{Tells}
 use Rattle.tc_explore.specs.Course.{most_states}
 use Rattle.tc_explore.specs.Found.{AreWitnesses, AreLegal, AreReached, IsOnce}
-use Rattle.tc_explore.specs.Laws.{AllFound}
+use Rattle.tc_explore.specs.Found.{AllFound}
 use Rattle.tc_explore.specs.declared.explored.Ending.TheVariants as E
 use Rattle.tc_explore.specs.Told.{explored_line, explored_status, witnesses_text}
 use Rattle.tc_program.specs.declared.explore.ExploredCase.{ExploredCase}

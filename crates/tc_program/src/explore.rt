@@ -2,7 +2,7 @@
 ghost use Rattle.std.specs.Prelude.{◌≡◌, ◌≤◌, [], All, IfOk, IfErr, length};
 ghost use Rattle.std.specs.List.{AllZip, flat_map};
 ghost use Rattle.tc_entry.specs.declared.limits.TheConstants.{BEHAVIOURS};
-ghost use Rattle.tc_explore.specs.Details.{AreLegalOf};
+ghost use Rattle.tc_explore.specs.Found.{AreLegal};
 ghost use Rattle.tc_text.specs.Said.{Tells};
 ghost use Rattle.tc_script.specs.Law.{IsCase};
 ghost use Rattle.tc_program.specs.Choosing.{RefusesScript};
@@ -50,7 +50,7 @@ fn details_of(
     explored: &Explored,
 ) -> Result<Vec<u8>, NoMemory>
     requires few { length scripts.now ≤ BEHAVIOURS }
-    requires legal { AreLegalOf (length scripts.now) explored.now.found }
+    requires legal { AreLegal scripts.now explored.now.found }
     ensures { IfOk result (λ text. Tells (details_if details scripts.now explored.now) [] text.items) }
 {
     let mut out = Vec::new(alloc);

@@ -28,7 +28,8 @@ use Rattle.tc_exec.specs.Workers.{HasLeft}
 use Rattle.tc_behaviour.specs.Acts.{MakesItsCalls}
 use Rattle.tc_behaviour.specs.Calls.{Calls, HasCalled, bound_behind, ending}
 use Rattle.tc_behaviour.specs.Calls.HasCalled.{none, one_more}
-use Rattle.tc_explore.specs.Course.{Stand, after_own, as_list, call_of, is_idle, is_idle_by, is_wake, turn_on, wake_for, wake_if, wake_or}
+use Rattle.std.specs.Option.{unwrap_or, option_to_list}
+use Rattle.tc_explore.specs.Course.{Stand, after_own, call_of, is_idle, is_wake, turn_on, wake_for, wake_if}
 use Rattle.tc_explore.proofs.Lemmas.Turning.{other_not_idle}
 
 -- ---- a run and its own entries
@@ -57,7 +58,7 @@ after_comp s (x ∷ xs) = after_comp (after_own x s) xs
 -- the entry is what the run calls next, and no idle Wake
 pub record IsOwnTurn (steps : List Step) (s : Stand) (e : Entry) : Type 0 where
   pub turn : turn_on s.comp steps s ≡ Some e.op
-  pub not_idle : is_idle e ≡ false
+  pub not_idle : is_idle e.op e.reply ≡ false
 
 -- each of these entries is, one after the other
 abbrev pub AreTurns : List Step → Stand → List Entry → Type 0
@@ -109,7 +110,7 @@ no_wait op R.Matched h = refl
 no_wait op R.Ended h = refl
 no_wait op (R.Fault f) h = refl
 
-create_binds : (alive : Bool) (name : Option (List ℕ)) (r : Reply) (bound : List Comp) → bound_behind (S.Create alive name) r bound ≡ bound ++ as_list (created (O.Create alive name) r)
+create_binds : (alive : Bool) (name : Option (List ℕ)) (r : Reply) (bound : List Comp) → bound_behind (S.Create alive name) r bound ≡ bound ++ option_to_list (created (O.Create alive name) r)
 create_binds alive name (R.Made c) bound = refl
 create_binds alive name R.Parked bound = sym (append-nil bound)
 create_binds alive name R.Ok bound = sym (append-nil bound)
@@ -119,7 +120,7 @@ create_binds alive name R.Matched bound = sym (append-nil bound)
 create_binds alive name R.Ended bound = sym (append-nil bound)
 create_binds alive name (R.Fault f) bound = sym (append-nil bound)
 
-own_call : (me : Comp) (bound bound-new : List Comp) (k : ℕ) (run : Run) (op : Op) (r : Reply) → is_wake op ≡ false → wake_if op r ≡ None → bound-new ≡ bound ++ as_list (created op r)
+own_call : (me : Comp) (bound bound-new : List Comp) (k : ℕ) (run : Run) (op : Op) (r : Reply) → is_wake op ≡ false → wake_if op r ≡ None → bound-new ≡ bound ++ option_to_list (created op r)
     → after_own (entry_of run op r) (standing me bound k false) ≡ standing me bound-new (k + 1) (ends_pass me (entry_of run op r))
 own_call me bound bound-new k run op r call still binds = rw (call, still, binds) refl
 
@@ -149,12 +150,12 @@ module _ (steps : List Step) (s : Step) (left : List Step) (bound : List Comp) (
   -- the call of the step is the run's turn
   own_turn : (op : Op) (r : Reply) → op ≡ operation p.me bound s → is_wake op ≡ false → IsOwnTurn steps (after_all (fresh p.me p.args) p.log) (entry_of p.run op r)
   own_turn op r same calls =
-      let turn : turn_on (Some p.me) steps (standing p.me bound (length is.front) false) ≡ Some op = ap (λ o. Some (wake_or None (call_of p.me bound o))) step_here ∙ ap Some (sym same) in
+      let turn : turn_on (Some p.me) steps (standing p.me bound (length is.front) false) ≡ Some op = ap (λ o. Some (unwrap_or None (call_of p.me bound o))) step_here ∙ ap Some (sym same) in
       let own : IsOwnTurn steps (standing p.me bound (length is.front) false) (entry_of p.run op r) = record { turn = turn; not_idle = other_not_idle op r calls } in
       subst (λ st. IsOwnTurn steps st (entry_of p.run op r)) (sym here) own
 
   -- a call that is not parked
-  plain_at : (bound-new : List Comp) (q : PassState) (op : Op) (r : Reply) → op ≡ operation p.me bound s → is_wake op ≡ false → wake_if op r ≡ None → bound-new ≡ bound ++ as_list (created op r)
+  plain_at : (bound-new : List Comp) (q : PassState) (op : Op) (r : Reply) → op ≡ operation p.me bound s → is_wake op ≡ false → wake_if op r ≡ None → bound-new ≡ bound ++ option_to_list (created op r)
       → q ≡ added p op r → IsAt steps left bound-new q
   plain_at bound-new q op r same calls still binds is-new =
       let e : Entry = entry_of p.run op r in
@@ -171,7 +172,7 @@ module _ (steps : List Step) (s : Step) (left : List Step) (bound : List Comp) (
       subst (IsAt steps left bound-new) (sym is-new) now
 
   -- a call that binds nothing, and does not wait
-  calm_at : (q : PassState) (op : Op) (r : Reply) → op ≡ operation p.me bound s → is_wake op ≡ false → wake_for op ≡ None → as_list (created op r) ≡ [] → q ≡ added p op r → IsAt steps left bound q
+  calm_at : (q : PassState) (op : Op) (r : Reply) → op ≡ operation p.me bound s → is_wake op ≡ false → wake_for op ≡ None → option_to_list (created op r) ≡ [] → q ≡ added p op r → IsAt steps left bound q
   calm_at q op r same calls waits makes is-new = plain_at bound q op r same calls (no_wait op r waits) (sym (append-nil bound) ∙ ap (λ l. bound ++ l) (sym makes)) is-new
 
 -- a run whose Wait was parked, before its Wake
@@ -189,7 +190,7 @@ unfolding waits_at
 woken_own me bound k run killed t r awake =
     rw (not_parked (O.Wake killed t) r awake) (ap (λ b. standing me b k (ends_pass me (entry_of run (O.Wake killed t) r))) (append-nil bound))
 
-awake_not_idle : (op : Op) (r : Reply) → is_parked r ≡ false → is_idle_by op r ≡ false
+awake_not_idle : (op : Op) (r : Reply) → is_parked r ≡ false → is_idle op r ≡ false
 awake_not_idle op R.Parked h = absurd cc
 awake_not_idle op (R.Made c) h = refl
 awake_not_idle op R.Ok h = refl
@@ -312,7 +313,7 @@ log_left s p b l new makes back left = by (has_ended b.pass) refl
         let front : s.steps ≡ at.front = at.steps_are ∙ (ap (λ x. at.front ++ x) none_left ∙ append-nil at.front) in
         let behind : slice_get s.steps (length at.front) ≡ None = slice_get_past s.steps (length at.front) (omega (arith, ap length front)) in
         let stands : after_all start b.pass.log ≡ standing me makes.calls.bound (length at.front) false = at.stands ∙ ap (standing me makes.calls.bound (length at.front)) is in
-        let turn : turn_on (Some me) s.steps (standing me makes.calls.bound (length at.front) false) ≡ Some O.Finish = ap (λ o. Some (wake_or None (call_of me makes.calls.bound o))) behind in
+        let turn : turn_on (Some me) s.steps (standing me makes.calls.bound (length at.front) false) ≡ Some O.Finish = ap (λ o. Some (unwrap_or None (call_of me makes.calls.bound o))) behind in
         let own : IsOwnTurn s.steps (after_all start b.pass.log) e =
         subst (λ st. IsOwnTurn s.steps st e) (sym stands) (record { turn = turn; not_idle = other_not_idle O.Finish f.0 refl }) in
         let ends : (after_own e (standing me makes.calls.bound (length at.front) false)).left ≡ true = finish_ends me b.pass.run f.0 f.2 in

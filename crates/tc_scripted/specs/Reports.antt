@@ -6,7 +6,7 @@ use Rattle.tc_exec.specs.Case.{IsCaseReport, IsMadeOf}
 use Rattle.tc_behaviour.specs.Acts.{MakesItsCalls}
 use Rattle.tc_explore.specs.declared.witness.Witness.{Witness}
 use Rattle.tc_explore.specs.Found.{IsWitness}
-use Rattle.tc_explore.specs.Laws.{AllFound}
+use Rattle.tc_explore.specs.Found.{AllFound}
 use Rattle.tc_explore.specs.Told.{is_found}
 
 -- this is the report of a run of these scripts: one history, made of the logs of passes with which each script made its calls

@@ -17,7 +17,8 @@ use Rattle.tc_table.specs.Waiting.{waiting, parks, awaited}
 use Rattle.tc_table.specs.Legal.{IsLegal}
 use Rattle.tc_table.proofs.Lemmas.Deciding.{self_equal, equal_if}
 use Rattle.tc_table.proofs.Lemmas.Sound.{runs_on}
-use Rattle.tc_explore.specs.Course.{Stand, stand, after_own, after_other_by, is_wake, wake_for, wake_if, wake_or, call_of, turn, turn_on, steps_in, script_of, IsTurn, IsCourse}
+use Rattle.std.specs.Option.{unwrap_or}
+use Rattle.tc_explore.specs.Course.{Stand, stand, after_own, after_other_by, is_wake, wake_for, wake_if, call_of, turn, turn_on, steps_of, IsTurn, IsCourse}
 
 -- ---- turns
 
@@ -26,20 +27,20 @@ pub record HasTurn (steps : List Step) (s : Stand) (op : Op) : Type 0 where
   pub me : Comp
   pub on : s.comp ≡ Some me
   pub stays : s.left ≡ false
-  pub calls : wake_or s.wake (call_of me s.bound (slice_get steps s.called)) ≡ op
+  pub calls : unwrap_or s.wake (call_of me s.bound (slice_get steps s.called)) ≡ op
 
 turn_by : (o : Option Comp) (l : Bool) (steps : List Step) (s : Stand) (op : Op) → s.comp ≡ o → s.left ≡ l → turn_on o steps s ≡ Some op → HasTurn steps s op
 turn_by None l steps s op on left h = absurd cc
 turn_by (Some me) true steps s op on left h = let e : None ≡ Some op = rw left at h in absurd cc
 turn_by (Some me) false steps s op on left h =
-    let e : Some (wake_or s.wake (call_of me s.bound (slice_get steps s.called))) ≡ Some op = rw left at h in
+    let e : Some (unwrap_or s.wake (call_of me s.bound (slice_get steps s.called))) ≡ Some op = rw left at h in
     record { me = me; on = on; stays = left; calls = cc }
 
-pub has_turn : (scripts : List ScriptView) (past : List Entry) (b : ℕ) (op : Op) → turn scripts past b ≡ Some op → HasTurn (steps_in (script_of scripts b)) (stand past b) op
+pub has_turn : (scripts : List ScriptView) (past : List Entry) (b : ℕ) (op : Op) → turn scripts past b ≡ Some op → HasTurn (steps_of scripts b) (stand past b) op
 unfolding turn
-has_turn scripts past b op h = turn_by (stand past b).comp (stand past b).left (steps_in (script_of scripts b)) (stand past b) op refl refl h
+has_turn scripts past b op h = turn_by (stand past b).comp (stand past b).left (steps_of scripts b) (stand past b) op refl refl h
 
-pub turn_of : (scripts : List ScriptView) (past : List Entry) (b : ℕ) (op : Op) → HasTurn (steps_in (script_of scripts b)) (stand past b) op → turn scripts past b ≡ Some op
+pub turn_of : (scripts : List ScriptView) (past : List Entry) (b : ℕ) (op : Op) → HasTurn (steps_of scripts b) (stand past b) op → turn scripts past b ≡ Some op
 unfolding turn
 turn_of scripts past b op h = rw (h.on, h.stays) (ap Some h.calls)
 

@@ -8,11 +8,11 @@ use Rattle.tc_entry.specs.declared.reply.Reply.TheVariants as R
 use Rattle.tc_step.specs.Steps.{ScriptView}
 use Rattle.tc_table.specs.Answers.{answer}
 use Rattle.tc_table.specs.Case.{Case, past_of}
-use Rattle.tc_explore.specs.Course.{turn, is_wake, is_idle_by, IsTurn, IsCourse}
+use Rattle.tc_explore.specs.Course.{turn, is_wake, is_idle, IsTurn, IsCourse}
 use Rattle.tc_explore.specs.Inside.Going.{taken, IsOn, CannotGo}
 
 -- a call that is the run's next, and no idle Wake, is its turn
-pub turn_taken : (scripts : List ScriptView) (past : List Entry) (n : ℕ) (run : Run) (op : Op) → n ≡ length scripts → turn scripts past run.0 ≡ Some op → is_idle_by op (answer n past run.0 op) ≡ false → IsTurn scripts past (taken n past run op)
+pub turn_taken : (scripts : List ScriptView) (past : List Entry) (n : ℕ) (run : Run) (op : Op) → n ≡ length scripts → turn scripts past run.0 ≡ Some op → is_idle op (answer n past run.0 op) ≡ false → IsTurn scripts past (taken n past run op)
 turn_taken scripts past n run op h t i = record { turn = t; reply = ap (λ m. answer m past run.0 op) h; not_idle = i }
 
 -- a run without a call cannot continue
@@ -23,14 +23,14 @@ no_turn scripts past b t e own h =
     absurd cc
 
 -- nor one whose next call is an idle Wake
-pub idle_turn : (scripts : List ScriptView) (past : List Entry) (n b : ℕ) (op : Op) → n ≡ length scripts → turn scripts past b ≡ Some op → is_idle_by op (answer n past b op) ≡ true → CannotGo scripts past b
+pub idle_turn : (scripts : List ScriptView) (past : List Entry) (n b : ℕ) (op : Op) → n ≡ length scripts → turn scripts past b ≡ Some op → is_idle op (answer n past b op) ≡ true → CannotGo scripts past b
 idle_turn scripts past n b op len t i e own h =
     let same : turn scripts past e.caller.0 ≡ turn scripts past b = ap (turn scripts past) own in
     let was : turn scripts past e.caller.0 ≡ Some e.op = h.turn in
     let some : Some e.op ≡ Some op = cc in
     let op_is : e.op ≡ op = cc in
     let r : e.reply ≡ answer (length scripts) past e.caller.0 e.op = h.reply in
-    let not : is_idle_by e.op e.reply ≡ false = h.not_idle in
+    let not : is_idle e.op e.reply ≡ false = h.not_idle in
     absurd cc
 
 -- one more turn is a course
@@ -45,7 +45,7 @@ on_opening scripts t n p = record { behaviours = n; course = subst (IsCourse scr
 pub ruleset turn_rules = (turn_taken, no_turn, idle_turn, on_with, on_opening)
 
 -- what is no Wake is no idle one
-pub other_not_idle : (op : Op) (r : Reply) → is_wake op ≡ false → is_idle_by op r ≡ false
+pub other_not_idle : (op : Op) (r : Reply) → is_wake op ≡ false → is_idle op r ≡ false
 other_not_idle op R.Parked h = h
 other_not_idle op (R.Made c) h = refl
 other_not_idle op R.Ok h = refl

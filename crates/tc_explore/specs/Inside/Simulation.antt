@@ -23,8 +23,16 @@ use Rattle.tc_table.specs.Local.{overall}
 use Rattle.tc_table.specs.Faults.{fault}
 use Rattle.tc_table.specs.Answers.{is_active}
 use Rattle.tc_explore.specs.declared.witness.Witness.{Witness}
-use Rattle.tc_explore.specs.Course.{Stand, stand, goes_on, steps_in, script_of, call_of, IsTurn, IsCourse}
+use Rattle.tc_explore.specs.Course.{Stand, stand, goes_on, steps_of, call_of, IsTurn, IsCourse}
 use Rattle.tc_explore.specs.Told.{is_found}
+
+-- the same components in the same phases, the same runs on them, the same overall verdict
+pub record IsAlike (p q : List Entry) : Type 0 where
+  pub comps_same : comps p ≡ comps q
+  pub phase_same : (c : ℕ) → phase p c ≡ phase q c
+  pub kind_same : (c : ℕ) → is_alive_type p c ≡ is_alive_type q c
+  pub comp_same : (b : ℕ) → comp_of p b ≡ comp_of q b
+  pub overall_same : overall p ≡ overall q
 
 -- the call asks a question, or sets a verdict that is no worse than this one
 abbrev pub is_quiet : Verdict → Op → Bool
@@ -63,7 +71,7 @@ pub record IsQuietAt (n : ℕ) (q : List Entry) (b : ℕ) (op : Op) : Type 0 whe
 
 -- what a run that is known so calls at its k-th step
 abbrev pub call_at : List ScriptView → ℕ → Stand → Option Comp → ℕ → Op
-call_at scripts b s (Some me) k = call_of me s.bound (slice_get (steps_in (script_of scripts b)) k)
+call_at scripts b s (Some me) k = call_of me s.bound (slice_get (steps_of scripts b) k)
 call_at scripts b s None k = O.Finish
 
 -- the Wake is that of the Wait

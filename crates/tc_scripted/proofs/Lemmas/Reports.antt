@@ -29,7 +29,8 @@ use Rattle.tc_exec.specs.Workers.{AreLeftBy, opening}
 use Rattle.tc_exec.proofs.Lemmas.Logs.{log_of_run}
 use Rattle.tc_behaviour.specs.Acts.{MakesItsCalls}
 use Rattle.tc_behaviour.proofs.Lemmas.Running.{run_grown}
-use Rattle.tc_explore.specs.Course.{Stand, after_own, after_other_by, arguments, stand, started, steps_in, script_of, turn, turn_on, IsTurn, IsCourse}
+use Rattle.std.specs.Option.{option_map_or}
+use Rattle.tc_explore.specs.Course.{Stand, after_own, after_other_by, arguments, stand, started, steps_of, turn, turn_on, IsTurn, IsCourse}
 use Rattle.tc_explore.specs.Found.{IsWitness}
 use Rattle.tc_scripted.specs.Reports.{ReportIsCourse, ReportIsFound}
 use Rattle.tc_scripted.proofs.Logging.{AreTurns, IsLogOf, IsOwnTurn, after_all, after_append, after_comp, fresh, log_left, turn_at}
@@ -184,8 +185,8 @@ module _ (scripts : List ScriptView) (c : Closed) (report : IsCaseReport (length
   empty : ScriptView
   empty = record { parameters = 0; steps = [] }
 
-  steps_at : (b : ℕ) → b < length scripts → (get_or scripts b empty).steps ≡ steps_in (script_of scripts b)
-  steps_at b below = sym (ap steps_in (slice_get-get_or scripts b empty below))
+  steps_at : (b : ℕ) → b < length scripts → (get_or scripts b empty).steps ≡ steps_of scripts b
+  steps_at b below = sym (ap (λ o. option_map_or (λ (s : ScriptView). s.steps) o []) (slice_get-get_or scripts b empty below))
 
   legal : IsLegal (length scripts) whole
   legal = subst (λ n. IsLegal n whole) report.behaviours report.one_history.legal
@@ -194,7 +195,7 @@ module _ (scripts : List ScriptView) (c : Closed) (report : IsCaseReport (length
   some = some_job made.runs scripts made.lefts made.left made.main
 
   -- the log of a run that was started is that of its script, on the component and with the arguments of its start
-  log_is : (b : ℕ) (w : Comp × List Comp) → b < length scripts → given whole b ≡ Some w → IsLogOf (steps_in (script_of scripts b)) w.0 w.1 (part c.history b)
+  log_is : (b : ℕ) (w : Comp × List Comp) → b < length scripts → given whole b ≡ Some w → IsLogOf (steps_of scripts b) w.0 w.1 (part c.history b)
   log_is b w below start =
       let s : ScriptView = get_or scripts b empty in
       let on : comp_of whole b ≡ Some w.0 = given_comp whole b ∙ ap (option_map (λ s. s.0)) start in
@@ -204,16 +205,16 @@ module _ (scripts : List ScriptView) (c : Closed) (report : IsCaseReport (length
       let is : IsLogOf s.steps pass.me pass.args log.left.log = log_left s log.made.pass called.back log.left log.made.new called.outcome_of called.ending called.left in
       let same_start : (pass.me, pass.args) ≡ w = begun_with s c.history (part c.history b) b w.0 w log start in
       let same : IsLogOf s.steps w.0 w.1 log.left.log = subst (λ (x : Comp × List Comp). IsLogOf s.steps x.0 x.1 log.left.log) same_start is in
-      subst (λ l. IsLogOf (steps_in (script_of scripts b)) w.0 w.1 l) (sym log.entries) (subst (λ x. IsLogOf x w.0 w.1 log.left.log) (steps_at b below) same)
+      subst (λ l. IsLogOf (steps_of scripts b) w.0 w.1 l) (sym log.entries) (subst (λ x. IsLogOf x w.0 w.1 log.left.log) (steps_at b below) same)
 
   -- what is known of it at the end of the history, and before each of its entries
   known_at : (b : ℕ) (w : Comp × List Comp) (past : List Entry) → given past b ≡ Some w → all_started past ≡ true → stand past b ≡ after_all (fresh w.0 w.1) (part (reverse past) b)
   known_at b w past start so = subst (λ o. IsKnown o (part (reverse past) b) (stand past b)) start (known past b so)
 
   own_turn : (later : List Entry) (e : Entry) (past : List Entry) (w : Comp × List Comp) → whole ≡ later ++ e ∷ past → given past e.caller.0 ≡ Some w → e.caller.0 < length scripts → all_started past ≡ true
-      → IsOwnTurn (steps_in (script_of scripts e.caller.0)) (stand past e.caller.0) e
+      → IsOwnTurn (steps_of scripts e.caller.0) (stand past e.caller.0) e
   own_turn later e past w at start below so =
-      let steps : List Step = steps_in (script_of scripts e.caller.0) in
+      let steps : List Step = steps_of scripts e.caller.0 in
       let at_end : given whole e.caller.0 ≡ Some w =
       ap (λ l. given l e.caller.0) (at ∙ sym (append_assoc later (e ∷ []) past)) ∙ given_later (later ++ e ∷ []) past e.caller.0 w start in
       let log = log_is e.caller.0 w below at_end in
@@ -255,11 +256,11 @@ module _ (scripts : List ScriptView) (c : Closed) (report : IsCaseReport (length
       by : (o : Option (Comp × List Comp)) → given whole b ≡ o → turn scripts whole b ≡ None
       by None is =
           let never = subst (λ o. IsKnown o (part (reverse whole) b) (stand whole b)) is (known whole b all) in
-          ap (λ (s : Stand). turn_on s.comp (steps_in (script_of scripts b)) s) never.1
+          ap (λ (s : Stand). turn_on s.comp (steps_of scripts b) s) never.1
       by (Some w) is =
           let log = log_is b w below is in
           let stands : stand whole b ≡ after_all (fresh w.0 w.1) (part c.history b) = known_at b w whole is all ∙ ap (λ h. after_all (fresh w.0 w.1) (part h b)) (reverse-reverse c.history) in
-          no_more_turns (steps_in (script_of scripts b)) (stand whole b) (stand whole b).comp (ap (λ (s : Stand). s.left) stands ∙ log.left)
+          no_more_turns (steps_of scripts b) (stand whole b) (stand whole b).comp (ap (λ (s : Stand). s.left) stands ∙ log.left)
 
   -- the history of the report is a complete course of the scripts, with the verdict of the report
   pub report_is_witness : IsWitness scripts c.history c.verdict

@@ -9,6 +9,9 @@ returns-clause-legal c = rw c.new-2.ensures (witnesses_legal c.args.scripts.now 
 pub returns-clause-sound : goal.returns-clause-sound
 returns-clause-sound c = rw c.new-2.ensures c.in_ok-extent.ensures.found.0.sound
 
+pub returns-clause-covered : goal.returns-clause-covered
+returns-clause-covered c = rw (c.new-2.ensures, c.new-3.ensures) c.in_ok-extent.ensures.found.2
+
 pub returns-clause-once : goal.returns-clause-once
 returns-clause-once c = rw c.new-2.ensures c.in_ok-extent.ensures.found.0.once
 

@@ -11,9 +11,14 @@ loop-run-preserved c = (
 pub returns-clause-over : goal.returns-clause-over
 returns-clause-over c held =
     let whole : length c.args.scripts.now ≤ c.loop-run.run = search rules in
-    (stuck_end c.args.scripts.now c.args.course c.loop-run.course c.in_ok-ended.ended c.loop-run.run c.requires.some whole c.requires.opened c.loop-run.invariant.0 (c.loop-run.invariant.1 held) c.in_ok-ended.ensures.stepped).0
+    (stuck_end c.args.scripts.now c.args.course c.loop-run.course c.in_ok-ended.ended c.loop-run.run c.requires.some whole c.requires.opened c.loop-run.invariant.0 (c.loop-run.invariant.1 held) c.in_ok-ended.ensures.stepped).over
 
 pub returns-clause-error : goal.returns-clause-error
 returns-clause-error c held =
     let whole : length c.args.scripts.now ≤ c.loop-run.run = search rules in
-    (stuck_end c.args.scripts.now c.args.course c.loop-run.course c.in_ok-ended.ended c.loop-run.run c.requires.some whole c.requires.opened c.loop-run.invariant.0 (c.loop-run.invariant.1 held) c.in_ok-ended.ensures.stepped).1
+    (stuck_end c.args.scripts.now c.args.course c.loop-run.course c.in_ok-ended.ended c.loop-run.run c.requires.some whole c.requires.opened c.loop-run.invariant.0 (c.loop-run.invariant.1 held) c.in_ok-ended.ensures.stepped).error
+
+pub returns-clause-main : goal.returns-clause-main
+returns-clause-main c held =
+    let whole : length c.args.scripts.now ≤ c.loop-run.run = search rules in
+    (stuck_end c.args.scripts.now c.args.course c.loop-run.course c.in_ok-ended.ended c.loop-run.run c.requires.some whole c.requires.opened c.loop-run.invariant.0 (c.loop-run.invariant.1 held) c.in_ok-ended.ensures.stepped).main

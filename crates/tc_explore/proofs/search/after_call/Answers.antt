@@ -4,7 +4,6 @@ use Rattle.tc_table.specs.History.{is_over}
 use Rattle.tc_explore.specs.Inside.Going.{taken}
 use Rattle.tc_explore.proofs.Closed.{after_seen}
 use Rattle.tc_explore.proofs.Kept.{kept_with, longer_with}
-use Rattle.tc_explore.proofs.Tree.{grown_with}
 use Rattle.tc_explore.proofs.search.after_call.Goals as goal
 
 pub returns-clause-closed : goal.returns-clause-closed
@@ -13,15 +12,10 @@ returns-clause-closed c h =
     let going : is_over (past_of c.in_ok-next.next) ≡ false = search rules in
     after_seen c.args.scripts.now c.place.new.met.states.items c.args.found.now.witnesses.items (past_of t) (taken t.behaviours (past_of t) c.args.run c.args.op) c.in_ok-next.next c.in_ok-calm.calm c.in_ok-next.ensures.added going c.in_ok-calm.ensures.stands (c.in_ok-is_seen.ensures.seen h)
 
-pub returns-clause-grown : goal.returns-clause-grown
-returns-clause-grown c =
-    let t = c.args.course.now in
-    grown_with c.args.met.now.states.items c.place.new.met.states.items c.in_ok-next.next c.in_ok-calm.calm (taken t.behaviours (past_of t) c.args.run c.args.op) (past_of t) c.in_ok-is_seen.ensures.with_it c.in_ok-next.ensures.added c.in_ok-calm.ensures.stands.further
-
 pub returns-clause-kept : goal.returns-clause-kept
 returns-clause-kept c =
     let is = c.in_ok-is_seen.ensures in
-    kept_with c.args.scripts.now c.args.met.now c.place.new.met c.args.found.now _ c.in_ok-calm.calm c.requires.kept c.reach.ensures.more c.in_ok-calm.ensures.state c.reach.ensures.covers is.with_it is.limit (is.within c.requires.kept.few)
+    kept_with c.args.scripts.now c.args.met.now c.place.new.met c.args.found.now _ c.in_ok-calm.calm c.requires.kept c.reach.ensures.more c.in_ok-calm.ensures.state c.reach.ensures.covers is.with_it is.keyed is.limit (is.within c.requires.kept.few)
 
 pub returns-clause-more_states : goal.returns-clause-more_states
 returns-clause-more_states c = longer_with c.args.met.now.states.items c.place.new.met.states.items c.in_ok-calm.calm c.in_ok-is_seen.ensures.with_it

@@ -1,8 +1,7 @@
 use Rattle.std.proofs.Common.{rules, ◌≡◌, ◌+◌, ◌<◌, ◌≤◌, ℕ, true, false, length, arith, ◌∙◌}
 use Rattle.tc_explore.specs.Inside.Seen.{IsClosedAt, IsFull}
 use Rattle.tc_explore.proofs.Closed.{full_longer, longer_then}
-use Rattle.tc_explore.proofs.States.{closed_ats_more, closed_ats_all}
-use Rattle.tc_explore.proofs.Tree.{tree_next}
+use Rattle.tc_explore.proofs.States.{closed_at, closed_ats_more, closed_ats_all}
 use Rattle.tc_explore.proofs.search.expand_all.Goals as goal
 use Rattle.tc_explore.proofs.search.expand_all.Goals.{then-is_closed, else-is_closed}
 
@@ -11,26 +10,25 @@ loop-at-preserved c =
     let was = c.loop-at.invariant in
     let is = c.in_ok-is_one_closed.ensures in
     let within : c.loop-at.at < length c.loop-at.met.states.items = search rules in
-    let closed : c.if-is_closed.is_closed ≡ true → (i : ℕ) → i < c.loop-at.at + 1 → IsClosedAt c.args.scripts.now c.expand.new.met.states.items c.expand.new.found.witnesses.items i =
+    let closed : c.if-is_closed.is_closed ≡ true → (i : ℕ) → i < c.loop-at.at + 1 → IsClosedAt c.args.scripts.now c.expand_course.new.met.states.items c.expand_course.new.found.witnesses.items i =
     elim c.if-is_closed.branch [
       | then-is_closed w ↦ λ h.
           let before : c.loop-at.is_closed ≡ true = search rules in
           let now : c.in_ok-is_one_closed.is_one_closed ≡ true = search rules in
-          closed_ats_more c.args.scripts.now c.loop-at.met.states.items c.expand.new.met.states.items c.loop-at.found.witnesses.items c.expand.new.found.witnesses.items c.loop-at.at is.more_states is.more_found within (was.4 before) (is.closed now)
+          closed_ats_more c.args.scripts.now c.loop-at.met.states.items c.expand_course.new.met.states.items c.loop-at.found.witnesses.items c.expand_course.new.found.witnesses.items c.loop-at.at is.more_states is.more_found within (was.4 before) (closed_at c.args.scripts.now c.loop-at.met.states.items c.expand_course.new.met.states.items c.expand_course.new.found.witnesses.items c.loop-at.at c.in_ok-course.course c.index.result.now is.more_states within c.in_ok-course.ensures.entries c.index.ensures (is.closed now))
       | else-is_closed w ↦ λ h. absurd cc
     ] in
-    let full : c.if-is_closed.is_closed ≡ false → IsFull c.expand.new.met = elim c.if-is_closed.branch [
+    let full : c.if-is_closed.is_closed ≡ false → IsFull c.expand_course.new.met = elim c.if-is_closed.branch [
       | then-is_closed w ↦ λ h. let now : c.in_ok-is_one_closed.is_one_closed ≡ false = search rules in is.full now
-      | else-is_closed w ↦ λ h. let before : c.loop-at.is_closed ≡ false = search rules in full_longer c.loop-at.met c.expand.new.met is.more_states is.limit (was.6 before)
+      | else-is_closed w ↦ λ h. let before : c.loop-at.is_closed ≡ false = search rules in full_longer c.loop-at.met c.expand_course.new.met is.more_states is.limit (was.6 before)
     ] in (
       is.kept,
-      longer_then c.args.met.now.states.items c.loop-at.met.states.items c.expand.new.met.states.items was.1 is.more_states,
+      longer_then c.args.met.now.states.items c.loop-at.met.states.items c.expand_course.new.met.states.items was.1 is.more_states,
       is.found,
-      longer_then c.args.found.now.witnesses.items c.loop-at.found.witnesses.items c.expand.new.found.witnesses.items was.3 is.more_found,
+      longer_then c.args.found.now.witnesses.items c.loop-at.found.witnesses.items c.expand_course.new.found.witnesses.items was.3 is.more_found,
       closed,
       is.limit ∙ was.5,
       full,
-      tree_next c.loop-at.met.states.items c.expand.new.met.states.items c.loop-at.at (length c.args.scripts.now) within was.7 is.grown,
     )
 
 pub returns-clause-closed : goal.returns-clause-closed

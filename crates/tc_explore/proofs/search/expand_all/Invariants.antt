@@ -1,5 +1,5 @@
 use Rattle.std.proofs.Common.{◌≡◌, ◌<◌, ℕ, true, false}
-use Rattle.tc_explore.specs.Inside.Seen.{AreKept, IsClosedAt, IsLonger, IsNoted, IsFull, IsTree}
+use Rattle.tc_explore.specs.Inside.Seen.{AreKept, IsClosedAt, IsLonger, IsNoted, IsFull}
 use Rattle.tc_explore.proofs.search.expand_all.Given as goal
 
 abbrev pub invariant-loop-at : goal.invariant-loop-at
@@ -11,4 +11,3 @@ invariant-loop-at l =
     × (l.is_closed ≡ true → (i : ℕ) → i < l.at → IsClosedAt l.scripts l.met.states.items l.found.witnesses.items i)
     × (l.met.limit ≡ l.limit)
     × (l.is_closed ≡ false → IsFull l.met)
-    × IsTree l.met.states.items l.at 0

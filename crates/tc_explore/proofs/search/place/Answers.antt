@@ -1,13 +1,18 @@
-use Rattle.std.proofs.Common.{refl, inl, inr}
+use Rattle.std.specs.Cmp.Lexicographic.{pointwise}
+use Rattle.std.specs.List.{list_any}
+use Rattle.std.proofs.Common.{rules, ◌≡◌, true, nat_eq, length}
+use Rattle.tc_table.specs.Case.{past_of}
+use Rattle.tc_explore.specs.Inside.Keys.{key_of}
 use Rattle.tc_explore.proofs.Keeping.{state_self}
+use Rattle.tc_explore.proofs.Keys.{seen_by_key}
 use Rattle.tc_explore.proofs.Seeing.{seen_last}
 use Rattle.tc_explore.proofs.search.place.Goals as goal
 
-pub returns-then-is_known-clause-with_it : goal.returns-then-is_known-clause-with_it
-returns-then-is_known-clause-with_it c = inl refl
-
-pub returns-clause-with_it : goal.returns-clause-with_it
-returns-clause-with_it c = inr c.in_ok-push.ensures.items
+pub returns-then-contains-clause-seen : goal.returns-then-contains-clause-seen
+returns-then-contains-clause-seen c h =
+    let is : c.in_ok-key.key.items ≡ key_of (length c.args.scripts.now) (past_of c.args.course) = search rules in
+    let known : list_any (λ x. pointwise nat_eq c.in_ok-key.key.items x.items) c.args.met.now.keys.keys ≡ true = search rules in
+    seen_by_key c.args.scripts.now c.args.met.now c.args.course c.in_ok-key.key.items c.requires.some c.requires.state c.requires.states c.requires.keyed is known
 
 pub returns-clause-seen : goal.returns-clause-seen
 returns-clause-seen c h =

@@ -3,7 +3,6 @@ use Rattle.tc_table.specs.Case.{past_of}
 use Rattle.tc_explore.specs.Inside.Seen.{IsRunClosed, IsFull, AreStill}
 use Rattle.tc_explore.specs.Inside.Simulation.{GoesOn}
 use Rattle.tc_explore.proofs.Closed.{runs_more, still_more, full_longer, longer_then}
-use Rattle.tc_explore.proofs.Tree.{grown_more}
 use Rattle.tc_explore.proofs.search.try_runs.Goals as goal
 use Rattle.tc_explore.proofs.search.try_runs.Goals.{then-goes_on, else-goes_on, then-is_closed, else-is_closed}
 
@@ -40,5 +39,4 @@ loop-run-preserved c =
       is.limit ∙ was.6,
       full,
       still,
-      grown_more c.args.met.now.states.items c.loop-run.met.states.items c.try_run.new.met.states.items (past_of c.args.course.now) c.loop-run.run was.9 is.grown,
     )

@@ -1,7 +1,7 @@
 use Rattle.std.proofs.Common.{◌≡◌, ◌<◌, ℕ, true, false}
 use Rattle.tc_table.specs.Case.{past_of}
 use Rattle.tc_explore.specs.Inside.Simulation.{GoesOn}
-use Rattle.tc_explore.specs.Inside.Seen.{AreGrown, AreKept, IsLonger, IsNoted, IsRunClosed, IsFull, AreStill}
+use Rattle.tc_explore.specs.Inside.Seen.{AreKept, IsLonger, IsNoted, IsRunClosed, IsFull, AreStill}
 use Rattle.tc_explore.proofs.search.try_runs.Given as goal
 
 abbrev pub invariant-loop-run : goal.invariant-loop-run
@@ -15,4 +15,3 @@ invariant-loop-run l =
     × (l.met.limit ≡ l.initial.met.limit)
     × (l.is_closed ≡ false → IsFull l.met)
     × (l.goes_on ≡ false → AreStill l.scripts (past_of l.course) l.run)
-    × AreGrown l.initial.met.states.items l.met.states.items (past_of l.course) l.run

@@ -3,7 +3,7 @@ use Rattle.std.proofs.lemmas.List.{length-map}
 use Rattle.tc_step.specs.Steps.{ScriptView}
 use Rattle.tc_explore.specs.Course.{most_states}
 use Rattle.tc_explore.specs.Found.{AreLegal, AreReached, AreWitnesses}
-use Rattle.tc_explore.specs.Laws.{AllFound}
+use Rattle.tc_explore.specs.Found.{AllFound}
 use Rattle.tc_explore.specs.declared.explored.Ending.TheVariants as E
 use Rattle.tc_program.specs.Scripted.{scripts_of}
 use Rattle.tc_program.proofs.explore.explore_case.Goals as goal

@@ -1,0 +1,247 @@
+-- Two states of one key are the same: what the keys of states say of them.
+use Rattle.std.proofs.Common.{ℕ, zero, suc, ◌≡◌, ◌+◌, ◌==◌, ◌<◌, ◌≤◌, Bool, true, false, Option, Some, None, List, [], ◌∷◌, ◌++◌, ◌||◌, if◌then◌else◌, nat_eq, All, length, map, slice_get, refl, ap, sym, subst, ◌∙◌, arith, append-nil, append_assoc}
+use Rattle.std.proofs.lemmas.Bool.Decides.{nat_tests}
+use Rattle.std.proofs.lemmas.List.{length-map}
+use Rattle.std.proofs.lemmas.Option.{slice_get_within, get_or_from_slice_get}
+use Rattle.std.specs.Cmp.Lexicographic.{pointwise, same_text, other_text}
+use Rattle.std.specs.List.{AllByRecursion, IsDistinct, flat_map, list_any, range_with_len}
+use Rattle.tc_verdict.specs.Verdict.{level_of}
+use Rattle.tc_entry.specs.declared.comp.Comp.{Comp}
+use Rattle.tc_entry.specs.declared.entry.Entry.{Entry}
+use Rattle.tc_entry.specs.declared.op.Op.{Op}
+use Rattle.tc_step.specs.Steps.{ScriptView}
+use Rattle.tc_table.specs.Case.{Case, past_of}
+use Rattle.tc_table.specs.Faults.{components}
+use Rattle.tc_table.specs.History.{is_alive_type}
+use Rattle.tc_table.specs.Phases.{phase_if_any}
+use Rattle.tc_table.specs.Local.{overall}
+use Rattle.tc_table.specs.Answers.{is_active}
+use Rattle.tc_table.proofs.Lemmas.Deciding.{equal_if}
+use Rattle.tc_explore.specs.declared.search.Met.{Met}
+use Rattle.tc_explore.specs.Course.{Stand, stand}
+use Rattle.tc_explore.specs.Inside.Keys.{phase_code, comp_code, number_of, run_key, run_key_of, comp_key, key_of}
+use Rattle.tc_explore.specs.Inside.Seen.{AreKeyed, IsSame, IsSeen, IsState}
+use Rattle.tc_explore.proofs.Sameness.{HasSame, same_of, same_verdict, same_phase, same_comp}
+use Rattle.tc_explore.proofs.Keeping.{active_stays}
+
+-- ---- lists that begin alike
+
+append_same : (a b u v : List ℕ) → length a ≡ length b → a ++ u ≡ b ++ v → (a ≡ b) × (u ≡ v)
+append_same [] [] u v size h = (refl, h)
+append_same [] (y ∷ b) u v size h = absurd (omega (arith, size))
+append_same (x ∷ a) [] u v size h = absurd (omega (arith, size))
+append_same (x ∷ a) (y ∷ b) u v size h =
+    let head : x ≡ y = cc in
+    let tail : a ++ u ≡ b ++ v = cc in
+    let rest = append_same a b u v (omega (arith, size)) tail in
+    let front : a ≡ b = rest.0 in
+    let whole : x ∷ a ≡ y ∷ b = cc in (whole, rest.1)
+
+-- parts of which each ends where it says
+abbrev Ends : (ℕ → List ℕ) → (ℕ → List ℕ) → Type 0
+Ends f g = (b : ℕ) (u v : List ℕ) → f b ++ u ≡ g b ++ v → (f b ≡ g b) × (u ≡ v)
+
+parts_same : (f g : ℕ → List ℕ) → Ends f g → (i n : ℕ) (u v : List ℕ) → flat_map f (range_with_len i n) ++ u ≡ flat_map g (range_with_len i n) ++ v →
+    ((b : ℕ) → i ≤ b → b < i + n → f b ≡ g b) × (u ≡ v)
+parts_same f g ends i zero u v h = (λ b low high. absurd (omega (arith, low, high)), h)
+parts_same f g ends i (suc n) u v h =
+    let one = ends i _ _ (sym (append_assoc (f i) (flat_map f (range_with_len (i + 1) n)) u) ∙ (h ∙ append_assoc (g i) (flat_map g (range_with_len (i + 1) n)) v)) in
+    let rest = parts_same f g ends (i + 1) n u v one.1 in (λ b low high. by_place one.0 rest.0 b low high (b == i) refl, rest.1)
+  where
+    by_place : f i ≡ g i → ((b : ℕ) → i + 1 ≤ b → b < i + 1 + n → f b ≡ g b) → (b : ℕ) → i ≤ b → b < i + suc n → (t : Bool) → (b == i) ≡ t → f b ≡ g b
+    by_place one rest b low high true k = let same : i ≡ b = sym (equal_if b i k) in subst (λ x. f x ≡ g x) same one
+    by_place one rest b low high false k = rest b (grind (arith, nat_tests)) (omega (arith, high))
+
+-- ---- keys
+
+run_ends : (x y : Bool) (s t : Stand) (u v : List ℕ) → run_key x s ++ u ≡ run_key y t ++ v → (run_key x s ≡ run_key y t) × (u ≡ v)
+run_ends true true s t u v h =
+    let on : comp_code s.comp ≡ comp_code t.comp = cc in
+    let calls : s.called ≡ t.called = cc in
+    let size : length s.bound ≡ length t.bound = cc in
+    let tail : map number_of s.bound ++ u ≡ map number_of t.bound ++ v = cc in
+    let rest = append_same (map number_of s.bound) (map number_of t.bound) u v (length-map s.bound number_of ∙ (size ∙ sym (length-map t.bound number_of))) tail in
+    let bound : map number_of s.bound ≡ map number_of t.bound = rest.0 in
+    let whole : run_key true s ≡ run_key true t = cc in (whole, rest.1)
+run_ends false false s t u v h =
+    let on : comp_code s.comp ≡ comp_code t.comp = cc in
+    let tail : u ≡ v = cc in
+    let whole : run_key false s ≡ run_key false t = cc in (whole, tail)
+run_ends true false s t u v h = let no : ◌≡◌ {A = ℕ} 1 0 = cc in absurd (omega (arith, no))
+run_ends false true s t u v h = let no : ◌≡◌ {A = ℕ} 0 1 = cc in absurd (omega (arith, no))
+
+comp_ends : (p q : List Entry) → Ends (comp_key p) (comp_key q)
+comp_ends p q c u v h =
+    let whole : comp_key p c ≡ comp_key q c = cc in
+    let tail : u ≡ v = cc in (whole, tail)
+
+-- what two courses of one key have in common
+pub record IsOneKey (n : ℕ) (p q : List Entry) : Type 0 where
+  pub verdict : level_of (overall p) ≡ level_of (overall q)
+  pub count : components p ≡ components q
+  pub comps : (c : ℕ) → c < components p → comp_key p c ≡ comp_key q c
+  pub runs : (b : ℕ) → b < n → run_key_of p b ≡ run_key_of q b
+
+pub one_key : (n : ℕ) (p q : List Entry) → key_of n p ≡ key_of n q → IsOneKey n p q
+unfolding key_of
+one_key n p q h = record {
+  verdict = cc;
+  count = counts;
+  comps = λ c near. parts.0 c (omega arith) (omega (arith, near));
+  runs = λ b near. runs.0 b (omega arith) (omega (arith, near));
+}
+  where
+    counts : components p ≡ components q
+    counts = cc
+
+    tail : flat_map (comp_key p) (range_with_len 0 (components p)) ++ flat_map (run_key_of p) (range_with_len 0 n) ≡ flat_map (comp_key q) (range_with_len 0 (components q)) ++ flat_map (run_key_of q) (range_with_len 0 n)
+    tail = cc
+
+    parts : ((c : ℕ) → 0 ≤ c → c < 0 + components p → comp_key p c ≡ comp_key q c) × (flat_map (run_key_of p) (range_with_len 0 n) ≡ flat_map (run_key_of q) (range_with_len 0 n))
+    parts = parts_same (comp_key p) (comp_key q) (comp_ends p q) 0 (components p) _ _
+        (tail ∙ ap (λ m. flat_map (comp_key q) (range_with_len 0 m) ++ flat_map (run_key_of q) (range_with_len 0 n)) (sym counts))
+
+    runs : ((b : ℕ) → 0 ≤ b → b < 0 + n → run_key_of p b ≡ run_key_of q b) × ◌≡◌ {A = List ℕ} [] []
+    runs = parts_same (run_key_of p) (run_key_of q) (λ b u v. run_ends (is_active p b) (is_active q b) (stand p b) (stand q b) u v) 0 n [] []
+        (append-nil (flat_map (run_key_of p) (range_with_len 0 n)) ∙ (parts.1 ∙ sym (append-nil (flat_map (run_key_of q) (range_with_len 0 n)))))
+
+-- ---- what is read off a key
+
+numbers_same : (a b : List Comp) → map number_of a ≡ map number_of b → a ≡ b
+numbers_same [] [] h = refl
+numbers_same [] (d ∷ b) h = absurd cc
+numbers_same (c ∷ a) [] h = absurd cc
+numbers_same (c ∷ a) (d ∷ b) h =
+    let one : c.0 ≡ d.0 = cc in
+    let tail : map number_of a ≡ map number_of b = cc in
+    let same : c ≡ d = ap (λ (m : ℕ). record { 0 = m }) one in
+    let rest : a ≡ b = numbers_same a b tail in
+    cc
+
+kind_same : (a b : Bool) → ◌≡◌ {A = ℕ} (if a then 1 else 0) (if b then 1 else 0) → a ≡ b
+kind_same true true h = refl
+kind_same false false h = refl
+kind_same true false h = absurd (omega (arith, h))
+kind_same false true h = absurd (omega (arith, h))
+
+run_comp : (x y : Bool) (s t : Stand) → run_key x s ≡ run_key y t → comp_code s.comp ≡ comp_code t.comp
+run_comp true true s t h = cc
+run_comp true false s t h = cc
+run_comp false true s t h = cc
+run_comp false false s t h = cc
+
+record CallsAs (y : Bool) (s t : Stand) : Type 0 where
+  pub goes : y ≡ true
+  pub called : s.called ≡ t.called
+  pub bound : s.bound ≡ t.bound
+
+run_calls : (y : Bool) (s t : Stand) → run_key true s ≡ run_key y t → CallsAs y s t
+run_calls true s t h = let bound : map number_of s.bound ≡ map number_of t.bound = cc in record { goes = refl; called = cc; bound = numbers_same s.bound t.bound bound }
+run_calls false s t h = let no : ◌≡◌ {A = ℕ} 1 0 = cc in absurd (omega (arith, no))
+
+stand_of : Option Comp → List Comp → ℕ → Bool → Option Op → Stand
+stand_of comp bound called left wake = record { comp = comp; bound = bound; called = called; left = left; wake = wake }
+
+-- two states of one key are the same
+pub same_by_key : (scripts : List ScriptView) (t u : Case) → 1 ≤ length scripts → IsState scripts t → IsState scripts u → key_of (length scripts) (past_of t) ≡ key_of (length scripts) (past_of u) → IsSame (past_of t) (past_of u)
+unfolding stand_of
+same_by_key scripts t u some st su h = same_of scripts p q st.opened.on.course su.opened.on.course (record {
+  verdict = same_verdict (overall p) (overall q) k.verdict;
+  count = k.count;
+  phases = λ c near. same_phase (phase_if_any p c) (phase_if_any q c) (phases c near);
+  kinds = λ c near. kind_same (is_alive_type p c) (is_alive_type q c) (kinds c near);
+  comps = comps;
+  stands = λ b near act. by_key b near act (subst (λ x. run_key x (stand p b) ≡ run_key_of q b) act (k.runs b near));
+}) some
+  where
+    p : List Entry
+    p = past_of t
+
+    q : List Entry
+    q = past_of u
+
+    k : IsOneKey (length scripts) p q
+    k = one_key (length scripts) p q h
+
+    phases : (c : ℕ) → c < components p → phase_code (phase_if_any p c) ≡ phase_code (phase_if_any q c)
+    phases c near = let both : comp_key p c ≡ comp_key q c = k.comps c near in cc
+
+    kinds : (c : ℕ) → c < components p → ◌≡◌ {A = ℕ} (if is_alive_type p c then 1 else 0) (if is_alive_type q c then 1 else 0)
+    kinds c near = let both : comp_key p c ≡ comp_key q c = k.comps c near in cc
+
+    comps : (b : ℕ) → b < length scripts → (stand p b).comp ≡ (stand q b).comp
+    comps b near = same_comp (stand p b).comp (stand q b).comp (run_comp (is_active p b) (is_active q b) (stand p b) (stand q b) (k.runs b near))
+
+    by_key : (b : ℕ) → b < length scripts → is_active p b ≡ true → run_key true (stand p b) ≡ run_key_of q b → (stand p b ≡ stand q b) × ((stand q b).wake ≡ None)
+    by_key b near act one =
+        let s = stand p b in
+        let r = stand q b in
+        let c = run_calls (is_active q b) s r one in
+        let on : s.comp ≡ r.comp = comps b near in
+        let called : s.called ≡ r.called = c.called in
+        let bound : s.bound ≡ r.bound = c.bound in
+        let mine : s.left ≡ false = active_stays scripts p b st.opened.on.course act in
+        let others : r.left ≡ false = active_stays scripts q b su.opened.on.course c.goes in
+        let left : s.left ≡ r.left = mine ∙ sym others in
+        let none : s.wake ≡ None = st.opened.no_wake b in
+        let no_wake : r.wake ≡ None = su.opened.no_wake b in
+        let wake : s.wake ≡ r.wake = none ∙ sym no_wake in
+        let whole : stand_of s.comp s.bound s.called s.left s.wake ≡ stand_of r.comp r.bound r.called r.left r.wake = cc in (whole, no_wake)
+
+-- ---- the keys of a list of states
+
+-- a key of the list is that of some state
+pub key_found : {V : Type 0} (items : V → List ℕ) (key : Case → List ℕ) (k : List ℕ) (ks : List V) (ts : List Case) → map items ks ≡ map key ts → list_any (λ x. pointwise nat_eq k (items x)) ks ≡ true →
+    (i : ℕ) × (t : Case) × (slice_get ts i ≡ Some t) × (k ≡ key t)
+key_found items key k [] ts h is = absurd cc
+key_found items key k (x ∷ ks) [] h is = absurd cc
+key_found items key k (x ∷ ks) (t ∷ ts) h is =
+    let first : items x ≡ key t = cc in
+    let others : map items ks ≡ map key ts = cc in
+    by_first (key_found items key k ks ts others) first (pointwise nat_eq k (items x)) refl
+  where
+    by_first : (list_any (λ y. pointwise nat_eq k (items y)) ks ≡ true → (i : ℕ) × (u : Case) × (slice_get ts i ≡ Some u) × (k ≡ key u)) → items x ≡ key t → (b : Bool) → pointwise nat_eq k (items x) ≡ b →
+        (i : ℕ) × (u : Case) × (slice_get (t ∷ ts) i ≡ Some u) × (k ≡ key u)
+    by_first later first true e = (0, t, refl, same_text k (items x) (sym e) ∙ first)
+    by_first later first false e = let r = later (ap (λ b. b || list_any (λ y. pointwise nat_eq k (items y)) ks) (sym e) ∙ is) in (suc r.0, r.1, r.2, r.3)
+
+not_later : {V : Type 0} (items : V → List ℕ) (key : Case → List ℕ) (a : List ℕ) (ks : List V) (ts : List Case) (j : ℕ) (r : Case) → map items ks ≡ map key ts → AllByRecursion (λ y. pointwise nat_eq a (items y) ≡ false) ks →
+    slice_get ts j ≡ Some r → a ≡ key r → ⊥
+not_later items key a ks [] j r h all there same = absurd cc
+not_later items key a [] (t ∷ ts) j r h all there same = absurd cc
+not_later items key a (y ∷ ks) (t ∷ ts) zero r h all there same =
+    let first : items y ≡ key t = cc in
+    let is : r ≡ t = cc in
+    other_text a (items y) (sym all.0) (same ∙ (ap key is ∙ sym first))
+not_later items key a (y ∷ ks) (t ∷ ts) (suc j) r h all there same = let others : map items ks ≡ map key ts = cc in not_later items key a ks ts j r others all.1 there same
+
+-- no two of the states are at one course
+abbrev pub AreApart : List Case → Type 0
+AreApart states = (i j : ℕ) (s t : Case) → slice_get states i ≡ Some s → slice_get states j ≡ Some t → past_of s ≡ past_of t → i ≡ j
+
+-- no two states of distinct keys are at one course
+pub keys_apart : {V : Type 0} (items : V → List ℕ) (n : ℕ) (ks : List V) (ts : List Case) → map items ks ≡ map (λ t. key_of n (past_of t)) ts → IsDistinct (λ x y. pointwise nat_eq (items x) (items y)) ks → AreApart ts
+unfolding IsDistinct
+keys_apart items n ks [] h d i j s r here there same = absurd cc
+keys_apart items n [] (t ∷ ts) h d i j s r here there same = absurd cc
+keys_apart items n (x ∷ ks) (t ∷ ts) h d zero zero s r here there same = refl
+keys_apart items n (x ∷ ks) (t ∷ ts) h d (suc i) (suc j) s r here there same =
+    let others : map items ks ≡ map (λ u. key_of n (past_of u)) ts = cc in ap suc (keys_apart items n ks ts others d.1 i j s r here there same)
+keys_apart items n (x ∷ ks) (t ∷ ts) h d zero (suc j) s r here there same =
+    let others : map items ks ≡ map (λ u. key_of n (past_of u)) ts = cc in
+    let first : items x ≡ key_of n (past_of t) = cc in
+    let is : t ≡ s = cc in
+    absurd (not_later items (λ u. key_of n (past_of u)) (items x) ks ts j r others d.0 there (first ∙ ap (key_of n) (ap past_of is ∙ same)))
+keys_apart items n (x ∷ ks) (t ∷ ts) h d (suc i) zero s r here there same =
+    let others : map items ks ≡ map (λ u. key_of n (past_of u)) ts = cc in
+    let first : items x ≡ key_of n (past_of t) = cc in
+    let is : t ≡ r = cc in
+    absurd (not_later items (λ u. key_of n (past_of u)) (items x) ks ts i s others d.0 here (first ∙ ap (key_of n) (ap past_of is ∙ sym same)))
+
+-- what a key that is known leads to
+pub seen_by_key : (scripts : List ScriptView) (met : Met) (t : Case) (k : List ℕ) → 1 ≤ length scripts → IsState scripts t → All (λ u. IsState scripts u) met.states.items → AreKeyed scripts met → k ≡ key_of (length scripts) (past_of t) →
+    list_any (λ x. pointwise nat_eq k x.items) met.keys.keys ≡ true → IsSeen met.states.items (past_of t)
+seen_by_key scripts met t k some state states keyed is known =
+    let f = key_found (λ x. x.items) (λ u. key_of (length scripts) (past_of u)) k met.keys.keys met.states.items keyed known in
+    let there : IsState scripts f.1 = subst (IsState scripts) (get_or_from_slice_get met.states.items f.0 f.1 f.1 f.2) (states f.0 f.1 (slice_get_within met.states.items f.0 f.1 f.2)) in
+    (f.0, f.1, f.2, same_by_key scripts t f.1 some state there (sym is ∙ f.3))
