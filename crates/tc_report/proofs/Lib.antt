@@ -2,6 +2,7 @@
 pub mod Aborts
 pub mod Lemmas
 pub mod Counting
+pub mod Joining
 pub mod Locals
 pub mod Overalls
 pub mod Plain

@@ -1,7 +1,7 @@
 -- The call that decided the verdict of a test case, and its caller.
-use Rattle.std.specs.Prelude.{Option, None, List, reverse, slice_get}
+use Rattle.std.specs.Prelude.{nat_lt, if◌then◌else◌, Option, None, List, reverse, slice_get}
 use Rattle.std.specs.Option.{option_and_then, option_map}
-use Rattle.tc_verdict.specs.declared.verdict.Verdict.TheVariants as V
+use Rattle.tc_verdict.specs.Verdict.{level_of}
 use Rattle.tc_entry.specs.declared.comp.Comp.{Comp}
 use Rattle.tc_entry.specs.declared.entry.Entry.{Entry}
 use Rattle.tc_table.specs.Deciding.{deciding, name_of}
@@ -26,7 +26,5 @@ deciding_cause history = option_map (cause_by history) (option_and_then (slice_g
 
 -- what is said of a test case with this end: nothing if it is not over, and nothing if its verdict is none or pass
 abbrev pub cause_of : CaseEnd → List Entry → Option Cause
-cause_of (C.Over V.Inconc) history = deciding_cause history
-cause_of (C.Over V.Fail) history = deciding_cause history
-cause_of (C.Over V.Error) history = deciding_cause history
-cause_of _ history = None
+cause_of (C.Over v) history = if nat_lt 1 (level_of v) then deciding_cause history else None
+cause_of ending history = None

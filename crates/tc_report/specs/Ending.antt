@@ -22,8 +22,7 @@ ending_line ending = ending_text ending ++ (10 ∷ [])
 -- whether a case was refused
 abbrev pub is_aborted : CampaignEnd → Bool
 is_aborted (E.Aborted name why) = true
-is_aborted E.Complete = false
-is_aborted (E.StoppedAfter name) = false
+is_aborted ending = false
 
 -- the line on standard error that says so
 abbrev pub aborted_line : List ℕ → CaseError → List ℕ
@@ -32,5 +31,4 @@ aborted_line name why = codes "ttrun: " ++ (aborted_text name why ++ (10 ∷ [])
 -- that line, if a case was refused
 abbrev pub abort_text : CampaignEnd → List ℕ
 abort_text (E.Aborted name why) = aborted_line name why
-abort_text E.Complete = []
-abort_text (E.StoppedAfter name) = []
+abort_text ending = []

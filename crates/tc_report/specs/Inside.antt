@@ -1,5 +1,5 @@
 -- What the functions inside say, which no public clause names.
-use Rattle.std.specs.Prelude.{ℕ, ◌≡◌, false, List, [], ◌∷◌, ◌++◌}
+use Rattle.std.specs.Prelude.{ℕ, ◌≡◌, ◌+◌, ◌==◌, Bool, true, false, List, [], ◌∷◌, ◌++◌}
 use Rattle.std.specs.Global.{Vec}
 use Rattle.csv.specs.declared.writer.Writer.{Writer}
 use Rattle.csv.specs.Writing.{default_writer, writer_setup, fields_written, has_written, writer_under, writer_pending}
@@ -7,6 +7,10 @@ use Rattle.tc_report.specs.Csv.{header_text}
 use Rattle.std.specs.List.{flat_map, join_with_byte}
 use Rattle.tc_report.specs.declared.live_form.LiveForm.{LiveForm}
 use Rattle.tc_report.specs.declared.results.Finished.{Finished}
+use Rattle.tc_report.specs.declared.results.Tally.{Tally}
+use Rattle.tc_verdict.specs.declared.verdict.Verdict.{Verdict}
+use Rattle.tc_verdict.specs.declared.verdict.Verdict.TheVariants as V
+use Rattle.tc_verdict.specs.Verdict.{level_of}
 use Rattle.tc_report.specs.Live.{opening_text, part_text}
 
 -- the bytes in memory, and then those that the writer holds back
@@ -31,3 +35,19 @@ csv_line fields = join_with_byte 44 fields ++ (10 ∷ [])
 -- what of a campaign's text comes up to the last of these test cases
 abbrev pub text_so_far : LiveForm → List Finished → List ℕ
 text_so_far form fs = opening_text form ++ flat_map (part_text form) fs
+
+-- one if it is so, otherwise none
+abbrev pub one_if : Bool → ℕ
+one_if true = 1
+one_if false = 0
+
+-- the tally with one test case more, of this overall verdict
+abbrev pub tally_with : Tally → Verdict → Tally
+tally_with t v = record {
+  cases = t.cases + 1;
+  none = t.none + one_if (level_of v == level_of V.None);
+  pass = t.pass + one_if (level_of v == level_of V.Pass);
+  inconc = t.inconc + one_if (level_of v == level_of V.Inconc);
+  fail = t.fail + one_if (level_of v == level_of V.Fail);
+  error = t.error + one_if (level_of v == level_of V.Error);
+}

@@ -36,27 +36,19 @@ counts_text ss =
     number_text (codes " tests=\"") (length ss) ++ (number_text (codes " failures=\"") (with_status 1 ss) ++
     number_text (codes " errors=\"") (with_status 2 ss))
 
--- the same of the suite, which also counts those that are skipped
-unfoldable pub suite_text : List Summary → List ℕ
-suite_text ss =
-    (codes ">\n<testsuite name=\"ttrun\"" ++ counts_text ss) ++ number_text (codes " skipped=\"") (skipped ss)
-
--- the first tags, each with the counts
+-- the first tags, each with the counts; the suite also counts those that are skipped
 unfoldable pub head_text : List Summary → List ℕ
-head_text ss = (codes "<?xml version=\"1.0\" encoding=\"UTF-8\"?>\n<testsuites" ++ counts_text ss) ++ suite_text ss
+head_text ss =
+    codes "<?xml version=\"1.0\" encoding=\"UTF-8\"?>\n<testsuites" ++ (counts_text ss ++
+    (codes ">\n<testsuite name=\"ttrun\"" ++ (counts_text ss ++ number_text (codes " skipped=\"") (skipped ss))))
 
 -- the program's version
 unfoldable pub version_text : List ℕ → List ℕ
 version_text version = codes ">\n<properties>\n<property name=\"version\" value=\"" ++ (version ++ codes "\"/>\n</properties>\n")
 
--- a name after a space, if there is one
-abbrev pub spaced_text : Option (List ℕ) → List ℕ
-spaced_text None = []
-spaced_text (Some name) = codes " " ++ name
-
 -- a component by its number, and its name if it has one
 unfoldable pub comp_text : Option (List ℕ) → Comp → List ℕ
-comp_text name c = codes " on component " ++ (decimal c.0 ++ spaced_text name)
+comp_text name c = codes " on component " ++ (decimal c.0 ++ option_map_or (λ n. codes " " ++ n) name [])
 
 -- a call, and its reply
 unfoldable pub call_text : Entry → List ℕ
@@ -67,14 +59,12 @@ unfoldable pub cause_text : Cause → List ℕ
 cause_text c =
     codes "run " ++ (decimal c.entry.caller.0 ++ (option_map_or (comp_text c.name) c.comp [] ++ (codes ": " ++ call_text c.entry)))
 
--- what decided the verdict, and all calls of that run, line by line
-unfoldable pub lines_text : Cause → List ℕ
-lines_text c = cause_text c ++ (codes "\n" ++ flat_map shown_entry c.log)
-
--- the element of a verdict that is worse than pass, between its first text and its last tag
+-- the element of a verdict that is worse than pass, between its first text and its last tag. In it is what decided the
+-- verdict, and in lines of their own the same and all calls of that run; if nothing decided it, the verdict's name.
 unfoldable pub verdict_element : List ℕ → Verdict → Option Cause → List ℕ → List ℕ
-verdict_element first v cause last =
-    first ++ (option_map_or cause_text cause (codes "verdict " ++ name_of v) ++ (codes "\">\n" ++ (option_map_or lines_text cause [] ++ last)))
+verdict_element first v None last = first ++ (codes "verdict " ++ (name_of v ++ (codes "\">\n" ++ last)))
+verdict_element first v (Some c) last =
+    first ++ (cause_text c ++ (codes "\">\n" ++ (cause_text c ++ (codes "\n" ++ (flat_map shown_entry c.log ++ last)))))
 
 -- what is said of the end of a test case: nothing if its verdict is pass
 unfoldable pub end_element : CaseEnd → Option Cause → List ℕ

@@ -1,9 +1,8 @@
 -- The text of a campaign that is written as its test cases finish.
-use Rattle.std.specs.Prelude.{ℕ, ◌≡◌, ◌+◌, ◌==◌, Bool, true, false, List, [], ◌++◌, Option, Some, map}
+use Rattle.std.specs.Prelude.{ℕ, ◌≡◌, Bool, true, false, List, [], ◌∷◌, ◌++◌, Option, Some, map}
 use Rattle.std.specs.Io.KnownBytes.{Appends}
 use Rattle.tc_verdict.specs.declared.verdict.Verdict.{Verdict}
-use Rattle.tc_verdict.specs.declared.verdict.Verdict.TheVariants as V
-use Rattle.tc_verdict.specs.Verdict.{level_of, worse}
+use Rattle.tc_verdict.specs.Verdict.{worse}
 use Rattle.tc_report.specs.declared.fault.OutFault.{OutFault}
 use Rattle.tc_report.specs.declared.live_form.LiveForm.{LiveForm}
 use Rattle.tc_report.specs.declared.live_form.LiveForm.TheVariants as F
@@ -18,7 +17,7 @@ use Rattle.tc_report.specs.Histories.{case_history, histories_text}
 use Rattle.tc_report.specs.Output.{LeavesPrefix}
 use Rattle.tc_report.specs.Report.{case_text, report_text}
 use Rattle.tc_report.specs.Summary.{case_summary}
-use Rattle.tc_report.specs.Tally.{tally_line}
+use Rattle.tc_report.specs.Tally.{tally_line, tally_of_cases}
 
 -- the text of the results in this form
 abbrev pub form_text : LiveForm → Results → List ℕ
@@ -42,21 +41,9 @@ abbrev pub closing_text : LiveForm → Tally → CampaignEnd → List ℕ
 closing_text F.Text tally ending = tally_line tally ++ ending_line ending
 closing_text form tally ending = []
 
--- one if it is so, otherwise none
-abbrev pub one_if : Bool → ℕ
-one_if true = 1
-one_if false = 0
-
--- the tally with one test case more, of this overall verdict
-abbrev pub tally_with : Tally → Verdict → Tally
-tally_with t v = record {
-  cases = t.cases + 1;
-  none = t.none + one_if (level_of v == level_of V.None);
-  pass = t.pass + one_if (level_of v == level_of V.Pass);
-  inconc = t.inconc + one_if (level_of v == level_of V.Inconc);
-  fail = t.fail + one_if (level_of v == level_of V.Fail);
-  error = t.error + one_if (level_of v == level_of V.Error);
-}
+-- if the one is the tally of some test cases, the other is that of them and one more
+abbrev pub IsOneMore : Tally → Finished → Tally → Type 0
+IsOneMore before f after = (fs : List Finished) → before ≡ tally_of_cases fs → after ≡ tally_of_cases (fs ++ f ∷ [])
 
 -- the state of a live writer: its form, what its writer holds, the test cases that it has counted, their worst verdict,
 -- and why it has ended the campaign
@@ -76,7 +63,7 @@ module _ {W : Type 0} (contents : W → Option (List ℕ)) where
 pub record IsWritten (before : LiveState) (f : Finished) (after : LiveState) : Type 0 where
   pub form : after.form ≡ before.form
   pub out : Appends before.out after.out (part_text before.form f)
-  pub tally : after.tally ≡ tally_with before.tally f.report.verdict
+  pub tally : IsOneMore before.tally f after.tally
   pub worst : after.worst ≡ worse before.worst f.report.verdict
   pub fault : after.fault ≡ before.fault
 

@@ -1,5 +1,5 @@
 -- The text report of a campaign.
-use Rattle.std.specs.Prelude.{ℕ, ◌+◌, Option, Some, None, List, [], ◌∷◌, ◌++◌, codes, slice_get}
+use Rattle.std.specs.Prelude.{ℕ, ◌+◌, List, [], ◌∷◌, ◌++◌, codes, slice_get, unwrap_or}
 use Rattle.std.specs.List.{flat_map}
 use Rattle.std.specs.Fmt.{decimal}
 use Rattle.tc_verdict.specs.declared.verdict.Verdict.{Verdict}
@@ -34,15 +34,10 @@ shown_call op reply = call_line op reply
 abbrev pub shown_entry : Entry → List ℕ
 shown_entry e = shown_call e.op e.reply
 
--- the name, no byte if there is none
-abbrev pub name_text : Option (List ℕ) → List ℕ
-name_text None = []
-name_text (Some name) = name
-
--- the line of a run: its number, its behaviour's name, and its component
+-- the line of a run: its number, its behaviour's name if it has one, and its component
 abbrev pub run_line : List (List ℕ) → RunLog → List ℕ
 run_line names log =
-    codes "run " ++ (decimal log.run.0 ++ (codes " " ++ (name_text (slice_get names log.run.0) ++ (codes " on " ++ (decimal log.comp.0 ++ (10 ∷ []))))))
+    codes "run " ++ (decimal log.run.0 ++ (codes " " ++ (unwrap_or (slice_get names log.run.0) [] ++ (codes " on " ++ (decimal log.comp.0 ++ (10 ∷ []))))))
 
 -- a run that was started, and its log
 abbrev pub run_text : List (List ℕ) → RunLog → List ℕ

@@ -22,14 +22,12 @@ verdict_status V.Error = 2
 -- the status for an ending, if this is the worst verdict
 abbrev pub ending_status : CampaignEnd → Verdict → ℕ
 ending_status (E.Aborted name why) v = 3
-ending_status E.Complete v = verdict_status v
-ending_status (E.StoppedAfter name) v = verdict_status v
+ending_status ending v = verdict_status v
 
 -- the verdict that an end counts as: a test case that is not over, or has no report, counts as error
 abbrev pub counted_as : CaseEnd → Verdict
 counted_as (C.Over v) = v
-counted_as C.Unfinished = V.Error
-counted_as (C.Aborted why) = V.Error
+counted_as ending = V.Error
 
 -- the worst of the verdicts that the test cases count as, none if there is no test case
 abbrev pub worst_of : List Summary → Verdict

@@ -1,6 +1,7 @@
 //! Counting verdicts.
-ghost use Rattle.std.specs.Prelude.{◌≡◌, ◌+◌, [], IfOk, IfSome};
-ghost use Rattle.tc_report.specs.Live.{one_if, tally_with};
+ghost use Rattle.std.specs.Prelude.{◌≡◌, ◌+◌, IfOk, IfSome};
+ghost use Rattle.tc_report.specs.Inside.{one_if, tally_with};
+ghost use Rattle.tc_report.specs.Live.{IsOneMore};
 ghost use Rattle.tc_report.specs.Tally.{cases_of as spec_cases, count_of as spec_count, tally_of_cases};
 
 use crate::results::{Finished, Results, Tally};
@@ -21,20 +22,6 @@ fn cases_of(cases: &[Finished], verdict: Verdict) -> usize
         .iter()
         .filter(|case| case.report.verdict == verdict)
         .count()
-}
-
-/// The tally of no test case.
-pub(crate) fn no_cases() -> Tally
-    ensures { result ≡ tally_of_cases [] }
-{
-    Tally {
-        cases: 0,
-        none: 0,
-        pass: 0,
-        inconc: 0,
-        fail: 0,
-        error: 0,
-    }
 }
 
 // The count, with one more if it is so; none if that is no number of the machine.
@@ -63,8 +50,9 @@ fn with_verdict(tally: &Tally, verdict: Verdict) -> Option<Tally>
 }
 
 /// The tally with this test case more; a count that is no number of the machine is more than there is memory for.
+#[tactic(auto, using(crate::proofs::Counting::is_one_more))]
 pub(crate) fn with_case(tally: &Tally, case: &Finished) -> Result<Tally, NoMemory>
-    ensures { IfOk result (λ t. t ≡ tally_with tally.now case.now.report.verdict) }
+    ensures { IfOk result (λ t. IsOneMore tally.now case.now t) }
 {
     match with_verdict(tally, case.report.verdict) {
         Some(tally) => Ok(tally),
@@ -72,7 +60,8 @@ pub(crate) fn with_case(tally: &Tally, case: &Finished) -> Result<Tally, NoMemor
     }
 }
 
-fn tally_cases(cases: &[Finished]) -> Tally
+/// The tally of these test cases.
+pub(crate) fn tally_cases(cases: &[Finished]) -> Tally
     ensures { result ≡ tally_of_cases cases.now }
 {
     Tally {

@@ -1,7 +1,7 @@
 //! The JUnit report.
 ghost use Rattle.std.specs.Prelude.{◌≡◌, ◌==◌, ◌++◌, [], codes, filter, length, IfOk, IfErr, OnOk};
 ghost use Rattle.std.specs.Option.{option_map_or};
-ghost use Rattle.tc_verdict.specs.Verdict.{level_of, name_of as verdict_name};
+ghost use Rattle.tc_verdict.specs.Verdict.{level_of};
 ghost use Rattle.tc_report.specs.declared.summary.Summary.{Summary as AnySummary};
 ghost use Rattle.std.specs.Io.KnownBytes.{Appends};
 ghost use Rattle.std.specs.List.{flat_map};
@@ -64,13 +64,6 @@ fn with_level(cases: &[Summary], level: u8) -> usize
         .count()
 }
 
-// How many of the test cases are skipped.
-fn skipped(cases: &[Summary]) -> usize
-    ensures { result ≡ spec.skipped cases.now }
-{
-    with_level(cases, 0)
-}
-
 // Appends an attribute that is a number.
 #[tactic(auto, unfolding(crate::specs::Junit::number_text))]
 fn append_attribute(out: &mut Vec<u8>, name: &str, number: usize) -> Result<(), NoMemory>
@@ -91,46 +84,19 @@ fn append_counts(out: &mut Vec<u8>, cases: &[Summary]) -> Result<(), NoMemory>
     append_attribute(out, " errors=\"", with_status(cases, 2))
 }
 
-// Appends a tag, with the counts as attributes.
-fn append_tag(out: &mut Vec<u8>, tag: &str, cases: &[Summary]) -> Result<(), NoMemory>
-    ensures { OnOk result (out.new.items ≡ out.old.items ++ (tag.now ++ spec.counts_text cases.now)) }
-{
-    append_text(out, tag)?;
-    append_counts(out, cases)
-}
-
-// Appends the first tag of the suite, which also counts the test cases that are skipped.
-fn append_suite_tag(out: &mut Vec<u8>, cases: &[Summary]) -> Result<(), NoMemory>
-    ensures { OnOk result (out.new.items ≡ out.old.items ++ spec.suite_text cases.now) }
-{
-    append_tag(out, ">\n<testsuite name=\"ttrun\"", cases)?;
-    append_attribute(out, " skipped=\"", skipped(cases))
-}
-
-// Appends the first tags.
+// Appends the first tags; that of the suite also counts the test cases that are skipped.
+#[tactic(auto, unfolding(crate::specs::Junit::head_text))]
 fn append_head(out: &mut Vec<u8>, cases: &[Summary]) -> Result<(), NoMemory>
     ensures { OnOk result (out.new.items ≡ out.old.items ++ spec.head_text cases.now) }
 {
-    append_tag(
+    append_text(
         out,
         "<?xml version=\"1.0\" encoding=\"UTF-8\"?>\n<testsuites",
-        cases,
     )?;
-    append_suite_tag(out, cases)
-}
-
-// Appends the text between two others.
-fn append_between(
-    out: &mut Vec<u8>,
-    before: &str,
-    text: &[u8],
-    behind: &str,
-) -> Result<(), NoMemory>
-    ensures { OnOk result (out.new.items ≡ out.old.items ++ (before.now ++ (text.now ++ behind.now))) }
-{
-    append_text(out, before)?;
-    out.extend_from_slice(text)?;
-    append_text(out, behind)
+    append_counts(out, cases)?;
+    append_text(out, ">\n<testsuite name=\"ttrun\"")?;
+    append_counts(out, cases)?;
+    append_attribute(out, " skipped=\"", with_level(cases, 0))
 }
 
 // Appends the program's version.
@@ -138,17 +104,14 @@ fn append_between(
 fn append_version(out: &mut Vec<u8>, version: &str) -> Result<(), NoMemory>
     ensures { OnOk result (out.new.items ≡ out.old.items ++ spec.version_text version.now) }
 {
-    append_between(
-        out,
-        ">\n<properties>\n<property name=\"version\" value=\"",
-        version.as_bytes(),
-        "\"/>\n</properties>\n",
-    )
+    append_text(out, ">\n<properties>\n<property name=\"version\" value=\"")?;
+    append_text(out, version)?;
+    append_text(out, "\"/>\n</properties>\n")
 }
 
 // Appends a name after a space, if there is one.
 fn append_spaced(out: &mut Vec<u8>, name: &Option<Name>) -> Result<(), NoMemory>
-    ensures { OnOk result (out.new.items ≡ out.old.items ++ spec.spaced_text name.now) }
+    ensures { OnOk result (out.new.items ≡ out.old.items ++ option_map_or (λ n. codes " " ++ n) name.now []) }
 {
     match name {
         None => Ok(()),
@@ -202,43 +165,6 @@ fn append_cause(out: &mut Vec<u8>, cause: &Cause) -> Result<(), NoMemory>
     append_call(out, &cause.entry)
 }
 
-// Appends the message: what decided the verdict, if an entry did.
-fn append_message(
-    out: &mut Vec<u8>,
-    verdict: Verdict,
-    cause: &Option<Cause>,
-) -> Result<(), NoMemory>
-    ensures { OnOk result (out.new.items ≡ out.old.items ++ option_map_or spec.cause_text cause.now (codes "verdict " ++ verdict_name verdict)) }
-{
-    match cause {
-        Some(cause) => append_cause(out, cause),
-        None => {
-            append_text(out, "verdict ")?;
-            append_text(out, name_of(verdict))
-        }
-    }
-}
-
-// Appends what decided the verdict, and all calls of that run, line by line.
-#[tactic(auto, unfolding(crate::specs::Junit::lines_text))]
-fn append_lines(out: &mut Vec<u8>, cause: &Cause) -> Result<(), NoMemory>
-    ensures { OnOk result (out.new.items ≡ out.old.items ++ spec.lines_text cause.now) }
-{
-    append_cause(out, cause)?;
-    append_text(out, "\n")?;
-    append_entries(out, cause.log.as_slice())
-}
-
-// Appends these lines, if an entry decided the verdict.
-fn append_lines_if(out: &mut Vec<u8>, cause: &Option<Cause>) -> Result<(), NoMemory>
-    ensures { OnOk result (out.new.items ≡ out.old.items ++ option_map_or spec.lines_text cause.now []) }
-{
-    match cause {
-        Some(cause) => append_lines(out, cause),
-        None => Ok(()),
-    }
-}
-
 // Appends the element of a verdict that is worse than pass, between its first text and its last tag.
 #[tactic(auto, unfolding(crate::specs::Junit::verdict_element))]
 fn append_verdict_element(
@@ -251,9 +177,20 @@ fn append_verdict_element(
     ensures { OnOk result (out.new.items ≡ out.old.items ++ spec.verdict_element first.now verdict cause.now last.now) }
 {
     append_text(out, first)?;
-    append_message(out, verdict, cause)?;
-    append_text(out, "\">\n")?;
-    append_lines_if(out, cause)?;
+    match cause {
+        Some(cause) => {
+            append_cause(out, cause)?;
+            append_text(out, "\">\n")?;
+            append_cause(out, cause)?;
+            append_text(out, "\n")?;
+            append_entries(out, cause.log.as_slice())?;
+        }
+        None => {
+            append_text(out, "verdict ")?;
+            append_text(out, name_of(verdict))?;
+            append_text(out, "\">\n")?;
+        }
+    }
     append_text(out, last)
 }
 
@@ -312,12 +249,9 @@ fn append_end_element(
 fn append_name_tag(out: &mut Vec<u8>, name: &Name) -> Result<(), NoMemory>
     ensures { OnOk result (out.new.items ≡ out.old.items ++ spec.name_tag name.now) }
 {
-    append_between(
-        out,
-        "<testcase name=\"",
-        name.bytes(),
-        "\" classname=\"ttrun\">\n",
-    )
+    append_text(out, "<testcase name=\"")?;
+    out.extend_from_slice(name.bytes())?;
+    append_text(out, "\" classname=\"ttrun\">\n")
 }
 
 // Appends the local verdicts, and the last tag of a test case.
@@ -369,14 +303,6 @@ pub fn junit_report(alloc: Global, version: &str, cases: &[Summary]) -> Result<V
     Ok(out)
 }
 
-// The JUnit report of the results of a campaign.
-fn suite_of_results(alloc: Global, version: &str, results: &Results) -> Result<Vec<u8>, NoMemory>
-    ensures { IfOk result (λ v. v.items ≡ spec.junit_of version.now (results_summaries results.now)) }
-{
-    let cases = summaries_of_results(alloc, results)?;
-    junit_report(alloc, version, cases.as_slice())
-}
-
 /// Writes the JUnit report of the results of a campaign: each finished test case, and the one that has no report. The text is
 /// made whole before anything is written.
 pub fn write_junit<W: Write>(
@@ -386,8 +312,10 @@ pub fn write_junit<W: Write>(
     writer: &mut W,
 ) -> Result<(), OutFault>
     ensures all { OnOk result (Appends (W.contents writer.old) (W.contents writer.new) (spec.junit_of version.now (results_summaries results.now))) }
-    ensures part { IfErr result (LeavesPrefix (W.contents writer.old) (W.contents writer.new) (spec.junit_of version.now (results_summaries results.now))) }
+    ensures part { IfErr result (LeavesPrefix (W.contents writer.old) (W.contents writer.new)
+        (spec.junit_of version.now (results_summaries results.now))) }
 {
-    let text = suite_of_results(alloc, version, results)?;
+    let cases = summaries_of_results(alloc, results)?;
+    let text = junit_report(alloc, version, cases.as_slice())?;
     write_made(writer, text.as_slice())
 }

@@ -3,12 +3,12 @@ ghost use Rattle.std.specs.Prelude.{◌≡◌, [], None, OnOk, OnErr, IfOk, IfEr
 ghost use Rattle.std.specs.Io.KnownBytes.{Appends};
 ghost use Rattle.tc_verdict.specs.declared.verdict.Verdict.TheVariants.{None as NoVerdict};
 ghost use Rattle.tc_verdict.specs.Verdict.{worse};
-ghost use Rattle.tc_report.specs.Live.{Writes, closing_text as spec_closing, opening_text as spec_opening, part_text as spec_part, state_of, tally_with};
+ghost use Rattle.tc_report.specs.Live.{IsOneMore, Writes, closing_text as spec_closing, opening_text as spec_opening, part_text as spec_part, state_of};
 ghost use Rattle.tc_report.specs.Status.{ending_status as spec_status};
 ghost use Rattle.tc_report.specs.Output.{LeavesPrefix};
 ghost use Rattle.tc_report.specs.Tally.{tally_of_cases};
 
-use crate::counts::{no_cases, with_case};
+use crate::counts::{tally_cases, with_case};
 use crate::ending::append_ending;
 use crate::fault::OutFault;
 use crate::histories::append_history;
@@ -96,7 +96,7 @@ impl<'a, W: Write> LiveWriter<'a, W> {
             alloc,
             form,
             writer,
-            tally: no_cases(),
+            tally: tally_cases(&[]),
             worst: Verdict::None,
             fault: None,
         }
@@ -118,22 +118,6 @@ impl<'a, W: Write> LiveWriter<'a, W> {
         write_flushed(self.writer, text.as_slice())
     }
 
-    // Writes the test case.
-    fn write_part(&mut self, case: &Finished) -> Result<(), OutFault>
-        ensures all { OnOk result (Appends (W.contents self.old.writer.now) (W.contents self.new.writer.now)
-            (spec_part self.old.form case.now)) }
-        ensures part { IfErr result (LeavesPrefix (W.contents self.old.writer.now) (W.contents self.new.writer.now)
-            (spec_part self.old.form case.now)) }
-        ensures form { self.new.form ≡ self.old.form }
-        ensures tally { self.new.tally ≡ self.old.tally }
-        ensures worst { self.new.worst ≡ self.old.worst }
-        ensures fault { self.new.fault ≡ self.old.fault }
-        ensures same { self.new.writer.ghost_name ≡ self.old.writer.ghost_name }
-    {
-        let text = part_text(self.alloc, self.form, case)?;
-        write_flushed(self.writer, text.as_slice())
-    }
-
     // Writes the test case, and counts it.
     fn write_case(&mut self, case: &Finished) -> Result<(), OutFault>
         ensures all { OnOk result (Appends (W.contents self.old.writer.now) (W.contents self.new.writer.now)
@@ -141,7 +125,7 @@ impl<'a, W: Write> LiveWriter<'a, W> {
         ensures part { IfErr result (LeavesPrefix (W.contents self.old.writer.now) (W.contents self.new.writer.now)
             (spec_part self.old.form case.now)) }
         ensures form { self.new.form ≡ self.old.form }
-        ensures tally { OnOk result (self.new.tally ≡ tally_with self.old.tally case.now.report.verdict) }
+        ensures tally { OnOk result (IsOneMore self.old.tally case.now self.new.tally) }
         ensures worst { OnOk result (self.new.worst ≡ worse self.old.worst case.now.report.verdict) }
         ensures uncounted { OnErr result (self.new.tally ≡ self.old.tally) }
         ensures unjudged { OnErr result (self.new.worst ≡ self.old.worst) }
@@ -149,7 +133,8 @@ impl<'a, W: Write> LiveWriter<'a, W> {
         ensures same { self.new.writer.ghost_name ≡ self.old.writer.ghost_name }
     {
         let tally = with_case(&self.tally, case)?;
-        self.write_part(case)?;
+        let text = part_text(self.alloc, self.form, case)?;
+        write_flushed(self.writer, text.as_slice())?;
         self.tally = tally;
         self.worst = worse_of(self.worst, case.report.verdict);
         Ok(())

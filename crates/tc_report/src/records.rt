@@ -154,21 +154,14 @@ pub(crate) fn csv_header(alloc: Global) -> Result<Vec<u8>, NoMemory>
     whole(started(alloc)?)
 }
 
-// The line of a test case.
-fn csv_row(alloc: Global, case: &Summary) -> Result<Vec<u8>, NoMemory>
-    ensures { IfOk result (λ v. v.items ≡ row_line case.now) }
-{
-    let mut writer = fresh(alloc);
-    add_row(alloc, &mut writer, case)?;
-    whole(writer)
-}
-
 /// The line of a finished test case.
 pub(crate) fn case_row(alloc: Global, case: &Finished) -> Result<Vec<u8>, NoMemory>
     ensures { IfOk result (λ v. v.items ≡ row_line (case_summary case.now)) }
 {
     let summary = summary_of_case(alloc, case)?;
-    csv_row(alloc, &summary)
+    let mut writer = fresh(alloc);
+    add_row(alloc, &mut writer, &summary)?;
+    whole(writer)
 }
 
 // The CSV report of the results of a campaign.
@@ -183,7 +176,7 @@ fn csv_of_results(alloc: Global, results: &Results) -> Result<Vec<u8>, NoMemory>
 /// is made whole before anything is written.
 pub fn write_csv<W: Write>(alloc: Global, results: &Results, writer: &mut W) -> Result<(), OutFault>
     ensures all { OnOk result (Appends (W.contents writer.old) (W.contents writer.new) (csv_of (map case_summary results.now.finished))) }
-    ensures part { IfErr result (λ fault. LeavesPrefix (W.contents writer.old) (W.contents writer.new) (csv_of (map case_summary results.now.finished)) fault) }
+    ensures part { IfErr result (LeavesPrefix (W.contents writer.old) (W.contents writer.new) (csv_of (map case_summary results.now.finished))) }
 {
     let text = csv_of_results(alloc, results)?;
     write_made(writer, text.as_slice())

@@ -1,10 +1,10 @@
 //! The text report.
-ghost use Rattle.std.specs.Prelude.{◌≡◌, ◌++◌, OnOk, OnErr, IfErr, IfSome, slice_get};
+ghost use Rattle.std.specs.Prelude.{◌≡◌, ◌++◌, OnOk, OnErr, IfErr, IfSome, [], slice_get, unwrap_or};
 ghost use Rattle.std.specs.List.{flat_map};
 ghost use Rattle.std.specs.Io.{StartsWith};
 ghost use Rattle.std.specs.Io.KnownBytes.{Appends};
 ghost use Rattle.tc_report.specs.Output.{LeavesPrefix};
-ghost use Rattle.tc_report.specs.Report.{call_line, case_line, case_text, local_line, local_lines, name_text, report_text, run_line, run_text, shown_entry, shown_op, verdict_line};
+ghost use Rattle.tc_report.specs.Report.{call_line, case_line, case_text, local_line, local_lines, report_text, run_line, run_text, shown_entry, shown_op, verdict_line};
 ghost use Rattle.tc_report.specs.Tally.{tally_line};
 ghost use Rattle.tc_text.specs.Spelling.{op_text};
 ghost use Rattle.std.specs.Fmt.{decimal};
@@ -105,7 +105,7 @@ pub(crate) fn append_entries(out: &mut Vec<u8>, entries: &[Entry]) -> Result<(),
 
 // Appends the name of the run's behaviour, if it has one.
 fn append_behaviour(out: &mut Vec<u8>, names: &[Name], run: Run) -> Result<(), NoMemory>
-    ensures { OnOk result (out.new.items ≡ out.old.items ++ name_text (slice_get names.now run.0)) }
+    ensures { OnOk result (out.new.items ≡ out.old.items ++ unwrap_or (slice_get names.now run.0) []) }
 {
     match names.get(usize::from(run.0)) {
         Some(name) => {
@@ -226,14 +226,6 @@ pub(crate) fn append_tally(out: &mut Vec<u8>, tally: &Tally) -> Result<(), NoMem
     Ok(())
 }
 
-fn append_report(out: &mut Vec<u8>, results: &Results) -> Result<(), NoMemory>
-    ensures { OnOk result (out.new.items ≡ out.old.items ++ report_text results.now) }
-{
-    append_cases(out, results.finished.as_slice())?;
-    append_tally(out, &tally(results))?;
-    append_ending(out, &results.ending)
-}
-
 /// Writes the text report: each finished test case in order, the tally and the ending. The text is made whole before
 /// anything is written.
 pub fn write_text<W: Write>(
@@ -245,6 +237,8 @@ pub fn write_text<W: Write>(
     ensures part { IfErr result (λ fault. LeavesPrefix (W.contents writer.old) (W.contents writer.new) (report_text results.now) fault) }
 {
     let mut text = Vec::new(alloc);
-    append_report(&mut text, results)?;
+    append_cases(&mut text, results.finished.as_slice())?;
+    append_tally(&mut text, &tally(results))?;
+    append_ending(&mut text, &results.ending)?;
     write_made(writer, text.as_slice())
 }

@@ -1,45 +1,24 @@
 -- What a live writer has written and counted, test case by test case.
-use Rattle.std.proofs.Common.{ℕ, ◌≡◌, ◌∙◌, ◌+◌, Bool, true, false, List, [], ◌∷◌, ◌++◌, Option, length, map, refl, sym, ap, subst, append_assoc}
-use Rattle.std.specs.Prelude.{◌==◌, if◌then◌else◌, filter}
-use Rattle.std.proofs.lemmas.List.{append-nil, length-append}
-use Rattle.std.proofs.lemmas.List.Elements.{filter-append}
+use Rattle.std.proofs.Common.{ℕ, ◌≡◌, ◌∙◌, Bool, List, [], ◌∷◌, ◌++◌, Option, map, sym, ap, subst, append_assoc}
+use Rattle.std.proofs.lemmas.List.{append-nil}
 use Rattle.std.specs.Borrow.{GName}
 use Rattle.std.specs.Io.KnownBytes.{Appends}
-use Rattle.tc_verdict.specs.declared.verdict.Verdict.{Verdict}
 use Rattle.tc_verdict.specs.declared.verdict.Verdict.TheVariants as V
-use Rattle.tc_verdict.specs.Verdict.{level_of, worse}
+use Rattle.tc_verdict.specs.Verdict.{worse}
 use Rattle.tc_stream.specs.Output.{AppendsPrefix}
 use Rattle.tc_report.specs.declared.fault.OutFault.{OutFault}
 use Rattle.tc_report.specs.declared.live_form.LiveForm.{LiveForm}
 use Rattle.tc_report.specs.declared.results.CampaignEnd.{CampaignEnd}
 use Rattle.tc_report.specs.declared.results.Finished.{Finished}
-use Rattle.tc_report.specs.Live.{LiveState, IsWritten, Writes, closing_text, form_text, one_if, opening_text, part_text, tally_with}
+use Rattle.tc_report.specs.Live.{LiveState, IsWritten, Writes, closing_text, form_text, opening_text, part_text}
 use Rattle.tc_report.specs.Inside.{text_so_far}
 use Rattle.tc_report.specs.Observers.{AreTaken, IsEndedAt}
 use Rattle.tc_report.specs.Output.{LeavesPrefix}
 use Rattle.tc_report.specs.Status.{ending_status, results_status, worst_of}
 use Rattle.tc_report.specs.Summary.{case_summary}
-use Rattle.tc_report.specs.Tally.{cases_of, tally_of_cases}
+use Rattle.tc_report.specs.Tally.{tally_of_cases}
 use Rattle.tc_report.proofs.Overalls.{worst_more}
 use Rattle.tc_report.proofs.Writing.{appends_both, left_is_prefix, prefix_behind, prefix_longer, so_far_more, whole_text}
-
-one_counted : (p : Finished → Bool) (f : Finished) → length (filter p (f ∷ [])) ≡ one_if (p f)
-one_counted p f = go (p f)
-  where
-    go : (b : Bool) → length (if b then f ∷ [] else []) ≡ one_if b
-    go true = refl
-    go false = refl
-
--- how many test cases have an overall verdict, one test case more
-cases_more : (v : Verdict) (fs : List Finished) (f : Finished) → cases_of v (fs ++ f ∷ []) ≡ cases_of v fs + one_if (level_of f.report.verdict == level_of v)
-cases_more v fs f =
-    let p : Finished → Bool = λ g. level_of g.report.verdict == level_of v in
-    ap length (filter-append p fs (f ∷ [])) ∙ length-append (filter p fs) (filter p (f ∷ [])) ∙ ap (λ n. length (filter p fs) + n) (one_counted p f)
-
--- the tally, one test case more
-pub tally_more : (fs : List Finished) (f : Finished) → tally_with (tally_of_cases fs) f.report.verdict ≡ tally_of_cases (fs ++ f ∷ [])
-tally_more fs f =
-    rw (length-append fs (f ∷ []), cases_more V.None fs f, cases_more V.Pass fs f, cases_more V.Inconc fs f, cases_more V.Fail fs f, cases_more V.Error fs f) refl
 
 -- the state of a writer that held `start`, when these test cases were written
 pub record IsAt (form : LiveForm) (start : Option (List ℕ)) (fs : List Finished) (state : LiveState) : Type 0 where
@@ -77,7 +56,7 @@ one_more form start fs f before after at one = record {
   form_is = one.form ∙ at.form_is;
   out = subst (Appends start after.out) (so_far_more form fs f)
       (appends_both start before.out after.out (text_so_far form fs) (part_text form f) at.out (subst (λ k. Appends before.out after.out (part_text k f)) at.form_is one.out));
-  tally = one.tally ∙ ap (λ t. tally_with t f.report.verdict) at.tally ∙ tally_more fs f;
+  tally = one.tally fs at.tally;
   worst_is = one.worst ∙ ap (λ w. worse w f.report.verdict) at.worst_is ∙ worst_more fs f;
 }
 
