@@ -31,6 +31,7 @@ UNREFUSED: Tuple[Exempt, ...] = (
     (("append_entry", "append_end"), "write_block makes them"),
     (("read_evidence_into",), "check and report make it"),
     (("read_evidence", "append_whole_block", "Block::history"), "no program keeps or writes whole blocks of evidence yet"),
+    (("answer_alone",), "it makes the calls of answer; tests/play takes the memory from it"),
     (("Server::step",), "serve makes it"),
     (("stop_word",), "it is handed no allocator: its one fault is that the word names no verdict"),
 )

@@ -2,7 +2,7 @@
 use Rattle.std.proofs.Common.{ℕ, ◌≡◌, ◌∙◌, ◌+◌, ◌++◌, ◌&&◌, ◌||◌, Bool, true, false, List, [], ◌∷◌, Option, Some, None, Ok, All, ap, ap₂, refl, subst, sym, true≢false}
 use Rattle.std.proofs.lemmas.List.Elements.{All-cons, All-head, All-tail}
 use Rattle.std.specs.List.{AllZip, flat_map, list_any}
-use Rattle.std.specs.Prelude.{filter, if◌then◌else◌}
+use Rattle.std.specs.Prelude.{filter, if◌then◌else◌, map}
 use Rattle.std.specs.Str.{bytes_eq}
 use Rattle.tc_entry.specs.Shard.{ShardView, has_place}
 use Rattle.tc_campaign.specs.declared.case.Case.{Case}
@@ -14,7 +14,7 @@ use Rattle.tc_program.specs.declared.fault.RunFault.TheVariants as F
 use Rattle.tc_command.specs.declared.task.Choice.{Choice}
 use Rattle.tc_script.specs.Campaign.{CampaignView, campaign}
 use Rattle.tc_script.specs.Law.{IsCase}
-use Rattle.tc_program.specs.Inside.{AreReady, IsCaseOf, RefusesNames, case_line}
+use Rattle.tc_program.specs.Inside.{AreReady, IsCaseOf, RefusesNames, case_line, case_parts}
 use Rattle.tc_program.specs.Scripted.{CaseView}
 
 module _ {C : Type 0} (P : C → Type 0) where
@@ -99,6 +99,36 @@ ready choice text all made ks spelled lawful each have are =
       lawful = all_chosen (λ c. IsCase c.1) script_name only shard all lawful;
       each = subst (λ rs. AreCases (chosen script_name only shard all) rs) (sym are) (zip_chosen only shard all made each);
     }
+
+abbrev first_or : {C : Type 0} → C → List C → C
+first_or d [] = d
+first_or d (c ∷ cs) = c
+
+abbrev rest_of : {C : Type 0} → List C → List C
+rest_of [] = []
+rest_of (c ∷ cs) = cs
+
+abbrev is_none : {C : Type 0} → List C → Bool
+is_none [] = true
+is_none (c ∷ cs) = false
+
+-- test cases with the same parts are of the same test cases of a script
+same_cases : (cs : List CaseView) (ks rs : List (Case ScriptView)) → AreCases cs ks → map case_parts rs ≡ map case_parts ks → AreCases cs rs
+same_cases [] [] [] each same = tt
+same_cases [] [] (r ∷ rs) each same = absurd (true≢false (ap is_none (sym same)))
+same_cases [] (k ∷ ks) rs each same = absurd each
+same_cases (c ∷ cs) [] rs each same = absurd each
+same_cases (c ∷ cs) (k ∷ ks) [] each same = absurd (true≢false (ap is_none same))
+same_cases (c ∷ cs) (k ∷ ks) (r ∷ rs) each same =
+    let at : case_parts r ≡ case_parts k = ap (first_or (case_parts r)) same in (
+      record { name = ap (λ p. p.0) at ∙ each.0.name; names = ap (λ p. p.1.0) at ∙ each.0.names; jobs = ap (λ p. p.1.1) at ∙ each.0.jobs },
+      same_cases cs ks rs each.1 (ap rest_of same),
+    )
+
+-- test cases with the same parts as ready ones are ready
+pub still_ready : (choice : Choice) (text : List ℕ) (ks rs : List (Case ScriptView)) → AreReady choice text ks → map case_parts rs ≡ map case_parts ks → AreReady choice text rs
+still_ready choice text ks rs are same =
+    record { cases = are.cases; chosen = are.chosen; lawful = are.lawful; each = same_cases are.cases ks rs are.each same }
 
 -- a name that they do not have is one that the script does not have
 pub unready : (choice : Choice) (text : List ℕ) (all : CampaignView) (made : List (Case ScriptView)) (fault : RunFault) → campaign text ≡ Ok all → AreCases all made

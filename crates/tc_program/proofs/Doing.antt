@@ -1,6 +1,6 @@
 -- What comes of a text, and of an input.
 use Rattle.std.proofs.Common.{ℕ, ◌≡◌, ◌≤◌, List, [], Option, None, Some, IfSome, IfOk, IfErr, Result, Ok, Err, ap₂, inl, inr, length, refl, subst, sym}
-use Rattle.std.specs.Prelude.{◌≢◌, MatchResult}
+use Rattle.std.specs.Prelude.{◌≢◌, ◌⊎◌, MatchResult}
 use Rattle.std.specs.Global.{Vec}
 use Rattle.tc_program.specs.declared.reply.Answer.{Answer}
 use Rattle.std.specs.Io.KnownBytes.{Keeps}
@@ -12,7 +12,8 @@ use Rattle.tc_program.specs.Input.{IsUnread}
 use Rattle.tc_program.specs.Inside.{Makes, Refuses, WritesTo}
 use Rattle.tc_program.specs.Limits.{limit_of}
 use Rattle.tc_program.specs.Made.{Does, IsMade}
-use Rattle.tc_program.specs.Program.{IsCarriedOut, IsDoneWhole}
+use Rattle.tc_program.specs.Alone.{IsLeft, IsNotBegun}
+use Rattle.tc_program.specs.Program.{IsCarriedOut, IsDone, IsDoneWhole}
 use Rattle.tc_program.specs.Streams.{Streams}
 use Rattle.tc_program.specs.declared.outcome.Outcome.{Outcome}
 
@@ -90,3 +91,12 @@ pub carried_out : (task : Task) (input : Option (List ℕ)) (s : Streams) (outco
     → IsCarriedOut task input s outcome
 carried_out T.Serve input s outcome other done = absurd (other refl)
 carried_out task input s outcome other done = done
+
+-- where no thread can be started, a text that is lent is done or left, so the task is carried out by its whole input or left
+pub done_or_left : (task : Task) (input : Option (List ℕ)) (text lent : List ℕ) (s : Streams) (outcome : Outcome) → lent ≡ text → length text ≤ limit_of task
+    → IfSome input (λ given. text ≡ given) → task ≢ T.Serve → IsDone task lent s outcome ⊎ IsNotBegun task lent s outcome → IsCarriedOut task input s outcome ⊎ IsLeft task input s outcome
+done_or_left task input text lent s outcome same fits all other (inl done) =
+    inl (carried_out task input s outcome other (inl (text, fits, all, subst (λ t. IsDone task t s outcome) same done)))
+done_or_left (T.Run o) input text lent s outcome same fits all other (inr left) =
+    inr (text, fits, all, subst (λ t. IsNotBegun (T.Run o) t s outcome) same left)
+done_or_left task input text lent s outcome same fits all other (inr left) = absurd left

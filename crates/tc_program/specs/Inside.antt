@@ -232,6 +232,10 @@ Summarizes blocks ss (Some j) = IsFirstJudged blocks j
 abbrev pub details_if : Bool → List ScriptView → Explored → List Line
 details_if asked scripts e = if asked then of_details scripts e else []
 
+-- the name of a test case, the names of its behaviours, and its scripts
+abbrev pub case_parts : Case ScriptView → List ℕ × (List (List ℕ) × List ScriptView)
+case_parts k = (k.name, (k.names.items, k.jobs.items))
+
 -- the line of a test case in a list
 abbrev pub case_line : {B : Type 0} → Case B → List ℕ
 case_line k = k.name ++ (10 ∷ [])

@@ -15,6 +15,7 @@ pub mod Made
 pub mod Serve
 pub mod Program
 pub mod Answer
+pub mod Alone
 pub mod Check
 pub mod Inside
 pub mod WrittenHistories

@@ -72,8 +72,8 @@ fn answer_no_task<W: Write, E: Write>(
     }
 }
 
-// The outcome of arguments that are refused, as one fact.
-fn answer_refused<W: Write, E: Write>(
+/// The outcome of arguments that are refused, as one fact.
+pub(crate) fn answer_refused<W: Write, E: Write>(
     alloc: Global,
     refused: &Refused,
     writer: &mut W,
@@ -87,8 +87,8 @@ fn answer_refused<W: Write, E: Write>(
     }
 }
 
-// The outcome of arguments that are not available; standard error says why.
-fn answer_unread<E: Write>(alloc: Global, error: &io::Error, errors: &mut E) -> Outcome
+/// The outcome of arguments that are not available; standard error says why.
+pub(crate) fn answer_unread<E: Write>(alloc: Global, error: &io::Error, errors: &mut E) -> Outcome
     ensures { IsUnread (error_kind error.now) (E.contents errors.old) (E.contents errors.new) result }
 {
     if error.kind() == io::ErrorKind::OutOfMemory {

@@ -1,10 +1,12 @@
 //! What the program does with a task.
 ghost use Rattle.std.specs.Prelude.{◌≡◌, ◌≢◌};
+ghost use Rattle.tc_command.specs.declared.task.RunOptions.{RunOptions as AnyOptions};
 ghost use Rattle.tc_command.specs.declared.task.Task.TheVariants.{Run, Serve};
+ghost use Rattle.tc_program.specs.Made.{IsMade};
 ghost use Rattle.tc_program.specs.Program.{IsCarriedOut, IsDone};
 ghost use Rattle.tc_program.specs.Streams.{held};
 
-use crate::cases::chosen_cases;
+use crate::cases::ready_cases;
 use crate::check::check_text;
 use crate::explained::refuse_text;
 use crate::explore::explore_text;
@@ -15,6 +17,7 @@ use crate::listing::list_text;
 use crate::made::finish;
 use crate::outcome::Outcome;
 use crate::replay::replay_text;
+use crate::reply::Answer;
 use crate::report::report_text;
 use crate::run::run_cases;
 use crate::serve::serve_input;
@@ -40,13 +43,33 @@ where
     requires { task.now ≡ Run options.now }
     ensures { IsDone task.now text.now (held W.contents writer.old writer.new E.contents errors.old errors.new) result }
 {
-    let cases = match chosen_cases(rt, alloc, text, &options.choice) {
+    let cases = match ready_cases(rt, alloc, text, &options.choice) {
         Ok(cases) => cases,
         Err(fault) => return refuse_text(alloc, errors, task, text, fault),
     };
     match run_cases(rt, alloc, cases, options, writer, errors) {
         Ok(outcome) => outcome,
         Err(fault) => refuse(alloc, errors, RunFault::from(fault)),
+    }
+}
+
+/// What is made of the text for a task that is no run.
+pub(crate) fn made_text(alloc: Global, task: &Task, text: &[u8]) -> Result<Answer, RunFault>
+    requires no_run { (o : AnyOptions) → task.now ≢ Run o }
+    requires no_service { task.now ≢ Serve }
+    ensures { IsMade task.now text.now result }
+{
+    match task {
+        Task::Replay { .. } => replay_text(alloc, text),
+        Task::Check { .. } => check_text(alloc, text),
+        Task::Report { form, .. } => report_text(alloc, *form, text),
+        Task::Explore {
+            histories,
+            details,
+            states,
+        } => explore_text(alloc, *histories, *details, *states, text),
+        Task::List(choice) => list_text(alloc, choice, text),
+        Task::Run(_) | Task::Serve => unreachable!(),
     }
 }
 
@@ -64,20 +87,17 @@ where
     requires { task.now ≢ Serve }
     ensures { IsDone task.now text.now (held W.contents writer.old writer.new E.contents errors.old errors.new) result }
 {
-    let made = match task {
-        Task::Replay { .. } => replay_text(alloc, text),
-        Task::Check { .. } => check_text(alloc, text),
-        Task::Report { form, .. } => report_text(alloc, *form, text),
-        Task::Explore {
-            histories,
-            details,
-            states,
-        } => explore_text(alloc, *histories, *details, *states, text),
-        Task::List(choice) => list_text(rt, alloc, choice, text),
-        Task::Run(options) => return run_text(rt, alloc, task, options, text, writer, errors),
-        Task::Serve => unreachable!(),
-    };
-    finish(alloc, task, text, made, writer, errors)
+    match task {
+        Task::Run(options) => run_text(rt, alloc, task, options, text, writer, errors),
+        _ => finish(
+            alloc,
+            task,
+            text,
+            made_text(alloc, task, text),
+            writer,
+            errors,
+        ),
+    }
 }
 
 /// Does what the task asks for with its input.

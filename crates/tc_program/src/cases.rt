@@ -1,9 +1,9 @@
-//! The chosen test cases of a script, ready to be run.
-ghost use Rattle.std.specs.Prelude.{◌≡◌, IfOk, IfErr, true};
+//! The chosen test cases of a script.
+ghost use Rattle.std.specs.Prelude.{◌≡◌, IfOk, IfErr, map, true};
 ghost use Rattle.std.specs.List.{AllZip};
 ghost use Rattle.tc_campaign.specs.Choosing.{case_name, chosen, have_names};
 ghost use Rattle.tc_program.specs.Choosing.{RefusesChoice};
-ghost use Rattle.tc_program.specs.Inside.{AreReady, IsCaseOf, RefusesNames};
+ghost use Rattle.tc_program.specs.Inside.{AreReady, IsCaseOf, RefusesNames, case_parts};
 
 use crate::fault::RunFault;
 use crate::script::read_script;
@@ -14,15 +14,11 @@ use tc_campaign::{Case, choose, have_all};
 use tc_command::Choice;
 use tc_entry::Name;
 use tc_script::{Campaign, CaseScript};
+use tc_step::Script;
 use tc_verdict::NoMemory;
 
 // The test case of these scripts.
-fn case_of<R: Wait + Copy + Send + 'static>(
-    rt: &R,
-    alloc: Global,
-    name: Name,
-    scripts: CaseScript,
-) -> Result<Case<ScriptJob<R>>, NoMemory>
+fn case_of(alloc: Global, name: Name, scripts: CaseScript) -> Result<Case<Script>, NoMemory>
     ensures { IfOk result (IsCaseOf (name, scripts)) }
 {
     let mut scripts = scripts;
@@ -33,23 +29,19 @@ fn case_of<R: Wait + Copy + Send + 'static>(
     };
     while let Some((behaviour, script)) = scripts.take_first() {
         case.names.push(behaviour)?;
-        case.jobs.push(ScriptJob::new(*rt, alloc, script))?;
+        case.jobs.push(script)?;
     }
     Ok(case)
 }
 
 // The test cases of a campaign.
-fn cases_of<R: Wait + Copy + Send + 'static>(
-    rt: &R,
-    alloc: Global,
-    campaign: Campaign,
-) -> Result<Vec<Case<ScriptJob<R>>>, NoMemory>
+fn cases_of(alloc: Global, campaign: Campaign) -> Result<Vec<Case<Script>>, NoMemory>
     ensures { IfOk result (λ cases. AllZip IsCaseOf campaign cases.items) }
 {
     let mut campaign = campaign;
     let mut cases = Vec::new(alloc);
     while let Some((name, scripts)) = campaign.take_first() {
-        cases.push(case_of(rt, alloc, name, scripts)?)?;
+        cases.push(case_of(alloc, name, scripts)?)?;
     }
     Ok(cases)
 }
@@ -73,7 +65,53 @@ fn choose_cases<B: Drop>(
 }
 
 /// The chosen test cases of the campaign that the text spells.
-pub(crate) fn chosen_cases<R: Wait + Copy + Send + 'static>(
+pub(crate) fn chosen_cases(
+    alloc: Global,
+    text: &[u8],
+    choice: &Choice,
+) -> Result<Vec<Case<Script>>, RunFault>
+    ensures chosen { IfOk result (λ cases. AreReady choice.now text.now cases.items) }
+    ensures refused { IfErr result (RefusesChoice choice.now text.now) }
+{
+    let campaign = read_script(alloc, text)?;
+    let cases = cases_of(alloc, campaign)?;
+    choose_cases(alloc, cases, choice)
+}
+
+// The jobs that run these scripts.
+fn jobs_of<R: Wait + Copy + Send + 'static>(
+    rt: &R,
+    alloc: Global,
+    scripts: Vec<Script>,
+) -> Result<Vec<ScriptJob<R>>, NoMemory>
+    ensures { IfOk result (λ jobs. jobs.items ≡ scripts.items) }
+{
+    let mut jobs = Vec::new(alloc);
+    for script in scripts {
+        jobs.push(ScriptJob::new(*rt, alloc, script))?;
+    }
+    Ok(jobs)
+}
+
+// The same test cases, with jobs that run their scripts.
+fn with_jobs<R: Wait + Copy + Send + 'static>(
+    rt: &R,
+    alloc: Global,
+    cases: Vec<Case<Script>>,
+) -> Result<Vec<Case<ScriptJob<R>>>, NoMemory>
+    ensures { IfOk result (λ ready. map case_parts ready.items ≡ map case_parts cases.items) }
+{
+    let mut ready = Vec::new(alloc);
+    for case in cases {
+        let Case { name, names, jobs } = case;
+        let jobs = jobs_of(rt, alloc, jobs)?;
+        ready.push(Case { name, names, jobs })?;
+    }
+    Ok(ready)
+}
+
+/// The chosen test cases of the campaign that the text spells, ready to be run.
+pub(crate) fn ready_cases<R: Wait + Copy + Send + 'static>(
     rt: &R,
     alloc: Global,
     text: &[u8],
@@ -82,7 +120,6 @@ pub(crate) fn chosen_cases<R: Wait + Copy + Send + 'static>(
     ensures chosen { IfOk result (λ cases. AreReady choice.now text.now cases.items) }
     ensures refused { IfErr result (RefusesChoice choice.now text.now) }
 {
-    let campaign = read_script(alloc, text)?;
-    let cases = cases_of(rt, alloc, campaign)?;
-    choose_cases(alloc, cases, choice)
+    let cases = chosen_cases(alloc, text, choice)?;
+    Ok(with_jobs(rt, alloc, cases)?)
 }

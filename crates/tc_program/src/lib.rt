@@ -2,6 +2,7 @@
 //! this library's `answer`.
 #![tactic(auto)]
 
+pub mod alone;
 pub mod answer;
 pub mod carry_out;
 mod cases;

@@ -9,7 +9,6 @@ use crate::cases::chosen_cases;
 use crate::fault::RunFault;
 use crate::reply::Answer;
 use std::alloc::Global;
-use std::sync::Wait;
 use tc_campaign::Case;
 use tc_command::Choice;
 use tc_entry::Sequence;
@@ -28,16 +27,11 @@ fn list_of<B: Drop>(alloc: Global, cases: &[Case<B>]) -> Result<Vec<u8>, NoMemor
 }
 
 /// What `run --list` makes of a script: the names of the test cases of it that are chosen, one a line; nothing is run.
-pub(crate) fn list_text<R: Wait + Copy + Send + 'static>(
-    rt: &R,
-    alloc: Global,
-    choice: &Choice,
-    text: &[u8],
-) -> Result<Answer, RunFault>
+pub(crate) fn list_text(alloc: Global, choice: &Choice, text: &[u8]) -> Result<Answer, RunFault>
     ensures done { IfOk result (IsListed choice.now text.now) }
     ensures refused { IfErr result (RefusesChoice choice.now text.now) }
 {
-    let cases = chosen_cases(rt, alloc, text, choice)?;
+    let cases = chosen_cases(alloc, text, choice)?;
     let list = list_of(alloc, cases.as_slice())?;
     Ok(Answer {
         out: Sequence::new(list),

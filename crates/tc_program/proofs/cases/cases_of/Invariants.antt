@@ -4,7 +4,7 @@ use Rattle.tc_campaign.specs.Inside.{AreDone}
 use Rattle.tc_program.proofs.cases.cases_of.Given as goal
 
 abbrev pub invariant-loop-name : goal.invariant-loop-name
-invariant-loop-name g l = AreDone IsCaseOf l.fn.campaign l.campaign l.cases.items
+invariant-loop-name l = AreDone IsCaseOf l.fn.campaign l.campaign l.cases.items
 
 abbrev pub decreases-loop-name : goal.decreases-loop-name
-decreases-loop-name g l = length l.campaign
+decreases-loop-name l = length l.campaign

@@ -1,0 +1,116 @@
+//! What the program does with its arguments where no thread can be started.
+ghost use Rattle.std.specs.Prelude.{◌≡◌, ◌≢◌, ◌⊎◌, IfOk, IfErr, OnErr, map, string_bytes};
+ghost use Rattle.std.specs.IoError.{error_kind};
+ghost use Rattle.tc_command.specs.declared.task.Task.TheVariants.{Run, Serve};
+ghost use Rattle.tc_program.specs.Alone.{IsAnsweredAlone, IsLeft, IsNotBegun};
+ghost use Rattle.tc_program.specs.Answer.{IsUnread};
+ghost use Rattle.tc_program.specs.Program.{IsCarriedOut, IsDone};
+ghost use Rattle.tc_program.specs.Streams.{held};
+
+use crate::answer::{answer_refused, answer_unread};
+use crate::carry_out::made_text;
+use crate::cases::chosen_cases;
+use crate::explained::refuse_text;
+use crate::input::read_text;
+use crate::limits::limit_of;
+use crate::made::finish;
+use crate::outcome::Outcome;
+use crate::serve::serve_input;
+use crate::stderr::{refuse, refuse_words};
+use std::alloc::Global;
+use std::io;
+use std::io::{Read, Write};
+use tc_command::{RunOptions, Task, read_task};
+
+// Refuses the text of the task, a run, or says that the run needs threads.
+fn leave_run<W: Write, E: Write>(
+    alloc: Global,
+    task: &Task,
+    options: &RunOptions,
+    text: &[u8],
+    writer: &mut W,
+    errors: &mut E,
+) -> Outcome
+    requires { task.now ≡ Run options.now }
+    ensures { IsDone task.now text.now (held W.contents writer.old writer.new E.contents errors.old errors.new) result
+        ⊎ IsNotBegun task.now text.now (held W.contents writer.old writer.new E.contents errors.old errors.new) result }
+{
+    match chosen_cases(alloc, text, &options.choice) {
+        Ok(cases) => drop(cases),
+        Err(fault) => return refuse_text(alloc, errors, task, text, fault),
+    }
+    refuse_words(
+        alloc,
+        errors,
+        "a run needs threads, and there are none here: try explore",
+    )
+}
+
+// Does what the task asks for with its text, but begins no run.
+fn do_text<W: Write, E: Write>(
+    alloc: Global,
+    task: &Task,
+    text: &[u8],
+    writer: &mut W,
+    errors: &mut E,
+) -> Outcome
+    requires { task.now ≢ Serve }
+    ensures { IsDone task.now text.now (held W.contents writer.old writer.new E.contents errors.old errors.new) result
+        ⊎ IsNotBegun task.now text.now (held W.contents writer.old writer.new E.contents errors.old errors.new) result }
+{
+    match task {
+        Task::Run(options) => leave_run(alloc, task, options, text, writer, errors),
+        _ => finish(
+            alloc,
+            task,
+            text,
+            made_text(alloc, task, text),
+            writer,
+            errors,
+        ),
+    }
+}
+
+// Does what the task asks for with its input, but begins no run.
+fn carry_out<I: Read, W: Write, E: Write>(
+    alloc: Global,
+    task: &Task,
+    reader: &mut I,
+    writer: &mut W,
+    errors: &mut E,
+) -> Outcome
+    ensures { IsCarriedOut task.now (I.remaining reader.old) (held W.contents writer.old writer.new E.contents errors.old errors.new) result
+        ⊎ IsLeft task.now (I.remaining reader.old) (held W.contents writer.old writer.new E.contents errors.old errors.new) result }
+{
+    if let Task::Serve = task {
+        return serve_input(alloc, reader, writer, errors);
+    }
+    match read_text(alloc, reader, limit_of(task)) {
+        Ok(text) => do_text(alloc, task, text.as_slice(), writer, errors),
+        Err(fault) => refuse(alloc, errors, fault),
+    }
+}
+
+/// Does what the arguments ask for, as `answer::answer` does, but begins no run: it says that a run needs threads.
+pub fn answer_alone<I: Read, W: Write, E: Write>(
+    alloc: Global,
+    words: io::Result<Vec<String>>,
+    reader: &mut I,
+    writer: &mut W,
+    errors: &mut E,
+) -> Outcome
+    ensures had { IfOk words (λ given. IsAnsweredAlone (map string_bytes given.items) (I.remaining reader.old)
+        (held W.contents writer.old writer.new E.contents errors.old errors.new)
+        (reader.new ≡ reader.old) (writer.new ≡ writer.old) result) }
+    ensures not_had { IfErr words (λ error. IsUnread (error_kind error) (E.contents errors.old) (E.contents errors.new) result) }
+    ensures unwritten { OnErr words (writer.new ≡ writer.old) }
+{
+    let words = match words {
+        Ok(words) => words,
+        Err(error) => return answer_unread(alloc, &error, errors),
+    };
+    match read_task(alloc, words.as_slice()) {
+        Ok(task) => carry_out(alloc, &task, reader, writer, errors),
+        Err(refused) => answer_refused(alloc, &refused, writer, errors),
+    }
+}
