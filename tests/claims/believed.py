@@ -151,7 +151,7 @@ def items_of(text: str) -> Iterator[Tuple[str, str, bool, str]]:
         elif line.startswith("}"):
             around, is_open = "", False
         ghost = re.match(r"\s*ghost (\w+)(?::| =)", line)
-        function = re.match(r"\s*(pub )?(?:const )?fn (\w+)", line)
+        function = re.match(r"\s*(pub )?(?:const |extern \"C\" )?fn (\w+)", line)
         if ghost and not re.match(r"\s*ghost use", line):
             body = line
             while not re.search(r"\}[;,]?\s*$", lines[at]):

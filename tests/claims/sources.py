@@ -7,7 +7,7 @@ from collections import defaultdict
 from typing import Dict, Iterator, List, Set
 
 BLOCK = re.compile(r"(?ms)^(?:pub(?:\([a-z]+\))? )?(impl|trait|mod|struct|enum)\b([^{;]*)\{(.*?)^\}")
-FUNCTION = re.compile(r"(?m)^\s*(?:pub(?:\([a-z]+\))? )?(?:const |unsafe )*fn (\w+)")
+FUNCTION = re.compile(r'(?m)^\s*(?:pub(?:\([a-z]+\))? )?(?:const |unsafe |extern "C" )*fn (\w+)')
 TYPE = re.compile(r"(?m)^\s*(?:pub(?:\([a-z]+\))? )?(?:struct|enum|trait|type|const|static|mod) (\w+)")
 MEMBER = re.compile(r"(?m)^    (?:pub(?:\([a-z]+\))? )?([A-Za-z]\w*)[,({: ]")
 CLAUSE = re.compile(r"\b(?:ensures|requires|ghost invariant) (\w+) \{")
@@ -38,7 +38,7 @@ class Sources:
             for line in lines:
                 name, colon, below = line.partition("#")[0].partition(":")
                 if colon:
-                    self.crates[name.strip()] = below.split()
+                    self.crates[name.split()[0]] = below.split()
                     self.words.update(below.split())
 
     def read_crate(self, crate: str) -> None:
