@@ -21,15 +21,18 @@ TOP = os.path.dirname(os.path.dirname(os.path.abspath(__file__)))
 MARK = '<script type="text/plain" id="history">'
 # The crate that has the two parts, once it is there.
 CRATE = "crates/tc_page"
-# The module whose imports are the whole page.
+# The folders of the sources of the pages.
+FOLDERS = ("page", "page/play")
+# The module whose imports are the whole page that shows histories.
 MAIN = "main"
-IMPORT = re.compile(r'(?m)^import \{ ([^;]*?) \} from "\./(\w+)\.mjs";\n')
+IMPORT = re.compile(r'(?m)^import \{ ([^;]*?) \} from "\.{1,2}/(\w+)\.mjs";\n')
 DEFINED = re.compile(r"(?m)^(?:export )?(?:async )?(?:function|class|const|let) (\w+)")
 
 
 def source(name: str) -> str:
-    """A file of page/."""
-    with open(os.path.join(TOP, "page", name), encoding="ascii") as file:
+    """A source of a page."""
+    path = next(path for path in (os.path.join(TOP, folder, name) for folder in FOLDERS) if os.path.exists(path))
+    with open(path, encoding="ascii") as file:
         return file.read()
 
 
@@ -48,14 +51,14 @@ def bare(text: str) -> str:
     return "\n".join(line for line in lines if line and not line.startswith("// ") and not re.fullmatch(r"/\*.*\*/", line)) + "\n"
 
 
-def style() -> str:
-    """The style of the page."""
-    return "\n" + bare(source("page.css"))
+def style(*names: str) -> str:
+    """The style of a page."""
+    return "\n" + bare("".join(map(source, names)))
 
 
-def script() -> str:
-    """All modules as one script, in one scope, without the words that part them."""
-    joined = "".join(IMPORT.sub("", source(f"{name}.mjs")) for name in modules(MAIN, []))
+def script(main: str) -> str:
+    """All modules of a page as one script, in one scope, without the words that part them."""
+    joined = "".join(IMPORT.sub("", source(f"{name}.mjs")) for name in modules(main, []))
     names = DEFINED.findall(joined)
     twice = sorted({name for name in names if names.count(name) > 1})
     if twice:
@@ -63,19 +66,23 @@ def script() -> str:
     return '\n"use strict";\n' + bare(re.sub(r"(?m)^export ", "", joined))
 
 
-def policy() -> str:
-    """What the page may load: this style and this script, by their hashes, and nothing else."""
+def policy(style_text: str, script_text: str) -> str:
+    """What a page may load: this style and this script, by their hashes, and nothing else."""
     def named(text: str) -> str:
         return "'sha256-" + base64.b64encode(hashlib.sha256(text.encode()).digest()).decode() + "'"
-    return f"style-src {named(style())}; script-src {named(script())}"
+    return f"style-src {named(style_text)}; script-src {named(script_text)}"
+
+
+def filled(frame: str, parts: Dict[str, str]) -> str:
+    """A frame with its parts."""
+    text = bare(re.sub(r"(?s)<!-- .*? -->\n", "", source(frame)))
+    return re.sub(r"\{\{(\w+)\}\}", lambda found: parts[found[1]], text)
 
 
 def page() -> str:
     """The page with no history in it."""
-    text = bare(re.sub(r"(?s)<!-- .*? -->\n", "", source("page.html")))
-    for name, part in (("policy", policy()), ("style", style()), ("script", script())):
-        text = text.replace("{{" + name + "}}", part)
-    return text
+    parts = {"style": style("page.css"), "script": script(MAIN)}
+    return filled("page.html", {**parts, "policy": policy(parts["style"], parts["script"])})
 
 
 def constant(name: str, says: str, text: str) -> str:

@@ -23,7 +23,8 @@ MARK = '<script type="text/plain" id="history">'
 PARTS = ("ttrun", "MANIFEST", "SHA256SUMS", "README.md", "CHANGELOG.md", "docs/guide.md", "docs/pipelines.md", "docs/library.md",
          "docs/page-case.png", "docs/benches.md", "examples/restart.script", "page/viewer.html", "clients/titan/ttrun-titan",
          "tests/program/table.py", "clients/python/README.md", "clients/python/build_backend.py", "clients/python/pytest_filskeam.py",
-         "clients/python/filskeam/py.typed", "clients/cpp/README.md", "clients/cpp/filskeam.hpp", "clients/cpp/heater.cpp")
+         "clients/python/filskeam/py.typed", "clients/cpp/README.md", "clients/cpp/filskeam.hpp", "clients/cpp/heater.cpp",
+         "page/play.html")
 # What a release is made of and by.
 NEEDED = ("release", ".gitignore", "*.md", "docs", "examples", "page", "clients", "tests/program")
 

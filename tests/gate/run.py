@@ -23,7 +23,8 @@ from typing import Callable, Dict, List, Tuple
 TOP = os.path.dirname(os.path.dirname(os.path.dirname(os.path.abspath(__file__))))
 # The parts in their order, each by the command that it runs.
 PARTS = ("tests/claims/check.py", "tests/gate/run.py", "tests/wrapper/run.py", "rt", "tests/program/run.py", "tests/hostile/run.py",
-         "tests/serve/run.py", "tests/python/run.py", "tests/cpp/run.py", "tests/titan/run.py", "tests/page/run.py", "tests/documents/run.py")
+         "tests/serve/run.py", "tests/python/run.py", "tests/cpp/run.py", "tests/titan/run.py", "tests/page/run.py",
+         "tests/play/run.py", "tests/documents/run.py")
 # The words that a part is run with, if it has any.
 WORDS = {"rt": "ci", **{f"tests/{it}/run.py": "--server crates/ttrun/out/ttrun serve" for it in ("serve", "python", "cpp")}}
 RECORD = "crates/ttrun/out/ttrun.gate"

@@ -1,0 +1,220 @@
+"""The engine of the page in node, next to the built program: status, output and errors of the same words and input, byte by byte."""
+from __future__ import annotations
+
+import base64
+import json
+import os
+import random
+import subprocess
+import sys
+from collections import Counter
+from dataclasses import dataclass
+from typing import Iterator, List, Sequence, Tuple
+
+TOP = os.path.dirname(os.path.dirname(os.path.dirname(os.path.abspath(__file__))))
+sys.path[1:1] = [os.path.join(TOP, "tests", "program"), os.path.join(TOP, "tests", "page")]
+
+import explain
+import reports
+import rows
+import scripts
+import sizes
+import words as of_words
+from case import Case
+from histories import campaign, legal_case, random_block, spoilt, widest_case
+from random_moves import mutated
+from random_scripts import changed, drawn_script
+
+SECONDS = 120
+# What the engine says of a run that it does not begin.
+LEFT = b"ttrun: a run needs threads, and there are none here: try explore\n"
+EXPLORING = (("explore",), ("explore", "--details"), ("explore", "--history"), ("explore", "--states", "40"), ("run", "--list"), ("run", "--explain"))
+CHECKING = (("check",), ("check", "--explain"), ("report", "--csv"), ("report", "--junit"), ("report", "--html"), ("report", "--csv", "--explain"))
+REPLAYING = (("replay",), ("replay", "--explain"))
+TASKS = {".script": EXPLORING, ".history": CHECKING, ".moves": REPLAYING}
+Answer = Tuple[int, bytes, bytes]
+
+
+@dataclass
+class Context:
+    """What the tests work with."""
+
+    program: str
+    node: str
+    page: str
+    seed: int
+
+
+def hold(is_so: object, text: object) -> None:
+    """Fails the test unless it is so."""
+    if not is_so:
+        raise AssertionError(str(text)[:1500])
+
+
+class Engine:
+    """The engine in node, which answers one question after the other."""
+
+    def __init__(self, context: Context) -> None:
+        words = [context.node, os.path.join(TOP, "tests", "play", "engine.mjs"), context.page]
+        self.process = subprocess.Popen(words, stdin=subprocess.PIPE, stdout=subprocess.PIPE)
+        self.memory = 0
+
+    def __enter__(self) -> "Engine":
+        return self
+
+    def __exit__(self, *_: object) -> None:
+        self.process.stdin.close()
+        self.process.wait(SECONDS)
+
+    def answer(self, words: Sequence[str], text: bytes, *how: str) -> Answer:
+        """The status, output and errors."""
+        self.process.stdin.write(json.dumps([words, base64.b64encode(text).decode(), *how]).encode() + b"\n")
+        self.process.stdin.flush()
+        line = self.process.stdout.readline()
+        hold(line, f"the engine broke off: {words}, {text[:300]!r}")
+        status, output, errors, self.memory = json.loads(line)
+        return status, base64.b64decode(output), base64.b64decode(errors)
+
+
+def program_answer(context: Context, words: Sequence[str], text: bytes) -> Answer:
+    """What the program answers."""
+    ran = subprocess.run([context.program, *words], input=text, capture_output=True, timeout=SECONDS, check=False)
+    return ran.returncode, ran.stdout, ran.stderr
+
+
+def is_left(context: Context, words: Sequence[str], text: bytes) -> bool:
+    """Whether the words ask for a run of test cases that the text spells, which the program would begin."""
+    choice = [it for at, it in enumerate(words) if it in ("--only", "--shard") or at and words[at - 1] in ("--only", "--shard")]
+    is_run = not words or words[0] == "run"
+    return is_run and "--list" not in words and program_answer(context, ("run", "--list", *choice), text)[0] == 0
+
+
+def compare(context: Context, engine: Engine, met: Counter, words: Sequence[str], text: bytes) -> None:
+    """Holds the engine's answer to the program's; a run that it would begin is left, and that is said."""
+    found = engine.answer(words, text)
+    if found == (3, b"", LEFT):
+        hold(is_left(context, words, text), f"{words} is no run that the program begins: {text[:300]!r}")
+        met["left"] += 1
+        return
+    wanted = program_answer(context, words, text)
+    for name, one, other in zip(("status", "output", "errors"), wanted, found):
+        hold(one == other, f"{' '.join(words)}: {name} of the program {str(one)[:300]}, of the engine {str(other)[:300]}; {text[:400]!r}")
+    met[f"{(list(words) + ['run'])[0]} {found[0]}"] += 1
+    met["same"] += 1
+
+
+def told(met: Counter, *floors: Tuple[str, int]) -> str:
+    """What was met; the test fails below a floor."""
+    for name, least in floors:
+        hold(met[name] >= least, f"{name}: {met[name]} of at least {least}")
+    return f"{met['same']} the same, {met['left']} runs left; " + ", ".join(f"{name} {met[name]}" for name in sorted(met) if " " in name)
+
+
+def texts(ending: str) -> List[bytes]:
+    """The examples of a sort."""
+    names = sorted(name for name in os.listdir(os.path.join(TOP, "examples")) if name.endswith(ending))
+    return [open(os.path.join(TOP, "examples", name), "rb").read() for name in names]
+
+
+def every_example_and_task(context: Context, engine: Engine) -> str:
+    """Each task of each example, and what asks for no task."""
+    met = Counter()
+    for ending, tasks in TASKS.items():
+        for text in texts(ending):
+            for words in tasks:
+                compare(context, engine, met, words, text)
+    for words in (("--help",), ("--version",), ("-h",), ("help",), *((name, "--help") for name in ("run", "explore", "check", "report", "replay")),
+                  ("frob",), ("explore", "--frob"), ("explore", "--histroy"), ("run", "--only", "a b"), ("report",), ("", ""), ("\u00e9",)):
+        compare(context, engine, met, words, b"")
+    return told(met, ("same", 90), ("left", 7), ("check 0", 8), ("replay 0", 2), ("explore 0", 20))
+
+
+def cases_of_the_program() -> Iterator[Case]:
+    """The cases of the program's own tests that need no device, and whose words are text."""
+    for group in (rows, scripts, of_words, explain, reports, sizes):
+        for case in group.cases():
+            is_plain = isinstance(case, Case) and not (case.redirect or case.limit or case.stays_open or case.is_broken)
+            if is_plain and all(isinstance(word, str) for word in case.words):
+                yield case
+
+
+def every_case_of_the_program(context: Context, engine: Engine) -> str:
+    """All that the tests of the program ask it, the largest inputs among them."""
+    met = Counter()
+    for case in cases_of_the_program():
+        compare(context, engine, met, case.words, case.given)
+        met["large"] += len(case.given) >= 1 << 20
+    return told(met, ("same", 250), ("left", 30), ("large", 5), ("run 3", 50), ("check 3", 20), ("replay 3", 5))
+
+
+def a_thousand_spoilt_texts(context: Context, engine: Engine) -> str:
+    """Scripts, histories and lists of moves with small faults."""
+    rng, met = random.Random(f"spoilt {context.seed}"), Counter()
+    given = {ending: texts(ending) for ending in TASKS}
+    for _ in range(1000):
+        ending = rng.choice(list(TASKS))
+        text = changed(rng, drawn_script(rng, False)) if ending == ".script" and rng.random() < 0.5 else \
+            mutated(rng, rng.choice(given[ending])) if rng.random() < 0.4 else spoilt(rng, given[ending])
+        words = rng.choice(TASKS[ending])
+        compare(context, engine, met, (*words, "--states", "2000") if words[0] == "explore" and "--states" not in words else words, text)
+    return told(met, ("same", 900), ("explore 3", 50), ("check 3", 50), ("report 3", 100), ("replay 3", 100), ("run 3", 30))
+
+
+def generated_searches(context: Context, engine: Engine) -> str:
+    """Scripts that are drawn, and explored in each form."""
+    rng, met = random.Random(f"searches {context.seed}"), Counter()
+    for _ in range(150):
+        text = drawn_script(rng, False)
+        for words in (("explore", "--details"), ("explore", "--history")):
+            compare(context, engine, met, (*words, "--states", rng.choice(("100", "3000"))), text)
+    return told(met, ("same", 300), ("explore 0", 40), ("explore 1", 20), ("explore 3", 10))
+
+
+def generated_histories(context: Context, engine: Engine) -> str:
+    """Histories of any kind, most of them not legal, and legal ones of many sizes."""
+    rng, met = random.Random(f"histories {context.seed}"), Counter()
+    made = ["".join(random_block(rng, rng.random() < 0.5)[0] for _ in range(rng.randrange(1, 4))) for _ in range(150)]
+    made += [legal_case(f"t_{runs}", runs, steps) for runs in (1, 3, 40) for steps in (1, 20)] + [widest_case("t_wide"), campaign(40, 200_000)]
+    for text in made:
+        for words in (rng.choice(CHECKING), ("check",)):
+            compare(context, engine, met, words, text.encode())
+    return told(met, ("same", 300), ("check 0", 8), ("check 3", 100))
+
+
+def the_largest_inputs(context: Context, engine: Engine) -> str:
+    """As many bytes as may be, and one more; as many of everything as a script may have."""
+    met, (moves, _), (history, _) = Counter(), sizes.longest_list(), sizes.longest_history()
+    for text, tasks in ((moves, REPLAYING), (history, CHECKING)):
+        for words in tasks:
+            for more in (b"", b"\n"):
+                compare(context, engine, met, words, text + more)
+    for text in (sizes.many_behaviours(256), sizes.many_behaviours(257), sizes.single([f"create p{at}" for at in range(1000)]),
+                 sizes.waiting(64, 1000), sizes.padded_script(1 << 20), sizes.padded_script((1 << 20) + 1)):
+        for words in EXPLORING:
+            compare(context, engine, met, (*words, "--states", "3000") if words[0] == "explore" and len(words) < 3 else words, text)
+    return told(met, ("same", 40))
+
+
+def memory_is_refused(context: Context, engine: Engine) -> str:
+    """Without memory the answer says so, and with it the next one is right."""
+    met = Counter()
+    for words, text in ((("check",), sizes.longest_history()[0]), (("explore", "--details"), sizes.waiting(64, 1000)), (("replay",), sizes.longest_list()[0])):
+        hold(engine.answer(words, text, "narrowly") == (3, b"", b"ttrun: no memory\n"), words)
+        compare(context, engine, met, ("check",), texts(".history")[0])
+    return f"{met['same']} times, with {engine.memory} bytes"
+
+
+def ten_thousand_calls_without_growth(context: Context, engine: Engine) -> str:
+    """The memory is what it was after the first few hundred calls."""
+    asked = [(words, text) for ending, tasks in TASKS.items() for text in texts(ending) for words in tasks]
+    with Engine(context) as other:
+        for at in range(10_000):
+            other.answer(*asked[at % len(asked)])
+            if at == 300:
+                first = other.memory
+        hold(other.memory == first, f"{first} bytes after 300 calls, {other.memory} after 10,000")
+        return f"{other.memory} bytes"
+
+
+TESTS = (every_example_and_task, every_case_of_the_program, a_thousand_spoilt_texts, generated_searches, generated_histories,
+         the_largest_inputs, memory_is_refused, ten_thousand_calls_without_growth)

@@ -1,0 +1,42 @@
+// The engine of a page in node: node engine.mjs PAGE. A question is a line [words, input as base64], its answer a line [status,
+// output as base64, errors as base64, bytes of memory]. With "narrowly" as a third, all memory is taken before the call, and given
+// back after it.
+import { readFileSync } from "node:fs";
+import { createInterface } from "node:readline";
+import { gunzipSync } from "node:zlib";
+import { createContext, runInContext } from "node:vm";
+
+const page = readFileSync(process.argv[2], "ascii"), part = id => page.match(new RegExp(`id="${id}">([^]*?)</script>`))[1];
+const module = new WebAssembly.Module(gunzipSync(Buffer.from(part("engine"), "base64")));
+const imports = WebAssembly.Module.imports(module);
+if (imports.length) throw new Error(`the engine imports ${imports.map(({ name }) => name).join(", ")}`);
+const room = createContext({ WebAssembly, TextEncoder, TextDecoder, performance });
+runInContext(`${part("worker")}\nglobalThis.Engine = Engine;`, room);
+const engine = new room.Engine(module), { host_alloc, host_free, memory } = engine.exports, taken = [];
+// Blocks of each size, from the largest on, until there is no other.
+function takeAll() {
+  for (let size = 1n << 27n; size >= 32n; size /= 2n)
+    for (let at = host_alloc(size - 16n); at; at = host_alloc(size - 16n)) taken.push(at);
+  return taken.length;
+}
+const inLetters = bytes => Buffer.from(bytes).toString("base64");
+function answer([words, input]) {
+  const { status, output, errors } = engine.answer(words, new Uint8Array(Buffer.from(input, "base64")));
+  return [status, inLetters(output), inLetters(errors), memory.buffer.byteLength];
+}
+// The answer in rooms that are there already, so that only the engine itself can run out of memory.
+function narrowly(words, input) {
+  const line = Buffer.from(words.map(word => `${word}\0`).join("")), bytes = Buffer.from(input, "base64"), most = 1 << 16;
+  const rooms = [line, bytes].map(one => engine.hold(one)), [output, errors, lengths] = [most, most, 16].map(size => engine.room(size));
+  takeAll();
+  const status = engine.exports.tc_answer(rooms[0], BigInt(line.length), rooms[1], BigInt(bytes.length), output, BigInt(most), lengths,
+    errors, BigInt(most), lengths + 8n) & 255;
+  const [long, told] = new BigUint64Array(memory.buffer, Number(lengths), 2), made = [engine.bytes(output, long), engine.bytes(errors, told)];
+  const said = [status, ...made.map(inLetters), memory.buffer.byteLength];
+  for (const at of [...rooms, output, errors, lengths, ...taken.splice(0)]) host_free(at);
+  return said;
+}
+for await (const line of createInterface({ input: process.stdin })) {
+  const asked = JSON.parse(line);
+  process.stdout.write(`${JSON.stringify(asked[2] === "narrowly" ? narrowly(asked[0], asked[1]) : answer(asked))}\n`);
+}

@@ -1,0 +1,254 @@
+"""The page in Chromium, as one who tries it: what it shows is what the built program answers."""
+from __future__ import annotations
+
+import json
+import os
+import re
+import time
+from typing import Dict, List, Tuple
+
+from beside import TOP, Context, hold, program_answer, texts
+from browser import Browser
+from histories import legal_case
+from shown import CONTRASTS, LOOKS
+from sizes import many_behaviours
+
+SECONDS = 60
+FAULTY = "testcase t\nbehaviour main\n  setverdct pass\nend\nend\n"
+NOTED = "testcase t\nbehaviour main\n  setverdict pass\nend\nend\n"
+LONG = many_behaviours(40).decode()
+CHIPS = "$$('#rows tr').map(row => [row.cells[0].textContent, [...row.cells[1].querySelectorAll('.chip')].map(chip => chip.textContent), " \
+        "row.cells[2].querySelector('span').textContent])"
+
+
+def same(wanted: object, found: object, where: object = "") -> None:
+    """Fails the test unless both are the same."""
+    hold(wanted == found, f"{where}: wanted {str(wanted)[:500]}, found {str(found)[:500]}")
+
+
+def until(page: Browser, what: str) -> None:
+    """Waits until it is so."""
+    began = time.monotonic()
+    while not page.js(what):
+        hold(time.monotonic() - began < SECONDS, f"not so in {SECONDS} seconds: {what}; {page.js('document.body.innerText')[:600]}")
+        time.sleep(0.02)
+    page.settle()
+
+
+def answered(page: Browser) -> None:
+    """Waits until the text that is given is answered."""
+    until(page, "state.text === $('#text').value && state.answered === state.turn")
+
+
+def opened(context: Context, page: Browser, look: Tuple[int, int, bool] = LOOKS[0], after: str = "") -> None:
+    """Opens the page again, with this at the end of its address, and waits for its first answer."""
+    page.open(context.page, *look)
+    if after:
+        page.js(f"location.hash = {json.dumps(after)}")
+    answered(page)
+
+
+def give(page: Browser, text: str) -> None:
+    """Puts a text into the editor, as a paste does."""
+    page.js(f"$('#text').value = {json.dumps(text)}; $('#text').dispatchEvent(new Event('input'))")
+    answered(page)
+
+
+def choose(page: Browser, name: str) -> str:
+    """Chooses an example, and returns its text."""
+    page.js(f"$('#example').value = {json.dumps(name)}; $('#example').dispatchEvent(new Event('change'))")
+    answered(page)
+    return page.js("$('#text').value")
+
+
+def fits(page: Browser, dark: bool) -> None:
+    """Holds the page to its window and its theme, and its words to a contrast that can be read."""
+    width, room = page.js("[document.documentElement.scrollWidth, innerWidth]")
+    hold(width <= room, f"{width} points in a window of {room}")
+    ground = page.js("getComputedStyle(document.body).backgroundColor")
+    hold((max(map(int, re.findall(r"\d+", ground)[:3])) < 80) == dark, ground)
+    least, what = page.js(CONTRASTS)
+    hold(least >= 4.5, f"a contrast of {least:.1f}: {what}")
+
+
+def explored(context: Context, text: str, *words: str) -> Tuple[List[list], str]:
+    """Each test case by the program's own answer, and all that it prints of them."""
+    output = program_answer(context, ("explore", "--details", *words), text.encode())[1].decode()
+    rows = [line.split() for line in output.splitlines() if not line.startswith(" ")]
+    verdicts = ("none", "pass", "inconc", "fail", "error")
+    return [[row[0], [it for it in row[1:] if it in verdicts], " ".join(it for it in row[1:] if it not in verdicts)] for row in rows], output
+
+
+def each_witness(page: Browser, rows: List[list], details: str) -> int:
+    """Opens each witness, and holds its verdict, its end and the words next to it to the program's."""
+    number = 0
+    for name, verdicts, _ in rows:
+        for verdict in verdicts:
+            page.go(f"#/{number}")
+            same((name, verdict), (page.js("$('h2').textContent"), page.js("app.panes[0].chart.game.status")), name)
+            hold(f"verdict {verdict}" in page.js("(app.panes[0].chart.picture(''))"), name)
+            number += 1
+    stuck = [line[9:] for line in details.splitlines() if line.startswith("  stuck: ")]
+    shown = [it for at in range(number) for it in (page.go(f"#/{at}"), page.js("$$('#why li').map(one => one.textContent)"))[1]]
+    hold(all(it in shown for it in stuck), f"{stuck} are not all shown")
+    return number
+
+
+def every_example_in_each_look(context: Context, page: Browser) -> str:
+    """Scripts, histories and moves, in both themes and widths."""
+    count, witnesses = 0, 0
+    for look in LOOKS:
+        opened(context, page, look)
+        for name in page.js("[...$('#example').options].map(one => one.textContent)"):
+            text, count = choose(page, name), count + 1
+            fits(page, look[2])
+            if name.endswith(".history"):
+                same(program_answer(context, ("check",), text.encode())[1].decode().strip(), page.js("$('#rows pre').textContent"), name)
+            elif name.endswith(".moves"):
+                same(program_answer(context, ("replay",), text.encode())[1].decode(), page.js("$('#main pre').textContent"), name)
+            else:
+                rows, details = explored(context, text)
+                same(rows, page.js(CHIPS), name)
+                witnesses += each_witness(page, rows, details)
+            fits(page, look[2])
+    hold(count >= 4 * 18 and witnesses >= 4 * 18, (count, witnesses))
+    return f"{count} examples, {witnesses} witnesses"
+
+
+def two_verdicts_side_by_side(context: Context, page: Browser) -> str:
+    """A race is shown at once: two charts up to where they part; each verdict leads to its own, and back."""
+    opened(context, page)
+    same(["none", "fail"], page.js("app.panes.map(pane => pane.chart.game.status)"))
+    same("alike for 2 entries", page.js("$('#main .bar span').textContent"))
+    hold(page.js("$$('.rows .part').length") == 2, "no line where they part")
+    page.click("#rows a:nth-of-type(2)")
+    same(("#/1", ["fail"]), (page.js("location.hash"), page.js("app.panes.map(pane => pane.chart.game.status)")))
+    page.click("#rows td:last-child a")
+    same("#/0/1", page.js("location.hash"))
+    page.js("history.back()"), until(page, "location.hash === '#/1'")
+    page.click("#why summary")
+    hold("none and fail: alike for 2 entries" in page.js("$('#why pre').innerText"), "the details are not shown")
+    page.click("#main .bar a")
+    same(2, page.js("$$('.cases tbody tr').length"))
+    return "2 charts"
+
+
+def a_fault_is_marked_while_typing(context: Context, page: Browser) -> str:
+    """Its line, its letters and all that --explain prints; the nearest word is put there by a button."""
+    opened(context, page)
+    page.js("$('#text').value = ''; $('#text').focus()")
+    page.call("Input.insertText", text=FAULTY), answered(page)
+    wanted = program_answer(context, ("run", "--explain"), FAULTY.encode())[2].decode()
+    same(wanted.rstrip(), page.js("$('#fault pre').textContent"))
+    line, letters = page.js("[$('#mark'), $('#letters')].map(one => (r => [r.x, r.y, r.width, r.height])(one.getBoundingClientRect()))")
+    left, top, letter = page.js("[$('#text').getBoundingClientRect().x, $('#text').getBoundingClientRect().y, (() => { const probe = "
+                                "$('#letters'); return probe.getBoundingClientRect().width / 9; })()]")
+    hold(abs(line[1] - top - 8 - 2 * 19) < 1 and abs(letters[0] - left - 8 - 2 * letter) < 1 and 60 < letters[2] < 90, (line, letters, left, top))
+    hold(page.js("$('#rows').classList.contains('stale') && $('#text').getAttribute('aria-invalid') === 'true'"), "what was found before looks new")
+    page.click("#there")
+    same("setverdct", page.js("$('#text').value.slice($('#text').selectionStart, $('#text').selectionEnd)"))
+    page.click("#nearest"), answered(page)
+    same((NOTED, [["t", ["pass"], "complete"]], ""), (page.js("$('#text').value"), page.js(CHIPS), page.js("$('#fault').textContent")))
+    faults = 0
+    for text in (" testcase t\nbehaviour main\nend\n", "history 2 t 1\n0 creat -> made 1\nend none\n", "behaviours 3\n0 crate\n", "", "x\u00e9\n",
+                 "testcase t\nbehaviour main\n  setverdict p\u00e4ss\nend\nend\n", "testcase t\r\n"):
+        give(page, text)
+        words = {"h": ("check",), "b": ("replay",)}.get(text[:1], ("run",))
+        same(program_answer(context, (*words, "--explain"), text.encode())[2].decode().rstrip(), page.js("$('#fault pre').textContent"), text)
+        faults += 1
+    return f"{faults + 1} faults"
+
+
+def a_history_is_checked_and_drawn(context: Context, page: Browser) -> str:
+    """A legal one, one that is not, many, and one from a file."""
+    opened(context, page)
+    text = texts(".history")[1].decode()
+    give(page, text)
+    same(program_answer(context, ("check",), text.encode())[1].decode().strip(), page.js("$('#rows pre').textContent"))
+    hold(page.js("$('#head').textContent").endswith("legal"), "legal")
+    wrong = text.replace("setverdict fail -> ok", "setverdict fail -> ended", 1).replace("getverdict -> fail", "getverdict -> pass", 1)
+    hold(wrong != text, "nothing is wrong")
+    give(page, wrong)
+    status, output, _ = program_answer(context, ("check",), wrong.encode())
+    same((3, "Not legal", output.decode().strip()), (status, page.js("$('#head').textContent"), page.js("$('#rows pre').textContent")))
+    hold(page.js("!$('#mark').hidden && app.cases.length > 0"), "it is not marked, or not drawn")
+    many = "".join(legal_case(f"t_{at}", 2, 2) for at in range(30))
+    give(page, many)
+    same(("30 histories, each legal", 30), (page.js("$('#head').textContent"), page.js("$$('.cases tbody tr').length")))
+    page.js("document.activeElement.blur()"), page.key("j", "j", "Enter")
+    same("t_2", page.js("$('h2').textContent"))
+    page.choose_files([os.path.join(TOP, "examples", "workers.history")]), answered(page)
+    same(texts(".history")[-1].decode(), page.js("$('#text').value"))
+    hold(page.js("app.panes.length + $$('.cases').length") == 1, "nothing is drawn of the file")
+    return "5 texts"
+
+
+def a_search_is_told_and_stopped(context: Context, page: Browser) -> str:
+    """The page says that it searches; the button or another text ends the search, and the next one is answered."""
+    opened(context, page)
+    for end in ("button", "text"):
+        page.js(f"$('#states').value = '1000000'; $('#text').value = {json.dumps(LONG)}; $('#text').dispatchEvent(new Event('input'))")
+        until(page, "$('#head').textContent === 'Searching' && !$('#stop').disabled")
+        hold(re.fullmatch(r"for \d+\.\d s", page.js("$('#took').textContent")), "it does not tell for how long")
+        if end == "button":
+            page.click("#stop")
+            same("Stopped: nothing is known of the verdicts", page.js("$('#head').textContent"))
+            same([0, 0], page.js("[$$('#rows tr').length, app.cases.length]"))
+        give(page, NOTED)
+        same([["t", ["pass"], "complete"]], page.js(CHIPS))
+    for states in ("1000", ""):
+        page.js(f"$('#states').value = '{states}'; $('#text').value = $('#text').value"), give(page, many_behaviours(6).decode())
+        limit = ("--states", states) if states else ()
+        same(explored(context, many_behaviours(6).decode(), *limit)[0], page.js(CHIPS), states)
+    return "2 searches ended"
+
+
+def a_link_holds_the_script(context: Context, page: Browser) -> str:
+    """The address of a link shows the same script to another, and leaves nothing to a server."""
+    script = "# 100 % of a+b, #1?\ntestcase t\nbehaviour main\n  setverdict inconc\nend\nend\n"
+    opened(context, page)
+    give(page, script), page.click("#link")
+    address = page.js("location.href")
+    hold("#" in address and "The link is in the address" in page.js("$('#head').textContent"), address)
+    opened(context, page, LOOKS[1], address.split("#", 1)[1])
+    same((script, [["t", ["inconc"], "complete"]], address), (page.js("$('#text').value"), page.js(CHIPS), page.js("location.href")))
+    page.js("$('#text').focus()"), page.key("x"), answered(page)
+    hold("#" not in page.js("location.href"), "another text under the old address")
+    opened(context, page, LOOKS[0], "%E0%A4%A"), opened(context, page, LOOKS[0], "/99")
+    same("t", page.js("$('#rows b').textContent"))
+    return f"{len(address)} letters"
+
+
+def buttons_and_keys(context: Context, page: Browser) -> str:
+    """The words about what is proved, the buttons of a chart, and the keys."""
+    opened(context, page)
+    page.click("#about")
+    words = page.js("$('#proved').innerText")
+    hold(all(word in words for word in ("Not proved:", "heap.c", "helpers.c", "WebAssembly", "does not judge", "rattle-kit")), words)
+    fits(page, False), page.key("Escape")
+    same(False, page.js("$('#proved').open"))
+    page.js("$('#text').focus()"), page.call("Input.dispatchKeyEvent", type="keyDown", key="Enter", code="Enter", modifiers=2), answered(page)
+    page.key("Escape")
+    same("BODY", page.js("document.activeElement.tagName"))
+    page.go("#/1"), page.key("Home", "j")
+    same(1, page.js("app.pane.chart.chosen"))
+    page.key("w")
+    same("1 setverdict fail -> ok", page.js("$('.state code').textContent"))
+    page.click("#mermaid")
+    hold(page.js("$('dialog textarea').value").startswith("sequenceDiagram"), "no diagram")
+    page.key("Escape"), page.key("Escape")
+    same(2, page.js("$$('.cases tbody tr').length"))
+    page.click("#go"), answered(page)
+    reached = []
+    for _ in range(14):
+        page.call("Input.dispatchKeyEvent", type="keyDown", key="Tab", code="Tab", windowsVirtualKeyCode=9)
+        page.call("Input.dispatchKeyEvent", type="keyUp", key="Tab", code="Tab")
+        reached.append(page.js("document.activeElement.id || document.activeElement.tagName"))
+    hold(len(set(reached)) >= 6, reached)
+    loaded: Dict[str, object] = page.js("performance.getEntriesByType('resource').map(one => one.name).filter(name => !name.startsWith('blob:'))")
+    same([], loaded)
+    return f"{len(set(reached))} places by Tab"
+
+
+TESTS = (every_example_in_each_look, two_verdicts_side_by_side, a_fault_is_marked_while_typing, a_history_is_checked_and_drawn,
+         a_search_is_told_and_stopped, a_link_holds_the_script, buttons_and_keys)
