@@ -1,8 +1,12 @@
 //! Lines of a client, answered one by one, and a whole service over readers and writers that move a byte at a time.
+ghost use Rattle.std.specs.Prelude.{None};
+
 use crate::checks::is;
 use std::alloc::Global;
+use std::io;
+use std::io::{Read, Write};
 use std::process::Abort;
-use tc_serve::{Answered, Ending, ServeFault, Server, serve};
+use tc_serve::{Ending, ServeFault, serve};
 use tc_stream::devices::{NarrowWriter, SlowReader, WriteFailure};
 use tc_text::{append_number, append_text};
 use tc_verdict::{NoMemory, name};
@@ -28,15 +32,12 @@ case t 1 =>  =>  => line 1
 end~case t 1~ =>  =>  => line 1
 case t 257~ =>  =>  => line 1
 case t 1~~0 finish~end~0 finish~ => evidence 1 t 1~0 finish -> ok~end none~ => ttrun: line 2: bad move~ => line 5
-case t 256~behaviour 255 z~255 # a~255 ! a~256 # a~0 finish~end~ => evidence 1 t 256~behaviour 255 z~255 # a~255 ! bad move~0 finish -> ok~end none~ => ttrun: line 5: bad move~ => none, refused";
-
-/// Lines for a server, what comes of each, and what they append.
-const STEPS: &str = "\
-end => n => 
-case t 2;case t 2;end;end => dndn => evidence 1 t 2~end none~
-case t 2;1 x;behaviour 1 a;1x;01 x;2 x;0 # x => drnnnnd => evidence 1 t 2~1 ! bad move~0 # x~
-case t 2;0 wait done 1;0 create;0 wait done 1 => dddd => evidence 1 t 2~0 wait done 1 -> error no-component~0 create -> ended~0 wait done 1 -> ended~
-case t 1;0 finish -> ok;0 finish => drd => evidence 1 t 1~0 ! bad move~0 finish -> ok~";
+case t 256~behaviour 255 z~255 # a~255 ! a~256 # a~0 finish~end~ => evidence 1 t 256~behaviour 255 z~255 # a~255 ! bad move~0 finish -> ok~end none~ => ttrun: line 5: bad move~ => none, refused
+case t 2~case t 2~end~end~ => evidence 1 t 2~end none~ => ttrun: line 2: bad move~ => line 4
+case t 2~1 x~behaviour 1 a~1x~01 x~2 x~0 # x~end~ => evidence 1 t 2~1 ! bad move~0 # x~end none~ => ttrun: line 3: bad move~ttrun: line 4: bad move~ttrun: line 5: bad move~ttrun: line 6: bad move~ => error, refused
+case t 2~0 wait done 1~0 create~0 wait done 1~end~ => evidence 1 t 2~0 wait done 1 -> error no-component~0 create -> ended~0 wait done 1 -> ended~end error~ =>  => error
+case t 1~0 finish -> ok~0 finish\r~0 finish~end~ => evidence 1 t 1~0 ! bad move~0 ! bad move~0 finish -> ok~end none~ =>  => none, refused
+case t 3~0 create~0 create~0 start 1 1~0 start 2 2~2 wait done 1~0 wait done 1~1 finish~2 finish~0 finish~end~ => evidence 1 t 3~0 create -> made 1~0 create -> made 2~0 start 1 1 -> ok~0 start 2 2 -> ok~2 wait done 1 -> parked~0 wait done 1 -> parked~1 finish -> ok~0 wake done 1 -> matched~2 wake done 1 -> matched~2 finish -> ok~0 finish -> ok~end none~ =>  => none";
 
 /// Appends the text, with LF for each `~`.
 fn append_lines(out: &mut Vec<u8>, text: &str) -> Result<(), NoMemory> {
@@ -106,43 +107,7 @@ fn served_lines(rt: HostRuntime) -> Result<(), NoMemory> {
             rows = rows.wrapping_add(1);
         }
     }
-    is(&rt, "the rows", rows, 18);
-    Ok(())
-}
-
-fn letter(answered: Answered) -> u8 {
-    match answered {
-        Answered::Done => b'd',
-        Answered::Refused => b'r',
-        Answered::Nobody => b'n',
-    }
-}
-
-fn is_stepped(rt: &impl Abort, alloc: Global, lines: &str, wanted: &str) -> Result<(), NoMemory> {
-    let mut server = Server::new();
-    let mut out = Vec::new(alloc);
-    let mut came = Vec::new(alloc);
-    for line in lines.split(';') {
-        let answered = server.step(alloc, line.as_bytes(), &mut out)?;
-        came.push(letter(answered))?;
-    }
-    if let Some((letters, text)) = wanted.split_once(" => ") {
-        is(rt, lines, came.as_slice(), letters.as_bytes());
-        is_text(rt, alloc, "the text", out.as_slice(), text)?;
-    }
-    Ok(())
-}
-
-#[test]
-fn lines_one_by_one(rt: HostRuntime) -> Result<(), NoMemory> {
-    let mut rows = 0u32;
-    for row in STEPS.lines() {
-        if let Some((lines, wanted)) = row.split_once(" => ") {
-            is_stepped(&rt, rt.alloc(), lines, wanted)?;
-            rows = rows.wrapping_add(1);
-        }
-    }
-    is(&rt, "the rows", rows, 5);
+    is(&rt, "the rows", rows, 23);
     Ok(())
 }
 
@@ -196,4 +161,131 @@ fn devices_that_fail(rt: HostRuntime) {
     ends_at(&rt, rt.alloc(), NEVER, 0, (ServeFault::Write, 0));
     ends_at(&rt, rt.alloc(), NEVER, 7, (ServeFault::Write, 7));
     ends_at(&rt, rt.alloc(), NEVER, NEVER, (ServeFault::Line(4), 39));
+}
+
+/// Takes all that is written, and notes how much it has at each flush.
+#[derive(Drop)]
+struct FlushedWriter {
+    taken: Vec<u8>,
+    flushed: Vec<usize>,
+}
+
+impl Write for FlushedWriter {
+    ghost contents = { λ _. None };
+
+    fn write(&mut self, buf: &[u8]) -> io::Result<usize> {
+        self.taken.extend_from_slice(buf)?;
+        Ok(buf.len())
+    }
+
+    fn flush(&mut self) -> io::Result<()> {
+        self.flushed.push(self.taken.len())?;
+        Ok(())
+    }
+}
+
+const TALK: &[u8] = b"case t 1\n0 # a\n0 fly\n0 finish\nend\n";
+
+/// How many bytes answer each of its lines.
+const ANSWERS: [usize; 5] = [15, 6, 13, 15, 9];
+
+/// Before the next byte is read, each line that has ended was answered, and the answers were flushed.
+#[test]
+fn answers_before_the_next_read(rt: HostRuntime) {
+    let mut reader = SlowReader::new(TALK, NEVER);
+    let mut writer = FlushedWriter {
+        taken: Vec::new(rt.alloc()),
+        flushed: Vec::new(rt.alloc()),
+    };
+    let mut errors = NarrowWriter::new(rt.alloc(), NEVER, WriteFailure::Full);
+    let ending = serve(rt.alloc(), &mut reader, &mut writer, &mut errors);
+    is(&rt, "the end", ending.outcome.is_ok(), true);
+    let mut lines = 0usize;
+    let mut due = 0usize;
+    for (place, byte) in TALK.iter().enumerate() {
+        if *byte == b'\n' {
+            due = due.wrapping_add(ANSWERS.get(lines).copied().unwrap_or(0));
+            lines = lines.wrapping_add(1);
+        }
+        let flushed = writer.flushed.as_slice().get(place).copied();
+        is(&rt, "what is flushed", flushed, Some(due));
+    }
+    is(&rt, "the lines", lines, 5);
+    is(&rt, "all", writer.taken.as_slice().len(), due);
+}
+
+/// That many remarks.
+fn append_remarks(out: &mut Vec<u8>, remark: &str, count: u32) -> Result<(), NoMemory> {
+    for _ in 0..count {
+        append_text(out, remark)?;
+    }
+    Ok(())
+}
+
+/// Serves that many remarks, of which the input and the output have these bytes in all.
+fn is_remarked<R: Read>(
+    rt: &impl Abort,
+    alloc: Global,
+    reader: &mut R,
+    remarks: (&str, u32),
+) -> Result<(), NoMemory> {
+    let mut wanted = Vec::new(alloc);
+    append_text(&mut wanted, "evidence 1 t 1\n")?;
+    append_remarks(&mut wanted, remarks.0, remarks.1)?;
+    append_text(&mut wanted, "0 finish -> ok\nend none\n")?;
+    let mut writer = FlushedWriter {
+        taken: Vec::new(alloc),
+        flushed: Vec::new(alloc),
+    };
+    let mut errors = NarrowWriter::new(alloc, NEVER, WriteFailure::Full);
+    let ending = serve(alloc, reader, &mut writer, &mut errors);
+    let ended = ending.outcome.is_ok_and(|served| !served.refused);
+    is(rt, "no line is refused", ended, true);
+    is(
+        rt,
+        "the remarks",
+        writer.taken.as_slice() == wanted.as_slice(),
+        true,
+    );
+    Ok(())
+}
+
+fn append_remarked(input: &mut Vec<u8>, remark: &str, count: u32) -> Result<(), NoMemory> {
+    append_text(input, "case t 1\n")?;
+    append_remarks(input, remark, count)?;
+    append_text(input, "0 finish\nend\n")
+}
+
+/// A piece of 4,096 bytes ends inside a line.
+#[test]
+fn pieces_of_lines(rt: HostRuntime) -> Result<(), NoMemory> {
+    let mut input = Vec::new(rt.alloc());
+    append_remarked(&mut input, "0 # abcdefghij\n", 600)?;
+    let mut reader = input.as_slice();
+    is(&rt, "the pieces", reader.len() > 2 * 4096, true);
+    is(
+        &rt,
+        "the end of the first",
+        reader.get(4095).copied() == Some(b'\n'),
+        false,
+    );
+    is_remarked(&rt, rt.alloc(), &mut reader, ("0 # abcdefghij\n", 600))
+}
+
+#[test]
+fn many_lines(rt: HostRuntime) -> Result<(), NoMemory> {
+    let mut input = Vec::new(rt.alloc());
+    append_remarked(&mut input, "0 # a\n", 60_000)?;
+    let mut reader = input.as_slice();
+    is_remarked(&rt, rt.alloc(), &mut reader, ("0 # a\n", 60_000))
+}
+
+#[test]
+fn many_reads(rt: HostRuntime) -> Result<(), NoMemory> {
+    let mut input = Vec::new(rt.alloc());
+    append_remarked(&mut input, "0 # a\n", 33_334)?;
+    let mut reader = SlowReader::new(input.as_slice(), NEVER);
+    is_remarked(&rt, rt.alloc(), &mut reader, ("0 # a\n", 33_334))?;
+    is(&rt, "the reads", reader.reads > 200_000, true);
+    Ok(())
 }

@@ -1,5 +1,6 @@
 -- The evidence has what was asked for.
-use Rattle.std.proofs.Common.{ℕ, ◌≡◌, ◌∙◌, ◌&&◌, not, if◌then◌else◌, zero, suc, Bool, true, false, is_some, Option, Some, None, List, [], ◌∷◌, ◌++◌, refl, ap, sym, subst}
+use Rattle.std.proofs.Common.{ℕ, ◌≡◌, ◌∙◌, ◌&&◌, not, inl, inr, if◌then◌else◌, zero, suc, Bool, true, false, is_some, Option, Some, None, List, [], ◌∷◌, ◌++◌, refl, ap, sym, subst, append_assoc}
+use Rattle.std.specs.Option.{option_map_or}
 use Rattle.std.specs.List.{flat_map}
 use Rattle.tc_verdict.specs.declared.run.Run.{Run}
 use Rattle.tc_entry.specs.declared.op.Op.{Op}
@@ -10,10 +11,10 @@ use Rattle.tc_evidence.specs.declared.line.Line.TheVariants as L
 use Rattle.tc_evidence.specs.Line.{entries_of}
 use Rattle.tc_serve.specs.declared.order.Order.{Order}
 use Rattle.tc_serve.specs.declared.order.Order.TheVariants as O
-use Rattle.tc_serve.specs.Laws.{EvidenceIsAsked, asked_by, asked_in, asked_of, asked_open}
-use Rattle.tc_serve.specs.Played.{Played, after_call, called, is_parked, is_wake, may_ask, may_name, may_say, moved, sleep_of, wake_op, why_refused, with_line, woken, woken_from}
-use Rattle.tc_serve.specs.Stand.{Stand, closed_with, named_with, opened_with, played, refused_with, remarked, taken, with_current}
-use Rattle.tc_serve.proofs.Changes.{if_some, same_some}
+use Rattle.tc_serve.specs.Protocol.{AreServed, Came, Played, Sent, Stand, called, is_parked, is_wake, may_ask, moved, sleep_of, wake_op, with_current, woken, woken_from}
+use Rattle.tc_serve.specs.Inside.{after_call}
+use Rattle.tc_serve.specs.Laws.{EvidenceIsAsked, asked_by, asked_in, asked_of, done_by}
+use Rattle.tc_serve.proofs.Changes.{Changed, changes}
 
 -- ---- wakes come of themselves
 
@@ -35,14 +36,16 @@ all_woken n lines (suc k) = one_woken n (woken n lines k) k (waiting (entries_of
 abbrev before : Stand → List Order
 before s = flat_map (λ p. O.End ∷ asked_in p) s.closed
 
+abbrev asked_open : Option Played → List Order
+asked_open c = option_map_or asked_in c []
+
 is_current : (s : Stand) (c : Option Played) → s.current ≡ c → asked_open c ++ before s ≡ asked_of s
 is_current s c is = ap (λ (x : Option Played). asked_open x ++ before s) (sym is)
 
 -- what is asked of the open test case
-of_case : (s t : Stand) (p q : Played) (b : Bool) (o : Order) → s.current ≡ Some p → asked_in q ≡ o ∷ asked_in p → (if b then Some (with_current s q) else None) ≡ Some t → asked_of t ≡ o ∷ asked_of s
-of_case s t p q b o is asked e =
-    let two = if_some b (with_current s q) t e in
-    subst (λ (x : Stand). asked_of x ≡ o ∷ asked_of s) two.1 (ap (λ (l : List Order). l ++ before s) asked ∙ ap (λ (l : List Order). o ∷ l) (is_current s (Some p) is))
+of_case : (s : Stand) (p q : Played) (asks : List Order) → s.current ≡ Some p → asked_in q ≡ asks ++ asked_in p → asked_of (with_current s q) ≡ asks ++ asked_of s
+of_case s p q asks is asked =
+    ap (λ (l : List Order). l ++ before s) asked ∙ (append_assoc asks (asked_in p) (before s) ∙ ap (λ (l : List Order). asks ++ l) (is_current s (Some p) is))
 
 not_wake : (a b : Bool) → (not a && b) ≡ true → a ≡ false
 not_wake true b may = absurd cc
@@ -53,32 +56,25 @@ of_move p caller op may =
     ap (λ (l : List Order). l ++ O.Case p.name p.behaviours ∷ []) (all_woken p.behaviours (after_call p caller op) p.behaviours)
     ∙ ap (λ (t : Bool). ((if t then [] else O.Move caller op ∷ []) ++ flat_map asked_by p.lines) ++ O.Case p.name p.behaviours ∷ []) (not_wake (is_wake op) (not (is_some (sleep_of p caller.0))) may)
 
-next : (s t : Stand) (o : Order) (c : Option Played) → s.current ≡ c → taken s o ≡ Some t → asked_of t ≡ o ∷ asked_of s
-next s t (O.Case name n) None is e =
-    let e' : opened_with s None name n ≡ Some t = ap (λ (c : Option Played). opened_with s c name n) (sym is) ∙ e in
-    subst (λ (x : Stand). asked_of x ≡ O.Case name n ∷ asked_of s) (same_some _ t e') (ap (λ (l : List Order). O.Case name n ∷ l) (is_current s None is))
-next s t (O.Case name n) (Some p) is e = absurd (let e' : opened_with s (Some p) name n ≡ Some t = ap (λ (c : Option Played). opened_with s c name n) (sym is) ∙ e in cc)
-next s t (O.Named run name) None is e = absurd (let e' : named_with s None run name ≡ Some t = ap (λ (c : Option Played). named_with s c run name) (sym is) ∙ e in cc)
-next s t (O.Named run name) (Some p) is e =
-    of_case s t p (with_line p (L.Named run name)) (may_name p run) (O.Named run name) is refl (ap (λ (c : Option Played). named_with s c run name) (sym is) ∙ e)
-next s t (O.Move caller op) None is e = absurd (let e' : played s None caller op ≡ Some t = ap (λ (c : Option Played). played s c caller op) (sym is) ∙ e in cc)
-next s t (O.Move caller op) (Some p) is e =
-    let e' = ap (λ (c : Option Played). played s c caller op) (sym is) ∙ e in
-    let two = if_some (may_ask p caller op) (with_current s (moved p caller op)) t e' in
-    of_case s t p (moved p caller op) (may_ask p caller op) (O.Move caller op) is (of_move p caller op two.0) e'
-next s t (O.Remark run sentence) None is e = absurd (let e' : remarked s None run sentence ≡ Some t = ap (λ (c : Option Played). remarked s c run sentence) (sym is) ∙ e in cc)
-next s t (O.Remark run sentence) (Some p) is e =
-    of_case s t p (with_line p (L.Remark run sentence)) (may_say p run) (O.Remark run sentence) is refl (ap (λ (c : Option Played). remarked s c run sentence) (sym is) ∙ e)
-next s t O.End None is e = absurd (let e' : closed_with s None ≡ Some t = ap (λ (c : Option Played). closed_with s c) (sym is) ∙ e in cc)
-next s t O.End (Some p) is e =
-    let e' : closed_with s (Some p) ≡ Some t = ap (λ (c : Option Played). closed_with s c) (sym is) ∙ e in
-    subst (λ (x : Stand). asked_of x ≡ O.End ∷ asked_of s) (same_some _ t e') (ap (λ (l : List Order). O.End ∷ l) (is_current s (Some p) is))
-
-told : (s t : Stand) (run : Run) (c : Option Played) → s.current ≡ c → refused_with s c run ≡ Some t → asked_of t ≡ asked_of s
-told s t run None is e = absurd cc
-told s t run (Some p) is e =
-    let two = if_some (may_say p run) (with_current s (with_line p (L.Refused run why_refused))) t e in
-    subst (λ (x : Stand). asked_of x ≡ asked_of s) two.1 (is_current s (Some p) is)
+next : (asks : List Order) (s t : Stand) → Changed asks s t → asked_of t ≡ asks ++ asked_of s
+next asks s t (inl opens) =
+    subst (λ (x : Stand). asked_of x ≡ asks ++ asked_of s) opens.is
+    (subst (λ (l : List Order). O.Case opens.name opens.behaviours ∷ before s ≡ l ++ asked_of s) (sym opens.asked) (ap (λ (l : List Order). O.Case opens.name opens.behaviours ∷ l) (is_current s None opens.none)))
+next asks s t (inr (inl adds)) =
+    let p = adds.case in
+    subst (λ (x : Stand). asked_of x ≡ asks ++ asked_of s) adds.is
+    (of_case s p (record p { lines = adds.line ∷ p.lines }) asks adds.some (append_assoc (asked_by adds.line) (flat_map asked_by p.lines) (O.Case p.name p.behaviours ∷ []) ∙ ap (λ (l : List Order). l ++ asked_in p) (sym adds.asked)))
+next asks s t (inr (inr (inl moves))) =
+    let p = moves.case in
+    subst (λ (x : Stand). asked_of x ≡ asks ++ asked_of s) moves.is
+    (of_case s p (moved p moves.caller moves.op) asks moves.some (of_move p moves.caller moves.op moves.may ∙ ap (λ (l : List Order). l ++ asked_in p) (sym moves.asked)))
+next asks s t (inr (inr (inr (inl closes)))) =
+    subst (λ (x : Stand). asked_of x ≡ asks ++ asked_of s) closes.is
+    (subst (λ (l : List Order). O.End ∷ (asked_in closes.case ++ before s) ≡ l ++ asked_of s) (sym closes.asked) (ap (λ (l : List Order). O.End ∷ l) (is_current s (Some closes.case) closes.some)))
+next asks s t (inr (inr (inr (inr same)))) =
+    subst (λ (x : Stand). asked_of x ≡ asks ++ asked_of s) same.1 (ap (λ (l : List Order). l ++ asked_of s) (sym same.0))
 
 pub evidence_is_asked : EvidenceIsAsked
-evidence_is_asked = record { first = refl; next = λ s t o e. next s t o s.current refl e; refused = λ s t run e. told s t run s.current refl e }
+evidence_is_asked [] s served = ap asked_of served
+evidence_is_asked (l ∷ before) t served =
+    next (done_by l.came) served.0 t (changes l.came l.ended _ served.0 t served.4) ∙ ap (λ (x : List Order). done_by l.came ++ x) (evidence_is_asked before served.0 served.1)

@@ -1,9 +1,11 @@
 -- What is written is evidence.
-use Rattle.std.proofs.Common.{ℕ, ◌≡◌, ◌≢◌, ◌∙◌, ◌==◌, ◌||◌, ◌&&◌, ◌+◌, ◌<◌, ◌≤◌, ◌^◌, inr, not, nat_lt, if◌then◌else◌, zero, suc, Bool, true, false, unwrap_or, Option, Some, None, MatchOption, List, [], ◌∷◌, ◌++◌, length, reverse, refl, ap, sym, subst, append_assoc, arith, rules}
+use Rattle.std.proofs.Common.{ℕ, ◌≡◌, ◌≢◌, ◌∙◌, ◌==◌, ◌||◌, ◌&&◌, ◌+◌, ◌<◌, ◌≤◌, ◌^◌, inr, not, nat_lt, if◌then◌else◌, zero, suc, Bool, true, false, unwrap_or, Option, Some, None, List, [], ◌∷◌, ◌++◌, length, reverse, refl, ap, sym, subst, append_assoc, arith, rules}
+use Rattle.std.specs.Option.{option_map}
 use Rattle.std.specs.List.{flat_map}
 use Rattle.std.proofs.lemmas.Bool.Decides.{nat_tests}
 use Rattle.std.proofs.lemmas.List.{append-nil, reverse-append, reverse-reverse}
 use Rattle.tc_verdict.specs.declared.run.Run.{Run}
+use Rattle.tc_entry.specs.Limits.{IsBehaviours}
 use Rattle.tc_entry.specs.Name.{IsName}
 use Rattle.tc_entry.specs.declared.comp.Comp.{Comp}
 use Rattle.tc_entry.specs.declared.entry.Entry.{Entry}
@@ -30,14 +32,12 @@ use Rattle.tc_evidence.specs.Sentence.{IsSentence}
 use Rattle.tc_evidence.specs.Text.{AreBlocks, AreLines, IsLine, block_lines}
 use Rattle.tc_evidence.specs.Written.{text_of_block, text_of_blocks}
 use Rattle.tc_evidence.proofs.Lemmas.WrittenEvidence.{written_evidence}
-use Rattle.tc_serve.specs.declared.order.Order.{Order}
-use Rattle.tc_serve.specs.declared.order.Order.TheVariants as O
-use Rattle.tc_serve.specs.Laws.{AreEvident, IsEvident, ServedIsEvidence, StandIsEvident, block_of, blocks_of}
-use Rattle.tc_serve.specs.Order.{IsOrder}
-use Rattle.tc_serve.specs.Played.{Played, after_call, called, is_parked, may_ask, may_name, may_say, moved, past_of, wake_op, why_refused, with_line, woken, woken_from}
-use Rattle.tc_serve.specs.Served.{finished}
-use Rattle.tc_serve.specs.Stand.{Stand, block, closed_with, header_of, lines_text, named_with, opened_with, played, refused_with, remarked, stand_text, taken, with_current}
-use Rattle.tc_serve.proofs.Changes.{if_some, same_some}
+use Rattle.tc_serve.specs.Protocol.{Played, Stand, called, finished, is_parked, may_add, may_ask, moved, past_of, wake_op, why_refused, with_line, woken, woken_from}
+use Rattle.tc_serve.specs.Text.{block, header_of, stand_text}
+use Rattle.tc_serve.specs.Inside.{after_call}
+use Rattle.tc_serve.specs.Laws.{EachOf, ServedIsEvidence, block_of, blocks_of}
+use Rattle.tc_serve.proofs.Changes.{IsNote, all_served, without}
+use Rattle.tc_serve.proofs.Going.{lines_text}
 
 -- ---- the numbers of entries are those of their types
 
@@ -153,6 +153,13 @@ met_reverse b (l ∷ ls) = ap (λ (t : Bool). is_about b l || t) (met_reverse b 
 
 -- ---- one line
 
+-- what may be evidence of a test case: its name, its number of behaviours, its entries, and its lines, each in its place
+record IsEvident (p : Played) : Type 0 where
+  name : IsName p.name
+  behaviours : IsBehaviours p.behaviours
+  entries : AreEntries 2 (past_of p)
+  lines : AreLines K.Evidence p.behaviours [] (reverse p.lines)
+
 fit_of : (p : Played) → IsEvident p → Fit p.behaviours p.lines
 fit_of p is = record { entries = is.entries; are = is.lines }
 
@@ -171,65 +178,33 @@ both false b e = absurd cc
 refusal_plain : IsSentence why_refused
 refusal_plain = record { some = omega arith; short = omega arith; plain = search rules }
 
-named : (p : Played) (run : Run) (name : List ℕ) → may_name p run ≡ true → IsName name → IsEvident p → IsEvident (with_line p (L.Named run name))
-named p run name may fits is =
+note_fits : (p : Played) (l : Line) → may_add p l ≡ true → IsNote l → IsEvident p → IsEvident (with_line p l)
+note_fits p (L.Named run name) may fits is =
     let two = both (nat_lt run.0 p.behaviours) (is_met run.0 p.lines) may in
     evident p (L.Named run name ∷ p.lines) is
     (fit_more p.behaviours p.lines (L.Named run name) (fit_of p is) is.entries
     (record { evidence = refl; few = below run.0 p.behaviours two.0; name_is = fits; first = sym (met_reverse run.0 p.lines) ∙ two.1 }))
-
-said : (p : Played) (run : Run) (sentence : List ℕ) → may_say p run ≡ true → IsSentence sentence → IsEvident p → IsEvident (with_line p (L.Remark run sentence))
-said p run sentence may fits is =
+note_fits p (L.Entry e) may fits is = absurd fits
+note_fits p (L.Remark run sentence) may fits is =
     evident p (L.Remark run sentence ∷ p.lines) is
     (fit_more p.behaviours p.lines (L.Remark run sentence) (fit_of p is) is.entries (record { evidence = refl; few = below run.0 p.behaviours may; sentence_is = fits }))
+note_fits p (L.Refused run sentence) may fits is =
+    evident p (L.Refused run sentence ∷ p.lines) is
+    (fit_more p.behaviours p.lines (L.Refused run sentence) (fit_of p is) is.entries
+    (record { evidence = refl; few = below run.0 p.behaviours may; sentence_is = subst IsSentence (sym fits) refusal_plain }))
 
-told : (p : Played) (run : Run) → may_say p run ≡ true → IsEvident p → IsEvident (with_line p (L.Refused run why_refused))
-told p run may is =
-    evident p (L.Refused run why_refused ∷ p.lines) is
-    (fit_more p.behaviours p.lines (L.Refused run why_refused) (fit_of p is) is.entries (record { evidence = refl; few = below run.0 p.behaviours may; sentence_is = refusal_plain }))
-
-made : (p : Played) (caller : Run) (op : Op) → caller.0 < 2 ^ 16 → IsOp op → IsEvident p → IsEvident (moved p caller op)
-made p caller op low fits is =
+move_fits : (p : Played) (caller : Run) (op : Op) → caller.0 < 2 ^ 16 → IsOp op → IsEvident p → IsEvident (moved p caller op)
+move_fits p caller op low fits is =
     evident p (woken p.behaviours (after_call p caller op) p.behaviours) is
     (woken_fits p.behaviours (after_call p caller op) p.behaviours is.behaviours.1 (omega arith) (entry_more p.behaviours p.lines _ (fit_of p is) (entry_fits p.behaviours p.lines caller op low fits)))
 
--- ---- the stand
-
-with_open : (s t : Stand) (p q : Played) (b : Bool) → s.current ≡ Some p → StandIsEvident s → (b ≡ true → IsEvident p → IsEvident q) → (if b then Some (with_current s q) else None) ≡ Some t → StandIsEvident t
-with_open s t p q b some so goes e =
-    let two = if_some b (with_current s q) t e in
-    subst StandIsEvident two.1 (record { closed = so.closed; current = goes two.0 (subst (λ (c : Option Played). MatchOption c (Unit {0}) IsEvident) some so.current) })
-
-next_is : (s t : Stand) (o : Order) (c : Option Played) → s.current ≡ c → IsOrder o → StandIsEvident s → taken s o ≡ Some t → StandIsEvident t
-next_is s t (O.Case name n) None is fits so e =
-    let e' : opened_with s None name n ≡ Some t = ap (λ (c : Option Played). opened_with s c name n) (sym is) ∙ e in
-    subst StandIsEvident (same_some _ t e') (record { closed = so.closed; current = record { name = fits.0; behaviours = fits.1; entries = tt; lines = tt } })
-next_is s t (O.Case name n) (Some p) is fits so e = absurd (let e' : opened_with s (Some p) name n ≡ Some t = ap (λ (c : Option Played). opened_with s c name n) (sym is) ∙ e in cc)
-next_is s t (O.Named run name) None is fits so e = absurd (let e' : named_with s None run name ≡ Some t = ap (λ (c : Option Played). named_with s c run name) (sym is) ∙ e in cc)
-next_is s t (O.Named run name) (Some p) is fits so e =
-    with_open s t p (with_line p (L.Named run name)) (may_name p run) is so (λ may. named p run name may fits.1) (ap (λ (c : Option Played). named_with s c run name) (sym is) ∙ e)
-next_is s t (O.Move caller op) None is fits so e = absurd (let e' : played s None caller op ≡ Some t = ap (λ (c : Option Played). played s c caller op) (sym is) ∙ e in cc)
-next_is s t (O.Move caller op) (Some p) is fits so e =
-    with_open s t p (moved p caller op) (may_ask p caller op) is so (λ may. made p caller op fits.0 fits.1) (ap (λ (c : Option Played). played s c caller op) (sym is) ∙ e)
-next_is s t (O.Remark run sentence) None is fits so e = absurd (let e' : remarked s None run sentence ≡ Some t = ap (λ (c : Option Played). remarked s c run sentence) (sym is) ∙ e in cc)
-next_is s t (O.Remark run sentence) (Some p) is fits so e =
-    with_open s t p (with_line p (L.Remark run sentence)) (may_say p run) is so (λ may. said p run sentence may fits.1) (ap (λ (c : Option Played). remarked s c run sentence) (sym is) ∙ e)
-next_is s t O.End None is fits so e = absurd (let e' : closed_with s None ≡ Some t = ap (λ (c : Option Played). closed_with s c) (sym is) ∙ e in cc)
-next_is s t O.End (Some p) is fits so e =
-    let e' : closed_with s (Some p) ≡ Some t = ap (λ (c : Option Played). closed_with s c) (sym is) ∙ e in
-    subst StandIsEvident (same_some _ t e') (record { closed = (subst (λ (c : Option Played). MatchOption c (Unit {0}) IsEvident) is so.current, so.closed); current = tt })
-
-told_is : (s t : Stand) (run : Run) (c : Option Played) → s.current ≡ c → StandIsEvident s → refused_with s c run ≡ Some t → StandIsEvident t
-told_is s t run None is so e = absurd cc
-told_is s t run (Some p) is so e = with_open s t p (with_line p (L.Refused run why_refused)) (may_say p run) is so (λ may. told p run may) e
-
 -- ---- the text
 
-fit_append : (xs ys : List Played) → AreEvident xs → AreEvident ys → AreEvident (xs ++ ys)
+fit_append : (xs ys : List Played) → EachOf IsEvident xs → EachOf IsEvident ys → EachOf IsEvident (xs ++ ys)
 fit_append [] ys a b = b
 fit_append (x ∷ xs) ys a b = (a.0, fit_append xs ys a.1 b)
 
-fit_reverse : (xs : List Played) → AreEvident xs → AreEvident (reverse xs)
+fit_reverse : (xs : List Played) → EachOf IsEvident xs → EachOf IsEvident (reverse xs)
 fit_reverse [] a = a
 fit_reverse (x ∷ xs) a = rw (reverse-append (x ∷ []) xs) (fit_append (reverse xs) (x ∷ []) (fit_reverse xs a.1) (a.0, tt))
 
@@ -242,7 +217,7 @@ blocks_text line (p ∷ ps) =
     ap (λ (l : List ℕ). l ++ text_of_blocks (blocks_of (line + length (block_lines (block_of line p))) ps)) (block_is line p)
     ∙ ap (λ (l : List ℕ). block p ++ l) (blocks_text (line + length (block_lines (block_of line p))) ps)
 
-are_blocks : (line : ℕ) (ps : List Played) → AreEvident ps → AreBlocks line (blocks_of line ps)
+are_blocks : (line : ℕ) (ps : List Played) → EachOf IsEvident ps → AreBlocks line (blocks_of line ps)
 are_blocks line [] fit = tt
 are_blocks line (p ∷ ps) fit = (
   record { header = record { name_is = fit.0.name; few = fit.0.behaviours; kind_fits = inr refl }; inside = fit.0.lines; first = refl },
@@ -256,14 +231,8 @@ some_blocks (p ∷ ps) some = λ e. cc
 some_reversed : (ps : List Played) → ps ≢ [] → reverse ps ≢ []
 some_reversed ps some = λ e. some (sym (reverse-reverse ps) ∙ ap reverse e)
 
-abbrev closing : Stand → Option Played → Stand
-closing s c = unwrap_or (closed_with s c) s
-
-finished_is : (s : Stand) (c : Option Played) → s.current ≡ c → StandIsEvident s → AreEvident (closing s c).closed
-finished_is s None is so = so.closed
-finished_is s (Some p) is so = (subst (λ (c : Option Played). MatchOption c (Unit {0}) IsEvident) is so.current, so.closed)
-
-none_left : (s : Stand) (c : Option Played) → s.current ≡ c → (closing s c).current ≡ None
+-- nothing is open at the end
+none_left : (s : Stand) (c : Option Played) → s.current ≡ c → (unwrap_or (option_map (without s) c) s).current ≡ None
 none_left s None is = is
 none_left s (Some p) is = refl
 
@@ -271,13 +240,9 @@ closed_text : (s : Stand) → s.current ≡ None → stand_text s ≡ flat_map b
 closed_text s none = ap (λ (c : Option Played). stand_text (record { closed = s.closed; current = c })) none ∙ append-nil (flat_map block (reverse s.closed))
 
 pub served_is_evidence : ServedIsEvidence
-served_is_evidence = record {
-  first = record { closed = tt; current = tt };
-  next = λ s t o fits so e. next_is s t o s.current refl fits so e;
-  refused = λ s t run so e. told_is s t run s.current refl so e;
-  text = λ s so some.
-      let ps = reverse (finished s).closed in
-      let fit : AreEvident ps = fit_reverse (finished s).closed (finished_is s s.current refl so) in
-      rw (closed_text (finished s) (none_left s s.current refl))
-      (rw (blocks_text 1 ps) at (written_evidence (blocks_of 1 ps) (some_blocks ps (some_reversed (finished s).closed some)) (are_blocks 1 ps fit)));
-}
+served_is_evidence lines s served some =
+    let ps = reverse (finished s).closed in
+    let are = all_served IsEvident (λ name n name_is few. record { name = name_is; behaviours = few; entries = tt; lines = tt }) note_fits (λ p caller op may. move_fits p caller op) lines s served in
+    let fit : EachOf IsEvident ps = fit_reverse (finished s).closed are in
+    rw (closed_text (finished s) (none_left s s.current refl))
+    (rw (blocks_text 1 ps) at (written_evidence (blocks_of 1 ps) (some_blocks ps (some_reversed (finished s).closed some)) (are_blocks 1 ps fit)))

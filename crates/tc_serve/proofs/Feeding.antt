@@ -1,23 +1,25 @@
 -- Bytes that are fed, and the lines that they are.
-use Rattle.std.proofs.Common.{ℕ, ◌≡◌, ◌≢◌, ◌∙◌, ◌==◌, ◌||◌, ◌+◌, ◌<◌, ◌≤◌, inl, inr, Bool, false, is_some, List, [], ◌∷◌, ◌++◌, codes, zero, suc, length, take, drop, get_or, take-append-drop, refl, ap, sym, subst, append_assoc, arith}
-use Rattle.std.proofs.lemmas.List.{append-nil, append_cancel_left, take_more}
+use Rattle.std.proofs.Common.{ℕ, ◌≡◌, ◌≢◌, ◌∙◌, ◌==◌, ◌&&◌, ◌||◌, ◌+◌, ◌-◌, ◌<◌, ◌≤◌, ◌^◌, ◌⊎◌, inl, inr, if◌then◌else◌, Bool, true, false, is_some, unwrap_or, MatchOption, Option, Some, None, List, [], ◌∷◌, ◌++◌, codes, zero, suc, length, take, drop, get_or, take-append-drop, refl, ap, sym, subst, append_assoc, arith}
+use Rattle.std.specs.Option.{option_map}
+use Rattle.std.specs.List.{list_all, list_any}
+use Rattle.std.specs.Io.KnownBytes.{IsAtEnd}
+use Rattle.std.proofs.lemmas.List.{append-nil, length-append, take_more}
 use Rattle.std.proofs.Math.Seq.{drop-cons}
 use Rattle.std.specs.Fmt.{decimal}
+use Rattle.tc_verdict.specs.declared.run.Run.{Run}
 use Rattle.tc_serve.specs.declared.fault.ServeFault.{ServeFault}
 use Rattle.tc_serve.specs.declared.fault.ServeFault.TheVariants as F
-use Rattle.tc_serve.specs.declared.server.Answered.{Answered}
-use Rattle.tc_serve.specs.declared.server.Answered.TheVariants as A
+use Rattle.tc_serve.specs.declared.order.Order.{Order}
+use Rattle.tc_serve.specs.declared.order.Order.TheVariants as O
 use Rattle.tc_serve.specs.declared.server.Server.{Server}
+use Rattle.tc_serve.specs.declared.service.Served.{Served}
 use Rattle.tc_serve.specs.declared.serving.Serving.{Serving}
 use Rattle.tc_serve.specs.declared.serving.TheConstants.{LINE_BYTES}
-use Rattle.tc_serve.specs.Inside.{Feeds, Finishes, Holds, IsBadLast, IsBadLine, IsCounted, IsFed, IsLineFault, IsOver, Leads, Stops, StopsAtEnd}
-use Rattle.tc_serve.specs.Played.{why_refused}
+use Rattle.tc_serve.specs.Protocol.{AllEnded, AreServed, Asks, Came, Comes, IsNobodys, IsOf, NoLf, Refuses, Sent, Stand, finished, refused, seen, taken, was_done, was_lost, was_refused, why_refused}
+use Rattle.tc_serve.specs.Text.{bytes_of, end_told, is_refused, lost_text, stand_text, told_at_end, told_of, worst_of}
 use Rattle.tc_serve.specs.Serve.{IsWhy}
-use Rattle.tc_serve.specs.Served.{Course, Ends, Follows, MayGoOn, NoLf, RefusesLast, ServesLine, bytes_of, refuses, seen, then_is, told_of}
-use Rattle.tc_serve.specs.Stand.{Stand, stand_text}
-use Rattle.tc_serve.specs.Step.{Adds, Comes, Goes, IsRefusal, Refuses, StandsAs}
-use Rattle.tc_serve.proofs.Going.{adds_more}
-use Rattle.tc_serve.proofs.Trying.{adds_none}
+use Rattle.tc_serve.specs.Inside.{Closes, Counts, Fails, Finishes, IsAtLine, IsBadLine, IsEnd, IsFed, Serves, StandsAs, Stops, TellsRun, Tries, TriesLine}
+use Rattle.tc_serve.proofs.Going.{appended, nothing}
 
 -- ---- lines
 
@@ -55,213 +57,202 @@ seen_more line looked b same short =
 seen_same : (line looked : List ℕ) (b : ℕ) → looked ≡ seen line → LINE_BYTES ≤ length looked → looked ≡ seen (line ++ b ∷ [])
 seen_same line looked b same long = same ∙ take_full LINE_BYTES line b (subst (λ (l : List ℕ). LINE_BYTES ≤ length l) same long)
 
--- ---- what is told of a line that comes to nobody
+-- ---- the report of a line whose refusal no run gets
 
 all_parts : (t x d c w l : List ℕ) → ((((t ++ x) ++ d) ++ c) ++ w) ++ l ≡ t ++ (x ++ (d ++ (c ++ (w ++ l))))
 all_parts t x d c w l =
     append_assoc (((t ++ x) ++ d) ++ c) w l
     ∙ (append_assoc ((t ++ x) ++ d) c (w ++ l) ∙ (append_assoc (t ++ x) d (c ++ (w ++ l)) ∙ append_assoc t x (d ++ (c ++ (w ++ l)))))
 
-pub lost_text : (told a b d e f : List ℕ) (n : ℕ) → a ≡ told ++ codes "ttrun: line " → b ≡ a ++ decimal n → d ≡ b ++ codes ": " → e ≡ d ++ why_refused → f ≡ e ++ 10 ∷ [] → f ≡ told ++ told_of A.Nobody n
-lost_text told a b d e f n one two three four five =
+pub lost_is : (told a b d e f : List ℕ) (n : ℕ) → a ≡ told ++ codes "ttrun: line " → b ≡ a ++ decimal n → d ≡ b ++ codes ": " → e ≡ d ++ why_refused → f ≡ e ++ 10 ∷ [] → f ≡ told ++ lost_text n was_lost
+lost_is told a b d e f n one two three four five =
     five ∙ (ap (λ (l : List ℕ). l ++ 10 ∷ []) (four ∙ ap (λ (l : List ℕ). l ++ why_refused) (three ∙ ap (λ (l : List ℕ). l ++ codes ": ") (two ∙ ap (λ (l : List ℕ). l ++ decimal n) one)))
     ∙ all_parts told (codes "ttrun: line ") (decimal n) (codes ": ") why_refused (10 ∷ []))
 
 -- ---- one line
 
-pub counted : (a : Answered) (v w : Serving) (c : Course) (told told' : List ℕ) → Holds v c → w.server ≡ v.server → w.lines ≡ v.lines + 1 → w.refused ≡ (v.refused || refuses a) → told' ≡ told ++ told_of a (v.lines + 1) →
-    ((s : Stand) → StandsAs v.server s → MayGoOn a s) → IsCounted a w c told told'
-counted a v w c told told' holds server lines refused tells may = record {
-  holds = record {
-    stands = subst (λ (x : Server). StandsAs x c.stand) (sym server) holds.stands;
-    lines = lines ∙ ap (λ (n : ℕ). n + 1) holds.lines;
-    refused = refused ∙ ap (λ (t : Bool). t || refuses a) holds.refused;
-  };
-  tells = record { text = told_of a (c.lines + 1); grows = refl; appends = tells ∙ ap (λ (n : ℕ). told ++ told_of a (n + 1)) holds.lines };
-  may = may c.stand holds.stands;
+abbrev pub sent : List ℕ → Bool → Came → Sent
+sent line ended came = record { bytes = line; ended = ended; came = came }
+
+-- one more line, of which this came
+more : (ended : Bool) (line : List ℕ) (lines : List Sent) (s t : Stand) (v w : Serving) (came : Came) (before out written before' told told' : List ℕ) → IsAtLine line lines s v before out before' told →
+    Comes came ended (seen line) s t → StandsAs w.server t before written → w.lines ≡ v.lines + 1 → w.refused ≡ (is_refused came || v.refused) → told' ≡ told ++ lost_text (length lines + 1) came →
+    Counts w (sent line ended came ∷ lines) t before written before' told'
+more ended line lines s t v w came before out written before' told told' at_ comes stands many refuses tells = record {
+  served = (s, at_.counts.served, at_.all, at_.last_is, comes);
+  stands = stands;
+  tells = appended before' told told' (told_of lines) _ _ at_.counts.tells tells refl;
+  many = many ∙ ap (λ (n : ℕ). n + 1) at_.counts.many ∙ one_longer lines;
+  refused = refuses ∙ ap (λ (t : Bool). is_refused came || t) at_.counts.refused;
 }
+  where
+    one_longer : (lines : List Sent) → length lines + 1 ≡ length (sent line ended came ∷ lines)
+    one_longer lines = omega arith
 
-pub fault_at : (a : Answered) (v : Serving) (c : Course) (f : ServeFault) → Holds v c → ((s : Stand) → StandsAs v.server s → IsLineFault a (v.lines + 1) s f) → IsLineFault a (c.lines + 1) c.stand f
-fault_at a v c f holds fault = subst (λ (n : ℕ). IsLineFault a (n + 1) c.stand f) holds.lines (fault c.stand holds.stands)
+pub done_more : (ended : Bool) (v w : Serving) (server : Server) (looked out written told : List ℕ) → TriesLine ended looked true v.server server out written → looked ≡ v.line.items → w.server ≡ server → w.lines ≡ v.lines + 1 → w.refused ≡ v.refused →
+    Serves ended v w out written told told
+done_more ended v w server looked out written told tries same is many refuses line lines s before before' at_ =
+    let so = tries s before at_.counts.stands in
+    let kept : looked ≡ seen line = same ∙ at_.kept in
+    let asks : Asks ended (seen line) so.0 = subst (λ (l : List ℕ). Asks ended l so.0) kept so.2 in (
+      was_done so.0,
+      so.1,
+      more ended line lines s so.1 v w (was_done so.0) before out written before' told told at_ (asks, so.3)
+          (subst (λ (x : Server). StandsAs x so.1 before written) (sym is) so.4) many refuses (sym (append-nil told)),
+    )
 
--- the course with the server elsewhere
-abbrev pub moved_to : Course → Stand → Course
-moved_to c t = record { stand = t; lines = c.lines; refused = c.refused; told = c.told }
+module _ (ended : Bool) (v : Serving) (server server' : Server) (looked out mid : List ℕ) (tries : TriesLine ended looked false v.server server out mid) (same : looked ≡ v.line.items) where
+  pub refused_more : (w : Serving) (written told : List ℕ) → TellsRun looked true server server' mid written → w.server ≡ server' → w.lines ≡ v.lines + 1 → w.refused ≡ true → Serves ended v w out written told told
+  refused_more w written told tells is many refuses line lines s before before' at_ =
+      let none = tries s before at_.counts.stands in
+      let so = tells s before none.1 in
+      let kept : looked ≡ seen line = same ∙ at_.kept in
+      let of_run : IsOf (seen line) so.0.0 = subst (λ (l : List ℕ). IsOf l so.0.0) kept so.2 in
+      let nothing_asked : Refuses ended (seen line) s = subst (λ (l : List ℕ). Refuses ended l s) kept none.0 in (
+        was_refused so.0,
+        so.1,
+        more ended line lines s so.1 v w (was_refused so.0) before out written before' told told at_ (nothing_asked, of_run, so.3)
+            (subst (λ (x : Server). StandsAs x so.1 before written) (sym is) so.4) many refuses (sym (append-nil told)),
+      )
 
-pub holds_at : (v w : Serving) (c : Course) (t : Stand) → Holds v c → w.lines ≡ v.lines → w.refused ≡ v.refused → StandsAs w.server t → Holds w (moved_to c t)
-holds_at v w c t holds lines refused stands = record { stands = stands; lines = lines ∙ holds.lines; refused = refused ∙ holds.refused }
+  pub lost_more : (w : Serving) (written told told' : List ℕ) (number : ℕ) → TellsRun looked false server server' mid written → ((s : Stand) (before out : List ℕ) → StandsAs server s before out → true ≡ is_some s.current) →
+      w.server ≡ server' → number ≡ v.lines + 1 → w.lines ≡ number → w.refused ≡ true → told' ≡ told ++ lost_text number was_lost → Serves ended v w out written told told'
+  lost_more w written told told' number tells some_open is next many refuses reports line lines s before before' at_ =
+      let none = tries s before at_.counts.stands in
+      let so = tells s before none.1 in
+      let kept : looked ≡ seen line = same ∙ at_.kept in
+      let nobodys : IsNobodys (seen line) s = subst (λ (l : List ℕ). IsNobodys l s) kept so.0 in
+      let nothing_asked : Refuses ended (seen line) s = subst (λ (l : List ℕ). Refuses ended l s) kept none.0 in (
+        was_lost,
+        s,
+        more ended line lines s s v w was_lost before out written before' told told' at_ (nothing_asked, nobodys, sym (some_open s before mid none.1), refl)
+            (subst (λ (x : Server). StandsAs x s before written) (sym is) so.1) (many ∙ next) refuses (reports ∙ ap (λ (n : ℕ). told ++ lost_text n was_lost) (next ∙ ap (λ (n : ℕ). n + 1) at_.counts.many)),
+      )
 
-module _ (comes : Answered → List ℕ → Stand → Stand → Type 0) where
-  -- what came of the line leads on
-  pub leads_by : (a : Answered) (line looked : List ℕ) (server : Server) (w : Serving) (c : Course) (out written told told' : List ℕ) → looked ≡ seen line → (goes : Goes (comes a looked) c.stand server out written) →
-      IsCounted a w (moved_to c goes.after) told told' → Leads (λ d. Follows (λ x. comes x (seen line)) c d) w c out written told told'
-  leads_by a line looked server w c out written told told' same goes counted = record {
-    after = then_is a goes.after c;
-    is = record { answered = a; after = goes.after; came = subst (λ (l : List ℕ). comes a l c.stand goes.after) same goes.is; may = counted.may; is = refl };
-    holds = counted.holds;
-    adds = goes.adds;
-    tells = counted.tells;
-  }
+  pub bad_line : (number : ℕ) (told : List ℕ) → ((s : Stand) (before out : List ℕ) → StandsAs server s before out → false ≡ is_some s.current) → number ≡ v.lines + 1 → Fails ended v out told (F.Line number)
+  bad_line number told closed next line lines s before before' at_ =
+      let none = tries s before at_.counts.stands in
+      (next ∙ ap (λ (n : ℕ). n + 1) at_.counts.many, sym (closed s before mid none.1), subst (λ (l : List ℕ). Refuses ended l s) (same ∙ at_.kept) none.0)
 
-nothing_more : (x out written : List ℕ) → Adds x x out written → written ≡ out
-nothing_more x out written adds =
-    let none : adds.text ≡ [] = append_cancel_left x adds.text [] (sym adds.grows ∙ sym (append-nil x)) in
-    adds.appends ∙ (ap (λ (l : List ℕ). out ++ l) none ∙ append-nil out)
+pub too_long : (ended : Bool) (v : Serving) (out told : List ℕ) → 2 ^ 64 - 1 ≤ v.lines → Fails ended v out told F.TooLong
+too_long ended v out told long line lines s before before' at_ = subst (λ (n : ℕ). 2 ^ 64 - 1 ≤ n) at_.counts.many long
 
--- a line that comes to nobody changes nothing
-lost_nothing : (looked : List ℕ) (server : Server) (s : Stand) (out written : List ℕ) → (goes : Goes (Comes A.Nobody looked) s server out written) → written ≡ out
-lost_nothing looked server s out written goes =
-    nothing_more (stand_text s) out written (subst (λ (t : Stand). Adds (stand_text s) (stand_text t) out written) goes.is.1.same goes.adds)
-
-bad_nobody : (line looked : List ℕ) (server : Server) (c : Course) (out written : List ℕ) (f : ServeFault) → looked ≡ seen line → (goes : Goes (Comes A.Nobody looked) c.stand server out written) → IsLineFault A.Nobody (c.lines + 1) goes.after f →
-    IsBadLine line c f × (written ≡ out)
-bad_nobody line looked server c out written (F.Line n) same goes fault = (
-  (fault.1, ap (λ (t : Stand). is_some t.current) (sym goes.is.1.same) ∙ fault.2, subst (λ (l : List ℕ). Refuses l c.stand) same goes.is.0),
-  lost_nothing looked server c.stand out written goes,
-)
-bad_nobody line looked server c out written F.TooLong same goes fault = absurd fault
-bad_nobody line looked server c out written F.Read same goes fault = absurd fault
-bad_nobody line looked server c out written F.Write same goes fault = absurd fault
-bad_nobody line looked server c out written F.NoMemory same goes fault = (tt, lost_nothing looked server c.stand out written goes)
-
-pub bad_line : (a : Answered) (line looked : List ℕ) (server : Server) (c : Course) (out written : List ℕ) (f : ServeFault) → looked ≡ seen line → (goes : Goes (Comes a looked) c.stand server out written) → IsLineFault a (c.lines + 1) goes.after f →
-    IsBadLine line c f × (written ≡ out)
-bad_line A.Done line looked server c out written (F.Line n) same goes fault = absurd (let e = fault.0 in cc)
-bad_line A.Done line looked server c out written F.NoMemory same goes fault = absurd (let e = fault.0 in cc)
-bad_line A.Done line looked server c out written F.TooLong same goes fault = absurd fault
-bad_line A.Done line looked server c out written F.Read same goes fault = absurd fault
-bad_line A.Done line looked server c out written F.Write same goes fault = absurd fault
-bad_line A.Refused line looked server c out written (F.Line n) same goes fault = absurd (let e = fault.0 in cc)
-bad_line A.Refused line looked server c out written F.NoMemory same goes fault = absurd (let e = fault.0 in cc)
-bad_line A.Refused line looked server c out written F.TooLong same goes fault = absurd fault
-bad_line A.Refused line looked server c out written F.Read same goes fault = absurd fault
-bad_line A.Refused line looked server c out written F.Write same goes fault = absurd fault
-bad_line A.Nobody line looked server c out written f same goes fault = bad_nobody line looked server c out written f same goes fault
-
-refused_nobody : (looked : List ℕ) (line : List ℕ) (server : Server) (c : Course) (out written : List ℕ) (f : ServeFault) → line ≢ [] → (goes : Goes (IsRefusal A.Nobody looked) c.stand server out written) → IsLineFault A.Nobody (c.lines + 1) goes.after f →
-    IsBadLast line c f
-refused_nobody looked line server c out written (F.Line n) some goes fault = (fault.1, ap (λ (t : Stand). is_some t.current) (sym goes.is.same) ∙ fault.2, some)
-refused_nobody looked line server c out written F.TooLong some goes fault = absurd fault
-refused_nobody looked line server c out written F.Read some goes fault = absurd fault
-refused_nobody looked line server c out written F.Write some goes fault = absurd fault
-refused_nobody looked line server c out written F.NoMemory some goes fault = tt
-
-pub bad_last : (a : Answered) (line looked : List ℕ) (server : Server) (c : Course) (out written : List ℕ) (f : ServeFault) → line ≢ [] → (goes : Goes (IsRefusal a looked) c.stand server out written) → IsLineFault a (c.lines + 1) goes.after f → IsBadLast line c f
-bad_last A.Done line looked server c out written f some goes fault = absurd goes.is
-bad_last A.Refused line looked server c out written (F.Line n) some goes fault = absurd (let e = fault.0 in cc)
-bad_last A.Refused line looked server c out written F.NoMemory some goes fault = absurd (let e = fault.0 in cc)
-bad_last A.Refused line looked server c out written F.TooLong some goes fault = absurd fault
-bad_last A.Refused line looked server c out written F.Read some goes fault = absurd fault
-bad_last A.Refused line looked server c out written F.Write some goes fault = absurd fault
-bad_last A.Nobody line looked server c out written f some goes fault = refused_nobody looked line server c out written f some goes fault
+pub no_memory : (ended : Bool) (v : Serving) (out told : List ℕ) → Fails ended v out told F.NoMemory
+no_memory ended v out told line lines s before before' at_ = tt
 
 -- ---- what is fed
 
-pub fed_line : (bytes : List ℕ) (v w x : Serving) (c : Course) (out written told told' : List ℕ) → (fed : IsFed bytes v c) → Leads (ServesLine fed.last c) w c out written told told' → x.server ≡ w.server → x.lines ≡ w.lines → x.refused ≡ w.refused →
-    x.line.items ≡ [] → Feeds (bytes ++ 10 ∷ []) x c out written told told'
-fed_line bytes v w x c out written told told' fed leads server lines refused empty = record {
-  after = leads.after;
-  fed = record {
-    lines = fed.last ∷ fed.lines;
-    last = [];
-    parts =
-        ap (λ (l : List ℕ). l ++ 10 ∷ []) fed.parts
-        ∙ (append_assoc (bytes_of fed.lines) fed.last (10 ∷ []) ∙ sym (append-nil (bytes_of (fed.last ∷ fed.lines))));
-    last_is = tt;
-    served = (c, fed.served, fed.last_is, leads.is);
-    kept = empty ∙ sym (take_none LINE_BYTES);
-    holds = record {
-      stands = subst (λ (y : Server). StandsAs y leads.after.stand) (sym server) leads.holds.stands;
-      lines = lines ∙ leads.holds.lines;
-      refused = refused ∙ leads.holds.refused;
-    };
-  };
-  adds = leads.adds;
-  tells = leads.tells;
-}
+abbrev pub at_line : (bytes before out before' told : List ℕ) (v : Serving) (fed : IsFed bytes v before out before' told) → IsAtLine fed.last fed.lines fed.stand v before out before' told
+at_line bytes before out before' told v fed = record { all = fed.all; last_is = fed.last_is; kept = fed.kept; counts = fed.counts }
+
+-- the bytes of a line more
+one_line : (bytes line : List ℕ) (lines : List Sent) (c : Came) → bytes ≡ bytes_of lines ++ line → bytes ++ 10 ∷ [] ≡ bytes_of (sent line true c ∷ lines) ++ []
+one_line bytes line lines c parts =
+    ap (λ (l : List ℕ). l ++ 10 ∷ []) parts ∙ (append_assoc (bytes_of lines) line (10 ∷ []) ∙ sym (append-nil (bytes_of (sent line true c ∷ lines))))
+
+pub fed_line : (bytes : List ℕ) (v w x : Serving) (before out written before' told told' : List ℕ) → IsFed bytes v before out before' told → Serves true v w out written told told' → x.server ≡ w.server → x.lines ≡ w.lines → x.refused ≡ w.refused →
+    x.line.items ≡ [] → IsFed (bytes ++ 10 ∷ []) x before written before' told'
+fed_line bytes v w x before out written before' told told' fed serves server lines refuses empty =
+    let so = serves fed.last fed.lines fed.stand before before' (at_line bytes before out before' told v fed) in
+    record {
+      lines = sent fed.last true so.0 ∷ fed.lines;
+      stand = so.1;
+      last = [];
+      parts = one_line bytes fed.last fed.lines so.0 fed.parts;
+      all = fed.all;
+      last_is = tt;
+      kept = empty ∙ sym (take_none LINE_BYTES);
+      counts = record {
+        served = so.2.served;
+        stands = subst (λ (y : Server). StandsAs y so.1 before written) (sym server) so.2.stands;
+        tells = so.2.tells;
+        many = lines ∙ so.2.many;
+        refused = refuses ∙ so.2.refused;
+      };
+    }
 
 -- one more byte of a line
-fed_more : (bytes : List ℕ) (byte : ℕ) (v w : Serving) (c : Course) (out told : List ℕ) → (fed : IsFed bytes v c) → (byte == 10) ≡ false → w.line.items ≡ seen (fed.last ++ byte ∷ []) → w.server ≡ v.server → w.lines ≡ v.lines → w.refused ≡ v.refused →
-    Feeds (bytes ++ byte ∷ []) w c out out told told
-fed_more bytes byte v w c out told fed other kept server lines refused = record {
-  after = c;
-  fed = record {
-    lines = fed.lines;
-    last = fed.last ++ byte ∷ [];
-    parts = ap (λ (l : List ℕ). l ++ byte ∷ []) fed.parts ∙ append_assoc (bytes_of fed.lines) fed.last (byte ∷ []);
-    last_is = no_lf_more fed.last byte fed.last_is other;
-    served = fed.served;
-    kept = kept;
-    holds = record {
-      stands = subst (λ (y : Server). StandsAs y c.stand) (sym server) fed.holds.stands;
-      lines = lines ∙ fed.holds.lines;
-      refused = refused ∙ fed.holds.refused;
-    };
+fed_more : (bytes : List ℕ) (byte : ℕ) (v w : Serving) (before out before' told : List ℕ) → (fed : IsFed bytes v before out before' told) → (byte == 10) ≡ false → w.line.items ≡ seen (fed.last ++ byte ∷ []) → w.server ≡ v.server → w.lines ≡ v.lines →
+    w.refused ≡ v.refused → IsFed (bytes ++ byte ∷ []) w before out before' told
+fed_more bytes byte v w before out before' told fed other kept server lines refuses = record {
+  lines = fed.lines;
+  stand = fed.stand;
+  last = fed.last ++ byte ∷ [];
+  parts = ap (λ (l : List ℕ). l ++ byte ∷ []) fed.parts ∙ append_assoc (bytes_of fed.lines) fed.last (byte ∷ []);
+  all = fed.all;
+  last_is = no_lf_more fed.last byte fed.last_is other;
+  kept = kept;
+  counts = record {
+    served = fed.counts.served;
+    stands = subst (λ (y : Server). StandsAs y fed.stand before out) (sym server) fed.counts.stands;
+    tells = fed.counts.tells;
+    many = lines ∙ fed.counts.many;
+    refused = refuses ∙ fed.counts.refused;
   };
-  adds = adds_none (stand_text c.stand) out;
-  tells = adds_none c.told told;
 }
 
 -- which is kept
-pub fed_byte : (bytes : List ℕ) (byte : ℕ) (v w : Serving) (c : Course) (out told : List ℕ) → IsFed bytes v c → (byte == 10) ≡ false → length v.line.items < LINE_BYTES → w.line.items ≡ v.line.items ++ byte ∷ [] → w.server ≡ v.server → w.lines ≡ v.lines →
-    w.refused ≡ v.refused → Feeds (bytes ++ byte ∷ []) w c out out told told
-fed_byte bytes byte v w c out told fed other short pushed server lines refused =
-    fed_more bytes byte v w c out told fed other (pushed ∙ seen_more fed.last v.line.items byte fed.kept short) server lines refused
+pub fed_byte : (bytes : List ℕ) (byte : ℕ) (v w : Serving) (before out before' told : List ℕ) → IsFed bytes v before out before' told → (byte == 10) ≡ false → length v.line.items < LINE_BYTES → w.line.items ≡ v.line.items ++ byte ∷ [] → w.server ≡ v.server → w.lines ≡ v.lines →
+    w.refused ≡ v.refused → IsFed (bytes ++ byte ∷ []) w before out before' told
+fed_byte bytes byte v w before out before' told fed other short pushed server lines refuses =
+    fed_more bytes byte v w before out before' told fed other (pushed ∙ seen_more fed.last v.line.items byte fed.kept short) server lines refuses
 
 -- or not looked at
-pub fed_unseen : (bytes : List ℕ) (byte : ℕ) (v : Serving) (c : Course) (out told : List ℕ) → IsFed bytes v c → (byte == 10) ≡ false → LINE_BYTES ≤ length v.line.items → Feeds (bytes ++ byte ∷ []) v c out out told told
-fed_unseen bytes byte v c out told fed other long = fed_more bytes byte v v c out told fed other (seen_same fed.last v.line.items byte fed.kept long) refl refl refl
+pub fed_unseen : (bytes : List ℕ) (byte : ℕ) (v : Serving) (before out before' told : List ℕ) → IsFed bytes v before out before' told → (byte == 10) ≡ false → LINE_BYTES ≤ length v.line.items → IsFed (bytes ++ byte ∷ []) v before out before' told
+fed_unseen bytes byte v before out before' told fed other long = fed_more bytes byte v v before out before' told fed other (seen_same fed.last v.line.items byte fed.kept long) refl refl refl
 
 -- ---- what stops it
 
-adds_same : (text out written : List ℕ) → written ≡ out → Adds text text out written
-adds_same text out written same = record { text = []; grows = sym (append-nil text); appends = same ∙ sym (append-nil out) }
+-- each line has its LF
+long_lines : (lines : List Sent) → AllEnded lines → length lines ≤ length (bytes_of lines)
+long_lines [] all = omega arith
+long_lines (l ∷ before) all = by_end l.ended refl (long_lines before (second l.ended _ all))
+  where
+    second : (a b : Bool) → (a && b) ≡ true → b ≡ true
+    second true b e = e
+    second false b e = absurd cc
 
-stops_here : (bytes more : List ℕ) (v : Serving) (c : Course) (out written told told' : List ℕ) (f : ServeFault) → (fed : IsFed bytes v c) → IsWhy f (fed.last ++ more) c → written ≡ out → told' ≡ told → Stops (bytes ++ more) c out written told told' f
-stops_here bytes more v c out written told told' f fed why same same_told = record {
+    first : (a b : Bool) → (a && b) ≡ true → a ≡ true
+    first true b e = refl
+    first false b e = absurd cc
+
+    by_end : (t : Bool) → l.ended ≡ t → length before ≤ length (bytes_of before) → length (l ∷ before) ≤ length (bytes_of (l ∷ before))
+    by_end false is so = absurd (let e : false ≡ true = sym is ∙ first l.ended (list_all (λ x. x.ended) before) all in cc)
+    by_end true is so = subst (λ (t : Bool). length (l ∷ before) ≤ length (bytes_of before ++ (l.bytes ++ (if t then 10 ∷ [] else [])))) (sym is)
+        (omega (arith, so, length-append (bytes_of before) (l.bytes ++ 10 ∷ []), length-append l.bytes (10 ∷ [])))
+
+pub why_line : (f : ServeFault) (line behind : List ℕ) (lines : List Sent) (s : Stand) (input : Option (List ℕ)) → AllEnded lines → NoLf line → IsBadLine f true line lines s → IsWhy f lines s (line ++ 10 ∷ behind) input
+why_line (F.Line n) line behind lines s input all plain bad = (bad.0, bad.1, (line, behind, plain, inl (refl, bad.2)))
+why_line F.TooLong line behind lines s input all plain bad = omega (arith, bad, long_lines lines all, length-append (bytes_of lines) (line ++ 10 ∷ behind))
+why_line F.Read line behind lines s input all plain bad = absurd bad
+why_line F.Write line behind lines s input all plain bad = absurd bad
+why_line F.NoMemory line behind lines s input all plain bad = tt
+
+-- nothing more was appended
+stops_here : (bytes behind : List ℕ) (v : Serving) (before out written before' told told' : List ℕ) (input : Option (List ℕ)) (f : ServeFault) → (fed : IsFed bytes v before out before' told) → IsWhy f fed.lines fed.stand (fed.last ++ behind) input → written ≡ out → told' ≡ told →
+    Stops (bytes ++ behind) input before written before' told' f
+stops_here bytes behind v before out written before' told told' input f fed why same same_told = record {
   lines = fed.lines;
-  rest = fed.last ++ more;
-  parts = ap (λ (l : List ℕ). l ++ more) fed.parts ∙ append_assoc (bytes_of fed.lines) fed.last more;
-  after = c;
-  served = fed.served;
-  adds = adds_same (stand_text c.stand) out written same;
-  tells = adds_same c.told told told' same_told;
+  stand = fed.stand;
+  rest = fed.last ++ behind;
+  parts = ap (λ (l : List ℕ). l ++ behind) fed.parts ∙ append_assoc (bytes_of fed.lines) fed.last behind;
+  served = fed.counts.served;
+  last = inl fed.all;
   why = why;
+  text = ap (λ (l : List ℕ). before ++ l) same ∙ fed.counts.stands.text;
+  tells = ap (λ (l : List ℕ). before' ++ l) same_told ∙ fed.counts.tells;
 }
 
-why_line : (bytes more : List ℕ) (v : Serving) (c : Course) (f : ServeFault) → (fed : IsFed bytes v c) → IsBadLine fed.last c f → IsWhy f (fed.last ++ 10 ∷ more) c
-why_line bytes more v c (F.Line n) fed bad = (bad.0, bad.1, (fed.last, fed.last_is, inr (more, refl, bad.2)))
-why_line bytes more v c F.TooLong fed bad = tt
-why_line bytes more v c F.Read fed bad = tt
-why_line bytes more v c F.Write fed bad = absurd bad
-why_line bytes more v c F.NoMemory fed bad = tt
+pub stops_line : (bytes behind : List ℕ) (v : Serving) (before out written before' told told' : List ℕ) (input : Option (List ℕ)) (f : ServeFault) → IsFed bytes v before out before' told → Fails true v out told f → written ≡ out → told' ≡ told →
+    Stops (bytes ++ 10 ∷ behind) input before written before' told' f
+stops_line bytes behind v before out written before' told told' input f fed fails same same_told =
+    stops_here bytes (10 ∷ behind) v before out written before' told told' input f fed
+    (why_line f fed.last behind fed.lines fed.stand input fed.all fed.last_is (fails fed.last fed.lines fed.stand before before' (at_line bytes before out before' told v fed))) same same_told
 
-pub stops_line : (bytes more : List ℕ) (v : Serving) (c : Course) (out written told told' : List ℕ) (f : ServeFault) → (fed : IsFed bytes v c) → IsBadLine fed.last c f × (written ≡ out) → told' ≡ told → Stops (bytes ++ 10 ∷ more) c out written told told' f
-stops_line bytes more v c out written told told' f fed bad same_told = stops_here bytes (10 ∷ more) v c out written told told' f fed (why_line bytes more v c f fed bad.0) bad.1 same_told
-
-pub stops_byte : (bytes more : List ℕ) (byte : ℕ) (v : Serving) (c : Course) (out told : List ℕ) → IsFed bytes v c → Stops (bytes ++ byte ∷ more) c out out told told F.NoMemory
-stops_byte bytes more byte v c out told fed = stops_here bytes (byte ∷ more) v c out out told told F.NoMemory fed tt refl refl
+pub stops_byte : (bytes behind : List ℕ) (byte : ℕ) (v : Serving) (before out before' told : List ℕ) (input : Option (List ℕ)) → IsFed bytes v before out before' told → Stops (bytes ++ byte ∷ behind) input before out before' told F.NoMemory
+stops_byte bytes behind byte v before out before' told input fed = stops_here bytes (byte ∷ behind) v before out out before' told told input F.NoMemory fed tt refl refl
 
 -- ---- pieces
-
-pub feeds_more : (a b : List ℕ) (v w : Serving) (c : Course) (x y z t u r : List ℕ) → (so : Feeds a v c x y t u) → Feeds b w so.after y z u r → Feeds b w c x z t r
-feeds_more a b v w c x y z t u r so next = record { after = next.after; fed = next.fed; adds = adds_more _ _ _ x y z so.adds next.adds; tells = adds_more _ _ _ t u r so.tells next.tells }
-
-pub feeds_stop : (a b : List ℕ) (v : Serving) (c : Course) (x y z t u r : List ℕ) (f : ServeFault) → (so : Feeds a v c x y t u) → Stops b so.after y z u r f → Stops b c x z t r f
-feeds_stop a b v c x y z t u r f so next = record {
-  lines = next.lines;
-  rest = next.rest;
-  parts = next.parts;
-  after = next.after;
-  served = next.served;
-  adds = adds_more _ _ _ x y z so.adds next.adds;
-  tells = adds_more _ _ _ t u r so.tells next.tells;
-  why = next.why;
-}
-
-pub feeds_none : (bytes : List ℕ) (v : Serving) (c : Course) (out told : List ℕ) → IsFed bytes v c → Feeds (bytes ++ []) v c out out told told
-feeds_none bytes v c out told fed =
-    subst (λ (l : List ℕ). Feeds l v c out out told told) (sym (append-nil bytes)) (record { after = c; fed = fed; adds = adds_none (stand_text c.stand) out; tells = adds_none c.told told })
 
 pub take_and_drop : (before bs : List ℕ) (i d : ℕ) → i < length bs → (before ++ take i bs) ++ get_or bs i d ∷ drop (suc i) bs ≡ before ++ bs
 take_and_drop before bs i d within =
@@ -273,58 +264,88 @@ one_more before bs i d within = append_assoc before (take i bs) (get_or bs i d �
 
 -- ---- the end
 
+-- what comes of a server whose input has ended
+pub closes : (v w : Serving) (server : Server) (done some_open : Bool) (out written told told' : List ℕ) → Tries (λ s. taken s O.End) done v.server server out written → w.server ≡ server →
+    ((s : Stand) (before out : List ℕ) → StandsAs v.server s before out → some_open ≡ is_some s.current) → told' ≡ told ++ end_told some_open → Closes v w out written told told'
+closes v w server done some_open out written told told' tries is opens reports lines s before before' counts = (
+  subst (λ (x : Server). StandsAs x (finished s) before written) (sym is) (by_taken (taken s O.End) (tries s before counts.stands)),
+  appended before' told told' (told_of lines) _ _ counts.tells (reports ∙ ap (λ (t : Bool). told ++ end_told t) (opens s before out counts.stands)) refl,
+)
+  where
+    by_taken : (x : Option Stand) → MatchOption x ((done ≡ false) × StandsAs server s before written) (λ t. (done ≡ true) × StandsAs server t before written) → StandsAs server (unwrap_or x s) before written
+    by_taken None so = so.1
+    by_taken (Some t) so = so.1
+
 -- no last line
-pub ends_none : (v : Serving) (c : Course) (line out told : List ℕ) → Holds v c → v.line.items ≡ seen line → v.line.items ≡ [] → Leads (Ends line c) v c out out told told
-ends_none v c line out told holds kept empty = record {
-  after = c;
-  is = inl (seen_none line (sym kept ∙ empty), refl);
-  holds = holds;
-  adds = adds_none (stand_text c.stand) out;
-  tells = adds_none c.told told;
+pub ends_none : (bytes before before' : List ℕ) (v : Serving) (out told : List ℕ) → IsFed bytes v before out before' told → v.line.items ≡ [] → IsEnd bytes v before out before' told
+ends_none bytes before before' v out told fed empty = record {
+  lines = fed.lines;
+  stand = fed.stand;
+  parts = fed.parts ∙ (ap (λ (l : List ℕ). bytes_of fed.lines ++ l) (seen_none fed.last (sym fed.kept ∙ empty)) ∙ append-nil (bytes_of fed.lines));
+  counts = fed.counts;
 }
 
-pub some_seen : (line looked : List ℕ) → looked ≡ seen line → looked ≢ [] → line ≢ []
+-- a last line
+pub ends_some : (bytes before before' : List ℕ) (v w : Serving) (out written told told' : List ℕ) → IsFed bytes v before out before' told → Serves false v w out written told told' → IsEnd bytes w before written before' told'
+ends_some bytes before before' v w out written told told' fed serves =
+    let one = serves fed.last fed.lines fed.stand before before' (at_line bytes before out before' told v fed) in
+    record {
+      lines = sent fed.last false one.0 ∷ fed.lines;
+      stand = one.1;
+      parts = fed.parts ∙ ap (λ (l : List ℕ). bytes_of fed.lines ++ l) (sym (append-nil fed.last));
+      counts = one.2;
+    }
+
+some_seen : (line looked : List ℕ) → looked ≡ seen line → looked ≢ [] → line ≢ []
 some_seen line looked same some = λ none. some (same ∙ (ap seen none ∙ take_none LINE_BYTES))
 
-pub ends_some : (w : Serving) (c : Course) (line out written told told' : List ℕ) → line ≢ [] → Leads (RefusesLast line c) w c out written told told' → Leads (Ends line c) w c out written told told'
-ends_some w c line out written told told' some leads = record { after = leads.after; is = inr (some, leads.is); holds = leads.holds; adds = leads.adds; tells = leads.tells }
+why_last : (f : ServeFault) (line : List ℕ) (lines : List Sent) (s : Stand) (input : Option (List ℕ)) → IsAtEnd input → AllEnded lines → NoLf line → line ≢ [] → IsBadLine f false line lines s → IsWhy f lines s line input
+why_last (F.Line n) line lines s input end all plain some bad = (bad.0, bad.1, (line, [], plain, inr (refl, some, end)))
+why_last F.TooLong line lines s input end all plain some bad = omega (arith, bad, long_lines lines all, length-append (bytes_of lines) line)
+why_last F.Read line lines s input end all plain some bad = absurd bad
+why_last F.Write line lines s input end all plain some bad = absurd bad
+why_last F.NoMemory line lines s input end all plain some bad = tt
 
-pub finishes : (bytes : List ℕ) (v w x : Serving) (c : Course) (a b d t u r : List ℕ) → (fed : IsFed bytes v c) → (leads : Leads (Ends fed.last c) w c a b t u) → IsOver x leads.after b d u r → Finishes bytes x c a d t r
-finishes bytes v w x c a b d t u r fed leads over = record {
+pub stops_last : (bytes before before' : List ℕ) (v : Serving) (out written told told' : List ℕ) (input : Option (List ℕ)) (f : ServeFault) → IsAtEnd input → IsFed bytes v before out before' told → v.line.items ≢ [] → Fails false v out told f → written ≡ out → told' ≡ told →
+    Stops bytes input before written before' told' f
+stops_last bytes before before' v out written told told' input f end fed some fails same same_told = record {
   lines = fed.lines;
-  last = fed.last;
+  stand = fed.stand;
+  rest = fed.last;
   parts = fed.parts;
-  last_is = fed.last_is;
-  served = fed.served;
-  ended = leads.after;
-  ends = leads.is;
-  stands = over.stands;
-  refused = over.refused;
-  adds = adds_more _ _ _ a b d leads.adds over.adds;
-  tells = adds_more _ _ _ t u r leads.tells over.tells;
+  served = fed.counts.served;
+  last = inl fed.all;
+  why = why_last f fed.last fed.lines fed.stand input end fed.all fed.last_is (some_seen fed.last v.line.items fed.kept some) (fails fed.last fed.lines fed.stand before before' (at_line bytes before out before' told v fed));
+  text = ap (λ (l : List ℕ). before ++ l) same ∙ fed.counts.stands.text;
+  tells = ap (λ (l : List ℕ). before' ++ l) same_told ∙ fed.counts.tells;
 }
 
-why_last : (bytes : List ℕ) (v : Serving) (c : Course) (f : ServeFault) → (fed : IsFed bytes v c) → IsBadLast fed.last c f → IsWhy f fed.last c
-why_last bytes v c (F.Line n) fed bad = (bad.0, bad.1, (fed.last, fed.last_is, inl (refl, bad.2)))
-why_last bytes v c F.TooLong fed bad = tt
-why_last bytes v c F.Read fed bad = tt
-why_last bytes v c F.Write fed bad = absurd bad
-why_last bytes v c F.NoMemory fed bad = tt
+-- the test case that is open is closed
+pub finishes : (bytes before before' : List ℕ) (v w : Serving) (out written told told' : List ℕ) (r : Served) → IsEnd bytes v before out before' told → Closes v w out written told told' → w.refused ≡ v.refused →
+    ((s : Stand) (before out : List ℕ) → StandsAs w.server s before out → r.worst ≡ worst_of s) → r.refused ≡ w.refused → Finishes bytes before written before' told' r
+finishes bytes before before' v w out written told told' r at_end closes same worst refuses =
+    let so = closes at_end.lines at_end.stand before before' at_end.counts in
+    record {
+      lines = at_end.lines;
+      stand = at_end.stand;
+      parts = at_end.parts;
+      served = at_end.counts.served;
+      text = so.0.text;
+      tells = so.1;
+      worst_is = worst (finished at_end.stand) before written so.0;
+      refused_is = refuses ∙ (same ∙ at_end.counts.refused);
+    }
 
-pub stops_last : (bytes : List ℕ) (v : Serving) (c : Course) (f : ServeFault) → (fed : IsFed bytes v c) → IsBadLast fed.last c f → StopsAtEnd bytes c f
-stops_last bytes v c f fed bad = record { lines = fed.lines; rest = fed.last; parts = fed.parts; served = fed.served; why = why_last bytes v c f fed bad }
-
-pub stops_close : (bytes : List ℕ) (v : Serving) (c : Course) → IsFed bytes v c → StopsAtEnd bytes c F.NoMemory
-stops_close bytes v c fed = record { lines = fed.lines; rest = fed.last; parts = fed.parts; served = fed.served; why = tt }
-
-pub stops_finish : (bytes : List ℕ) (c : Course) (out written told told' : List ℕ) (f : ServeFault) → StopsAtEnd bytes c f → written ≡ out → told' ≡ told → Stops bytes c out written told told' f
-stops_finish bytes c out written told told' f at_end same same_told = record {
+-- memory runs out as it is closed
+pub stops_close : (bytes before before' : List ℕ) (v : Serving) (out written told told' : List ℕ) (input : Option (List ℕ)) → IsAtEnd input → IsEnd bytes v before out before' told → written ≡ out → told' ≡ told → Stops bytes input before written before' told' F.NoMemory
+stops_close bytes before before' v out written told told' input end at_end same same_told = record {
   lines = at_end.lines;
-  rest = at_end.rest;
-  parts = at_end.parts;
-  after = c;
-  served = at_end.served;
-  adds = adds_same (stand_text c.stand) out written same;
-  tells = adds_same c.told told told' same_told;
-  why = at_end.why;
+  stand = at_end.stand;
+  rest = [];
+  parts = at_end.parts ∙ sym (append-nil (bytes_of at_end.lines));
+  served = at_end.counts.served;
+  last = inr (refl, end);
+  why = tt;
+  text = ap (λ (l : List ℕ). before ++ l) same ∙ at_end.counts.stands.text;
+  tells = ap (λ (l : List ℕ). before' ++ l) same_told ∙ at_end.counts.tells;
 }

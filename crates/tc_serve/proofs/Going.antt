@@ -1,36 +1,32 @@
--- A test case that continues, and the text that grows by what is appended.
-use Rattle.std.proofs.Common.{◌≡◌, ◌∙◌, ◌+◌, [], ◌∷◌, ◌++◌, ℕ, List, reverse, ap, append_assoc, add-one}
+-- How the text grows.
+use Rattle.std.proofs.Common.{◌≡◌, ◌∙◌, ◌+◌, None, Some, [], ◌∷◌, ◌++◌, ℕ, List, reverse, ap, sym, append_assoc, add-one}
 use Rattle.std.specs.List.{flat_map}
 use Rattle.std.proofs.lemmas.List.{append-nil, reverse-append}
 use Rattle.std.proofs.lemmas.List.Concat.{flat_map-append}
+use Rattle.tc_history.specs.Block.{end_text}
+use Rattle.tc_table.specs.Local.{overall}
 use Rattle.tc_evidence.specs.declared.line.Line.{Line}
-use Rattle.tc_evidence.specs.Block.{ended}
+use Rattle.tc_evidence.specs.Block.{ended, header_text}
 use Rattle.tc_evidence.specs.Line.{line_text}
-use Rattle.tc_serve.specs.declared.open_case.OpenCase.{OpenCase}
-use Rattle.tc_serve.specs.Inside.{GoesOn}
-use Rattle.tc_serve.specs.Step.{Adds}
-use Rattle.tc_serve.specs.Played.{Played, woken, woken_once}
-use Rattle.tc_serve.specs.Stand.{lines_text}
-
-pub adds_more : (a b c x y z : List ℕ) → Adds a b x y → Adds b c y z → Adds a c x z
-adds_more a b c x y z first second = record {
-  text = first.text ++ second.text;
-  grows = second.grows ∙ (ap (λ l. l ++ second.text) first.grows ∙ append_assoc a first.text second.text);
-  appends = second.appends ∙ (ap (λ l. l ++ second.text) first.appends ∙ append_assoc x first.text second.text);
-}
-
-pub goes_more : (o o' : OpenCase) (p q r : Played) (x y z : List ℕ) → GoesOn o p q x y → GoesOn o' q r y z → GoesOn o' p r x z
-goes_more o o' p q r x y z first second = record { kept = second.kept; adds = adds_more _ _ _ x y z first.adds second.adds }
+use Rattle.tc_serve.specs.Protocol.{Played, Stand, past_of, with_line, woken}
+use Rattle.tc_serve.specs.Text.{block, header_of, opening, stand_text}
+use Rattle.tc_serve.specs.Inside.{woken_once}
 
 -- one more run is woken, if it can continue
 pub woken_next : (n : ℕ) (lines : List Line) (k : ℕ) → woken n lines (k + 1) ≡ woken_once n (woken n lines k) k
 woken_next n lines k = ap (λ i. woken n lines i) (add-one k)
 
-pub wakes_one : (o o' : OpenCase) (p : Played) (lines : List Line) (k : ℕ) (x y z : List ℕ) → GoesOn o p (record p { lines = woken p.behaviours lines k }) x y →
-    GoesOn o' (record p { lines = woken p.behaviours lines k }) (record p { lines = woken_once p.behaviours (woken p.behaviours lines k) k }) y z →
-    GoesOn o' p (record p { lines = woken p.behaviours lines (k + 1) }) x z
-wakes_one o o' p lines k x y z first second =
-    rw woken_next (goes_more o o' p _ _ x y z first second)
+-- what is appended to a text that grows
+pub appended : (before out written text more grown : List ℕ) → before ++ out ≡ text → written ≡ out ++ more → grown ≡ text ++ more → before ++ written ≡ grown
+appended before out written text more grown is appends grows =
+    ap (λ (l : List ℕ). before ++ l) appends ∙ (sym (append_assoc before out more) ∙ (ap (λ (l : List ℕ). l ++ more) is ∙ sym grows))
+
+-- nothing is
+pub nothing : (before out text : List ℕ) → before ++ out ≡ text → before ++ out ≡ text ++ []
+nothing before out text is = is ∙ sym (append-nil text)
+
+abbrev pub lines_text : List Line → List ℕ
+lines_text lines = flat_map (λ l. ended (line_text l)) (reverse lines)
 
 -- the text of one more line
 pub line_more : (l : Line) (lines : List Line) → lines_text (l ∷ lines) ≡ lines_text lines ++ ended (line_text l)
@@ -38,5 +34,31 @@ line_more l lines =
     ap (flat_map (λ x. ended (line_text x))) (reverse-append (l ∷ []) lines)
     ∙ (flat_map-append (λ x. ended (line_text x)) (reverse lines) (l ∷ []) ∙ ap (λ (x : List ℕ). lines_text lines ++ x) (append-nil (ended (line_text l))))
 
-pub adds_line : (l : Line) (lines : List Line) (out written : List ℕ) → written ≡ out ++ ended (line_text l) → Adds (lines_text lines) (lines_text (l ∷ lines)) out written
-adds_line l lines out written appends = record { text = ended (line_text l); grows = line_more l lines; appends = appends }
+abbrev pub closed_text : List Played → List ℕ
+closed_text ps = flat_map block (reverse ps)
+
+abbrev pub open_stand : List Played → Played → Stand
+open_stand closed p = record { closed = closed; current = Some p }
+
+-- what the lines of the open test case grow by the whole text does
+pub grows : (closed : List Played) (p : Played) (ls : List Line) (text : List ℕ) → lines_text ls ≡ lines_text p.lines ++ text → stand_text (open_stand closed (record p { lines = ls })) ≡ stand_text (open_stand closed p) ++ text
+grows closed p ls text more =
+    let head = ended (header_text (header_of p)) in
+    ap (λ (l : List ℕ). closed_text closed ++ (head ++ l)) more
+    ∙ (ap (λ (l : List ℕ). closed_text closed ++ l) (sym (append_assoc head (lines_text p.lines) text)) ∙ sym (append_assoc (closed_text closed) (opening p) text))
+
+pub one_block : (ps : List Played) (p : Played) → closed_text (p ∷ ps) ≡ closed_text ps ++ block p
+one_block ps p =
+    ap (flat_map block) (reverse-append (p ∷ []) ps)
+    ∙ (flat_map-append block (reverse ps) (p ∷ []) ∙ ap (λ (l : List ℕ). closed_text ps ++ l) (append-nil (block p)))
+
+-- the open test case is closed
+pub ends : (closed : List Played) (p : Played) → stand_text (record { closed = p ∷ closed; current = None }) ≡ stand_text (open_stand closed p) ++ ended (end_text (overall (past_of p)))
+ends closed p = append-nil (closed_text (p ∷ closed)) ∙ (one_block closed p ∙ sym (append_assoc (closed_text closed) (opening p) (ended (end_text (overall (past_of p))))))
+
+-- a test case is opened
+pub begins : (closed : List Played) (p : Played) → lines_text p.lines ≡ [] → stand_text (open_stand closed p) ≡ stand_text (record { closed = closed; current = None }) ++ ended (header_text (header_of p))
+begins closed p none =
+    let head = ended (header_text (header_of p)) in
+    ap (λ (l : List ℕ). closed_text closed ++ (head ++ l)) none
+    ∙ (ap (λ (l : List ℕ). closed_text closed ++ l) (append-nil head) ∙ ap (λ (l : List ℕ). l ++ head) (sym (append-nil (closed_text closed))))

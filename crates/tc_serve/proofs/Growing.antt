@@ -1,6 +1,5 @@
 -- A line adds to the text, and changes none of it.
-use Rattle.std.proofs.Common.{ℕ, ◌≡◌, ◌∙◌, inl, inr, if◌then◌else◌, zero, suc, Bool, true, false, Option, Some, None, List, [], ◌∷◌, ◌++◌, reverse, ap, sym, subst, append_assoc}
-use Rattle.std.specs.List.{flat_map}
+use Rattle.std.proofs.Common.{ℕ, ◌≡◌, ◌∙◌, inl, inr, if◌then◌else◌, zero, suc, Bool, true, false, Option, Some, None, List, [], ◌∷◌, ◌++◌, refl, ap, sym, subst, append_assoc}
 use Rattle.std.proofs.lemmas.List.{append-nil}
 use Rattle.tc_table.specs.declared.awaited.Awaited.{Awaited}
 use Rattle.tc_table.specs.Local.{overall}
@@ -8,14 +7,15 @@ use Rattle.tc_table.specs.Waiting.{waiting}
 use Rattle.tc_history.specs.Block.{end_text}
 use Rattle.tc_evidence.specs.declared.line.Line.{Line}
 use Rattle.tc_evidence.specs.declared.line.Line.TheVariants as L
-use Rattle.tc_evidence.specs.Block.{ended}
+use Rattle.tc_evidence.specs.Block.{ended, header_text}
 use Rattle.tc_evidence.specs.Line.{entries_of, line_text}
+use Rattle.tc_serve.specs.declared.order.Order.{Order}
+use Rattle.tc_serve.specs.Protocol.{Played, Stand, called, is_parked, past_of, wake_op, with_current, woken, woken_from}
+use Rattle.tc_serve.specs.Text.{header_of, stand_text}
+use Rattle.tc_serve.specs.Inside.{after_call}
 use Rattle.tc_serve.specs.Laws.{TextGrows}
-use Rattle.tc_serve.specs.Played.{Played, called, is_parked, past_of, wake_op, woken, woken_from}
-use Rattle.tc_serve.specs.Stand.{Stand, block, lines_text, open_text, opening, stand_text, with_current}
-use Rattle.tc_serve.proofs.Changes.{Changes, changes}
-use Rattle.tc_serve.proofs.Going.{line_more}
-use Rattle.tc_serve.proofs.Trying.{grows, one_block}
+use Rattle.tc_serve.proofs.Changes.{Changed, changes, new}
+use Rattle.tc_serve.proofs.Going.{begins, ends, grows, line_more, lines_text}
 
 -- one text begins with the other
 abbrev Grows : List ℕ → List ℕ → Type 0
@@ -42,35 +42,31 @@ wakes : (n : ℕ) (lines : List Line) (k : ℕ) → Grows (lines_text lines) (li
 wakes n lines zero = grows_not (lines_text lines)
 wakes n lines (suc k) = grows_on _ _ _ (wakes n lines k) (one_wake n (woken n lines k) k (waiting (entries_of (woken n lines k)) k))
 
--- the open test case has other lines
+-- the text by the test case that is open
+open_is : (s : Stand) (c : Option Played) → s.current ≡ c → stand_text (record { closed = s.closed; current = c }) ≡ stand_text s
+open_is s c is = ap (λ (x : Option Played). stand_text (record { closed = s.closed; current = x })) (sym is)
+
+-- it has other lines
 with_lines : (s : Stand) (p : Played) (ls : List Line) → s.current ≡ Some p → Grows (lines_text p.lines) (lines_text ls) → Grows (stand_text s) (stand_text (with_current s (record p { lines = ls })))
-with_lines s p ls some more = (more.0, grows s p ls more.0 some more.1)
+with_lines s p ls some more = (more.0, grows s.closed p ls more.0 more.1 ∙ ap (λ (l : List ℕ). l ++ more.0) (open_is s (Some p) some))
 
-open_is : (s : Stand) (c : Option Played) → s.current ≡ c → flat_map block (reverse s.closed) ++ open_text c ≡ stand_text s
-open_is s c is = ap (λ (x : Option Played). flat_map block (reverse s.closed) ++ open_text x) (sym is)
-
-grown : (s t : Stand) → Changes s t → Grows (stand_text s) (stand_text t)
-grown s t (inl opens) =
-    let others = flat_map block (reverse s.closed) in
-    let head = opening (record { name = opens.name; behaviours = opens.behaviours; lines = [] }) in
-    subst (λ (x : Stand). Grows (stand_text s) (stand_text x)) opens.is
-    (head, ap (λ (l : List ℕ). l ++ head) (sym (append-nil others) ∙ open_is s None opens.none))
-grown s t (inr (inl adds)) =
+grown : (asks : List Order) (s t : Stand) → Changed asks s t → Grows (stand_text s) (stand_text t)
+grown asks s t (inl opens) =
+    let p = new opens.name opens.behaviours in
+    let head = ended (header_text (header_of p)) in
+    subst (λ (x : Stand). Grows (stand_text s) (stand_text x)) opens.is (head, begins s.closed p refl ∙ ap (λ (l : List ℕ). l ++ head) (open_is s None opens.none))
+grown asks s t (inr (inl adds)) =
     subst (λ (x : Stand). Grows (stand_text s) (stand_text x)) adds.is (with_lines s adds.case (adds.line ∷ adds.case.lines) adds.some (one_line adds.line adds.case.lines))
-grown s t (inr (inr (inl moves))) =
+grown asks s t (inr (inr (inl moves))) =
     let p = moves.case in
     let call = L.Entry (called p.behaviours p.lines moves.caller moves.op) in
     subst (λ (x : Stand). Grows (stand_text s) (stand_text x)) moves.is
     (with_lines s p (woken p.behaviours (call ∷ p.lines) p.behaviours) moves.some (grows_on _ _ _ (one_line call p.lines) (wakes p.behaviours (call ∷ p.lines) p.behaviours)))
-grown s t (inr (inr (inr closes))) =
+grown asks s t (inr (inr (inr (inl closes)))) =
     let p = closes.case in
-    let others = flat_map block (reverse s.closed) in
     let text = ended (end_text (overall (past_of p))) in
-    subst (λ (x : Stand). Grows (stand_text s) (stand_text x)) closes.is (
-      text,
-      append-nil (flat_map block (reverse (p ∷ s.closed)))
-          ∙ (one_block s.closed p ∙ (sym (append_assoc others (opening p) text) ∙ ap (λ (l : List ℕ). l ++ text) (open_is s (Some p) closes.some))),
-    )
+    subst (λ (x : Stand). Grows (stand_text s) (stand_text x)) closes.is (text, ends s.closed p ∙ ap (λ (l : List ℕ). l ++ text) (open_is s (Some p) closes.some))
+grown asks s t (inr (inr (inr (inr same)))) = subst (λ (x : Stand). Grows (stand_text s) (stand_text x)) same.1 (grows_not (stand_text s))
 
 pub text_grows : TextGrows
-text_grows s t by = grown s t (changes s t by)
+text_grows c line_ended line s t came = grown _ s t (changes c line_ended line s t came)

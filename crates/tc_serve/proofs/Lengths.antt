@@ -84,4 +84,4 @@ order_short (O.Remark run sentence) fits =
 order_short O.End fits = omega arith
 
 pub long_lines_are_refused : LongLinesAreRefused
-long_lines_are_refused line s long o fits e = absurd (omega (arith, order_short o fits, ap length e, length-take-le LINE_BYTES line long))
+long_lines_are_refused line s long o asks = absurd (omega (arith, order_short o asks.1, ap length asks.2, length-take-le LINE_BYTES line long))

@@ -10,7 +10,7 @@ use Rattle.tc_text.specs.Spelling.{move_text, op_text, IsOp}
 use Rattle.tc_evidence.specs.Line.{said_text}
 use Rattle.tc_evidence.specs.Sentence.{IsSentence}
 use Rattle.tc_evidence.proofs.Notes.{entry_not_said, said_not_naming}
-use Rattle.tc_serve.specs.Order.{order_text, IsOrder}
+use Rattle.tc_serve.specs.Order.{IsOrder, order_text}
 use Rattle.tc_serve.specs.Inside.{IsNoRemark}
 use Rattle.tc_serve.specs.declared.order.Order.{Order}
 use Rattle.tc_serve.specs.declared.order.Order.TheVariants as O

@@ -1,5 +1,5 @@
 -- No run that can continue is left asleep: one pass over the runs, in the order of their numbers, wakes all that can.
-use Rattle.std.proofs.Common.{ℕ, ◌≡◌, ◌≢◌, ◌<◌, ◌==◌, ◌&&◌, ◌||◌, ◌⊎◌, inl, inr, not, if◌then◌else◌, zero, suc, Bool, true, false, Option, Some, None, MatchOption, List, [], ◌∷◌, ◌++◌, drop, refl, ap, sym, subst, ◌∙◌, arith}
+use Rattle.std.proofs.Common.{ℕ, ◌≡◌, ◌≢◌, ◌<◌, ◌==◌, ◌&&◌, ◌||◌, ◌⊎◌, inl, inr, not, if◌then◌else◌, zero, suc, Bool, true, false, Option, Some, None, List, [], ◌∷◌, ◌++◌, drop, refl, ap, sym, subst, ◌∙◌, arith}
 use Rattle.std.specs.List.{list_any, list_all}
 use Rattle.std.proofs.lemmas.Bool.Decides.{nat_tests}
 use Rattle.tc_verdict.specs.declared.run.Run.{Run}
@@ -29,11 +29,12 @@ use Rattle.tc_table.proofs.Lemmas.Quiet.{quiet_wakes_nobody}
 use Rattle.tc_table.proofs.Lemmas.Sound.{plain_if}
 use Rattle.tc_evidence.specs.declared.line.Line.{Line}
 use Rattle.tc_evidence.specs.Line.{entries_of, entry_of}
-use Rattle.tc_serve.specs.Laws.{IsSettled, IsSound, NobodySleepsOn, StandIsSound}
-use Rattle.tc_serve.specs.Played.{Played, after_call, may_ask, moved, past_of, wake_op, with_line, woken, woken_from}
-use Rattle.tc_serve.specs.Stand.{Stand}
-use Rattle.tc_serve.proofs.Changes.{Changes, changes}
-use Rattle.tc_serve.proofs.Sound.{Sound, all_woken, called_sound}
+use Rattle.tc_serve.specs.Protocol.{Played, may_ask, moved, past_of, wake_op, with_line, woken, woken_from}
+use Rattle.tc_serve.specs.Inside.{after_call}
+use Rattle.tc_serve.specs.Laws.{AllServed, EachOf, IsSettled, IsSound}
+use Rattle.tc_serve.proofs.Calling.{no_entry}
+use Rattle.tc_serve.proofs.Changes.{all_served}
+use Rattle.tc_serve.proofs.Sound.{Sound, all_woken, called_sound, move_sound, note_sound}
 
 -- ---- a wake that is replied Ended changes nothing for the others
 
@@ -302,16 +303,14 @@ noted p l none so =
     let same : past_of p ≡ past_of (with_line p l) = sym (ap (λ (es : List Entry). es ++ past_of p) none) in
     subst (λ (es : List Entry). (b : ℕ) (a : Awaited) → b < p.behaviours → waiting es b ≡ Some a → answer p.behaviours es b (wake_op a) ≡ R.Parked) same so
 
-of_current : (s : Stand) (p : Played) (P : Played → Type 0) → s.current ≡ Some p → MatchOption s.current (Unit {0}) P → P p
-of_current s p P some so = subst (λ (c : Option Played). MatchOption c (Unit {0}) P) some so
+both : AllServed (λ p. IsSound p × IsSettled p)
+both = all_served (λ p. IsSound p × IsSettled p) (λ name n name_is few. (record { legal = tt; wakes = tt }, λ b a less waits. never_some a (answer n [] b (wake_op a) ≡ R.Parked) waits))
+    (λ p l may note so. (note_sound p l may so.0, noted p l (no_entry p l may) so.1))
+    (λ p caller op may low fits so. (move_sound p caller op may so.0, made p caller op may so.0))
 
-next_settled : (s t : Stand) → StandIsSound s → MatchOption s.current (Unit {0}) IsSettled → Changes s t → MatchOption t.current (Unit {0}) IsSettled
-next_settled s t sound so (inl opens) = subst (λ (x : Stand). MatchOption x.current (Unit {0}) IsSettled) opens.is (λ b a less waits. never_some a (answer opens.behaviours [] b (wake_op a) ≡ R.Parked) waits)
-next_settled s t sound so (inr (inl adds)) =
-    subst (λ (x : Stand). MatchOption x.current (Unit {0}) IsSettled) adds.is (noted adds.case adds.line adds.note (of_current s adds.case IsSettled adds.some so))
-next_settled s t sound so (inr (inr (inl moves))) =
-    subst (λ (x : Stand). MatchOption x.current (Unit {0}) IsSettled) moves.is (made moves.case moves.caller moves.op moves.may (of_current s moves.case IsSound moves.some sound.current))
-next_settled s t sound so (inr (inr (inr closes))) = subst (λ (x : Stand). MatchOption x.current (Unit {0}) IsSettled) closes.is tt
+second : (ps : List Played) → EachOf (λ p. IsSound p × IsSettled p) ps → EachOf IsSettled ps
+second [] so = tt
+second (p ∷ ps) so = (so.0.1, second ps so.1)
 
-pub nobody_sleeps_on : NobodySleepsOn
-nobody_sleeps_on = record { first = tt; next = λ s t sound so by. next_settled s t sound so (changes s t by) }
+pub nobody_sleeps_on : AllServed IsSettled
+nobody_sleeps_on = λ lines s served. second _ (both lines s served)

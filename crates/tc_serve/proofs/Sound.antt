@@ -1,5 +1,5 @@
 -- All that is served is legal, and nobody is woken for nothing.
-use Rattle.std.proofs.Common.{ℕ, ◌≡◌, ◌&&◌, inl, inr, not, if◌then◌else◌, zero, suc, Bool, true, false, Option, Some, None, List, [], ◌∷◌, ◌++◌, MatchOption, refl, ap, sym, subst}
+use Rattle.std.proofs.Common.{ℕ, ◌≡◌, ◌&&◌, not, if◌then◌else◌, zero, suc, Bool, true, false, Option, Some, None, List, [], ◌∷◌, ◌++◌, refl, ap, sym, subst}
 use Rattle.tc_verdict.specs.declared.run.Run.{Run}
 use Rattle.tc_entry.specs.declared.entry.Entry.{Entry}
 use Rattle.tc_entry.specs.declared.op.Op.{Op}
@@ -9,10 +9,11 @@ use Rattle.tc_table.specs.Waiting.{waiting}
 use Rattle.tc_evidence.specs.declared.line.Line.{Line}
 use Rattle.tc_evidence.specs.declared.line.Line.TheVariants as L
 use Rattle.tc_evidence.specs.Line.{entries_of, entry_of}
-use Rattle.tc_serve.specs.Laws.{IsSound, NoIdleWake, ServedIsSound, StandIsSound}
-use Rattle.tc_serve.specs.Played.{Played, after_call, called, is_parked, is_wake, may_ask, moved, wake_op, woken, woken_from}
-use Rattle.tc_serve.specs.Stand.{Stand}
-use Rattle.tc_serve.proofs.Changes.{Changes, changes}
+use Rattle.tc_serve.specs.Protocol.{Played, called, is_parked, is_wake, may_add, may_ask, moved, wake_op, with_line, woken, woken_from}
+use Rattle.tc_serve.specs.Inside.{after_call}
+use Rattle.tc_serve.specs.Laws.{AllServed, IsSound, NoIdleWake}
+use Rattle.tc_serve.proofs.Calling.{no_entry}
+use Rattle.tc_serve.proofs.Changes.{all_served}
 
 -- the entries among the lines are legal, and no wake is replied parked
 pub record Sound (n : ℕ) (lines : List Line) : Type 0 where
@@ -38,28 +39,22 @@ no_wake false b may wake = absurd cc
 pub called_sound : (p : Played) (caller : Run) (op : Op) → may_ask p caller op ≡ true → Sound p.behaviours p.lines → Sound p.behaviours (after_call p caller op)
 called_sound p caller op may so = record { legal = (refl, so.legal); wakes = (λ wake. absurd (no_wake (is_wake op) _ may wake), so.wakes) }
 
-made : (p : Played) (caller : Run) (op : Op) → may_ask p caller op ≡ true → Sound p.behaviours p.lines → Sound p.behaviours (moved p caller op).lines
-made p caller op may so = all_woken p.behaviours (after_call p caller op) p.behaviours (called_sound p caller op may so)
+made_sound : (p : Played) (caller : Run) (op : Op) → may_ask p caller op ≡ true → Sound p.behaviours p.lines → Sound p.behaviours (moved p caller op).lines
+made_sound p caller op may so = all_woken p.behaviours (after_call p caller op) p.behaviours (called_sound p caller op may so)
 
 noted : (n : ℕ) (lines : List Line) (l : Line) → entry_of l ≡ [] → Sound n lines → Sound n (l ∷ lines)
 noted n lines l none so =
     let same : entries_of lines ≡ entries_of (l ∷ lines) = sym (ap (λ (es : List Entry). es ++ entries_of lines) none) in
     record { legal = subst (IsLegal n) same so.legal; wakes = subst NoIdleWake same so.wakes }
 
-current : (s : Stand) (p : Played) → s.current ≡ Some p → StandIsSound s → IsSound p
-current s p some so = subst (λ (c : Option Played). MatchOption c (Unit {0}) IsSound) some so.current
+sound : (p : Played) → IsSound p → Sound p.behaviours p.lines
+sound p so = record { legal = so.legal; wakes = so.wakes }
 
-next : (s t : Stand) → StandIsSound s → Changes s t → StandIsSound t
-next s t so (inl opens) = subst StandIsSound opens.is (record { closed = so.closed; current = record { legal = tt; wakes = tt } })
-next s t so (inr (inl adds)) =
-    let p = current s adds.case adds.some so in
-    let one = noted adds.case.behaviours adds.case.lines adds.line adds.note (record { legal = p.legal; wakes = p.wakes }) in
-    subst StandIsSound adds.is (record { closed = so.closed; current = record { legal = one.legal; wakes = one.wakes } })
-next s t so (inr (inr (inl moves))) =
-    let p = current s moves.case moves.some so in
-    let one = made moves.case moves.caller moves.op moves.may (record { legal = p.legal; wakes = p.wakes }) in
-    subst StandIsSound moves.is (record { closed = so.closed; current = record { legal = one.legal; wakes = one.wakes } })
-next s t so (inr (inr (inr closes))) = subst StandIsSound closes.is (record { closed = (current s closes.case closes.some so, so.closed); current = tt })
+pub note_sound : (p : Played) (l : Line) → may_add p l ≡ true → IsSound p → IsSound (with_line p l)
+note_sound p l may so = let one = noted p.behaviours p.lines l (no_entry p l may) (sound p so) in record { legal = one.legal; wakes = one.wakes }
 
-pub served_is_sound : ServedIsSound
-served_is_sound = record { first = record { closed = tt; current = tt }; next = λ s t so by. next s t so (changes s t by) }
+pub move_sound : (p : Played) (caller : Run) (op : Op) → may_ask p caller op ≡ true → IsSound p → IsSound (moved p caller op)
+move_sound p caller op may so = let one = made_sound p caller op may (sound p so) in record { legal = one.legal; wakes = one.wakes }
+
+pub served_is_sound : AllServed IsSound
+served_is_sound = all_served IsSound (λ name n name_is few. record { legal = tt; wakes = tt }) (λ p l may note. note_sound p l may) (λ p caller op may low fits. move_sound p caller op may)

@@ -1,19 +1,17 @@
 -- What is read and written, and what goes to standard error, turn by turn.
-use Rattle.std.proofs.Common.{ℕ, ◌≡◌, ◌∙◌, ◌+◌, ◌≤◌, inl, inr, Bool, true, false, Option, Some, None, Result, Ok, Err, IfErr, OnOk, List, [], ◌∷◌, ◌++◌, length, take, zero-add, suc-add, refl, ap, sym, subst, append_assoc, arith}
+use Rattle.std.proofs.Common.{ℕ, ◌≡◌, ◌≢◌, ◌∙◌, ◌+◌, ◌-◌, ◌<◌, ◌≤◌, ◌^◌, ◌⊎◌, inl, inr, if◌then◌else◌, Bool, true, false, MatchOption, Option, Some, None, Result, Ok, Err, IfErr, IfOk, List, [], ◌∷◌, ◌++◌, length, take, zero-add, suc-add, refl, ap, sym, subst, append_assoc, arith}
 use Rattle.std.specs.Io.KnownBytes.{Appends, Consumes, IsAtEnd, Keeps}
 use Rattle.std.proofs.lemmas.Grind.{common_steps}
 use Rattle.std.proofs.lemmas.List.{append-nil, length-append, take_all}
-use Rattle.tc_verdict.specs.declared.verdict.Verdict.{Verdict}
 use Rattle.tc_stream.specs.Output.{AppendsPrefix}
 use Rattle.tc_serve.specs.declared.fault.ServeFault.{ServeFault}
 use Rattle.tc_serve.specs.declared.fault.ServeFault.TheVariants as F
 use Rattle.tc_serve.specs.declared.service.Served.{Served}
 use Rattle.tc_serve.specs.declared.serving.Serving.{Serving}
-use Rattle.tc_serve.specs.Inside.{Feeds, Finishes, Hears, IsAt, IsEnded, IsFed, Stops}
-use Rattle.tc_serve.specs.Serve.{Devices, IsDue, IsServed, IsStopped, IsToldBy, IsWhy, IsWritten, devices}
-use Rattle.tc_serve.specs.Served.{Course, at_first, finished, told_at_end}
-use Rattle.tc_serve.specs.Stand.{Stand, stand_text, worst_of}
-use Rattle.tc_serve.specs.Step.{Adds, StandsAs}
+use Rattle.tc_serve.specs.Protocol.{AllEnded, AreServed, Sent, Stand, finished}
+use Rattle.tc_serve.specs.Text.{bytes_of, stand_text, told_at_end, told_of}
+use Rattle.tc_serve.specs.Serve.{Devices, IsServed, IsStopped, IsTaken, IsWhy, devices}
+use Rattle.tc_serve.specs.Inside.{Finishes, Hears, IsAt, IsFed, Stops}
 
 -- ---- bytes
 
@@ -62,219 +60,200 @@ prefix_longer a b x y p = (p.0, omega (arith, p.1, length-append x y), rw (take_
 prefix_whole : (a b : Option (List ℕ)) (x : List ℕ) → Appends a b x → AppendsPrefix a b x
 prefix_whole a b x p = (length x, omega arith, rw (take_whole x) p)
 
--- ---- texts that grow are written and told
+-- ---- reports
 
-grown : (x y out : List ℕ) → Adds x y [] out → x ++ out ≡ y
-grown x y out adds = sym (adds.grows ∙ ap (λ (l : List ℕ). x ++ l) (sym adds.appends))
-
-written_more : (a b c : Option (List ℕ)) (x y out : List ℕ) → Appends a b x → Adds x y [] out → Appends b c out → Appends a c y
-written_more a b c x y out p adds q = subst (λ (l : List ℕ). Appends a c l) (grown x y out adds) (appends_join a b c x out p q)
-
-written_part : (a b c : Option (List ℕ)) (x y out : List ℕ) → Appends a b x → Adds x y [] out → AppendsPrefix b c out → AppendsPrefix a c y
-written_part a b c x y out p adds q = subst (λ (l : List ℕ). AppendsPrefix a c l) (grown x y out adds) (prefix_behind a b c x out p q)
-
-told_join : (heard told : Bool) (a b c : Option (List ℕ)) (x y : List ℕ) → IsToldBy heard a b x → Hears heard told b c y → IsToldBy told a c (x ++ y)
+told_join : (heard told : Bool) (a b c : Option (List ℕ)) (x y : List ℕ) → IsTaken heard a b x → Hears heard told b c y → IsTaken told a c (x ++ y)
 told_join true true a b c x y p q = appends_join a b c x y p q
 told_join true false a b c x y p q = prefix_behind a b c x y p q
 told_join false true a b c x y p q = absurd (let e = q.0 in cc)
 told_join false false a b c x y p q = prefix_longer a c x y (subst (λ (o : Option (List ℕ)). AppendsPrefix a o x) (sym q.1) p)
 
-told_more : (heard told : Bool) (a b c : Option (List ℕ)) (x y out : List ℕ) → IsToldBy heard a b x → Adds x y [] out → Hears heard told b c out → IsToldBy told a c y
-told_more heard told a b c x y out p adds q = subst (λ (l : List ℕ). IsToldBy told a c l) (grown x y out adds) (told_join heard told a b c x out p q)
+-- ---- where the service is
 
--- ---- where the service stands
+pub at_start : (from : Devices) (v : Serving) → IsFed [] v [] [] [] [] → IsAt from from true 0 v
+at_start from v fed =
+    record { bytes = []; read = consumes_none from.input; many = omega arith; before = []; before' = []; fed = fed; written = appends_none from.output; told_is = appends_none from.errors }
 
-pub at_start : (from : Devices) (v : Serving) → IsFed [] v at_first → IsAt from from true v
-at_start from v fed = record { bytes = []; read = consumes_none from.input; course = at_first; fed = fed; written = appends_none from.output; told_is = appends_none from.errors }
-
-due_here : (f : ServeFault) (rest : List ℕ) (c : Course) → IsDue f rest c c.stand c.told
-due_here (F.Line n) rest c = (refl, refl)
-due_here F.TooLong rest c = (refl, refl)
-due_here F.Read rest c = (refl, refl)
-due_here F.Write rest c = inl (refl, refl)
-due_here F.NoMemory rest c = (refl, refl)
-
-written_whole : (f : ServeFault) (a b : Option (List ℕ)) (text : List ℕ) → Appends a b text → IsWritten f a b text
-written_whole (F.Line n) a b text p = p
-written_whole F.TooLong a b text p = p
-written_whole F.Read a b text p = p
-written_whole F.Write a b text p = prefix_whole a b text p
-written_whole F.NoMemory a b text p = p
-
--- no more is read
-stopped_at : (from to : Devices) (told : Bool) (v : Serving) (f : ServeFault) (bytes : List ℕ) (c : Course) → (fed : IsFed bytes v c) → Consumes from.input to.input bytes → IsWritten f from.output to.output (stand_text c.stand) →
-    IsToldBy told from.errors to.errors c.told → IsWhy f fed.last c → IsStopped from to told f
-stopped_at from to told v f bytes c fed read written tells why = record {
+-- what was written before, and is appended, is written
+fed_again : (bytes : List ℕ) (v : Serving) (before out before' told : List ℕ) → IsFed bytes v before out before' told → IsFed bytes v (before ++ out) [] (before' ++ told) []
+fed_again bytes v before out before' told fed = record {
   lines = fed.lines;
-  rest = fed.last;
-  read = subst (λ (l : List ℕ). Consumes from.input to.input l) fed.parts read;
-  course = c;
-  served = fed.served;
-  stand = c.stand;
-  told_text = c.told;
-  due = due_here f fed.last c;
-  written = written;
-  told_is = tells;
-  why = why;
+  stand = fed.stand;
+  last = fed.last;
+  parts = fed.parts;
+  all = fed.all;
+  last_is = fed.last_is;
+  kept = fed.kept;
+  counts = record {
+    served = fed.counts.served;
+    stands = record { current = fed.counts.stands.current; worst = fed.counts.stands.worst; text = append-nil (before ++ out) ∙ fed.counts.stands.text };
+    tells = append-nil (before' ++ told) ∙ fed.counts.tells;
+    many = fed.counts.many;
+    refused = fed.counts.refused;
+  };
 }
 
-pub unread : (from : Devices) (left rest output errors : Option (List ℕ)) (told : Bool) (v : Serving) → Keeps left rest → IsAt from (devices left output errors) told v → IsStopped from (devices rest output errors) told F.Read
-unread from left rest output errors told v kept at_ =
-    stopped_at from (devices rest output errors) told v F.Read at_.bytes at_.course at_.fed
-    (subst (λ (l : List ℕ). Consumes from.input rest l) (append-nil at_.bytes) (consumes_join from.input left rest at_.bytes [] at_.read (consumes_kept left rest kept)))
-    at_.written at_.told_is tt
+-- no more is read
+stopped_at : (from to : Devices) (told : Bool) (turns : ℕ) (v : Serving) (f : ServeFault) → (at_ : IsAt from to told turns v) → f ≢ F.Write → IsWhy f at_.fed.lines at_.fed.stand at_.fed.last to.input → IsStopped from to told f
+stopped_at from to told turns v f at_ not_write why =
+    let text = sym (append-nil at_.before) ∙ at_.fed.counts.stands.text in
+    let reports = sym (append-nil at_.before') ∙ at_.fed.counts.tells in
+    record {
+      lines = at_.fed.lines;
+      stand = at_.fed.stand;
+      served = at_.fed.counts.served;
+      rest = at_.fed.last;
+      read = subst (λ (l : List ℕ). Consumes from.input to.input l) at_.fed.parts at_.read;
+      last = inl at_.fed.all;
+      why = why;
+      ended = false;
+      end = λ e. absurd cc;
+      whole = λ other. subst (λ (l : List ℕ). Appends from.output to.output l) text at_.written;
+      part = λ is. absurd (not_write is);
+      told_is = subst (λ (l : List ℕ). IsTaken told from.errors to.errors l) reports at_.told_is;
+    }
 
-pub uncounted : (from to : Devices) (told : Bool) (v : Serving) → IsAt from to told v → IsStopped from to told F.TooLong
-uncounted from to told v at_ = stopped_at from to told v F.TooLong at_.bytes at_.course at_.fed at_.read at_.written at_.told_is tt
+is_read : F.Read ≢ F.Write
+is_read = λ e. cc
 
-module _ (from : Devices) (left rest output output' errors errors' : Option (List ℕ)) (heard told : Bool) (v w : Serving) (chunk out said : List ℕ) (at_ : IsAt from (devices left output errors) heard v) (read : Consumes left rest chunk) (hears : Hears heard told errors errors' said) where
+is_long : F.TooLong ≢ F.Write
+is_long = λ e. cc
+
+pub unread : (from : Devices) (left rest output errors : Option (List ℕ)) (told : Bool) (turns : ℕ) (v : Serving) → Keeps left rest → IsAt from (devices left output errors) told turns v → IsStopped from (devices rest output errors) told F.Read
+unread from left rest output errors told turns v kept at_ =
+    stopped_at from (devices rest output errors) told turns v F.Read (record {
+      bytes = at_.bytes;
+      read = subst (λ (l : List ℕ). Consumes from.input rest l) (append-nil at_.bytes) (consumes_join from.input left rest at_.bytes [] at_.read (consumes_kept left rest kept));
+      many = at_.many;
+      before = at_.before;
+      before' = at_.before';
+      fed = at_.fed;
+      written = at_.written;
+      told_is = at_.told_is;
+    }) is_read at_.fed.last_is
+
+pub uncounted : (from to : Devices) (told : Bool) (turns : ℕ) (v : Serving) → 2 ^ 64 - 1 ≤ turns → IsAt from to told turns v → IsStopped from to told F.TooLong
+uncounted from to told turns v most at_ =
+    stopped_at from to told turns v F.TooLong at_ is_long (subst (λ (l : List ℕ). 2 ^ 64 - 1 ≤ length l) at_.fed.parts (omega (arith, most, at_.many)))
+
+module _ (from : Devices) (left rest output output' errors errors' : Option (List ℕ)) (heard told : Bool) (turns : ℕ) (v w : Serving) (chunk out said : List ℕ) (at_ : IsAt from (devices left output errors) heard turns v) (read : Consumes left rest chunk) (hears : Hears heard told errors errors' said) where
   all_read : Consumes from.input rest (at_.bytes ++ chunk)
   all_read = consumes_join from.input left rest at_.bytes chunk at_.read read
 
-  pub goes_on : ((bytes : List ℕ) (c : Course) → IsFed bytes v c → Feeds (bytes ++ chunk) w c [] out [] said) → Appends output output' out → IsAt from (devices rest output' errors') told w
-  goes_on feeds wrote =
-      let so = feeds at_.bytes at_.course at_.fed in
-      record {
-        bytes = at_.bytes ++ chunk;
-        read = all_read;
-        course = so.after;
-        fed = so.fed;
-        written = written_more from.output output output' _ _ out at_.written so.adds wrote;
-        told_is = told_more heard told from.errors errors errors' _ _ said at_.told_is so.tells hears;
-      }
+  reports : (x : List ℕ) → at_.before' ++ said ≡ x → IsTaken told from.errors errors' x
+  reports x is = subst (λ (l : List ℕ). IsTaken told from.errors errors' l) is (told_join heard told from.errors errors errors' at_.before' said at_.told_is hears)
 
-  pub goes_unwritten : ((bytes : List ℕ) (c : Course) → IsFed bytes v c → Feeds (bytes ++ chunk) w c [] out [] said) → AppendsPrefix output output' out → IsStopped from (devices rest output' errors') told F.Write
-  goes_unwritten feeds wrote =
-      let so = feeds at_.bytes at_.course at_.fed in
-      stopped_at from (devices rest output' errors') told w F.Write (at_.bytes ++ chunk) so.after so.fed all_read
-      (written_part from.output output output' _ _ out at_.written so.adds wrote) (told_more heard told from.errors errors errors' _ _ said at_.told_is so.tells hears) tt
+  written_whole : (x : List ℕ) → at_.before ++ out ≡ x → Appends output output' out → Appends from.output output' x
+  written_whole x is wrote = subst (λ (l : List ℕ). Appends from.output output' l) is (appends_join from.output output output' at_.before out at_.written wrote)
 
-  pub stops_on : (f : ServeFault) → ((bytes : List ℕ) (c : Course) → IsFed bytes v c → Stops (bytes ++ chunk) c [] out [] said f) → Appends output output' out → IsStopped from (devices rest output' errors') told f
-  stops_on f stops wrote =
-      let so = stops at_.bytes at_.course at_.fed in
-      record {
-        lines = so.lines;
-        rest = so.rest;
-        read = subst (λ (l : List ℕ). Consumes from.input rest l) so.parts all_read;
-        course = so.after;
-        served = so.served;
-        stand = so.after.stand;
-        told_text = so.after.told;
-        due = due_here f so.rest so.after;
-        written = written_whole f from.output output' _ (written_more from.output output output' _ _ out at_.written so.adds wrote);
-        told_is = told_more heard told from.errors errors errors' _ _ said at_.told_is so.tells hears;
-        why = so.why;
-      }
+  written_part : (x : List ℕ) → at_.before ++ out ≡ x → AppendsPrefix output output' out → AppendsPrefix from.output output' x
+  written_part x is wrote = subst (λ (l : List ℕ). AppendsPrefix from.output output' l) is (prefix_behind from.output output output' at_.before out at_.written wrote)
 
-  pub stops_unwritten : (f : ServeFault) → ((bytes : List ℕ) (c : Course) → IsFed bytes v c → Stops (bytes ++ chunk) c [] out [] said f) → AppendsPrefix output output' out → IsStopped from (devices rest output' errors') told F.Write
-  stops_unwritten f stops wrote =
-      let so = stops at_.bytes at_.course at_.fed in
-      record {
-        lines = so.lines;
-        rest = so.rest;
-        read = subst (λ (l : List ℕ). Consumes from.input rest l) so.parts all_read;
-        course = so.after;
-        served = so.served;
-        stand = so.after.stand;
-        told_text = so.after.told;
-        due = inl (refl, refl);
-        written = written_part from.output output output' _ _ out at_.written so.adds wrote;
-        told_is = told_more heard told from.errors errors errors' _ _ said at_.told_is so.tells hears;
-        why = tt;
-      }
+  pub goes_on : 0 < length chunk → IsFed (at_.bytes ++ chunk) w at_.before out at_.before' said → Appends output output' out → IsAt from (devices rest output' errors') told (turns + 1) w
+  goes_on some fed wrote = record {
+    bytes = at_.bytes ++ chunk;
+    read = all_read;
+    many = omega (arith, some, at_.many, length-append at_.bytes chunk);
+    before = at_.before ++ out;
+    before' = at_.before' ++ said;
+    fed = fed_again _ w at_.before out at_.before' said fed;
+    written = written_whole _ refl wrote;
+    told_is = reports _ refl;
+  }
 
-module _ (from : Devices) (left output output' errors errors' : Option (List ℕ)) (heard told : Bool) (v w : Serving) (out said : List ℕ) (at_ : IsAt from (devices left output errors) heard v) (hears : Hears heard told errors errors' said) where
-  pub ends_served : IsAtEnd left → ((bytes : List ℕ) (c : Course) → IsFed bytes v c → Finishes bytes w c [] out [] said) → Appends output output' out → IsEnded from (devices left output' errors') told w
-  ends_served end finish wrote =
-      let so = finish at_.bytes at_.course at_.fed in
-      record {
-        lines = so.lines;
-        last = so.last;
-        last_is = so.last_is;
-        read = subst (λ (l : List ℕ). Consumes from.input left l) so.parts at_.read;
-        end = end;
-        course = at_.course;
-        served = so.served;
-        ended = so.ended;
-        ends = so.ends;
-        stands = so.stands;
-        refused = so.refused;
-        written = written_more from.output output output' _ _ out at_.written so.adds wrote;
-        told_is = told_more heard told from.errors errors errors' _ _ said at_.told_is so.tells hears;
-      }
+  pub ends : IsAtEnd rest → (r : Served) → chunk ≡ [] → Finishes at_.bytes at_.before out at_.before' said r → Appends output output' out → IsServed from (devices rest output' errors') told r
+  ends end r none so wrote = record {
+    lines = so.lines;
+    stand = so.stand;
+    served = so.served;
+    read = subst (λ (l : List ℕ). Consumes from.input rest l) ((ap (λ (l : List ℕ). at_.bytes ++ l) none ∙ append-nil at_.bytes) ∙ so.parts) all_read;
+    end = end;
+    written = written_whole _ so.text wrote;
+    told_is = reports _ so.tells;
+    worst_is = so.worst_is;
+    refused_is = so.refused_is;
+  }
 
-  pub ends_unwritten : ((bytes : List ℕ) (c : Course) → IsFed bytes v c → Finishes bytes w c [] out [] said) → AppendsPrefix output output' out → IsStopped from (devices left output' errors') told F.Write
-  ends_unwritten finish wrote =
-      let so = finish at_.bytes at_.course at_.fed in
-      record {
-        lines = so.lines;
-        rest = so.last;
-        read = subst (λ (l : List ℕ). Consumes from.input left l) so.parts at_.read;
-        course = at_.course;
-        served = so.served;
-        stand = finished so.ended.stand;
-        told_text = told_at_end so.ended;
-        due = inr (record { last_is = so.last_is; ended = so.ended; ends = so.ends; stand_is = refl; told_is = refl });
-        written = written_part from.output output output' _ _ out at_.written so.adds wrote;
-        told_is = told_more heard told from.errors errors errors' _ _ said at_.told_is so.tells hears;
-        why = tt;
-      }
+  pub stops_on : (f : ServeFault) → Stops (at_.bytes ++ chunk) rest at_.before out at_.before' said f → Appends output output' out → IsStopped from (devices rest output' errors') told f
+  stops_on f so wrote = record {
+    lines = so.lines;
+    stand = so.stand;
+    served = so.served;
+    rest = so.rest;
+    read = subst (λ (l : List ℕ). Consumes from.input rest l) so.parts all_read;
+    last = so.last;
+    why = so.why;
+    ended = false;
+    end = λ e. absurd cc;
+    whole = λ other. written_whole _ so.text wrote;
+    part = λ is. prefix_whole from.output output' (stand_text so.stand) (written_whole _ so.text wrote);
+    told_is = reports _ so.tells;
+  }
 
-  pub ends_stopped : (f : ServeFault) → ((bytes : List ℕ) (c : Course) → IsFed bytes v c → Stops bytes c [] out [] said f) → Appends output output' out → IsStopped from (devices left output' errors') told f
-  ends_stopped f stops wrote =
-      let so = stops at_.bytes at_.course at_.fed in
-      record {
-        lines = so.lines;
-        rest = so.rest;
-        read = subst (λ (l : List ℕ). Consumes from.input left l) so.parts at_.read;
-        course = so.after;
-        served = so.served;
-        stand = so.after.stand;
-        told_text = so.after.told;
-        due = due_here f so.rest so.after;
-        written = written_whole f from.output output' _ (written_more from.output output output' _ _ out at_.written so.adds wrote);
-        told_is = told_more heard told from.errors errors errors' _ _ said at_.told_is so.tells hears;
-        why = so.why;
-      }
+  -- the output failed
+  pub on_unwritten : IsFed (at_.bytes ++ chunk) w at_.before out at_.before' said → AppendsPrefix output output' out → IsStopped from (devices rest output' errors') told F.Write
+  on_unwritten fed wrote = record {
+    lines = fed.lines;
+    stand = fed.stand;
+    served = fed.counts.served;
+    rest = fed.last;
+    read = subst (λ (l : List ℕ). Consumes from.input rest l) fed.parts all_read;
+    last = inl fed.all;
+    why = tt;
+    ended = false;
+    end = λ e. absurd cc;
+    whole = λ other. absurd (other refl);
+    part = λ is. written_part _ fed.counts.stands.text wrote;
+    told_is = reports _ fed.counts.tells;
+  }
 
-  pub ends_half : (f : ServeFault) → ((bytes : List ℕ) (c : Course) → IsFed bytes v c → Stops bytes c [] out [] said f) → AppendsPrefix output output' out → IsStopped from (devices left output' errors') told F.Write
-  ends_half f stops wrote =
-      let so = stops at_.bytes at_.course at_.fed in
-      record {
-        lines = so.lines;
-        rest = so.rest;
-        read = subst (λ (l : List ℕ). Consumes from.input left l) so.parts at_.read;
-        course = so.after;
-        served = so.served;
-        stand = so.after.stand;
-        told_text = so.after.told;
-        due = inl (refl, refl);
-        written = written_part from.output output output' _ _ out at_.written so.adds wrote;
-        told_is = told_more heard told from.errors errors errors' _ _ said at_.told_is so.tells hears;
-        why = tt;
-      }
+  pub end_unwritten : IsAtEnd rest → (r : Served) → chunk ≡ [] → Finishes at_.bytes at_.before out at_.before' said r → AppendsPrefix output output' out → IsStopped from (devices rest output' errors') told F.Write
+  end_unwritten end r none so wrote = record {
+    lines = so.lines;
+    stand = so.stand;
+    served = so.served;
+    rest = [];
+    read = subst (λ (l : List ℕ). Consumes from.input rest l) ((ap (λ (l : List ℕ). at_.bytes ++ l) none ∙ append-nil at_.bytes) ∙ (so.parts ∙ sym (append-nil (bytes_of so.lines)))) all_read;
+    last = inr (refl, end);
+    why = tt;
+    ended = true;
+    end = λ e. (refl, refl, end);
+    whole = λ other. absurd (other refl);
+    part = λ is. written_part _ so.text wrote;
+    told_is = reports _ so.tells;
+  }
 
--- by what a call answered
-pub either : (G P : Type 0) (Q : ServeFault → Type 0) (r : Result (Unit {0}) ServeFault) → OnOk r P → IfErr r Q → (P → G) → ((f : ServeFault) → Q f → G) → G
-either G P Q (Ok u) p q f g = f p
-either G P Q (Err e) p q f g = g e q
+  pub stops_unwritten : (f : ServeFault) → Stops (at_.bytes ++ chunk) rest at_.before out at_.before' said f → AppendsPrefix output output' out → IsStopped from (devices rest output' errors') told F.Write
+  stops_unwritten f so wrote = record {
+    lines = so.lines;
+    stand = so.stand;
+    served = so.served;
+    rest = so.rest;
+    read = subst (λ (l : List ℕ). Consumes from.input rest l) so.parts all_read;
+    last = so.last;
+    why = tt;
+    ended = false;
+    end = λ e. absurd cc;
+    whole = λ other. absurd (other refl);
+    part = λ is. written_part _ so.text wrote;
+    told_is = reports _ so.tells;
+  }
 
-abbrev made : Verdict → Bool → Served
-made worst refused = record { worst = worst; refused = refused }
+  -- what was read, and what may come of it
+  abbrev IsGoing : Option Served → Type 0
+  IsGoing end = MatchOption end ((0 < length chunk) × IsFed (at_.bytes ++ chunk) w at_.before out at_.before' said) (λ r. (chunk ≡ []) × Finishes at_.bytes at_.before out at_.before' said r)
 
-pub ended_served : (from to : Devices) (told : Bool) (v : Serving) (worst : Verdict) (refused : Bool) → IsEnded from to told v → ((s : Stand) → StandsAs v.server s → worst ≡ worst_of s) → refused ≡ v.refused → IsServed from to told (made worst refused)
-ended_served from to told v worst refused so worst_is refused_is = record {
-  lines = so.lines;
-  last = so.last;
-  last_is = so.last_is;
-  read = so.read;
-  end = so.end;
-  course = so.course;
-  served = so.served;
-  ended = so.ended;
-  ends = so.ends;
-  written = so.written;
-  told_is = so.told_is;
-  worst_is = worst_is (finished so.ended.stand) so.stands;
-  refused_is = refused_is ∙ so.refused;
-}
+  pub going : (end : Option Served) → (length chunk ≡ 0 → IsAtEnd rest) → IsGoing end → Appends output output' out →
+      MatchOption end (IsAt from (devices rest output' errors') told (turns + 1) w) (IsServed from (devices rest output' errors') told)
+  going None none so wrote = goes_on so.0 so.1 wrote
+  going (Some r) none so wrote = ends (none (ap length so.0)) r so.0 so.1 wrote
+
+  pub going_unwritten : (end : Option Served) → (length chunk ≡ 0 → IsAtEnd rest) → IsGoing end → AppendsPrefix output output' out → IsStopped from (devices rest output' errors') told F.Write
+  going_unwritten None none so wrote = on_unwritten so.1 wrote
+  going_unwritten (Some r) none so wrote = end_unwritten (none (ap length so.0)) r so.0 so.1 wrote
+
+  -- by what came of it
+  pub unwritten : (result : Result (Option Served) ServeFault) → (length chunk ≡ 0 → IsAtEnd rest) → IfOk result IsGoing →
+      IfErr result (λ f. Stops (at_.bytes ++ chunk) rest at_.before out at_.before' said f) → AppendsPrefix output output' out → IsStopped from (devices rest output' errors') told F.Write
+  unwritten (Ok end) none so stops wrote = going_unwritten end none so wrote
+  unwritten (Err f) none so stops wrote = stops_unwritten f stops wrote

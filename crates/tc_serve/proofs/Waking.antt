@@ -8,8 +8,8 @@ use Rattle.tc_table.specs.Standing.{IsReply}
 use Rattle.tc_table.specs.Waiting.{waiting}
 use Rattle.tc_evidence.specs.declared.line.Line.TheVariants as L
 use Rattle.tc_serve.specs.declared.open_case.OpenCase.{OpenCase}
-use Rattle.tc_serve.specs.Step.{IsOpen}
-use Rattle.tc_serve.specs.Played.{Played, after_call, called, is_parked, past_of, sleep_of, wake_op, woken_from, woken_once}
+use Rattle.tc_serve.specs.Protocol.{Played, called, is_parked, past_of, sleep_of, wake_op, woken_from}
+use Rattle.tc_serve.specs.Inside.{IsOpen, after_call, woken_once}
 
 below : (a b : ℕ) → a < b → nat_lt a b ≡ true
 below a b less = grind (arith, nat_tests)

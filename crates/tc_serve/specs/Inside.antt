@@ -1,175 +1,193 @@
 -- What the functions inside say.
-use Rattle.std.specs.Prelude.{ℕ, ◌≡◌, ◌≢◌, ◌+◌, Bool, true, false, is_some, Option, Some, None, List, [], ◌++◌}
+use Rattle.std.specs.Prelude.{ℕ, ◌≡◌, ◌≢◌, ◌+◌, ◌-◌, ◌<◌, ◌≤◌, ◌^◌, ◌⊎◌, Bool, true, false, is_some, Option, Some, None, List, [], ◌∷◌, ◌++◌, length, slice_index_or, MatchOption}
+use Rattle.std.specs.List.{list_any}
 use Rattle.std.specs.Io.KnownBytes.{Appends, Consumes, IsAtEnd}
+use Rattle.tc_verdict.specs.declared.run.Run.{Run}
+use Rattle.tc_entry.specs.Limits.{IsBehaviours}
+use Rattle.tc_table.specs.declared.awaited.Awaited.{Awaited}
+use Rattle.tc_table.specs.Standing.{StandsFor}
+use Rattle.tc_table.specs.Waiting.{waiting}
+use Rattle.tc_entry.specs.declared.op.Op.{Op}
+use Rattle.tc_evidence.specs.declared.line.Line.{Line}
+use Rattle.tc_evidence.specs.declared.line.Line.TheVariants as L
+use Rattle.tc_evidence.specs.Line.{entries_of}
+use Rattle.tc_evidence.specs.Met.{AreMet}
 use Rattle.tc_serve.specs.declared.fault.ServeFault.{ServeFault}
 use Rattle.tc_serve.specs.declared.fault.ServeFault.TheVariants as F
 use Rattle.tc_serve.specs.declared.open_case.OpenCase.{OpenCase}
 use Rattle.tc_serve.specs.declared.order.Order.{Order}
 use Rattle.tc_serve.specs.declared.order.Order.TheVariants as O
-use Rattle.tc_serve.specs.declared.server.Answered.{Answered}
-use Rattle.tc_serve.specs.declared.server.Answered.TheVariants as A
 use Rattle.tc_serve.specs.declared.server.Server.{Server}
+use Rattle.tc_serve.specs.declared.service.Served.{Served}
 use Rattle.tc_serve.specs.declared.serving.Serving.{Serving}
-use Rattle.tc_serve.specs.Played.{Played}
-use Rattle.tc_serve.specs.Serve.{Devices, IsToldBy, IsWhy}
-use Rattle.tc_serve.specs.Served.{AreServed, Course, Ends, MayGoOn, NoLf, bytes_of, finished, seen, then_is, told_at_end}
-use Rattle.tc_serve.specs.Stand.{Stand, lines_text, stand_text}
-use Rattle.tc_serve.specs.Step.{Adds, Goes, IsDone, IsOpen, Refuses, StandsAs}
+use Rattle.tc_serve.specs.Protocol.{AllEnded, AreServed, Asks, Came, IsNobodys, IsOf, NoLf, Played, Refuses, Sent, Stand, called, finished, past_of, refused, seen, taken, woken_from}
+use Rattle.tc_serve.specs.Serve.{Devices, IsTaken, IsWhy}
+use Rattle.tc_serve.specs.Text.{bytes_of, is_refused, stand_text, told_at_end, told_of, worst_of}
 
 -- the line makes no remark
 abbrev pub IsNoRemark : Order → Type 0
 IsNoRemark (O.Remark run sentence) = ⊥
 IsNoRemark _ = Unit {0}
 
--- a test case continues from one value to another, and the lines that are new are appended
-pub record GoesOn (o : OpenCase) (before after : Played) (out written : List ℕ) : Type 0 where
-  pub kept : IsOpen o after
-  pub adds : Adds (lines_text before.lines) (lines_text after.lines) out written
+-- ---- the test case that is open
 
--- what is asked is done, according to this: the server has the state after it, and what its text grows by is appended
-pub record Does (s : Stand) (done : Option Stand) (v : Server) (out written : List ℕ) : Type 0 where
-  pub after : Stand
-  pub done_is : done ≡ Some after
-  pub stands : StandsAs v after
-  pub adds : Adds (stand_text s) (stand_text after) out written
+-- it is kept so
+pub record IsOpen (o : OpenCase) (p : Played) : Type 0 where
+  pub behaviours : o.state.behaviours ≡ p.behaviours
+  pub few : IsBehaviours p.behaviours
+  pub stands : StandsFor o.state (past_of p)
+  pub many : length o.sleeps.items ≡ p.behaviours
+  pub sleeps : (b : ℕ) (d : Option Awaited) → b < p.behaviours → slice_index_or o.sleeps.items b d ≡ waiting (past_of p) b
+  pub met : AreMet o.met p.lines
 
--- what is asked is tried: it is done, or it may not be, and then nothing changes
+-- it is kept so, and after these closed ones its text is what was written before and this
+pub record Holds (o : OpenCase) (p : Played) (closed : List Played) (before out : List ℕ) : Type 0 where
+  pub kept : IsOpen o p
+  pub text : before ++ out ≡ stand_text (record { closed = closed; current = Some p })
+
+-- the lines after a call, before any run is woken
+abbrev pub after_call : Played → Run → Op → List Line
+after_call p caller op = L.Entry (called p.behaviours p.lines caller op) ∷ p.lines
+
+-- run b is woken if it sleeps and can continue
+abbrev pub woken_once : ℕ → List Line → ℕ → List Line
+woken_once n lines b = woken_from n lines b (waiting (entries_of lines) b)
+
+-- it becomes another
+abbrev pub Becomes : (Played → Played) → OpenCase → OpenCase → List ℕ → List ℕ → Type 0
+Becomes change o o' out written = (p : Played) (closed : List Played) (before : List ℕ) → Holds o p closed before out → Holds o' (change p) closed before written
+
+-- it becomes another, if it may, and else nothing changes
+abbrev pub Changes : (Played → Option Played) → Bool → OpenCase → OpenCase → List ℕ → List ℕ → Type 0
+Changes change done o o' out written = (p : Played) (closed : List Played) (before : List ℕ) → Holds o p closed before out
+    → MatchOption (change p) ((done ≡ false) × Holds o' p closed before written) (λ q. (done ≡ true) × Holds o' q closed before written)
+
+-- ---- the server
+
+-- a test case is kept so, or none is open
+abbrev pub IsCurrent : Option OpenCase → Option Played → Type 0
+IsCurrent None None = Unit {0}
+IsCurrent None (Some p) = ⊥
+IsCurrent (Some o) None = ⊥
+IsCurrent (Some o) (Some p) = IsOpen o p
+
+-- this is the server's state, whose text is what was written before and this
+pub record StandsAs (v : Server) (s : Stand) (before out : List ℕ) : Type 0 where
+  pub current : IsCurrent v.current s.current
+  pub worst : v.worst ≡ worst_of s
+  pub text : before ++ out ≡ stand_text s
+
+-- what is asked is done, if it may be, and else nothing changes
 abbrev pub Tries : (Stand → Option Stand) → Bool → Server → Server → List ℕ → List ℕ → Type 0
-Tries ask true v w out written = (s : Stand) → StandsAs v s → Does s (ask s) w out written
-Tries ask false v w out written = (written ≡ out) × ((s : Stand) → StandsAs v s → StandsAs w s × (ask s ≡ None))
+Tries ask done v w out written = (s : Stand) (before : List ℕ) → StandsAs v s before out
+    → MatchOption (ask s) ((done ≡ false) × StandsAs w s before written) (λ t. (done ≡ true) × StandsAs w t before written)
 
--- what the line asks for is tried
-abbrev pub Asks : List ℕ → Bool → Server → Server → List ℕ → List ℕ → Type 0
-Asks line true v w out written = (s : Stand) → StandsAs v s → Goes (IsDone line) s w out written
-Asks line false v w out written = (written ≡ out) × ((s : Stand) → StandsAs v s → StandsAs w s × Refuses line s)
+-- what the line asks for is done, or it asks for nothing that may be asked
+abbrev pub TriesLine : Bool → List ℕ → Bool → Server → Server → List ℕ → List ℕ → Type 0
+TriesLine ended line true v w out written = (s : Stand) (before : List ℕ) → StandsAs v s before out
+    → (o : Order) × (t : Stand) × Asks ended line o × (taken s o ≡ Some t) × StandsAs w t before written
+TriesLine ended line false v w out written = (s : Stand) (before : List ℕ) → StandsAs v s before out → Refuses ended line s × StandsAs w s before written
+
+-- the run that the line begins with gets the refusal, or no run does
+abbrev pub TellsRun : List ℕ → Bool → Server → Server → List ℕ → List ℕ → Type 0
+TellsRun line true v w out written = (s : Stand) (before : List ℕ) → StandsAs v s before out
+    → (run : Run) × (t : Stand) × IsOf line run.0 × (refused s run ≡ Some t) × StandsAs w t before written
+TellsRun line false v w out written = (s : Stand) (before : List ℕ) → StandsAs v s before out → IsNobodys line s × StandsAs w s before written
 
 -- ---- lines that come in pieces
 
--- the server has the state that the course says, and its lines are counted
-pub record Holds (v : Serving) (c : Course) : Type 0 where
-  pub stands : StandsAs v.server c.stand
-  pub lines : v.lines ≡ c.lines
-  pub refused : v.refused ≡ c.refused
+-- these lines were served, which are counted; what was written before and this is their text, and so it is with reports
+pub record Counts (v : Serving) (lines : List Sent) (s : Stand) (before out before' told : List ℕ) : Type 0 where
+  pub served : AreServed lines s
+  pub stands : StandsAs v.server s before out
+  pub tells : before' ++ told ≡ told_of lines
+  pub many : v.lines ≡ length lines
+  pub refused : v.refused ≡ list_any (λ l. is_refused l.came) lines
 
--- why the line of this number ends the service: it came to nobody, and no test case is open, or memory ran out
-abbrev pub IsLineFault : Answered → ℕ → Stand → ServeFault → Type 0
-IsLineFault a number s (F.Line n) = (a ≡ A.Nobody) × (n ≡ number) × (is_some s.current ≡ false)
-IsLineFault a number s F.NoMemory = (a ≡ A.Nobody) × Unit {0}
-IsLineFault a number s F.TooLong = ⊥
-IsLineFault a number s F.Read = ⊥
-IsLineFault a number s F.Write = ⊥
-
--- one more line is counted, of which this came
-pub record IsCounted (a : Answered) (v : Serving) (c : Course) (told told' : List ℕ) : Type 0 where
-  pub holds : Holds v (then_is a c.stand c)
-  pub tells : Adds c.told (then_is a c.stand c).told told told'
-  pub may : MayGoOn a c.stand
-
--- the service continues from one course to another, and what the texts grow by is appended
-pub record Leads (to : Course → Type 0) (v : Serving) (c : Course) (out written told told' : List ℕ) : Type 0 where
-  pub after : Course
-  pub is : to after
-  pub holds : Holds v after
-  pub adds : Adds (stand_text c.stand) (stand_text after.stand) out written
-  pub tells : Adds c.told after.told told told'
+-- of these bytes the lines that have ended were served, and what is looked at of the next one is kept
+pub record IsFed (bytes : List ℕ) (v : Serving) (before out before' told : List ℕ) : Type 0 where
+  pub lines : List Sent
+  pub stand : Stand
+  pub last : List ℕ
+  pub parts : bytes ≡ bytes_of lines ++ last
+  pub all : AllEnded lines
+  pub last_is : NoLf last
+  pub kept : v.line.items ≡ seen last
+  pub counts : Counts v lines stand before out before' told
 
 -- why a line ends the service
-abbrev pub IsBadLine : List ℕ → Course → ServeFault → Type 0
-IsBadLine line c (F.Line n) = (n ≡ c.lines + 1) × (is_some c.stand.current ≡ false) × Refuses (seen line) c.stand
-IsBadLine line c F.Write = ⊥
-IsBadLine line c f = Unit {0}
+abbrev pub IsBadLine : ServeFault → Bool → List ℕ → List Sent → Stand → Type 0
+IsBadLine (F.Line n) ended line lines s = (n ≡ length lines + 1) × (is_some s.current ≡ false) × Refuses ended (seen line) s
+IsBadLine F.TooLong ended line lines s = 2 ^ 64 - 1 ≤ length lines
+IsBadLine F.Read ended line lines s = ⊥
+IsBadLine F.Write ended line lines s = ⊥
+IsBadLine F.NoMemory ended line lines s = Unit {0}
 
--- why a last line that no LF ends does
-abbrev pub IsBadLast : List ℕ → Course → ServeFault → Type 0
-IsBadLast line c (F.Line n) = (n ≡ c.lines + 1) × (is_some c.stand.current ≡ false) × (line ≢ [])
-IsBadLast line c F.Write = ⊥
-IsBadLast line c f = Unit {0}
+-- the service is at this line, which has ended or is the last
+pub record IsAtLine (line : List ℕ) (lines : List Sent) (stand : Stand) (v : Serving) (before out before' told : List ℕ) : Type 0 where
+  pub all : AllEnded lines
+  pub last_is : NoLf line
+  pub kept : v.line.items ≡ seen line
+  pub counts : Counts v lines stand before out before' told
 
--- of these bytes, the lines that have ended are served, and what is looked at of the next one is kept
-pub record IsFed (bytes : List ℕ) (v : Serving) (c : Course) : Type 0 where
-  pub lines : List (List ℕ)
-  pub last : List ℕ
-  pub parts : bytes ≡ bytes_of lines ++ last
-  pub last_is : NoLf last
-  pub served : AreServed lines c
-  pub kept : v.line.items ≡ seen last
-  pub holds : Holds v c
+-- the line is served
+abbrev pub Serves : Bool → Serving → Serving → List ℕ → List ℕ → List ℕ → List ℕ → Type 0
+Serves ended v w out written told told' = (line : List ℕ) (lines : List Sent) (s : Stand) (before before' : List ℕ) → IsAtLine line lines s v before out before' told
+    → (came : Came) × (t : Stand) × Counts w (record { bytes = line; ended = ended; came = came } ∷ lines) t before written before' told'
 
--- with these bytes in all, the service continues
-pub record Feeds (bytes : List ℕ) (v : Serving) (c : Course) (out written told told' : List ℕ) : Type 0 where
-  pub after : Course
-  pub fed : IsFed bytes v after
-  pub adds : Adds (stand_text c.stand) (stand_text after.stand) out written
-  pub tells : Adds c.told after.told told told'
+-- it ends the service
+abbrev pub Fails : Bool → Serving → List ℕ → List ℕ → ServeFault → Type 0
+Fails ended v out told f = (line : List ℕ) (lines : List Sent) (s : Stand) (before before' : List ℕ) → IsAtLine line lines s v before out before' told → IsBadLine f ended line lines s
 
--- of these bytes in all, the lines before the fault are served
-pub record Stops (bytes : List ℕ) (c : Course) (out written told told' : List ℕ) (f : ServeFault) : Type 0 where
-  pub lines : List (List ℕ)
+-- the test case that is open is closed, if one is, and that is reported
+abbrev pub Closes : Serving → Serving → List ℕ → List ℕ → List ℕ → List ℕ → Type 0
+Closes v w out written told told' = (lines : List Sent) (s : Stand) (before before' : List ℕ) → Counts v lines s before out before' told
+    → StandsAs w.server (finished s) before written × (before' ++ told' ≡ told_at_end lines s)
+
+-- of these bytes in all, the lines before the fault were served
+pub record Stops (bytes : List ℕ) (input : Option (List ℕ)) (before out before' told : List ℕ) (f : ServeFault) : Type 0 where
+  pub lines : List Sent
+  pub stand : Stand
   pub rest : List ℕ
   pub parts : bytes ≡ bytes_of lines ++ rest
-  pub after : Course
-  pub served : AreServed lines after
-  pub adds : Adds (stand_text c.stand) (stand_text after.stand) out written
-  pub tells : Adds c.told after.told told told'
-  pub why : IsWhy f rest after
+  pub served : AreServed lines stand
+  pub last : AllEnded lines ⊎ ((rest ≡ []) × IsAtEnd input)
+  pub why : IsWhy f lines stand rest input
+  pub text : before ++ out ≡ stand_text stand
+  pub tells : before' ++ told ≡ told_of lines
 
--- after these lines the test case that is open is closed, and standard error is to get a line about it
-pub record IsOver (v : Serving) (c : Course) (out written told told' : List ℕ) : Type 0 where
-  pub stands : StandsAs v.server (finished c.stand)
-  pub refused : v.refused ≡ c.refused
-  pub adds : Adds (stand_text c.stand) (stand_text (finished c.stand)) out written
-  pub tells : Adds c.told (told_at_end c) told told'
+-- these bytes are lines that were served, of which the last may lack its LF
+pub record IsEnd (bytes : List ℕ) (v : Serving) (before out before' told : List ℕ) : Type 0 where
+  pub lines : List Sent
+  pub stand : Stand
+  pub parts : bytes ≡ bytes_of lines
+  pub counts : Counts v lines stand before out before' told
 
 -- the input ends after these bytes
-pub record Finishes (bytes : List ℕ) (v : Serving) (c : Course) (out written told told' : List ℕ) : Type 0 where
-  pub lines : List (List ℕ)
-  pub last : List ℕ
-  pub parts : bytes ≡ bytes_of lines ++ last
-  pub last_is : NoLf last
-  pub served : AreServed lines c
-  pub ended : Course
-  pub ends : Ends last c ended
-  pub stands : StandsAs v.server (finished ended.stand)
-  pub refused : v.refused ≡ ended.refused
-  pub adds : Adds (stand_text c.stand) (stand_text (finished ended.stand)) out written
-  pub tells : Adds c.told (told_at_end ended) told told'
-
--- it cannot
-pub record StopsAtEnd (bytes : List ℕ) (c : Course) (f : ServeFault) : Type 0 where
-  pub lines : List (List ℕ)
-  pub rest : List ℕ
-  pub parts : bytes ≡ bytes_of lines ++ rest
-  pub served : AreServed lines c
-  pub why : IsWhy f rest c
+pub record Finishes (bytes : List ℕ) (before out before' told : List ℕ) (r : Served) : Type 0 where
+  pub lines : List Sent
+  pub stand : Stand
+  pub parts : bytes ≡ bytes_of lines
+  pub served : AreServed lines stand
+  pub text : before ++ out ≡ stand_text (finished stand)
+  pub tells : before' ++ told ≡ told_at_end lines stand
+  pub worst_is : r.worst ≡ worst_of (finished stand)
+  pub refused_is : r.refused ≡ list_any (λ l. is_refused l.came) lines
 
 -- ---- devices
 
 -- standard error gets the text if it took all before it
 abbrev pub Hears : Bool → Bool → Option (List ℕ) → Option (List ℕ) → List ℕ → Type 0
-Hears true told before after text = IsToldBy told before after text
+Hears true told before after text = IsTaken told before after text
 Hears false told before after text = (told ≡ false) × (after ≡ before)
 
--- these bytes were read so far; the lines of them that have ended are served, and what comes of them is written
-pub record IsAt (from to : Devices) (told : Bool) (v : Serving) : Type 0 where
+-- in so many turns these bytes were read, and what came of them is written and reported
+pub record IsAt (from to : Devices) (told : Bool) (turns : ℕ) (v : Serving) : Type 0 where
   pub bytes : List ℕ
   pub read : Consumes from.input to.input bytes
-  pub course : Course
-  pub fed : IsFed bytes v course
-  pub written : Appends from.output to.output (stand_text course.stand)
-  pub told_is : IsToldBy told from.errors to.errors course.told
-
--- all was read, and what the service leaves is written, to standard error too
-pub record IsEnded (from to : Devices) (told : Bool) (v : Serving) : Type 0 where
-  pub lines : List (List ℕ)
-  pub last : List ℕ
-  pub last_is : NoLf last
-  pub read : Consumes from.input to.input (bytes_of lines ++ last)
-  pub end : IsAtEnd to.input
-  pub course : Course
-  pub served : AreServed lines course
-  pub ended : Course
-  pub ends : Ends last course ended
-  pub stands : StandsAs v.server (finished ended.stand)
-  pub refused : v.refused ≡ ended.refused
-  pub written : Appends from.output to.output (stand_text (finished ended.stand))
-  pub told_is : IsToldBy told from.errors to.errors (told_at_end ended)
+  pub many : turns ≤ length bytes
+  pub before : List ℕ
+  pub before' : List ℕ
+  pub fed : IsFed bytes v before [] before' []
+  pub written : Appends from.output to.output before
+  pub told_is : IsTaken told from.errors to.errors before'

@@ -1,9 +1,7 @@
 -- The definitions that the contracts of this crate cite.
 pub mod Order
-pub mod Played
-pub mod Stand
-pub mod Step
-pub mod Served
+pub mod Protocol
+pub mod Text
 pub mod Serve
 pub mod Inside
 pub mod Laws

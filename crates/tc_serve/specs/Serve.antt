@@ -1,14 +1,14 @@
 -- The service: what is written, by what is read.
-use Rattle.std.specs.Prelude.{ℕ, ◌≡◌, ◌≢◌, ◌+◌, ◌⊎◌, Bool, true, false, is_some, Option, List, [], ◌∷◌, ◌++◌, MatchResult}
+use Rattle.std.specs.Prelude.{ℕ, ◌≡◌, ◌≢◌, ◌+◌, ◌-◌, ◌≤◌, ◌^◌, ◌⊎◌, if◌then◌else◌, Bool, true, false, is_some, Option, List, [], ◌∷◌, ◌++◌, length, MatchResult}
+use Rattle.std.specs.List.{list_any}
 use Rattle.std.specs.Io.KnownBytes.{Appends, Consumes, IsAtEnd}
 use Rattle.tc_stream.specs.Output.{AppendsPrefix}
 use Rattle.tc_serve.specs.declared.fault.ServeFault.{ServeFault}
 use Rattle.tc_serve.specs.declared.fault.ServeFault.TheVariants as F
 use Rattle.tc_serve.specs.declared.service.Ending.{Ending}
 use Rattle.tc_serve.specs.declared.service.Served.{Served}
-use Rattle.tc_serve.specs.Served.{AreServed, Course, Ends, NoLf, bytes_of, finished, seen, told_at_end}
-use Rattle.tc_serve.specs.Stand.{Stand, stand_text, worst_of}
-use Rattle.tc_serve.specs.Step.{Refuses}
+use Rattle.tc_serve.specs.Protocol.{AllEnded, AreServed, NoLf, Refuses, Sent, Stand, finished, seen}
+use Rattle.tc_serve.specs.Text.{bytes_of, is_refused, stand_text, told_at_end, told_of, worst_of}
 
 -- what is left of the input, and what the output and standard error took, if they are known
 pub record Devices : Type 0 where
@@ -20,68 +20,50 @@ pub record Devices : Type 0 where
 abbrev pub devices : Option (List ℕ) → Option (List ℕ) → Option (List ℕ) → Devices
 devices input output errors = record { input = input; output = output; errors = errors }
 
--- standard error took the text, or a prefix of it
-abbrev pub IsToldBy : Bool → Option (List ℕ) → Option (List ℕ) → List ℕ → Type 0
-IsToldBy true before after text = Appends before after text
-IsToldBy false before after text = AppendsPrefix before after text
+-- a device took the text, or a prefix of it
+abbrev pub IsTaken : Bool → Option (List ℕ) → Option (List ℕ) → List ℕ → Type 0
+IsTaken true before after text = Appends before after text
+IsTaken false before after text = AppendsPrefix before after text
 
--- all was read, and each line served; what the server's text is was written
+-- all was read, and each line served; what the text is at the end was written
 pub record IsServed (from to : Devices) (told : Bool) (r : Served) : Type 0 where
-  pub lines : List (List ℕ)
-  pub last : List ℕ
-  pub last_is : NoLf last
-  pub read : Consumes from.input to.input (bytes_of lines ++ last)
+  pub lines : List Sent
+  pub stand : Stand
+  pub served : AreServed lines stand
+  pub read : Consumes from.input to.input (bytes_of lines)
   pub end : IsAtEnd to.input
-  pub course : Course
-  pub served : AreServed lines course
-  pub ended : Course
-  pub ends : Ends last course ended
-  pub written : Appends from.output to.output (stand_text (finished ended.stand))
-  pub told_is : IsToldBy told from.errors to.errors (told_at_end ended)
-  pub worst_is : r.worst ≡ worst_of (finished ended.stand)
-  pub refused_is : r.refused ≡ ended.refused
+  pub written : Appends from.output to.output (stand_text (finished stand))
+  pub told_is : IsTaken told from.errors to.errors (told_at_end lines stand)
+  pub worst_is : r.worst ≡ worst_of (finished stand)
+  pub refused_is : r.refused ≡ list_any (λ l. is_refused l.came) lines
 
--- after these lines the input ends, with this after the last LF; the server's state then, and what goes to standard error
-pub record IsEnd (rest : List ℕ) (c : Course) (s : Stand) (told : List ℕ) : Type 0 where
-  pub last_is : NoLf rest
-  pub ended : Course
-  pub ends : Ends rest c ended
-  pub stand_is : s ≡ finished ended.stand
-  pub told_is : told ≡ told_at_end ended
+-- the next line asks for nothing that may be asked here; if no LF ends it, the input ends with it
+abbrev pub IsBadNext : Stand → List ℕ → Option (List ℕ) → Type 0
+IsBadNext s rest input = (line more : List ℕ) × NoLf line
+    × (((rest ≡ line ++ 10 ∷ more) × Refuses true (seen line) s) ⊎ ((rest ≡ line) × (line ≢ []) × IsAtEnd input))
 
--- the state whose text is due when this fault came, and what is due on standard error: both those after the lines, or,
--- if the output failed, those after the end
-abbrev pub IsDue : ServeFault → List ℕ → Course → Stand → List ℕ → Type 0
-IsDue F.Write rest c s told = ((s ≡ c.stand) × (told ≡ c.told)) ⊎ IsEnd rest c s told
-IsDue f rest c s told = (s ≡ c.stand) × (told ≡ c.told)
+-- why no further line was served: the next is refused outside a test case; or so many bytes came; or a read failed,
+-- before which each line that had ended was served
+abbrev pub IsWhy : ServeFault → List Sent → Stand → List ℕ → Option (List ℕ) → Type 0
+IsWhy (F.Line n) lines s rest input = (n ≡ length lines + 1) × (is_some s.current ≡ false) × IsBadNext s rest input
+IsWhy F.TooLong lines s rest input = 2 ^ 64 - 1 ≤ length (bytes_of lines ++ rest)
+IsWhy F.Read lines s rest input = NoLf rest
+IsWhy _ lines s rest input = Unit {0}
 
--- what was written of a text when this fault came: a prefix if the output failed, and otherwise all
-abbrev pub IsWritten : ServeFault → Option (List ℕ) → Option (List ℕ) → List ℕ → Type 0
-IsWritten F.Write before after text = AppendsPrefix before after text
-IsWritten f before after text = Appends before after text
-
--- the next line asks for nothing that may be asked here, or no LF ends it
-abbrev pub IsBadNext : List ℕ → Stand → Type 0
-IsBadNext rest s = (line : List ℕ) × NoLf line × (((rest ≡ line) × (line ≢ [])) ⊎ ((more : List ℕ) × (rest ≡ line ++ 10 ∷ more) × Refuses (seen line) s))
-
--- why the service ended after lines and before this: by the number of a line, which is refused outside a test case
-abbrev pub IsWhy : ServeFault → List ℕ → Course → Type 0
-IsWhy (F.Line n) rest c = (n ≡ c.lines + 1) × (is_some c.stand.current ≡ false) × IsBadNext rest c.stand
-IsWhy f rest c = Unit {0}
-
--- these lines were served, and then the service ended
+-- these lines were served, and then the service ended; only if the output failed, the end of the input may be due too
 pub record IsStopped (from to : Devices) (told : Bool) (f : ServeFault) : Type 0 where
-  pub lines : List (List ℕ)
+  pub lines : List Sent
+  pub stand : Stand
+  pub served : AreServed lines stand
   pub rest : List ℕ
   pub read : Consumes from.input to.input (bytes_of lines ++ rest)
-  pub course : Course
-  pub served : AreServed lines course
-  pub stand : Stand
-  pub told_text : List ℕ
-  pub due : IsDue f rest course stand told_text
-  pub written : IsWritten f from.output to.output (stand_text stand)
-  pub told_is : IsToldBy told from.errors to.errors told_text
-  pub why : IsWhy f rest course
+  pub last : AllEnded lines ⊎ ((rest ≡ []) × IsAtEnd to.input)
+  pub why : IsWhy f lines stand rest to.input
+  pub ended : Bool
+  pub end : ended ≡ true → (f ≡ F.Write) × (rest ≡ []) × IsAtEnd to.input
+  pub whole : f ≢ F.Write → Appends from.output to.output (stand_text stand)
+  pub part : f ≡ F.Write → AppendsPrefix from.output to.output (stand_text (if ended then finished stand else stand))
+  pub told_is : IsTaken told from.errors to.errors (if ended then told_at_end lines stand else told_of lines)
 
 -- how the service ended
 abbrev pub IsEnding : Devices → Devices → Ending → Type 0

@@ -4,13 +4,13 @@ ghost use Rattle.tc_serve.specs.Laws as laws;
 /// Each history is legal, and no wake in it is replied parked.
 #[tactic(auto, using(crate::proofs::Sound::served_is_sound))]
 pub fn served_is_sound()
-    ensures { laws.ServedIsSound }
+    ensures { laws.AllServed laws.IsSound }
 {}
 
-/// In the test case that is open no run sleeps that can continue: the wake of each run that sleeps would be parked.
+/// After each line no run sleeps that can continue: the wake of each run that sleeps would be parked.
 #[tactic(auto, using(crate::proofs::Settled::nobody_sleeps_on))]
 pub fn nobody_sleeps_on()
-    ensures { laws.NobodySleepsOn }
+    ensures { laws.AllServed laws.IsSettled }
 {}
 
 /// The evidence has what was asked for, each once and in its order, and nothing else but wakes and refusals.

@@ -10,5 +10,4 @@ mod service;
 mod serving;
 
 pub use fault::ServeFault;
-pub use server::{Answered, Server};
 pub use service::{Ending, Served, serve};

@@ -1,5 +1,5 @@
 //! A test case that is open.
-ghost use Rattle.std.specs.Prelude.{◌≡◌, ◌<◌, ◌++◌, ◌∷◌, [], ℕ, List, Option, length, slice_index_or, IfOk, OnOk, None, if◌then◌else◌};
+ghost use Rattle.std.specs.Prelude.{◌≡◌, ◌<◌, ◌++◌, ◌∷◌, [], nat_lt, true, ℕ, List, Option, length, slice_index_or, IfOk, OnOk, None, if◌then◌else◌};
 ghost use Rattle.std.specs.Io.{StartsWith};
 ghost use Rattle.tc_entry.specs.Limits.{IsBehaviours};
 ghost use Rattle.tc_table.specs.Local as verdicts;
@@ -7,12 +7,11 @@ ghost use Rattle.tc_table.specs.Waiting as waits;
 ghost use Rattle.tc_evidence.specs.declared.line.Line.{Line as AnyLine};
 ghost use Rattle.tc_evidence.specs.declared.line.Line.TheVariants as lines;
 ghost use Rattle.tc_evidence.specs.Block.{ended};
-ghost use Rattle.tc_evidence.specs.Line.{entry_of, line_text};
+ghost use Rattle.tc_evidence.specs.Line.{line_text};
 ghost use Rattle.tc_evidence.specs.Met.{AreMet};
-ghost use Rattle.tc_serve.specs.Inside.{GoesOn};
-ghost use Rattle.tc_serve.specs.Played.{Played as AnyPlayed, after_call, is_parked, is_wake as spec_wake, may_ask, may_name as spec_may_name, may_say as spec_may_say, moved, past_of, sleep_of as spec_sleep, why_refused, with_line, woken_once};
-ghost use Rattle.tc_serve.specs.Stand.{counted as spec_counted};
-ghost use Rattle.tc_serve.specs.Step.{IsOpen};
+ghost use Rattle.tc_serve.specs.Inside.{Becomes, Changes, IsOpen, after_call, woken_once};
+ghost use Rattle.tc_serve.specs.Protocol.{Played as AnyPlayed, added, is_parked, is_wake as spec_wake, made, may_add as spec_may_add, may_ask, moved, past_of, sleep_of as spec_sleep, why_refused};
+ghost use Rattle.tc_serve.specs.Text.{counted as spec_counted};
 
 use std::alloc::Global;
 use tc_entry::{Entry, NoMemory, Op, Reply, Run, Verdict};
@@ -114,29 +113,35 @@ impl OpenCase {
         }
     }
 
-    /// Whether a client may make the call for the run: it is no wake, and the run does not sleep.
-    pub fn may(&self, caller: Run, op: &Op) -> bool
+    // Whether a client may make the call for the run: it is no wake, and the run does not sleep.
+    fn may_ask(&self, caller: Run, op: &Op) -> bool
         ensures { (p : AnyPlayed) → IsOpen self.now p → result ≡ may_ask p caller op.now }
     {
         !is_wake(op) && self.sleep_of(caller).is_none()
     }
 
-    /// Whether the run is one of the test case.
-    pub fn may_say(&self, run: Run) -> bool
-        ensures { (p : AnyPlayed) → IsOpen self.now p → result ≡ spec_may_say p run }
+    // Whether the run is one of the test case.
+    fn has(&self, run: Run) -> bool
+        ensures is { (p : AnyPlayed) → IsOpen self.now p → result ≡ nat_lt run.0 p.behaviours }
+        ensures few { result ≡ true → run.0 < 256 }
     {
         run.0 < self.state.behaviours()
     }
 
-    /// Whether the run is one of the test case, and no line is about it.
-    pub fn may_name(&self, run: Run) -> bool
-        ensures { (p : AnyPlayed) → IsOpen self.now p → result ≡ spec_may_name p run }
+    // Whether the line, which is no entry, may be added.
+    fn may_add(&self, line: &Line) -> bool
+        ensures { (p : AnyPlayed) → IsOpen self.now p → result ≡ spec_may_add p line.now }
     {
-        run.0 < self.state.behaviours() && !self.met.contains(run)
+        match line {
+            Line::Named { run, .. } => self.has(*run) && !self.met.contains(*run),
+            Line::Entry(_) => false,
+            Line::Remark { run, .. } => self.has(*run),
+            Line::Refused { run, .. } => self.has(*run),
+        }
     }
 
-    // Adds the line to what is kept of the lines, and appends it; if memory runs out, a part of it.
-    fn add(&mut self, line: &Line, out: &mut Vec<u8>) -> Result<(), NoMemory>
+    // Appends the line, and adds it to what is kept of the lines; if memory runs out, a part of it is appended.
+    fn append(&mut self, line: &Line, out: &mut Vec<u8>) -> Result<(), NoMemory>
         ensures met { (ls : List AnyLine) → AreMet self.old.met ls → AreMet self.new.met (line.now ∷ ls) }
         ensures state { self.new.state ≡ self.old.state }
         ensures sleeps { self.new.sleeps ≡ self.old.sleeps }
@@ -147,36 +152,40 @@ impl OpenCase {
         append_line(out, line)
     }
 
-    /// Adds a line that is no entry; if memory runs out, a part of it is appended.
-    pub fn note(&mut self, line: &Line, out: &mut Vec<u8>) -> Result<(), NoMemory>
-        requires { entry_of line.now ≡ [] }
-        ensures ok { OnOk result ((p : AnyPlayed) → IsOpen self.old p → GoesOn self.new p (with_line p line.now) out.old.items out.new.items) }
+    /// Adds a line that is no entry, if it may be; if memory runs out, a part of it is appended.
+    pub fn add(&mut self, line: &Line, out: &mut Vec<u8>) -> Result<bool, NoMemory>
+        ensures ok { IfOk result (λ done. Changes (added line.now) done self.old self.new out.old.items out.new.items) }
         ensures any { StartsWith out.new.items out.old.items }
     {
-        self.add(line, out)
+        if !self.may_add(line) {
+            return Ok(false);
+        }
+        self.append(line, out)?;
+        Ok(true)
     }
 
-    /// Adds that a line of the run was refused; if memory runs out, a part of that line is appended.
-    pub fn refuse(&mut self, run: Run, out: &mut Vec<u8>) -> Result<(), NoMemory>
-        ensures ok { OnOk result ((p : AnyPlayed) → IsOpen self.old p
-            → GoesOn self.new p (with_line p (lines.Refused run why_refused)) out.old.items out.new.items) }
+    /// Adds that a line of the run was refused, if it is one of the test case; if memory runs out, a part is appended.
+    pub fn refuse(&mut self, run: Run, out: &mut Vec<u8>) -> Result<bool, NoMemory>
+        ensures ok { IfOk result (λ done. Changes (added (lines.Refused run why_refused)) done self.old self.new out.old.items out.new.items) }
         ensures any { StartsWith out.new.items out.old.items }
     {
+        if !self.has(run) {
+            return Ok(false);
+        }
         append_said(out, run, true, refused_words().as_bytes())?;
         self.met.add_refused(run);
-        Ok(())
+        Ok(true)
     }
 
     // Makes the call, and appends its line; if memory runs out, a part of it.
     fn call(&mut self, caller: Run, op: Op, out: &mut Vec<u8>) -> Result<(), NoMemory>
-        ensures ok { OnOk result ((p : AnyPlayed) → IsOpen self.old p
-            → GoesOn self.new p (record p { lines = after_call p caller op }) out.old.items out.new.items) }
+        ensures ok { OnOk result (Becomes (λ p. record p { lines = after_call p caller op }) self.old self.new out.old.items out.new.items) }
         ensures same { self.new.state.behaviours ≡ self.old.state.behaviours }
         ensures any { StartsWith out.new.items out.old.items }
     {
         let awaited = awaited(&op);
         let reply = self.state.play(caller, op.copy())?;
-        self.add(&Line::Entry(Entry { caller, op, reply }), out)?;
+        self.append(&Line::Entry(Entry { caller, op, reply }), out)?;
         let place = usize::from(caller.0);
         if place < self.sleeps.len() {
             self.sleeps[place] = parks(awaited, reply);
@@ -187,8 +196,7 @@ impl OpenCase {
     // Wakes the run, if it sleeps and can continue.
     fn wake(&mut self, run: u16, out: &mut Vec<u8>) -> Result<(), NoMemory>
         requires { run < self.old.state.behaviours }
-        ensures ok { OnOk result ((p : AnyPlayed) → IsOpen self.old p →
-            GoesOn self.new p (record p { lines = woken_once p.behaviours p.lines run }) out.old.items out.new.items) }
+        ensures ok { OnOk result (Becomes (λ p. record p { lines = woken_once p.behaviours p.lines run }) self.old self.new out.old.items out.new.items) }
         ensures same { self.new.state.behaviours ≡ self.old.state.behaviours }
         ensures any { StartsWith out.new.items out.old.items }
     {
@@ -205,10 +213,9 @@ impl OpenCase {
         self.call(Run(run), op, out)
     }
 
-    /// Makes the call, and appends its line; then wakes each run that can continue, in the order of their numbers, and
-    /// appends their lines. If memory runs out, a part of these.
-    pub fn play(&mut self, caller: Run, op: Op, out: &mut Vec<u8>) -> Result<(), NoMemory>
-        ensures ok { OnOk result ((p : AnyPlayed) → IsOpen self.old p → GoesOn self.new p (moved p caller op) out.old.items out.new.items) }
+    // Makes the call, and then wakes each run that can continue, in the order of their numbers.
+    fn play(&mut self, caller: Run, op: Op, out: &mut Vec<u8>) -> Result<(), NoMemory>
+        ensures ok { OnOk result (Becomes (λ p. moved p caller op) self.old self.new out.old.items out.new.items) }
         ensures any { StartsWith out.new.items out.old.items }
     {
         self.call(caller, op, out)?;
@@ -216,6 +223,18 @@ impl OpenCase {
             self.wake(run, out)?;
         }
         Ok(())
+    }
+
+    /// Makes the call, if it may be made, and appends its line, and those of the wakes. If memory runs out, a part of these.
+    pub fn make(&mut self, caller: Run, op: Op, out: &mut Vec<u8>) -> Result<bool, NoMemory>
+        ensures ok { IfOk result (λ done. Changes (made caller op) done self.old self.new out.old.items out.new.items) }
+        ensures any { StartsWith out.new.items out.old.items }
+    {
+        if !self.may_ask(caller, &op) {
+            return Ok(false);
+        }
+        self.play(caller, op, out)?;
+        Ok(true)
     }
 
     /// The overall verdict.

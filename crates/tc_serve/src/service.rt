@@ -1,17 +1,16 @@
 //! The service itself.
-ghost use Rattle.std.specs.Prelude.{◌≡◌, true, false, [], List, Option, ℕ, OnOk, OnErr, IfOk, IfErr};
-ghost use Rattle.std.specs.Io.KnownBytes.{Appends, Consumes, IsAtEnd};
+ghost use Rattle.std.specs.Prelude.{◌≡◌, ◌+◌, ◌≤◌, ◌<◌, ◌^◌, not, true, [], ℕ, length, OnOk, OnErr, IfOk, IfErr, MatchOption};
+ghost use Rattle.std.specs.Io.KnownBytes.{Appends};
 ghost use Rattle.tc_stream.specs.Output.{AppendsPrefix};
-ghost use Rattle.tc_serve.specs.Inside.{Hears, IsAt, IsEnded, IsFed};
-ghost use Rattle.tc_serve.specs.Serve.{Devices as AnyDevices, IsEnding, IsStopped, devices};
-ghost use Rattle.tc_serve.specs.Served.{at_first};
+ghost use Rattle.tc_serve.specs.Inside.{Hears, IsAt, IsFed};
+ghost use Rattle.tc_serve.specs.Serve.{Devices as AnyDevices, IsEnding, IsServed, IsStopped, devices};
 
 use crate::fault::ServeFault;
 use crate::serving::Serving;
 use std::alloc::Global;
 use std::io::{Read, Write};
 use tc_entry::Verdict;
-use tc_stream::{WriteFault, write_whole};
+use tc_stream::{CountedWrite, CountedWriter, WriteFault, write_counted, write_whole};
 
 /// What came of an input that was served to its end.
 #[derive(Clone, Copy, PartialEq, Eq, Debug)]
@@ -44,127 +43,83 @@ fn write_flushed<W: Write>(writer: &mut W, text: &[u8]) -> Result<(), WriteFault
 }
 
 // Writes the text to standard error, unless it did not take an earlier one whole; whether all was taken.
-fn tell<E: Write>(errors: &mut E, heard: bool, text: &[u8]) -> bool
-    ensures { Hears heard result (E.contents errors.old) (E.contents errors.new) text.now }
+fn tell<E: CountedWrite>(errors: &mut E, heard: bool, text: &[u8]) -> bool
+    requires heard { heard ≡ not (E.has_failed errors.old) }
+    requires few { E.writes errors.old + length text.now < 2 ^ 128 }
+    ensures taken { Hears heard result (E.contents errors.old) (E.contents errors.new) text.now }
+    ensures heard { result ≡ not (E.has_failed errors.new) }
+    ensures counted { E.writes errors.new ≤ E.writes errors.old + length text.now }
+    ensures same { E.name errors.new ≡ E.name errors.old }
 {
     if !heard {
         return false;
     }
-    write_whole(errors, text).is_ok()
+    write_counted(errors, text).is_ok()
 }
 
-// Serves the lines that end in these bytes, reports those that came to nobody, and writes their text.
-fn answer<W: Write, E: Write>(
+// One read, and the answers to the lines that end in what it gave; what came of the input, if it has ended.
+fn turn<R: Read, W: Write, E: CountedWrite>(
     alloc: Global,
-    serving: &mut Serving,
-    bytes: &[u8],
-    writer: &mut W,
-    errors: &mut E,
-    heard: &mut bool,
-) -> Result<(), ServeFault>
-    ensures ok { OnOk result ((from : AnyDevices) (left rest : Option (List ℕ)) → Consumes left rest bytes.now
-        → IsAt from (devices left (W.contents writer.old) (E.contents errors.old)) heard.old serving.old
-        → IsAt from (devices rest (W.contents writer.new) (E.contents errors.new)) heard.new serving.new) }
-    ensures stopped { IfErr result (λ f. (from : AnyDevices) (left rest : Option (List ℕ)) → Consumes left rest bytes.now
-        → IsAt from (devices left (W.contents writer.old) (E.contents errors.old)) heard.old serving.old
-        → IsStopped from (devices rest (W.contents writer.new) (E.contents errors.new)) heard.new f) }
-{
-    let mut out = Vec::new(alloc);
-    let mut told = Vec::new(alloc);
-    let fed = serving.feed(alloc, bytes, &mut out, &mut told);
-    let said = told.as_slice();
-    let taken = tell(errors, *heard, said);
-    *heard = taken;
-    let text = out.as_slice();
-    match write_flushed(writer, text) {
-        Ok(()) => fed,
-        Err(WriteFault) => Err(ServeFault::Write),
-    }
-}
-
-// The input has ended: serves what is left, reports what came to nobody, and writes its text.
-fn end<W: Write, E: Write>(
-    alloc: Global,
-    serving: &mut Serving,
-    writer: &mut W,
-    errors: &mut E,
-    heard: &mut bool,
-) -> Result<(), ServeFault>
-    ensures ok { OnOk result ((from : AnyDevices) (left : Option (List ℕ)) → IsAtEnd left
-        → IsAt from (devices left (W.contents writer.old) (E.contents errors.old)) heard.old serving.old
-        → IsEnded from (devices left (W.contents writer.new) (E.contents errors.new)) heard.new serving.new) }
-    ensures stopped { IfErr result (λ f. (from : AnyDevices) (left : Option (List ℕ))
-        → IsAt from (devices left (W.contents writer.old) (E.contents errors.old)) heard.old serving.old
-        → IsStopped from (devices left (W.contents writer.new) (E.contents errors.new)) heard.new f) }
-{
-    let mut out = Vec::new(alloc);
-    let mut told = Vec::new(alloc);
-    let ended = serving.finish(&mut out, &mut told);
-    let said = told.as_slice();
-    let taken = tell(errors, *heard, said);
-    *heard = taken;
-    let text = out.as_slice();
-    match write_flushed(writer, text) {
-        Ok(()) => ended,
-        Err(WriteFault) => Err(ServeFault::Write),
-    }
-}
-
-// One read, and the answers to the lines that end in what it gave; whether the input has ended.
-fn turn<R: Read, W: Write, E: Write>(
-    alloc: Global,
+    chunk: &mut [u8],
     serving: &mut Serving,
     reader: &mut R,
     writer: &mut W,
     errors: &mut E,
     heard: &mut bool,
-) -> Result<bool, ServeFault>
-    ensures on { IfOk result (λ ended. ended ≡ false → (from : AnyDevices)
-        → IsAt from (devices (R.remaining reader.old) (W.contents writer.old) (E.contents errors.old)) heard.old serving.old
-        → IsAt from (devices (R.remaining reader.new) (W.contents writer.new) (E.contents errors.new)) heard.new serving.new) }
-    ensures end { IfOk result (λ ended. ended ≡ true → (from : AnyDevices)
-        → IsAt from (devices (R.remaining reader.old) (W.contents writer.old) (E.contents errors.old)) heard.old serving.old
-        → IsEnded from (devices (R.remaining reader.new) (W.contents writer.new) (E.contents errors.new)) heard.new serving.new) }
-    ensures stopped { IfErr result (λ f. (from : AnyDevices)
-        → IsAt from (devices (R.remaining reader.old) (W.contents writer.old) (E.contents errors.old)) heard.old serving.old
+) -> Result<Option<Served>, ServeFault>
+    requires heard { heard.old ≡ not (E.has_failed errors.old) }
+    requires few { E.writes errors.old + 2 ^ 64 < 2 ^ 128 }
+    requires some { 0 < length chunk.old }
+    ensures served { IfOk result (λ end. (from : AnyDevices) (turns : ℕ)
+        → IsAt from (devices (R.remaining reader.old) (W.contents writer.old) (E.contents errors.old)) heard.old turns serving.old
+        → MatchOption end (IsAt from (devices (R.remaining reader.new) (W.contents writer.new) (E.contents errors.new)) heard.new (turns + 1) serving.new)
+        (IsServed from (devices (R.remaining reader.new) (W.contents writer.new) (E.contents errors.new)) heard.new)) }
+    ensures stopped { IfErr result (λ f. (from : AnyDevices) (turns : ℕ)
+        → IsAt from (devices (R.remaining reader.old) (W.contents writer.old) (E.contents errors.old)) heard.old turns serving.old
         → IsStopped from (devices (R.remaining reader.new) (W.contents writer.new) (E.contents errors.new)) heard.new f) }
+    ensures heard { heard.new ≡ not (E.has_failed errors.new) }
+    ensures counted { E.writes errors.new ≤ E.writes errors.old + 2 ^ 64 }
+    ensures same { E.name errors.new ≡ E.name errors.old }
 {
-    let mut chunk = [0u8; 4096];
-    let Ok(count) = reader.read(&mut chunk) else {
+    let Ok(count) = reader.read(chunk) else {
         return Err(ServeFault::Read);
     };
-    if count == 0 {
-        return match end(alloc, serving, writer, errors, heard) {
-            Ok(()) => Ok(true),
-            Err(fault) => Err(fault),
-        };
-    }
-    match answer(alloc, serving, &chunk[..count], writer, errors, heard) {
-        Ok(()) => Ok(false),
-        Err(fault) => Err(fault),
+    let mut out = Vec::new(alloc);
+    let mut told = Vec::new(alloc);
+    let end = serving.take_read(alloc, &chunk[..count], &mut out, &mut told);
+    let taken = tell(errors, *heard, told.as_slice());
+    *heard = taken;
+    match write_flushed(writer, out.as_slice()) {
+        Ok(()) => end,
+        Err(WriteFault) => Err(ServeFault::Write),
     }
 }
 
 // Serves each line of the reader, until the input or a fault ends the service.
-fn serve_lines<R: Read, W: Write, E: Write>(
+fn serve_lines<R: Read, W: Write, E: CountedWrite>(
     alloc: Global,
     serving: &mut Serving,
     reader: &mut R,
     writer: &mut W,
     errors: &mut E,
     heard: &mut bool,
-) -> Result<(), ServeFault>
-    requires fed { IsFed [] serving.old at_first }
+) -> Result<Served, ServeFault>
+    requires fed { IsFed [] serving.old [] [] [] [] }
     requires heard { heard.old ≡ true }
-    ensures ended { OnOk result (IsEnded (devices (R.remaining reader.old) (W.contents writer.old) (E.contents errors.old))
-        (devices (R.remaining reader.new) (W.contents writer.new) (E.contents errors.new)) heard.new serving.new) }
+    requires sound { heard.old ≡ not (E.has_failed errors.old) }
+    requires few { E.writes errors.old ≡ 0 }
+    ensures served { IfOk result (IsServed (devices (R.remaining reader.old) (W.contents writer.old) (E.contents errors.old))
+        (devices (R.remaining reader.new) (W.contents writer.new) (E.contents errors.new)) heard.new) }
     ensures stopped { IfErr result (IsStopped (devices (R.remaining reader.old) (W.contents writer.old) (E.contents errors.old))
         (devices (R.remaining reader.new) (W.contents writer.new) (E.contents errors.new)) heard.new) }
+    ensures heard { heard.new ≡ not (E.has_failed errors.new) }
+    ensures same { E.name errors.new ≡ E.name errors.old }
 {
+    let mut chunk = [0u8; 4096];
     for _turns in 0..u64::MAX {
-        match turn(alloc, serving, reader, writer, errors, heard) {
-            Ok(true) => return Ok(()),
-            Ok(false) => (),
+        match turn(alloc, &mut chunk, serving, reader, writer, errors, heard) {
+            Ok(Some(served)) => return Ok(served),
+            Ok(None) => (),
             Err(fault) => return Err(fault),
         }
     }
@@ -172,7 +127,7 @@ fn serve_lines<R: Read, W: Write, E: Write>(
 }
 
 /// Answers each line of the reader on the writer as soon as it has come, by evidence, and reports on standard error the
-/// lines that came to nobody. At a fault the lines before it were answered.
+/// lines whose refusal no run gets. At a fault the lines before it were answered.
 pub fn serve<R: Read, W: Write, E: Write>(
     alloc: Global,
     reader: &mut R,
@@ -184,20 +139,7 @@ pub fn serve<R: Read, W: Write, E: Write>(
 {
     let mut serving = Serving::new(alloc);
     let mut told = true;
-    match serve_lines(alloc, &mut serving, reader, writer, errors, &mut told) {
-        Ok(()) => {
-            let served = Served {
-                worst: serving.worst(),
-                refused: serving.refused(),
-            };
-            Ending {
-                outcome: Ok(served),
-                told,
-            }
-        }
-        Err(fault) => Ending {
-            outcome: Err(fault),
-            told,
-        },
-    }
+    let mut counted = CountedWriter::new(errors);
+    let outcome = serve_lines(alloc, &mut serving, reader, writer, &mut counted, &mut told);
+    Ending { outcome, told }
 }

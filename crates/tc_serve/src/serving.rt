@@ -1,17 +1,17 @@
 //! Lines that come in pieces.
-ghost use Rattle.std.specs.Prelude.{◌≡◌, ◌<◌, ◌+◌, ◌++◌, ◌∷◌, ◌||◌, [], ℕ, List, IfErr, OnOk, OnErr};
+ghost use Rattle.std.specs.Prelude.{◌≡◌, ◌<◌, ◌++◌, ◌∷◌, [], ℕ, List, Option, IfOk, IfErr, OnOk, OnErr, MatchOption, length};
 ghost use Rattle.std.specs.Io.{StartsWith};
-ghost use Rattle.tc_serve.specs.declared.server.Answered.TheVariants as answers;
-ghost use Rattle.tc_serve.specs.Inside.{Feeds, Finishes, Holds, IsBadLast, IsBadLine, IsCounted, IsFed, IsLineFault, IsOver, Leads, Stops, StopsAtEnd};
-ghost use Rattle.tc_serve.specs.Served.{Course as AnyCourse, Ends, MayGoOn, ServesLine, at_first, refuses, seen, told_of};
-ghost use Rattle.tc_serve.specs.Stand.{Stand as AnyStand, worst_of};
-ghost use Rattle.tc_serve.specs.Step.{StandsAs};
+ghost use Rattle.std.specs.Io.KnownBytes.{IsAtEnd};
+ghost use Rattle.tc_serve.specs.Inside.{Closes, Fails, Finishes, IsEnd, IsFed, Serves, Stops};
+ghost use Rattle.tc_serve.specs.Protocol.{was_lost};
+ghost use Rattle.tc_serve.specs.Text.{end_told, lost_text};
 
 use crate::fault::ServeFault;
 use crate::open_case::refused_words;
-use crate::server::{Answered, Server};
+use crate::server::Server;
+use crate::service::Served;
 use std::alloc::Global;
-use tc_entry::{NoMemory, Verdict};
+use tc_entry::NoMemory;
 use tc_text::{append_number, append_text};
 
 /// How many bytes of a line are looked at: one more than any line has that asks for something.
@@ -29,16 +29,9 @@ pub(crate) struct Serving {
     refused: bool,
 }
 
-// Whether a line was refused: before, or the one of which this came.
-fn or_refuses(refused: bool, answered: Answered) -> bool
-    ensures { result ≡ (refused || refuses answered) }
-{
-    refused || !matches!(answered, Answered::Done)
-}
-
-// Appends the report of the line of this number, which came to nobody; if memory runs out, a part of it.
+// Appends the report of the line of this number, whose refusal no run gets; if memory runs out, a part of it.
 fn append_lost(told: &mut Vec<u8>, line: usize) -> Result<(), NoMemory>
-    ensures ok { OnOk result (told.new.items ≡ told.old.items ++ told_of answers.Nobody line) }
+    ensures ok { OnOk result (told.new.items ≡ told.old.items ++ lost_text line was_lost) }
     ensures any { StartsWith told.new.items told.old.items }
 {
     append_text(told, "ttrun: line ")?;
@@ -49,23 +42,21 @@ fn append_lost(told: &mut Vec<u8>, line: usize) -> Result<(), NoMemory>
     Ok(())
 }
 
-// The same. If memory runs out, nothing is appended.
-fn append_whole_lost(told: &mut Vec<u8>, line: usize) -> Result<(), NoMemory>
-    ensures ok { OnOk result (told.new.items ≡ told.old.items ++ told_of answers.Nobody line) }
+// Reports that the input ended, if a test case is open. If memory runs out, nothing is appended.
+fn append_end(told: &mut Vec<u8>, inside: bool) -> Result<(), NoMemory>
+    ensures ok { OnOk result (told.new.items ≡ told.old.items ++ end_told inside) }
     ensures err { OnErr result (told.new.items ≡ told.old.items) }
 {
-    let start = told.len();
-    if append_lost(told, line).is_ok() {
+    if !inside {
         return Ok(());
     }
-    told.truncate(start);
-    Err(NoMemory)
+    append_text(told, "ttrun: the input ended inside a test case\n")
 }
 
 impl Serving {
     /// No line so far.
     pub fn new(alloc: Global) -> Serving
-        ensures { IsFed [] result at_first }
+        ensures { IsFed [] result [] [] [] [] }
     {
         Serving {
             server: Server::new(),
@@ -75,104 +66,78 @@ impl Serving {
         }
     }
 
-    /// The worst verdict of the test cases that were closed.
-    pub fn worst(&self) -> Verdict
-        ensures { (s : AnyStand) → StandsAs self.now.server s → result ≡ worst_of s }
-    {
-        self.server.worst()
-    }
-
-    /// Whether a line was refused.
-    pub fn refused(&self) -> bool
-        ensures { result ≡ self.now.refused }
-    {
-        self.refused
-    }
-
-    // Reports the next line, which came to nobody.
-    fn tell_lost(&self, told: &mut Vec<u8>) -> Result<(), ServeFault>
-        requires few { self.now.lines < usize.MAX }
-        ensures ok { OnOk result (told.new.items ≡ told.old.items ++ told_of answers.Nobody (self.now.lines + 1)) }
-        ensures open { OnOk result ((s : AnyStand) → StandsAs self.now.server s → MayGoOn answers.Nobody s) }
-        ensures fault { IfErr result (λ f. (s : AnyStand) → StandsAs self.now.server s → IsLineFault answers.Nobody (self.now.lines + 1) s f) }
-        ensures err { OnErr result (told.new.items ≡ told.old.items) }
-    {
-        if !self.server.is_open() {
-            return Err(ServeFault::Line(self.lines + 1));
-        }
-        match append_whole_lost(told, self.lines + 1) {
-            Ok(()) => Ok(()),
-            Err(NoMemory) => Err(ServeFault::NoMemory),
-        }
-    }
-
-    // Reports the next line, of which this came, if it came to nobody.
-    fn tell(&self, answered: Answered, told: &mut Vec<u8>) -> Result<(), ServeFault>
-        requires few { self.now.lines < usize.MAX }
-        ensures ok { OnOk result (told.new.items ≡ told.old.items ++ told_of answered (self.now.lines + 1)) }
-        ensures open { OnOk result ((s : AnyStand) → StandsAs self.now.server s → MayGoOn answered s) }
-        ensures fault { IfErr result (λ f. (s : AnyStand) → StandsAs self.now.server s → IsLineFault answered (self.now.lines + 1) s f) }
-        ensures err { OnErr result (told.new.items ≡ told.old.items) }
-    {
-        match answered {
-            Answered::Done => Ok(()),
-            Answered::Refused => Ok(()),
-            Answered::Nobody => self.tell_lost(told),
-        }
-    }
-
-    // Counts the next line, of which this came, and reports it if it came to nobody.
-    fn count(&mut self, answered: Answered, told: &mut Vec<u8>) -> Result<(), ServeFault>
-        requires few { self.old.lines < usize.MAX }
-        ensures ok { OnOk result ((c : AnyCourse) → Holds self.old c → IsCounted answered self.new c told.old.items told.new.items) }
-        ensures fault { IfErr result (λ f. (c : AnyCourse) → Holds self.old c → IsLineFault answered (c.lines + 1) c.stand f) }
-        ensures err { OnErr result (told.new.items ≡ told.old.items) }
-        ensures any { StartsWith told.new.items told.old.items }
-        ensures line { self.new.line ≡ self.old.line }
-    {
-        if let Err(fault) = self.tell(answered, told) {
-            return Err(fault);
-        }
-        self.refused = or_refuses(self.refused, answered);
-        self.lines += 1;
-        Ok(())
-    }
-
-    // Serves the line that has ended.
-    fn serve_line(
+    // Serves the line, which LF ended or the input; if a fault ends the service, a part may have been appended.
+    fn answer(
         &mut self,
         alloc: Global,
+        ended: bool,
         out: &mut Vec<u8>,
         told: &mut Vec<u8>,
     ) -> Result<(), ServeFault>
-        ensures ok { OnOk result ((c : AnyCourse) (line : List ℕ) → Holds self.old c → self.old.line.items ≡ seen line
-            → Leads (ServesLine line c) self.new c out.old.items out.new.items told.old.items told.new.items) }
-        ensures fault { IfErr result (λ f. (c : AnyCourse) (line : List ℕ) → Holds self.old c → self.old.line.items ≡ seen line
-            → IsBadLine line c f × (out.new.items ≡ out.old.items)) }
-        ensures err { OnErr result (told.new.items ≡ told.old.items) }
+        ensures ok { OnOk result (Serves ended self.old self.new out.old.items out.new.items told.old.items told.new.items) }
+        ensures fault { IfErr result (Fails ended self.old out.old.items told.old.items) }
+        ensures any { StartsWith out.new.items out.old.items }
+        ensures any_told { StartsWith told.new.items told.old.items }
     {
         if self.lines == usize::MAX {
             return Err(ServeFault::TooLong);
         }
-        match self.server.step(alloc, self.line.as_slice(), out) {
-            Ok(answered) => self.count(answered, told),
-            Err(NoMemory) => Err(ServeFault::NoMemory),
+        self.lines += 1;
+        if self
+            .server
+            .try_line(alloc, ended, self.line.as_slice(), out)?
+        {
+            return Ok(());
+        }
+        if !self.server.is_open() {
+            return Err(ServeFault::Line(self.lines));
+        }
+        self.refused = true;
+        if self.server.refuse(self.line.as_slice(), out)? {
+            return Ok(());
+        }
+        append_lost(told, self.lines)?;
+        Ok(())
+    }
+
+    // Serves the line, which LF ended or the input; if a fault ends the service, nothing is appended.
+    fn serve_line(
+        &mut self,
+        alloc: Global,
+        ended: bool,
+        out: &mut Vec<u8>,
+        told: &mut Vec<u8>,
+    ) -> Result<(), ServeFault>
+        ensures ok { OnOk result (Serves ended self.old self.new out.old.items out.new.items told.old.items told.new.items) }
+        ensures fault { IfErr result (Fails ended self.old out.old.items told.old.items) }
+        ensures err { OnErr result (out.new.items ≡ out.old.items) }
+        ensures err_told { OnErr result (told.new.items ≡ told.old.items) }
+    {
+        let written = out.len();
+        let said = told.len();
+        match self.answer(alloc, ended, out, told) {
+            Ok(()) => Ok(()),
+            Err(fault) => {
+                out.truncate(written);
+                told.truncate(said);
+                Err(fault)
+            }
         }
     }
 
-    // Serves the line that has ended, and begins the next one.
+    // Serves the line that LF ended, and begins the next one.
     fn end_line(
         &mut self,
         alloc: Global,
         out: &mut Vec<u8>,
         told: &mut Vec<u8>,
     ) -> Result<(), ServeFault>
-        ensures ok { OnOk result ((bytes : List ℕ) (c : AnyCourse) → IsFed bytes self.old c
-            → Feeds (bytes ++ 10 ∷ []) self.new c out.old.items out.new.items told.old.items told.new.items) }
-        ensures stopped { IfErr result (λ f. (bytes more : List ℕ) (c : AnyCourse) → IsFed bytes self.old c
-            → Stops (bytes ++ 10 ∷ more) c out.old.items out.new.items told.old.items told.new.items f) }
+        ensures ok { OnOk result ((bytes before before' : List ℕ) → IsFed bytes self.old before out.old.items before' told.old.items
+            → IsFed (bytes ++ 10 ∷ []) self.new before out.new.items before' told.new.items) }
+        ensures stopped { IfErr result (λ f. (bytes more before before' : List ℕ) (input : Option (List ℕ)) → IsFed bytes self.old before out.old.items before' told.old.items
+            → Stops (bytes ++ 10 ∷ more) input before out.new.items before' told.new.items f) }
     {
-        match self.serve_line(alloc, out, told) {
+        match self.serve_line(alloc, true, out, told) {
             Ok(()) => {
                 self.line.clear();
                 Ok(())
@@ -189,10 +154,10 @@ impl Serving {
         out: &mut Vec<u8>,
         told: &mut Vec<u8>,
     ) -> Result<(), ServeFault>
-        ensures ok { OnOk result ((bytes : List ℕ) (c : AnyCourse) → IsFed bytes self.old c
-            → Feeds (bytes ++ byte ∷ []) self.new c out.old.items out.new.items told.old.items told.new.items) }
-        ensures stopped { IfErr result (λ f. (bytes more : List ℕ) (c : AnyCourse) → IsFed bytes self.old c
-            → Stops (bytes ++ byte ∷ more) c out.old.items out.new.items told.old.items told.new.items f) }
+        ensures ok { OnOk result ((bytes before before' : List ℕ) → IsFed bytes self.old before out.old.items before' told.old.items
+            → IsFed (bytes ++ byte ∷ []) self.new before out.new.items before' told.new.items) }
+        ensures stopped { IfErr result (λ f. (bytes more before before' : List ℕ) (input : Option (List ℕ)) → IsFed bytes self.old before out.old.items before' told.old.items
+            → Stops (bytes ++ byte ∷ more) input before out.new.items before' told.new.items f) }
     {
         if byte == b'\n' {
             return self.end_line(alloc, out, told);
@@ -206,19 +171,18 @@ impl Serving {
         }
     }
 
-    /// Takes these bytes, and appends the text of each line that ends in them, and the reports of those that came to nobody.
-    /// If a fault ends the service, the text of the lines before it was appended.
-    pub fn feed(
+    // Takes these bytes, and serves each line that ends in them.
+    fn feed(
         &mut self,
         alloc: Global,
         bytes: &[u8],
         out: &mut Vec<u8>,
         told: &mut Vec<u8>,
     ) -> Result<(), ServeFault>
-        ensures ok { OnOk result ((before : List ℕ) (c : AnyCourse) → IsFed before self.old c
-            → Feeds (before ++ bytes.now) self.new c out.old.items out.new.items told.old.items told.new.items) }
-        ensures stopped { IfErr result (λ f. (before : List ℕ) (c : AnyCourse) → IsFed before self.old c
-            → Stops (before ++ bytes.now) c out.old.items out.new.items told.old.items told.new.items f) }
+        ensures ok { OnOk result ((read before before' : List ℕ) → IsFed read self.old before out.old.items before' told.old.items
+            → IsFed (read ++ bytes.now) self.new before out.new.items before' told.new.items) }
+        ensures stopped { IfErr result (λ f. (read before before' : List ℕ) (input : Option (List ℕ)) → IsFed read self.old before out.old.items before' told.old.items
+            → Stops (read ++ bytes.now) input before out.new.items before' told.new.items f) }
     {
         for byte in bytes {
             if let Err(fault) = self.take(alloc, *byte, out, told) {
@@ -228,72 +192,96 @@ impl Serving {
         Ok(())
     }
 
-    // Refuses a last line that no LF ends, if there is one; if a fault ends the service, a part may have been appended.
-    fn end_last(&mut self, out: &mut Vec<u8>, told: &mut Vec<u8>) -> Result<(), ServeFault>
-        ensures ok { OnOk result ((c : AnyCourse) (line : List ℕ) → Holds self.old c → self.old.line.items ≡ seen line
-            → Leads (Ends line c) self.new c out.old.items out.new.items told.old.items told.new.items) }
-        ensures fault { IfErr result (λ f. (c : AnyCourse) (line : List ℕ) → Holds self.old c → self.old.line.items ≡ seen line → IsBadLast line c f) }
-        ensures any { StartsWith out.new.items out.old.items }
-        ensures any_told { StartsWith told.new.items told.old.items }
+    // Serves a last line that no LF ends, if there is one.
+    fn end_last(
+        &mut self,
+        alloc: Global,
+        out: &mut Vec<u8>,
+        told: &mut Vec<u8>,
+    ) -> Result<(), ServeFault>
+        ensures ok { OnOk result ((bytes before before' : List ℕ) → IsFed bytes self.old before out.old.items before' told.old.items
+            → IsEnd bytes self.new before out.new.items before' told.new.items) }
+        ensures stopped { IfErr result (λ f. (bytes before before' : List ℕ) (input : Option (List ℕ)) → IsAtEnd input
+            → IsFed bytes self.old before out.old.items before' told.old.items → Stops bytes input before out.new.items before' told.new.items f) }
     {
         if self.line.is_empty() {
             return Ok(());
         }
-        if self.lines == usize::MAX {
-            return Err(ServeFault::TooLong);
-        }
-        match self.server.refuse(self.line.as_slice(), out) {
-            Ok(answered) => self.count(answered, told),
-            Err(NoMemory) => Err(ServeFault::NoMemory),
-        }
-    }
-
-    // Closes the test case that is open, if one is, and reports that. If memory runs out, a part may have been appended.
-    fn close(&mut self, out: &mut Vec<u8>, told: &mut Vec<u8>) -> Result<(), NoMemory>
-        ensures ok { OnOk result ((c : AnyCourse) → Holds self.old c → IsOver self.new c out.old.items out.new.items told.old.items told.new.items) }
-        ensures any { StartsWith out.new.items out.old.items }
-        ensures any_told { StartsWith told.new.items told.old.items }
-    {
-        if !self.server.close(out)? {
-            return Ok(());
-        }
-        append_text(told, "ttrun: the input ended inside a test case\n")
-    }
-
-    // The input has ended; if a fault ends the service, a part may have been appended.
-    fn end(&mut self, out: &mut Vec<u8>, told: &mut Vec<u8>) -> Result<(), ServeFault>
-        ensures ok { OnOk result ((bytes : List ℕ) (c : AnyCourse) → IsFed bytes self.old c
-            → Finishes bytes self.new c out.old.items out.new.items told.old.items told.new.items) }
-        ensures fault { IfErr result (λ f. (bytes : List ℕ) (c : AnyCourse) → IsFed bytes self.old c → StopsAtEnd bytes c f) }
-        ensures any { StartsWith out.new.items out.old.items }
-        ensures any_told { StartsWith told.new.items told.old.items }
-    {
-        if let Err(fault) = self.end_last(out, told) {
-            return Err(fault);
-        }
-        match self.close(out, told) {
+        match self.serve_line(alloc, false, out, told) {
             Ok(()) => Ok(()),
-            Err(NoMemory) => Err(ServeFault::NoMemory),
+            Err(fault) => Err(fault),
         }
     }
 
-    /// The input has ended: refuses a last line that no LF ends, and closes the test case that is open. If a fault ends the
-    /// service, nothing is appended.
-    pub fn finish(&mut self, out: &mut Vec<u8>, told: &mut Vec<u8>) -> Result<(), ServeFault>
-        ensures ok { OnOk result ((bytes : List ℕ) (c : AnyCourse) → IsFed bytes self.old c
-            → Finishes bytes self.new c out.old.items out.new.items told.old.items told.new.items) }
-        ensures stopped { IfErr result (λ f. (bytes : List ℕ) (c : AnyCourse) → IsFed bytes self.old c
-            → Stops bytes c out.old.items out.new.items told.old.items told.new.items f) }
+    // Closes the test case that is open, if one is, and reports that. If memory runs out, nothing is appended.
+    fn close(&mut self, out: &mut Vec<u8>, told: &mut Vec<u8>) -> Result<(), NoMemory>
+        ensures ok { OnOk result (Closes self.old self.new out.old.items out.new.items told.old.items told.new.items) }
+        ensures err { OnErr result (out.new.items ≡ out.old.items) }
+        ensures err_told { OnErr result (told.new.items ≡ told.old.items) }
+        ensures refused { self.new.refused ≡ self.old.refused }
     {
         let written = out.len();
         let said = told.len();
-        match self.end(out, told) {
-            Ok(()) => Ok(()),
-            Err(fault) => {
+        append_end(told, self.server.is_open())?;
+        match self.server.close(out) {
+            Ok(_) => Ok(()),
+            Err(NoMemory) => {
                 out.truncate(written);
                 told.truncate(said);
-                Err(fault)
+                Err(NoMemory)
             }
+        }
+    }
+
+    // The input has ended: serves a last line that no LF ends, if there is one, and closes the test case that is open.
+    fn finish(
+        &mut self,
+        alloc: Global,
+        out: &mut Vec<u8>,
+        told: &mut Vec<u8>,
+    ) -> Result<Served, ServeFault>
+        ensures ok { IfOk result (λ r. (bytes before before' : List ℕ) → IsFed bytes self.old before out.old.items before' told.old.items
+            → Finishes bytes before out.new.items before' told.new.items r) }
+        ensures stopped { IfErr result (λ f. (bytes before before' : List ℕ) (input : Option (List ℕ)) → IsAtEnd input
+            → IsFed bytes self.old before out.old.items before' told.old.items → Stops bytes input before out.new.items before' told.new.items f) }
+    {
+        if let Err(fault) = self.end_last(alloc, out, told) {
+            return Err(fault);
+        }
+        match self.close(out, told) {
+            Ok(()) => Ok(Served {
+                worst: self.server.worst(),
+                refused: self.refused,
+            }),
+            Err(NoMemory) => Err(ServeFault::NoMemory),
+        }
+    }
+
+    /// Takes what was read, and appends the text of each line that ends in it, and the reports of those whose refusal no
+    /// run gets. If nothing was read, the input has ended: what came of it is returned. If a fault ends the service, the
+    /// texts of the lines before it were appended.
+    pub fn take_read(
+        &mut self,
+        alloc: Global,
+        bytes: &[u8],
+        out: &mut Vec<u8>,
+        told: &mut Vec<u8>,
+    ) -> Result<Option<Served>, ServeFault>
+        ensures ok { IfOk result (λ end. (read before before' : List ℕ) → IsFed read self.old before out.old.items before' told.old.items
+            → MatchOption end ((0 < length bytes.now) × IsFed (read ++ bytes.now) self.new before out.new.items before' told.new.items)
+            (λ r. (bytes.now ≡ []) × Finishes read before out.new.items before' told.new.items r)) }
+        ensures stopped { IfErr result (λ f. (read before before' : List ℕ) (input : Option (List ℕ)) → (length bytes.now ≡ 0 → IsAtEnd input)
+            → IsFed read self.old before out.old.items before' told.old.items → Stops (read ++ bytes.now) input before out.new.items before' told.new.items f) }
+    {
+        if bytes.is_empty() {
+            return match self.finish(alloc, out, told) {
+                Ok(served) => Ok(Some(served)),
+                Err(fault) => Err(fault),
+            };
+        }
+        match self.feed(alloc, bytes, out, told) {
+            Ok(()) => Ok(None),
+            Err(fault) => Err(fault),
         }
     }
 }

@@ -1,8 +1,16 @@
-use Rattle.tc_serve.proofs.Turns.{at_start, uncounted}
+use Rattle.std.proofs.Common.{◌≡◌, Some}
+use Rattle.tc_serve.proofs.Turns.{uncounted}
 use Rattle.tc_serve.proofs.service.serve_lines.Goals as goal
 
-pub loop-turns-init : goal.loop-turns-init
-loop-turns-init g c = rw c.requires.heard (at_start _ c.args.serving.now c.requires.fed)
-
 pub returns-clause-stopped : goal.returns-clause-stopped
-returns-clause-stopped g c = uncounted _ _ _ _ c.loop-turns.invariant
+returns-clause-stopped g c = uncounted _ _ _ c.loop-turns._turns _ c.loop-turns-test.false c.loop-turns.invariant.at_
+
+pub returns-in-Ok-Some-clause-served : goal.returns-in-Ok-Some-clause-served
+returns-in-Ok-Some-clause-served g c =
+    let first = c.in-Ok-Some.field-0-is in
+    let second = c.in-Ok-Some.served-is in
+    let is : c.in-Ok-Some.field-0 ≡ Some c.in-Ok-Some.served = cc in
+    rw is at ((rw c.in-Ok-Some.is at c.turn.ensures.served) _ _ c.loop-turns.invariant.at_)
+
+pub returns-in-Err-clause-stopped : goal.returns-in-Err-clause-stopped
+returns-in-Err-clause-stopped g c = c.in-Err.ensures.stopped _ _ c.loop-turns.invariant.at_

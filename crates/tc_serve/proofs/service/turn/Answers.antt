@@ -1,11 +1,32 @@
-use Rattle.tc_serve.proofs.Turns.{unread}
+use Rattle.std.proofs.Common.{arith, rules}
+use Rattle.std.proofs.lemmas.Result.{IfErr-weaker, IfOk-weaker}
+use Rattle.tc_serve.proofs.Turns.{going, stops_on, unwritten}
 use Rattle.tc_serve.proofs.service.turn.Goals as goal
 
-pub returns-in_default-clause-stopped : goal.returns-in_default-clause-stopped
-returns-in_default-clause-stopped g c = λ from at_. unread from _ _ _ _ _ c.args.serving.now c.in_default.ensures.bytes at_
+pub returns-in-Ok-write_flushed-clause-served : goal.returns-in-Ok-write_flushed-clause-served
+returns-in-Ok-write_flushed-clause-served g c =
+    IfOk-weaker c.take_read-end.result _ _
+    (λ end so from turns at_.
+    going from _ _ _ _ _ _ _ _ turns c.args.serving.now c.take_read-end.new.self _ _ _ at_ c.in-Ok.ensures.bytes.0 (rw c.as_slice.ensures.value at c.tell-taken.ensures.taken) end
+    (λ none. c.in-Ok.ensures.bytes.1 (omega (arith, none, c.in-Ok.ensures.bound.1)) (search rules))
+    (rw (c.new-out.ensures.items, c.new-told.ensures.items) at (so at_.bytes at_.before at_.before') at_.fed) (rw c.as_slice-2.ensures.value at c.in-Ok-write_flushed.ensures.all))
+    c.take_read-end.ensures.ok
 
-pub returns-in-Ok-answer-clause-on : goal.returns-in-Ok-answer-clause-on
-returns-in-Ok-answer-clause-on g c = λ yes from at_. c.in-Ok-answer.ensures.ok from _ _ c.in-Ok.ensures.bytes.0 at_
+pub returns-in-Ok-write_flushed-clause-stopped : goal.returns-in-Ok-write_flushed-clause-stopped
+returns-in-Ok-write_flushed-clause-stopped g c =
+    IfErr-weaker c.take_read-end.result _ _
+    (λ f so from turns at_.
+    stops_on from _ _ _ _ _ _ _ _ turns c.args.serving.now c.take_read-end.new.self _ _ _ at_ c.in-Ok.ensures.bytes.0 (rw c.as_slice.ensures.value at c.tell-taken.ensures.taken) f
+    ((rw (c.new-out.ensures.items, c.new-told.ensures.items) at (so at_.bytes at_.before at_.before')) _
+    (λ none. c.in-Ok.ensures.bytes.1 (omega (arith, none, c.in-Ok.ensures.bound.1)) (search rules)) at_.fed)
+    (rw c.as_slice-2.ensures.value at c.in-Ok-write_flushed.ensures.all))
+    c.take_read-end.ensures.stopped
 
-pub returns-in-Err-answer-clause-stopped : goal.returns-in-Err-answer-clause-stopped
-returns-in-Err-answer-clause-stopped g c = λ from at_. c.in-Err-answer.ensures.stopped from _ _ c.in-Ok.ensures.bytes.0 at_
+pub returns-clause-stopped : goal.returns-clause-stopped
+returns-clause-stopped g c = λ from turns at_.
+    unwritten from _ _ _ _ _ _ _ _ turns c.args.serving.now c.take_read-end.new.self _ _ _ at_ c.in-Ok.ensures.bytes.0 (rw c.as_slice.ensures.value at c.tell-taken.ensures.taken) c.take_read-end.result
+    (λ none. c.in-Ok.ensures.bytes.1 (omega (arith, none, c.in-Ok.ensures.bound.1)) (search rules))
+    (IfOk-weaker c.take_read-end.result _ _ (λ end so. rw (c.new-out.ensures.items, c.new-told.ensures.items) at (so at_.bytes at_.before at_.before') at_.fed) c.take_read-end.ensures.ok)
+    (IfErr-weaker c.take_read-end.result _ _ (λ f so. (rw (c.new-out.ensures.items, c.new-told.ensures.items) at (so at_.bytes at_.before at_.before')) _
+    (λ none. c.in-Ok.ensures.bytes.1 (omega (arith, none, c.in-Ok.ensures.bound.1)) (search rules)) at_.fed) c.take_read-end.ensures.stopped)
+    (rw c.as_slice-2.ensures.value at c.in-Err.ensures.part)

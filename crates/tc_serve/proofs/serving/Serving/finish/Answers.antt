@@ -1,10 +1,11 @@
-use Rattle.std.proofs.Common.{◌≡◌, arith}
-use Rattle.std.proofs.lemmas.Grind.{common_steps}
-use Rattle.tc_serve.proofs.Feeding.{stops_finish}
+use Rattle.std.proofs.Common.{refl}
+use Rattle.tc_serve.proofs.Feeding.{finishes, stops_close}
 use Rattle.tc_serve.proofs.serving.Serving.finish.Goals as goal
 
-pub returns-in-Err-clause-stopped : goal.returns-in-Err-clause-stopped
-returns-in-Err-clause-stopped c bytes c' fed =
-    let same : c.truncate.new.self.items ≡ c.args.out.now.items = grind (arith, common_steps) in
-    let same_told : c.truncate-in-Err.new.self.items ≡ c.args.told.now.items = grind (arith, common_steps) in
-    stops_finish bytes c' c.args.out.now.items _ c.args.told.now.items _ c.in-Err.fault (c.in-Err.ensures.fault bytes c' fed) same same_told
+pub returns-in-Ok-clause-ok : goal.returns-in-Ok-clause-ok
+returns-in-Ok-clause-ok c bytes before before' fed =
+    finishes bytes before before' c.end_last.new.self c.close.new.self _ _ _ _ _ (c.in_default.ensures.ok bytes before before' fed) c.in-Ok.ensures.ok c.in-Ok.ensures.refused c.worst.ensures refl
+
+pub returns-in-Err-close-clause-stopped : goal.returns-in-Err-close-clause-stopped
+returns-in-Err-close-clause-stopped c bytes before before' input end fed =
+    stops_close bytes before before' c.end_last.new.self _ _ _ _ input end (c.in_default.ensures.ok bytes before before' fed) c.in-Err-close.ensures.err c.in-Err-close.ensures.err_told

@@ -1,0 +1,8 @@
+use Rattle.std.proofs.Common.{sym}
+use Rattle.tc_serve.specs.Protocol.{added}
+use Rattle.tc_serve.proofs.Trying.{opened_tries}
+use Rattle.tc_serve.proofs.server.Server.add.Goals as goal
+
+pub returns-clause-ok : goal.returns-clause-ok
+returns-clause-ok c =
+    opened_tries c.args.self.now c.in-Some.held c.add.new.self (added c.args.line.now) _ c.args.out.now.items c.add.new.out.items (sym c.in-Some.ensures.value) c.in_ok-done.ensures.ok

@@ -1,0 +1,193 @@
+-- The protocol: what a line asks for, when it may, what it adds to the evidence, who is woken by it, what a refused line
+-- does, and how the service ends. How a line is spelled is in Order, and what is written in Text.
+use Rattle.std.specs.Prelude.{ℕ, ◌≡◌, ◌==◌, ◌<◌, ◌^◌, ◌&&◌, not, nat_lt, if◌then◌else◌, zero, suc, Bool, true, false, Option, Some, None, is_some, unwrap_or, List, [], ◌∷◌, ◌++◌, codes, take}
+use Rattle.std.specs.Option.{option_and_then, option_map}
+use Rattle.std.specs.List.{list_all}
+use Rattle.std.specs.Fmt.{decimal}
+use Rattle.tc_verdict.specs.declared.run.Run.{Run}
+use Rattle.tc_entry.specs.declared.entry.Entry.{Entry}
+use Rattle.tc_entry.specs.declared.op.Op.{Op}
+use Rattle.tc_entry.specs.declared.op.Op.TheVariants as Ops
+use Rattle.tc_entry.specs.declared.reply.Reply.{Reply}
+use Rattle.tc_entry.specs.declared.reply.Reply.TheVariants as R
+use Rattle.tc_text.specs.Reading.{EndsNumber}
+use Rattle.tc_table.specs.declared.awaited.Awaited.{Awaited}
+use Rattle.tc_table.specs.Answers.{answer}
+use Rattle.tc_table.specs.Waiting.{waiting}
+use Rattle.tc_evidence.specs.declared.line.Line.{Line}
+use Rattle.tc_evidence.specs.declared.line.Line.TheVariants as L
+use Rattle.tc_evidence.specs.Line.{entries_of, is_met}
+use Rattle.tc_serve.specs.declared.order.Order.{Order}
+use Rattle.tc_serve.specs.declared.order.Order.TheVariants as O
+use Rattle.tc_serve.specs.declared.serving.TheConstants.{LINE_BYTES}
+use Rattle.tc_serve.specs.Order.{IsOrder, order_text}
+
+-- a test case: its name, how many behaviours it has, and the lines of its evidence, the newest first
+pub record Played : Type 0 where
+  pub name : List ℕ
+  pub behaviours : ℕ
+  pub lines : List Line
+
+-- its entries, the newest first
+abbrev pub past_of : Played → List Entry
+past_of p = entries_of p.lines
+
+-- the state of the service: the test cases that were closed, the newest first, and the one that is open
+pub record Stand : Type 0 where
+  pub closed : List Played
+  pub current : Option Played
+
+-- before the first line
+abbrev pub start : Stand
+start = record { closed = []; current = None }
+
+-- ---- a call, and who is woken by it
+
+-- the entry of a call, with the component table's reply
+abbrev pub called : ℕ → List Line → Run → Op → Entry
+called n lines caller op = record { caller = caller; op = op; reply = answer n (entries_of lines) caller.0 op }
+
+-- the reply says that the caller sleeps
+abbrev pub is_parked : Reply → Bool
+is_parked R.Parked = true
+is_parked _ = false
+
+-- the call asks again for what a wait was for
+abbrev pub wake_op : Awaited → Op
+wake_op a = Ops.Wake a.killed a.target
+
+-- the entry is added, unless its caller would sleep on
+abbrev pub unless_parked : Entry → List Line → List Line
+unless_parked e lines = if is_parked e.reply then lines else L.Entry e ∷ lines
+
+-- run b, of which this is the wait if it sleeps, is woken if it can continue
+abbrev pub woken_from : ℕ → List Line → ℕ → Option Awaited → List Line
+woken_from n lines b None = lines
+woken_from n lines b (Some a) = unless_parked (called n lines (record { 0 = b }) (wake_op a)) lines
+
+-- so are the first k runs, in the order of their numbers, each judged after those before it
+abbrev pub woken : ℕ → List Line → ℕ → List Line
+woken n lines zero = lines
+woken n lines (suc k) = woken_from n (woken n lines k) k (waiting (entries_of (woken n lines k)) k)
+
+-- ---- what may be asked of the test case that is open, and what that adds
+
+-- the call is a wake
+abbrev pub is_wake : Op → Bool
+is_wake (Ops.Wake k t) = true
+is_wake _ = false
+
+-- what run b waits for, if it is one of the test case and sleeps
+abbrev pub sleep_of : Played → ℕ → Option Awaited
+sleep_of p b = if nat_lt b p.behaviours then waiting (past_of p) b else None
+
+-- a client may make the call for the run: it is no wake, and the run does not sleep
+abbrev pub may_ask : Played → Run → Op → Bool
+may_ask p caller op = not (is_wake op) && not (is_some (sleep_of p caller.0))
+
+-- the test case after the call: its entry is added, and the wakes of all runs that can continue
+abbrev pub moved : Played → Run → Op → Played
+moved p caller op = record p { lines = woken p.behaviours (L.Entry (called p.behaviours p.lines caller op) ∷ p.lines) p.behaviours }
+
+-- the call is made, if it may be
+abbrev pub made : Run → Op → Played → Option Played
+made caller op p = if may_ask p caller op then Some (moved p caller op) else None
+
+-- a line that is no entry may be added if it is about a run of the test case; a name also needs that no line is about it
+abbrev pub may_add : Played → Line → Bool
+may_add p (L.Named run name) = nat_lt run.0 p.behaviours && not (is_met run.0 p.lines)
+may_add p (L.Entry e) = false
+may_add p (L.Remark run sentence) = nat_lt run.0 p.behaviours
+may_add p (L.Refused run sentence) = nat_lt run.0 p.behaviours
+
+-- the test case with one more line
+abbrev pub with_line : Played → Line → Played
+with_line p l = record p { lines = l ∷ p.lines }
+
+-- the line is added, if it may be
+abbrev pub added : Line → Played → Option Played
+added l p = if may_add p l then Some (with_line p l) else None
+
+-- ---- what a line does
+
+-- the test case that is open is this one now
+abbrev pub with_current : Stand → Played → Stand
+with_current s p = record { closed = s.closed; current = Some p }
+
+-- the test case that is open becomes another, if one is open and this may be
+abbrev pub with_open : Stand → (Played → Option Played) → Option Stand
+with_open s change = option_map (with_current s) (option_and_then change s.current)
+
+-- what is asked is done, if it may be
+abbrev pub taken : Stand → Order → Option Stand
+taken s (O.Case name n) = if is_some s.current then None else Some (with_current s (record { name = name; behaviours = n; lines = [] }))
+taken s (O.Named run name) = with_open s (added (L.Named run name))
+taken s (O.Move caller op) = with_open s (made caller op)
+taken s (O.Remark run sentence) = with_open s (added (L.Remark run sentence))
+taken s O.End = option_map (λ p. record { closed = p ∷ s.closed; current = None }) s.current
+
+-- what is said of a line that is refused
+abbrev pub why_refused : List ℕ
+why_refused = codes "bad move"
+
+-- a refused line changes nothing else: the run that sent it gets that, if it is one of a test case that is open
+abbrev pub refused : Stand → Run → Option Stand
+refused s run = with_open s (added (L.Refused run why_refused))
+
+-- the line is of this run: it begins with its number
+abbrev pub IsOf : List ℕ → ℕ → Type 0
+IsOf line run = (rest : List ℕ) × EndsNumber rest × (line ≡ decimal run ++ rest)
+
+-- the line asks for this; one that no LF ends asks for nothing
+abbrev pub Asks : Bool → List ℕ → Order → Type 0
+Asks ended line o = (ended ≡ true) × IsOrder o × (line ≡ order_text o)
+
+-- it asks for nothing that may be asked here
+abbrev pub Refuses : Bool → List ℕ → Stand → Type 0
+Refuses ended line s = (o : Order) → Asks ended line o → taken s o ≡ None
+
+-- no run gets the refusal of the line
+abbrev pub IsNobodys : List ℕ → Stand → Type 0
+IsNobodys line s = (run : Run) → run.0 < 2 ^ 16 → IsOf line run.0 → refused s run ≡ None
+
+-- what comes of a line: what it asks for is done; or it is refused, and its run gets that; or no run does
+pub data Came : Type 0 where
+  was_done : Order → Came
+  was_refused : Run → Came
+  was_lost : Came
+
+-- this comes of a line in a state, and that is the state after it; outside a test case no line may be lost
+abbrev pub Comes : Came → Bool → List ℕ → Stand → Stand → Type 0
+Comes (was_done o) ended line s t = Asks ended line o × (taken s o ≡ Some t)
+Comes (was_refused run) ended line s t = Refuses ended line s × IsOf line run.0 × (refused s run ≡ Some t)
+Comes was_lost ended line s t = Refuses ended line s × IsNobodys line s × (is_some s.current ≡ true) × (t ≡ s)
+
+-- ---- lines, one after the other
+
+-- a line that came: its bytes, whether LF ended it, and what came of it
+pub record Sent : Type 0 where
+  pub bytes : List ℕ
+  pub ended : Bool
+  pub came : Came
+
+-- no byte is LF
+abbrev pub NoLf : List ℕ → Type 0
+NoLf [] = Unit {0}
+NoLf (b ∷ bs) = ((b == 10) ≡ false) × NoLf bs
+
+-- what is looked at of a line
+abbrev pub seen : List ℕ → List ℕ
+seen line = take LINE_BYTES line
+
+-- each of these lines was ended by LF
+abbrev pub AllEnded : List Sent → Type 0
+AllEnded lines = list_all (λ l. l.ended) lines ≡ true
+
+-- these lines came, the newest first in the list, and this is the state after them; only the last may lack its LF
+abbrev pub AreServed : List Sent → Stand → Type 0
+AreServed [] s = s ≡ start
+AreServed (l ∷ before) t = (s : Stand) × AreServed before s × AllEnded before × NoLf l.bytes × Comes l.came l.ended (seen l.bytes) s t
+
+-- the state after the end of the input: the test case that is open is closed, if one is
+abbrev pub finished : Stand → Stand
+finished s = unwrap_or (taken s O.End) s

@@ -1,0 +1,68 @@
+-- What is written and reported of the lines that came, and what their verdicts come to.
+use Rattle.std.specs.Prelude.{ℕ, ◌+◌, if◌then◌else◌, Bool, true, false, is_some, List, [], ◌∷◌, ◌++◌, codes, length, map, reverse}
+use Rattle.std.specs.Option.{option_map_or}
+use Rattle.std.specs.List.{flat_map}
+use Rattle.std.specs.Fmt.{decimal}
+use Rattle.tc_verdict.specs.declared.verdict.Verdict.{Verdict}
+use Rattle.tc_verdict.specs.declared.verdict.Verdict.TheVariants as V
+use Rattle.tc_verdict.specs.Verdict.{worst}
+use Rattle.tc_history.specs.Block.{end_text}
+use Rattle.tc_table.specs.History.{is_over}
+use Rattle.tc_table.specs.Local.{overall}
+use Rattle.tc_evidence.specs.declared.header.Header.{Header}
+use Rattle.tc_evidence.specs.declared.header.Kind.TheVariants as K
+use Rattle.tc_evidence.specs.Line.{line_text}
+use Rattle.tc_evidence.specs.Block.{ended, header_text}
+use Rattle.tc_serve.specs.Protocol.{Came, Played, Sent, Stand, past_of, was_done, was_lost, was_refused, why_refused}
+
+-- what the first line of its evidence says
+abbrev pub header_of : Played → Header
+header_of p = record { kind = K.Evidence; name = p.name; behaviours = p.behaviours }
+
+-- the text of a test case that is open
+abbrev pub opening : Played → List ℕ
+opening p = ended (header_text (header_of p)) ++ flat_map (λ l. ended (line_text l)) (reverse p.lines)
+
+-- the text of a test case that was closed
+abbrev pub block : Played → List ℕ
+block p = opening p ++ ended (end_text (overall (past_of p)))
+
+-- the text so far
+abbrev pub stand_text : Stand → List ℕ
+stand_text s = flat_map block (reverse s.closed) ++ option_map_or opening s.current []
+
+-- the verdict that a test case counts as: error if it is not over
+abbrev pub counted : Played → Verdict
+counted p = if is_over (past_of p) then overall (past_of p) else V.Error
+
+-- the worst of the test cases that were closed
+abbrev pub worst_of : Stand → Verdict
+worst_of s = worst (map counted s.closed)
+
+-- the bytes of lines, the newest first in the list, each with its LF
+abbrev pub bytes_of : List Sent → List ℕ
+bytes_of [] = []
+bytes_of (l ∷ before) = bytes_of before ++ (l.bytes ++ (if l.ended then 10 ∷ [] else []))
+
+-- the line was refused
+abbrev pub is_refused : Came → Bool
+is_refused (was_done o) = false
+is_refused _ = true
+
+-- what goes to standard error about the line of this number
+abbrev pub lost_text : ℕ → Came → List ℕ
+lost_text n was_lost = codes "ttrun: line " ++ (decimal n ++ (codes ": " ++ (why_refused ++ (10 ∷ []))))
+lost_text n _ = []
+
+-- and about these lines, the newest first
+abbrev pub told_of : List Sent → List ℕ
+told_of [] = []
+told_of (l ∷ before) = told_of before ++ lost_text (length before + 1) l.came
+
+-- and about the end of the input, by whether a test case is open
+abbrev pub end_told : Bool → List ℕ
+end_told inside = if inside then codes "ttrun: the input ended inside a test case" ++ (10 ∷ []) else []
+
+-- what goes there in all, if the input ends after these lines in this state
+abbrev pub told_at_end : List Sent → Stand → List ℕ
+told_at_end lines s = told_of lines ++ end_told (is_some s.current)
