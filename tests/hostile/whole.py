@@ -32,7 +32,6 @@ UNREFUSED: Tuple[Exempt, ...] = (
     (("read_evidence_into",), "check and report make it"),
     (("read_evidence", "append_whole_block", "Block::history"), "no program keeps or writes whole blocks of evidence yet"),
     (("answer_alone",), "it makes the calls of answer; tests/play takes the memory from it"),
-    (("Server::step",), "serve makes it"),
     (("stop_word",), "it is handed no allocator: its one fault is that the word names no verdict"),
 )
 # What these are handed holds no allocator, so that they can ask for no memory; memory.py looks at their heads.
@@ -41,7 +40,7 @@ WITHOUT_ALLOCATOR = (
     "WordFault::text", "Step::operation", "Step::is_bound", "Place::is_bound", "Place::map", "GroupPlace::map", "TargetPlace::map",
     "Places::new", "Places::push", "Places::as_slice", "Script::is_script", "ScriptKind::text", "read_reference", "is_comment", "is_word",
     "Keyword::text", "read_keyword", "read_verdict", "tc_line::read_name", "Lines::new", "Lines::next", "awaited_line",
-    "deciding_entry", "component_of", "name_of", "Server::new", "Server::is_open", "Server::worst",
+    "deciding_entry", "component_of", "name_of",
 )
 # These take no memory, and are not made with every growth refused by themselves.
 UNTRIED: Tuple[Exempt, ...] = (

@@ -181,7 +181,7 @@ abbrev pub Hears : Bool → Bool → Option (List ℕ) → Option (List ℕ) →
 Hears true told before after text = IsTaken told before after text
 Hears false told before after text = (told ≡ false) × (after ≡ before)
 
--- in so many turns these bytes were read, and what came of them is written and reported
+-- these bytes were read in this number of turns, and what came of them is written and reported
 pub record IsAt (from to : Devices) (told : Bool) (turns : ℕ) (v : Serving) : Type 0 where
   pub bytes : List ℕ
   pub read : Consumes from.input to.input bytes

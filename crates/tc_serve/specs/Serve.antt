@@ -42,7 +42,7 @@ abbrev pub IsBadNext : Stand → List ℕ → Option (List ℕ) → Type 0
 IsBadNext s rest input = (line more : List ℕ) × NoLf line
     × (((rest ≡ line ++ 10 ∷ more) × Refuses true (seen line) s) ⊎ ((rest ≡ line) × (line ≢ []) × IsAtEnd input))
 
--- why no further line was served: the next is refused outside a test case; or so many bytes came; or a read failed,
+-- why no further line was served: the next is refused outside a test case, or 2^64 - 1 bytes came, or a read failed,
 -- before which each line that had ended was served
 abbrev pub IsWhy : ServeFault → List Sent → Stand → List ℕ → Option (List ℕ) → Type 0
 IsWhy (F.Line n) lines s rest input = (n ≡ length lines + 1) × (is_some s.current ≡ false) × IsBadNext s rest input
