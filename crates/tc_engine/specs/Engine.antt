@@ -9,7 +9,7 @@ use Rattle.tc_program.specs.Answer.{IsUnread}
 use Rattle.tc_program.specs.Streams.{Streams}
 
 -- the words of what is left of a line, if the first has these bytes before it; each word ends with a zero byte
-pub words_from : List ℕ → List ℕ → List (List ℕ)
+abbrev pub words_from : List ℕ → List ℕ → List (List ℕ)
 words_from word [] = []
 words_from word (byte ∷ line) = if byte == 0 then word ∷ words_from [] line else words_from (word ++ (byte ∷ [])) line
 

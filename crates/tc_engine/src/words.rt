@@ -27,9 +27,14 @@ pub(crate) fn words_of(alloc: Global, line: &[u8]) -> io::Result<Vec<String>>
     let mut words = Vec::new(alloc);
     words.push("ttrun".to_string(alloc)?)?;
     let mut word = Vec::new(alloc);
-    for byte in line {
+    let mut left = line;
+    while let Some((byte, rest)) = left.split_first() {
+        left = rest;
         if *byte == 0 {
-            words.push(text_of(word)?)?;
+            match text_of(word) {
+                Ok(text) => words.push(text)?,
+                Err(error) => return Err(error),
+            }
             word = Vec::new(alloc);
         } else {
             word.push(*byte)?;
