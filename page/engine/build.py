@@ -9,6 +9,7 @@ from __future__ import annotations
 
 import os
 import re
+import shlex
 import shutil
 import subprocess
 import sys
@@ -24,6 +25,11 @@ FEATURES = ("bulk-memory", "multivalue", "sign-ext", "nontrapping-fptoint")
 OPT_FEATURES = ("bulk-memory", "multivalue", "sign-ext", "nontrapping-float-to-int", "mutable-globals")
 # Bytes of the stack, and of the memory at most.
 STACK, MEMORY = 4 << 20, 2 << 30
+# What stands for the kit's clang while the crate is built. rattle starts it with no environment.
+STAND_IN = """#!/bin/sh
+if [ -f module.bc ]; then cp module.bc {kept}; fi
+exec {clang} "$@"
+"""
 # What the bitcode may ask of others; anything else is not linked.
 FOREIGN = re.compile(r"rattle_(alloc|realloc|dealloc)|llvm\.[\w.]+")
 
@@ -46,6 +52,25 @@ def uses() -> Dict[str, List[str]]:
     with open(os.path.join(TOP, "crates.txt"), encoding="utf-8") as file:
         lines = [line.split("#")[0].split(":") for line in file]
     return {line[0].split()[0]: line[1].split() for line in lines if len(line) == 2}
+
+
+def below() -> List[str]:
+    """The crates of the repository that the engine is built on."""
+    lines, met = uses(), [CRATE]
+    for one in met:
+        met += [it for it in lines[one] if it in lines and it not in met]
+    return met[1:]
+
+
+def is_built() -> bool:
+    """Whether each of these crates is built, and none of its sources is newer."""
+    for name in below():
+        folder = os.path.join(TOP, "crates", name)
+        made = os.path.join(folder, "out", "rlib", f"{name}.rlib", "format")
+        files = [os.path.join(at, it) for part in ("src", "specs", "proofs") for at, _, its in os.walk(os.path.join(folder, part)) for it in its]
+        if not os.path.exists(made) or max(map(os.path.getmtime, files)) > os.path.getmtime(made):
+            return False
+    return True
 
 
 def kit() -> str:
@@ -78,7 +103,8 @@ def keep_bitcode(folder: str, room: str) -> str:
     """Builds the proved crate, and keeps what is handed to clang meanwhile."""
     tools, kept = os.path.join(room, "tools"), os.path.join(room, "kept.bc")
     os.makedirs(os.path.join(tools, "bin"))
-    shutil.copy(os.path.join(HERE, "clang"), os.path.join(tools, "bin", "clang"))
+    with open(os.path.join(tools, "bin", "clang"), "w", encoding="utf-8", opener=lambda path, flags: os.open(path, flags, 0o755)) as file:
+        file.write(STAND_IN.format(kept=shlex.quote(kept), clang=shlex.quote(os.path.join(folder, "toolchain", "bin", "clang"))))
     for name in os.listdir(os.path.join(folder, "toolchain")):
         if name != "bin":
             os.symlink(os.path.join(folder, "toolchain", name), os.path.join(tools, name))
@@ -86,8 +112,7 @@ def keep_bitcode(folder: str, room: str) -> str:
         if name != "clang":
             os.symlink(os.path.join(folder, "toolchain", "bin", name), os.path.join(tools, "bin", name))
     words = build_words(folder, tools, os.path.join(room, "engine.a"))
-    environ = {**os.environ, "KEPT_BITCODE": kept, "KIT_CLANG": os.path.join(folder, "toolchain", "bin", "clang")}
-    run([os.path.join(folder, "bin", "rattle"), *words[1:]], cwd=os.path.join(TOP, "crates", CRATE), env=environ)
+    run([os.path.join(folder, "bin", "rattle"), *words[1:]], cwd=os.path.join(TOP, "crates", CRATE))
     if not os.path.exists(kept):
         fail("this kit hands no module.bc to clang")
     return kept
@@ -138,15 +163,16 @@ def narrow(module: str, room: str) -> bytes:
 
 
 def engine() -> bytes:
-    """The module, made of the sources as they are. The crate is proved first, if it is not."""
+    """The module, made of the sources as they are. What the crate is built on is proved first, if something has changed."""
     began, folder = time.monotonic(), kit()
     say = lambda what: print(f"engine: {time.monotonic() - began:.0f} s, {what}", flush=True)
     if not shutil.which("wasm-opt"):
         fail("there is no wasm-opt on the path, of binaryen: apt-get install binaryen")
-    say("proving, if something has changed")
-    run(["rt", "check", "--jobs", "2"], cwd=os.path.join(TOP, "crates", CRATE))
+    if not is_built():
+        say("proving what has changed")
+        run(["rt", "check", "--jobs", "2"], cwd=os.path.join(TOP, "crates", CRATE))
     with tempfile.TemporaryDirectory(prefix="engine-") as room:
-        say("building")
+        say("building, which proves the crate itself")
         bitcode = keep_bitcode(folder, room)
         say("linking for WebAssembly")
         module = link(bitcode, folder, room)

@@ -55,18 +55,10 @@ def sum_of(paths: List[str]) -> str:
     return hashlib.sha256("".join(lines).encode()).hexdigest()
 
 
-def crates_below(name: str) -> List[str]:
-    """A crate of the repository and those that it is built on."""
-    uses, met = build.uses(), [name]
-    for one in met:
-        met += [it for it in uses[one] if it in uses and it not in met]
-    return sorted(met)
-
-
 def sources() -> List[str]:
     """The sources of the proved program, for the engine."""
     found = ["crates.txt"]
-    for crate in crates_below(build.CRATE):
+    for crate in sorted([build.CRATE, *build.below()]):
         for part in ("src", "specs", "proofs"):
             for folder, _, names in os.walk(os.path.join(TOP, "crates", crate, part)):
                 found += [os.path.relpath(os.path.join(folder, name), TOP) for name in names]
@@ -75,7 +67,7 @@ def sources() -> List[str]:
 
 def sums(engine: bytes) -> str:
     """What the engine is made of."""
-    tools = [f"page/engine/{name}" for name in ("build.py", "clang", "heap.c", "helpers.c")]
+    tools = [f"page/engine/{name}" for name in ("build.py", "heap.c", "helpers.c")]
     version = lambda words: subprocess.run(words, capture_output=True, text=True, check=False).stdout.strip()
     rows = (("sources of the program", sum_of(sources())), ("page/engine", sum_of(tools)), ("engine", hashlib.sha256(engine).hexdigest()))
     return "".join(f"{name:24}{value}\n" for name, value in rows) + f"{'toolchain':24}{version(['rt', 'version'])}, {version(['wasm-opt', '--version'])}"
