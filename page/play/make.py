@@ -38,7 +38,7 @@ SORTS = (".script", ".history", ".moves")
 
 def read(*path: str) -> str:
     """A file of the repository."""
-    with open(os.path.join(TOP, *path), encoding="ascii") as file:
+    with open(os.path.join(TOP, *path), encoding="utf-8") as file:
         return file.read()
 
 
@@ -101,8 +101,8 @@ def kept() -> List[str]:
 
 def built() -> List[str]:
     """A new engine, its version, and what it is made of."""
-    module = build.engine()
     version = re.search(r'VERSION: &str = "([^"]*)"', read("crates", "tc_command", "src", "command.rt")) or build.fail("it has no version")
+    module = build.engine()
     return [base64.b64encode(gzip.compress(module, 9, mtime=0)).decode(), version[1], sums(module)]
 
 
