@@ -78,7 +78,7 @@ class Engine:
 
 def program_answer(context: Context, words: Sequence[str], text: bytes) -> Answer:
     """What the program answers."""
-    ran = subprocess.run([context.program, *words], input=text, capture_output=True, timeout=SECONDS, check=False)
+    ran = subprocess.run(["ttrun", *words], executable=context.program, input=text, capture_output=True, timeout=SECONDS, check=False)
     return ran.returncode, ran.stdout, ran.stderr
 
 
