@@ -7,23 +7,29 @@ extern unsigned char __heap_base;
 static usize top;
 static void *given[64];
 
+// A block of 2^k bytes that was given back.
+static void *taken(usize k) {
+    void *p = given[k];
+    given[k] = *(void **)p;
+    return p;
+}
+
 // A block with room for n bytes, at a multiple of 16, or null.
 static void *take(usize n) {
     usize k = 5;
     if (n >> 40) return 0;
     while (((usize)1 << k) < n + sizeof(Head)) k++;
-    if (given[k]) {
-        void *p = given[k];
-        given[k] = *(void **)p;
-        return p;
-    }
+    if (given[k]) return taken(k);
     usize size = (usize)1 << k;
     if (!top) top = ((usize)&__heap_base + 15) & ~(usize)15;
     usize end = __builtin_wasm_memory_size(0) << 16;
     if (top + size > end) {
         // (what a grow answers is not the same with a memory of 32 bits, so the new size is asked for)
         __builtin_wasm_memory_grow(0, (top + size - end + 65535) >> 16);
-        if (top + size > __builtin_wasm_memory_size(0) << 16) return 0;
+        if (top + size > __builtin_wasm_memory_size(0) << 16) {
+            while (k < 63 && !given[k]) k++;
+            return given[k] ? taken(k) : 0;
+        }
     }
     Head *head = (Head *)top;
     top += size;

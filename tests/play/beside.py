@@ -126,7 +126,7 @@ def every_example_and_task(context: Context, engine: Engine) -> str:
     for words in (("--help",), ("--version",), ("-h",), ("help",), *((name, "--help") for name in ("run", "explore", "check", "report", "replay")),
                   ("frob",), ("explore", "--frob"), ("explore", "--histroy"), ("run", "--only", "a b"), ("report",), ("", ""), ("\u00e9",)):
         compare(context, engine, met, words, b"")
-    return told(met, ("same", 90), ("left", 7), ("check 0", 8), ("replay 0", 2), ("explore 0", 20))
+    return told(met, ("same", 85), ("left", 7), ("check 0", 8), ("replay 0", 2), ("explore 0", 20))
 
 
 def cases_of_the_program() -> Iterator[Case]:

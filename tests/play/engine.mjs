@@ -1,6 +1,6 @@
 // The engine of a page in node: node engine.mjs PAGE. A question is a line [words, input as base64], its answer a line [status,
-// output as base64, errors as base64, bytes of memory]. With "narrowly" as a third, all memory is taken before the call, and given
-// back after it.
+// output as base64, errors as base64, bytes of memory]. With "narrowly" as a third, nearly all memory is taken before the call, and
+// given back after it.
 import { readFileSync } from "node:fs";
 import { createInterface } from "node:readline";
 import { gunzipSync } from "node:zlib";
@@ -13,9 +13,9 @@ if (imports.length) throw new Error(`the engine imports ${imports.map(({ name })
 const room = createContext({ WebAssembly, TextEncoder, TextDecoder, performance });
 runInContext(`${part("worker")}\nglobalThis.Engine = Engine;`, room);
 const engine = new room.Engine(module), { host_alloc, host_free, memory } = engine.exports, taken = [];
-// Blocks of each size, from the largest on, until there is no other.
+// Blocks of each size, from the largest on, until there is no other. A little is left, for the line that says so.
 function takeAll() {
-  for (let size = 1n << 27n; size >= 32n; size /= 2n)
+  for (let size = 1n << 27n; size >= 1n << 17n; size /= 2n)
     for (let at = host_alloc(size - 16n); at; at = host_alloc(size - 16n)) taken.push(at);
   return taken.length;
 }
