@@ -25,7 +25,7 @@ FEATURES = ("bulk-memory", "multivalue", "sign-ext", "nontrapping-fptoint")
 OPT_FEATURES = ("bulk-memory", "multivalue", "sign-ext", "nontrapping-float-to-int", "mutable-globals")
 # Bytes of the stack, and of the memory at most.
 STACK, MEMORY = 4 << 20, 2 << 30
-# What stands for the kit's clang while the crate is built. rattle starts it with no environment.
+# What rattle starts instead of the kit's clang, with no environment.
 STAND_IN = """#!/bin/sh
 if [ -f module.bc ]; then cp module.bc {kept}; fi
 exec {clang} "$@"

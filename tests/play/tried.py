@@ -151,7 +151,7 @@ def a_fault_is_marked_while_typing(context: Context, page: Browser) -> str:
     same((NOTED, [["t", ["pass"], "complete"]], ""), (page.js("$('#text').value"), page.js(CHIPS), page.js("$('#fault').textContent")))
     faults = 0
     for text in (" testcase t\nbehaviour main\nend\n", "history 2 t 1\n0 creat -> made 1\nend none\n", "behaviours 3\n0 crate\n", "", "x\u00e9\n",
-                 "testcase t\nbehaviour main\n  setverdict p\u00e4ss\nend\nend\n", "testcase t\r\n"):
+                 "testcase t\nbehaviour main\n  setverdict p\u00e4ss\nend\nend\n", "testcase t\t\n"):
         give(page, text)
         words = {"h": ("check",), "b": ("replay",)}.get(text[:1], ("run",))
         same(program_answer(context, (*words, "--explain"), text.encode())[2].decode().rstrip(), page.js("$('#fault pre').textContent"), text)
