@@ -404,6 +404,9 @@ fn texts_of_another_kind(rt: HostRuntime) -> Result<(), Fail> {
     Ok(())
 }
 
+const RULE_OF_MOVES: &str =
+    "a number is too large or begins with 0, or there are more than 4 arguments";
+
 #[test]
 fn lines_of_moves(rt: HostRuntime) -> Result<(), Fail> {
     let lines = [
@@ -429,11 +432,10 @@ fn lines_of_moves(rt: HostRuntime) -> Result<(), Fail> {
             "column 8: `p`",
             "  understood there: all or a component\n",
         ),
-        (
-            "0 stop 01",
-            "a number is too large or begins with 0, or there are more than 4 arguments",
-            "",
-        ),
+        ("0 stop 01", RULE_OF_MOVES, ""),
+        ("00 create", RULE_OF_MOVES, ""),
+        ("00 create alive", RULE_OF_MOVES, ""),
+        ("0 start 1 1 0 0 0 0 0", RULE_OF_MOVES, ""),
     ];
     for (line, place, wanted) in lines {
         let text = format!(in rt.alloc(); "behaviours 1\n{line}\n")?;
@@ -485,6 +487,16 @@ fn lines_of_histories(rt: HostRuntime) -> Result<(), Fail> {
         (
             "0 create",
             "column 9: the end of the line",
+            "-> and a reply",
+        ),
+        (
+            "0 create alive",
+            "column 15: the end of the line",
+            "-> and a reply",
+        ),
+        (
+            "0 start 1 1",
+            "column 12: the end of the line",
             "-> and a reply",
         ),
         ("0 finish ok", "column 10: `ok`", "-> and a reply"),
