@@ -3,6 +3,7 @@ from __future__ import annotations
 
 import json
 import os
+import random
 import re
 import time
 from typing import Dict, List, Tuple
@@ -16,9 +17,21 @@ from sizes import many_behaviours
 SECONDS = 60
 FAULTY = "testcase t\nbehaviour main\n  setverdct pass\nend\nend\n"
 NOTED = "testcase t\nbehaviour main\n  setverdict pass\nend\nend\n"
-LONG = many_behaviours(40).decode()
 CHIPS = "$$('#rows tr').map(row => [row.cells[0].textContent, [...row.cells[1].querySelectorAll('.chip')].map(chip => chip.textContent), " \
         "row.cells[2].querySelector('span').textContent])"
+
+
+def tangled(cases: int, count: int, steps: int) -> str:
+    """Test cases whose behaviours halt one another, so that a search takes seconds for each."""
+    rng, lines = random.Random(0), []
+    calls = ("kill a", "stop b", "setverdict fail", "setverdict pass", "running a", "alive b", "wait done a", "setverdict inconc")
+    for case in range(cases):
+        lines += [f"testcase t{case}", "behaviour main", *(f"create p{at} alive" for at in range(count))]
+        lines += [f"start p{at} w{at} p{(at + 1) % count} p{(at + 3) % count}" for at in range(count)] + ["wait done any", "end"]
+        for at in range(count):
+            lines += [f"behaviour w{at} a b", *(rng.choice(calls) for _ in range(steps)), "end"]
+        lines.append("end")
+    return "\n".join([*lines, ""])
 
 
 def same(wanted: object, found: object, where: object = "") -> None:
@@ -186,8 +199,9 @@ def a_history_is_checked_and_drawn(context: Context, page: Browser) -> str:
 def a_search_is_told_and_stopped(context: Context, page: Browser) -> str:
     """The page says that it searches; the button or another text ends the search, and the next one is answered."""
     opened(context, page)
+    long = tangled(20, 10, 10)
     for end in ("button", "text"):
-        page.js(f"$('#states').value = '1000000'; $('#text').value = {json.dumps(LONG)}; $('#text').dispatchEvent(new Event('input'))")
+        page.js(f"$('#states').value = '1000000'; $('#text').value = {json.dumps(long)}; $('#text').dispatchEvent(new Event('input'))")
         until(page, "$('#head').textContent === 'Searching' && !$('#stop').disabled")
         hold(re.fullmatch(r"for \d+\.\d s", page.js("$('#took').textContent")), "it does not tell for how long")
         if end == "button":
