@@ -31,7 +31,7 @@ DEFINED = re.compile(r"(?m)^(?:export )?(?:async )?(?:function|class|const|let) 
 
 def source(name: str) -> str:
     """A source of a page."""
-    path = next(path for path in (os.path.join(TOP, folder, name) for folder in FOLDERS) if os.path.exists(path))
+    (path,) = [path for path in (os.path.join(TOP, folder, name) for folder in FOLDERS) if os.path.exists(path)]
     with open(path, encoding="ascii") as file:
         return file.read()
 

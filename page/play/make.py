@@ -89,7 +89,7 @@ def page(engine: str, version: str, made_of: str) -> str:
     parts["policy"] = make.policy(parts["style"], parts["script"] + "").replace("script-src ", "script-src 'wasm-unsafe-eval' ")
     parts["worker"] = "\n" + make.bare(make.source("worker.mjs"))
     parts.update(examples=data(examples()), heap=lines_of("heap.c"), helpers=lines_of("helpers.c"))
-    return make.filled("play.html", parts)
+    return make.filled("frame.html", parts)
 
 
 def kept() -> List[str]:
