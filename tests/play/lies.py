@@ -10,7 +10,6 @@ from beside import TOP, Context, hold
 
 # A source of page/play, a text that is in it once, what is put in its place, and the test that must find it.
 LIES = (
-    ("worker.mjs", "lengths + 8n) & 255", "lengths + 8n)", "every_example_and_task"),
     ("worker.mjs", "`${word}\\0`", "`${word} `", "every_example_and_task"),
     ("worker.mjs", "if (sizes.some((size, nth) => size > rooms[nth]))", "if (false)", "the_largest_inputs"),
     ("worker.mjs", "for (const at of held) this.exports.host_free(at);", "", "ten_thousand_calls_without_growth"),
