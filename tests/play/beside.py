@@ -123,6 +123,7 @@ def every_example_and_task(context: Context, engine: Engine) -> str:
         for text in texts(ending):
             for words in tasks:
                 compare(context, engine, met, words, text)
+                hold(engine.answer(words, text) == engine.answer(words, text, "small"), f"{words} with little room")
     for words in (("--help",), ("--version",), ("-h",), ("help",), *((name, "--help") for name in ("run", "explore", "check", "report", "replay")),
                   ("frob",), ("explore", "--frob"), ("explore", "--histroy"), ("run", "--only", "a b"), ("report",), ("", ""), ("\u00e9",)):
         compare(context, engine, met, words, b"")

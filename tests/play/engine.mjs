@@ -1,6 +1,6 @@
 // The engine of a page in node: node engine.mjs PAGE. A question is a line [words, input as base64], its answer a line [status,
 // output as base64, errors as base64, bytes of memory]. With "narrowly" as a third, nearly all memory is taken before the call, and
-// given back after it.
+// given back after it; with "small" there is room for 8 bytes of each output at first.
 import { readFileSync } from "node:fs";
 import { createInterface } from "node:readline";
 import { gunzipSync } from "node:zlib";
@@ -20,8 +20,9 @@ function takeAll() {
   return taken.length;
 }
 const inLetters = bytes => Buffer.from(bytes).toString("base64");
-function answer([words, input]) {
-  const { status, output, errors } = engine.answer(words, new Uint8Array(Buffer.from(input, "base64")));
+function answer([words, input, how]) {
+  const bytes = new Uint8Array(Buffer.from(input, "base64"));
+  const { status, output, errors } = how === "small" ? engine.answer(words, bytes, [8, 8]) : engine.answer(words, bytes);
   return [status, inLetters(output), inLetters(errors), memory.buffer.byteLength];
 }
 // The answer in rooms that are there already, so that only the engine itself can run out of memory.

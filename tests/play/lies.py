@@ -11,9 +11,9 @@ from beside import TOP, Context, hold
 # A source of page/play, a text that is in it once, what is put in its place, and the test that must find it.
 LIES = (
     ("worker.mjs", "`${word}\\0`", "`${word} `", "every_example_and_task"),
-    ("worker.mjs", "if (sizes.some((size, nth) => size > rooms[nth]))", "if (false)", "the_largest_inputs"),
+    ("worker.mjs", "if (sizes.some((size, nth) => size > rooms[nth]))", "if (false)", "every_example_and_task"),
     ("worker.mjs", "for (const at of held) this.exports.host_free(at);", "", "ten_thousand_calls_without_growth"),
-    ("explored.mjs", "from += rows.at(-1).verdicts.length;", "from += 1;", "every_example_in_each_look"),
+    ("explored.mjs", "from += rows.at(-1).verdicts.length;", "from += 1;", "two_verdicts_side_by_side"),
     ("explored.mjs", 'verdicts.split(" ").slice(1)', 'verdicts.split(" ").slice(1).reverse()', "two_verdicts_side_by_side"),
     ("explored.mjs", "const stuck = of(\"stuck\")", "const stuck = of(\"stick\")", "every_example_in_each_look"),
     ("explored.mjs", "[row.from, row.from + 1]", "[row.from]", "two_verdicts_side_by_side"),

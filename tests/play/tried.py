@@ -143,7 +143,12 @@ def two_verdicts_side_by_side(context: Context, page: Browser) -> str:
     hold("none and fail: alike for 2 entries" in page.js("$('#why pre').innerText"), "the details are not shown")
     page.click("#main .bar a")
     same(2, page.js("$$('.cases tbody tr').length"))
-    return "2 charts"
+    race = page.js("$('#text').value").split("\n", 1)[1]
+    both = race + race.replace("testcase t", "testcase u").replace("setverdict fail", "setverdict pass")
+    give(page, both)
+    rows, details = explored(context, both)
+    same(rows, page.js(CHIPS))
+    return f"2 charts, {each_witness(page, rows, details)} witnesses"
 
 
 def a_fault_is_marked_while_typing(context: Context, page: Browser) -> str:
