@@ -148,6 +148,8 @@ def two_verdicts_side_by_side(context: Context, page: Browser) -> str:
     give(page, both)
     rows, details = explored(context, both)
     same(rows, page.js(CHIPS))
+    links = "$$('#rows tr').map(row => [...row.querySelectorAll('a')].map(link => link.hash))"
+    same([["#/0", "#/1", "#/0/1"], ["#/2", "#/3", "#/2/3"]], page.js(links))
     return f"2 charts, {each_witness(page, rows, details)} witnesses"
 
 
