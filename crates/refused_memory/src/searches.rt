@@ -1,7 +1,7 @@
 //! The search for verdicts, and its texts.
 ghost use Rattle.std.specs.Prelude.{◌≤◌, length};
 ghost use Rattle.tc_entry.specs.declared.limits.TheConstants.{BEHAVIOURS};
-ghost use Rattle.tc_explore.specs.Details.{AreLegalOf};
+ghost use Rattle.tc_explore.specs.Found.{AreLegal};
 
 use crate::outcome::{Outcome, told};
 use crate::stock::Stock;
@@ -56,7 +56,7 @@ fn append(
     name: &Name,
 ) -> Result<(), NoMemory>
     requires few { length scripts.now ≤ BEHAVIOURS }
-    requires legal { AreLegalOf (length scripts.now) explored.now.found }
+    requires legal { AreLegal scripts.now explored.now.found }
 {
     match place {
         1 => explored.append_line(out, name),
@@ -74,7 +74,7 @@ fn tell(
     name: &Name,
 ) -> Option<Outcome>
     requires few { length scripts.now ≤ BEHAVIOURS }
-    requires legal { AreLegalOf (length scripts.now) explored.now.found }
+    requires legal { AreLegal scripts.now explored.now.found }
 {
     let mut out = HEAD.to_vec(trial.alloc).ok()?;
     trial.begin("Explored::append_line Explored::append_witnesses Explored::append_details");
@@ -96,7 +96,7 @@ fn tell_in(
     name: &Name,
 ) -> Option<Outcome>
     requires few { length scripts.now ≤ BEHAVIOURS }
-    requires legal { AreLegalOf (length scripts.now) explored.now.found }
+    requires legal { AreLegal scripts.now explored.now.found }
 {
     match place {
         0 => Some(told(tell_explored(&mut trial.out, explored, name))),
