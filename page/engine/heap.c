@@ -14,6 +14,27 @@ static void *taken(usize k) {
     return p;
 }
 
+static void give(void *p) {
+    usize k = ((Head *)p - 1)->k;
+    *(void **)p = given[k];
+    given[k] = p;
+}
+
+// The first 2^k bytes of a larger block that was given back, or null. Its other halves are given back.
+static void *part(usize k) {
+    usize larger = k;
+    while (larger < 63 && !given[larger]) larger++;
+    if (!given[larger]) return 0;
+    Head *head = (Head *)taken(larger) - 1;
+    while (larger > k) {
+        Head *half = (Head *)((unsigned char *)head + ((usize)1 << --larger));
+        half->k = larger;
+        give(half + 1);
+    }
+    head->k = k;
+    return head + 1;
+}
+
 // A block with room for n bytes, at a multiple of 16, or null.
 static void *take(usize n) {
     usize k = 5;
@@ -26,21 +47,12 @@ static void *take(usize n) {
     if (top + size > end) {
         // (what a grow answers is not the same with a memory of 32 bits, so the new size is asked for)
         __builtin_wasm_memory_grow(0, (top + size - end + 65535) >> 16);
-        if (top + size > __builtin_wasm_memory_size(0) << 16) {
-            while (k < 63 && !given[k]) k++;
-            return given[k] ? taken(k) : 0;
-        }
+        if (top + size > __builtin_wasm_memory_size(0) << 16) return part(k);
     }
     Head *head = (Head *)top;
     top += size;
     head->k = k;
     return head + 1;
-}
-
-static void give(void *p) {
-    usize k = ((Head *)p - 1)->k;
-    *(void **)p = given[k];
-    given[k] = p;
 }
 
 static Tried tried(void *p) {
