@@ -9,7 +9,7 @@ use tc_exec::CaseError;
 use tc_report::{
     OutFault, Results, Summary, csv_report, junit_report, status_of, summaries_of_results,
     summary_of_case, summary_of_state, tally, verdict_status, worst_status, write_csv,
-    write_history, write_junit, write_text,
+    write_evidence, write_history, write_junit, write_text,
 };
 use tc_table::replay;
 
@@ -56,13 +56,14 @@ fn write(
         0 => write_junit(alloc, VERSION, results, out),
         1 => write_text(alloc, results, out),
         2 => write_csv(alloc, results, out),
-        _ => write_history(alloc, results, out),
+        3 => write_history(alloc, results, out),
+        _ => write_evidence(alloc, results, out),
     }
 }
 
 /// The form of results in this place, to a writer that has room for it.
 fn write_form(trial: &mut Trial, place: usize, results: &Results) -> Outcome {
-    trial.begin("write_junit write_text write_csv write_history");
+    trial.begin("write_junit write_text write_csv write_history write_evidence");
     let answer = write(trial.alloc, place, results, &mut trial.out);
     trial.end();
     match answer {
@@ -125,10 +126,10 @@ fn summarize_results(trial: &mut Trial, stock: &Stock) -> Outcome {
 pub(crate) fn make(trial: &mut Trial, stock: &Stock, place: usize) -> Option<Outcome> {
     match place {
         0..=1 => make_form(trial, place, &stock.results),
-        2..=5 => Some(write_form(trial, place - 2, &stock.results)),
-        6 => summarize_state(trial, stock),
-        7 => summarize_case(trial, stock),
-        8 => Some(summarize_results(trial, stock)),
+        2..=6 => Some(write_form(trial, place - 2, &stock.results)),
+        7 => summarize_state(trial, stock),
+        8 => summarize_case(trial, stock),
+        9 => Some(summarize_results(trial, stock)),
         _ => None,
     }
 }

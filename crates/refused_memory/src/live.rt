@@ -3,7 +3,12 @@ use crate::outcome::Outcome;
 use crate::trial::Trial;
 use tc_report::{CampaignEnd, LiveForm, LiveWriter, OutFault};
 
-pub(crate) const FORMS: [LiveForm; 3] = [LiveForm::Text, LiveForm::Csv, LiveForm::History];
+pub(crate) const FORMS: [LiveForm; 4] = [
+    LiveForm::Text,
+    LiveForm::Csv,
+    LiveForm::History,
+    LiveForm::Evidence,
+];
 
 /// Has the opening or the closing written. The status, where it is the closing.
 fn write(live: &mut LiveWriter<'_, Vec<u8>>, place: usize) -> Result<u8, OutFault> {

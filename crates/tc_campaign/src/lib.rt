@@ -14,5 +14,5 @@ pub use choosing::{choose, have_all};
 pub use tc_entry::Shard;
 pub use tc_report::{
     CampaignEnd, Finished, Kept, LiveForm, LiveWriter, Observer, OutFault, Progress, Results,
-    Tally, status_of, tally, write_abort, write_csv, write_history, write_text,
+    Tally, status_of, tally, write_abort, write_csv, write_evidence, write_history, write_text,
 };

@@ -6,11 +6,17 @@ use std::io::Write;
 use std::process::Abort;
 use std::test::Fail;
 use tc_campaign::{
-    CampaignEnd, LiveForm, OutFault, Results, status_of, write_csv, write_history, write_text,
+    CampaignEnd, LiveForm, OutFault, Results, status_of, write_csv, write_evidence, write_history,
+    write_text,
 };
 use tc_stream::devices::{NarrowWriter, WriteFailure};
 
-pub(crate) const FORMS: [LiveForm; 3] = [LiveForm::Text, LiveForm::Csv, LiveForm::History];
+pub(crate) const FORMS: [LiveForm; 4] = [
+    LiveForm::Text,
+    LiveForm::Csv,
+    LiveForm::History,
+    LiveForm::Evidence,
+];
 
 pub(crate) const FAILURES: [WriteFailure; 2] = [WriteFailure::Broken, WriteFailure::Full];
 
@@ -25,6 +31,7 @@ fn give<W: Write>(
         LiveForm::Text => write_text(alloc, results, writer),
         LiveForm::Csv => write_csv(alloc, results, writer),
         LiveForm::History => write_history(alloc, results, writer),
+        LiveForm::Evidence => write_evidence(alloc, results, writer),
     }
 }
 
@@ -104,7 +111,7 @@ fn each_write_fails<R: Abort>(
     Ok(whole.len().saturating_add(1).saturating_mul(FAILURES.len()))
 }
 
-/// Each byte of the three texts is once the one that the writer fails at; how many writers there were.
+/// Each byte of the texts is once the one that the writer fails at; how many writers there were.
 fn all_writes_fail<R: Abort>(rt: &R, alloc: Global, results: &Results) -> Result<usize, Fail> {
     let mut failures = 0usize;
     for form in FORMS {

@@ -1,10 +1,13 @@
-//! What only results that no program meets have: the forms of an aborted campaign, and the words of each refusal.
+//! What only results that no program meets have: the forms of an aborted campaign, names of no behaviour, and the words
+//! of each refusal.
 use crate::checks::is;
-use crate::results::{aborted, results};
+use crate::results::{aborted, finished, name, results};
 use std::alloc::Global;
 use std::process::Abort;
 use std::test::Fail;
-use tc_campaign::{OutFault, Results, write_abort};
+use tc_book::Sequence;
+use tc_campaign::{CampaignEnd, OutFault, Results, write_abort, write_evidence};
+use tc_entry::UserVerdict;
 use tc_exec::CaseError;
 use tc_report::{
     Summary, csv_report, junit_report, summaries_of_results, worst_status, write_junit,
@@ -55,6 +58,13 @@ local 0 inconc
 </testcase>
 </testsuite>
 </testsuites>
+";
+
+const EVIDENCE: &str = "evidence 1 a 1
+behaviour 0 main
+0 setverdict pass -> ok
+0 finish -> ok
+end pass
 ";
 
 /// Checks the forms of summaries.
@@ -119,5 +129,20 @@ fn texts_of_the_faults(rt: HostRuntime) -> Result<(), Fail> {
         is(&rt, words, fault.text(), words);
         is(&rt, words, fault.to_string(rt.alloc())?.as_str(), words);
     }
+    Ok(())
+}
+
+// A name that is that of no behaviour is in no line.
+#[test]
+fn evidence_of_more_names(rt: HostRuntime) -> Result<(), Fail> {
+    let mut case = finished(rt.alloc(), "a", UserVerdict::Pass)?;
+    case.names.push(name("more")?)?;
+    let results = Results {
+        finished: Sequence::new(vec![in rt.alloc(); case]?),
+        ending: CampaignEnd::Complete,
+    };
+    let mut out = Vec::new(rt.alloc());
+    write_evidence(rt.alloc(), &results, &mut out)?;
+    is(&rt, "the evidence", out.as_slice(), EVIDENCE.as_bytes());
     Ok(())
 }

@@ -56,8 +56,10 @@ line_of (Some p) = (subcommand_named p.0, p.1)
 -- options of which each two exclude each other
 abbrev pub apart : Subcommand → List (Text × Text)
 apart S.Run =
-    (codes "csv", codes "history") ∷ (codes "csv", codes "junit") ∷ (codes "history", codes "junit")
-    ∷ (codes "list", codes "csv") ∷ (codes "list", codes "history") ∷ (codes "list", codes "junit") ∷ (codes "list", codes "live")
+    (codes "csv", codes "history") ∷ (codes "csv", codes "evidence") ∷ (codes "csv", codes "junit")
+    ∷ (codes "history", codes "evidence") ∷ (codes "history", codes "junit") ∷ (codes "evidence", codes "junit")
+    ∷ (codes "list", codes "csv") ∷ (codes "list", codes "history") ∷ (codes "list", codes "evidence") ∷ (codes "list", codes "junit")
+    ∷ (codes "list", codes "live")
     ∷ (codes "list", codes "progress") ∷ (codes "list", codes "stop-on") ∷ (codes "list", codes "explain") ∷ (codes "junit", codes "live") ∷ []
 apart S.Explore = (codes "history", codes "details") ∷ []
 apart S.Report = (codes "csv", codes "junit") ∷ (codes "csv", codes "html") ∷ (codes "junit", codes "html") ∷ []
@@ -72,7 +74,8 @@ abbrev pub form_of : List Row → Form
 form_of rows =
     if is_given rows (codes "csv") then form.Csv
     else (if is_given rows (codes "history") then form.History
-    else (if is_given rows (codes "junit") then form.Junit else form.Text))
+    else (if is_given rows (codes "evidence") then form.Evidence
+    else (if is_given rows (codes "junit") then form.Junit else form.Text)))
 
 -- the form that the options of `report` ask for, if they ask for one
 abbrev pub report_form_of : List Row → Option ReportForm

@@ -23,7 +23,8 @@ with_rules app (rule ∷ rules) = with_rules (with_rule app rule) rules
 -- the options of `run`: its forms, as it finishes, how it is stopped, which test cases, and whether a fault is explained
 abbrev pub run : App
 run = with_rules (new_app (codes "run")) (
-    flag_rule (codes "csv") ∷ flag_rule (codes "history") ∷ flag_rule (codes "junit") ∷ flag_rule (codes "live") ∷ flag_rule (codes "progress")
+    flag_rule (codes "csv") ∷ flag_rule (codes "history") ∷ flag_rule (codes "evidence") ∷ flag_rule (codes "junit")
+    ∷ flag_rule (codes "live") ∷ flag_rule (codes "progress")
     ∷ word_rule (codes "stop-on") ∷ flag_rule (codes "list") ∷ words_rule (codes "only") ∷ word_rule (codes "shard") ∷ flag_rule (codes "explain") ∷ [])
 
 -- the options of `explore`

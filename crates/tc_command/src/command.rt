@@ -63,12 +63,17 @@ const EXPLAIN: OptionRow = OptionRow(
     "after a fault's line, says what stands there and what would be understood",
 );
 
-const RUN_OPTIONS: [OptionRow; 10] = [
+const RUN_OPTIONS: [OptionRow; 11] = [
     OptionRow("csv", Takes::Nothing, "writes the report as CSV"),
     OptionRow(
         "history",
         Takes::Nothing,
         "writes the histories of the test cases",
+    ),
+    OptionRow(
+        "evidence",
+        Takes::Nothing,
+        "writes the histories with the names of behaviours",
     ),
     OptionRow(
         "junit",

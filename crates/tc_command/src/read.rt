@@ -48,10 +48,14 @@ fn apart(subcommand: Subcommand) -> &'static [(&'static str, &'static str)]
     match subcommand {
         Subcommand::Run => &[
             ("csv", "history"),
+            ("csv", "evidence"),
             ("csv", "junit"),
+            ("history", "evidence"),
             ("history", "junit"),
+            ("evidence", "junit"),
             ("list", "csv"),
             ("list", "history"),
+            ("list", "evidence"),
             ("list", "junit"),
             ("list", "live"),
             ("list", "progress"),
@@ -105,6 +109,8 @@ fn form(options: &ArgMatches<'_>) -> Form
         Form::Csv
     } else if has_option(options, "history") {
         Form::History
+    } else if has_option(options, "evidence") {
+        Form::Evidence
     } else if has_option(options, "junit") {
         Form::Junit
     } else {

@@ -11,6 +11,8 @@ pub enum Form {
     Csv,
     /// The history of each test case.
     History,
+    /// The evidence of each test case: its history with the names of its behaviours.
+    Evidence,
     /// A test suite of JUnit's XML.
     Junit,
 }

@@ -6,6 +6,7 @@ use Rattle.std.proofs.lemmas.List.{map-append}
 use Rattle.std.proofs.lemmas.List.Elements.{All-head, All-tail}
 use Rattle.tc_table.specs.Standing.{StandsFor}
 use Rattle.tc_evidence.specs.declared.block.Block.{Block}
+use Rattle.tc_evidence.specs.declared.header.Kind.{Kind}
 use Rattle.tc_evidence.specs.Line.{entries_of}
 use Rattle.tc_evidence.specs.Laws.{history_of}
 use Rattle.tc_report.specs.declared.summary.Summary.{Summary}
@@ -14,7 +15,7 @@ use Rattle.tc_report.specs.Summary.{block_summary, case_summary, summary_of}
 use Rattle.tc_report.proofs.Lemmas.Agreeing.{one_same}
 use Rattle.tc_report.specs.declared.results.Finished.{Finished}
 use Rattle.tc_report.specs.declared.results.Results.{Results}
-use Rattle.tc_report.specs.Histories.{histories_text}
+use Rattle.tc_report.specs.Blocks.{blocks_text}
 use Rattle.tc_program.specs.declared.judge.Difference.{Difference}
 use Rattle.tc_program.specs.declared.judge.Judgement.{Judgement}
 use Rattle.tc_program.specs.declared.judge.Judgement.TheVariants as J
@@ -30,7 +31,7 @@ use Rattle.tc_program.specs.WrittenHistories.{AreFoundLegal, found_legal, legal_
 use Rattle.tc_program.proofs.Doing.{answer_of}
 use Rattle.tc_program.proofs.Checking.{illegal_said, printed_more, whole}
 use Rattle.tc_program.proofs.Playing.{no_difference}
-use Rattle.tc_program.proofs.WrittenHistories.{IsRight, after, are_right, block_of, blocks_of, evidence_of, history_at, none_illegal, said_of_written, same_entries}
+use Rattle.tc_program.proofs.WrittenHistories.{IsRight, after, are_right, block_of, blocks_of, evidence_of, none_illegal, said_of_written, same_entries}
 
 -- a block that is judged legal is right
 right_of_legal : (b : Block) (j : Judgement) → judges_legal j ≡ true → IsJudgement b j → IsRight b
@@ -138,42 +139,43 @@ illegal_report form text blocks ss o j a some made out told status =
     IsReport.illegal made.block (judgement_line j) first
     (ap (λ x. answer_of x a.told a.status) out ∙ ap (λ x. answer_of [] x a.status) told ∙ ap (λ x. answer_of [] (illegal_line j) x) status)
 
--- ---- histories that a run writes
+-- ---- blocks that a run writes
 
-summary_written : (line : ℕ) (f : Finished) → WasRun f → summary_at (block_of line f) ≡ case_summary f
-summary_written line f ran =
-    ap (summary_of f.name) (same_entries f.report.history) ∙ one_same f (history_at line f) (record { name = refl; entries = refl; report = ran.report })
+summary_written : (kind : Kind) (line : ℕ) (f : Finished) → WasRun kind f → summary_at (block_of kind line f) ≡ case_summary f
+summary_written kind line f ran =
+    one_same f (history_of (block_of kind line f)) (record { name = refl; entries = same_entries kind f; report = ran.report })
 
-summaries_written : (line : ℕ) (fs : List Finished) → All WasRun fs → map summary_at (blocks_of line fs) ≡ map case_summary fs
-summaries_written line [] all = refl
-summaries_written line (f ∷ fs) all =
-    let first = summary_written line f (All-head WasRun f fs all) in
-    let rest = summaries_written (after line f) fs (All-tail WasRun f fs all) in
-    ap (λ s. s ∷ map summary_at (blocks_of (after line f) fs)) first ∙ ap (λ l. case_summary f ∷ l) rest
+summaries_written : (kind : Kind) (line : ℕ) (fs : List Finished) → All (WasRun kind) fs → map summary_at (blocks_of kind line fs) ≡ map case_summary fs
+summaries_written kind line [] all = refl
+summaries_written kind line (f ∷ fs) all =
+    let first = summary_written kind line f (All-head (WasRun kind) f fs all) in
+    let rest = summaries_written kind (after kind line f) fs (All-tail (WasRun kind) f fs all) in
+    ap (λ s. s ∷ map summary_at (blocks_of kind (after kind line f) fs)) first ∙ ap (λ l. case_summary f ∷ l) rest
 
-checked_so : (r : Results) (a : Answer) → WereRun r → IsChecked (histories_text r) a.out a.status → a.told ≡ [] → a ≡ found_legal r
-checked_so r a ran is told =
-    let two = said_of_written r a.out is.legal ran (is.checks (blocks_of 1 r.finished) (evidence_of r ran)) in
-    let status_is : a.status ≡ 0 = is.status_is ∙ ap (λ t. if t then 0 else 3) two.1 in
-    let lines = flat_map legal_case r.finished in
-    ap (λ x. answer_of x a.told a.status) two.0 ∙ ap (λ x. answer_of lines x a.status) told ∙ ap (λ x. answer_of lines [] x) status_is
+module _ (kind : Kind) (r : Results) (ran : WereRun kind r) where
+  checked_so : (a : Answer) → IsChecked (blocks_text kind r) a.out a.status → a.told ≡ [] → a ≡ found_legal r
+  checked_so a is told =
+      let two = said_of_written kind r a.out is.legal ran (is.checks (blocks_of kind 1 r.finished) (evidence_of kind r ran)) in
+      let status_is : a.status ≡ 0 = is.status_is ∙ ap (λ t. if t then 0 else 3) two.1 in
+      let lines = flat_map legal_case r.finished in
+      ap (λ x. answer_of x a.told a.status) two.0 ∙ ap (λ x. answer_of lines x a.status) told ∙ ap (λ x. answer_of lines [] x) status_is
 
--- the report of what a run wrote: none of it is illegal
-reported_so : (form : ReportForm) (r : Results) (a : Answer) → WereRun r → IsReport form (histories_text r) (blocks_of 1 r.finished) a
-    → a ≡ reported form (histories_text r) (map case_summary r.finished)
-reported_so form r a ran (IsReport.legal lines checks is) = is ∙ ap (reported form (histories_text r)) (summaries_written 1 r.finished ran.each)
-reported_so form r a ran (IsReport.illegal b line first is) =
-    absurd (none_illegal (blocks_of 1 r.finished) b line (are_right 1 r.finished ran.each) first)
+  -- the report of what a run wrote: none of it is illegal
+  reported_so : (form : ReportForm) (a : Answer) → IsReport form (blocks_text kind r) (blocks_of kind 1 r.finished) a
+      → a ≡ reported form (blocks_text kind r) (map case_summary r.finished)
+  reported_so form a (IsReport.legal lines checks is) = is ∙ ap (reported form (blocks_text kind r)) (summaries_written kind 1 r.finished ran.each)
+  reported_so form a (IsReport.illegal b line first is) =
+      absurd (none_illegal (blocks_of kind 1 r.finished) b line (are_right kind 1 r.finished ran.each) first)
 
-refused_so : (r : Results) (fault : RunFault) → WereRun r → RefusesHistory (histories_text r) fault → fault ≡ F.NoMemory
-refused_so r (F.Text fault) ran refused = absurd (refused.1 (blocks_of 1 r.finished) (evidence_of r ran))
-refused_so r F.NoMemory ran refused = refl
-refused_so r fault ran refused = absurd refused
+  refused_so : (fault : RunFault) → RefusesHistory (blocks_text kind r) fault → fault ≡ F.NoMemory
+  refused_so (F.Text fault) refused = absurd (refused.1 (blocks_of kind 1 r.finished) (evidence_of kind r ran))
+  refused_so F.NoMemory refused = refl
+  refused_so fault refused = absurd refused
 
--- what `check` and `report` make of it
-pub found_so : (r : Results) → WereRun r → AreFoundLegal r
-found_so r ran = record {
-  checked_so = λ explains a is. checked_so r a ran is.0 is.1;
-  reported_so = λ form explains a is. reported_so form r a ran (is.made (blocks_of 1 r.finished) (evidence_of r ran));
-  refused_so = λ fault refused. refused_so r fault ran refused;
-}
+  -- what `check` and `report` make of it
+  pub found_so : AreFoundLegal (blocks_text kind r) r
+  found_so = record {
+    checked_so = λ explains a is. checked_so a is.0 is.1;
+    reported_so = λ form explains a is. reported_so form a (is.made (blocks_of kind 1 r.finished) (evidence_of kind r ran));
+    refused_so = λ fault refused. refused_so fault refused;
+  }

@@ -1,24 +1,30 @@
--- Written histories are legal.
-use Rattle.std.proofs.Common.{ℕ, ◌≡◌, ◌≢◌, ◌∙◌, ◌+◌, Bool, true, All, inr, List, [], ◌∷◌, ◌++◌, length, map, reverse, take, refl, ap, sym, subst}
+-- Written histories and evidence are legal.
+use Rattle.std.proofs.Common.{ℕ, ◌≡◌, ◌≢◌, ◌∙◌, ◌+◌, ◌≤◌, Bool, true, false, All, inr, List, [], ◌∷◌, ◌++◌, length, map, reverse, take, refl, ap, sym, subst, arith}
+use Rattle.std.specs.Prelude.{◌==◌}
 use Rattle.std.specs.List.{AllZip, flat_map}
-use Rattle.std.proofs.lemmas.List.Elements.{All-nil, All-cons, All-head, All-tail}
+use Rattle.std.proofs.lemmas.Bool.Decides.{nat_tests}
+use Rattle.std.proofs.lemmas.List.{length-take}
+use Rattle.std.proofs.lemmas.List.Elements.{All-nil, All-cons, All-head, All-tail, All-take}
+use Rattle.std.proofs.lemmas.List.Folds.{list_any-append}
+use Rattle.tc_entry.specs.Name.{IsName}
 use Rattle.tc_entry.specs.declared.entry.Entry.{Entry}
 use Rattle.tc_table.specs.Legal.{IsLegal}
 use Rattle.tc_table.specs.Local.{overall}
-use Rattle.tc_history.specs.declared.read.Block.{Block as History}
-use Rattle.tc_history.specs.Text.{AreBlocks, AreHistories, block_lines}
-use Rattle.tc_history.specs.Written.{text_of_blocks}
-use Rattle.tc_history.proofs.Lemmas.WrittenBlocks.{written_histories}
+use Rattle.tc_history.specs.Text.{AreEntries}
 use Rattle.tc_evidence.specs.declared.block.Block.{Block}
+use Rattle.tc_evidence.specs.declared.header.Kind.{Kind}
+use Rattle.tc_evidence.specs.declared.header.Kind.TheVariants as K
+use Rattle.tc_evidence.specs.declared.line.Line.{Line}
 use Rattle.tc_evidence.specs.declared.line.Line.TheVariants as L
-use Rattle.tc_evidence.specs.Line.{entries_of}
-use Rattle.tc_evidence.specs.Laws.{AreLegal, of_history, overall_of}
-use Rattle.tc_evidence.specs.Text.{AreEvidence}
-use Rattle.tc_evidence.proofs.Lemmas.Histories.{histories_are_read}
+use Rattle.tc_evidence.specs.Line.{entries_of, is_about, is_met}
+use Rattle.tc_evidence.specs.Laws.{AreLegal, overall_of}
+use Rattle.tc_evidence.specs.Text.{AreBlocks, AreEvidence, AreLines, block_lines, format_of}
+use Rattle.tc_evidence.specs.Written.{text_of_blocks}
+use Rattle.tc_evidence.proofs.Lemmas.WrittenEvidence.{written_evidence}
 use Rattle.tc_case.specs.Report.{IsOneHistory}
 use Rattle.tc_report.specs.declared.results.Finished.{Finished}
 use Rattle.tc_report.specs.declared.results.Results.{Results}
-use Rattle.tc_report.specs.Histories.{case_history, histories_text}
+use Rattle.tc_report.specs.Blocks.{blocks_text, case_block, case_lines, header_of, namings}
 use Rattle.tc_campaign.specs.Outline.{Outline}
 use Rattle.tc_campaign.specs.Campaign.{IsReported}
 use Rattle.tc_program.specs.Check.{Checks, IsIllegalLine, legal_line}
@@ -27,51 +33,53 @@ use Rattle.tc_program.specs.WrittenHistories.{legal_case, AreReported}
 use Rattle.tc_program.specs.Inside.{FitsItsTypes, WasRun, WereRun}
 use Rattle.tc_program.proofs.Playing.{no_difference}
 
--- the history of a finished test case
-abbrev pub history_at : ℕ → Finished → History
-history_at line f = record { format = 2; name = f.name; behaviours = f.report.behaviours; first_line = line; entries = f.report.history; verdict = f.report.verdict }
+-- the block of a finished test case, which begins in this line
+abbrev pub block_of : Kind → ℕ → Finished → Block
+block_of kind line f = record { header = header_of kind f; first_line = line; lines = case_lines kind f; verdict = f.report.verdict }
 
--- the line after the history of a finished test case that begins in this line
-abbrev pub after : ℕ → Finished → ℕ
-after line f = line + length (block_lines (history_at line f))
+-- the line after that block
+abbrev pub after : Kind → ℕ → Finished → ℕ
+after kind line f = line + length (block_lines (block_of kind line f))
 
--- the histories of finished test cases, the first of which begins in this line
-abbrev histories_at : ℕ → List Finished → List History
-histories_at line [] = []
-histories_at line (f ∷ fs) = history_at line f ∷ histories_at (after line f) fs
+-- the blocks of finished test cases, the first of which begins in this line
+abbrev pub blocks_of : Kind → ℕ → List Finished → List Block
+blocks_of kind line [] = []
+blocks_of kind line (f ∷ fs) = block_of kind line f ∷ blocks_of kind (after kind line f) fs
 
--- and their blocks
-abbrev pub block_of : ℕ → Finished → Block
-block_of line f = of_history (history_at line f)
+texts_are : (kind : Kind) (line : ℕ) (fs : List Finished) → text_of_blocks (blocks_of kind line fs) ≡ flat_map (case_block kind) fs
+texts_are kind line [] = refl
+texts_are kind line (f ∷ fs) = ap (λ l. case_block kind f ++ l) (texts_are kind (after kind line f) fs)
 
-abbrev pub blocks_of : ℕ → List Finished → List Block
-blocks_of line fs = map of_history (histories_at line fs)
+are_blocks : (kind : Kind) (line : ℕ) (fs : List Finished) → All (WasRun kind) fs → AreBlocks line (blocks_of kind line fs)
+are_blocks kind line [] all = tt
+are_blocks kind line (f ∷ fs) all =
+    let this = All-head (WasRun kind) f fs all in
+    (record { header = this.header; inside = this.inside; first = refl }, are_blocks kind (after kind line f) fs (All-tail (WasRun kind) f fs all))
 
-histories_are : (line : ℕ) (fs : List Finished) → text_of_blocks (histories_at line fs) ≡ flat_map case_history fs
-histories_are line [] = refl
-histories_are line (f ∷ fs) = ap (λ l. case_history f ++ l) (histories_are (after line f) fs)
+some_blocks : (kind : Kind) (fs : List Finished) → fs ≢ [] → blocks_of kind 1 fs ≢ []
+some_blocks kind [] some = absurd (some refl)
+some_blocks kind (f ∷ fs) some = λ e. cc
 
-are_blocks : (line : ℕ) (fs : List Finished) → All WasRun fs → AreBlocks line (histories_at line fs)
-are_blocks line [] all = tt
-are_blocks line (f ∷ fs) all =
-    let this = All-head WasRun f fs all in
-    (record { header = this.header; entries = this.entries; first = refl }, are_blocks (after line f) fs (All-tail WasRun f fs all))
+pub evidence_of : (kind : Kind) (r : Results) → WereRun kind r → AreEvidence (blocks_text kind r) (blocks_of kind 1 r.finished)
+evidence_of kind r ran =
+    let are = written_evidence (blocks_of kind 1 r.finished) (some_blocks kind r.finished ran.some) (are_blocks kind 1 r.finished ran.each) in
+    subst (λ (text : List ℕ). AreEvidence text (blocks_of kind 1 r.finished)) (texts_are kind 1 r.finished) are
 
-some_blocks : (fs : List Finished) → fs ≢ [] → histories_at 1 fs ≢ []
-some_blocks [] some = absurd (some refl)
-some_blocks (f ∷ fs) some = λ e. cc
+-- ---- a legal block is found legal, and nothing else
 
-pub evidence_of : (r : Results) → WereRun r → AreEvidence (histories_text r) (blocks_of 1 r.finished)
-evidence_of r ran =
-    let are = written_histories (histories_at 1 r.finished) (some_blocks r.finished ran.some) (are_blocks 1 r.finished ran.each) in
-    histories_are_read (histories_text r) (histories_at 1 r.finished) (subst (λ (text : List ℕ). AreHistories text (histories_at 1 r.finished)) (histories_are 1 r.finished) are)
+only_entries : (es : List Entry) → entries_of (map L.Entry es) ≡ es
+only_entries [] = refl
+only_entries (e ∷ es) = ap (λ l. e ∷ l) (only_entries es)
 
--- ---- a legal history is found legal, and nothing else
+behind_namings : (run : ℕ) (names : List (List ℕ)) (es : List Entry) → entries_of (namings run names ++ map L.Entry es) ≡ es
+behind_namings run [] es = only_entries es
+behind_namings run (name ∷ names) es = behind_namings (run + 1) names es
 
--- the entries of a history are those of its block
-pub same_entries : (es : List Entry) → entries_of (map L.Entry es) ≡ es
-same_entries [] = refl
-same_entries (e ∷ es) = ap (λ l. e ∷ l) (same_entries es)
+-- the entries of its block are those of a finished test case
+pub same_entries : (kind : Kind) (f : Finished) → entries_of (case_lines kind f) ≡ f.report.history
+same_entries K.Evidence f = behind_namings 0 (take f.report.behaviours f.names) f.report.history
+same_entries K.History1 f = only_entries f.report.history
+same_entries K.History2 f = only_entries f.report.history
 
 -- each reply is the table's, and the verdict is that of the block
 abbrev pub IsRight : Block → Type 0
@@ -106,28 +114,30 @@ pub none_illegal : (bs : List Block) (b : Block) (line : List ℕ) → AreRight 
 none_illegal bs b line all first = no_other b line (right_at first.before first.behind b (subst AreRight first.place all)) first.illegal
 
 -- the block of a test case that was run
-right_of : (line : ℕ) (f : Finished) → WasRun f → IsRight (block_of line f)
-right_of line f ran =
-    let same = sym (same_entries f.report.history) in (
+right_of : (kind : Kind) (line : ℕ) (f : Finished) → WasRun kind f → IsRight (block_of kind line f)
+right_of kind line f ran =
+    let same = sym (same_entries kind f) in (
       subst (λ (es : List Entry). IsLegal f.report.behaviours (reverse es)) same ran.report.legal,
       ran.report.verdict ∙ ap (λ (es : List Entry). overall (reverse es)) same,
     )
 
-pub are_right : (line : ℕ) (fs : List Finished) → All WasRun fs → AreRight (blocks_of line fs)
-are_right line [] all = tt
-are_right line (f ∷ fs) all = (right_of line f (All-head WasRun f fs all), are_right (after line f) fs (All-tail WasRun f fs all))
+pub are_right : (kind : Kind) (line : ℕ) (fs : List Finished) → All (WasRun kind) fs → AreRight (blocks_of kind line fs)
+are_right kind line [] all = tt
+are_right kind line (f ∷ fs) all =
+    (right_of kind line f (All-head (WasRun kind) f fs all), are_right kind (after kind line f) fs (All-tail (WasRun kind) f fs all))
 
-same_lines : (line : ℕ) (fs : List Finished) → flat_map block_line (blocks_of line fs) ≡ flat_map legal_case fs
-same_lines line [] = refl
-same_lines line (f ∷ fs) =
-    ap (λ (es : List Entry). legal_line f.name (length es) f.report.verdict ++ flat_map block_line (blocks_of (after line f) fs)) (same_entries f.report.history)
-    ∙ ap (λ l. legal_case f ++ l) (same_lines (after line f) fs)
+same_lines : (kind : Kind) (line : ℕ) (fs : List Finished) → flat_map block_line (blocks_of kind line fs) ≡ flat_map legal_case fs
+same_lines kind line [] = refl
+same_lines kind line (f ∷ fs) =
+    ap (λ (es : List Entry). legal_line f.name (length es) f.report.verdict ++ flat_map block_line (blocks_of kind (after kind line f) fs)) (same_entries kind f)
+    ∙ ap (λ l. legal_case f ++ l) (same_lines kind (after kind line f) fs)
 
 -- what is said of these blocks
-pub said_of_written : (r : Results) (out : List ℕ) (legal : Bool) → WereRun r → Checks (blocks_of 1 r.finished) out legal → (out ≡ flat_map legal_case r.finished) × (legal ≡ true)
-said_of_written r out legal ran checks =
-    let two = only_legal (blocks_of 1 r.finished) out legal (are_right 1 r.finished ran.each) checks in
-    (two.0 ∙ same_lines 1 r.finished, two.1)
+pub said_of_written : (kind : Kind) (r : Results) (out : List ℕ) (legal : Bool) → WereRun kind r → Checks (blocks_of kind 1 r.finished) out legal
+    → (out ≡ flat_map legal_case r.finished) × (legal ≡ true)
+said_of_written kind r out legal ran checks =
+    let two = only_legal (blocks_of kind 1 r.finished) out legal (are_right kind 1 r.finished ran.each) checks in
+    (two.0 ∙ same_lines kind 1 r.finished, two.1)
 
 -- ---- what the types give
 
@@ -141,14 +151,52 @@ have_histories [] (f ∷ fs) each = absurd each
 have_histories (c ∷ cases) [] each = absurd each
 have_histories (c ∷ cases) (f ∷ fs) each = All-cons HasHistory f fs each.0.one_history (have_histories cases fs each.1)
 
-pub reported_were_run : (cases : List Outline) (r : Results) → All FitsItsTypes r.finished → AreReported cases r → WereRun r
-reported_were_run cases r fit reported = record {
+entries_inside : (kind : Kind) (n : ℕ) (before : List Line) (es : List Entry) → format_of kind ≡ 2 → AreEntries 2 es → AreLines kind n before (map L.Entry es)
+entries_inside kind n before [] two fit = tt
+entries_inside kind n before (e ∷ es) two fit = (rw two fit.0, entries_inside kind n (before ++ L.Entry e ∷ []) es two fit.1)
+
+-- no run from this one on is met
+abbrev AreUnmet : ℕ → List Line → Type 0
+AreUnmet run before = (k : ℕ) → run ≤ k → is_met k before ≡ false
+
+unmet_more : (run : ℕ) (name : List ℕ) (before : List Line) → AreUnmet run before → AreUnmet (run + 1) (before ++ L.Named (record { 0 = run }) name ∷ [])
+unmet_more run name before unmet k later =
+    let other : (run == k) ≡ false = grind (arith, nat_tests) in
+    list_any-append (is_about k) before (L.Named (record { 0 = run }) name ∷ []) ∙ rw (unmet k (omega (arith, later)), other) refl
+
+namings_inside : (n run : ℕ) (names : List (List ℕ)) (before : List Line) (es : List Entry) → run + length names ≤ n → All IsName names → AreUnmet run before
+    → AreEntries 2 es → AreLines K.Evidence n before (namings run names ++ map L.Entry es)
+namings_inside n run [] before es few named unmet fit = entries_inside K.Evidence n before es refl fit
+namings_inside n run (name ∷ names) before es few named unmet fit = (
+  record { evidence = refl; few = omega (arith, few); name_is = All-head IsName name names named; first = unmet run (omega arith) },
+  namings_inside n (run + 1) names (before ++ L.Named (record { 0 = run }) name ∷ []) es (omega (arith, few)) (All-tail IsName name names named)
+      (unmet_more run name before unmet) fit,
+)
+
+take_few : {A : Type 0} (n : ℕ) (xs : List A) → length (take n xs) ≤ n
+take_few n xs = omega (arith, length-take n xs)
+
+-- the lines of finished test cases may be inside of a history of format 2, and of evidence
+inside_of : (kind : Kind) (f : Finished) → kind ≢ K.History1 → FitsItsTypes f → AreLines kind f.report.behaviours [] (case_lines kind f)
+inside_of K.History1 f other fits = absurd (other refl)
+inside_of K.History2 f other fits = entries_inside K.History2 f.report.behaviours [] f.report.history refl fits.2
+inside_of K.Evidence f other fits =
+    namings_inside f.report.behaviours 0 (take f.report.behaviours f.names) [] f.report.history
+    (omega (arith, take_few f.report.behaviours f.names)) (All-take IsName f.report.behaviours f.names fits.1) (λ k later. refl) fits.2
+
+second : (kind : Kind) → kind ≢ K.History1 → format_of kind ≡ 2
+second K.History1 other = absurd (other refl)
+second K.History2 other = refl
+second K.Evidence other = refl
+
+pub reported_were_run : (kind : Kind) (cases : List Outline) (r : Results) → kind ≢ K.History1 → All FitsItsTypes r.finished → AreReported cases r → WereRun kind r
+reported_were_run kind cases r other fit reported = record {
   some = reported.some;
   each = λ k d within.
       let fits = fit k d within in
       record {
-        header = record { name_is = fits.0; few = reported.behaviours k d within; format = inr refl };
-        entries = fits.1;
+        header = record { name_is = fits.0; few = reported.behaviours k d within; kind_fits = inr (second kind other) };
+        inside = inside_of kind _ other fits;
         report = have_histories (take (length r.finished) cases) r.finished reported.reports k d within;
       };
 }

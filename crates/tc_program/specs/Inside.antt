@@ -19,18 +19,21 @@ use Rattle.tc_text.specs.MoveList.{Move}
 use Rattle.tc_step.specs.Steps.{ScriptView}
 use Rattle.tc_table.specs.Standing.{Kept, StandsFor}
 use Rattle.tc_table.specs.Answers.{answer}
-use Rattle.tc_history.specs.Text.{AreEntries, IsHeader}
+use Rattle.tc_history.specs.Text.{AreEntries}
 use Rattle.tc_evidence.specs.declared.block.Block.{Block}
 use Rattle.tc_evidence.specs.declared.header.Header.{Header}
+use Rattle.tc_evidence.specs.declared.header.Kind.{Kind}
 use Rattle.tc_evidence.specs.declared.line.Line.{Line as BlockLine}
 use Rattle.tc_evidence.specs.declared.line.Line.TheVariants as L
 use Rattle.tc_evidence.specs.Line.{entries_of}
 use Rattle.tc_evidence.specs.Laws.{AreLegal, history_of, overall_of}
+use Rattle.tc_evidence.specs.Text.{AreLines, IsHeader}
 use Rattle.tc_case.specs.Report.{IsOneHistory}
 use Rattle.tc_report.specs.declared.fault.OutFault.{OutFault}
 use Rattle.tc_report.specs.declared.results.Results.{Results}
 use Rattle.tc_report.specs.declared.results.CampaignEnd.{CampaignEnd}
 use Rattle.tc_report.specs.declared.results.Finished.{Finished}
+use Rattle.tc_report.specs.Blocks.{case_lines, header_of}
 use Rattle.tc_report.specs.Observers.{AreTaken, IsEndedAt}
 use Rattle.tc_report.specs.Progress.{IsToldBy, told_text}
 use Rattle.tc_book.specs.Passes.{PassState}
@@ -120,23 +123,22 @@ pub record IsCaseOf (c : CaseView) (ready : Case ScriptView) : Type 0 where
   pub names : ready.names.items ≡ names_of c.1
   pub jobs : ready.jobs.items ≡ scripts_of c.1
 
--- the name of the test case is a name, and the numbers in its history are those of their types, so they are entries of format 2
+-- the names of the test case and of its behaviours are names, and the numbers in its history are those of their types, so
+-- they are entries of format 2
 abbrev pub FitsItsTypes : Finished → Type 0
-FitsItsTypes f = IsName f.name × AreEntries 2 f.report.history
+FitsItsTypes f = IsName f.name × All IsName f.names × AreEntries 2 f.report.history
 
--- a test case that was run to its end
-pub record WasRun (f : Finished) : Type 0 where
-  -- it has a name, and as many behaviours as a case may have
-  pub header : IsHeader (record { format = 2; name = f.name; behaviours = f.report.behaviours })
-  -- the numbers in its history are those of their types
-  pub entries : AreEntries 2 f.report.history
+-- a test case that was run to its end, whose block may be of this kind
+pub record WasRun (kind : Kind) (f : Finished) : Type 0 where
+  pub header : IsHeader (header_of kind f)
+  pub inside : AreLines kind f.report.behaviours [] (case_lines kind f)
   -- its report is one history of one thread
   pub report : IsOneHistory f.report
 
--- some test cases were run, each to its end
-pub record WereRun (r : Results) : Type 0 where
+-- some test cases were run, each to its end, and their blocks may be of this kind
+pub record WereRun (kind : Kind) (r : Results) : Type 0 where
   pub some : r.finished ≢ []
-  pub each : All WasRun r.finished
+  pub each : All (WasRun kind) r.finished
 
 -- these moves of a case of n behaviours are played: the state represents their entries, and the lines of the replies
 -- are written

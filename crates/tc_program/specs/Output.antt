@@ -21,6 +21,7 @@ live_form false form = None
 live_form true Forms.Text = Some LiveForms.Text
 live_form true Forms.Csv = Some LiveForms.Csv
 live_form true Forms.History = Some LiveForms.History
+live_form true Forms.Evidence = Some LiveForms.Evidence
 live_form true Forms.Junit = None
 
 -- the text of the results in this form
@@ -28,6 +29,7 @@ abbrev pub text_of : Form → Results → List ℕ
 text_of Forms.Text r = form_text LiveForms.Text r
 text_of Forms.Csv r = form_text LiveForms.Csv r
 text_of Forms.History r = form_text LiveForms.History r
+text_of Forms.Evidence r = form_text LiveForms.Evidence r
 text_of Forms.Junit r = junit_of VERSION.now (results_summaries r)
 
 -- why a text was not written whole: without memory nothing was, if the writer failed a prefix; there is no other fault

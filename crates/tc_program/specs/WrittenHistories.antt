@@ -1,9 +1,8 @@
--- What `check` says of the histories that `run` writes.
+-- What `check` says of the histories and the evidence that `run` writes.
 use Rattle.std.specs.Prelude.{ℕ, ◌≡◌, ◌≢◌, Bool, List, [], All, Ok, length, map, take}
 use Rattle.std.specs.List.{AllZip, flat_map}
 use Rattle.tc_report.specs.declared.results.Finished.{Finished}
 use Rattle.tc_report.specs.declared.results.Results.{Results}
-use Rattle.tc_report.specs.Histories.{histories_text}
 use Rattle.tc_campaign.specs.Outline.{Outline}
 use Rattle.tc_campaign.specs.Campaign.{HasBehaviours, IsReported}
 use Rattle.tc_command.specs.declared.task.ReportForm.{ReportForm}
@@ -27,14 +26,13 @@ pub record AreReported (cases : List Outline) (r : Results) : Type 0 where
 abbrev pub legal_case : Finished → List ℕ
 legal_case f = legal_line f.name (length f.report.history) f.report.verdict
 
--- what `check` answers for the histories of the results: each is legal
+-- what `check` answers for the results: each is legal
 abbrev pub found_legal : Results → Answer
 found_legal r = record { out = flat_map legal_case r.finished; told = []; status = 0 }
 
--- the histories of the results are checked and reported so, whatever else is asked for, and refused only if memory runs
--- out
-pub record AreFoundLegal (r : Results) : Type 0 where
-  pub checked_so : (explains : Bool) (a : Answer) → IsMade (T.Check explains) (histories_text r) (Ok a) → a ≡ found_legal r
-  pub reported_so : (form : ReportForm) (explains : Bool) (a : Answer) → IsMade (T.Report form explains) (histories_text r) (Ok a)
-      → a ≡ reported form (histories_text r) (map case_summary r.finished)
-  pub refused_so : (fault : RunFault) → RefusesHistory (histories_text r) fault → fault ≡ F.NoMemory
+-- this text of the results is checked and reported so, whatever else is asked for, and refused only if memory runs out
+pub record AreFoundLegal (text : List ℕ) (r : Results) : Type 0 where
+  pub checked_so : (explains : Bool) (a : Answer) → IsMade (T.Check explains) text (Ok a) → a ≡ found_legal r
+  pub reported_so : (form : ReportForm) (explains : Bool) (a : Answer) → IsMade (T.Report form explains) text (Ok a)
+      → a ≡ reported form text (map case_summary r.finished)
+  pub refused_so : (fault : RunFault) → RefusesHistory text fault → fault ≡ F.NoMemory

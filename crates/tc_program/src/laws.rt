@@ -1,16 +1,36 @@
 //! What the program's parts say together: each function changes nothing, and its contract is the law.
 ghost use Rattle.std.specs.Prelude.{All, List};
+ghost use Rattle.tc_entry.specs.Name.{IsName};
+ghost use Rattle.tc_evidence.specs.declared.header.Kind.TheVariants as kinds;
+ghost use Rattle.tc_command.specs.declared.task.Form.TheVariants as forms;
 ghost use Rattle.tc_campaign.specs.Outline.{Outline};
 ghost use Rattle.tc_program.specs.Inside.{FitsItsTypes, WereRun};
+ghost use Rattle.tc_program.specs.Output.{text_of};
 ghost use Rattle.tc_program.specs.WrittenHistories.{AreFoundLegal, AreReported};
 
 use tc_campaign::{Finished, Results};
+use tc_entry::Name;
 use tc_history::laws::entries_fit;
+
+fn name_fits(name: &Name)
+    ensures { IsName name.now }
+{
+    let _bytes = name.bytes();
+}
+
+fn names_fit(names: &[Name])
+    ensures { All IsName names.now }
+{
+    for name in names {
+        name_fits(name);
+    }
+}
 
 fn case_fits(case: &Finished)
     ensures { FitsItsTypes case.now }
 {
     let _name = case.name.bytes();
+    names_fit(case.names.as_slice());
     entries_fit(case.report.history.as_slice());
 }
 
@@ -25,16 +45,21 @@ fn cases_fit(cases: &[Finished])
 // The finished test cases of a campaign were run, each to its end; the names and the numbers in their histories are
 // those of their types.
 fn were_run(results: &Results)
-    ensures { (cases : List Outline) → AreReported cases results.now → WereRun results.now }
+    ensures histories { (cases : List Outline)
+        → AreReported cases results.now → WereRun kinds.History2 results.now }
+    ensures evidence { (cases : List Outline)
+        → AreReported cases results.now → WereRun kinds.Evidence results.now }
 {
     cases_fit(results.finished.as_slice());
 }
 
-/// What is written of them as histories is found legal by `check`, and reported as the run by `report`. They are
-/// refused only if memory runs out.
-#[tactic(auto, using(crate::proofs::Reporting::found_so))]
+/// What is written of them as histories or as evidence is found legal by `check`, and reported as the run by `report`.
+/// It is refused only if memory runs out.
 pub fn written_is_legal(results: &Results)
-    ensures { (cases : List Outline) → AreReported cases results.now → AreFoundLegal results.now }
+    ensures histories { (cases : List Outline) → AreReported cases results.now
+        → AreFoundLegal (text_of forms.History results.now) results.now }
+    ensures evidence { (cases : List Outline) → AreReported cases results.now
+        → AreFoundLegal (text_of forms.Evidence results.now) results.now }
 {
     were_run(results);
 }

@@ -8,7 +8,9 @@ ghost use Rattle.tc_program.specs.Output.{LeavesUnwritten, live_form as spec_for
 use crate::fault::RunFault;
 use std::alloc::Global;
 use std::io::Write;
-use tc_campaign::{LiveForm, OutFault, Results, status_of, write_csv, write_history, write_text};
+use tc_campaign::{
+    LiveForm, OutFault, Results, status_of, write_csv, write_evidence, write_history, write_text,
+};
 use tc_command::{Form, VERSION};
 use tc_report::write_junit;
 
@@ -24,6 +26,7 @@ pub(crate) fn live_form(live: bool, form: Form) -> Option<LiveForm>
         Form::Text => Some(LiveForm::Text),
         Form::Csv => Some(LiveForm::Csv),
         Form::History => Some(LiveForm::History),
+        Form::Evidence => Some(LiveForm::Evidence),
         Form::Junit => None,
     }
 }
@@ -42,6 +45,7 @@ pub(crate) fn write_results<W: Write>(
         Form::Text => write_text(alloc, results, writer),
         Form::Csv => write_csv(alloc, results, writer),
         Form::History => write_history(alloc, results, writer),
+        Form::Evidence => write_evidence(alloc, results, writer),
         Form::Junit => write_junit(alloc, VERSION, results, writer),
     }
 }

@@ -26,10 +26,12 @@ ttrun run --list < testcase t;behaviour main;setverdict fail;end;end; => 0
 ttrun run < testcase t;behaviour main;setverdict fail;end;end; => 1
 ttrun run --csv < testcase t;behaviour main;setverdict fail;end;end; => 1
 ttrun run --history < testcase t;behaviour main;setverdict fail;end;end; => 1
+ttrun run --evidence < testcase t;behaviour main;setverdict fail;end;end; => 1
 ttrun run --junit < testcase t;behaviour main;setverdict fail;end;end; => 1
 ttrun run --live < testcase t;behaviour main;setverdict fail;end;end; => 1
 ttrun run --live --csv < testcase t;behaviour main;setverdict fail;end;end; => 1
-ttrun run --live --history < testcase t;behaviour main;setverdict fail;end;end; => 1";
+ttrun run --live --history < testcase t;behaviour main;setverdict fail;end;end; => 1
+ttrun run --live --evidence < testcase t;behaviour main;setverdict fail;end;end; => 1";
 
 const FAILURES: [WriteFailure; 2] = [WriteFailure::Broken, WriteFailure::Full];
 
@@ -184,6 +186,7 @@ fn failing_devices(rt: HostRuntime) -> Result<(), Fail> {
             "testcase,components,none,pass,inconc,fail,error,verdict\n",
         ),
         (Form::History, ""),
+        (Form::Evidence, ""),
         (Form::Junit, "<?xml version=\"1.0\" encoding=\"UTF-8\"?>\n"),
     ] {
         give_each(&rt, rt.alloc(), &results, form, starts);

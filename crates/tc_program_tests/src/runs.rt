@@ -84,6 +84,9 @@ fn history_of_a_stuck_case(rt: HostRuntime) -> Result<(), Fail> {
         "ttrun run --history < testcase solo;behaviour main;create p;setverdict pass;wait done p;end;end; => history 2 solo 1;0 create -> made 1;0 setverdict pass -> ok;0 wait done 1 -> parked;0 wake done 1 -> error stuck;end error;2";
     is_row(&rt, rt.alloc(), row)?;
     let row =
+        "ttrun run --evidence < testcase solo;behaviour main;create p;setverdict pass;wait done p;end;end; => evidence 1 solo 1;behaviour 0 main;0 create -> made 1;0 setverdict pass -> ok;0 wait done 1 -> parked;0 wake done 1 -> error stuck;end error;2";
+    is_row(&rt, rt.alloc(), row)?;
+    let row =
         "ttrun check < history 2 solo 1;0 create -> made 1;0 setverdict pass -> ok;0 wait done 1 -> parked;0 wake done 1 -> error stuck;end error; => legal solo 4 error;0";
     is_row(&rt, rt.alloc(), row)
 }
@@ -170,10 +173,19 @@ fn are_legal<R: Abort>(rt: &R, text: &str) {
 }
 
 #[test]
-fn histories_of_the_stored_run(rt: HostRuntime) -> Result<(), Fail> {
+fn blocks_of_the_stored_run(rt: HostRuntime) -> Result<(), Fail> {
     let input = in_lines(rt.alloc(), STORED)?;
-    let histories = written(&rt, rt.alloc(), "ttrun run --history", input.as_slice())?;
-    let checked = written(&rt, rt.alloc(), "ttrun check", histories.as_slice())?;
-    are_legal(&rt, str::from_utf8(checked.as_slice())?);
+    for (line, start) in [
+        ("ttrun run --history", "history 2 t_pass 2\n0 create "),
+        (
+            "ttrun run --evidence",
+            "evidence 1 t_pass 2\nbehaviour 0 main\nbehaviour 1 worker\n0 create ",
+        ),
+    ] {
+        let blocks = written(&rt, rt.alloc(), line, input.as_slice())?;
+        holds(&rt, start, blocks.as_slice().starts_with(start.as_bytes()));
+        let checked = written(&rt, rt.alloc(), "ttrun check", blocks.as_slice())?;
+        are_legal(&rt, str::from_utf8(checked.as_slice())?);
+    }
     Ok(())
 }

@@ -20,6 +20,7 @@ another-name replay => replay
 ttrun run => run
 ttrun run --csv => run --csv
 ttrun run --history => run --history
+ttrun run --evidence => run --evidence
 ttrun run --junit => run --junit
 ttrun run --stop-on fail => run --stop-on=fail
 ttrun run --stop-on=fail => run --stop-on=fail
@@ -32,6 +33,7 @@ ttrun run --live => run --live
 ttrun run --live -- => run --live
 ttrun run --live --csv => run --csv --live
 ttrun run --history --live => run --history --live
+ttrun run --live --evidence --progress => run --evidence --live --progress
 ttrun run --stop-on fail --live --history => run --history --live --stop-on=fail
 ttrun run --progress => run --progress
 ttrun run --csv --progress --live --stop-on fail => run --csv --live --progress --stop-on=fail
@@ -89,6 +91,7 @@ fn word_of_form(form: Form) -> &'static str {
         Form::Text => "run",
         Form::Csv => "run --csv",
         Form::History => "run --history",
+        Form::Evidence => "run --evidence",
         Form::Junit => "run --junit",
     }
 }

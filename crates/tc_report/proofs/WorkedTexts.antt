@@ -13,13 +13,14 @@ use Rattle.tc_entry.specs.declared.reply.Reply.{Reply}
 use Rattle.tc_entry.specs.declared.reply.Reply.TheVariants as R
 use Rattle.tc_entry.specs.declared.reply.Fault.TheVariants as F
 use Rattle.tc_case.specs.declared.refusal.CaseError.TheVariants as C
+use Rattle.tc_evidence.specs.declared.header.Kind.TheVariants as K
 use Rattle.tc_report.specs.declared.results.CampaignEnd.{CampaignEnd}
 use Rattle.tc_report.specs.declared.results.CampaignEnd.TheVariants as E
 use Rattle.tc_report.specs.declared.results.Finished.{Finished}
 use Rattle.tc_report.specs.declared.results.Results.{Results}
+use Rattle.tc_report.specs.Blocks.{blocks_text}
 use Rattle.tc_report.specs.Csv.{csv_of}
 use Rattle.tc_report.specs.Ending.{abort_text}
-use Rattle.tc_report.specs.Histories.{histories_text}
 use Rattle.tc_report.specs.Report.{report_text}
 use Rattle.tc_report.specs.Status.{results_status}
 use Rattle.tc_report.specs.Summary.{case_summary}
@@ -59,9 +60,13 @@ d1 = decimal_digit 1 (omega arith)
 d2 : decimal 2 ≡ codes "2"
 d2 = decimal_digit 2 (omega arith)
 
-history_of_a_stuck_case : histories_text (results (stuck ∷ []) E.Complete)
+history_of_a_stuck_case : blocks_text K.History2 (results (stuck ∷ []) E.Complete)
     ≡ codes "history 2 solo 1\n0 create -> made 1\n0 setverdict pass -> ok\n0 wait done 1 -> parked\n0 wake done 1 -> error stuck\nend error\n"
 history_of_a_stuck_case = simp (d0, d1)
+
+evidence_of_a_stuck_case : blocks_text K.Evidence (results (stuck ∷ []) E.Complete)
+    ≡ codes "evidence 1 solo 1\nbehaviour 0 main\n0 create -> made 1\n0 setverdict pass -> ok\n0 wait done 1 -> parked\n0 wake done 1 -> error stuck\nend error\n"
+evidence_of_a_stuck_case = simp (d0, d1)
 
 -- the parked entry is not shown, and the Wake is shown as a Wait
 report_of_a_stuck_case : report_text (results (stuck ∷ []) (E.StoppedAfter (codes "solo")))

@@ -68,3 +68,4 @@ pub whole_text : (form : LiveForm) (fs : List Finished) (ending : CampaignEnd)
 whole_text F.Text fs ending = refl
 whole_text F.Csv fs ending = append-nil _ ∙ ap (λ l. header_text ++ l) (sym (flat_map-map row_line case_summary fs))
 whole_text F.History fs ending = append-nil _
+whole_text F.Evidence fs ending = append-nil _

@@ -8,7 +8,7 @@ pub mod Progress
 pub mod Report
 pub mod Csv
 pub mod Junit
-pub mod Histories
+pub mod Blocks
 pub mod Output
 pub mod Observers
 pub mod Kept

@@ -3,6 +3,7 @@ use Rattle.std.specs.Prelude.{ℕ, ◌≡◌, Bool, true, false, List, [], ◌�
 use Rattle.std.specs.Io.KnownBytes.{Appends}
 use Rattle.tc_verdict.specs.declared.verdict.Verdict.{Verdict}
 use Rattle.tc_verdict.specs.Verdict.{worse}
+use Rattle.tc_evidence.specs.declared.header.Kind.TheVariants as K
 use Rattle.tc_report.specs.declared.fault.OutFault.{OutFault}
 use Rattle.tc_report.specs.declared.live_form.LiveForm.{LiveForm}
 use Rattle.tc_report.specs.declared.live_form.LiveForm.TheVariants as F
@@ -11,9 +12,9 @@ use Rattle.tc_report.specs.declared.results.CampaignEnd.{CampaignEnd}
 use Rattle.tc_report.specs.declared.results.Finished.{Finished}
 use Rattle.tc_report.specs.declared.results.Results.{Results}
 use Rattle.tc_report.specs.declared.results.Tally.{Tally}
+use Rattle.tc_report.specs.Blocks.{blocks_text, case_block}
 use Rattle.tc_report.specs.Csv.{csv_of, header_text, row_line}
 use Rattle.tc_report.specs.Ending.{ending_line}
-use Rattle.tc_report.specs.Histories.{case_history, histories_text}
 use Rattle.tc_report.specs.Output.{LeavesPrefix}
 use Rattle.tc_report.specs.Report.{case_text, report_text}
 use Rattle.tc_report.specs.Summary.{case_summary}
@@ -23,7 +24,8 @@ use Rattle.tc_report.specs.Tally.{tally_line, tally_of_cases}
 abbrev pub form_text : LiveForm → Results → List ℕ
 form_text F.Text r = report_text r
 form_text F.Csv r = csv_of (map case_summary r.finished)
-form_text F.History r = histories_text r
+form_text F.History r = blocks_text K.History2 r
+form_text F.Evidence r = blocks_text K.Evidence r
 
 -- what of it is before the test cases
 abbrev pub opening_text : LiveForm → List ℕ
@@ -34,7 +36,8 @@ opening_text form = []
 abbrev pub part_text : LiveForm → Finished → List ℕ
 part_text F.Text f = case_text f
 part_text F.Csv f = row_line (case_summary f)
-part_text F.History f = case_history f
+part_text F.History f = case_block K.History2 f
+part_text F.Evidence f = case_block K.Evidence f
 
 -- what of it is after the test cases
 abbrev pub closing_text : LiveForm → Tally → CampaignEnd → List ℕ

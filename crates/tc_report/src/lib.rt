@@ -1,11 +1,11 @@
 //! The results of a campaign, what they and histories say of test cases, and the texts of both.
 #![tactic(auto)]
 
+mod blocks;
 mod cause;
 mod counts;
 mod ending;
 mod fault;
-mod histories;
 mod junit;
 mod kept;
 pub mod laws;
@@ -20,11 +20,11 @@ mod results;
 mod status;
 mod summary;
 
+pub use blocks::{write_evidence, write_history};
 pub use cause::Cause;
 pub use counts::tally;
 pub use ending::{append_aborted, write_abort};
 pub use fault::OutFault;
-pub use histories::write_history;
 pub use junit::{junit_report, write_junit};
 pub use kept::Kept;
 pub use live::LiveWriter;

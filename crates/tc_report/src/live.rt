@@ -8,10 +8,10 @@ ghost use Rattle.tc_report.specs.Status.{ending_status as spec_status};
 ghost use Rattle.tc_report.specs.Output.{LeavesPrefix};
 ghost use Rattle.tc_report.specs.Tally.{tally_of_cases};
 
+use crate::blocks::append_block;
 use crate::counts::{tally_cases, with_case};
 use crate::ending::append_ending;
 use crate::fault::OutFault;
-use crate::histories::append_history;
 use crate::live_form::LiveForm;
 use crate::observer::Observer;
 use crate::output::write_flushed;
@@ -22,6 +22,7 @@ use crate::status::ending_status;
 use std::alloc::Global;
 use std::io::Write;
 use tc_entry::{NoMemory, Verdict};
+use tc_evidence::Kind;
 use tc_verdict::worse_of;
 
 // What is before the test cases.
@@ -30,7 +31,7 @@ fn opening_text(alloc: Global, form: LiveForm) -> Result<Vec<u8>, NoMemory>
 {
     match form {
         LiveForm::Csv => csv_header(alloc),
-        LiveForm::Text | LiveForm::History => Ok(Vec::new(alloc)),
+        LiveForm::Text | LiveForm::History | LiveForm::Evidence => Ok(Vec::new(alloc)),
     }
 }
 
@@ -42,7 +43,8 @@ fn part_text(alloc: Global, form: LiveForm, case: &Finished) -> Result<Vec<u8>, 
     match form {
         LiveForm::Text => append_case(&mut text, case)?,
         LiveForm::Csv => return case_row(alloc, case),
-        LiveForm::History => append_history(&mut text, case)?,
+        LiveForm::History => append_block(&mut text, Kind::History2, case)?,
+        LiveForm::Evidence => append_block(&mut text, Kind::Evidence, case)?,
     }
     Ok(text)
 }

@@ -9,4 +9,6 @@ pub enum LiveForm {
     Csv,
     /// The history of each test case.
     History,
+    /// The evidence of each test case.
+    Evidence,
 }

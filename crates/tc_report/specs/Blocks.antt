@@ -1,0 +1,37 @@
+-- The histories and the evidence of a campaign: a block for each finished test case.
+use Rattle.std.specs.Prelude.{ℕ, ◌+◌, List, [], ◌∷◌, ◌++◌, map, take}
+use Rattle.std.specs.List.{flat_map}
+use Rattle.tc_evidence.specs.declared.header.Header.{Header}
+use Rattle.tc_evidence.specs.declared.header.Kind.{Kind}
+use Rattle.tc_evidence.specs.declared.header.Kind.TheVariants as K
+use Rattle.tc_evidence.specs.declared.line.Line.{Line}
+use Rattle.tc_evidence.specs.declared.line.Line.TheVariants as L
+use Rattle.tc_evidence.specs.Block.{block_text}
+use Rattle.tc_report.specs.declared.results.Results.{Results}
+use Rattle.tc_report.specs.declared.results.Finished.{Finished}
+
+-- the first line of the block of a finished test case
+abbrev pub header_of : Kind → Finished → Header
+header_of kind f = record { kind = kind; name = f.name; behaviours = f.report.behaviours }
+
+-- a line for the name of each behaviour, from that of this run on
+abbrev pub namings : ℕ → List (List ℕ) → List Line
+namings run [] = []
+namings run (name ∷ names) = L.Named (record { 0 = run }) name ∷ namings (run + 1) names
+
+-- the names in that block: in evidence those of the behaviours of the test case, in a history none
+abbrev pub name_lines : Kind → Finished → List Line
+name_lines K.Evidence f = namings 0 (take f.report.behaviours f.names)
+name_lines kind f = []
+
+-- the lines inside that block: the names, and then the entries
+abbrev pub case_lines : Kind → Finished → List Line
+case_lines kind f = name_lines kind f ++ map L.Entry f.report.history
+
+-- that block, with its overall verdict
+abbrev pub case_block : Kind → Finished → List ℕ
+case_block kind f = block_text (header_of kind f) (case_lines kind f) f.report.verdict
+
+-- the block of each finished test case
+abbrev pub blocks_text : Kind → Results → List ℕ
+blocks_text kind r = flat_map (case_block kind) r.finished

@@ -1,0 +1,154 @@
+//! The histories and the evidence of a campaign.
+ghost use Rattle.std.specs.Prelude.{◌≡◌, ◌≤◌, ◌++◌, OnOk, IfErr, length, take};
+ghost use Rattle.std.specs.List.{flat_map};
+ghost use Rattle.std.specs.Io.KnownBytes.{Appends};
+ghost use Rattle.tc_history.specs.Block.{entry_line};
+ghost use Rattle.tc_evidence.specs.declared.header.Kind.TheVariants.{Evidence, History2};
+ghost use Rattle.tc_evidence.specs.Block.{ended, header_text};
+ghost use Rattle.tc_evidence.specs.Line.{line_text, naming_text};
+ghost use Rattle.tc_report.specs.Blocks.{blocks_text, case_block, header_of, name_lines, namings};
+ghost use Rattle.tc_report.specs.Output.{LeavesPrefix};
+
+use crate::fault::OutFault;
+use crate::output::write_made;
+use crate::results::{Finished, Results};
+use std::alloc::Global;
+use std::io::Write;
+use tc_entry::{Entry, Name, NoMemory, Run};
+use tc_evidence::{Header, Kind, Line, append_first_line, append_line};
+use tc_history::{append_end, append_entry};
+
+fn append_header(out: &mut Vec<u8>, kind: Kind, case: &Finished) -> Result<(), NoMemory>
+    ensures { OnOk result (out.new.items ≡ out.old.items
+        ++ ended (header_text (header_of kind case.now))) }
+{
+    let header = Header {
+        kind,
+        name: case.name.copy(),
+        behaviours: case.report.behaviours,
+    };
+    append_first_line(out, &header)
+}
+
+fn append_naming(out: &mut Vec<u8>, run: u16, name: &Name) -> Result<(), NoMemory>
+    ensures { OnOk result (out.new.items ≡ out.old.items ++ ended (naming_text run name.now)) }
+{
+    let line = Line::Named {
+        run: Run(run),
+        name: name.copy(),
+    };
+    append_line(out, &line)
+}
+
+// Appends the name of each behaviour.
+fn append_namings(out: &mut Vec<u8>, names: &[Name]) -> Result<(), NoMemory>
+    requires { length names.now ≤ u16.MAX }
+    ensures { OnOk result (out.new.items ≡ out.old.items
+        ++ flat_map (λ l. ended (line_text l)) (namings 0 names.now)) }
+{
+    let mut run = 0;
+    let mut rest = names;
+    while let Some((name, others)) = rest.split_first() {
+        append_naming(out, run, name)?;
+        run += 1;
+        rest = others;
+    }
+    Ok(())
+}
+
+// The names of the behaviours of a finished test case.
+fn names_of(case: &Finished) -> &[Name]
+    ensures names { result.now ≡ take case.now.report.behaviours case.now.names }
+    ensures few { length result.now ≤ u16.MAX }
+{
+    let names = case.names.as_slice();
+    names
+        .get(..usize::from(case.report.behaviours))
+        .unwrap_or(names)
+}
+
+// Appends the names that are in the block of a finished test case.
+fn append_names(out: &mut Vec<u8>, kind: Kind, case: &Finished) -> Result<(), NoMemory>
+    ensures { OnOk result (out.new.items ≡ out.old.items
+        ++ flat_map (λ l. ended (line_text l)) (name_lines kind case.now)) }
+{
+    match kind {
+        Kind::Evidence => append_namings(out, names_of(case)),
+        Kind::History1 | Kind::History2 => Ok(()),
+    }
+}
+
+fn append_entries(out: &mut Vec<u8>, entries: &[Entry]) -> Result<(), NoMemory>
+    ensures { OnOk result (out.new.items ≡ out.old.items ++ flat_map entry_line entries.now) }
+{
+    for entry in entries {
+        append_entry(out, entry)?;
+    }
+    Ok(())
+}
+
+/// Appends the block of a finished test case.
+pub(crate) fn append_block(out: &mut Vec<u8>, kind: Kind, case: &Finished) -> Result<(), NoMemory>
+    ensures { OnOk result (out.new.items ≡ out.old.items ++ case_block kind case.now) }
+{
+    append_header(out, kind, case)?;
+    append_names(out, kind, case)?;
+    append_entries(out, case.report.history.as_slice())?;
+    append_end(out, case.report.verdict)
+}
+
+// Appends the block of each finished test case.
+fn append_blocks(out: &mut Vec<u8>, kind: Kind, cases: &[Finished]) -> Result<(), NoMemory>
+    ensures { OnOk result (out.new.items ≡ out.old.items ++ flat_map (case_block kind) cases.now) }
+{
+    for case in cases {
+        append_block(out, kind, case)?;
+    }
+    Ok(())
+}
+
+// Writes the block of each finished test case.
+fn write_blocks<W: Write>(
+    alloc: Global,
+    kind: Kind,
+    results: &Results,
+    writer: &mut W,
+) -> Result<(), OutFault>
+    ensures all { OnOk result (Appends (W.contents writer.old) (W.contents writer.new)
+        (blocks_text kind results.now)) }
+    ensures part { IfErr result (LeavesPrefix (W.contents writer.old) (W.contents writer.new)
+        (blocks_text kind results.now)) }
+{
+    let mut text = Vec::new(alloc);
+    append_blocks(&mut text, kind, results.finished.as_slice())?;
+    write_made(writer, text.as_slice())
+}
+
+/// Writes the history of each finished test case, in order. The text is made whole before anything is written.
+pub fn write_history<W: Write>(
+    alloc: Global,
+    results: &Results,
+    writer: &mut W,
+) -> Result<(), OutFault>
+    ensures all { OnOk result (Appends (W.contents writer.old) (W.contents writer.new)
+        (blocks_text History2 results.now)) }
+    ensures part { IfErr result (LeavesPrefix (W.contents writer.old) (W.contents writer.new)
+        (blocks_text History2 results.now)) }
+{
+    write_blocks(alloc, Kind::History2, results, writer)
+}
+
+/// Writes the evidence of each finished test case, in order: its history with the names of its behaviours. The text is
+/// made whole before anything is written.
+pub fn write_evidence<W: Write>(
+    alloc: Global,
+    results: &Results,
+    writer: &mut W,
+) -> Result<(), OutFault>
+    ensures all { OnOk result (Appends (W.contents writer.old) (W.contents writer.new)
+        (blocks_text Evidence results.now)) }
+    ensures part { IfErr result (LeavesPrefix (W.contents writer.old) (W.contents writer.new)
+        (blocks_text Evidence results.now)) }
+{
+    write_blocks(alloc, Kind::Evidence, results, writer)
+}
