@@ -7,7 +7,7 @@ from itertools import accumulate
 from typing import Callable, Iterator, List
 
 import served
-from outcomes import HISTORY, PROGRESS, Task, pieces_of, told_of_first
+from outcomes import PROGRESS, Task, pieces_of, told_of_first
 from refusing import TOP, Ran, Refusing
 from sweeps import Sweep, numbers, tasks
 
@@ -24,7 +24,7 @@ SIDE_BY_SIDE = ("restart", "workers", "supervisor", "pumps")
 
 def narrow_tasks() -> Iterator[Task]:
     """The tasks that read, each of which has one right output."""
-    return (it for it in tasks() if it.given and not (it.is_run and it.has(HISTORY) and it.name in SIDE_BY_SIDE))
+    return (it for it in tasks() if it.given and not (it.block and it.name in SIDE_BY_SIDE))
 
 
 def told_of(task: Task, ample: Ran, written: int) -> bytes:

@@ -18,7 +18,9 @@ from script_reader import Campaign, read_script
 from table import VERDICTS
 
 NO_MEMORY = b"ttrun: no memory\n"
-CSV, HISTORY, JUNIT, PROGRESS = "--csv", "--history", "--junit", "--progress"
+CSV, JUNIT, PROGRESS = "--csv", "--junit", "--progress"
+# How a block of a form begins whose test cases may have other histories at each run.
+BLOCKS = {"--history": b"history 2 ", "--evidence": b"evidence 1 "}
 FAILED = b"failed: "
 SUITE_END = "</testsuite>\n</testsuites>\n"
 
@@ -39,6 +41,11 @@ class Task:
     def has(self, word: str) -> bool:
         """Whether the words have this one."""
         return word in self.words
+
+    @property
+    def block(self) -> bytes:
+        """How each block begins, if a run writes blocks."""
+        return next((begins for form, begins in BLOCKS.items() if self.is_run and self.has(form)), b"")
 
     def behind(self, option: str) -> List[str]:
         """The words that are after an option."""
@@ -70,7 +77,7 @@ def pieces_of(task: Task, text: bytes) -> List[bytes]:
     if task.has(JUNIT):
         return re.findall(rb"<testcase .*?</testcase>\n", text, re.DOTALL)
     body = text[: text.index(b"\ncases ") + 1] if b"\ncases " in text else text
-    starts = [it.start() for it in re.finditer(rb"(?m)^history " if task.has(HISTORY) else rb"(?m)^testcase ", body)]
+    starts = [it.start() for it in re.finditer(rb"(?m)^" + (task.block or b"testcase "), body)]
     return [body[at:end] for at, end in zip(starts, [*starts[1:], len(body)])]
 
 
@@ -107,7 +114,7 @@ def aborted_report(task: Task, ample: bytes, finished: int, name: str, why: str)
     if task.has(JUNIT):
         return aborted_suite(ample, pieces, name, why)
     text = b"".join(pieces) or header_of(task, ample)
-    if task.has(CSV) or task.has(HISTORY):
+    if task.has(CSV) or task.block:
         return text
     return text + (tally_of(verdicts_of(task, pieces)) + f"aborted at {name}: {why}\n").encode()
 
@@ -123,20 +130,20 @@ def faults_of_histories(task: Task, text: bytes, count: Optional[int]) -> List[s
     if not text:
         return ["no history stands there"] if count else []
     faults = faults_of_history(task.campaign(), text)
-    found = text.count(b"history 2 ")
+    found = text.count(task.block)
     return faults + ([f"{found} histories stand for {count}"] if count not in (None, found) else [])
 
 
 def differs(task: Task, wanted: bytes, ran: Ran, count: int) -> List[str]:
     """Why the output is not the one that is wanted; histories may be others at each run."""
-    if task.is_run and task.has(HISTORY):
+    if task.block:
         return faults_of_histories(task, ran.output, count)
     return [] if wanted == ran.output else [first_difference(wanted, ran.output)]
 
 
 def judged_right(task: Task, ample: Ran, ran: Ran) -> Outcome:
     """A run that ended with the status of ample memory."""
-    count = len(task.campaign()) if task.is_run and task.has(HISTORY) else 0
+    count = len(task.campaign()) if task.block else 0
     faults = differs(task, ample.output, ran, count)
     if ran.errors != ample.errors:
         faults.append(f"standard error: {ran.errors[:200]!r}")
@@ -159,7 +166,7 @@ def judged_refused(task: Task, ample: Ran, ran: Ran) -> Outcome:
     if not ran.output:
         return Outcome("refused")
     if task.is_run and task.has("--live"):
-        if task.has(HISTORY):
+        if task.block:
             faults = faults_of_histories(task, ran.output, None)
             return Outcome("wrong", "; ".join(faults)) if faults else Outcome("refused")
         if ran.output in whole_pieces(task, ample.output):

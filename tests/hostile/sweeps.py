@@ -18,7 +18,7 @@ from sizes import many_behaviours
 from whole import EACH
 
 # The forms of `run`: each can be written live but the JUnit report.
-LIVE_FORMS: Tuple[Tuple[str, ...], ...] = ((), ("--csv",), ("--history",))
+LIVE_FORMS: Tuple[Tuple[str, ...], ...] = ((), ("--csv",), ("--history",), ("--evidence",))
 FORMS = (*LIVE_FORMS, ("--junit",))
 SCRIPTS = ("restart", "workers", "supervisor", "verdicts", "pumps")
 # Lines of two test cases: of each kind, refused ones of a run and of nobody, a run that waits and is woken; the second stays open.

@@ -21,6 +21,7 @@ TAKEN = (
     ("run", ("run",), STORED_SCRIPT.encode()),
     ("csv", ("run", "--csv"), RESTARTED_SCRIPT.encode()),
     ("history", ("run", "--history"), of_verdicts("error")),
+    ("evidence", ("run", "--evidence"), of_verdicts("error")),
     ("serve", ("serve",), text("case t 1;0 finish;end")),
     ("no_word", (), of_verdicts("pass")),
 )

@@ -68,7 +68,7 @@ def cases() -> List[Case]:
     seen: Set[Tuple[Tuple[str, ...], str]] = set()
     for path in documents:
         for number, words, file, _ in read(examples.TOP, path).commands():
-            if "--history" in words or (words, file) in seen:
+            if "--history" in words or "--evidence" in words or (words, file) in seen:
                 continue
             seen.add((words, file))
             output = examples.bytes_of(output_of(words, file))

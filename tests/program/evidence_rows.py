@@ -1,4 +1,5 @@
-"""Evidence through `check` and `report`: worked texts, each fault, long texts, and random and spoilt ones next to the tests' reader."""
+"""Evidence that `run` writes, and evidence through `check` and `report`: worked texts, each fault, long texts, and random and spoilt
+ones next to the tests' reader."""
 from __future__ import annotations
 
 import os
@@ -13,7 +14,10 @@ import examples
 import reports
 from case import Case, difference, faults_of, run
 from judged import Judgement
+from random_moves import below
+from random_scripts import drawn_script
 from rows import text
+from script_reader import Campaign, read_script
 from texts import MOST_BYTES_OF_A_HISTORY, check
 
 # The tests of the page have random evidence, and those of a service the history of a block.
@@ -132,6 +136,40 @@ def refused_by_report(name: str, given: bytes, line: bytes) -> Case:
     return Case(f"report_of_{name}", ("report", "--csv"), given, errors=b"ttrun: " + line + b"\n", status=3)
 
 
+def written_of(campaign: Campaign, blocks: List[evidence.Block]) -> bytes:
+    """Evidence of the campaign with these entries and verdicts: each block names its behaviours first, in their order."""
+    lines: List[str] = []
+    for case, block in zip(campaign, blocks):
+        lines += [f"evidence 1 {case.name} {len(case.behaviours)}", *(f"behaviour {at} {it.name}" for at, it in enumerate(case.behaviours)),
+                  *block.entries, f"end {block.verdict}"]
+    return "".join(f"{it}\n" for it in lines).encode()
+
+
+def faults_of_a_run(program: str, script: bytes, live: Tuple[str, ...], met: Counter) -> List[str]:
+    """What is wrong with `run --evidence`: it names each behaviour, and what is left without the names is a history of the script, of
+    which `check` and the forms of `report` say the same."""
+    ran = run(Case("", ("run", *live, "--evidence"), script), program)
+    campaign, blocks = read_script(script), evidence.blocks_of(ran.output.decode())
+    plain = "".join(it.history() for it in blocks).encode()
+    faults = difference("standard error", b"", ran.errors) + examples.faults_of_history(campaign, plain)
+    faults += difference("the evidence", written_of(campaign, blocks), ran.output)
+    faults += [] if len(blocks) == len(campaign) else [f"{len(blocks)} blocks of {len(campaign)} test cases"]
+    faults += [] if ran.status == examples.status_in("history", plain) else [f"status {ran.status}"]
+    for words in (("check",), ("report", "--csv"), ("report", "--junit")):
+        of_both = [run(Case("", words, it), program) for it in (plain, ran.output)]
+        faults += [] if of_both[0] == of_both[1] else [f"{words}: {of_both[1]} of evidence, and {of_both[0]} of the history in it"]
+    met.update(blocks=len(blocks), names=sum(len(it.names) for it in blocks), entries=sum(len(it.entries) for it in blocks))
+    met["live"] += bool(live)
+    return faults + [fault for form in reports.FORMS for fault in reports.faults_of_report(program, form, ran.output)]
+
+
+def run_of_an_example(stem: str, live: Tuple[str, ...]) -> Judgement:
+    """`run --evidence` of a script of examples/."""
+    words = " ".join(["ttrun run", *live, "--evidence"])
+    return Judgement("_".join([*(it.strip("-") for it in live), "evidence_of", stem]), f"{words} < examples/{stem}.script",
+                     lambda program: faults_of_a_run(program, examples.bytes_of(f"{stem}.script"), live, Counter()))
+
+
 def cases() -> List[Union[Case, Judgement]]:
     """All of them, but the random ones."""
     found: List[Union[Case, Judgement]] = []
@@ -142,6 +180,8 @@ def cases() -> List[Union[Case, Judgement]]:
         words = f"line {line}: {fault}".encode()
         found += [Case(name, ("check",), given, errors=b"ttrun: " + words + b"\n", status=3), refused_by_report(name, given, words)]
     found.append(Judgement("a_page_of_evidence_has_no_tag_in_its_text", "ttrun report --html", held_page))
+    stems = sorted(it.partition(".")[0] for it in os.listdir(examples.FOLDER) if it.endswith(".script"))
+    found += [run_of_an_example(it, live) for it in stems for live in ((), ("--live",))]
     return [*found, *long_texts()]
 
 
@@ -149,6 +189,8 @@ def cases() -> List[Union[Case, Judgement]]:
 FLOORS: Dict[str, int] = {"legal": 200, "another reply": 100, "another verdict": 40, "bad first line": 60, "bad entry": 300,
                           "text ends too early": 30}
 BLOCKS = 1000
+# Random scripts that are run.
+RUNS = 60
 
 
 def other(source: random.Random, block: str) -> str:
@@ -205,5 +247,15 @@ def judgements(seed: int) -> List[Judgement]:
         faults += difference("check of the histories", checked[0].output, checked[1].output)
         return faults + faults_of(Case("", ("check",), given, check(given).output), checked[0])
 
-    return [Judgement("random_and_spoilt_evidence", f"ttrun check, seed {seed}", judge),
+    def judge_runs(program: str) -> List[str]:
+        source, met = random.Random(f"evidence of {seed}"), Counter()
+        for at in range(RUNS):
+            script = drawn_script(source, is_in_turn=False)
+            faults = faults_of_a_run(program, script, ("--live",) * (at % 2), met)
+            if faults:
+                return [*faults, f"the script: {script[:3000].decode()}"]
+        return below(met, [("blocks", RUNS), ("names", 3 * RUNS), ("entries", 10 * RUNS), ("live", RUNS // 2)])
+
+    return [Judgement(f"evidence_of_random_scripts_{seed}", "ttrun run [--live] --evidence < (random scripts)", judge_runs),
+            Judgement("random_and_spoilt_evidence", f"ttrun check, seed {seed}", judge),
             Judgement("a_thousand_blocks_of_both_kinds", f"ttrun check and report, seed {seed}", judge_many)]

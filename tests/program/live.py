@@ -13,7 +13,7 @@ from case import SECONDS, Case, Ran, first_difference, run
 from judged import Judgement
 from rows import CSV_HEADER, counts_of, of_verdicts
 
-FORMS: Tuple[Tuple[str, ...], ...] = ((), ("--csv",), ("--history",))
+FORMS: Tuple[Tuple[str, ...], ...] = ((), ("--csv",), ("--history",), ("--evidence",))
 # A campaign that takes some time: each test case starts and awaits 40 components.
 STARTED = 40
 TEST_CASES = 400
@@ -83,7 +83,7 @@ def ended_by_a_signal(options: Tuple[str, ...], ending: signal.Signals) -> Judge
                 return ["no test case was written before the signal"]
             if ends[-1] != len(ran.output):
                 return [f"a part of a test case is out: {ran.output[ends[-1]:][:200]!r}"]
-            begins = {"--csv": b"%s,", "--history": b"history 2 %s "}.get(options[0] if options else "", b"testcase %s\n")
+            begins = {"--csv": b"%s,", "--history": b"history 2 %s ", "--evidence": b"evidence 1 %s "}.get(options[0] if options else "", b"testcase %s\n")
             lacking = [it for it in names[:len(ends)] if begins % it not in ran.output]
             return [f"{lacking[0]!r} is not among the first {len(ends)} test cases"] if lacking else []
         return [f"no run of {TRIES} was ended by the signal"]
@@ -125,7 +125,7 @@ def devices() -> List[Case]:
 
 def without_a_test_case() -> List[Case]:
     """Runs of a shard that has no test case."""
-    wanted = {(): counts_of() + "complete\n", ("--csv",): CSV_HEADER, ("--history",): ""}
+    wanted = {(): counts_of() + "complete\n", ("--csv",): CSV_HEADER, ("--history",): "", ("--evidence",): ""}
     return [Case("_".join(["no_test_case_at_all", *(it.strip("-") for it in (*live, *form))]), ("run", *live, *form, "--shard", "2/2"),
                  of_verdicts("fail"), text.encode()) for form, text in wanted.items() for live in ((), ("--live",))]
 
@@ -133,9 +133,8 @@ def without_a_test_case() -> List[Case]:
 def cases() -> List[object]:
     """All of them."""
     scripts = ("restart", "nightly", "stations", "supervisor", "verdicts", "workers")
-    found: List[object] = [same(it, examples.bytes_of(f"{it}.script"), options) for it in scripts for options in FORMS
-                           if "--history" not in options]
     # Histories may be others at each run.
+    found: List[object] = [same(it, examples.bytes_of(f"{it}.script"), options) for it in scripts for options in FORMS[:2]]
     found += [examples.written_is_checked(it, len(examples.campaign_of(it)), ("--live",)) for it in scripts]
     found += [same("stopped", examples.bytes_of("verdicts.script"), (*options, "--stop-on", "fail")) for options in FORMS]
     found += [same("refused", b"testcase\n", options) for options in FORMS]

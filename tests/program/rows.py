@@ -364,10 +364,17 @@ def history_of_verdict(name: str, verdict: str) -> str:
     return f"history 2 {name} 1\n{calls}\nend {verdict}\n"
 
 
+def evidence_of_verdict(name: str, verdict: str) -> str:
+    """The evidence of such a test case."""
+    header, _, rest = history_of_verdict(name, verdict).partition("\n")
+    return header.replace("history 2", "evidence 1") + "\nbehaviour 0 main\n" + rest
+
+
 def stopping_cases() -> Iterator[Case]:
     """Each word of `--stop-on` over one test case of each verdict, in each form, and each single verdict's status."""
     statuses = (0, 0, 1, 1, 2)
-    writers = (((), case_of_verdict), (("--csv",), csv_of_verdict), (("--history",), history_of_verdict))
+    writers = (((), case_of_verdict), (("--csv",), csv_of_verdict), (("--history",), history_of_verdict),
+               (("--evidence",), evidence_of_verdict))
     for words, one in writers:
         form = words[0][2:] if words else "text"
         for at, word in enumerate(ALL_VERDICTS):
@@ -406,6 +413,9 @@ def run_cases() -> Iterator[Case]:
     solo = text("history 2 solo 1;0 create -> made 1;0 setverdict pass -> ok;0 wait done 1 -> parked;"
                 "0 wake done 1 -> error stuck;end error")
     yield Case("history_of_a_stuck_case", ("run", "--history"), text(SOLO), solo, status=2)
+    named = solo.replace(b"history 2 solo 1\n", b"evidence 1 solo 1\nbehaviour 0 main\n")
+    yield Case("evidence_of_a_stuck_case", ("run", "--evidence"), text(SOLO), named, status=2)
+    yield Case("check_of_the_evidence_of_a_stuck_case", ("check",), named, b"legal solo 4 error\n")
     yield Case("check_of_the_history_of_a_stuck_case", ("check",), solo, b"legal solo 4 error\n")
     yield Case("report_of_a_stuck_case", ("run",), text(SOLO),
                text("testcase solo;run 0 main on 0;  create -> made 1;  setverdict pass -> ok;  wait done 1 -> error stuck;"

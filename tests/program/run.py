@@ -53,7 +53,7 @@ GROUPS = (
     ("progress", progress.cases, 30),
     ("examples", examples.cases, 42),
     ("reports", reports.cases, 30),
-    ("evidence", evidence_rows.cases, 130),
+    ("evidence", evidence_rows.cases, 145),
     ("explain", explain.cases, 100),
     ("documents", documents_run.cases, 2),
 )

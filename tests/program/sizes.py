@@ -141,6 +141,8 @@ def refused() -> Iterator[Case]:
     yield Case("no_thread_csv", ("run", "--csv"), ABORTED, PASSED, line, status=3, limit="-v 40000")
     yield Case("no_thread_history", ("run", "--history"), ABORTED, status=3, limit="-v 40000", errors=line,
                output=text("history 2 t 1;0 setverdict pass -> ok;0 finish -> ok;end pass"))
+    yield Case("no_thread_evidence", ("run", "--evidence"), ABORTED, status=3, limit="-v 40000", errors=line,
+               output=text("evidence 1 t 1;behaviour 0 main;0 setverdict pass -> ok;0 finish -> ok;end pass"))
     yield Case("no_thread_and_no_output", ("run",), ABORTED, errors=b"ttrun: write fault\n", status=3, limit="-v 40000",
                redirect=">/dev/full")
     yield Case("no_thread_untold", ("run",), ABORTED, first, status=3, limit="-v 40000", redirect="2>/dev/full")

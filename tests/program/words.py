@@ -16,6 +16,7 @@ EXPLAIN = "after a fault's line, says what stands there and what would be unders
 ALL_OPTIONS = ("runs the campaign of a script, and writes its report\n",
                "  --csv                writes the report as CSV\n",
                "  --history            writes the histories of the test cases\n",
+               "  --evidence           writes the histories with the names of behaviours\n",
                "  --junit              writes the report as a JUnit suite\n",
                "  --live               writes each test case as it finishes\n",
                "  --progress           tells of each test case as it finishes, on standard error\n",
@@ -80,22 +81,31 @@ report --html --junit => the argument '--junit' cannot be used with '--html'
 report --junit --csv => the argument '--csv' cannot be used with '--junit'
 report --junit --junit => the argument '--junit' cannot be used multiple times
 run --csv --csv => the argument '--csv' cannot be used multiple times
+run --csv --evidence => the argument '--csv' cannot be used with '--evidence'
 run --csv --history => the argument '--csv' cannot be used with '--history'
 run --csv --history --junit => the argument '--csv' cannot be used with '--history'
 run --csv --history --stop-on no => the argument '--csv' cannot be used with '--history'
 run --csv --list --only a => the argument '--list' cannot be used with '--csv'
 run --csv --live --history => the argument '--csv' cannot be used with '--history'
+run --evidence --csv => the argument '--csv' cannot be used with '--evidence'
+run --evidence --evidence => the argument '--evidence' cannot be used multiple times
+run --evidence --history => the argument '--history' cannot be used with '--evidence'
+run --evidence --junit => the argument '--evidence' cannot be used with '--junit'
+run --evidence --list => the argument '--list' cannot be used with '--evidence'
 run --explain --list => the argument '--list' cannot be used with '--explain'
 run --history --csv => the argument '--csv' cannot be used with '--history'
+run --history --evidence => the argument '--history' cannot be used with '--evidence'
 run --history --history => the argument '--history' cannot be used multiple times
 run --history --junit => the argument '--history' cannot be used with '--junit'
 run --history --list => the argument '--list' cannot be used with '--history'
 run --history --stop-on pass --csv => the argument '--csv' cannot be used with '--history'
 run --junit --csv => the argument '--csv' cannot be used with '--junit'
+run --junit --evidence => the argument '--evidence' cannot be used with '--junit'
 run --junit --history => the argument '--history' cannot be used with '--junit'
 run --junit --junit => the argument '--junit' cannot be used multiple times
 run --junit --live => the argument '--junit' cannot be used with '--live'
 run --list --csv => the argument '--list' cannot be used with '--csv'
+run --list --evidence => the argument '--list' cannot be used with '--evidence'
 run --list --history => the argument '--list' cannot be used with '--history'
 run --list --junit => the argument '--list' cannot be used with '--junit'
 run --list --list => the argument '--list' cannot be used multiple times
@@ -103,6 +113,7 @@ run --list --live => the argument '--list' cannot be used with '--live'
 run --list --progress => the argument '--list' cannot be used with '--progress'
 run --list --stop-on fail => the argument '--list' cannot be used with '--stop-on'
 run --live --csv --history => the argument '--csv' cannot be used with '--history'
+run --live --evidence --history => the argument '--history' cannot be used with '--evidence'
 run --live --junit => the argument '--junit' cannot be used with '--live'
 run --live --list => the argument '--list' cannot be used with '--live'
 run --live --live => the argument '--live' cannot be used multiple times
@@ -124,6 +135,7 @@ run --stop-on pass --stop-on pass => the argument '--stop-on <VERDICT>' cannot b
 --stop-on fail => unexpected argument '--stop-on' found
 -x => unexpected argument '-x' found
 check --csv => unexpected argument '--csv' found
+check --evidence => unexpected argument '--evidence' found
 check --html => unexpected argument '--html' found
 check --junit => unexpected argument '--junit' found
 check --live => unexpected argument '--live' found
@@ -131,6 +143,7 @@ check --only a => unexpected argument '--only' found
 check --progress => unexpected argument '--progress' found
 check more => unexpected argument 'more' found
 explore --csv => unexpected argument '--csv' found
+explore --evidence => unexpected argument '--evidence' found
 explore --explain => unexpected argument '--explain' found
 explore --progress => unexpected argument '--progress' found
 explore --shard 1/2 => unexpected argument '--shard' found
@@ -140,10 +153,12 @@ replay --list => unexpected argument '--list' found
 replay --live => unexpected argument '--live' found
 replay --stop-on fail => unexpected argument '--stop-on' found
 replay more => unexpected argument 'more' found
+report --evidence => unexpected argument '--evidence' found
 report --history => unexpected argument '--history' found
 report --live => unexpected argument '--live' found
 report more => unexpected argument 'more' found
 serve --explain => unexpected argument '--explain' found
+serve --evidence => unexpected argument '--evidence' found
 serve --history => unexpected argument '--history' found
 serve more => unexpected argument 'more' found
 run  => unexpected argument '' found
@@ -327,7 +342,7 @@ def cases() -> List[Case]:
               for name, words in NOT_UTF8]
     found += [Case("_".join(["unread_with", word, *form]), ("run", *form, "--stop-on", word), status=3, stays_open=True,
                    errors=b"ttrun: --stop-on takes none, pass, inconc, fail or error\n")
-              for word in ("maybe", "PASS") for form in ((), ("--csv",), ("--history",))]
+              for word in ("maybe", "PASS") for form in ((), ("--csv",), ("--history",), ("--evidence",))]
     found += [Case("_".join(["unread_with_shard", word or "empty", *form]), ("run", *form, "--shard", word), status=3,
                    stays_open=True, errors=SHARD)
               for word in ("", "1", "0/2", "3/2", "1/0", "01/2", "1/2/3", "a/b", "1/4294967296")
