@@ -105,7 +105,7 @@ def hold_left(room: Room, names: List[str], cases: List[str], status: int) -> No
             hold_junit(room, name, cases)
         elif last.endswith(".html"):
             hold_page(room, name, cases)
-        elif last == "run.history":
+        elif last in ("run.history", "run.evidence"):
             hold(sorted(room.judged(name)) == sorted(cases), f"{name} lacks a test case")
         elif last == "run.status":
             hold(room.text(name) == f"{status}\n", f"{name}: {room.text(name)}")
@@ -199,7 +199,7 @@ def evidence_of_a_campaign_that_runs_out_of_time(room: str, program: str) -> str
     it = Room(os.path.join(room, "late", "it"), program)
     it.commit()
     hold(it.shell(SHELLS["github"], keep.text, CUT="--live").status == 124, "how it ends")
-    hold(it.text("evidence/run.status") == "124\n" and it.judged("evidence/run.history") == ["t_pass"], "what is kept")
+    hold(it.text("evidence/run.status") == "124\n" and it.judged("evidence/run.evidence") == ["t_pass"], "what is kept")
     ran = it.shell(SHELLS["github"], check.text)
     hold(ran.status == 1 and ran.output.count("< t_") == len(VERDICTS) - 1, f"{ran}")
     return "the test cases that are missing are named"
@@ -208,7 +208,7 @@ def evidence_of_a_campaign_that_runs_out_of_time(room: str, program: str) -> str
 def evidence_that_was_changed(room: str, program: str) -> str:
     parts = section("Evidence").steps
     hold(len(parts) == 2, f"{len(parts)} blocks")
-    for name, old, new in (("run.history", "end fail", "end pass"), ("campaign.script", "setverdict fail", "setverdict pass"),
+    for name, old, new in (("run.evidence", "end fail", "end pass"), ("campaign.script", "setverdict fail", "setverdict pass"),
                            ("run.status", "2", "0")):
         it = Room(os.path.join(room, f"changed-{name}", "it"), program)
         it.commit()
@@ -224,8 +224,8 @@ def evidence_that_was_cut(room: str, program: str) -> str:
     it = Room(os.path.join(room, "cut", "it"), program)
     it.commit()
     hold(it.shell(SHELLS["github"], keep.text).status == WORST, "it is kept")
-    it.write("evidence/run.history", it.text("evidence/run.history").partition("history 2 t_error ")[0])
-    sums = "(cd evidence && sha256sum campaign.script run.program run.history run.log run.status > run.sums)\n"
+    it.write("evidence/run.evidence", it.text("evidence/run.evidence").partition("evidence 1 t_error ")[0])
+    sums = "(cd evidence && sha256sum campaign.script run.program run.evidence run.log run.status > run.sums)\n"
     hold(it.shell(SHELLS["github"], sums).status == 0, "new sums")
     ran = it.shell(SHELLS["github"], check.text)
     hold(ran.status == 1 and "< t_error\n< t_waits\n" in ran.output, f"{ran}")

@@ -51,7 +51,7 @@ LIES = (
     Lie("a_refused_script_is_taken_for_a_pass", PIPELINES, "exit \"$status\"\n```\n\nIt leaves `run.history`,",
         "[ \"$status\" -le 2 ] || exit 0\nexit \"$status\"\n```\n\nIt leaves `run.history`,", "a_step_on_a_script_that_is_refused"),
     Lie("races_are_not_told", PIPELINES, "{ status=$?; cat races.txt; exit \"$status\"; }", "exit $?", "a_step_that_keeps_races_out"),
-    Lie("a_sum_is_left_out", PIPELINES, "sha256sum campaign.script run.program run.history run.log run.status", "sha256sum campaign.script run.history", FAILS),
+    Lie("a_sum_is_left_out", PIPELINES, "sha256sum campaign.script run.program run.evidence run.log run.status", "sha256sum campaign.script run.evidence", FAILS),
     Lie("evidence_is_kept_without_its_status", PIPELINES, "echo \"$status\" > evidence/run.status", "echo 0 > evidence/run.status", FAILS),
     Lie("missing_test_cases_are_not_named", PIPELINES, "cut -d ' ' -f 2 run.judged | diff run.wanted -  ", "cut -d ' ' -f 2 run.judged > run.wanted  ",
         "evidence_that_was_cut"),
