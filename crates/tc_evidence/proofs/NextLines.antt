@@ -14,7 +14,7 @@ use Rattle.tc_evidence.specs.declared.line.Line.TheVariants as L
 use Rattle.tc_evidence.specs.Sentence.{IsSentence}
 use Rattle.tc_evidence.specs.Line.{is_met, line_text, naming_text, said_text}
 use Rattle.tc_evidence.specs.Text.{IsLine, format_of}
-use Rattle.tc_evidence.specs.Inside.{ArePlain, IsFound, IsNext, IsNone, IsNote, IsSaidBy, line_said}
+use Rattle.tc_evidence.specs.Inside.{ArePlain, IsFound, IsNext, IsNoEntryLine, IsNone, IsNote, IsSaidBy, line_said}
 use Rattle.tc_evidence.proofs.Notes.{entry_not_naming, entry_not_said, said_not_naming, sentence_plain}
 
 head_is : (x y : List ℕ) (xs ys : List (List ℕ)) → x ∷ xs ≡ y ∷ ys → x ≡ y
@@ -165,9 +165,6 @@ note_of_naming n before text p rest small spelled fits less only (Some r) is =
     (subst (λ (x : List ℕ). IsNext (IsNote n before) text (L.Named p.0 p.1) x) (sym is.2) (named_next n before text p rest small spelled fits less only is.0))
 
 -- ---- any line
-
-abbrev pub IsNoEntryLine : ℕ → List ℕ → Type 0
-IsNoEntryLine f text = (e : Entry) (others : List (List ℕ)) → IsEntry f e → lines_of text ≡ entry_text e ∷ others → ⊥
 
 abbrev pub IsThatEntry : ℕ → List ℕ → Entry → List ℕ → Type 0
 IsThatEntry f text e rest = (t : Entry) (others : List (List ℕ)) → IsEntry f t → lines_of text ≡ entry_text t ∷ others → (e ≡ t) × (lines_of rest ≡ others)

@@ -13,8 +13,8 @@ use Rattle.tc_evidence.specs.declared.line.Line.{Line}
 use Rattle.tc_evidence.specs.declared.met.MetRuns.{MetRuns}
 use Rattle.tc_evidence.specs.Met.{AreMet}
 use Rattle.tc_evidence.specs.Block.{header_text}
-use Rattle.tc_evidence.specs.Text.{AreEvidence, IsBlock, IsEvidenceFault, IsHeader, IsLine, block_lines}
-use Rattle.tc_evidence.specs.Inside.{AreTakenBy, IsBlockFault, IsNext, IsTakenBy}
+use Rattle.tc_evidence.specs.Text.{AreEvidence, IsBlock, IsEvidenceFault, IsHeader, block_lines}
+use Rattle.tc_evidence.specs.Inside.{AreTakenBy, IsBlockFault, IsLineTakenBy, IsTakenBy}
 use Rattle.tc_evidence.proofs.InsideLines.{IsNoEndLine, IsThatEnd, IsThatHeader, SoFar, goes_on, is_taken, none_yet, taken}
 use Rattle.tc_evidence.proofs.Meeting.{met_after}
 use Rattle.tc_evidence.proofs.Texts.{AreRead, all_only, all_read, first_fault, none_read, one_read, refused_only}
@@ -36,19 +36,18 @@ open_none opens kind n text first met value none = record {
   opened = λ at h is opened. opened;
 }
 
-pub open_more : {O : Type 0} (opens : ℕ → Header → List Line → O → Type 0) (kind : Kind) (n : ℕ) (text : List ℕ) (first : ℕ) (rest after : List ℕ) (line : ℕ) (met met' : MetRuns) (before value value' : O) (l : Line) →
-    IsOpenSoFar opens kind n text first rest line met before value → ((ls : List Line) → AreMet met ls → IsNext (IsLine kind n ls) rest l after) → IsNoEndLine rest →
-    ((ls : List Line) → AreMet met ls → AreMet met' (l ∷ ls)) →
-    ((at : ℕ) (h : Header) (ls : List Line) → line ≡ at + length ls + 1 → opens at h ls value → opens at h (ls ++ l ∷ []) value') → IsOpenSoFar opens kind n text first after (line + 1) met' before value'
-open_more opens kind n text first rest after line met met' before value value' l so next no_end adds takes =
+pub open_more : {O : Type 0} (opens : ℕ → Header → List Line → O → Type 0) (kind : Kind) (n : ℕ) (text : List ℕ) (first : ℕ) (rest after : List ℕ) (line : ℕ) (met met' : MetRuns) (before value value' : O) →
+    IsOpenSoFar opens kind n text first rest line met before value → IsLineTakenBy opens kind n rest line met met' value value' after → IsNoEndLine rest → IsOpenSoFar opens kind n text first after (line + 1) met' before value'
+open_more opens kind n text first rest after line met met' before value value' so one no_end =
+    let l = one.line in
     let here = so.line_is in
     let longer = length-append so.inside (l ∷ []) in
     record {
       inside = so.inside ++ l ∷ [];
-      read = goes_on kind n text so.inside (so.inside ++ l ∷ []) rest after l so.read (next so.inside so.met_are) no_end refl;
+      read = goes_on kind n text so.inside (so.inside ++ l ∷ []) rest after l so.read (one.next so.inside so.met_are) no_end refl;
       line_is = omega (arith, here, longer);
-      met_are = met_after met' so.inside (so.inside ++ l ∷ []) l refl (adds so.inside so.met_are);
-      opened = λ at h is opened. takes at h so.inside (omega (arith, here, is)) (so.opened at h is opened);
+      met_are = met_after met' so.inside (so.inside ++ l ∷ []) l refl (one.adds so.inside so.met_are);
+      opened = λ at h is opened. one.opened at h so.inside (omega (arith, here, is)) (so.opened at h is opened);
     }
 
 pub open_ended : {O : Type 0} (opens : ℕ → Header → List Line → O → Type 0) (kind : Kind) (n : ℕ) (text : List ℕ) (first : ℕ) (rest after : List ℕ) (line : ℕ) (met : MetRuns) (before value : O) (v : Verdict) → n < 2 ^ 16 →

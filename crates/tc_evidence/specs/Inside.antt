@@ -3,19 +3,23 @@ use Rattle.std.specs.Prelude.{ℕ, ◌≡◌, ◌≢◌, ◌+◌, ◌<◌, ◌�
 use Rattle.std.specs.Borrow.{Bor}
 use Rattle.tc_verdict.specs.declared.run.Run.{Run}
 use Rattle.tc_verdict.specs.declared.verdict.Verdict.{Verdict}
+use Rattle.tc_entry.specs.declared.entry.Entry.{Entry}
 use Rattle.tc_text.specs.Shown.{is_plain}
 use Rattle.tc_text.specs.declared.fault.TextFault.{TextFault}
 use Rattle.tc_text.specs.declared.fault.TextFault.TheVariants as F
 use Rattle.tc_text.specs.declared.fault.TextKind.TheVariants as T
 use Rattle.tc_text.specs.Lines.{lines_of}
-use Rattle.tc_history.specs.Block.{end_text}
+use Rattle.tc_history.specs.Block.{end_text, entry_text}
+use Rattle.tc_history.specs.Text.{IsEntry}
 use Rattle.tc_evidence.specs.declared.block.Block.{Block}
 use Rattle.tc_evidence.specs.declared.header.Header.{Header}
 use Rattle.tc_evidence.specs.declared.header.Kind.{Kind}
 use Rattle.tc_evidence.specs.declared.header.Kind.TheVariants as K
 use Rattle.tc_evidence.specs.declared.line.Line.{Line}
 use Rattle.tc_evidence.specs.declared.line.Line.TheVariants as L
+use Rattle.tc_evidence.specs.declared.met.MetRuns.{MetRuns}
 use Rattle.tc_evidence.specs.Line.{line_text}
+use Rattle.tc_evidence.specs.Met.{AreMet}
 use Rattle.tc_evidence.specs.Block.{header_text}
 use Rattle.tc_evidence.specs.Sentence.{IsSentence}
 use Rattle.tc_evidence.specs.Text.{AreLines, IsBlock, IsHeader, IsLine, block_lines}
@@ -64,6 +68,21 @@ IsNone may text = (m : Line) (others : List (List ℕ)) → may m → lines_of t
 abbrev pub IsFound : (Line → Type 0) → List ℕ → Option (Line × Bor (List ℕ)) → Type 0
 IsFound may text None = IsNone may text
 IsFound may text (Some r) = IsNext may text r.0 r.1.now
+
+-- the first line is no entry of this format
+abbrev pub IsNoEntryLine : ℕ → List ℕ → Type 0
+IsNoEntryLine format text = (e : Entry) (others : List (List ℕ)) → IsEntry format e → lines_of text ≡ entry_text e ∷ others → ⊥
+
+-- the first line is none that may come after lines that are about these runs
+abbrev pub IsNoLine : Kind → ℕ → MetRuns → List ℕ → Type 0
+IsNoLine kind n met text = (before : List Line) → AreMet met before → IsNone (IsLine kind n before) text
+
+-- the first line may come after lines that are about these runs; it is added to them, and with it the value before becomes the one after
+pub record IsLineTakenBy {O : Type 0} (opens : ℕ → Header → List Line → O → Type 0) (kind : Kind) (n : ℕ) (text : List ℕ) (number : ℕ) (met met' : MetRuns) (value value' : O) (rest : List ℕ) : Type 0 where
+  pub line : Line
+  pub next : (before : List Line) → AreMet met before → IsNext (IsLine kind n before) text line rest
+  pub adds : (before : List Line) → AreMet met before → AreMet met' (line ∷ before)
+  pub opened : (first : ℕ) (h : Header) (before : List Line) → number ≡ first + length before + 1 → opens first h before value → opens first h (before ++ line ∷ []) value'
 
 -- the text begins with lines that may come inside a block and with a last line, and the rest begins with the next line
 pub record AreTaken (kind : Kind) (n : ℕ) (text : List ℕ) (inside : List Line) (v : Verdict) (rest : List ℕ) : Type 0 where

@@ -34,8 +34,8 @@ impl MetRuns {
         }
     }
 
-    // Adds the caller of the entry, and the run that it starts.
-    fn add_entry(&mut self, entry: &Entry)
+    /// Adds the caller of the entry, and the run that it starts.
+    pub fn add_entry(&mut self, entry: &Entry)
         ensures { (ls : List AnyLine) → AreMet self.old ls → AreMet self.new (lines.Entry entry.now ∷ ls) }
     {
         self.add(entry.caller);

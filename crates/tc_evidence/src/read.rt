@@ -1,5 +1,5 @@
 //! Reading blocks.
-ghost use Rattle.std.specs.Prelude.{◌≡◌, ◌≢◌, ◌≤◌, ◌+◌, ◌++◌, ◌∷◌, ℕ, List, [], length, map, IfOk, IfErr, MatchResult};
+ghost use Rattle.std.specs.Prelude.{◌≡◌, ◌≢◌, ◌≤◌, ◌+◌, ◌++◌, ◌∷◌, ℕ, List, [], length, map, IfOk, IfErr, MatchOption, MatchResult};
 ghost use Rattle.tc_verdict.specs.declared.verdict.Verdict.{Verdict as AnyVerdict};
 ghost use Rattle.tc_text.specs.Lines.{lines_of};
 ghost use Rattle.tc_history.specs.Block.{end_text};
@@ -7,8 +7,8 @@ ghost use Rattle.tc_evidence.specs.declared.block.Block.{Block as AnyBlock};
 ghost use Rattle.tc_evidence.specs.declared.line.Line.{Line as AnyLine};
 ghost use Rattle.tc_evidence.specs.Line.{line_text};
 ghost use Rattle.tc_evidence.specs.Met.{AreMet};
-ghost use Rattle.tc_evidence.specs.Text.{AreEvidence, AreLines, IsBlock, IsEvidenceFault, IsLine, block_lines};
-ghost use Rattle.tc_evidence.specs.Inside.{AreTakenBy, IsBlockFault, IsFound, IsInsideFault, IsTakenBy};
+ghost use Rattle.tc_evidence.specs.Text.{AreEvidence, AreLines, IsBlock, IsEvidenceFault, IsLine, block_lines, format_of};
+ghost use Rattle.tc_evidence.specs.Inside.{AreTakenBy, IsBlockFault, IsFound, IsInsideFault, IsLineTakenBy, IsNoEntryLine, IsNoLine, IsTakenBy};
 
 use crate::block::Block;
 use crate::header::{Kind, take_first_line};
@@ -21,25 +21,51 @@ use tc_entry::{NoMemory, Sequence, Verdict};
 use tc_history::{take_end_line, take_entry_line};
 use tc_text::{TextFault, TextKind};
 
-// The line that may come inside such a block after lines that are about these runs, which the first line spells, and what
-// follows that line.
-fn take_line<'a>(
+// The line that is no entry and may come inside such a block after lines that are about these runs, which the first line
+// spells, and what follows that line.
+fn take_other<'a>(
     alloc: Global,
     kind: Kind,
     behaviours: u16,
     met: &MetRuns,
     text: &'a [u8],
 ) -> Result<Option<(Line, &'a [u8])>, NoMemory>
-    requires { behaviours ≤ 256 }
+    requires few { behaviours ≤ 256 }
+    requires no_entry { IsNoEntryLine (format_of kind) text.now }
     ensures { IfOk result (λ found. (before : List AnyLine) → AreMet met.now before → IsFound (IsLine kind behaviours before) text.now found) }
 {
-    if let Some((entry, rest)) = take_entry_line(kind.format(), text) {
-        return Ok(Some((Line::Entry(entry), rest)));
-    }
     match kind {
         Kind::Evidence => take_note(alloc, behaviours, met, text),
         Kind::History1 | Kind::History2 => Ok(None),
     }
+}
+
+// Takes the line that the text begins with, which has this number, if it may come inside such a block after lines that
+// are about these runs; gives what follows it. An entry is passed on at once: of all lines most are entries.
+fn take_line<'a, H: TakesEvidence>(
+    alloc: Global,
+    kind: Kind,
+    behaviours: u16,
+    met: &mut MetRuns,
+    begun: &mut H::Begun,
+    text: &'a [u8],
+    line: usize,
+) -> Result<Option<&'a [u8]>, NoMemory>
+    requires { behaviours ≤ 256 }
+    ensures { IfOk result (λ found. MatchOption found (IsNoLine kind behaviours met.old text.now)
+        (λ rest. IsLineTakenBy H.opens kind behaviours text.now line met.old met.new begun.old begun.new rest.now)) }
+{
+    if let Some((entry, rest)) = take_entry_line(kind.format(), text) {
+        met.add_entry(&entry);
+        H::take_entry(begun, line, entry)?;
+        return Ok(Some(rest));
+    }
+    let Some((other, rest)) = take_other(alloc, kind, behaviours, met, text)? else {
+        return Ok(None);
+    };
+    met.add_line(&other);
+    H::take(begun, line, other)?;
+    Ok(Some(rest))
 }
 
 // Takes the lines inside a block that the text begins with, and its last line; gives the number of that line, its
@@ -66,11 +92,10 @@ fn take_lines<'a, H: TakesEvidence>(
         if let Some((verdict, behind)) = take_end_line(rest) {
             return Ok((line, verdict, behind));
         }
-        let Some((next, behind)) = take_line(alloc, kind, behaviours, &met, rest)? else {
+        let Some(behind) = take_line::<H>(alloc, kind, behaviours, &mut met, begun, rest, line)?
+        else {
             return Err(TextFault::at(line, TextKind::Entry));
         };
-        met.add_line(&next);
-        H::take(begun, line, next)?;
         line += 1;
         rest = behind;
     }

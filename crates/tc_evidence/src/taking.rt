@@ -3,13 +3,14 @@ ghost use Rattle.std.specs.Prelude.{◌≡◌, ◌+◌, ◌++◌, ◌∷◌, ℕ
 ghost use Rattle.tc_evidence.specs.declared.block.Block.{Block as AnyBlock};
 ghost use Rattle.tc_evidence.specs.declared.header.Header.{Header as AnyHeader};
 ghost use Rattle.tc_evidence.specs.declared.line.Line.{Line as AnyLine};
+ghost use Rattle.tc_evidence.specs.declared.line.Line.TheVariants as lines;
 ghost use Rattle.tc_evidence.specs.Text.{IsHeader};
 
 use crate::block::Block;
 use crate::header::Header;
 use crate::line::Line;
 use std::alloc::Global;
-use tc_entry::{NoMemory, Sequence, Verdict};
+use tc_entry::{Entry, NoMemory, Sequence, Verdict};
 
 /// What is made of blocks, line by line.
 pub trait TakesEvidence: Sized {
@@ -34,6 +35,14 @@ pub trait TakesEvidence: Sized {
     fn take(begun: &mut Self::Begun, line: usize, taken: Line) -> Result<(), NoMemory>
         ensures { OnOk result ((first_line : ℕ) (h : AnyHeader) (before : List AnyLine) → line ≡ first_line + length before + 1
             → opens first_line h before begun.old → opens first_line h (before ++ taken ∷ []) begun.new) };
+
+    /// Takes the next line of the block, which has this number, if it is an entry.
+    fn take_entry(begun: &mut Self::Begun, line: usize, entry: Entry) -> Result<(), NoMemory>
+        ensures { OnOk result ((first_line : ℕ) (h : AnyHeader) (before : List AnyLine) → line ≡ first_line + length before + 1
+            → opens first_line h before begun.old → opens first_line h (before ++ lines.Entry entry ∷ []) begun.new) }
+    {
+        Self::take(begun, line, Line::Entry(entry))
+    }
 
     /// Takes the block, whose last line has this number and this verdict.
     fn close(&mut self, begun: Self::Begun, line: usize, verdict: Verdict) -> Result<(), NoMemory>

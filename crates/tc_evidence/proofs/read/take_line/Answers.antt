@@ -1,27 +1,30 @@
-use Rattle.std.proofs.Common.{List, arith, subst, sym}
-use Rattle.std.proofs.lemmas.Result.{IfOk-weaker}
-use Rattle.std.specs.Result.{IfOk}
-use Rattle.tc_evidence.specs.declared.header.Kind.{Kind}
-use Rattle.tc_evidence.specs.declared.header.Kind.TheVariants as K
-use Rattle.tc_evidence.specs.declared.line.Line.{Line}
-use Rattle.tc_evidence.specs.Met.{AreMet}
-use Rattle.tc_evidence.specs.Text.{IsLine, format_of}
-use Rattle.tc_evidence.specs.Inside.{IsFound, IsNote}
-use Rattle.tc_evidence.proofs.NextLines.{IsNoEntryLine, entry_next, line_of_note}
+use Rattle.std.proofs.Common.{arith}
+use Rattle.tc_evidence.specs.declared.line.Line.TheVariants as L
+use Rattle.tc_evidence.proofs.NextLines.{entry_next}
 use Rattle.tc_evidence.proofs.read.take_line.Goals as goal
 
+pub take_other-requires-clause-no_entry : goal.take_other-requires-clause-no_entry
+take_other-requires-clause-no_entry g c = rw c.format.ensures at c.in_default.ensures.only
+
 pub returns-in-Some : goal.returns-in-Some
-returns-in-Some c = λ before kept.
+returns-in-Some g c =
     let taken = c.in-Some.ensures in
     let low = c.ranges.behaviours.fits in
-    entry_next c.args.kind c.args.behaviours before c.args.text.now c.in-Some.entry c.in-Some.rest.now (omega (arith, low)) taken.spelled (rw c.format.ensures at taken.fits) taken.less (rw c.format.ensures at taken.only)
+    record {
+      line = L.Entry c.in-Some.entry;
+      next = λ before kept.
+          entry_next c.args.kind c.args.behaviours before c.args.text.now c.in-Some.entry c.in-Some.rest.now (omega (arith, low)) taken.spelled (rw c.format.ensures at taken.fits) taken.less (rw c.format.ensures at taken.only);
+      adds = c.add_entry.ensures;
+      opened = c.in_ok-take_entry.ensures;
+    }
 
-pub returns-in-Evidence : goal.returns-in-Evidence
-returns-in-Evidence c =
-    let n = c.args.behaviours in
-    let text = c.args.text.now in
-    let met = c.args.met.now in
-    subst (λ (k : Kind). IfOk c.take_note.result (λ found. (before : List Line) → AreMet met before → IsFound (IsLine k n before) text found)) (sym c.in-Evidence.is)
-    (IfOk-weaker c.take_note.result (λ found. (before : List Line) → AreMet met before → IsFound (IsNote n before) text found)
-    (λ found. (before : List Line) → AreMet met before → IsFound (IsLine K.Evidence n before) text found)
-    (λ found is before kept. line_of_note n before text (subst (λ (k : Kind). IsNoEntryLine (format_of k) text) c.in-Evidence.is (rw c.format.ensures at c.in_default.ensures.only)) found (is before kept)) c.take_note.ensures)
+pub returns : goal.returns
+returns g c = record {
+  line = c.in-Some-2.other;
+  next = rw c.in-Some-2.is at c.in_ok-other.ensures;
+  adds = c.add_line.ensures;
+  opened = c.in_ok-take.ensures;
+}
+
+pub returns-in_default-2 : goal.returns-in_default-2
+returns-in_default-2 g c = rw c.in_default-2.is at c.in_ok-other.ensures

@@ -11,9 +11,8 @@ loop-rest-init g c = open_none g.H.TakesEvidence.opens c.args.kind c.args.behavi
 
 pub loop-rest-preserved : goal.loop-rest-preserved
 loop-rest-preserved g c =
-    let found = rw c.in-Some-2.is at c.in_ok-next.ensures in
-    open_more g.H.TakesEvidence.opens c.args.kind c.args.behaviours c.args.text.now c.args.first_line c.loop-rest.rest.now c.in-Some-2.behind.now c.loop-rest.line c.loop-rest.met c.add_line.new.self c.args.begun.now c.loop-rest.begun c.take.new.begun c.in-Some-2.next
-    c.loop-rest.invariant found c.in_default.ensures.only c.add_line.ensures c.in_ok-take.ensures
+    open_more g.H.TakesEvidence.opens c.args.kind c.args.behaviours c.args.text.now c.args.first_line c.loop-rest.rest.now c.in-Some-2.behind.now c.loop-rest.line c.loop-rest.met c.take_line.new.met c.args.begun.now c.loop-rest.begun c.take_line.new.begun
+    c.loop-rest.invariant (rw c.in-Some-2.is at c.in_ok-behind.ensures) c.in_default.ensures.only
 
 pub returns-in-Some-clause-taken : goal.returns-in-Some-clause-taken
 returns-in-Some-clause-taken g c =
@@ -26,14 +25,14 @@ pub returns-in_default-2-clause-fault : goal.returns-in_default-2-clause-fault
 returns-in_default-2-clause-fault g c =
     let so = c.loop-rest.invariant in
     let some : 0 < length c.loop-rest.rest.now = grind (arith, common_steps) in
-    let none = rw c.in_default-2.is at c.in_ok-next.ensures in
+    let none = rw c.in_default-2.is at c.in_ok-behind.ensures in
     rw c.at.ensures
     (bad_inside c.args.kind c.args.behaviours c.args.text.now c.args.first_line c.loop-rest.line so.inside c.loop-rest.rest.now (not_empty c.loop-rest.rest.now some) so.read (none so.inside so.met_are) c.in_default.ensures.only so.line_is)
 
 pub returns-in_default-2-clause-only : goal.returns-in_default-2-clause-only
 returns-in_default-2-clause-only g c ls v others right lines =
     let so = c.loop-rest.invariant in
-    let none = rw c.in_default-2.is at c.in_ok-next.ensures in
+    let none = rw c.in_default-2.is at c.in_ok-behind.ensures in
     absurd (never_inside c.args.kind c.args.behaviours c.args.text.now so.inside c.loop-rest.rest.now so.read (none so.inside so.met_are) c.in_default.ensures.only ls v others right lines)
 
 pub returns-clause-fault : goal.returns-clause-fault
