@@ -201,7 +201,7 @@ def evidence_of_a_campaign_that_runs_out_of_time(room: str, program: str) -> str
     hold(it.shell(SHELLS["github"], keep.text, CUT="--live").status == 124, "how it ends")
     hold(it.text("evidence/run.status") == "124\n" and it.judged("evidence/run.evidence") == ["t_pass"], "what is kept")
     ran = it.shell(SHELLS["github"], check.text)
-    hold(ran.status == 1 and ran.output.count("< t_") == len(VERDICTS) - 1, f"{ran}")
+    hold(ran.status == 3 and it.text("run.judged").count("missing t_") == len(VERDICTS) - 1, f"{ran}")
     return "the test cases that are missing are named"
 
 
@@ -228,7 +228,7 @@ def evidence_that_was_cut(room: str, program: str) -> str:
     sums = "(cd evidence && sha256sum campaign.script run.program run.evidence run.log run.status > run.sums)\n"
     hold(it.shell(SHELLS["github"], sums).status == 0, "new sums")
     ran = it.shell(SHELLS["github"], check.text)
-    hold(ran.status == 1 and "< t_error\n< t_waits\n" in ran.output, f"{ran}")
+    hold(ran.status == 3 and it.text("run.judged").endswith("missing t_error\nmissing t_waits\n"), f"{ran}")
     return "the missing test cases are named"
 
 

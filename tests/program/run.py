@@ -18,6 +18,7 @@ from typing import List, Union
 sys.dont_write_bytecode = True
 
 import choosing
+import compared
 import details
 import devices
 import documents_run
@@ -54,6 +55,7 @@ GROUPS = (
     ("examples", examples.cases, 42),
     ("reports", reports.cases, 30),
     ("evidence", evidence_rows.cases, 145),
+    ("compared", compared.cases, 36),
     ("explain", explain.cases, 100),
     ("documents", documents_run.cases, 2),
 )
@@ -73,6 +75,7 @@ def tests(seed: int) -> List[Test]:
     found += evidence_rows.judgements(seed)
     found += choosing.judgements(seed)
     found += details.judgements(seed)
+    found += compared.judgements(seed)
     names = [it.name for it in found]
     twice = sorted({it for it in names if names.count(it) > 1})
     if twice:

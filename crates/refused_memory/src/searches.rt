@@ -10,7 +10,7 @@ use crate::texts::HEAD;
 use crate::trial::Trial;
 use std::alloc::Global;
 use tc_entry::{BEHAVIOURS, Name, NoMemory};
-use tc_explore::{Explored, explore};
+use tc_explore::{Explored, explore, is_course};
 use tc_script::Script;
 
 /// A test case of two verdicts, in which two runs may wait in vain, with a step that is never carried out.
@@ -87,6 +87,25 @@ fn tell(
     })
 }
 
+/// Whether a witness of a search is a course, with a growth refused.
+fn follow(trial: &mut Trial, scripts: &[Script], explored: &Explored) -> Option<Outcome>
+    requires few { length scripts.now ≤ BEHAVIOURS }
+{
+    let witness = explored.found.as_slice().first()?;
+    if scripts.is_empty() {
+        return None;
+    }
+    let history = witness.history.as_slice();
+    trial.begin("is_course");
+    let answer = is_course(trial.alloc, scripts, history, witness.verdict);
+    trial.end();
+    Some(match answer {
+        Ok(true) => Outcome::Told,
+        Ok(false) => Outcome::Wrong("a witness is no course"),
+        Err(NoMemory) => Outcome::Refused,
+    })
+}
+
 /// The text of a search in this place, or what is asked of it.
 fn tell_in(
     trial: &mut Trial,
@@ -102,11 +121,12 @@ fn tell_in(
         0 => Some(told(tell_explored(&mut trial.out, explored, name))),
         1..=3 => tell(trial, place, scripts, explored, name),
         4 => Some(ask(trial, explored)),
+        5 => follow(trial, scripts, explored),
         _ => None,
     }
 }
 
-/// The search, its line, its witnesses and its details, and what is asked of it.
+/// The search, its line, its witnesses and its details, what is asked of it, and whether a witness is a course.
 pub(crate) fn make(trial: &mut Trial, stock: &Stock, place: usize) -> Option<Outcome> {
     let scripts = stock.scripts.as_slice();
     if scripts.len() > BEHAVIOURS {

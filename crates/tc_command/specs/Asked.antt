@@ -61,6 +61,7 @@ apart S.Run =
     ∷ (codes "list", codes "csv") ∷ (codes "list", codes "history") ∷ (codes "list", codes "evidence") ∷ (codes "list", codes "junit")
     ∷ (codes "list", codes "live")
     ∷ (codes "list", codes "progress") ∷ (codes "list", codes "stop-on") ∷ (codes "list", codes "explain") ∷ (codes "junit", codes "live") ∷ []
+apart S.Check = (codes "script", codes "explain") ∷ []
 apart S.Explore = (codes "history", codes "details") ∷ []
 apart S.Report = (codes "csv", codes "junit") ∷ (codes "csv", codes "html") ∷ (codes "junit", codes "html") ∷ []
 apart subcommand = []
@@ -116,7 +117,8 @@ pub record AsksRun (rows : List Row) (o : RunOptions) : Type 0 where
 
 -- the subcommand with its options asks for this task
 abbrev pub Asks : Subcommand × List Row → Task → Type 0
-Asks (S.Check, rows) (T.Check explains) = explains ≡ is_given rows (codes "explain")
+Asks (S.Check, rows) (T.Check explains) = (is_given rows (codes "script") ≡ false) × (explains ≡ is_given rows (codes "explain"))
+Asks (S.Check, rows) T.Compare = is_given rows (codes "script") ≡ true
 Asks (S.Replay, rows) (T.Replay explains) = explains ≡ is_given rows (codes "explain")
 Asks (S.Report, rows) (T.Report f explains) = (report_form_of rows ≡ Some f) × (explains ≡ is_given rows (codes "explain"))
 Asks (S.Explore, rows) (T.Explore histories details states) =

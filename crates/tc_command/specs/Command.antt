@@ -35,9 +35,9 @@ explore = with_rules (new_app (codes "explore")) (flag_rule (codes "history") �
 abbrev pub report : App
 report = with_rules (new_app (codes "report")) (flag_rule (codes "csv") ∷ flag_rule (codes "junit") ∷ flag_rule (codes "html") ∷ flag_rule (codes "explain") ∷ [])
 
--- the option of `check`
+-- the options of `check`
 abbrev pub check : App
-check = with_rules (new_app (codes "check")) (flag_rule (codes "explain") ∷ [])
+check = with_rules (new_app (codes "check")) (flag_rule (codes "script") ∷ flag_rule (codes "explain") ∷ [])
 
 -- the option of `replay`
 abbrev pub replay : App

@@ -32,6 +32,18 @@ shards, K from 1 to N, has those whose place, from 0, is K - 1 modulo N.
 --list stands with --only and --shard alone, and --junit not with --live.
 Status: 0 for none and pass, 1 for inconc and fail, 2 for error, 3 for an abort or a refusal.";
 
+// What the help of `check` says at its end.
+const CHECK_HELP: &str = "\
+With --script the input is a script with histories or evidence of its test cases after
+it: cat FILE EVIDENCE | ttrun check --script. After the lines of check a line says
+  unknown NAME       the script has no test case NAME
+  twice NAME         NAME came before
+  out of order NAME  a later test case came before
+  no course NAME     this is no complete course of the scripts of NAME
+  missing NAME       there is nothing of NAME
+Status: 0 where each history is legal, and with --script no such line is printed;
+otherwise 3.";
+
 // What the help of `serve` says at its end.
 const SERVE_HELP: &str = "\
 Standard input is lines, each answered as soon as it has come:
@@ -129,6 +141,15 @@ const EXPLORE_OPTIONS: [OptionRow; 3] = [
         Takes::Word("N"),
         "looks at so many states of a test case at most",
     ),
+];
+
+const CHECK_OPTIONS: [OptionRow; 2] = [
+    OptionRow(
+        "script",
+        Takes::Nothing,
+        "reads their script before them, and compares them with it",
+    ),
+    EXPLAIN,
 ];
 
 const REPORT_OPTIONS: [OptionRow; 4] = [
@@ -250,9 +271,9 @@ fn check_command<'a>(alloc: Global) -> Result<Command<'a>, AllocError>
     let command = described(
         alloc,
         "check",
-        "replays histories, and says which are legal",
+        "replays histories and evidence, and says which are legal",
     );
-    with_options(alloc, command, &[EXPLAIN])
+    with_options(alloc, command.after_help(CHECK_HELP), &CHECK_OPTIONS)
 }
 
 fn replay_command<'a>(alloc: Global) -> Result<Command<'a>, AllocError>

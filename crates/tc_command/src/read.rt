@@ -7,7 +7,7 @@ ghost use Rattle.tc_command.specs.Command.{ttrun};
 ghost use Rattle.tc_command.specs.Asked.{Asks, AsksRun, IsReading, apart as spec_apart, are_both, form_of, is_given, line_of};
 ghost use Rattle.tc_command.specs.Asked.{report_form_of, subcommand_named as spec_named, words_of};
 ghost use Rattle.tc_command.specs.Inside.{IsBadWord, IsClash, IsRefusedBy, IsTaken, IsWordRefused};
-ghost use Rattle.tc_command.specs.declared.command.Subcommand.TheVariants.{Explore, Report, Run};
+ghost use Rattle.tc_command.specs.declared.command.Subcommand.TheVariants.{Check, Explore, Report, Run};
 ghost use Rattle.tc_command.specs.declared.refusal.Refusal.TheVariants.{NoForm};
 ghost use Rattle.tc_command.specs.declared.word.WordFault.TheVariants as fault;
 
@@ -65,7 +65,8 @@ fn apart(subcommand: Subcommand) -> &'static [(&'static str, &'static str)]
         ],
         Subcommand::Explore => &[("history", "details")],
         Subcommand::Report => &[("csv", "junit"), ("csv", "html"), ("junit", "html")],
-        Subcommand::Check | Subcommand::Replay | Subcommand::Serve => &[],
+        Subcommand::Check => &[("script", "explain")],
+        Subcommand::Replay | Subcommand::Serve => &[],
     }
 }
 
@@ -204,6 +205,19 @@ fn report_task(options: &ArgMatches<'_>) -> Result<Task, Refusal>
     })
 }
 
+// What the options of `check` ask for.
+fn check_task(options: &ArgMatches<'_>) -> Task
+    ensures { Asks (Check, rows_of (found_of options.now)) result }
+{
+    if has_option(options, "script") {
+        Task::Compare
+    } else {
+        Task::Check {
+            explains: has_option(options, "explain"),
+        }
+    }
+}
+
 // What a subcommand with its options asks for.
 fn subcommand_task(
     alloc: Global,
@@ -218,9 +232,7 @@ fn subcommand_task(
         Subcommand::Run => run_task(alloc, options),
         Subcommand::Explore => explore_task(options),
         Subcommand::Report => report_task(options),
-        Subcommand::Check => Ok(Task::Check {
-            explains: has_option(options, "explain"),
-        }),
+        Subcommand::Check => Ok(check_task(options)),
         Subcommand::Replay => Ok(Task::Replay {
             explains: has_option(options, "explain"),
         }),

@@ -67,10 +67,12 @@ pub enum Task {
     Serve,
     /// Print the names of the test cases, and run none.
     List(Choice),
-    /// Check histories.
+    /// Check histories and evidence.
     Check {
         explains: bool,
     },
+    /// Check histories and evidence after their script in one text, and compare them with it.
+    Compare,
     /// Report histories in this form.
     Report {
         form: ReportForm,

@@ -35,7 +35,7 @@ impl MetRuns {
     }
 
     /// Adds the caller of the entry, and the run that it starts.
-    pub fn add_entry(&mut self, entry: &Entry)
+    pub(crate) fn add_entry(&mut self, entry: &Entry)
         ensures { (ls : List AnyLine) → AreMet self.old ls → AreMet self.new (lines.Entry entry.now ∷ ls) }
     {
         self.add(entry.caller);

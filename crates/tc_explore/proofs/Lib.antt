@@ -24,6 +24,7 @@ pub mod States
 pub mod Numbers
 pub mod Saying
 pub mod Prefixes
+pub mod Followed
 pub mod Taking
 pub mod Late
 pub mod Ordered

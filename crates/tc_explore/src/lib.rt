@@ -9,6 +9,7 @@ mod details;
 mod entries;
 mod explored;
 mod findings;
+mod following;
 mod noted;
 mod parts;
 mod race;
@@ -23,4 +24,5 @@ mod waits;
 mod witness;
 
 pub use explored::{Ending, Explored, explore};
+pub use following::is_course;
 pub use witness::Witness;

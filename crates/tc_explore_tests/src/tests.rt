@@ -1,6 +1,7 @@
 //! Test cases with one verdict and with several.
 mod checks;
 mod details;
+mod following;
 mod play;
 mod random;
 mod runs;

@@ -10,5 +10,7 @@ pub mod Checking
 pub mod Exploring
 pub mod Faults
 pub mod WrittenHistories
+pub mod Beside
+pub mod Splitting
 pub mod Reporting
 pub mod Explaining

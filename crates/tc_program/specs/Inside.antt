@@ -1,6 +1,11 @@
 -- What the functions inside of the program say, which no public clause names.
-use Rattle.std.specs.Prelude.{ℕ, ◌≡◌, ◌≢◌, ◌+◌, All, Bool, true, false, Option, Some, None, Result, Ok, Err, MatchResult, List, [], ◌∷◌, ◌++◌, length, map, reverse, codes, if◌then◌else◌}
+use Rattle.std.specs.Prelude.{ℕ, ◌≡◌, ◌≢◌, ◌≤◌, ◌+◌, nat_lt, slice_get, slice_index_or, All, Bool, true, false, Option, Some, None, Result, Ok, Err, MatchResult, List, [], ◌∷◌, ◌++◌, length, map, reverse, take, codes, if◌then◌else◌}
 use Rattle.std.specs.List.{AllZip, flat_map}
+use Rattle.tc_entry.specs.declared.limits.TheConstants.{BEHAVIOURS}
+use Rattle.tc_script.specs.Names.{has_twice}
+use Rattle.tc_program.specs.Compared.{AreJudged, IsJudged, is_late, is_met, missing_note}
+use Rattle.tc_program.specs.declared.compare.Comparing.{Comparing}
+use Rattle.tc_program.specs.declared.compare.Wrong.{Wrong}
 use Rattle.tc_verdict.specs.declared.verdict.Verdict.{Verdict}
 use Rattle.tc_stream.specs.declared.input.InputFault.{InputFault}
 use Rattle.tc_stream.specs.declared.input.InputFault.TheVariants as I
@@ -298,3 +303,45 @@ module _ {B O : Type 0} (outcome : B → PassState → Back → Type 0) (takes :
     pub finished : List Finished
     pub given : AreGiven before after finished answer
     pub told_of : IsToldBy o.progress untold told (told_text o.progress finished) line
+
+-- ---- blocks beside their script
+
+-- as much is kept of each test case, and its scripts are few
+pub record IsWhole (c : Comparing) : Type 0 where
+  pub met : length c.met.items ≡ length c.names.keys
+  pub scripts : length c.scripts.items ≡ length c.names.keys
+  pub few : All (λ s. length s.items ≤ BEHAVIOURS) c.scripts.items
+
+-- what is kept of these test cases after these blocks, the newest first
+pub record StandsBeside (cases : CampaignView) (before : List Block) (c : Comparing) : Type 0 where
+  pub names : c.names.keys ≡ map (λ t. t.0) cases
+  pub scripts : map (λ s. s.items) c.scripts.items ≡ map (λ t. scripts_of t.1) cases
+  pub met : (p : ℕ) (t : CaseView) → slice_get cases p ≡ Some t → slice_index_or c.met.items p false ≡ is_met before t.0
+  pub next : (p : ℕ) → is_late cases before p ≡ nat_lt (p + 1) c.next
+
+-- a block was taken in after those before it, and this is wrong with it, if something is
+abbrev pub Judges : Comparing → Block → Option Wrong → Comparing → Type 0
+Judges c b wrong after =
+    (cases : CampaignView) (before : List Block) → has_twice (map (λ t. t.0) cases) ≡ false → StandsBeside cases before c
+    → StandsBeside cases (b ∷ before) after × IsJudged cases before b wrong
+
+-- the same, and what is wrong with it is said after what is said of those before it
+abbrev pub SaysNext : Comparing → Block → List ℕ → Comparing → List ℕ → Type 0
+SaysNext c b out after new =
+    (cases : CampaignView) (before : List Block) → has_twice (map (λ t. t.0) cases) ≡ false → StandsBeside cases before c → AreJudged cases before out
+    → StandsBeside cases (b ∷ before) after × AreJudged cases (b ∷ before) new
+
+-- what is said of the test case at this place, if no block has its name
+abbrev pub TellsIfMissing : ℕ → Comparing → List ℕ → List ℕ → Type 0
+TellsIfMissing p c old new =
+    (cases : CampaignView) (before : List Block) → StandsBeside cases before c → (t : CaseView) → slice_get cases p ≡ Some t → new ≡ old ++ missing_note before t
+
+-- what is said of the first of these test cases, that many, which no block has the name of
+abbrev pub TellsMissingTo : ℕ → Comparing → List ℕ → List ℕ → Type 0
+TellsMissingTo n c old new =
+    (cases : CampaignView) (before : List Block) → StandsBeside cases before c → new ≡ old ++ flat_map (missing_note before) (take n cases)
+
+-- the same of all of them
+abbrev pub TellsMissing : Comparing → List ℕ → List ℕ → Type 0
+TellsMissing c old new =
+    (cases : CampaignView) (before : List Block) → StandsBeside cases before c → new ≡ old ++ flat_map (missing_note before) cases

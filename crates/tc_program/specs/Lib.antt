@@ -17,6 +17,7 @@ pub mod Program
 pub mod Answer
 pub mod Alone
 pub mod Check
+pub mod Compared
 pub mod Inside
 pub mod WrittenHistories
 pub mod Report

@@ -69,9 +69,9 @@ fn status_of(legal: bool) -> u8
     if legal { 0 } else { REFUSED }
 }
 
-// What is printed for the blocks that the text spells, up to the first that is not legal, and the status; otherwise the
-// text's first fault, or NoMemory. The text is read to its end also after a block that is not legal.
-fn check_lines(alloc: Global, text: &[u8]) -> Result<(Vec<u8>, u8), RunFault>
+/// What is printed for the blocks that the text spells, up to the first that is not legal, and the status; otherwise the
+/// text's first fault, or NoMemory. The text is read to its end also after a block that is not legal.
+pub(crate) fn check_lines(alloc: Global, text: &[u8]) -> Result<(Vec<u8>, u8), RunFault>
     ensures done { IfOk result (λ r. IsChecked text.now r.0.items r.1) }
     ensures refused { IfErr result (RefusesHistory text.now) }
 {

@@ -29,8 +29,8 @@ pub(crate) struct ExploredCase {
     pub(crate) details: Sequence<u8>,
 }
 
-// The scripts of a test case.
-fn scripts_of(alloc: Global, case: CaseScript) -> Result<Vec<Script>, NoMemory>
+/// The scripts of a test case.
+pub(crate) fn scripts_of(alloc: Global, case: CaseScript) -> Result<Vec<Script>, NoMemory>
     ensures { IfOk result (λ scripts. scripts.items ≡ scripts_in case) }
 {
     let mut case = case;

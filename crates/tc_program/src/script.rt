@@ -1,7 +1,8 @@
 //! The script of a campaign.
-ghost use Rattle.std.specs.Prelude.{◌≡◌, ◌⊎◌, All, IfOk, IfErr, Ok};
+ghost use Rattle.std.specs.Prelude.{◌≡◌, ◌⊎◌, All, IfOk, IfErr, Ok, false, map};
 ghost use Rattle.tc_script.specs.Campaign.{campaign};
 ghost use Rattle.tc_script.specs.Law.{IsCase};
+ghost use Rattle.tc_script.specs.Names.{has_twice};
 ghost use Rattle.tc_program.specs.Choosing.{RefusesScript};
 ghost use Rattle.tc_program.specs.Input.{IsRead, IsUnread};
 ghost use Rattle.tc_program.specs.declared.limits.TheConstants.{SCRIPT_LIMIT};
@@ -16,6 +17,7 @@ use tc_script::{Campaign, ReadFault, read_campaign};
 /// The campaign that the text spells.
 pub(crate) fn read_script(alloc: Global, text: &[u8]) -> Result<Campaign, RunFault>
     ensures spelled { IfOk result (λ c. campaign text.now ≡ Ok c) }
+    ensures distinct { IfOk result (λ c. has_twice (map (λ t. t.0) c) ≡ false) }
     ensures lawful { IfOk result (λ c. All (λ t. IsCase t.1) c) }
     ensures refused { IfErr result (RefusesScript text.now) }
 {

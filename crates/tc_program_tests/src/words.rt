@@ -147,6 +147,7 @@ fn append_task(out: &mut String, task: &Task) -> Result<(), Fail> {
     match task {
         Task::Replay { explains } => append_explaining(out, "replay", *explains),
         Task::Check { explains } => append_explaining(out, "check", *explains),
+        Task::Compare => Ok(out.push_str("check --script")?),
         Task::Run(options) => append_run(out, options),
         Task::Serve => Ok(out.push_str("serve")?),
         Task::List(choice) => append_list(out, choice),

@@ -18,10 +18,10 @@ use tc_verdict::Verdict;
 /// How many cases are run.
 const CASES: u64 = 600;
 
-const LONGEST: u32 = 6;
+pub(super) const LONGEST: u32 = 6;
 
-// Whether these entries are played so, no run has a call left then, and this is the verdict.
-fn is_played(
+/// Whether these entries are played so, no run has a call left then, and this is the verdict.
+pub(super) fn is_played(
     alloc: Global,
     scripts: &[Script],
     history: &[Entry],
@@ -79,8 +79,8 @@ fn jobs_of<R: Abort + Wait + Copy + Send + 'static>(
     Ok(jobs)
 }
 
-// The report of a run of the random scripts.
-fn report_of<R: Abort + Threads + Wait + Copy + Send + 'static>(
+/// The report of a run of the random scripts.
+pub(super) fn report_of<R: Abort + Threads + Wait + Copy + Send + 'static>(
     rt: &R,
     alloc: Global,
     seed: u64,
@@ -111,8 +111,8 @@ fn run_random<R: Abort + Threads + Wait + Copy + Send + 'static>(
     Ok(())
 }
 
-// Ends the test unless more than that many were met.
-fn are_more<R: Abort>(rt: &R, what: &str, found: usize, least: usize) {
+/// Ends the test unless more than that many were met.
+pub(super) fn are_more<R: Abort>(rt: &R, what: &str, found: usize, least: usize) {
     assert!(rt; found > least, "{what}: {found}");
 }
 

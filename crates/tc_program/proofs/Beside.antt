@@ -1,0 +1,385 @@
+-- Blocks next to the test cases of their script: what is kept of them while they are taken in.
+use Rattle.std.proofs.Common.{ℕ, zero, suc, ◌≡◌, ◌∙◌, ◌+◌, ◌<◌, ◌≤◌, ◌||◌, ◌==◌, cond, not, nat_lt, Bool, true, false, Option, Some, None, List, [], ◌∷◌, ◌++◌, map, length, get_or, position, replicate, reverse, take, slice_get, slice_index_or, slice_set, get_or-set_same, refl, sym, ap, subst, arith}
+use Rattle.std.proofs.lemmas.Bool.Decides.{nat_tests}
+use Rattle.std.proofs.lemmas.Grind.{elements}
+use Rattle.std.proofs.lemmas.List.{append-nil, append_assoc, length-append, reverse-append, take_all, take_more}
+use Rattle.std.proofs.lemmas.List.Concat.{flat_map-append}
+use Rattle.std.proofs.lemmas.List.Quantifiers.{position-Some}
+use Rattle.std.specs.Cmp.Lexicographic.{bytes_decides}
+use Rattle.std.specs.Option.{option_map_or}
+use Rattle.std.specs.List.{flat_map, list_any, position_or_len}
+use Rattle.tc_entry.specs.declared.limits.TheConstants.{BEHAVIOURS}
+use Rattle.tc_evidence.specs.declared.block.Block.{Block}
+use Rattle.tc_line.specs.Words.{is_text}
+use Rattle.tc_script.specs.Campaign.{CampaignView}
+use Rattle.tc_script.specs.Law.{IsCase}
+use Rattle.tc_script.specs.Names.{Word, among, has_twice}
+use Rattle.tc_step.specs.Steps.{ScriptView}
+use Rattle.tc_program.specs.Scripted.{CaseView, scripts_of}
+use Rattle.tc_program.specs.declared.compare.Comparing.{Comparing}
+use Rattle.tc_program.specs.Inside.{Judges, SaysNext, StandsBeside, TellsIfMissing, TellsMissing, TellsMissingTo}
+use Rattle.tc_program.specs.Compared.{AreJudged, is_late, is_met, missing_note, note, place}
+use Rattle.tc_program.specs.declared.compare.Wrong.{Wrong}
+use Rattle.tc_program.specs.declared.compare.Wrong.TheVariants as W
+
+-- ---- names
+
+same : (a b : Word) → is_text a b ≡ true → a ≡ b
+unfolding is_text
+same a b e = (bytes_decides a b).0 e
+
+alike : (a b : Word) → a ≡ b → is_text a b ≡ true
+unfolding is_text
+alike a b e = (bytes_decides a b).1 e
+
+or_left : (a b : Bool) → (a || b) ≡ false → a ≡ false
+or_left false b e = refl
+or_left true b e = absurd cc
+
+or_right : (a b : Bool) → (a || b) ≡ false → b ≡ false
+or_right false b e = e
+or_right true b e = absurd cc
+
+or_true : (a : Bool) → (a || true) ≡ true
+or_true true = refl
+or_true false = refl
+
+found_below : {X : Type 0} (p : X → Bool) (xs : List X) → list_any p xs ≡ true → position_or_len p xs < length xs
+found_below p [] e = absurd cc
+found_below p (x ∷ xs) e = by (p x) (found_below p xs) e
+  where
+    by : (b : Bool) → (list_any p xs ≡ true → position_or_len p xs < length xs) → (b || list_any p xs) ≡ true → cond (not b) (1 + position_or_len p xs) 0 < suc (length xs)
+    by true low e = omega arith
+    by false low e = let less = low e in omega (arith, less)
+
+-- ---- test cases by name
+
+named_at : (cases : CampaignView) (p : ℕ) (n d : Word) → p < length (map (λ c. c.0) cases) → is_text n (get_or (map (λ c. c.0) cases) p d) ≡ true →
+    (c : CaseView) × (slice_get cases p ≡ Some c) × (n ≡ c.0)
+named_at [] p n d lt e = absurd (omega arith)
+named_at (c ∷ cs) zero n d lt e = (c, refl, same n c.0 e)
+named_at (c ∷ cs) (suc p) n d lt e = named_at cs p n d (omega arith) e
+
+-- the test case at the place of a name has that name
+pub placed : (cases : CampaignView) (n : Word) (p : ℕ) → place cases n ≡ Some p → (c : CaseView) × (slice_get cases p ≡ Some c) × (n ≡ c.0)
+placed cases n p e =
+    let at = position-Some (is_text n) (map (λ c. c.0) cases) p [] e in
+    named_at cases p n [] at.0 at.1
+
+among_at : (cases : CampaignView) (n : Word) (q : ℕ) (c : CaseView) → slice_get cases q ≡ Some c → n ≡ c.0 → among n (map (λ t. t.0) cases) ≡ true
+unfolding among
+among_at [] n q c at e = absurd cc
+among_at (t ∷ ts) n zero c at e =
+    let is : t ≡ c = cc in
+    ap (λ b. b || list_any (is_text n) (map (λ t. t.0) ts)) (alike n t.0 (e ∙ ap (λ x. x.0) (sym is)))
+among_at (t ∷ ts) n (suc q) c at e = ap (λ b. is_text n t.0 || b) (among_at ts n q c at e) ∙ or_true (is_text n t.0)
+
+-- a name without a place is that of no test case
+pub unplaced : (cases : CampaignView) (n : Word) (q : ℕ) (c : CaseView) → place cases n ≡ None → slice_get cases q ≡ Some c → is_text c.0 n ≡ false
+unfolding among
+unplaced cases n q c none at = by (is_text c.0 n) refl
+  where
+    by : (b : Bool) → is_text c.0 n ≡ b → b ≡ false
+    by false k = refl
+    by true k =
+        let below = found_below (is_text n) (map (λ t. t.0) cases) (among_at cases n q c at (sym (same c.0 n k))) in
+        let test : nat_lt (position_or_len (is_text n) (map (λ t. t.0) cases)) (length (map (λ t. t.0) cases)) ≡ true = grind (arith, nat_tests) in
+        let is : Some (position_or_len (is_text n) (map (λ t. t.0) cases)) ≡ None = rw test at none in
+        absurd cc
+
+-- test cases with one name are one
+pub once : (cases : CampaignView) (p q : ℕ) (c d : CaseView) → has_twice (map (λ t. t.0) cases) ≡ false → slice_get cases p ≡ Some c → slice_get cases q ≡ Some d → c.0 ≡ d.0 → p ≡ q
+once [] p q c d distinct at at' e = absurd cc
+once (t ∷ ts) zero zero c d distinct at at' e = refl
+once (t ∷ ts) zero (suc q) c d distinct at at' e =
+    let is : t ≡ c = cc in
+    let known : among t.0 (map (λ t. t.0) ts) ≡ true = among_at ts t.0 q d at' (ap (λ x. x.0) is ∙ e) in
+    let not : among t.0 (map (λ t. t.0) ts) ≡ false = or_left (among t.0 (map (λ t. t.0) ts)) (has_twice (map (λ t. t.0) ts)) distinct in
+    absurd cc
+once (t ∷ ts) (suc p) zero c d distinct at at' e =
+    let is : t ≡ d = cc in
+    let known : among t.0 (map (λ t. t.0) ts) ≡ true = among_at ts t.0 p c at (ap (λ x. x.0) is ∙ sym e) in
+    let not : among t.0 (map (λ t. t.0) ts) ≡ false = or_left (among t.0 (map (λ t. t.0) ts)) (has_twice (map (λ t. t.0) ts)) distinct in
+    absurd cc
+once (t ∷ ts) (suc p) (suc q) c d distinct at at' e =
+    ap suc (once ts p q c d (or_right (among t.0 (map (λ t. t.0) ts)) (has_twice (map (λ t. t.0) ts)) distinct) at at' e)
+
+-- ---- what is met
+
+-- the name of a test case is that of the one at this place exactly if it is at this place
+pub named_as : (cases : CampaignView) (n : Word) (p q : ℕ) (c : CaseView) → has_twice (map (λ t. t.0) cases) ≡ false → place cases n ≡ Some p → slice_get cases q ≡ Some c →
+    is_text c.0 n ≡ (q == p)
+named_as cases n p q c distinct e at =
+    let is = placed cases n p e in
+    by is (is_text c.0 n) (q == p) refl refl
+  where
+    by : ((d : CaseView) × (slice_get cases p ≡ Some d) × (n ≡ d.0)) → (a b : Bool) → is_text c.0 n ≡ a → (q == p) ≡ b → a ≡ b
+    by is true true k l = refl
+    by is false false k l = refl
+    by is true false k l =
+        let here : q ≡ p = once cases q p c is.0 distinct at is.1 (same c.0 n k ∙ is.2) in
+        let yes : (q == p) ≡ true = grind (arith, nat_tests) in
+        absurd cc
+    by is false true k l =
+        let here : q ≡ p = grind (arith, nat_tests) in
+        let one : slice_get cases p ≡ Some c = subst (λ x. slice_get cases x ≡ Some c) here at in
+        let two : slice_get cases p ≡ Some is.0 = is.1 in
+        let both : c ≡ is.0 = cc in
+        let yes : is_text c.0 n ≡ true = alike c.0 n (ap (λ x. x.0) both ∙ sym is.2) in
+        absurd cc
+
+-- ---- places that come later
+
+-- a place is known, and the other comes before it
+abbrev is_before : ℕ → Option ℕ → Bool
+is_before p o = option_map_or (nat_lt p) o false
+
+-- a block of a name that is met makes the places before its own late
+pub met_late : (cases : CampaignView) (blocks : List Block) (n : Word) (p q : ℕ) → place cases n ≡ Some p → is_met blocks n ≡ true → q < p → is_late cases blocks q ≡ true
+met_late cases [] n p q e met less = absurd cc
+met_late cases (b ∷ bs) n p q e met less = by (λ m. met_late cases bs n p q e m less) (is_text n b.header.name) refl met
+  where
+    by : (is_met bs n ≡ true → is_late cases bs q ≡ true) → (t : Bool) → is_text n b.header.name ≡ t → (t || is_met bs n) ≡ true
+        → (is_before q (place cases b.header.name) || is_late cases bs q) ≡ true
+    by more true k m =
+        let here : place cases b.header.name ≡ Some p = ap (place cases) (sym (same n b.header.name k)) ∙ e in
+        let test : nat_lt q p ≡ true = grind (arith, nat_tests) in
+        rw (here, test) refl
+    by more false k m = ap (λ x. is_before q (place cases b.header.name) || x) (more m) ∙ or_true (is_before q (place cases b.header.name))
+
+-- ---- one more block
+
+-- what is met after one more block of the test case at place p
+met_more : (cases : CampaignView) (before : List Block) (b : Block) (met : List Bool) (p q : ℕ) (t : CaseView) → has_twice (map (λ t. t.0) cases) ≡ false →
+    place cases b.header.name ≡ Some p → p < length met → slice_get cases q ≡ Some t → slice_index_or met q false ≡ is_met before t.0 →
+    slice_index_or (slice_set met p true) q false ≡ is_met (b ∷ before) t.0
+met_more cases before b met p q t distinct e within at was = by (q == p) refl
+  where
+    by : (x : Bool) → (q == p) ≡ x → slice_index_or (slice_set met p true) q false ≡ is_met (b ∷ before) t.0
+    by true k =
+        let here : q ≡ p = grind (arith, nat_tests) in
+        let name : is_text t.0 b.header.name ≡ true = named_as cases b.header.name p q t distinct e at ∙ k in
+        rw (name, here) (get_or-set_same met p true false within)
+    by false k =
+        let name : is_text t.0 b.header.name ≡ false = named_as cases b.header.name p q t distinct e at ∙ k in
+        let other : slice_index_or (slice_set met p true) q false ≡ slice_index_or met q false = grind (arith, elements, nat_tests) in
+        rw name (other ∙ was)
+
+-- a block of no test case changes nothing
+pub beside_unknown : (cases : CampaignView) (before : List Block) (b : Block) (c : Comparing) → place cases b.header.name ≡ None → StandsBeside cases before c →
+    StandsBeside cases (b ∷ before) c
+beside_unknown cases before b c none s = record {
+  names = s.names;
+  scripts = s.scripts;
+  met = λ q t at. rw (unplaced cases b.header.name q t none at) (s.met q t at);
+  next = λ q. rw none (s.next q);
+}
+
+-- nor does one of a test case that was met
+pub beside_twice : (cases : CampaignView) (before : List Block) (b : Block) (c : Comparing) (p : ℕ) → place cases b.header.name ≡ Some p →
+    slice_index_or c.met.items p false ≡ true → StandsBeside cases before c → (is_met before b.header.name ≡ true) × StandsBeside cases (b ∷ before) c
+beside_twice cases before b c p e was s = (met, record { names = s.names; scripts = s.scripts; met = λ q t at. by_name q t at (is_text t.0 b.header.name) refl; next = λ q. by_place q (nat_lt q p) refl })
+  where
+    met : is_met before b.header.name ≡ true
+    met = let is = placed cases b.header.name p e in ap (is_met before) is.2 ∙ (sym (s.met p is.0 is.1) ∙ was)
+
+    by_name : (q : ℕ) (t : CaseView) → slice_get cases q ≡ Some t → (x : Bool) → is_text t.0 b.header.name ≡ x → slice_index_or c.met.items q false ≡ (is_text t.0 b.header.name || is_met before t.0)
+    by_name q t at true k = s.met q t at ∙ (ap (is_met before) (same t.0 b.header.name k) ∙ (met ∙ rw k refl))
+    by_name q t at false k = s.met q t at ∙ rw k refl
+
+    by_place : (q : ℕ) (x : Bool) → nat_lt q p ≡ x → (is_before q (place cases b.header.name) || is_late cases before q) ≡ nat_lt (q + 1) c.next
+    by_place q true k = let less : q < p = grind (arith, nat_tests) in let late = met_late cases before b.header.name p q e met less in rw (e, k) (sym late ∙ s.next q)
+    by_place q false k = rw (e, k) (s.next q)
+
+-- a block of a test case before the last one that was met
+pub beside_late : (cases : CampaignView) (before : List Block) (b : Block) (c after : Comparing) (p : ℕ) → has_twice (map (λ t. t.0) cases) ≡ false →
+    place cases b.header.name ≡ Some p → p < length c.met.items → after.names ≡ c.names → after.scripts ≡ c.scripts → after.met.items ≡ slice_set c.met.items p true →
+    after.next ≡ c.next → p + 1 < c.next → StandsBeside cases before c → (is_late cases before p ≡ true) × StandsBeside cases (b ∷ before) after
+beside_late cases before b c after p distinct e within names scripts met next less s = (
+  s.next p ∙ test,
+  record {
+    names = ap (λ x. x.keys) names ∙ s.names;
+    scripts = ap (λ x. map (λ y. y.items) x.items) scripts ∙ s.scripts;
+    met = λ q t at. ap (λ x. slice_index_or x q false) met ∙ met_more cases before b c.met.items p q t distinct e within at (s.met q t at);
+    next = λ q. by_place q (nat_lt q p) refl;
+  },
+)
+  where
+    test : nat_lt (p + 1) c.next ≡ true
+    test = grind (arith, nat_tests)
+
+    by_place : (q : ℕ) (x : Bool) → nat_lt q p ≡ x → (is_before q (place cases b.header.name) || is_late cases before q) ≡ nat_lt (q + 1) after.next
+    by_place q true k = let far : nat_lt (q + 1) after.next ≡ true = grind (arith, nat_tests) in rw (e, k) (sym far)
+    by_place q false k = rw (e, k) (s.next q ∙ ap (nat_lt (q + 1)) (sym next))
+
+-- a block of a test case after those that were met
+pub beside_next : (cases : CampaignView) (before : List Block) (b : Block) (c after : Comparing) (p : ℕ) → has_twice (map (λ t. t.0) cases) ≡ false →
+    place cases b.header.name ≡ Some p → p < length c.met.items → after.names ≡ c.names → after.scripts ≡ c.scripts → after.met.items ≡ slice_set c.met.items p true →
+    after.next ≡ p + 1 → c.next ≤ p + 1 → StandsBeside cases before c → (is_late cases before p ≡ false) × StandsBeside cases (b ∷ before) after
+beside_next cases before b c after p distinct e within names scripts met next least s = (
+  s.next p ∙ test,
+  record {
+    names = ap (λ x. x.keys) names ∙ s.names;
+    scripts = ap (λ x. map (λ y. y.items) x.items) scripts ∙ s.scripts;
+    met = λ q t at. ap (λ x. slice_index_or x q false) met ∙ met_more cases before b c.met.items p q t distinct e within at (s.met q t at);
+    next = λ q. by_place q (nat_lt q p) refl;
+  },
+)
+  where
+    test : nat_lt (p + 1) c.next ≡ false
+    test = grind (arith, nat_tests)
+
+    by_place : (q : ℕ) (x : Bool) → nat_lt q p ≡ x → (is_before q (place cases b.header.name) || is_late cases before q) ≡ nat_lt (q + 1) after.next
+    by_place q true k = let far : nat_lt (q + 1) after.next ≡ true = grind (arith, nat_tests) in rw (e, k) (sym far)
+    by_place q false k =
+        let near : nat_lt (q + 1) after.next ≡ false = grind (arith, nat_tests) in
+        let was : nat_lt (q + 1) c.next ≡ false = grind (arith, nat_tests) in
+        rw (e, k) (s.next q ∙ (was ∙ sym near))
+
+-- a test case that is met before a block of its name, by what is kept
+pub not_met : (cases : CampaignView) (before : List Block) (b : Block) (c : Comparing) (p : ℕ) → place cases b.header.name ≡ Some p →
+    slice_index_or c.met.items p false ≡ false → StandsBeside cases before c → is_met before b.header.name ≡ false
+not_met cases before b c p e was s = let is = placed cases b.header.name p e in ap (is_met before) is.2 ∙ (sym (s.met p is.0 is.1) ∙ was)
+
+-- the scripts of the test case at a place
+pub scripts_at : {V : Type 0} (items : V → List ScriptView) (cases : CampaignView) (scripts : List V) (p : ℕ) (t : CaseView) (d : V) →
+    map items scripts ≡ map (λ c. scripts_of c.1) cases → slice_get cases p ≡ Some t → items (get_or scripts p d) ≡ scripts_of t.1
+scripts_at items [] scripts p t d h at = absurd cc
+scripts_at items (c ∷ cs) [] p t d h at = absurd cc
+scripts_at items (c ∷ cs) (x ∷ xs) zero t d h at =
+    let is : c ≡ t = cc in
+    let first : items x ≡ scripts_of c.1 = cc in
+    first ∙ ap (λ (y : CaseView). scripts_of y.1) is
+scripts_at items (c ∷ cs) (x ∷ xs) (suc p) t d h at = let rest : map items xs ≡ map (λ c. scripts_of c.1) cs = cc in scripts_at items cs xs p t d rest at
+
+-- ---- before any block
+
+among_last : (x n : Word) (xs ys : List Word) → n ≡ x → among x (xs ++ n ∷ ys) ≡ true
+unfolding among
+among_last x n [] ys e = ap (λ b. b || list_any (is_text x) ys) (alike x n (sym e))
+among_last x n (y ∷ xs) ys e = ap (λ b. is_text x y || b) (among_last x n xs ys e) ∙ or_true (is_text x y)
+
+-- of names that are there once, those before one are others
+pub apart : (xs : List Word) (n : Word) (ys : List Word) → has_twice (xs ++ n ∷ ys) ≡ false → among n xs ≡ false
+unfolding among
+apart [] n ys h = refl
+apart (x ∷ xs) n ys h = by (apart xs n ys (or_right (among x (xs ++ n ∷ ys)) (has_twice (xs ++ n ∷ ys)) h)) (is_text n x) refl
+  where
+    first : among x (xs ++ n ∷ ys) ≡ false
+    first = or_left (among x (xs ++ n ∷ ys)) (has_twice (xs ++ n ∷ ys)) h
+
+    by : list_any (is_text n) xs ≡ false → (t : Bool) → is_text n x ≡ t → (t || list_any (is_text n) xs) ≡ false
+    by rest false k = rest
+    by rest true k = let known = among_last x n xs ys (same n x k) in absurd cc
+
+-- one more is taken
+pub join_more : {A B : Type 0} (f : A → B) (xs : List B) (a : A) (old rest all : List A) (x : B) → old ≡ a ∷ rest → x ≡ f a →
+    xs ++ map f old ≡ map f all → (xs ++ x ∷ []) ++ map f rest ≡ map f all
+join_more f xs a old rest all x was is h =
+    let next : x ∷ map f rest ≡ map f old = ap (λ y. y ∷ map f rest) is ∙ ap (map f) (sym was) in
+    append_assoc xs (x ∷ []) (map f rest) ∙ (ap (λ l. xs ++ l) next ∙ h)
+
+-- none of the names so far is the next one
+pub new_name : (keys : List Word) (a : CaseView) (old rest all : CampaignView) → old ≡ a ∷ rest → has_twice (map (λ t. t.0) all) ≡ false →
+    keys ++ map (λ t. t.0) old ≡ map (λ t. t.0) all → among a.0 keys ≡ false
+new_name keys a old rest all was distinct h =
+    let names : keys ++ a.0 ∷ map (λ t. t.0) rest ≡ map (λ t. t.0) all = ap (λ l. keys ++ map (λ t. t.0) l) (sym was) ∙ h in
+    apart keys a.0 (map (λ t. t.0) rest) (ap has_twice names ∙ distinct)
+
+few_scripts : (bs : List (Word × ScriptView)) → length (scripts_of bs) ≡ length bs
+few_scripts [] = refl
+few_scripts (b ∷ bs) = ap suc (few_scripts bs)
+
+-- the scripts of a test case are few
+pub are_few : (t : CaseView) (scripts : List ScriptView) → IsCase t.1 → scripts ≡ scripts_of t.1 → length scripts ≤ BEHAVIOURS
+are_few t scripts is same = let n : length scripts ≡ length t.1 = ap length same ∙ few_scripts t.1 in let few = is.few in omega (arith, n, few)
+
+all_false : (n q : ℕ) → slice_index_or (replicate n false) q false ≡ false
+all_false zero q = refl
+all_false (suc n) zero = refl
+all_false (suc n) (suc q) = all_false n q
+
+-- before any block nothing is met
+pub beside_none : (cases : CampaignView) (c : Comparing) (n : ℕ) → c.names.keys ≡ map (λ t. t.0) cases → map (λ s. s.items) c.scripts.items ≡ map (λ t. scripts_of t.1) cases →
+    c.met.items ≡ replicate n false → c.next ≡ 0 → StandsBeside cases [] c
+beside_none cases c n names scripts met next = record {
+  names = names;
+  scripts = scripts;
+  met = λ p t at. ap (λ l. slice_index_or l p false) met ∙ all_false n p;
+  next = λ p. let test : nat_lt (p + 1) c.next ≡ false = grind (arith, nat_tests) in sym test;
+}
+
+pub as_long : {A B : Type 0} (xs : List A) (ys : List B) (x : A) (y : B) → length xs ≡ length ys → length (xs ++ x ∷ []) ≡ length (ys ++ y ∷ [])
+as_long xs ys x y h = length-append xs (x ∷ []) ∙ (ap (λ n. n + 1) h ∙ sym (length-append ys (y ∷ [])))
+
+-- ---- test cases that no block has the name of
+
+case_at : (cases : CampaignView) (p : ℕ) → p < length cases → (t : CaseView) × (slice_get cases p ≡ Some t) × (take (p + 1) cases ≡ take p cases ++ t ∷ [])
+case_at [] p less = absurd (omega arith)
+case_at (c ∷ cs) zero less = (c, refl, refl)
+case_at (c ∷ cs) (suc p) less =
+    let rest = case_at cs p (omega arith) in
+    let on : suc p + 1 ≡ suc (p + 1) = omega arith in
+    (rest.0, rest.1, ap (λ n. take n (c ∷ cs)) on ∙ ap (λ l. c ∷ l) rest.2)
+
+-- what is said of the test cases at the places before this one, and of this one
+pub tells_more : (c : Comparing) (p : ℕ) (old mid new : List ℕ) → p < length c.names.keys → TellsMissingTo p c old mid → TellsIfMissing p c mid new → TellsMissingTo (p + 1) c old new
+tells_more c p old mid new less before one cases blocks s =
+    let long : p < length cases = let n : length c.names.keys ≡ length cases = ap length s.names ∙ names_long cases in omega (arith, less, n) in
+    let at = case_at cases p long in
+    let all : flat_map (missing_note blocks) (take (p + 1) cases) ≡ flat_map (missing_note blocks) (take p cases) ++ missing_note blocks at.0 =
+    ap (flat_map (missing_note blocks)) at.2 ∙ (flat_map-append (missing_note blocks) (take p cases) (at.0 ∷ []) ∙ ap (λ l. flat_map (missing_note blocks) (take p cases) ++ l) (append-nil (missing_note blocks at.0))) in
+    one cases blocks s at.0 at.1 ∙ (ap (λ l. l ++ missing_note blocks at.0) (before cases blocks s) ∙ (append_assoc old (flat_map (missing_note blocks) (take p cases)) (missing_note blocks at.0) ∙ ap (λ l. old ++ l) (sym all)))
+  where
+    names_long : (cs : CampaignView) → length (map (λ t. t.0) cs) ≡ length cs
+    names_long [] = refl
+    names_long (t ∷ ts) = ap suc (names_long ts)
+
+pub tells_all : (c : Comparing) (p : ℕ) (old new : List ℕ) → length c.names.keys ≤ p → TellsMissingTo p c old new → TellsMissing c old new
+tells_all c p old new whole tells cases blocks s =
+    let n : length c.names.keys ≡ length cases = ap length s.names ∙ names_long cases in
+    let all : take p cases ≡ cases = take_all p cases (omega (arith, whole, n)) in
+    tells cases blocks s ∙ ap (λ l. old ++ flat_map (missing_note blocks) l) all
+  where
+    names_long : (cs : CampaignView) → length (map (λ t. t.0) cs) ≡ length cs
+    names_long [] = refl
+    names_long (t ∷ ts) = ap suc (names_long ts)
+
+-- what is said of the test case at a place, by whether it is met
+pub tells_met : (c : Comparing) (p : ℕ) (old : List ℕ) → slice_index_or c.met.items p false ≡ true → TellsIfMissing p c old old
+tells_met c p old was cases before s t at =
+    let met : is_met before t.0 ≡ true = sym (s.met p t at) ∙ was in
+    rw met (sym (append-nil old))
+
+pub tells_unmet : (c : Comparing) (p : ℕ) (old new : List ℕ) (name : Word) → slice_index_or c.met.items p false ≡ false → slice_get c.names.keys p ≡ Some name →
+    new ≡ old ++ note name W.Missing → TellsIfMissing p c old new
+tells_unmet c p old new name was named said cases before s t at =
+    let not : is_met before t.0 ≡ false = sym (s.met p t at) ∙ was in
+    let is : name ≡ t.0 = name_at cases p t name at (ap (λ l. slice_get l p) (sym s.names) ∙ named) in
+    rw not (said ∙ ap (λ n. old ++ note n W.Missing) is)
+  where
+    name_at : (cs : CampaignView) (p : ℕ) (t : CaseView) (name : Word) → slice_get cs p ≡ Some t → slice_get (map (λ c. c.0) cs) p ≡ Some name → name ≡ t.0
+    name_at [] p t name at named = absurd cc
+    name_at (c ∷ cs) zero t name at named = let is : c ≡ t = cc in let first : c.0 ≡ name = cc in sym first ∙ ap (λ x. x.0) is
+    name_at (c ∷ cs) (suc p) t name at named = name_at cs p t name at named
+
+pub ruleset missing_rules = (tells_met, tells_unmet, tells_all)
+
+-- ---- what is said of blocks
+
+pub says_none : (c : Comparing) (b : Block) (out : List ℕ) (after : Comparing) → Judges c b None after → SaysNext c b out after out
+says_none c b out after judges cases before distinct s said =
+    let j = judges cases before distinct s in
+    (j.0, subst (AreJudged cases (b ∷ before)) (append-nil out) (AreJudged.more before out b None said j.1))
+
+pub says_wrong : (c : Comparing) (b : Block) (out : List ℕ) (after : Comparing) (wrong : Wrong) (new : List ℕ) → Judges c b (Some wrong) after →
+    new ≡ out ++ note b.header.name wrong → SaysNext c b out after new
+says_wrong c b out after wrong new judges is cases before distinct s said =
+    let j = judges cases before distinct s in
+    (j.0, subst (AreJudged cases (b ∷ before)) (sym is) (AreJudged.more before out b (Some wrong) said j.1))
+
+pub ruleset saying_rules = (says_none, says_wrong)
+
+-- one block more, the newest first
+pub one_more : (blocks : List Block) (i : ℕ) (b : Block) → i < length blocks → get_or blocks i b ≡ b → reverse (take (i + 1) blocks) ≡ b ∷ reverse (take i blocks)
+one_more blocks i b within item = ap reverse (take_more blocks i b within) ∙ (reverse-append (take i blocks) (get_or blocks i b ∷ []) ∙ ap (λ x. x ∷ reverse (take i blocks)) item)

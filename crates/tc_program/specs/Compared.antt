@@ -1,0 +1,118 @@
+-- Histories and evidence after their script in one text, and what of them is no course of its test cases.
+use Rattle.std.specs.Prelude.{ℕ, suc, ◌≡◌, ◌==◌, ◌≤◌, ◌&&◌, ◌||◌, nat_lt, Bool, true, false, if◌then◌else◌, Option, Some, None, Ok, List, [], ◌∷◌, ◌++◌, codes, drop, length, map, position, reverse, slice_get, take, nat_eq}
+use Rattle.std.specs.List.{flat_map, list_any, starts_with}
+use Rattle.std.specs.Option.{option_map_or}
+use Rattle.tc_evidence.specs.declared.block.Block.{Block}
+use Rattle.tc_evidence.specs.Line.{entries_of}
+use Rattle.tc_evidence.specs.Text.{AreEvidence}
+use Rattle.tc_explore.specs.Found.{IsWitness}
+use Rattle.tc_step.specs.Steps.{ScriptView}
+use Rattle.tc_line.specs.Words.{is_text}
+use Rattle.tc_script.specs.Campaign.{CampaignView, campaign}
+use Rattle.tc_script.specs.Names.{Word}
+use Rattle.tc_program.specs.Check.{IsChecked, RefusesHistory}
+use Rattle.tc_program.specs.Choosing.{RefusesScript}
+use Rattle.tc_program.specs.declared.fault.RunFault.{RunFault}
+use Rattle.tc_program.specs.declared.fault.RunFault.TheVariants as F
+use Rattle.tc_program.specs.Scripted.{CaseView, scripts_of}
+use Rattle.tc_program.specs.declared.compare.Wrong.{Wrong}
+use Rattle.tc_program.specs.declared.compare.Wrong.TheVariants as W
+
+-- ---- the two parts of a text
+
+-- a block begins here
+abbrev pub begins_block : List ℕ → Bool
+begins_block text = starts_with nat_eq text (codes "history ") || starts_with nat_eq text (codes "evidence ")
+
+-- how many bytes are before the first line that begins a block, by whether a line begins here
+unfoldable pub script_bytes : Bool → List ℕ → ℕ
+script_bytes begins [] = 0
+script_bytes begins (b ∷ bs) = if begins && begins_block (b ∷ bs) then 0 else suc (script_bytes (b == 10) bs)
+
+-- the script
+abbrev pub script_part : List ℕ → List ℕ
+script_part text = take (script_bytes true text) text
+
+-- the blocks after it
+abbrev pub blocks_part : List ℕ → List ℕ
+blocks_part text = drop (script_bytes true text) text
+
+-- ---- the blocks, one after the other
+
+-- the place of the test case of this name in the script
+abbrev pub place : CampaignView → Word → Option ℕ
+place cases name = position (is_text name) (map (λ c. c.0) cases)
+
+-- one of these blocks has this name
+abbrev pub is_met : List Block → Word → Bool
+is_met blocks name = list_any (λ b. is_text name b.header.name) blocks
+
+-- one of these blocks is of a later test case than the one at this place
+abbrev pub is_late : CampaignView → List Block → ℕ → Bool
+is_late cases blocks p = list_any (λ b. option_map_or (nat_lt p) (place cases b.header.name) false) blocks
+
+-- the block is a complete course of these scripts, with its verdict
+pub record IsCourseOf (scripts : List ScriptView) (b : Block) : Type 0 where
+  pub some : 1 ≤ length scripts
+  pub behaviours : b.header.behaviours ≡ length scripts
+  pub witness : IsWitness scripts (entries_of b.lines) b.verdict
+
+-- what is wrong with a block after these, if something is
+pub data IsJudged (cases : CampaignView) (before : List Block) (b : Block) : Option Wrong → Type 0 where
+  unknown : place cases b.header.name ≡ None → IsJudged cases before b (Some W.Unknown)
+  twice : (p : ℕ) → place cases b.header.name ≡ Some p → is_met before b.header.name ≡ true
+      → IsJudged cases before b (Some W.Twice)
+  out_of_order : (p : ℕ) → place cases b.header.name ≡ Some p → is_met before b.header.name ≡ false → is_late cases before p ≡ true
+      → IsJudged cases before b (Some W.OutOfOrder)
+  no_course : (p : ℕ) (c : CaseView) → place cases b.header.name ≡ Some p → is_met before b.header.name ≡ false → is_late cases before p ≡ false
+      → slice_get cases p ≡ Some c → (IsCourseOf (scripts_of c.1) b → ⊥) → IsJudged cases before b (Some W.NoCourse)
+  right : (p : ℕ) (c : CaseView) → place cases b.header.name ≡ Some p → is_met before b.header.name ≡ false → is_late cases before p ≡ false
+      → slice_get cases p ≡ Some c → IsCourseOf (scripts_of c.1) b → IsJudged cases before b None
+
+-- the words for what is wrong
+abbrev pub wrong_text : Wrong → List ℕ
+wrong_text W.Unknown = codes "unknown "
+wrong_text W.Twice = codes "twice "
+wrong_text W.OutOfOrder = codes "out of order "
+wrong_text W.NoCourse = codes "no course "
+wrong_text W.Missing = codes "missing "
+
+-- the line that says what is wrong, with the name of the test case
+abbrev pub note : Word → Wrong → List ℕ
+note name wrong = wrong_text wrong ++ (name ++ (10 ∷ []))
+
+-- what is said of these blocks, the newest first
+pub data AreJudged (cases : CampaignView) : List Block → List ℕ → Type 0 where
+  none : AreJudged cases [] []
+  more : (before : List Block) (notes : List ℕ) (b : Block) (wrong : Option Wrong) → AreJudged cases before notes → IsJudged cases before b wrong
+      → AreJudged cases (b ∷ before) (notes ++ option_map_or (note b.header.name) wrong [])
+
+-- what is said of a test case: nothing if one of the blocks has its name
+abbrev pub missing_note : List Block → CaseView → List ℕ
+missing_note blocks c = if is_met blocks c.0 then [] else note c.0 W.Missing
+
+-- what is said of the blocks of a script, one after the other, and then of the test cases that have none
+pub record IsCompared (cases : CampaignView) (blocks : List Block) (out : List ℕ) : Type 0 where
+  pub notes : List ℕ
+  pub judged : AreJudged cases (reverse blocks) notes
+  pub out_is : out ≡ notes ++ flat_map (missing_note (reverse blocks)) cases
+
+-- ---- a whole text
+
+-- The text is a script, and histories and evidence after it. What `check` prints for the blocks is printed, and then what is
+-- wrong with them as courses of the test cases. The status is that of `check` if nothing is wrong, otherwise 3.
+pub record IsCheckedAgainst (text out : List ℕ) (status : ℕ) : Type 0 where
+  pub cases : CampaignView
+  pub spelled : campaign (script_part text) ≡ Ok cases
+  pub lines : List ℕ
+  pub checked : ℕ
+  pub are_checked : IsChecked (blocks_part text) lines checked
+  pub notes : List ℕ
+  pub compared : (blocks : List Block) → AreEvidence (blocks_part text) blocks → IsCompared cases blocks notes
+  pub out_is : out ≡ lines ++ notes
+  pub status_is : status ≡ (if length notes == 0 then checked else 3)
+
+-- the script is refused, or the text after it as one of histories and evidence, its lines counted from its own first
+abbrev pub RefusesAgainst : List ℕ → RunFault → Type 0
+RefusesAgainst text (F.Text fault) = RefusesHistory (blocks_part text) (F.Text fault)
+RefusesAgainst text fault = RefusesScript (script_part text) fault

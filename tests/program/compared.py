@@ -1,0 +1,231 @@
+"""Histories and evidence after their script: worked texts of `check --script`, and random campaigns whose blocks are changed, next
+to a reading of their own."""
+from __future__ import annotations
+
+import random
+from collections import Counter
+from typing import List, Tuple
+
+from case import Case, Ran, run
+from courses import State
+from judged import Judgement
+from random_courses import drawn_cases
+from random_moves import below
+from rows import text
+from script_reader import Campaign, TestCase, read_script
+from table import VERDICTS
+from texts import Block, Judged, check, read_history
+
+A = "testcase a;behaviour m;setverdict pass;end;end"
+B = "testcase b;behaviour m;create p;start p other;wait done p;end;behaviour other;setverdict fail;end;end"
+C = "testcase c;behaviour m;getverdict;end;end"
+OF_A = "history 2 a 1;0 setverdict pass -> ok;0 finish -> ok;end pass"
+OF_B = ("history 2 b 2;0 create -> made 1;0 start 1 1 -> ok;1 setverdict fail -> ok;1 finish -> ok;0 wait done 1 -> matched;"
+        "0 finish -> ok;end fail")
+OF_C = "evidence 1 c 1;behaviour 0 m;0 getverdict -> none;0 # nothing was set;0 finish -> ok;end none"
+LEGAL_A, LEGAL_B, LEGAL_C = "legal a 2 pass", "legal b 6 fail", "legal c 2 none"
+OTHER_ORDER = OF_B.replace("1 finish -> ok;0 wait done 1 -> matched", "0 wait done 1 -> parked;1 finish -> ok;0 wake done 1 -> matched")
+SCRIPT = f"{A};{B};{C}"
+
+# Name, blocks after the script of a, b and c, what is printed, status.
+ROWS: List[Tuple[str, str, str, int]] = [
+    ("each_once", f"{OF_A};{OF_B};{OF_C}", f"{LEGAL_A};{LEGAL_B};{LEGAL_C}", 0),
+    ("another_schedule", f"{OF_A};{OTHER_ORDER};{OF_C}", f"{LEGAL_A};legal b 7 fail;{LEGAL_C}", 0),
+    ("the_first_is_missing", f"{OF_B};{OF_C}", f"{LEGAL_B};{LEGAL_C};missing a", 3),
+    ("the_last_is_missing", f"{OF_A};{OF_B}", f"{LEGAL_A};{LEGAL_B};missing c", 3),
+    ("two_are_missing", OF_B, f"{LEGAL_B};missing a;missing c", 3),
+    ("twice_in_turn", f"{OF_A};{OF_A};{OF_B};{OF_C}", f"{LEGAL_A};{LEGAL_A};{LEGAL_B};{LEGAL_C};twice a", 3),
+    ("twice_apart", f"{OF_A};{OF_B};{OF_C};{OF_A}", f"{LEGAL_A};{LEGAL_B};{LEGAL_C};{LEGAL_A};twice a", 3),
+    ("three_times", f"{OF_A};{OF_B};{OF_B};{OF_B};{OF_C}", f"{LEGAL_A};{LEGAL_B};{LEGAL_B};{LEGAL_B};{LEGAL_C};twice b;twice b", 3),
+    ("two_in_the_wrong_order", f"{OF_B};{OF_A};{OF_C}", f"{LEGAL_B};{LEGAL_A};{LEGAL_C};out of order a", 3),
+    ("all_in_the_wrong_order", f"{OF_C};{OF_B};{OF_A}", f"{LEGAL_C};{LEGAL_B};{LEGAL_A};out of order b;out of order a", 3),
+    ("the_last_one_first", f"{OF_C};{OF_A};{OF_B}", f"{LEGAL_C};{LEGAL_A};{LEGAL_B};out of order a;out of order b", 3),
+    ("of_no_test_case", f"{OF_A};{OF_B};{OF_C.replace(' c ', ' d ')}", f"{LEGAL_A};{LEGAL_B};legal d 2 none;unknown d;missing c", 3),
+    ("of_no_test_case_twice", f"{OF_A};{OF_B};{OF_C};{OF_C.replace(' c ', ' d ')};{OF_C.replace(' c ', ' d ')}",
+     f"{LEGAL_A};{LEGAL_B};{LEGAL_C};legal d 2 none;legal d 2 none;unknown d;unknown d", 3),
+    ("a_step_is_missing", f"history 2 a 1;0 finish -> ok;end none;{OF_B};{OF_C}", f"legal a 1 none;{LEGAL_B};{LEGAL_C};no course a", 3),
+    ("the_end_is_missing", f"history 2 a 1;0 setverdict pass -> ok;end pass;{OF_B};{OF_C}", f"legal a 1 pass;{LEGAL_B};{LEGAL_C};no course a", 3),
+    ("a_run_that_never_called", f"{OF_A};history 2 b 2;0 create -> made 1;0 start 1 1 -> ok;0 wait done 1 -> parked;end none;{OF_C}",
+     f"{LEGAL_A};legal b 3 none;{LEGAL_C};no course b", 3),
+    ("another_setting", f"history 2 a 1;0 setverdict fail -> ok;0 finish -> ok;end fail;{OF_B};{OF_C}",
+     f"legal a 2 fail;{LEGAL_B};{LEGAL_C};no course a", 3),
+    ("a_step_more", f"history 2 a 1;0 setverdict pass -> ok;0 getverdict -> pass;0 finish -> ok;end pass;{OF_B};{OF_C}",
+     f"legal a 3 pass;{LEGAL_B};{LEGAL_C};no course a", 3),
+    ("another_number_of_behaviours", f"history 2 a 2;0 setverdict pass -> ok;0 finish -> ok;end pass;{OF_B};{OF_C}",
+     f"legal a 2 pass;{LEGAL_B};{LEGAL_C};no course a", 3),
+    ("no_entries", f"history 2 a 1;end none;{OF_B};{OF_C}", f"legal a 0 none;{LEGAL_B};{LEGAL_C};no course a", 3),
+    ("another_verdict", f"{OF_A.replace('end pass', 'end fail')};{OF_B};{OF_C}",
+     "line 4: fail, table gives pass;no course a", 3),
+    ("another_reply", f"{OF_A};{OF_B};{OF_C.replace('getverdict -> none', 'getverdict -> pass')}",
+     f"{LEGAL_A};{LEGAL_B};line 14: pass, table gives none;no course c", 3),
+    ("an_illegal_block_and_a_missing_one", OF_A.replace("finish -> ok", "finish -> ended"),
+     "line 3: ended, table gives ok;no course a;missing b;missing c", 3),
+    ("a_block_that_is_twice_and_no_course", f"{OF_A};history 2 a 1;end none;{OF_B};{OF_C}",
+     f"{LEGAL_A};legal a 0 none;{LEGAL_B};{LEGAL_C};twice a", 3),
+    ("a_block_that_is_late_and_no_course", f"{OF_B};history 2 a 1;end none;{OF_C}",
+     f"{LEGAL_B};legal a 0 none;{LEGAL_C};out of order a", 3),
+]
+
+# Name, text, the fault's line.
+REFUSED: List[Tuple[str, bytes, str]] = [
+    ("no_input", b"", "line 1: text ends too early"),
+    ("no_script", text(f"{OF_A}"), "line 1: text ends too early"),
+    ("no_block", text(SCRIPT), "line 1: text ends too early"),
+    ("a_script_with_a_fault", text(f"testcase a;behaviour m;setverdict good;end;end;{OF_A}"), "line 3: bad line"),
+    ("a_script_that_is_cut", text(f"testcase a;behaviour m;{OF_A}"), "line 3: text ends too early"),
+    ("a_cut_block", text(f"{SCRIPT};{OF_A};history 2 b 2;0 create -> made 1"), "line 7: text ends too early"),
+    ("a_bad_entry", text(f"{SCRIPT};{OF_A};history 2 b 2;0 create"), "line 6: bad entry"),
+    ("a_script_behind_a_block", text(f"{A};{OF_A};{C}"), "line 5: bad first line"),
+    ("a_space_before_a_block", text(f"{A}; {OF_A}"), "line 6: bad line"),
+    ("a_block_behind_no_line_feed", text(A)[:-1] + text(OF_A), "line 5: bad line"),
+]
+
+
+def is_course(case: TestCase, block: Block) -> bool:
+    """Whether a block is a complete course of a test case with its verdict."""
+    if block.behaviours != len(case.behaviours):
+        return False
+    state = State(case)
+    for entry in block.entries:
+        run_ = entry.caller
+        if run_ not in state.going or not state.can_go(run_) or state.call_of(run_) != entry.op:
+            return False
+        if state.table.would(run_, entry.op) != entry.reply:
+            return False
+        state.step(run_)
+    return not state.going and state.table.overall() == block.verdict
+
+
+def notes_of(campaign: Campaign, blocks: List[Block]) -> List[str]:
+    """What is wrong with the blocks as courses of the test cases, each once and in their order."""
+    cases = {it.name: (at, it) for at, it in enumerate(campaign)}
+    names = [it.name for it in blocks]
+    notes: List[str] = []
+    for number, block in enumerate(blocks):
+        before = [cases[it][0] for it in names[:number] if it in cases]
+        if block.name not in cases:
+            notes.append(f"unknown {block.name}")
+        elif block.name in names[:number]:
+            notes.append(f"twice {block.name}")
+        elif any(it > cases[block.name][0] for it in before):
+            notes.append(f"out of order {block.name}")
+        elif not is_course(cases[block.name][1], block):
+            notes.append(f"no course {block.name}")
+    return notes + [f"missing {it.name}" for it in campaign if it.name not in names]
+
+
+def wanted_of(campaign: Campaign, behind: bytes) -> Ran:
+    """What `check --script` answers to these blocks after their script."""
+    blocks, refusal = read_history(behind)
+    if refusal is not None:
+        return Ran(b"", refusal.errors, 3)
+    legal, notes = check(behind), notes_of(campaign, blocks)
+    return Ran(legal.output + "".join(f"{it}\n" for it in notes).encode(), b"", 3 if notes else legal.status)
+
+
+def blocks_in(history: bytes) -> List[List[bytes]]:
+    """The lines of each block."""
+    found: List[List[bytes]] = []
+    for line in history.splitlines(keepends=True):
+        if line.startswith((b"history ", b"evidence ")):
+            found.append([])
+        found[-1].append(line)
+    return found
+
+
+def changed(chance: random.Random, blocks: List[List[bytes]]) -> List[List[bytes]]:
+    """The blocks with some change or other."""
+    found, at = [list(it) for it in blocks], chance.randrange(len(blocks))
+    drawn = chance.randrange(9)
+    if drawn == 0:
+        del found[at]
+    elif drawn == 1:
+        found.insert(chance.randrange(len(found) + 1), list(found[at]))
+    elif drawn == 2:
+        other = chance.randrange(len(found))
+        found[at], found[other] = found[other], found[at]
+    elif drawn == 3:
+        found[at][0] = found[at][0].replace(b" t", b" u")
+    elif drawn == 4:
+        other = chance.randrange(len(found))
+        found[at] = [found[at][0], *found[other][1:]]
+    elif drawn == 5 and len(found[at]) > 2:
+        del found[at][chance.randrange(1, len(found[at]) - 1)]
+    elif drawn == 6 and len(found[at]) > 3:
+        one = chance.randrange(1, len(found[at]) - 2)
+        found[at][one], found[at][one + 1] = found[at][one + 1], found[at][one]
+    elif drawn == 7:
+        found[at][-1] = f"end {chance.choice(VERDICTS)}\n".encode()
+    return found
+
+
+def runs_and_changed_runs(seed: int) -> Judgement:
+    """What real runs wrote is found whole, and what was changed of it is found wrong as by the tests' own reading."""
+
+    def judge(program: str) -> List[str]:
+        chance, met = random.Random(f"compared {seed}"), Counter()
+        for at in range(60):
+            script = ("\n".join(drawn_cases(chance, chance.choice((1, 3, 6)))) + "\n").encode()
+            campaign = read_script(script)
+            if isinstance(campaign, Judged):
+                return [f"the script that was drawn is refused: {campaign.errors!r}"]
+            history = run(Case("", ("run", "--history"), script), program).output
+            ran = run(Case("", ("check", "--script"), script + history), program)
+            if ran != Ran(check(history).output, b"", 0):
+                return [f"what a run wrote: {ran}", f"the text: {(script + history).decode()}"]
+            met["entries"] += len(history.splitlines())
+            for _ in range(8):
+                blocks = blocks_in(history)
+                for _ in range(chance.choice((1, 1, 2, 3))):
+                    blocks = changed(chance, blocks) or blocks
+                behind = b"".join(b"".join(it) for it in blocks)
+                ran, wanted = run(Case("", ("check", "--script"), script + behind), program), wanted_of(campaign, behind)
+                if ran != wanted:
+                    return [f"wanted {wanted}", f"came {ran}", f"the text: {(script + behind).decode()}"]
+                met["texts"] += 1
+                met["right"] += ran.status == 0
+                met.update(line.rpartition(" ")[0] for line in ran.output.decode().splitlines() if not line.startswith(("legal", "line")))
+        floors = [("texts", 400), ("right", 20), ("entries", 2000), ("missing", 60), ("twice", 40), ("out of order", 20),
+                  ("unknown", 40), ("no course", 100)]
+        return below(met, floors)
+
+    return Judgement(f"runs_and_changed_runs_beside_their_script_{seed}", "ttrun check --script < (random scripts and runs)", judge)
+
+
+def witnesses_are_courses(seed: int) -> Judgement:
+    """Each witness of `explore --history` is a course of its script: the first of each test case is found right."""
+
+    def judge(program: str) -> List[str]:
+        chance, met = random.Random(f"witnesses {seed}"), Counter()
+        script = ("\n".join(drawn_cases(chance, 300)) + "\n").encode()
+        history = run(Case("", ("explore", "--history"), script), program).output
+        ran = run(Case("", ("check", "--script"), script + history), program)
+        lines = ran.output.decode().splitlines()
+        met["legal"] = sum(it.startswith("legal ") for it in lines)
+        met["twice"] = sum(it.startswith("twice ") for it in lines)
+        wrong = [it for it in lines if not it.startswith(("legal ", "twice "))]
+        return wrong[:5] + below(met, [("legal", 300), ("twice", 30)])
+
+    return Judgement(f"witnesses_are_courses_{seed}", "ttrun explore --history, and check --script", judge)
+
+
+def long_input(cases: int) -> Case:
+    """That many test cases, each with its block."""
+    names = [f"t{at}" for at in range(cases)]
+    script = "".join(text(A.replace(" a;", f" {it};")).decode() for it in names)
+    blocks = "".join(text(OF_A.replace(" a ", f" {it} ")).decode() for it in names)
+    output = "".join(f"legal {it} 2 pass\n" for it in names)
+    return Case("script_of_many_test_cases", ("check", "--script"), (script + blocks).encode(), output.encode())
+
+
+def cases() -> List[Case]:
+    """The tests of worked texts."""
+    words = ("check", "--script")
+    found = [Case(f"beside_a_script_{name}", words, text(f"{SCRIPT};{given}"), text(output), status=status) for name, given, output, status in ROWS]
+    found += [Case(f"beside_a_script_{name}", words, given, errors=f"ttrun: {fault}\n".encode(), status=3) for name, given, fault in REFUSED]
+    return found + [long_input(20_000)]
+
+
+def judgements(seed: int) -> List[Judgement]:
+    """The tests for this seed."""
+    return [runs_and_changed_runs(seed), witnesses_are_courses(seed)]
