@@ -17,7 +17,7 @@ use std::alloc::Global;
 use std::io::{Read, Write};
 use tc_entry::Sequence;
 use tc_evidence::{Header, Line, TakesEvidence, read_evidence_into};
-use tc_table::{NoMemory, Verdict};
+use tc_table::{Entry, NoMemory, Verdict};
 
 /// What is printed for blocks, up to the first that is not legal.
 #[derive(Drop)]
@@ -46,6 +46,10 @@ impl TakesEvidence for Checking {
 
     fn take(begun: &mut Playing, line: usize, taken: Line) -> Result<(), NoMemory> {
         begun.take(line, &taken)
+    }
+
+    fn take_entry(begun: &mut Playing, line: usize, entry: Entry) -> Result<(), NoMemory> {
+        begun.play(line, &entry)
     }
 
     fn close(&mut self, begun: Playing, line: usize, verdict: Verdict) -> Result<(), NoMemory> {

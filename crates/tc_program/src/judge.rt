@@ -79,9 +79,9 @@ impl Playing {
         })
     }
 
-    // Plays the entry in this line, unless the table gave another reply to one before it.
+    /// Plays the entry in this line, unless the table gave another reply to one before it.
     #[inline(never)]
-    fn play(&mut self, line: usize, entry: &Entry) -> Result<(), NoMemory>
+    pub(crate) fn play(&mut self, line: usize, entry: &Entry) -> Result<(), NoMemory>
         ensures { OnOk result (PlaysNext line (lines.Entry entry.now) self.old self.new) }
     {
         if self.difference.is_some() {

@@ -83,6 +83,12 @@ impl TakesEvidence for Reporting {
         Ok(())
     }
 
+    fn take_entry(begun: &mut Recorded, line: usize, entry: Entry) -> Result<(), NoMemory> {
+        begun.playing.play(line, &entry)?;
+        begun.entries.push(entry)?;
+        Ok(())
+    }
+
     fn close(&mut self, begun: Recorded, line: usize, verdict: Verdict) -> Result<(), NoMemory> {
         if self.illegal.is_some() {
             return Ok(());
