@@ -37,7 +37,8 @@ case t 2~case t 2~end~end~ => evidence 1 t 2~end none~ => ttrun: line 2: bad mov
 case t 2~1 x~behaviour 1 a~1x~01 x~2 x~0 # x~end~ => evidence 1 t 2~1 ! bad move~0 # x~end none~ => ttrun: line 3: bad move~ttrun: line 4: bad move~ttrun: line 5: bad move~ttrun: line 6: bad move~ => error, refused
 case t 2~0 wait done 1~0 create~0 wait done 1~end~ => evidence 1 t 2~0 wait done 1 -> error no-component~0 create -> ended~0 wait done 1 -> ended~end error~ =>  => error
 case t 1~0 finish -> ok~0 finish\r~0 finish~end~ => evidence 1 t 1~0 ! bad move~0 ! bad move~0 finish -> ok~end none~ =>  => none, refused
-case t 3~0 create~0 create~0 start 1 1~0 start 2 2~2 wait done 1~0 wait done 1~1 finish~2 finish~0 finish~end~ => evidence 1 t 3~0 create -> made 1~0 create -> made 2~0 start 1 1 -> ok~0 start 2 2 -> ok~2 wait done 1 -> parked~0 wait done 1 -> parked~1 finish -> ok~0 wake done 1 -> matched~2 wake done 1 -> matched~2 finish -> ok~0 finish -> ok~end none~ =>  => none";
+case t 3~0 create~0 create~0 start 1 1~0 start 2 2~2 wait done 1~0 wait done 1~1 finish~2 finish~0 finish~end~ => evidence 1 t 3~0 create -> made 1~0 create -> made 2~0 start 1 1 -> ok~0 start 2 2 -> ok~2 wait done 1 -> parked~0 wait done 1 -> parked~1 finish -> ok~0 wake done 1 -> matched~2 wake done 1 -> matched~2 finish -> ok~0 finish -> ok~end none~ =>  => none
+case t 4~0 create~0 create~0 create~0 start 1 1~0 start 2 2~0 start 3 3~3 wait done 1~2 wait done 3~0 wait done 1~1 finish~2 getverdict~3 finish~2 finish~0 finish~end~ => evidence 1 t 4~0 create -> made 1~0 create -> made 2~0 create -> made 3~0 start 1 1 -> ok~0 start 2 2 -> ok~0 start 3 3 -> ok~3 wait done 1 -> parked~2 wait done 3 -> parked~0 wait done 1 -> parked~1 finish -> ok~0 wake done 1 -> matched~3 wake done 1 -> matched~2 ! bad move~3 finish -> ok~2 wake done 3 -> matched~2 finish -> ok~0 finish -> ok~end none~ =>  => none, refused";
 
 /// Appends the text, with LF for each `~`.
 fn append_lines(out: &mut Vec<u8>, text: &str) -> Result<(), NoMemory> {
@@ -107,7 +108,7 @@ fn served_lines(rt: HostRuntime) -> Result<(), NoMemory> {
             rows = rows.wrapping_add(1);
         }
     }
-    is(&rt, "the rows", rows, 23);
+    is(&rt, "the rows", rows, 24);
     Ok(())
 }
 

@@ -1,7 +1,6 @@
 -- What one more line does to what is kept of a test case.
-use Rattle.std.proofs.Common.{ℕ, ◌≡◌, ◌≢◌, ◌∙◌, ◌==◌, ◌<◌, ◌≤◌, if◌then◌else◌, Bool, true, false, Option, Some, None, MatchOption, List, [], ◌∷◌, ◌++◌, length, get_or, set, refl, ap, sym, subst, arith}
+use Rattle.std.proofs.Common.{ℕ, ◌≡◌, ◌∙◌, ◌&&◌, ◌<◌, not, nat_lt, if◌then◌else◌, is_some, Bool, true, false, Option, Some, None, MatchOption, List, [], ◌∷◌, ◌++◌, refl, ap, sym, subst, arith}
 use Rattle.std.proofs.lemmas.Bool.Decides.{nat_tests}
-use Rattle.std.proofs.lemmas.List.{get_or-set_other, get_or-set_same}
 use Rattle.tc_verdict.specs.declared.run.Run.{Run}
 use Rattle.tc_entry.specs.declared.entry.Entry.{Entry}
 use Rattle.tc_entry.specs.declared.op.Op.{Op}
@@ -17,9 +16,10 @@ use Rattle.tc_evidence.specs.Block.{ended}
 use Rattle.tc_evidence.specs.Line.{entry_of, line_text}
 use Rattle.tc_evidence.specs.Met.{AreMet}
 use Rattle.tc_serve.specs.declared.open_case.OpenCase.{OpenCase}
-use Rattle.tc_serve.specs.Protocol.{Played, called, is_parked, may_add, past_of, with_line}
-use Rattle.tc_serve.specs.Inside.{Holds, after_call}
+use Rattle.tc_serve.specs.Protocol.{Played, called, is_parked, is_wake, may_add, may_ask, past_of, sleep_of, with_line}
+use Rattle.tc_serve.specs.Inside.{AreAsleep, BecomesAwake, Holds, IsAdded, IsCalled, IsKept, IsOpen, IsText, after_call}
 use Rattle.tc_serve.proofs.Going.{appended, grows, line_more}
+use Rattle.tc_serve.proofs.Sleeping.{asleep_more, asleep_on}
 
 -- ---- a line that is no entry
 
@@ -29,19 +29,20 @@ no_entry p (L.Entry e) may = absurd cc
 no_entry p (L.Remark run sentence) may = refl
 no_entry p (L.Refused run sentence) may = refl
 
-pub noted : (v w : OpenCase) (p : Played) (l : Line) (closed : List Played) (before out written : List ℕ) → Holds v p closed before out → entry_of l ≡ [] → w.state ≡ v.state → w.sleeps ≡ v.sleeps → ((ls : List Line) → AreMet v.met ls → AreMet w.met (l ∷ ls)) →
+pub noted : (v w : OpenCase) (p : Played) (l : Line) (closed : List Played) (before out written : List ℕ) → Holds v p closed before out → entry_of l ≡ [] → w.state ≡ v.state → w.sleepers ≡ v.sleepers → ((ls : List Line) → AreMet v.met ls → AreMet w.met (l ∷ ls)) →
     written ≡ out ++ ended (line_text l) → Holds w (with_line p l) closed before written
-noted v w p l closed before out written holds none state sleeps met appends =
+noted v w p l closed before out written holds none state sleepers met appends =
     let past : past_of p ≡ past_of (with_line p l) = ap (λ (es : List Entry). es ++ past_of p) (sym none) in
-    let kept = holds.kept in
+    let kept = holds.is.kept in
     record {
-      kept = record {
-        behaviours = ap (λ (k : Kept). k.behaviours) state ∙ kept.behaviours;
-        few = kept.few;
-        stands = subst (StandsFor w.state) past (subst (λ (k : Kept). StandsFor k (past_of p)) (sym state) kept.stands);
-        many = rw sleeps kept.many;
-        sleeps = subst (λ (es : List Entry). (b : ℕ) (d : Option Awaited) → b < p.behaviours → get_or w.sleeps.items b d ≡ waiting es b) past (rw sleeps kept.sleeps);
-        met = met p.lines kept.met;
+      is = record {
+        kept = record {
+          behaviours = ap (λ (k : Kept). k.behaviours) state ∙ kept.behaviours;
+          few = kept.few;
+          stands = subst (StandsFor w.state) past (subst (λ (k : Kept). StandsFor k (past_of p)) (sym state) kept.stands);
+          met_are = met p.lines kept.met_are;
+        };
+        asleep = subst (AreAsleep p.behaviours w.sleepers.items) past (rw sleepers holds.is.asleep);
       };
       text = appended before out written _ _ _ holds.text appends (grows closed p (l ∷ p.lines) (ended (line_text l)) (line_more l p.lines));
     }
@@ -60,49 +61,81 @@ pub parks_by : (op : Op) (r : Reply) → (if is_parked r then awaited op else No
 parks_by op R.Parked = refl
 parks_by op _ = refl
 
-is_equal : (a b : ℕ) → (a == b) ≡ true → a ≡ b
-is_equal a b test = grind (arith, nat_tests)
-
-is_other : (a b : ℕ) → (a == b) ≡ false → b ≢ a
-is_other a b test = λ same. grind (arith, nat_tests)
-
--- what is kept of who sleeps fits these entries
-abbrev pub Sleeping : ℕ → List (Option Awaited) → List Entry → Type 0
-Sleeping n ss past = (b : ℕ) (d : Option Awaited) → b < n → get_or ss b d ≡ waiting past b
-
-pub sleeps_set : (n : ℕ) (ss : List (Option Awaited)) (past : List Entry) (e : Entry) (o : Option Awaited) → length ss ≡ n → Sleeping n ss past → o ≡ parks e.op e.reply → e.caller.0 < length ss → Sleeping n (set ss e.caller.0 o) (e ∷ past)
-sleeps_set n ss past e o many each parked within b d less = by_test (e.caller.0 == b) refl
-  where
-    by_test : (t : Bool) → (e.caller.0 == b) ≡ t → get_or (set ss e.caller.0 o) b d ≡ (if t then parks e.op e.reply else waiting past b)
-    by_test true own = subst (λ (k : ℕ). get_or (set ss e.caller.0 o) k d ≡ parks e.op e.reply) (is_equal e.caller.0 b own) (get_or-set_same ss e.caller.0 o d within ∙ parked)
-    by_test false other = get_or-set_other ss e.caller.0 b o d (is_other e.caller.0 b other) ∙ each b d less
-
-pub sleeps_kept : (n : ℕ) (ss : List (Option Awaited)) (past : List Entry) (e : Entry) → length ss ≡ n → Sleeping n ss past → length ss ≤ e.caller.0 → Sleeping n ss (e ∷ past)
-sleeps_kept n ss past e many each beyond b d less = by_test (e.caller.0 == b) refl
-  where
-    by_test : (t : Bool) → (e.caller.0 == b) ≡ t → get_or ss b d ≡ (if t then parks e.op e.reply else waiting past b)
-    by_test true own = absurd (let same = is_equal e.caller.0 b own in omega (arith, many, beyond, less, same))
-    by_test false other = each b d less
-
 abbrev pub make : Run → Op → Reply → Entry
 make caller op reply = record { caller = caller; op = op; reply = reply }
 
-pub called_goes : (v w : OpenCase) (p : Played) (caller : Run) (op : Op) (reply : Reply) (closed : List Played) (before out written : List ℕ) → Holds v p closed before out → IsReply v.state caller op reply → TakesIn v.state (make caller op reply) w.state → w.state.behaviours ≡ v.state.behaviours →
-    ((ls : List Line) → AreMet v.met ls → AreMet w.met (L.Entry (make caller op reply) ∷ ls)) → length w.sleeps.items ≡ length v.sleeps.items →
-    (Sleeping p.behaviours v.sleeps.items (past_of p) → Sleeping p.behaviours w.sleeps.items (make caller op reply ∷ past_of p)) → written ≡ out ++ ended (line_text (L.Entry (make caller op reply))) →
-    Holds w (record p { lines = after_call p caller op }) closed before written
-called_goes v w p caller op reply closed before out written holds replied takes behaviours met many sleeps appends =
-    let kept = holds.kept in
-    let same_reply : reply ≡ answer p.behaviours (past_of p) caller.0 op = replied (past_of p) kept.stands ∙ ap (λ (n : ℕ). answer n (past_of p) caller.0 op) kept.behaviours in
-    let same : make caller op reply ≡ called p.behaviours p.lines caller op = ap (make caller op) same_reply in
-    subst (λ (e : Entry). Holds w (record p { lines = L.Entry e ∷ p.lines }) closed before written) same (record {
-      kept = record {
-        behaviours = behaviours ∙ kept.behaviours;
-        few = kept.few;
-        stands = takes (past_of p) kept.stands;
-        many = many ∙ kept.many;
-        sleeps = sleeps kept.sleeps;
-        met = met p.lines kept.met;
-      };
-      text = appended before out written _ _ _ holds.text appends (grows closed p (L.Entry (make caller op reply) ∷ p.lines) _ (line_more (L.Entry (make caller op reply)) p.lines));
-    })
+pub call_made : (v w : OpenCase) (caller : Run) (op : Op) (reply : Reply) (out written : List ℕ) → IsReply v.state caller op reply → TakesIn v.state (make caller op reply) w.state → w.state.behaviours ≡ v.state.behaviours → w.sleepers ≡ v.sleepers →
+    ((ls : List Line) → AreMet v.met ls → AreMet w.met (L.Entry (make caller op reply) ∷ ls)) → written ≡ out ++ ended (line_text (L.Entry (make caller op reply))) → IsCalled caller op reply v w out written
+call_made v w caller op reply out written replied takes behaviours sleepers met appends = record {
+  same = sleepers;
+  replied = answered;
+  kept = λ p kept. subst (λ (e : Entry). IsKept w.state w.met (record p { lines = L.Entry e ∷ p.lines })) (entry_is p kept) (record {
+    behaviours = behaviours ∙ kept.behaviours;
+    few = kept.few;
+    stands = takes (past_of p) kept.stands;
+    met_are = met p.lines kept.met_are;
+  });
+  text = λ p closed before kept text. subst (λ (e : Entry). IsText (record p { lines = L.Entry e ∷ p.lines }) closed before written) (entry_is p kept)
+      (appended before out written _ _ _ text appends (grows closed p (L.Entry (make caller op reply) ∷ p.lines) _ (line_more (L.Entry (make caller op reply)) p.lines)));
+}
+  where
+    answered : (p : Played) → IsKept v.state v.met p → reply ≡ answer p.behaviours (past_of p) caller.0 op
+    answered p kept = replied (past_of p) kept.stands ∙ ap (λ (n : ℕ). answer n (past_of p) caller.0 op) kept.behaviours
+
+    entry_is : (p : Played) → IsKept v.state v.met p → make caller op reply ≡ called p.behaviours p.lines caller op
+    entry_is p kept = ap (make caller op) (answered p kept)
+
+-- ---- the caller of a call that is no wake
+
+below : (a b : ℕ) → a < b → nat_lt a b ≡ true
+below a b less = grind (arith, nat_tests)
+
+-- it did not wait before
+awake : (p : Played) (b : ℕ) → sleep_of p b ≡ None → b < p.behaviours → waiting (past_of p) b ≡ None
+awake p b none less = sym (ap (λ (t : Bool). if t then waiting (past_of p) b else None) (below b p.behaviours less)) ∙ none
+
+pub may_be_awake : (p : Played) (caller : Run) (op : Op) → may_ask p caller op ≡ true → sleep_of p caller.0 ≡ None
+may_be_awake p caller op may = by_sleep (sleep_of p caller.0) (is_wake op) may
+  where
+    by_sleep : (o : Option Awaited) (w : Bool) → (not w && not (is_some o)) ≡ true → o ≡ None
+    by_sleep None w may = refl
+    by_sleep (Some a) true may = absurd cc
+    by_sleep (Some a) false may = absurd cc
+
+module _ (v w : OpenCase) (caller : Run) (op : Op) (reply : Reply) (out written : List ℕ) (call : IsCalled caller op reply v w out written) where
+  -- it does not wait now
+  pub goes_on : None ≡ parks op reply → BecomesAwake caller.0 (λ p. record p { lines = after_call p caller op }) v w out written
+  goes_on goes p closed before none holds = record {
+    is = record {
+      kept = call.kept p holds.is.kept;
+      asleep = rw (ap (λ x. x.items) call.same) (asleep_on p.behaviours v.sleepers.items (past_of p) (called p.behaviours p.lines caller op) holds.is.asleep (awake p caller.0 none) (λ less. ap (parks op) (sym (call.replied p holds.is.kept)) ∙ sym goes));
+    };
+    text = call.text p closed before holds.is.kept holds.text;
+  }
+
+  -- it is no run of the test case
+  pub goes_nowhere : ((p : Played) → IsOpen v p → nat_lt caller.0 p.behaviours ≡ false) → BecomesAwake caller.0 (λ p. record p { lines = after_call p caller op }) v w out written
+  goes_nowhere beyond p closed before none holds =
+      let never : caller.0 < p.behaviours → ⊥ = λ less. let test = sym (beyond p holds.is) ∙ below caller.0 p.behaviours less in cc in
+      record {
+        is = record {
+          kept = call.kept p holds.is.kept;
+          asleep = rw (ap (λ x. x.items) call.same) (asleep_on p.behaviours v.sleepers.items (past_of p) (called p.behaviours p.lines caller op) holds.is.asleep (awake p caller.0 none) (λ less. absurd (never less)));
+        };
+        text = call.text p closed before holds.is.kept holds.text;
+      }
+
+  -- it waits now
+  pub lies_down : (x : OpenCase) (a : Awaited) → x.state ≡ w.state → x.met ≡ w.met → Some a ≡ parks op reply → ((p : Played) → IsOpen v p → nat_lt caller.0 p.behaviours ≡ true) → IsAdded (record { run = caller.0; awaited = a }) w.sleepers.items x.sleepers.items →
+      BecomesAwake caller.0 (λ p. record p { lines = after_call p caller op }) v x out written
+  lies_down x a state met waits within added p closed before none holds =
+      let kept = call.kept p holds.is.kept in
+      let less : caller.0 < p.behaviours = grind (arith, nat_tests, within p holds.is) in
+      record {
+        is = record {
+          kept = rw (state, met) kept;
+          asleep = asleep_more p.behaviours (record { run = caller.0; awaited = a }) v.sleepers.items x.sleepers.items (past_of p) (called p.behaviours p.lines caller op) holds.is.asleep (rw (sym (ap (λ y. y.items) call.same)) added) refl less (awake p caller.0 none less)
+              (ap (parks op) (sym (call.replied p holds.is.kept)) ∙ sym waits);
+        };
+        text = call.text p closed before holds.is.kept holds.text;
+      }

@@ -1,10 +1,9 @@
 -- Bytes that are fed, and the lines that they are.
-use Rattle.std.proofs.Common.{ℕ, ◌≡◌, ◌≢◌, ◌∙◌, ◌==◌, ◌&&◌, ◌||◌, ◌+◌, ◌-◌, ◌<◌, ◌≤◌, ◌^◌, ◌⊎◌, inl, inr, if◌then◌else◌, Bool, true, false, is_some, unwrap_or, MatchOption, Option, Some, None, List, [], ◌∷◌, ◌++◌, codes, zero, suc, length, take, drop, get_or, take-append-drop, refl, ap, sym, subst, append_assoc, arith}
+use Rattle.std.proofs.Common.{ℕ, ◌≡◌, ◌≢◌, ◌∙◌, ◌==◌, ◌&&◌, ◌||◌, ◌+◌, ◌-◌, ◌<◌, ◌≤◌, ◌^◌, ◌⊎◌, inl, inr, if◌then◌else◌, Bool, true, false, is_some, unwrap_or, MatchOption, Option, Some, None, List, [], ◌∷◌, ◌++◌, codes, zero, suc, length, take, get_or, refl, ap, sym, subst, append_assoc, arith}
 use Rattle.std.specs.Option.{option_map}
 use Rattle.std.specs.List.{list_all, list_any}
 use Rattle.std.specs.Io.KnownBytes.{IsAtEnd}
 use Rattle.std.proofs.lemmas.List.{append-nil, length-append, take_more}
-use Rattle.std.proofs.Math.Seq.{drop-cons}
 use Rattle.std.specs.Fmt.{decimal}
 use Rattle.tc_verdict.specs.declared.run.Run.{Run}
 use Rattle.tc_serve.specs.declared.fault.ServeFault.{ServeFault}
@@ -18,14 +17,18 @@ use Rattle.tc_serve.specs.declared.serving.TheConstants.{LINE_BYTES}
 use Rattle.tc_serve.specs.Protocol.{AllEnded, AreServed, Asks, Came, Comes, IsNobodys, IsOf, NoLf, Refuses, Sent, Stand, finished, refused, seen, taken, was_done, was_lost, was_refused, why_refused}
 use Rattle.tc_serve.specs.Text.{bytes_of, end_told, is_refused, lost_text, stand_text, told_at_end, told_of, worst_of}
 use Rattle.tc_serve.specs.Serve.{IsWhy}
-use Rattle.tc_serve.specs.Inside.{Closes, Counts, Fails, Finishes, IsAtLine, IsBadLine, IsEnd, IsFed, Serves, StandsAs, Stops, TellsRun, Tries, TriesLine}
+use Rattle.tc_serve.specs.Inside.{Closes, Counts, Fails, Feeds, Finishes, IsAtLine, IsBadLine, IsEnd, IsFed, Serves, StandsAs, Stops, StopsIn, TakesPiece, TellsRun, Tries, TriesLine}
 use Rattle.tc_serve.proofs.Going.{appended, nothing}
 
 -- ---- lines
 
-no_lf_more : (l : List ℕ) (b : ℕ) → NoLf l → (b == 10) ≡ false → NoLf (l ++ b ∷ [])
-no_lf_more [] b plain one = (one, tt)
-no_lf_more (x ∷ xs) b plain one = (plain.0, no_lf_more xs b plain.1 one)
+no_lf_both : (l p : List ℕ) → NoLf l → NoLf p → NoLf (l ++ p)
+no_lf_both [] p plain more = more
+no_lf_both (x ∷ xs) p plain more = (plain.0, no_lf_both xs p plain.1 more)
+
+-- one more byte that is no LF
+pub no_lf_next : (bs : List ℕ) (i d : ℕ) → i < length bs → NoLf (take i bs) → (get_or bs i d == 10) ≡ false → NoLf (take (i + 1) bs)
+no_lf_next bs i d within plain other = rw (take_more bs i d within) (no_lf_both (take i bs) (get_or bs i d ∷ []) plain (other, tt))
 
 take_none : (n : ℕ) → ◌≡◌ {A = List ℕ} (take n []) []
 take_none zero = refl
@@ -36,26 +39,19 @@ take_some zero l some e = absurd (omega (arith, some))
 take_some (suc n) [] some e = refl
 take_some (suc n) (x ∷ xs) some e = absurd cc
 
-take_push : (n : ℕ) (l : List ℕ) (b : ℕ) → length (take n l) < n → take n l ++ b ∷ [] ≡ take n (l ++ b ∷ [])
-take_push zero l b less = absurd (omega (arith, less))
-take_push (suc n) [] b less = ap (λ (l : List ℕ). b ∷ l) (sym (take_none n))
-take_push (suc n) (x ∷ xs) b less = ap (λ (l : List ℕ). x ∷ l) (take_push n xs b (omega (arith, less)))
-
-take_full : (n : ℕ) (l : List ℕ) (b : ℕ) → n ≤ length (take n l) → take n l ≡ take n (l ++ b ∷ [])
-take_full zero l b long = refl
-take_full (suc n) [] b long = absurd (omega (arith, long))
-take_full (suc n) (x ∷ xs) b long = ap (λ (l : List ℕ). x ∷ l) (take_full n xs b (omega (arith, long)))
+take_piece : (n : ℕ) (l p : List ℕ) → take n l ++ take (n - length (take n l)) p ≡ take n (l ++ p)
+take_piece zero l p = let none : zero - length (take zero l) ≡ zero = omega arith in ap (λ (k : ℕ). take k p) none
+take_piece (suc n) [] p = let all : suc n - zero ≡ suc n = omega arith in ap (λ (k : ℕ). take k p) all
+take_piece (suc n) (x ∷ xs) p =
+    let less : suc n - suc (length (take n xs)) ≡ n - length (take n xs) = omega arith in
+    ap (λ (l : List ℕ). x ∷ l) (ap (λ (k : ℕ). take n xs ++ take k p) less ∙ take_piece n xs p)
 
 -- what is looked at of a line is nothing if there is no line
 seen_none : (line : List ℕ) → seen line ≡ [] → line ≡ []
 seen_none line e = take_some LINE_BYTES line (omega arith) e
 
-seen_more : (line looked : List ℕ) (b : ℕ) → looked ≡ seen line → length looked < LINE_BYTES → looked ++ b ∷ [] ≡ seen (line ++ b ∷ [])
-seen_more line looked b same short =
-    ap (λ (l : List ℕ). l ++ b ∷ []) same ∙ take_push LINE_BYTES line b (subst (λ (l : List ℕ). length l < LINE_BYTES) same short)
-
-seen_same : (line looked : List ℕ) (b : ℕ) → looked ≡ seen line → LINE_BYTES ≤ length looked → looked ≡ seen (line ++ b ∷ [])
-seen_same line looked b same long = same ∙ take_full LINE_BYTES line b (subst (λ (l : List ℕ). LINE_BYTES ≤ length l) same long)
+seen_piece : (line looked piece : List ℕ) → looked ≡ seen line → looked ++ take (LINE_BYTES - length looked) piece ≡ seen (line ++ piece)
+seen_piece line looked piece same = ap (λ (l : List ℕ). l ++ take (LINE_BYTES - length l) piece) same ∙ take_piece LINE_BYTES line piece
 
 -- ---- the report of a line whose refusal no run gets
 
@@ -171,17 +167,17 @@ fed_line bytes v w x before out written before' told told' fed serves server lin
       };
     }
 
--- one more byte of a line
-fed_more : (bytes : List ℕ) (byte : ℕ) (v w : Serving) (before out before' told : List ℕ) → (fed : IsFed bytes v before out before' told) → (byte == 10) ≡ false → w.line.items ≡ seen (fed.last ++ byte ∷ []) → w.server ≡ v.server → w.lines ≡ v.lines →
-    w.refused ≡ v.refused → IsFed (bytes ++ byte ∷ []) w before out before' told
-fed_more bytes byte v w before out before' told fed other kept server lines refuses = record {
+-- more bytes of a line
+pub fed_piece : (bytes piece : List ℕ) (v w : Serving) (before out before' told : List ℕ) → IsFed bytes v before out before' told → NoLf piece → w.line.items ≡ v.line.items ++ take (LINE_BYTES - length v.line.items) piece → w.server ≡ v.server → w.lines ≡ v.lines →
+    w.refused ≡ v.refused → IsFed (bytes ++ piece) w before out before' told
+fed_piece bytes piece v w before out before' told fed plain kept server lines refuses = record {
   lines = fed.lines;
   stand = fed.stand;
-  last = fed.last ++ byte ∷ [];
-  parts = ap (λ (l : List ℕ). l ++ byte ∷ []) fed.parts ∙ append_assoc (bytes_of fed.lines) fed.last (byte ∷ []);
+  last = fed.last ++ piece;
+  parts = ap (λ (l : List ℕ). l ++ piece) fed.parts ∙ append_assoc (bytes_of fed.lines) fed.last piece;
   all = fed.all;
-  last_is = no_lf_more fed.last byte fed.last_is other;
-  kept = kept;
+  last_is = no_lf_both fed.last piece fed.last_is plain;
+  kept = kept ∙ seen_piece fed.last v.line.items piece fed.kept;
   counts = record {
     served = fed.counts.served;
     stands = subst (λ (y : Server). StandsAs y fed.stand before out) (sym server) fed.counts.stands;
@@ -190,16 +186,6 @@ fed_more bytes byte v w before out before' told fed other kept server lines refu
     refused = refuses ∙ fed.counts.refused;
   };
 }
-
--- which is kept
-pub fed_byte : (bytes : List ℕ) (byte : ℕ) (v w : Serving) (before out before' told : List ℕ) → IsFed bytes v before out before' told → (byte == 10) ≡ false → length v.line.items < LINE_BYTES → w.line.items ≡ v.line.items ++ byte ∷ [] → w.server ≡ v.server → w.lines ≡ v.lines →
-    w.refused ≡ v.refused → IsFed (bytes ++ byte ∷ []) w before out before' told
-fed_byte bytes byte v w before out before' told fed other short pushed server lines refuses =
-    fed_more bytes byte v w before out before' told fed other (pushed ∙ seen_more fed.last v.line.items byte fed.kept short) server lines refuses
-
--- or not looked at
-pub fed_unseen : (bytes : List ℕ) (byte : ℕ) (v : Serving) (before out before' told : List ℕ) → IsFed bytes v before out before' told → (byte == 10) ≡ false → LINE_BYTES ≤ length v.line.items → IsFed (bytes ++ byte ∷ []) v before out before' told
-fed_unseen bytes byte v before out before' told fed other long = fed_more bytes byte v v before out before' told fed other (seen_same fed.last v.line.items byte fed.kept long) refl refl refl
 
 -- ---- what stops it
 
@@ -249,18 +235,59 @@ stops_line bytes behind v before out written before' told told' input f fed fail
     stops_here bytes (10 ∷ behind) v before out written before' told told' input f fed
     (why_line f fed.last behind fed.lines fed.stand input fed.all fed.last_is (fails fed.last fed.lines fed.stand before before' (at_line bytes before out before' told v fed))) same same_told
 
-pub stops_byte : (bytes behind : List ℕ) (byte : ℕ) (v : Serving) (before out before' told : List ℕ) (input : Option (List ℕ)) → IsFed bytes v before out before' told → Stops (bytes ++ byte ∷ behind) input before out before' told F.NoMemory
-stops_byte bytes behind byte v before out before' told input fed = stops_here bytes (byte ∷ behind) v before out out before' told told input F.NoMemory fed tt refl refl
+pub stops_bytes : (bytes : List ℕ) (v : Serving) (out told : List ℕ) → StopsIn bytes v out out told told F.NoMemory
+stops_bytes bytes v out told read before before' input fed = stops_here read bytes v before out out before' told told input F.NoMemory fed tt refl refl
 
 -- ---- pieces
 
-pub take_and_drop : (before bs : List ℕ) (i d : ℕ) → i < length bs → (before ++ take i bs) ++ get_or bs i d ∷ drop (suc i) bs ≡ before ++ bs
-take_and_drop before bs i d within =
-    append_assoc before (take i bs) (get_or bs i d ∷ drop (suc i) bs)
-    ∙ ap (λ (l : List ℕ). before ++ l) (ap (λ (l : List ℕ). take i bs ++ l) (sym (drop-cons bs i d within)) ∙ take-append-drop i bs)
+-- a piece that no LF ends
+pub takes_all : (bytes piece rest : List ℕ) (v w : Serving) (out told : List ℕ) → bytes ≢ [] → bytes ≡ piece ++ rest → rest ≡ [] → Feeds piece v w out out told told → TakesPiece bytes rest v w out out told told
+takes_all bytes piece rest v w out told some parts none fed = record { piece = piece; parts = parts; less = rw none (some_length bytes some); fed = fed }
+  where
+    some_length : (l : List ℕ) → l ≢ [] → 0 < length l
+    some_length [] some = absurd (some refl)
+    some_length (x ∷ xs) some = omega arith
 
-pub one_more : (before bs : List ℕ) (i d : ℕ) → i < length bs → (before ++ take i bs) ++ get_or bs i d ∷ [] ≡ before ++ take (i + 1) bs
-one_more before bs i d within = append_assoc before (take i bs) (get_or bs i d ∷ []) ∙ ap (λ (l : List ℕ). before ++ l) (sym (take_more bs i d within))
+-- a piece that LF ends
+module _ (bytes piece rest : List ℕ) (b : ℕ) (behind : List ℕ) (v w : Serving) (out told : List ℕ) (parts : bytes ≡ piece ++ rest) (ends : rest ≡ b ∷ behind) (is_lf : b ≡ 10) (fed : Feeds piece v w out out told told) where
+  whole : bytes ≡ piece ++ 10 ∷ behind
+  whole = parts ∙ ap (λ (l : List ℕ). piece ++ l) (ends ∙ ap (λ (k : ℕ). k ∷ behind) is_lf)
+
+  pub takes_line : (x : Serving) (written told' : List ℕ) → ((bytes before before' : List ℕ) → IsFed bytes w before out before' told → IsFed (bytes ++ 10 ∷ []) x before written before' told') → TakesPiece bytes behind v x out written told told'
+  takes_line x written told' ended = record {
+    piece = piece ++ 10 ∷ [];
+    parts = whole ∙ sym (append_assoc piece (10 ∷ []) behind);
+    less = let longer = ap length whole in omega (arith, longer, length-append piece (10 ∷ behind));
+    fed = λ read before before' was. subst (λ (l : List ℕ). IsFed l x before written before' told') (append_assoc read piece (10 ∷ [])) (ended (read ++ piece) before before' (fed read before before' was));
+  }
+
+  pub stops_at_line : (written told' : List ℕ) (f : ServeFault) →
+      ((bytes more before before' : List ℕ) (input : Option (List ℕ)) → IsFed bytes w before out before' told → Stops (bytes ++ 10 ∷ more) input before written before' told' f) → StopsIn bytes v out written told told' f
+  stops_at_line written told' f stops read before before' input was =
+      subst (λ (l : List ℕ). Stops l input before written before' told' f) (append_assoc read piece (10 ∷ behind) ∙ ap (λ (l : List ℕ). read ++ l) (sym whole)) (stops (read ++ piece) behind before before' input (fed read before before' was))
+
+-- these bytes were taken but for the rest
+pub record IsTakenTo (bytes rest : List ℕ) (v w : Serving) (out written told told' : List ℕ) : Type 0 where
+  pub before : List ℕ
+  pub parts : bytes ≡ before ++ rest
+  pub fed : Feeds before v w out written told told'
+
+pub taken_none : (bytes : List ℕ) (v : Serving) (out told : List ℕ) → IsTakenTo bytes bytes v v out out told told
+taken_none bytes v out told = record { before = []; parts = refl; fed = λ read before before' fed. subst (λ (l : List ℕ). IsFed l v before out before' told) (sym (append-nil read)) fed }
+
+pub taken_more : (bytes rest behind : List ℕ) (v w x : Serving) (out mid written told said told' : List ℕ) → IsTakenTo bytes rest v w out mid told said → TakesPiece rest behind w x mid written said told' → IsTakenTo bytes behind v x out written told told'
+taken_more bytes rest behind v w x out mid written told said told' so one = record {
+  before = so.before ++ one.piece;
+  parts = so.parts ∙ (ap (λ (l : List ℕ). so.before ++ l) one.parts ∙ sym (append_assoc so.before one.piece behind));
+  fed = λ read before before' fed. subst (λ (l : List ℕ). IsFed l x before written before' told') (append_assoc read so.before one.piece) (one.fed (read ++ so.before) before before' (so.fed read before before' fed));
+}
+
+pub taken_all : (bytes rest : List ℕ) (v w : Serving) (out written told told' : List ℕ) → IsTakenTo bytes rest v w out written told told' → rest ≡ [] → Feeds bytes v w out written told told'
+taken_all bytes rest v w out written told told' so none = subst (λ (l : List ℕ). Feeds l v w out written told told') (sym (so.parts ∙ (ap (λ (l : List ℕ). so.before ++ l) none ∙ append-nil so.before))) so.fed
+
+pub taken_bad : (bytes rest : List ℕ) (v w : Serving) (out mid written told said told' : List ℕ) (f : ServeFault) → IsTakenTo bytes rest v w out mid told said → StopsIn rest w mid written said told' f → StopsIn bytes v out written told told' f
+taken_bad bytes rest v w out mid written told said told' f so stops read before before' input fed =
+    subst (λ (l : List ℕ). Stops l input before written before' told' f) (append_assoc read so.before rest ∙ ap (λ (l : List ℕ). read ++ l) (sym so.parts)) (stops (read ++ so.before) before before' input (so.fed read before before' fed))
 
 -- ---- the end
 

@@ -9,6 +9,7 @@ pub mod Growing
 pub mod Lengths
 pub mod Orders
 pub mod Settled
+pub mod Sleeping
 pub mod Sound
 pub mod Trying
 pub mod Turns

@@ -50,14 +50,14 @@ module _ (v : Server) (held after : OpenCase) (ask : Played → Option Played) (
       by_change : (p : Played) (o : Option Played) → s.current ≡ Some p →
           MatchOption o ((done ≡ false) × Holds after p s.closed before written) (λ q. (done ≡ true) × Holds after q s.closed before written) → MatchOption (option_map (with_current s) o) No Yes
       by_change p None current so =
-          (so.0, record { current = subst (IsCurrent (Some after)) (sym current) so.1.kept; worst = stands.worst; text = so.1.text ∙ sym (text_is s (Some p) current) })
-      by_change p (Some q) current so = (so.0, record { current = so.1.kept; worst = stands.worst; text = so.1.text })
+          (so.0, record { current = subst (IsCurrent (Some after)) (sym current) so.1.is; worst = stands.worst; text = so.1.text ∙ sym (text_is s (Some p) current) })
+      by_change p (Some q) current so = (so.0, record { current = so.1.is; worst = stands.worst; text = so.1.text })
 
       by_current : (c : Option Played) → s.current ≡ c → IsCurrent (Some held) c → MatchOption (with_open s ask) No Yes
       by_current None current kept = absurd kept
       by_current (Some p) current kept =
           subst (λ (c : Option Played). MatchOption (option_map (with_current s) (option_and_then ask c)) No Yes) (sym current)
-          (by_change p (ask p) current (change p s.closed before (record { kept = kept; text = stands.text ∙ text_is s (Some p) current })))
+          (by_change p (ask p) current (change p s.closed before (record { is = kept; text = stands.text ∙ text_is s (Some p) current })))
 
 -- none is open
 pub none_open : (v w : Server) (ask : Played → Option Played) (out : List ℕ) → v.current ≡ None → w.current ≡ None → w.worst ≡ v.worst → Tries (λ s. with_open s ask) false v w out out

@@ -1,13 +1,16 @@
 -- What the functions inside say.
-use Rattle.std.specs.Prelude.{ℕ, ◌≡◌, ◌≢◌, ◌+◌, ◌-◌, ◌<◌, ◌≤◌, ◌^◌, ◌⊎◌, Bool, true, false, is_some, Option, Some, None, List, [], ◌∷◌, ◌++◌, length, slice_index_or, MatchOption}
+use Rattle.std.specs.Prelude.{ℕ, ◌≡◌, ◌≢◌, ◌+◌, ◌-◌, ◌<◌, ◌≤◌, ◌^◌, ◌⊎◌, ◌==◌, suc, if◌then◌else◌, Bool, true, false, is_some, Option, Some, None, List, [], ◌∷◌, ◌++◌, length, take, drop, insert, MatchOption}
 use Rattle.std.specs.List.{list_any}
 use Rattle.std.specs.Io.KnownBytes.{Appends, Consumes, IsAtEnd}
 use Rattle.tc_verdict.specs.declared.run.Run.{Run}
 use Rattle.tc_entry.specs.Limits.{IsBehaviours}
 use Rattle.tc_table.specs.declared.awaited.Awaited.{Awaited}
-use Rattle.tc_table.specs.Standing.{StandsFor}
+use Rattle.tc_table.specs.Standing.{Kept, StandsFor}
 use Rattle.tc_table.specs.Waiting.{waiting}
+use Rattle.tc_entry.specs.declared.entry.Entry.{Entry}
 use Rattle.tc_entry.specs.declared.op.Op.{Op}
+use Rattle.tc_entry.specs.declared.reply.Reply.{Reply}
+use Rattle.tc_evidence.specs.declared.met.MetRuns.{MetRuns}
 use Rattle.tc_evidence.specs.declared.line.Line.{Line}
 use Rattle.tc_evidence.specs.declared.line.Line.TheVariants as L
 use Rattle.tc_evidence.specs.Line.{entries_of}
@@ -20,7 +23,8 @@ use Rattle.tc_serve.specs.declared.order.Order.TheVariants as O
 use Rattle.tc_serve.specs.declared.server.Server.{Server}
 use Rattle.tc_serve.specs.declared.service.Served.{Served}
 use Rattle.tc_serve.specs.declared.serving.Serving.{Serving}
-use Rattle.tc_serve.specs.Protocol.{AllEnded, AreServed, Asks, Came, IsNobodys, IsOf, NoLf, Played, Refuses, Sent, Stand, called, finished, past_of, refused, seen, taken, woken_from}
+use Rattle.tc_serve.specs.declared.sleepers.Sleeper.{Sleeper}
+use Rattle.tc_serve.specs.Protocol.{AllEnded, AreServed, Asks, Came, IsNobodys, IsOf, NoLf, Played, Refuses, Sent, Stand, called, finished, past_of, refused, seen, sleep_of, taken, woken_from}
 use Rattle.tc_serve.specs.Serve.{Devices, IsTaken, IsWhy}
 use Rattle.tc_serve.specs.Text.{bytes_of, is_refused, stand_text, told_at_end, told_of, worst_of}
 
@@ -29,25 +33,74 @@ abbrev pub IsNoRemark : Order → Type 0
 IsNoRemark (O.Remark run sentence) = ⊥
 IsNoRemark _ = Unit {0}
 
+-- ---- the runs that sleep
+
+-- what run b waits for, if it is one of these
+abbrev pub sleep_in : List Sleeper → ℕ → Option Awaited
+sleep_in [] b = None
+sleep_in (s ∷ ss) b = if s.run == b then Some s.awaited else sleep_in ss b
+
+-- all are before run k
+abbrev pub AllBelow : ℕ → List Sleeper → Type 0
+AllBelow k [] = Unit {0}
+AllBelow k (s ∷ ss) = (s.run < k) × AllBelow k ss
+
+-- each comes once, in the order of their numbers, and none is before run k
+abbrev pub AreInOrder : ℕ → List Sleeper → Type 0
+AreInOrder k [] = Unit {0}
+AreInOrder k (s ∷ ss) = (k ≤ s.run) × AreInOrder (s.run + 1) ss
+
+-- of n runs these sleep
+pub record AreAsleep (n : ℕ) (ss : List Sleeper) (past : List Entry) : Type 0 where
+  pub order : AreInOrder 0 ss
+  pub few : AllBelow n ss
+  pub sleeps : (b : ℕ) → b < n → sleep_in ss b ≡ waiting past b
+
+-- this one is added in its place
+pub record IsAdded (s : Sleeper) (ss ss' : List Sleeper) : Type 0 where
+  pub place : ℕ
+  pub is : ss' ≡ insert ss place s
+  pub below : AllBelow s.run (take place ss)
+  pub from : AreInOrder 0 ss → AreInOrder s.run (drop place ss)
+
+-- the one at this place may be removed, and the one after it is at the next place
+pub record IsPassed (ss : List Sleeper) (place : ℕ) (ss' : List Sleeper) (next : ℕ) : Type 0 where
+  pub behind : drop next ss' ≡ drop (suc place) ss
+  pub before : (k : ℕ) → AllBelow k (take (suc place) ss) → AllBelow k (take next ss')
+
 -- ---- the test case that is open
+
+-- this is kept of its history, and of the runs that its lines are about
+pub record IsKept (state : Kept) (met : MetRuns) (p : Played) : Type 0 where
+  pub behaviours : state.behaviours ≡ p.behaviours
+  pub few : IsBehaviours p.behaviours
+  pub stands : StandsFor state (past_of p)
+  pub met_are : AreMet met p.lines
 
 -- it is kept so
 pub record IsOpen (o : OpenCase) (p : Played) : Type 0 where
-  pub behaviours : o.state.behaviours ≡ p.behaviours
-  pub few : IsBehaviours p.behaviours
-  pub stands : StandsFor o.state (past_of p)
-  pub many : length o.sleeps.items ≡ p.behaviours
-  pub sleeps : (b : ℕ) (d : Option Awaited) → b < p.behaviours → slice_index_or o.sleeps.items b d ≡ waiting (past_of p) b
-  pub met : AreMet o.met p.lines
+  pub kept : IsKept o.state o.met p
+  pub asleep : AreAsleep p.behaviours o.sleepers.items (past_of p)
 
--- it is kept so, and after these closed ones its text is what was written before and this
+-- after these closed ones the text of the test case is what was written before and this
+abbrev pub IsText : Played → List Played → List ℕ → List ℕ → Type 0
+IsText p closed before out = before ++ out ≡ stand_text (record { closed = closed; current = Some p })
+
+-- it is kept so, and its text is
 pub record Holds (o : OpenCase) (p : Played) (closed : List Played) (before out : List ℕ) : Type 0 where
-  pub kept : IsOpen o p
-  pub text : before ++ out ≡ stand_text (record { closed = closed; current = Some p })
+  pub is : IsOpen o p
+  pub text : IsText p closed before out
 
 -- the lines after a call, before any run is woken
 abbrev pub after_call : Played → Run → Op → List Line
 after_call p caller op = L.Entry (called p.behaviours p.lines caller op) ∷ p.lines
+
+-- a call is made, and has this reply; who sleeps is kept as before
+pub record IsCalled (caller : Run) (op : Op) (reply : Reply) (o o' : OpenCase) (out written : List ℕ) : Type 0 where
+  pub same : o'.sleepers ≡ o.sleepers
+  pub replied : (p : Played) → IsKept o.state o.met p → reply ≡ (called p.behaviours p.lines caller op).reply
+  pub kept : (p : Played) → IsKept o.state o.met p → IsKept o'.state o'.met (record p { lines = after_call p caller op })
+  pub text : (p : Played) (closed : List Played) (before : List ℕ) → IsKept o.state o.met p → IsText p closed before out → IsText (record p { lines = after_call p caller op }) closed before written
 
 -- run b is woken if it sleeps and can continue
 abbrev pub woken_once : ℕ → List Line → ℕ → List Line
@@ -56,6 +109,10 @@ woken_once n lines b = woken_from n lines b (waiting (entries_of lines) b)
 -- it becomes another
 abbrev pub Becomes : (Played → Played) → OpenCase → OpenCase → List ℕ → List ℕ → Type 0
 Becomes change o o' out written = (p : Played) (closed : List Played) (before : List ℕ) → Holds o p closed before out → Holds o' (change p) closed before written
+
+-- it becomes another, if run b does not sleep
+abbrev pub BecomesAwake : ℕ → (Played → Played) → OpenCase → OpenCase → List ℕ → List ℕ → Type 0
+BecomesAwake b change o o' out written = (p : Played) (closed : List Played) (before : List ℕ) → sleep_of p b ≡ None → Holds o p closed before out → Holds o' (change p) closed before written
 
 -- it becomes another, if it may, and else nothing changes
 abbrev pub Changes : (Played → Option Played) → Bool → OpenCase → OpenCase → List ℕ → List ℕ → Type 0
@@ -155,6 +212,22 @@ pub record Stops (bytes : List ℕ) (input : Option (List ℕ)) (before out befo
   pub why : IsWhy f lines stand rest input
   pub text : before ++ out ≡ stand_text stand
   pub tells : before' ++ told ≡ told_of lines
+
+-- these bytes are taken
+abbrev pub Feeds : List ℕ → Serving → Serving → List ℕ → List ℕ → List ℕ → List ℕ → Type 0
+Feeds bytes v w out written told told' = (read before before' : List ℕ) → IsFed read v before out before' told → IsFed (read ++ bytes) w before written before' told'
+
+-- these bytes are taken but for the rest, which is shorter
+pub record TakesPiece (bytes rest : List ℕ) (v w : Serving) (out written told told' : List ℕ) : Type 0 where
+  pub piece : List ℕ
+  pub parts : bytes ≡ piece ++ rest
+  pub less : length rest < length bytes
+  pub fed : Feeds piece v w out written told told'
+
+-- the service ends in these bytes
+abbrev pub StopsIn : List ℕ → Serving → List ℕ → List ℕ → List ℕ → List ℕ → ServeFault → Type 0
+StopsIn bytes v out written told told' f =
+    (read before before' : List ℕ) (input : Option (List ℕ)) → IsFed read v before out before' told → Stops (read ++ bytes) input before written before' told' f
 
 -- these bytes are lines that were served, of which the last may lack its LF
 pub record IsEnd (bytes : List ℕ) (v : Serving) (before out before' told : List ℕ) : Type 0 where

@@ -8,6 +8,7 @@ mod order;
 mod server;
 mod service;
 mod serving;
+mod sleepers;
 
 pub use fault::ServeFault;
 pub use service::{Ending, Served, serve};

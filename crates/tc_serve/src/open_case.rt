@@ -1,5 +1,5 @@
 //! A test case that is open.
-ghost use Rattle.std.specs.Prelude.{◌≡◌, ◌<◌, ◌++◌, ◌∷◌, [], nat_lt, true, ℕ, List, Option, length, slice_index_or, IfOk, OnOk, None, if◌then◌else◌};
+ghost use Rattle.std.specs.Prelude.{◌≡◌, ◌<◌, ◌++◌, ◌∷◌, [], nat_lt, true, ℕ, List, length, drop, IfOk, OnOk, None, if◌then◌else◌};
 ghost use Rattle.std.specs.Io.{StartsWith};
 ghost use Rattle.tc_entry.specs.Limits.{IsBehaviours};
 ghost use Rattle.tc_table.specs.Local as verdicts;
@@ -9,10 +9,12 @@ ghost use Rattle.tc_evidence.specs.declared.line.Line.TheVariants as lines;
 ghost use Rattle.tc_evidence.specs.Block.{ended};
 ghost use Rattle.tc_evidence.specs.Line.{line_text};
 ghost use Rattle.tc_evidence.specs.Met.{AreMet};
-ghost use Rattle.tc_serve.specs.Inside.{Becomes, Changes, IsOpen, after_call, woken_once};
-ghost use Rattle.tc_serve.specs.Protocol.{Played as AnyPlayed, added, is_parked, is_wake as spec_wake, made, may_add as spec_may_add, may_ask, moved, past_of, sleep_of as spec_sleep, why_refused};
+ghost use Rattle.tc_serve.specs.declared.sleepers.Sleeper.{Sleeper as AnySleeper};
+ghost use Rattle.tc_serve.specs.Inside.{Becomes, BecomesAwake, Changes, IsCalled, IsOpen, IsPassed, after_call, woken_once};
+ghost use Rattle.tc_serve.specs.Protocol.{Played as AnyPlayed, added, is_parked, is_wake as spec_wake, made, may_add as spec_may_add, may_ask, moved, past_of, sleep_of as spec_sleep, why_refused, woken};
 ghost use Rattle.tc_serve.specs.Text.{counted as spec_counted};
 
+use crate::sleepers::{Sleeper, add, awaited_by};
 use std::alloc::Global;
 use tc_entry::{Entry, NoMemory, Op, Reply, Run, Verdict};
 use tc_evidence::{Line, MetRuns, append_line, append_said};
@@ -23,8 +25,8 @@ use tc_table::{Awaited, CaseState};
 pub(crate) struct OpenCase {
     /// What is kept of its history.
     state: CaseState,
-    /// What each run waits for, if it sleeps.
-    sleeps: Vec<Option<Awaited>>,
+    /// The runs that sleep, in the order of their numbers: after a call only these may be woken.
+    sleepers: Vec<Sleeper>,
     /// The runs that some line is about.
     met: MetRuns,
 }
@@ -74,29 +76,15 @@ fn is_wake(op: &Op) -> bool
     matches!(op, Op::Wake { .. })
 }
 
-// Nobody of that many runs sleeps.
-fn nobody(alloc: Global, behaviours: u16) -> Result<Vec<Option<Awaited>>, NoMemory>
-    ensures many { IfOk result (λ v. length v.items ≡ behaviours) }
-    ensures each { IfOk result (λ v. (b : ℕ) (d : Option Awaited) → b < behaviours → slice_index_or v.items b d ≡ None) }
-{
-    let mut sleeps = Vec::new(alloc);
-    for _run in 0..behaviours {
-        sleeps.push(None)?;
-    }
-    Ok(sleeps)
-}
-
 impl OpenCase {
     /// A test case that was just opened.
     pub fn new(alloc: Global, behaviours: u16) -> Result<OpenCase, NoMemory>
         requires { IsBehaviours behaviours }
         ensures { IfOk result (λ o. (name : List ℕ) → IsOpen o (record { name = name; behaviours = behaviours; lines = [] })) }
     {
-        let state = CaseState::new(alloc, behaviours)?;
-        let sleeps = nobody(alloc, behaviours)?;
         Ok(OpenCase {
-            state,
-            sleeps,
+            state: CaseState::new(alloc, behaviours)?,
+            sleepers: Vec::new(alloc),
             met: MetRuns::none(),
         })
     }
@@ -105,12 +93,7 @@ impl OpenCase {
     fn sleep_of(&self, run: Run) -> Option<Awaited>
         ensures { (p : AnyPlayed) → IsOpen self.now p → result ≡ spec_sleep p run.0 }
     {
-        let place = usize::from(run.0);
-        if place < self.sleeps.len() {
-            self.sleeps[place]
-        } else {
-            None
-        }
+        awaited_by(self.sleepers.as_slice(), run.0)
     }
 
     // Whether a client may make the call for the run: it is no wake, and the run does not sleep.
@@ -144,7 +127,7 @@ impl OpenCase {
     fn append(&mut self, line: &Line, out: &mut Vec<u8>) -> Result<(), NoMemory>
         ensures met { (ls : List AnyLine) → AreMet self.old.met ls → AreMet self.new.met (line.now ∷ ls) }
         ensures state { self.new.state ≡ self.old.state }
-        ensures sleeps { self.new.sleeps ≡ self.old.sleeps }
+        ensures sleepers { self.new.sleepers ≡ self.old.sleepers }
         ensures ok { OnOk result (out.new.items ≡ out.old.items ++ ended (line_text line.now)) }
         ensures any { StartsWith out.new.items out.old.items }
     {
@@ -178,51 +161,72 @@ impl OpenCase {
     }
 
     // Makes the call, and appends its line; if memory runs out, a part of it.
-    fn call(&mut self, caller: Run, op: Op, out: &mut Vec<u8>) -> Result<(), NoMemory>
-        ensures ok { OnOk result (Becomes (λ p. record p { lines = after_call p caller op }) self.old self.new out.old.items out.new.items) }
-        ensures same { self.new.state.behaviours ≡ self.old.state.behaviours }
+    fn call(&mut self, caller: Run, op: Op, out: &mut Vec<u8>) -> Result<Reply, NoMemory>
+        ensures ok { IfOk result (λ r. IsCalled caller op r self.old self.new out.old.items out.new.items) }
         ensures any { StartsWith out.new.items out.old.items }
     {
-        let awaited = awaited(&op);
         let reply = self.state.play(caller, op.copy())?;
         self.append(&Line::Entry(Entry { caller, op, reply }), out)?;
-        let place = usize::from(caller.0);
-        if place < self.sleeps.len() {
-            self.sleeps[place] = parks(awaited, reply);
-        }
-        Ok(())
+        Ok(reply)
     }
 
-    // Wakes the run, if it sleeps and can continue.
-    fn wake(&mut self, run: u16, out: &mut Vec<u8>) -> Result<(), NoMemory>
-        requires { run < self.old.state.behaviours }
-        ensures ok { OnOk result (Becomes (λ p. record p { lines = woken_once p.behaviours p.lines run }) self.old self.new out.old.items out.new.items) }
-        ensures same { self.new.state.behaviours ≡ self.old.state.behaviours }
+    // Makes the call of a run that does not sleep, and appends its line; if memory runs out, a part of it.
+    fn ask(&mut self, caller: Run, op: Op, out: &mut Vec<u8>) -> Result<(), NoMemory>
+        ensures ok { OnOk result (BecomesAwake caller.0 (λ p. record p { lines = after_call p caller op }) self.old self.new out.old.items out.new.items) }
         ensures any { StartsWith out.new.items out.old.items }
     {
-        let Some(awaited) = self.sleep_of(Run(run)) else {
+        let is_own = self.has(caller);
+        let awaited = awaited(&op);
+        let reply = self.call(caller, op, out)?;
+        if !is_own {
             return Ok(());
-        };
+        }
+        match parks(awaited, reply) {
+            Some(awaited) => add(&mut self.sleepers, caller.0, awaited),
+            None => Ok(()),
+        }
+    }
+
+    // Wakes the run at this place of those that sleep, if it can continue; the place of the next one.
+    fn wake(&mut self, place: usize, out: &mut Vec<u8>) -> Result<usize, NoMemory>
+        requires { place < length self.old.sleepers.items }
+        ensures ok { OnOk result ((s : AnySleeper) (behind : List AnySleeper) → drop place self.old.sleepers.items ≡ s ∷ behind
+            → Becomes (λ p. record p { lines = woken_once p.behaviours p.lines s.run }) self.old self.new out.old.items out.new.items) }
+        ensures next { IfOk result (IsPassed self.old.sleepers.items place self.new.sleepers.items) }
+        ensures any { StartsWith out.new.items out.old.items }
+    {
+        let Sleeper { run, awaited } = self.sleepers[place];
         let op = Op::Wake {
             killed: awaited.killed,
             target: awaited.target,
         };
         if is_parked_reply(self.state.would(Run(run), &op)) {
-            return Ok(());
+            return Ok(place + 1);
         }
-        self.call(Run(run), op, out)
+        self.call(Run(run), op, out)?;
+        self.sleepers.remove(place);
+        Ok(place)
     }
 
-    // Makes the call, and then wakes each run that can continue, in the order of their numbers.
-    fn play(&mut self, caller: Run, op: Op, out: &mut Vec<u8>) -> Result<(), NoMemory>
-        ensures ok { OnOk result (Becomes (λ p. moved p caller op) self.old self.new out.old.items out.new.items) }
+    // Wakes each run that sleeps and can continue, in the order of their numbers.
+    fn wake_all(&mut self, out: &mut Vec<u8>) -> Result<(), NoMemory>
+        ensures ok { OnOk result (Becomes (λ p. record p { lines = woken p.behaviours p.lines p.behaviours }) self.old self.new out.old.items out.new.items) }
         ensures any { StartsWith out.new.items out.old.items }
     {
-        self.call(caller, op, out)?;
-        for run in 0..self.state.behaviours() {
-            self.wake(run, out)?;
+        let mut place = 0;
+        while place < self.sleepers.len() {
+            place = self.wake(place, out)?;
         }
         Ok(())
+    }
+
+    // Makes the call of a run that does not sleep, and then wakes each run that can continue.
+    fn play(&mut self, caller: Run, op: Op, out: &mut Vec<u8>) -> Result<(), NoMemory>
+        ensures ok { OnOk result (BecomesAwake caller.0 (λ p. moved p caller op) self.old self.new out.old.items out.new.items) }
+        ensures any { StartsWith out.new.items out.old.items }
+    {
+        self.ask(caller, op, out)?;
+        self.wake_all(out)
     }
 
     /// Makes the call, if it may be made, and appends its line, and those of the wakes. If memory runs out, a part of these.

@@ -95,12 +95,10 @@ impl Server {
         ensures ok { IfOk result (λ done. Tries (λ s. with_open s (added line.now)) done self.old self.new out.old.items out.new.items) }
         ensures any { StartsWith out.new.items out.old.items }
     {
-        let Some(mut held) = self.current.take() else {
-            return Ok(false);
-        };
-        let done = held.add(line, out)?;
-        self.current = Some(held);
-        Ok(done)
+        match &mut self.current {
+            Some(held) => held.add(line, out),
+            None => Ok(false),
+        }
     }
 
     // Makes a call in the test case that is open, if it may be made.
@@ -108,12 +106,10 @@ impl Server {
         ensures ok { IfOk result (λ done. Tries (λ s. with_open s (made caller op)) done self.old self.new out.old.items out.new.items) }
         ensures any { StartsWith out.new.items out.old.items }
     {
-        let Some(mut held) = self.current.take() else {
-            return Ok(false);
-        };
-        let done = held.make(caller, op, out)?;
-        self.current = Some(held);
-        Ok(done)
+        match &mut self.current {
+            Some(held) => held.make(caller, op, out),
+            None => Ok(false),
+        }
     }
 
     /// Closes the test case that is open, if one is.
@@ -174,11 +170,9 @@ impl Server {
         let Some(run) = run_of(line) else {
             return Ok(false);
         };
-        let Some(mut held) = self.current.take() else {
-            return Ok(false);
-        };
-        let told = held.refuse(run, out)?;
-        self.current = Some(held);
-        Ok(told)
+        match &mut self.current {
+            Some(held) => held.refuse(run, out),
+            None => Ok(false),
+        }
     }
 }

@@ -1,9 +1,9 @@
 //! Lines that come in pieces.
-ghost use Rattle.std.specs.Prelude.{◌≡◌, ◌<◌, ◌++◌, ◌∷◌, [], ℕ, List, Option, IfOk, IfErr, OnOk, OnErr, MatchOption, length};
+ghost use Rattle.std.specs.Prelude.{◌≡◌, ◌≢◌, ◌<◌, ◌-◌, ◌++◌, ◌∷◌, [], ℕ, List, Option, IfOk, IfErr, OnOk, OnErr, MatchOption, length, take};
 ghost use Rattle.std.specs.Io.{StartsWith};
 ghost use Rattle.std.specs.Io.KnownBytes.{IsAtEnd};
-ghost use Rattle.tc_serve.specs.Inside.{Closes, Fails, Finishes, IsEnd, IsFed, Serves, Stops};
-ghost use Rattle.tc_serve.specs.Protocol.{was_lost};
+ghost use Rattle.tc_serve.specs.Inside.{Closes, Fails, Feeds, Finishes, IsEnd, IsFed, Serves, Stops, StopsIn, TakesPiece};
+ghost use Rattle.tc_serve.specs.Protocol.{NoLf, was_lost};
 ghost use Rattle.tc_serve.specs.Text.{end_told, lost_text};
 
 use crate::fault::ServeFault;
@@ -51,6 +51,20 @@ fn append_end(told: &mut Vec<u8>, inside: bool) -> Result<(), NoMemory>
         return Ok(());
     }
     append_text(told, "ttrun: the input ended inside a test case\n")
+}
+
+// The bytes before the first LF, and the others.
+fn cut_line(bytes: &[u8]) -> (&[u8], &[u8])
+    ensures parts { bytes.now ≡ result.0.now ++ result.1.now }
+    ensures before { NoLf result.0.now }
+    ensures behind { (b : ℕ) (rest : List ℕ) → result.1.now ≡ b ∷ rest → b ≡ 10 }
+{
+    for (place, byte) in bytes.iter().enumerate() {
+        if *byte == b'\n' {
+            return bytes.split_at(place);
+        }
+    }
+    bytes.split_at(bytes.len())
 }
 
 impl Serving {
@@ -146,28 +160,41 @@ impl Serving {
         }
     }
 
-    // Takes one byte.
-    fn take(
+    // Keeps what is looked at of more bytes of the line.
+    fn keep(&mut self, bytes: &[u8]) -> Result<(), NoMemory>
+        ensures kept { OnOk result (self.new.line.items ≡ self.old.line.items ++ take (LINE_BYTES - length self.old.line.items) bytes.now) }
+        ensures server { self.new.server ≡ self.old.server }
+        ensures lines { self.new.lines ≡ self.old.lines }
+        ensures refused { self.new.refused ≡ self.old.refused }
+    {
+        let room = LINE_BYTES.saturating_sub(self.line.len());
+        let count = room.min(bytes.len());
+        self.line.extend_from_slice(&bytes[..count])?;
+        Ok(())
+    }
+
+    // Takes what these bytes begin with of a line, and serves the line if it ends there; what follows.
+    fn take<'a>(
         &mut self,
         alloc: Global,
-        byte: u8,
+        bytes: &'a [u8],
         out: &mut Vec<u8>,
         told: &mut Vec<u8>,
-    ) -> Result<(), ServeFault>
-        ensures ok { OnOk result ((bytes before before' : List ℕ) → IsFed bytes self.old before out.old.items before' told.old.items
-            → IsFed (bytes ++ byte ∷ []) self.new before out.new.items before' told.new.items) }
-        ensures stopped { IfErr result (λ f. (bytes more before before' : List ℕ) (input : Option (List ℕ)) → IsFed bytes self.old before out.old.items before' told.old.items
-            → Stops (bytes ++ byte ∷ more) input before out.new.items before' told.new.items f) }
+    ) -> Result<&'a [u8], ServeFault>
+        requires { bytes.now ≢ [] }
+        ensures ok { IfOk result (λ rest. TakesPiece bytes.now rest.now self.old self.new out.old.items out.new.items told.old.items told.new.items) }
+        ensures stopped { IfErr result (λ f. StopsIn bytes.now self.old out.old.items out.new.items told.old.items told.new.items f) }
     {
-        if byte == b'\n' {
-            return self.end_line(alloc, out, told);
+        let (piece, rest) = cut_line(bytes);
+        if let Err(NoMemory) = self.keep(piece) {
+            return Err(ServeFault::NoMemory);
         }
-        if self.line.len() >= LINE_BYTES {
-            return Ok(());
-        }
-        match self.line.push(byte) {
-            Ok(()) => Ok(()),
-            Err(_) => Err(ServeFault::NoMemory),
+        match rest.split_first() {
+            None => Ok(rest),
+            Some((_, behind)) => match self.end_line(alloc, out, told) {
+                Ok(()) => Ok(behind),
+                Err(fault) => Err(fault),
+            },
         }
     }
 
@@ -179,14 +206,14 @@ impl Serving {
         out: &mut Vec<u8>,
         told: &mut Vec<u8>,
     ) -> Result<(), ServeFault>
-        ensures ok { OnOk result ((read before before' : List ℕ) → IsFed read self.old before out.old.items before' told.old.items
-            → IsFed (read ++ bytes.now) self.new before out.new.items before' told.new.items) }
-        ensures stopped { IfErr result (λ f. (read before before' : List ℕ) (input : Option (List ℕ)) → IsFed read self.old before out.old.items before' told.old.items
-            → Stops (read ++ bytes.now) input before out.new.items before' told.new.items f) }
+        ensures ok { OnOk result (Feeds bytes.now self.old self.new out.old.items out.new.items told.old.items told.new.items) }
+        ensures stopped { IfErr result (λ f. StopsIn bytes.now self.old out.old.items out.new.items told.old.items told.new.items f) }
     {
-        for byte in bytes {
-            if let Err(fault) = self.take(alloc, *byte, out, told) {
-                return Err(fault);
+        let mut rest = bytes;
+        while !rest.is_empty() {
+            match self.take(alloc, rest, out, told) {
+                Ok(behind) => rest = behind,
+                Err(fault) => return Err(fault),
             }
         }
         Ok(())

@@ -1,8 +1,8 @@
-use Rattle.std.proofs.Common.{sym}
+use Rattle.std.proofs.lemmas.Result.{IfOk-weaker}
 use Rattle.tc_serve.specs.Protocol.{made}
 use Rattle.tc_serve.proofs.Trying.{opened_tries}
 use Rattle.tc_serve.proofs.server.Server.make.Goals as goal
 
-pub returns-clause-ok : goal.returns-clause-ok
-returns-clause-ok c =
-    opened_tries c.args.self.now c.in-Some.held c.make.new.self (made c.args.caller c.args.op) _ c.args.out.now.items c.make.new.out.items (sym c.in-Some.ensures.value) c.in_ok-done.ensures.ok
+pub returns-in-Some-clause-ok : goal.returns-in-Some-clause-ok
+returns-in-Some-clause-ok c =
+    IfOk-weaker c.make.result _ _ (λ done change. opened_tries c.args.self.now c.in-Some.held.now c.make.new.self (made c.args.caller c.args.op) done c.args.out.now.items c.make.new.out.items c.in-Some.is change) c.make.ensures.ok

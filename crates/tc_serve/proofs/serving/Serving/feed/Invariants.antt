@@ -1,7 +1,9 @@
-use Rattle.std.proofs.Common.{◌++◌, ℕ, List, take}
-use Rattle.tc_serve.specs.Inside.{IsFed}
+use Rattle.std.proofs.Common.{length}
+use Rattle.tc_serve.proofs.Feeding.{IsTakenTo}
 use Rattle.tc_serve.proofs.serving.Serving.feed.Given as goal
 
-abbrev pub invariant-loop-byte : goal.invariant-loop-byte
-invariant-loop-byte l =
-    (read before before' : List ℕ) → IsFed read l.fn.self before l.fn.out.items before' l.fn.told.items → IsFed (read ++ take l.byte-index l.bytes) l.self before l.out.items before' l.told.items
+abbrev pub invariant-loop-rest : goal.invariant-loop-rest
+invariant-loop-rest l = IsTakenTo l.bytes l.rest l.fn.self l.self l.fn.out.items l.out.items l.fn.told.items l.told.items
+
+abbrev pub decreases-loop-rest : goal.decreases-loop-rest
+decreases-loop-rest l = length l.rest

@@ -1,15 +1,27 @@
-use Rattle.std.proofs.Common.{refl, arith}
-use Rattle.std.proofs.lemmas.Bool.Decides.{nat_tests}
-use Rattle.tc_serve.proofs.Feeding.{fed_byte, fed_unseen, stops_byte}
+use Rattle.std.proofs.Common.{refl}
+use Rattle.std.proofs.lemmas.List.{nil_from_length}
+use Rattle.tc_serve.proofs.Feeding.{fed_piece, stops_at_line, takes_all, takes_line}
 use Rattle.tc_serve.proofs.serving.Serving.take.Goals as goal
 
-pub returns-then-len-ge-LINE_BYTES-clause-ok : goal.returns-then-len-ge-LINE_BYTES-clause-ok
-returns-then-len-ge-LINE_BYTES-clause-ok c bytes before before' fed =
-    fed_unseen bytes c.args.byte c.args.self.now before _ before' _ fed (grind (arith, nat_tests, c.if-byte-eq10.false)) (omega (arith, c.len.ensures, c.if-len-ge-LINE_BYTES.true))
+pub returns-in-None-clause-ok : goal.returns-in-None-clause-ok
+returns-in-None-clause-ok c =
+    let kept = c.in_default.ensures in
+    takes_all c.args.bytes.now c.cut_line.result.0.now c.cut_line.result.1.now c.args.self.now c.keep.new.self c.args.out.now.items c.args.told.now.items c.requires c.cut_line.ensures.parts
+    (nil_from_length c.cut_line.result.1.now (rw c.in-None.is at c.split_first.ensures.cases))
+    (λ read before before' fed. fed_piece read c.cut_line.result.0.now c.args.self.now c.keep.new.self before _ before' _ fed c.cut_line.ensures.before kept.kept kept.server kept.lines kept.refused)
 
 pub returns-in-Ok-clause-ok : goal.returns-in-Ok-clause-ok
-returns-in-Ok-clause-ok c bytes before before' fed =
-    fed_byte bytes c.args.byte c.args.self.now _ before _ before' _ fed (grind (arith, nat_tests, c.if-byte-eq10.false)) (omega (arith, c.len.ensures, c.if-len-ge-LINE_BYTES.false)) c.in-Ok.ensures.items refl refl refl
+returns-in-Ok-clause-ok c =
+    let kept = c.in_default.ensures in
+    let first = (rw c.in-Some.is at c.split_first.ensures.cases).0 in
+    takes_line c.args.bytes.now c.cut_line.result.0.now c.cut_line.result.1.now _ c.in-Some.behind.now c.args.self.now c.keep.new.self c.args.out.now.items c.args.told.now.items c.cut_line.ensures.parts first (c.cut_line.ensures.behind _ _ first)
+    (λ read before before' fed. fed_piece read c.cut_line.result.0.now c.args.self.now c.keep.new.self before _ before' _ fed c.cut_line.ensures.before kept.kept kept.server kept.lines kept.refused)
+    c.end_line.new.self c.end_line.new.out.items c.end_line.new.told.items c.in-Ok.ensures.ok
 
 pub returns-in-Err-clause-stopped : goal.returns-in-Err-clause-stopped
-returns-in-Err-clause-stopped c bytes more before before' input fed = stops_byte bytes more c.args.byte c.args.self.now before _ before' _ input fed
+returns-in-Err-clause-stopped c =
+    let kept = c.in_default.ensures in
+    let first = (rw c.in-Some.is at c.split_first.ensures.cases).0 in
+    stops_at_line c.args.bytes.now c.cut_line.result.0.now c.cut_line.result.1.now _ c.in-Some.behind.now c.args.self.now c.keep.new.self c.args.out.now.items c.args.told.now.items c.cut_line.ensures.parts first (c.cut_line.ensures.behind _ _ first)
+    (λ read before before' fed. fed_piece read c.cut_line.result.0.now c.args.self.now c.keep.new.self before _ before' _ fed c.cut_line.ensures.before kept.kept kept.server kept.lines kept.refused)
+    c.end_line.new.out.items c.end_line.new.told.items c.in-Err.fault c.in-Err.ensures.stopped

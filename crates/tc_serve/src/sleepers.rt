@@ -1,0 +1,49 @@
+//! The runs of a test case that sleep.
+ghost use Rattle.std.specs.Prelude.{◌≡◌, ◌≤◌, ℕ, Option, List, length, take, drop, insert, OnOk};
+ghost use Rattle.tc_serve.specs.declared.sleepers.Sleeper.{Sleeper as AnySleeper};
+ghost use Rattle.tc_serve.specs.Inside.{AllBelow, AreInOrder, IsAdded, sleep_in};
+
+use tc_entry::NoMemory;
+use tc_table::Awaited;
+
+/// A run that sleeps, and what it waits for.
+#[derive(Clone, Copy)]
+pub(crate) struct Sleeper {
+    pub(crate) run: u16,
+    pub(crate) awaited: Awaited,
+}
+
+// How many of these, which are in the order of their numbers, come before the run.
+fn place_of(sleepers: &[Sleeper], run: u16) -> usize
+    ensures within { result ≤ length sleepers.now }
+    ensures below { AllBelow run (take result sleepers.now) }
+    ensures from { AreInOrder 0 sleepers.now → AreInOrder run (drop result sleepers.now) }
+{
+    for (place, sleeper) in sleepers.iter().enumerate() {
+        if sleeper.run >= run {
+            return place;
+        }
+    }
+    sleepers.len()
+}
+
+/// What the run waits for, if it is one of these.
+pub(crate) fn awaited_by(sleepers: &[Sleeper], run: u16) -> Option<Awaited>
+    ensures { result ≡ sleep_in sleepers.now run }
+{
+    for sleeper in sleepers {
+        if sleeper.run == run {
+            return Some(sleeper.awaited);
+        }
+    }
+    None
+}
+
+/// Adds the run to these, which are in the order of their numbers.
+pub(crate) fn add(sleepers: &mut Vec<Sleeper>, run: u16, awaited: Awaited) -> Result<(), NoMemory>
+    ensures { OnOk result (IsAdded (record { run = run; awaited = awaited }) sleepers.old.items sleepers.new.items) }
+{
+    let place = place_of(sleepers.as_slice(), run);
+    sleepers.insert(place, Sleeper { run, awaited })?;
+    Ok(())
+}
