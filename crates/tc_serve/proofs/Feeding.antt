@@ -266,7 +266,7 @@ module _ (bytes piece rest : List ℕ) (b : ℕ) (behind : List ℕ) (v w : Serv
   stops_at_line written told' f stops read before before' input was =
       subst (λ (l : List ℕ). Stops l input before written before' told' f) (append_assoc read piece (10 ∷ behind) ∙ ap (λ (l : List ℕ). read ++ l) (sym whole)) (stops (read ++ piece) behind before before' input (fed read before before' was))
 
--- these bytes were taken but for the rest
+-- these bytes were taken, except the rest
 pub record IsTakenTo (bytes rest : List ℕ) (v w : Serving) (out written told told' : List ℕ) : Type 0 where
   pub before : List ℕ
   pub parts : bytes ≡ before ++ rest

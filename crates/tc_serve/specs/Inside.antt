@@ -217,7 +217,7 @@ pub record Stops (bytes : List ℕ) (input : Option (List ℕ)) (before out befo
 abbrev pub Feeds : List ℕ → Serving → Serving → List ℕ → List ℕ → List ℕ → List ℕ → Type 0
 Feeds bytes v w out written told told' = (read before before' : List ℕ) → IsFed read v before out before' told → IsFed (read ++ bytes) w before written before' told'
 
--- these bytes are taken but for the rest, which is shorter
+-- these bytes are taken, except the rest, which is shorter
 pub record TakesPiece (bytes rest : List ℕ) (v w : Serving) (out written told told' : List ℕ) : Type 0 where
   pub piece : List ℕ
   pub parts : bytes ≡ piece ++ rest
