@@ -127,15 +127,13 @@ self_test : (a : ℕ) → (a == a) ≡ true
 self_test a = grind (arith, nat_tests)
 
 -- the one at a place is it
-pub found_at : (r : ℕ) (ss : List Sleeper) (i : ℕ) (s : Sleeper) → i < length ss → s ≡ get_or ss i s → s.run ≡ r → sleep_in (take i ss) r ≡ None → Some s.awaited ≡ sleep_in ss r
-found_at r ss i s within is same none =
-    let here : drop i ss ≡ s ∷ drop (suc i) ss = drop-cons ss i s within ∙ ap (λ x. x ∷ drop (suc i) ss) (sym is) in
-    sym (ap (λ l. sleep_in l r) (sym (take-append-drop i ss) ∙ ap (λ l. take i ss ++ l) here) ∙ found r (take i ss) s (drop (suc i) ss) none (ap (λ k. k == r) same ∙ self_test r))
+pub found_at : (r : ℕ) (ss : List Sleeper) (i : ℕ) (d : Sleeper) → i < length ss → (get_or ss i d).run ≡ r → sleep_in (take i ss) r ≡ None → Some (get_or ss i d).awaited ≡ sleep_in ss r
+found_at r ss i d within same none =
+    sym (ap (λ l. sleep_in l r) (sym (take-append-drop i ss) ∙ ap (λ l. take i ss ++ l) (drop-cons ss i d within)) ∙ found r (take i ss) (get_or ss i d) (drop (suc i) ss) none (ap (λ (k : ℕ). k == r) same ∙ self_test r))
 
 -- or it is not
-pub not_at : (r : ℕ) (ss : List Sleeper) (i : ℕ) (s : Sleeper) → i < length ss → s ≡ get_or ss i s → s.run ≢ r → sleep_in (take i ss) r ≡ None → sleep_in (take (i + 1) ss) r ≡ None
-not_at r ss i s within is other none =
-    ap (λ l. sleep_in l r) (take_more ss i s within ∙ ap (λ x. take i ss ++ x ∷ []) (sym is)) ∙ not_found r (take i ss) s none (other_test s.run r other)
+pub not_at : (r : ℕ) (ss : List Sleeper) (i : ℕ) (d : Sleeper) → i < length ss → (get_or ss i d).run ≢ r → sleep_in (take i ss) r ≡ None → sleep_in (take (i + 1) ss) r ≡ None
+not_at r ss i d within other none = ap (λ l. sleep_in l r) (take_more ss i d within) ∙ not_found r (take i ss) (get_or ss i d) none (other_test (get_or ss i d).run r other)
 
 pub not_there : (r : ℕ) (ss : List Sleeper) (i : ℕ) → length ss ≤ i → sleep_in (take i ss) r ≡ None → None ≡ sleep_in ss r
 not_there r ss i beyond none = sym (ap (λ l. sleep_in l r) (sym (take_all i ss beyond)) ∙ none)

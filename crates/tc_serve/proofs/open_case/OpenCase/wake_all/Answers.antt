@@ -9,9 +9,9 @@ loop-place-init c = record { so_far = λ p closed before holds. woken_none p clo
 pub loop-place-preserved : goal.loop-place-preserved
 loop-place-preserved c = record {
   so_far = λ p closed before holds.
-      woken_one p closed before c.loop-place.self c.wake.new.self c.loop-place.place c.in_ok-wake.field-0 c.loop-place.out.items c.wake.new.out.items c.wake.requires (c.loop-place.invariant.so_far p closed before holds) c.in_ok-wake.ensures.ok c.in_ok-wake.ensures.next;
-  any = grind (arith, common_steps, c.in_ok-wake.ensures.any, c.loop-place.invariant.any);
+      woken_one p closed before c.loop-place.self c.wake.new.self c.loop-place.place c.in_ok-place.place c.loop-place.out.items c.wake.new.out.items (omega (arith, c.len.ensures, c.loop-place-test.true)) (c.loop-place.invariant.so_far p closed before holds) c.in_ok-place.ensures.ok c.in_ok-place.ensures.next;
+  any = grind (arith, common_steps, c.in_ok-place.ensures.any, c.loop-place.invariant.any);
 }
 
 pub returns-clause-ok : goal.returns-clause-ok
-returns-clause-ok c p closed before holds = woken_last p closed before c.loop-place.self c.loop-place.place c.loop-place.out.items c.loop-place-test.false (c.loop-place.invariant.so_far p closed before holds)
+returns-clause-ok c p closed before holds = woken_last p closed before c.loop-place.self c.loop-place.place c.loop-place.out.items (omega (arith, c.len.ensures, c.loop-place-test.false)) (c.loop-place.invariant.so_far p closed before holds)

@@ -11,4 +11,4 @@ pub returns-in-Some-current-clause-ok : goal.returns-in-Some-current-clause-ok
 returns-in-Some-current-clause-ok c =
     IfOk-weaker c.refuse.result _ _
     (λ told change. tells_run c.args.line.now c.in-Some.run' told c.args.self.now _ c.args.out.now.items c.refuse.new.out.items c.in-Some.ensures.0 c.in-Some.ensures.1
-    (opened_tries c.args.self.now c.in-Some-current.held.now c.refuse.new.self (added (L.Refused c.in-Some.run' why_refused)) told c.args.out.now.items c.refuse.new.out.items c.in-Some-current.is change)) c.refuse.ensures.ok
+    (opened_tries c.args.self.now c.in-Some-current.held c.refuse.new.self (added (L.Refused c.in-Some.run' why_refused)) told c.args.out.now.items c.refuse.new.out.items c.in-Some-current.is change)) c.refuse.ensures.ok

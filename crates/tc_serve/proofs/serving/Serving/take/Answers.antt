@@ -1,6 +1,5 @@
-use Rattle.std.proofs.Common.{refl}
 use Rattle.std.proofs.lemmas.List.{nil_from_length}
-use Rattle.tc_serve.proofs.Feeding.{fed_piece, stops_at_line, takes_all, takes_line}
+use Rattle.tc_serve.proofs.Feeding.{fed_piece, stops_at_line, stops_bytes, takes_all, takes_line}
 use Rattle.tc_serve.proofs.serving.Serving.take.Goals as goal
 
 pub returns-in-None-clause-ok : goal.returns-in-None-clause-ok
@@ -19,9 +18,12 @@ returns-in-Ok-clause-ok c =
     c.end_line.new.self c.end_line.new.out.items c.end_line.new.told.items c.in-Ok.ensures.ok
 
 pub returns-in-Err-clause-stopped : goal.returns-in-Err-clause-stopped
-returns-in-Err-clause-stopped c =
+returns-in-Err-clause-stopped c = stops_bytes c.args.bytes.now c.args.self.now c.args.out.now.items c.args.told.now.items
+
+pub returns-in-Err-end_line-clause-stopped : goal.returns-in-Err-end_line-clause-stopped
+returns-in-Err-end_line-clause-stopped c =
     let kept = c.in_default.ensures in
     let first = (rw c.in-Some.is at c.split_first.ensures.cases).0 in
     stops_at_line c.args.bytes.now c.cut_line.result.0.now c.cut_line.result.1.now _ c.in-Some.behind.now c.args.self.now c.keep.new.self c.args.out.now.items c.args.told.now.items c.cut_line.ensures.parts first (c.cut_line.ensures.behind _ _ first)
     (λ read before before' fed. fed_piece read c.cut_line.result.0.now c.args.self.now c.keep.new.self before _ before' _ fed c.cut_line.ensures.before kept.kept kept.server kept.lines kept.refused)
-    c.end_line.new.out.items c.end_line.new.told.items c.in-Err.fault c.in-Err.ensures.stopped
+    c.end_line.new.out.items c.end_line.new.told.items c.in-Err-end_line.fault c.in-Err-end_line.ensures.stopped
