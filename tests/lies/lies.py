@@ -13,6 +13,8 @@ class Lie:
     changes: Tuple[Tuple[str, str], ...]
     # the crate whose tests must fail: the program, or a crate of tests
     by: str = "ttrun"
+    # of the program's tests, those with this in their names are run too
+    shown: str = ""
 
 
 LIES = (
@@ -161,4 +163,59 @@ LIES = (
         return Err(CaseError::NoThread);
 """),
     ), "tc_exec_tests"),
+    Lie("a_line_of_sixty_bytes_is_cut", (
+        ("""if bytes.len() <= SHOWN { "`" }""", """if bytes.len() < SHOWN { "`" }"""),
+    ), shown="explain_a_line_of_sixty_bytes"),
+    Lie("an_error_ends_no_line", (
+        ("""pub const LINE_ENDS: [Slot; 2] = [ERROR, LINE_END];""", """pub const LINE_ENDS: [Slot; 2] = [LINE_END, LINE_END];"""),
+    ), "tc_script_tests"),
+    Lie("a_tab_is_told_as_a_zero_byte", (
+        ("""[9, ..] => Some("a tab"),""", """[9, ..] => Some("a zero byte, as UTF-16 has them"),"""),
+    ), "tc_script_tests"),
+    Lie("a_history_is_told_begun_as_a_test_case", (
+        ("""Sort::Histories => "a history began in line",""", """Sort::Histories => "a test case began in line","""),
+    ), "tc_script_tests"),
+    Lie("an_arrow_is_told_before_a_word_too", (
+        ("""slot.0 == END.0 || (last && is_among(&CALL_ENDS, slot)),""", """slot.0 == END.0 || last || is_among(&CALL_ENDS, slot),"""),
+    ), "tc_script_tests"),
+    Lie("histories_are_told_to_be_replayed", (
+        ("""Sort::Histories => (b"", b", which ttrun check and ttrun report read"),""", """Sort::Histories => (b"", b", which ttrun replay reads"),"""),
+    ), "tc_script_tests"),
+    Lie("a_run_is_understood_by_a_name", (
+        ("""    (STARTED, Test::Behaviour, "", ARGUMENTS),""", """    (STARTED, Test::Name, "", ARGUMENTS),"""),
+    ), "tc_script_tests"),
+    Lie("the_rule_of_arguments_is_told_of_the_main_behaviour", (
+        ("""the first behaviour of a test case is started by nobody, who could give it arguments""",
+         """a start gives as many arguments as the behaviour has parameters"""),
+    ), "tc_script_tests"),
+    Lie("a_step_names_the_place_before", (
+        ("""append_number(out, u64::from(index) + 1)""", """append_number(out, u64::from(index))"""),
+    ), "tc_explore_tests"),
+    Lie("a_wait_for_done_is_told_as_one_for_killed", (
+        ("""append_text(out, if *killed { " killed" } else { " done" })?;""", """append_text(out, if *killed { " done" } else { " killed" })?;"""),
+    ), "tc_explore_tests"),
+    Lie("the_columns_of_a_race_are_told_apart", (
+        ("""    &EMPTY[text.len().min(COLUMN)..]""", """    &EMPTY[(text.len() + 1).min(COLUMN)..]"""),
+    ), "tc_explore_tests"),
+    Lie("where_a_run_is_goes_untold", (
+        ("""            push_text(parts, b", where run")?;""", """            push_text(parts, b", run")?;"""),
+    ), shown="steps_behind_a_wait_are_dead"),
+    Lie("a_cut_race_is_told_as_a_whole_one", (
+        ("""append_parts(alloc, out, &[Part::Text(b" ..")])""", """append_parts(alloc, out, &[Part::Text(b"")])"""),
+    ), shown="a_long_race"),
+    Lie("eleven_rows_of_a_race_are_shown", (
+        ("""pub const ROWS: usize = 12;""", """pub const ROWS: usize = 11;"""),
+    ), shown="a_long_race"),
+    Lie("the_tip_names_check", (
+        ("""tip: ttrun run < {word}""", """tip: ttrun check < {word}"""),
+    ), shown="refused_file_"),
+    Lie("a_clash_is_told_the_other_way_round", (
+        ("""conflict_error(alloc, command, first, second)?""", """conflict_error(alloc, command, second, first)?"""),
+    ), shown="refused: report"),
+    Lie("the_help_counts_shards_from_0", (
+        ("""is K - 1 modulo N.""", """is K modulo N."""),
+    ), shown="help_"),
+    Lie("the_help_of_serve_opens_smaller_test_cases", (
+        ("""opens a test case of N behaviours, 1 to 256""", """opens a test case of N behaviours, 1 to 64"""),
+    ), shown="help_"),
 )

@@ -7,8 +7,8 @@ It is no part of the gate. The prover is shown the lies of tests/lies/edits/CRAT
 crates/CRATE/must-fail: each must be refused by a clause, which its line names. It takes a proof of each crate that has some,
 and 10 to 60 seconds for each lie. The tests are shown those of lies.py. The program is built without a proof once for each of
 them, and once as it is, which takes about a minute each. Some of tests/program that need only a plain standard input are run by
-`rt try --cases`: at least one must fail. If a lie names a crate of tests, `rt try --test` runs that one's
-tests in their place. The last line is 'N passed, M failed'.
+`rt try --cases`, with those that a lie names: at least one must fail. If a lie names a crate of tests, `rt try --test` runs that
+one's tests in their place. The last line is 'N passed, M failed'.
 """
 from __future__ import annotations
 
@@ -21,7 +21,7 @@ import subprocess
 import sys
 import tempfile
 from concurrent.futures import ThreadPoolExecutor
-from typing import Iterator, List, Tuple
+from typing import Iterator, List, Set, Tuple
 
 sys.dont_write_bytecode = True
 TOP = os.path.dirname(os.path.dirname(os.path.dirname(os.path.abspath(__file__))))
@@ -29,6 +29,7 @@ sys.path.append(os.path.join(TOP, "tests", "program"))
 
 import documents_run
 import examples
+import explain
 import prover
 import rows
 import scripts
@@ -47,12 +48,19 @@ PROGRAM = "ttrun"
 SECONDS = "20"
 
 
-def plain_cases() -> List[Case]:
-    """The tests that a file and words make: all of examples/ and of the sizes, and some of the others."""
+def is_plain(case: object) -> bool:
+    """Whether a test is made of nothing but a file and words."""
+    return (isinstance(case, Case) and not (case.redirect or case.limit or case.is_broken) and len(case.given) < LONGEST
+            and all(isinstance(word, str) and word for word in case.words))
+
+
+def plain_cases(shown: Set[str]) -> List[Case]:
+    """The tests that a file and words make: all of examples/ and of the sizes, and of the others some, and those with one of these in
+    their names."""
     every: List[Case] = []
-    for group, step in ((examples, 1), (documents_run, 1), (sizes, 1), (rows, EVERY), (scripts, EVERY), (words, EVERY)):
-        plain = [it for it in group.cases() if isinstance(it, Case) and not (it.redirect or it.limit or it.is_broken)]
-        every += [it for it in plain if len(it.given) < LONGEST and all(isinstance(word, str) and word for word in it.words)][::step]
+    for group, step in ((examples, 1), (documents_run, 1), (sizes, 1), (rows, EVERY), (scripts, EVERY), (words, EVERY), (explain, EVERY)):
+        plain = [it for it in group.cases() if is_plain(it)]
+        every += [it for at, it in enumerate(plain) if at % step == 0 or any(word in it.name for word in shown)]
     return every
 
 
@@ -149,7 +157,8 @@ def tried(lie: Lie, rt: List[str], cases: List[Case], wanted: bool) -> Tuple[boo
 
 def shown_to_tests(only: str, jobs: int, rt: List[str]) -> Iterator[Tuple[bool, str]]:
     """Tries the program and the crates of tests as they are, and then with each lie of the tests."""
-    cases, lies = plain_cases(), [it for it in LIES if only in it.name]
+    lies = [it for it in LIES if only in it.name]
+    cases = plain_cases({it.shown for it in lies if it.shown})
     truths = [Lie(f"{by}_as_it_stands", (), by) for by in sorted({it.by for it in lies})]
     chosen = [*((it, False) for it in truths), *((it, True) for it in lies)]
     with ThreadPoolExecutor(jobs) as pool:

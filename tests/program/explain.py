@@ -129,6 +129,9 @@ TEXTS: List[Tuple[str, Tuple[str, ...], bytes, Tuple[str, ...]]] = [
     ("a_long_line", ("run",), b"testcase " + b"1" * 1000 + b"\n",
      ("line 1: bad name", "line: `testcase " + "1" * 51 + "`..", "column 10: `" + "1" * 60 + "`..",
       "understood there: the name of a test case")),
+    ("a_line_of_sixty_bytes", ("run",), b"testcase " + b"1" * 51 + b"\n",
+     ("line 1: bad name", "line: `testcase " + "1" * 51 + "`", "column 10: `" + "1" * 51 + "`",
+      "understood there: the name of a test case")),
 ]
 
 

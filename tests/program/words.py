@@ -10,7 +10,9 @@ from case import Case, SomeText, Word
 COMMANDS = ("run", "serve", "check", "replay", "explore", "report", "ttrun run < FILE", "No word at all means run",
             "Status of run, serve, replay and report: 0 for none and pass, 1 for inconc and\nfail, 2 for error.",
             "Status of check: 0 where each history is legal.",
-            "Status of explore: 0 where each test case has one verdict, 1 where one has several.", "standard error says which.\n")
+            "Status of explore: 0 where each test case has one verdict, 1 where one has several.",
+            "3 says that a test case was aborted, a history is not legal, or a search met its limit;\n"
+            "or that the command line or the input was refused, or a device or the memory failed:\nstandard error says which.\n")
 EXPLAIN = "after a fault's line, says what stands there and what would be understood\n"
 # A line for each option, as it is in the help.
 ALL_OPTIONS = ("runs the campaign of a script, and writes its report\n",
@@ -25,7 +27,10 @@ ALL_OPTIONS = ("runs the campaign of a script, and writes its report\n",
                "  --only <NAME>        runs this test case; may be given again, for others\n",
                "  --shard <K/N>        runs the K-th of N shards of the test cases\n",
                "  --explain            " + EXPLAIN,
-               "ttrun run < FILE", "none, pass, inconc, fail or error",
+               "ttrun run < FILE",
+               "VERDICT is none, pass, inconc, fail or error. Of the chosen test cases the K-th of N\n"
+               "shards, K from 1 to N, has those whose place, from 0, is K - 1 modulo N.\n"
+               "--list stands with --only and --shard alone, and --junit not with --live.\n",
                "Status: 0 for none and pass, 1 for inconc and fail, 2 for error, 3 for an abort or a refusal.\n")
 EXPLORE = ("looks for every overall verdict that a schedule of a test case can give\n",
            "  --history     writes a history for each verdict that was found\n",
@@ -37,7 +42,12 @@ REPORT = ("reads histories, and writes them in one of these forms\n",
 CHECK = ("replays histories, and says which are legal\n", "  --explain  " + EXPLAIN)
 REPLAY = ("replays a list of moves, and prints each reply and the overall verdict\n", "  --explain  " + EXPLAIN)
 SERVE = ("answers moves line by line, and writes evidence of the test cases\n",
-         "Standard input is lines, each answered as soon as it has come:\n", "  case NAME N ", "  behaviour K NAME ", "  MOVE ", "  B # TEXT ", "  end ",
+         "Standard input is lines, each answered as soon as it has come:\n",
+         "  case NAME N       opens a test case of N behaviours, 1 to 256\n",
+         "  behaviour K NAME  names the behaviour of run K\n",
+         "  MOVE              a move of a list, but no wake: its reply\n",
+         "  B # TEXT          a remark of run B, 1 to 200 printable ASCII bytes\n",
+         "  end               closes the test case: its overall verdict\n",
          "Standard output is evidence of the test cases. A refused line changes nothing;\noutside a test case it ends the service.\n",
          "Status: 0 for none and pass, 1 for inconc and fail, 2 for error and for a test\ncase that is not over, 3 for a refused line or a fault.\n")
 
@@ -288,6 +298,15 @@ DEAD_TOLD = (b"t error complete\n  error: mtc error, 1 none\n"
 # Of this no step is dead.
 PLAIN = b"testcase t\nbehaviour main\ncreate p\nstart p w\nwait done p\nend\nbehaviour w\nsetverdict pass\nend\nend\n"
 
+# A race of which one side has thirteen entries, and twelve rows are shown.
+LONG = (b"testcase t\nbehaviour main\ncreate p\nstart p w\nend\n"
+        b"behaviour w\nsetverdict fail\n" + b"getverdict\n" * 10 + b"end\nend\n")
+LONG_TOLD = "".join(f"{it}\n" for it in (
+    "t none fail complete", "  none: mtc none, 1 none", "  fail: mtc none, 1 fail", "  none and fail: alike for 2 entries",
+    f"  {'none':<36} | fail", f"  {'0 finish -> ok':<36} | 1 setverdict fail -> ok",
+    f"  {'1 setverdict fail -> ended':<36} | 1 getverdict -> fail", *(f"  {'':<36} | 1 getverdict -> fail",) * 9,
+    f"  {'':<36} | 1 finish -> ok", "  ..")).encode()
+
 STATES = b"ttrun: --states takes a number from 1 to 1000000\n"
 SHARD = b"ttrun: --shard takes K/N, with K from 1 to N\n"
 
@@ -313,6 +332,7 @@ def of_explore() -> List[Case]:
     found.append(Case("three_states_are_not_complete", ("explore", "--states", "3"), LOOSE, b"t none undecided after 3 states\n", status=3))
     found.append(Case("a_race_is_told_complete", ("explore",), RACE, b"t none fail complete\n", status=1))
     found.append(Case("steps_behind_a_wait_are_dead", ("explore", "--details"), DEAD, DEAD_TOLD))
+    found.append(Case("a_long_race_is_cut", ("explore", "--details"), LONG, LONG_TOLD, status=1))
     found.append(Case("no_step_is_dead", ("explore", "--details"), PLAIN, b"t pass complete\n  pass: mtc none, 1 pass\n"))
     found.append(Case("no_step_is_told_dead_by_half_a_search", ("explore", "--details", "--states", "1"), DEAD,
                       b"t undecided after 1 states\n", status=3))
