@@ -15,19 +15,21 @@ import subprocess
 import sys
 import tempfile
 import time
-from typing import Dict, List
+from typing import Callable, Dict, List, Tuple
 
 HERE = os.path.dirname(os.path.abspath(__file__))
 TOP = os.path.dirname(os.path.dirname(HERE))
-CRATE, EXPORT = "tc_engine", "tc_answer"
+CRATE, EXPORTS = "tc_engine", ("tc_answer", "host_alloc", "host_free")
 LAYOUT = "e-m:e-p:64:64-p10:8:8-p20:8:8-i64:64-i128:128-n32:64-S128"
 FEATURES = ("bulk-memory", "multivalue", "sign-ext", "nontrapping-fptoint")
 OPT_FEATURES = ("bulk-memory", "multivalue", "sign-ext", "nontrapping-float-to-int", "mutable-globals")
 # Bytes of the stack, and of the memory at most.
 STACK, MEMORY = 4 << 20, 2 << 30
-# What rattle starts instead of the kit's clang, with no environment.
+# What rattle starts instead of the kit's clang, with no environment. It keeps the bitcode, and leaves an empty file for the object of
+# x86-64, which nobody needs and would take half a minute. A call without bitcode is clang's.
 STAND_IN = """#!/bin/sh
-if [ -f module.bc ]; then cp module.bc {kept}; fi
+for word; do if [ "$last" = -o ]; then made=$word; fi; last=$word; done
+if [ -f module.bc ] && [ -n "$made" ]; then cp module.bc {kept} && : > "$made"; exit; fi
 exec {clang} "$@"
 """
 # What the bitcode may ask of others; anything else is not linked.
@@ -62,15 +64,20 @@ def below() -> List[str]:
     return met[1:]
 
 
-def is_built() -> bool:
-    """Whether each of these crates is built, and none of its sources is newer."""
-    for name in below():
-        folder = os.path.join(TOP, "crates", name)
-        made = os.path.join(folder, "out", "rlib", f"{name}.rlib", "format")
-        files = [os.path.join(at, it) for part in ("src", "specs", "proofs") for at, _, its in os.walk(os.path.join(folder, part)) for it in its]
-        if not os.path.exists(made) or max(map(os.path.getmtime, files)) > os.path.getmtime(made):
-            return False
-    return True
+def is_built(folder: str) -> bool:
+    """Whether each of these crates is built of its sources as they are. The kit keeps a sum of them, so no time of a file is asked."""
+    sys.path.append(os.path.join(folder, "bin"))
+    try:
+        import rtlib
+        sums: Dict[str, str] = {}
+        made = rtlib.Crate.stamp
+        rtlib.Crate.stamp = lambda crate: sums.get(crate.folder) or sums.setdefault(crate.folder, made(crate))
+        return all(crate.is_built() for crate in rtlib.Crate(os.path.join(TOP, "crates", CRATE), TOP, {}).below())
+    except (Exception, SystemExit) as fault:  # another kit may have no such call
+        print(f"engine: this kit does not say whether a crate is built: {fault}", flush=True)
+        return False
+    finally:
+        sys.path.pop()
 
 
 def kit() -> str:
@@ -113,7 +120,7 @@ def keep_bitcode(folder: str, room: str) -> str:
             os.symlink(os.path.join(folder, "toolchain", "bin", name), os.path.join(tools, "bin", name))
     words = build_words(folder, tools, os.path.join(room, "engine.a"))
     run([os.path.join(folder, "bin", "rattle"), *words[1:]], cwd=os.path.join(TOP, "crates", CRATE))
-    if not os.path.exists(kept):
+    if not os.path.exists(kept) or not os.path.getsize(kept):
         fail("this kit hands no module.bc to clang")
     return kept
 
@@ -146,7 +153,7 @@ def link(bitcode: str, folder: str, room: str) -> str:
         free = ["-ffreestanding", "-nostdinc", "-fno-builtin", "-fwrapv", "-Wall", "-Wextra", "-Wno-unused-parameter", "-Werror"]
         run([*clang, *to, "-O2", *free, "-c", os.path.join(HERE, f"{name}.c"), "-o", at(f"{name}.o")])
     os.symlink(os.path.join(folder, "toolchain", "bin", "ld.lld"), at("wasm-ld"))
-    exports = [f"--export={name}" for name in (EXPORT, "host_alloc", "host_free")]
+    exports = [f"--export={name}" for name in EXPORTS]
     run([at("wasm-ld"), "-mwasm64", "--no-entry", "--stack-first", "--fatal-warnings", f"--max-memory={MEMORY}", "-z", f"stack-size={STACK}",
          "--gc-sections", "--strip-all", *exports, at("engine.o"), at("heap.o"), at("helpers.o"), "-o", at("engine64.wasm")])
     return at("engine64.wasm")
@@ -162,21 +169,66 @@ def narrow(module: str, room: str) -> bytes:
         return file.read()
 
 
+def number_at(data: bytes, at: int) -> Tuple[int, int]:
+    """A number of a module, and where it ends."""
+    value, shift = 0, 0
+    while True:
+        value, shift, at = value | (data[at] & 0x7f) << shift, shift + 7, at + 1
+        if data[at - 1] < 0x80:
+            return value, at
+
+
+def exports_of(data: bytes) -> List[str]:
+    """The names that a module exports, by its section of exports."""
+    count, at = number_at(data, 0)
+    names = []
+    for _ in range(count):
+        size, at = number_at(data, at)
+        names.append(data[at:at + size].decode())
+        _, at = number_at(data, at + size + 1)
+    return names
+
+
+def hold_module(data: bytes) -> None:
+    """Ends without an engine if a module imports anything, or exports anything else than it should."""
+    if data[:8] != b"\0asm\1\0\0\0":
+        fail("wasm-opt wrote no module")
+    sections, at = {}, 8
+    while at < len(data):
+        kind, (size, start) = data[at], number_at(data, at + 1)
+        sections[kind], at = data[start:start + size], start + size
+    if 2 in sections:
+        fail("the module imports something")
+    if sorted(exports_of(sections.get(7, b"\0"))) != sorted((*EXPORTS, "memory")):
+        fail(f"the module has other exports: {', '.join(exports_of(sections.get(7, bytes(1))))}")
+
+
+def bitcode(folder: str, room: str, say: Callable[[str], None]) -> str:
+    """The bitcode of the sources as they are. What the crate is built on is proved first, if something has changed."""
+    if not is_built(folder):
+        say("proving what has changed")
+        run(["rt", "check", "--jobs", "2"], cwd=os.path.join(TOP, "crates", CRATE))
+    say("building, which proves the crate itself")
+    return keep_bitcode(folder, room)
+
+
+def linked(code: str, folder: str, room: str, say: Callable[[str], None]) -> bytes:
+    """The module of a bitcode."""
+    say("linking for WebAssembly")
+    module = link(code, folder, room)
+    say("a memory of 32 bits")
+    made = narrow(module, room)
+    hold_module(made)
+    return made
+
+
 def engine() -> bytes:
-    """The module, made of the sources as they are. What the crate is built on is proved first, if something has changed."""
+    """The module, made of the sources as they are."""
     began, folder = time.monotonic(), kit()
     say = lambda what: print(f"engine: {time.monotonic() - began:.0f} s, {what}", flush=True)
     if not shutil.which("wasm-opt"):
         fail("there is no wasm-opt on the path, of binaryen: apt-get install binaryen")
-    if not is_built():
-        say("proving what has changed")
-        run(["rt", "check", "--jobs", "2"], cwd=os.path.join(TOP, "crates", CRATE))
     with tempfile.TemporaryDirectory(prefix="engine-") as room:
-        say("building, which proves the crate itself")
-        bitcode = keep_bitcode(folder, room)
-        say("linking for WebAssembly")
-        module = link(bitcode, folder, room)
-        say("a memory of 32 bits")
-        made = narrow(module, room)
+        made = linked(bitcode(folder, room, say), folder, room, say)
     say(f"{len(made)} bytes")
     return made

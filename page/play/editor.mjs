@@ -10,7 +10,7 @@ function place() {
   $("#numbers").textContent = Array.from({ length: Math.max(shown, 0) }, (_, nth) => first + nth + 1).join("\n");
   $("#numbers").style.transform = `translateY(${first * LINE - scrollTop}px)`;
   const mark = $("#mark");
-  mark.hidden = !fault || (fault.line - 1) * LINE < scrollTop - LINE;
+  mark.hidden = !fault?.line || (fault.line - 1) * LINE < scrollTop - LINE;
   if (mark.hidden) return;
   mark.style.top = `${PAD + (fault.line - 1) * LINE - scrollTop}px`;
   const letters = $("#letters"), column = fault.column === null ? 0 : fault.column - 1;
@@ -18,15 +18,19 @@ function place() {
   letters.style.left = `calc(${PAD - scrollLeft}px + ${column}ch)`;
   letters.style.width = `${widthIn(fault)}ch`;
 }
-// Shows what is printed of a fault, with a button that goes to its place, and one that puts the nearest word there.
-export function showFault(found) {
+// Shows what is printed of a fault, with buttons that go to its place, put the nearest word there, or leave the carriage returns
+// out, which no editor has. A fault that is not `ofText` is the engine's.
+export function showFault(found, ofText = true, hasReturns = false) {
   fault = found;
-  $("#text").setAttribute("aria-invalid", Boolean(fault));
-  $("#fault").innerHTML = fault ? `<pre>${escaped(fault.printed)}</pre><div>${when(fault.line !== null,
-    `<button id="there">Go to line ${fault.line}</button>`)} ${when(fault.nearest,
-    `<button id="nearest">Put <code>${escaped(fault.nearest)}</code> there</button>`)}</div>` : "";
-  if ($("#there")) on($("#there"), "click", () => choosePlace(fault));
-  if ($("#nearest")) on($("#nearest"), "click", () => { choosePlace(fault); putWord(fault.nearest); });
+  $("#text").setAttribute("aria-invalid", Boolean(fault) && ofText);
+  const canGo = fault?.line && !$("#text").disabled, button = (id, words) => `<button id="${id}">${words}</button>`;
+  $("#fault").innerHTML = fault ? `<pre>${escaped(fault.printed)}</pre><div>${when(canGo, button("there", `Go to line ${fault.line}`))}
+    ${when(canGo && fault.nearest, button("nearest", `Put <code>${escaped(fault.nearest)}</code> there`))}
+    ${when(canGo && hasReturns, button("plain", "Leave out the carriage returns"))}</div>` : "";
+  const act = (id, what) => { if ($(id)) on($(id), "click", what); };
+  act("#there", () => choosePlace(fault));
+  act("#nearest", () => { choosePlace(fault); putWord(fault.nearest); });
+  act("#plain", () => $("#text").dispatchEvent(new Event("input")));
   place();
 }
 // Chooses the word at the fault, or its line.

@@ -1,6 +1,6 @@
 // What was found: the answer of `explore --details` read line by line, and shown as a table of verdicts.
 import { VERDICTS } from "../reading.mjs";
-import { app, chip, counted, when } from "../app.mjs";
+import { chip, counted, when } from "../app.mjs";
 import { escaped } from "../drawing.mjs";
 const FIRST = new RegExp(`^(\\w+)((?: (?:${VERDICTS.join("|")}))*) (complete|undecided after \\d+ states)$`);
 // Each test case with its verdicts, how its search ended, the lines below it, and the place of its first witness.
@@ -15,7 +15,7 @@ export function readExplored(output) {
   }
   return rows;
 }
-const about = ({ ending, verdicts }) => ending !== "complete" ? "Other verdicts can happen: the search met its limit." :
+const about = ({ ending, verdicts }) => ending !== "complete" ? "Other verdicts can happen: the search met its limit, which is set below the text." :
   verdicts.length > 1 ? "No schedule has another verdict." : "Each schedule has this verdict.";
 // The rows of the table. Until the witnesses are there, the verdicts are no links.
 export function exploredRows(rows, hasWitnesses) {
@@ -46,4 +46,3 @@ export const firstToShow = rows => {
   const row = rows.find(({ verdicts }) => verdicts.length > 1) ?? rows.find(({ lines }) => lines.some(line => /^ {2}stuck/.test(line))) ?? rows[0];
   return row && row.verdicts.length > 1 ? [row.from, row.from + 1] : row ? [row.from] : [];
 };
-export const isKnown = id => app.cases[id] !== undefined;

@@ -15,6 +15,7 @@ import hashlib
 import json
 import os
 import re
+import shutil
 import subprocess
 import sys
 from typing import Dict, List
@@ -65,11 +66,15 @@ def sources() -> List[str]:
     return found
 
 
+def tools() -> List[str]:
+    """What makes the engine of the proved program."""
+    return [f"page/engine/{name}" for name in ("build.py", "heap.c", "helpers.c")]
+
+
 def sums(engine: bytes) -> str:
     """What the engine is made of."""
-    tools = [f"page/engine/{name}" for name in ("build.py", "heap.c", "helpers.c")]
     version = lambda words: subprocess.run(words, capture_output=True, text=True, check=False).stdout.strip()
-    rows = (("sources of the program", sum_of(sources())), ("page/engine", sum_of(tools)), ("engine", hashlib.sha256(engine).hexdigest()))
+    rows = (("sources of the program", sum_of(sources())), ("page/engine", sum_of(tools())), ("engine", hashlib.sha256(engine).hexdigest()))
     return "".join(f"{name:24}{value}\n" for name, value in rows) + f"{'toolchain':24}{version(['rt', 'version'])}, {version(['wasm-opt', '--version'])}"
 
 
@@ -99,11 +104,42 @@ def kept() -> List[str]:
     return [ENGINE.search(text)[1], *SUMS.search(text).groups()]
 
 
+def packed(module: bytes) -> str:
+    """A module as it is in a page: packed, and spelled in letters."""
+    return base64.b64encode(gzip.compress(module, 9, mtime=0)).decode()
+
+
 def built() -> List[str]:
     """A new engine, its version, and what it is made of."""
     version = re.search(r'VERSION: &str = "([^"]*)"', read("crates", "tc_command", "src", "command.rt")) or build.fail("it has no version")
     module = build.engine()
-    return [base64.b64encode(gzip.compress(module, 9, mtime=0)).decode(), version[1], sums(module)]
+    return [packed(module), version[1], sums(module)]
+
+
+def hold_version(path: str, version: str) -> None:
+    """Ends unless the engine of a page, asked by node, answers that it has this version."""
+    if not shutil.which("node"):
+        print("the new engine was not asked anything, since there is no node: run tests/play/run.py where there is one")
+        return
+    asked = json.dumps([["--version"], ""]).encode() + b"\n"
+    ran = subprocess.run(["node", os.path.join(TOP, "tests", "play", "engine.mjs"), path], input=asked, capture_output=True, check=False)
+    status, output = json.loads(ran.stdout or "[3, \"\"]")[:2]
+    if (status, base64.b64decode(output).decode()) != (0, f"ttrun {version}\n"):
+        build.fail(f"asked for its version it answers {ran.stdout[:300]!r}, {ran.stderr[:300]!r}")
+
+
+def write(text: str, version: str, is_new: bool) -> None:
+    """Writes the page, whole or not at all."""
+    with open(f"{PAGE}.new", "w", encoding="ascii") as file:
+        file.write(text)
+    try:
+        if is_new:
+            hold_version(file.name, version)
+        os.replace(file.name, PAGE)
+    finally:
+        if os.path.exists(file.name):
+            os.remove(file.name)
+    print(f"page/play.html: {len(text)} bytes")
 
 
 def main() -> int:
@@ -112,14 +148,13 @@ def main() -> int:
     if words not in ([], ["--frame"], ["--check"]):
         print(__doc__, file=sys.stderr)
         return 3
-    text = page(*(kept() if words else built()))
+    parts = kept() if words else built()
+    text = page(*parts)
     if words == ["--check"]:
         is_made = text == open(PAGE, encoding="ascii").read()
         print("" if is_made else "page/play.html is not what its sources make: python3 page/play/make.py --frame\n", end="")
         return 0 if is_made else 1
-    with open(PAGE, "w", encoding="ascii") as file:
-        file.write(text)
-    print(f"page/play.html: {len(text)} bytes")
+    write(text, parts[1], not words)
     return 0
 
 

@@ -1,5 +1,5 @@
 // The worker: it holds the engine, which is the program as WebAssembly, and asks it one command after the other.
-const BACK = 1048576, LEAST = 65536;  // bytes of room for an output at first
+const MEGA = 1048576, LEAST = 65536;  // bytes of room for an output at first
 // The engine of a compiled module. After a call that breaks off, another engine is needed.
 class Engine {
   constructor(module) { this.exports = new WebAssembly.Instance(module, {}).exports; }
@@ -16,8 +16,8 @@ class Engine {
     return at;
   }
   // The status, the output and the errors for these arguments and this input, as bytes. If they have no room, they are asked for
-  // again with room for them.
-  answer(words, input, rooms = [BACK + 2 * input.length, LEAST]) {
+  // again with room for them, which a long search should not need.
+  answer(words, input, rooms = [MEGA + 2 * input.length + 14 * Math.min(input.length, MEGA), LEAST]) {
     const line = new TextEncoder().encode(words.map(word => `${word}\0`).join("")), given = [line, input];
     const held = [...given.map(bytes => this.hold(bytes)), ...[...rooms, 16].map(length => this.room(length))];
     const [, , output, errors, lengths] = held, pairs = [given[0], given[1]].flatMap((bytes, nth) => [held[nth], BigInt(bytes.length)]);
@@ -31,11 +31,12 @@ class Engine {
 }
 let engine = null;
 // A compiled module is taken first, and then questions, each of which is answered with its number.
-globalThis.onmessage = ({ data: { module, id, words, text } }) => {
+globalThis.onmessage = ({ data: { module, id, words, input } }) => {
   if (module) { engine = new Engine(module); return; }
   const began = performance.now(), decode = bytes => new TextDecoder().decode(bytes);
+  const given = typeof input === "string" ? new TextEncoder().encode(input) : input;
   try {
-    const { status, output, errors } = engine.answer(words, new TextEncoder().encode(text));
+    const { status, output, errors } = engine.answer(words, given);
     postMessage({ id, status, output: decode(output), errors: decode(errors), took: performance.now() - began });
   } catch (fault) { postMessage({ id, status: null, output: "", errors: `${fault}`, took: performance.now() - began }); }
 };

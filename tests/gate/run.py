@@ -161,7 +161,10 @@ def a_part_that_counts_nothing(room: str) -> None:
 
 @test
 def a_part_that_skips_some(room: str) -> None:
-    run(room, last=counted(page=8), page="echo '8 passed, 0 failed, 3 skipped'")
+    lines, errors = run(room, last=counted(page=8, play=2), page="echo '8 passed, 0 failed, 3 skipped'", play="echo '2 passed, 0 failed, 14 skipped'")
+    wanted = [f"gate: SKIPPED, since something is missing: {it}" for it in ("3 tests of the page that shows histories", "14 tests of the page to try")]
+    hold(lines[-3:-1] == wanted and errors.splitlines()[-2:] == wanted, f"it does not say at its end what is skipped: {lines[-4:]}, {errors}")
+    hold("SKIPPED" not in "".join(run(room)[0]), "it says of a part that skips nothing that it skips some")
     run(room, status=1, last=counted(1, page=1), page="echo '1 passed, 1 failed, 3 skipped'; exit 1")
     run(room, status=1, last=counted(1, page=0), page="echo '8 passed, 0 failed, some skipped'")
 

@@ -82,13 +82,13 @@ class Browser:
             raise RuntimeError(result["exceptionDetails"]["exception"].get("description"))
         return result["result"].get("value")
 
-    def open(self, path: str, width: int = 1280, height: int = 800, dark: bool = False) -> None:
-        """Opens a file in a window of this size and theme."""
+    def open(self, path: str, width: int = 1280, height: int = 800, dark: bool = False, after: str = "") -> None:
+        """Opens a file in a window of this size and theme, with this after the `#` of its address."""
         self.call("Emulation.setDeviceMetricsOverride", width=width, height=height, deviceScaleFactor=1, mobile=False)
         theme = [{"name": "prefers-color-scheme", "value": "dark" if dark else "light"}]
         self.call("Emulation.setEmulatedMedia", features=theme)
         self.call("Page.navigate", url="about:blank")
-        self.call("Page.navigate", url="file://" + os.path.abspath(path))
+        self.call("Page.navigate", url=f"file://{os.path.abspath(path)}{after and '#'}{after}")
         began = time.monotonic()
         while not self.js("location.protocol === 'file:' && document.readyState === 'complete'"):
             if time.monotonic() - began > SECONDS:
@@ -104,10 +104,20 @@ class Browser:
         """Presses keys, one after the other."""
         for key in keys:
             text = key if len(key) == 1 else "\r" if key == "Enter" else ""
-            code = {"Enter": 13, "Escape": 27}.get(key, 0)
+            code = {"Enter": 13, "Escape": 27, "Tab": 9}.get(key, 0)
             self.call("Input.dispatchKeyEvent", type="keyDown", key=key, code=key, text=text, windowsVirtualKeyCode=code)
             self.call("Input.dispatchKeyEvent", type="keyUp", key=key, code=key)
         self.settle()
+
+    def with_control(self, key: str) -> None:
+        """Presses a key with Ctrl."""
+        for kind in ("keyDown", "keyUp"):
+            self.call("Input.dispatchKeyEvent", type=kind, key=key, code=key, modifiers=2)
+        self.settle()
+
+    def type(self, text: str) -> None:
+        """Puts a text in where the cursor is, at once."""
+        self.call("Input.insertText", text=text)
 
     def click(self, selector: str) -> None:
         """Clicks on the middle of the first element of a selector."""

@@ -5,6 +5,7 @@ import base64
 import json
 import os
 import random
+import select
 import subprocess
 import sys
 from collections import Counter
@@ -43,6 +44,7 @@ class Context:
     node: str
     page: str
     seed: int
+    tree: str = TOP
 
 
 def hold(is_so: object, text: object) -> None:
@@ -64,14 +66,18 @@ class Engine:
 
     def __exit__(self, *_: object) -> None:
         self.process.stdin.close()
-        self.process.wait(SECONDS)
+        try:
+            self.process.wait(5)
+        except subprocess.TimeoutExpired:
+            self.process.kill()
 
-    def answer(self, words: Sequence[str], text: bytes, *how: str) -> Answer:
+    def answer(self, words: Sequence[str], text: bytes, *how: object) -> Answer:
         """The status, output and errors."""
         self.process.stdin.write(json.dumps([words, base64.b64encode(text).decode(), *how]).encode() + b"\n")
         self.process.stdin.flush()
-        line = self.process.stdout.readline()
-        hold(line, f"the engine broke off: {words}, {text[:300]!r}")
+        is_there = select.select([self.process.stdout], [], [], SECONDS)[0]
+        line = self.process.stdout.readline() if is_there else b""
+        hold(line, f"the engine {'broke off' if is_there else 'does not answer'}: {words}, {text[:300]!r}")
         status, output, errors, self.memory = json.loads(line)
         return status, base64.b64decode(output), base64.b64decode(errors)
 
@@ -153,12 +159,13 @@ def a_thousand_spoilt_texts(context: Context, engine: Engine) -> str:
     rng, met = random.Random(f"spoilt {context.seed}"), Counter()
     given = {ending: texts(ending) for ending in TASKS}
     for _ in range(1000):
+        met["texts"] += 1
         ending = rng.choice(list(TASKS))
         text = changed(rng, drawn_script(rng, False)) if ending == ".script" and rng.random() < 0.5 else \
             mutated(rng, rng.choice(given[ending])) if rng.random() < 0.4 else spoilt(rng, given[ending])
         words = rng.choice(TASKS[ending])
         compare(context, engine, met, (*words, "--states", "2000") if words[0] == "explore" and "--states" not in words else words, text)
-    return told(met, ("same", 900), ("explore 3", 50), ("check 3", 50), ("report 3", 100), ("replay 3", 100), ("run 3", 30))
+    return told(met, ("texts", 1000), ("same", 900), ("explore 3", 50), ("check 3", 50), ("report 3", 100), ("replay 3", 100), ("run 3", 30))
 
 
 def generated_searches(context: Context, engine: Engine) -> str:
@@ -167,8 +174,9 @@ def generated_searches(context: Context, engine: Engine) -> str:
     for _ in range(150):
         text = drawn_script(rng, False)
         for words in (("explore", "--details"), ("explore", "--history")):
+            met["searches"] += 1
             compare(context, engine, met, (*words, "--states", rng.choice(("100", "3000"))), text)
-    return told(met, ("same", 300), ("explore 0", 40), ("explore 1", 20), ("explore 3", 10))
+    return told(met, ("searches", 300), ("same", 300), ("explore 0", 40), ("explore 1", 20), ("explore 3", 10))
 
 
 def generated_histories(context: Context, engine: Engine) -> str:
@@ -188,33 +196,47 @@ def the_largest_inputs(context: Context, engine: Engine) -> str:
     for text, tasks in ((moves, REPLAYING), (history, CHECKING)):
         for words in tasks:
             for more in (b"", b"\n"):
+                met["largest"] += 1
                 compare(context, engine, met, words, text + more)
     for text in (sizes.many_behaviours(256), sizes.many_behaviours(257), sizes.single([f"create p{at}" for at in range(1000)]),
                  sizes.waiting(64, 1000), sizes.padded_script(1 << 20), sizes.padded_script((1 << 20) + 1)):
         for words in EXPLORING:
+            met["largest"] += 1
             compare(context, engine, met, (*words, "--states", "3000") if words[0] == "explore" and len(words) < 3 else words, text)
-    return told(met, ("same", 40))
+    return told(met, ("largest", 50), ("same", 40))
 
 
 def memory_is_refused(context: Context, engine: Engine) -> str:
-    """Without memory the answer says so, and with it the next one is right."""
-    met = Counter()
-    for words, text in ((("check",), sizes.longest_history()[0]), (("explore", "--details"), sizes.waiting(64, 1000)), (("replay",), sizes.longest_list()[0])):
-        hold(engine.answer(words, text, "narrowly") == (3, b"", b"ttrun: no memory\n"), words)
-        compare(context, engine, met, ("check",), texts(".history")[0])
-    return f"{met['same']} times, with {engine.memory} bytes"
+    """With memory for nothing or a part of the work the answer says so, or it is right; with memory again the next one is right."""
+    met, (moves, _), (history, _) = Counter(), sizes.longest_list(), sizes.longest_history()
+    script, small = sizes.waiting(64, 1000), texts(".history")[0]
+    wanted = program_answer(context, ("check",), small)
+    for words, text in ((("check",), history), (("report", "--csv"), history), (("explore", "--details"), script), (("explore", "--history"), script),
+                        (("run", "--explain"), script[:-5]), (("replay",), moves)):
+        whole = program_answer(context, words, text)
+        for left in (0, *(1 << power for power in range(17, 27))):
+            status, output, errors = found = engine.answer(words, text, "narrowly", left)
+            met["whole" if found == whole else "refused"] += 1
+            is_prefix = len(output) < len(whole[1]) and whole[1].startswith(output) or not output
+            hold(found == whole or (status, errors) == (3, b"ttrun: no memory\n") and is_prefix, f"{words} with {left} bytes: {str(found)[:300]}")
+            hold(engine.answer(("check",), small) == wanted, f"after {words} with {left} bytes")
+    told(met, ("refused", 12), ("whole", 12))
+    return f"{met['refused']} times refused, {met['whole']} not, with {engine.memory} bytes"
 
 
 def ten_thousand_calls_without_growth(context: Context, engine: Engine) -> str:
     """The memory is what it was after the first few hundred calls."""
     asked = [(words, text) for ending, tasks in TASKS.items() for text in texts(ending) for words in tasks]
+    met = Counter()
     with Engine(context) as other:
         for at in range(10_000):
             other.answer(*asked[at % len(asked)])
+            met["calls"] += 1
             if at == 300:
                 first = other.memory
         hold(other.memory == first, f"{first} bytes after 300 calls, {other.memory} after 10,000")
-        return f"{other.memory} bytes"
+        told(met, ("calls", 10_000))
+        return f"{met['calls']} calls, {other.memory} bytes"
 
 
 TESTS = (every_example_and_task, every_case_of_the_program, a_thousand_spoilt_texts, generated_searches, generated_histories,

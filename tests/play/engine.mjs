@@ -1,6 +1,6 @@
 // The engine of a page in node: node engine.mjs PAGE. A question is a line [words, input as base64], its answer a line [status,
-// output as base64, errors as base64, bytes of memory]. With "narrowly" as a third, nearly all memory is taken before the call, and
-// given back after it; with "small" there is room for 8 bytes of each output at first.
+// output as base64, errors as base64, bytes of memory]. With "narrowly" and a number nearly all memory is taken before the call, and
+// given back after it: one block of that size is left. With "small" there is room for 8 bytes of each output at first.
 import { readFileSync } from "node:fs";
 import { createInterface } from "node:readline";
 import { gunzipSync } from "node:zlib";
@@ -26,10 +26,12 @@ function answer([words, input, how]) {
   return [status, inLetters(output), inLetters(errors), memory.buffer.byteLength];
 }
 // The answer in rooms that are there already, so that only the engine itself can run out of memory.
-function narrowly(words, input) {
-  const line = Buffer.from(words.map(word => `${word}\0`).join("")), bytes = Buffer.from(input, "base64"), most = 1 << 16;
+function narrowly(words, input, left) {
+  const line = Buffer.from(words.map(word => `${word}\0`).join("")), bytes = Buffer.from(input, "base64"), most = 1 << 24;
   const rooms = [line, bytes].map(one => engine.hold(one)), [output, errors, lengths] = [most, most, 16].map(size => engine.room(size));
+  const spare = left && host_alloc(BigInt(left - 16));
   takeAll();
+  if (spare) host_free(spare);
   const status = engine.exports.tc_answer(rooms[0], BigInt(line.length), rooms[1], BigInt(bytes.length), output, BigInt(most), lengths,
     errors, BigInt(most), lengths + 8n) & 255;
   const [long, told] = new BigUint64Array(memory.buffer, Number(lengths), 2), made = [engine.bytes(output, long), engine.bytes(errors, told)];
@@ -39,5 +41,5 @@ function narrowly(words, input) {
 }
 for await (const line of createInterface({ input: process.stdin })) {
   const asked = JSON.parse(line);
-  process.stdout.write(`${JSON.stringify(asked[2] === "narrowly" ? narrowly(asked[0], asked[1]) : answer(asked))}\n`);
+  process.stdout.write(`${JSON.stringify(asked[2] === "narrowly" ? narrowly(asked[0], asked[1], asked[3]) : answer(asked))}\n`);
 }

@@ -1,4 +1,4 @@
-"""The page in Chromium, as one who tries it: what it shows is what the built program answers."""
+"""The page in a browser, as one who tries it: what it shows is what the built program answers."""
 from __future__ import annotations
 
 import json
@@ -19,6 +19,10 @@ FAULTY = "testcase t\nbehaviour main\n  setverdct pass\nend\nend\n"
 NOTED = "testcase t\nbehaviour main\n  setverdict pass\nend\nend\n"
 CHIPS = "$$('#rows tr').map(row => [row.cells[0].textContent, [...row.cells[1].querySelectorAll('.chip')].map(chip => chip.textContent), " \
         "row.cells[2].querySelector('span').textContent])"
+
+# What is shown as soon as the witnesses are searched for, and then an act.
+AGAIN = "new Promise(done => { const timer = setInterval(() => { if (!$('#took').textContent.includes('again for the witnesses, for ')) return; " \
+        "clearInterval(timer); done([%s, $('#head').textContent, $$('#rows a').length]); %s; }, 5); })"
 
 
 def tangled(cases: int, count: int, steps: int) -> str:
@@ -50,14 +54,12 @@ def until(page: Browser, what: str) -> None:
 
 def answered(page: Browser) -> None:
     """Waits until the text that is given is answered."""
-    until(page, "state.text === $('#text').value && state.answered === state.turn")
+    until(page, "state.later === null && state.answered === state.turn")
 
 
 def opened(context: Context, page: Browser, look: Tuple[int, int, bool] = LOOKS[0], after: str = "") -> None:
     """Opens the page again, with this at the end of its address, and waits for its first answer."""
-    page.open(context.page, *look)
-    if after:
-        page.js(f"location.hash = {json.dumps(after)}")
+    page.open(context.page, *look, after=after)
     answered(page)
 
 
@@ -92,13 +94,22 @@ def explored(context: Context, text: str, *words: str) -> Tuple[List[list], str]
     return [[row[0], [it for it in row[1:] if it in verdicts], " ".join(it for it in row[1:] if it not in verdicts)] for row in rows], output
 
 
-def each_witness(page: Browser, rows: List[list], details: str) -> int:
-    """Opens each witness, and holds its verdict, its end and the words next to it to the program's."""
-    number = 0
+def witnesses(context: Context, text: str, *words: str) -> List[List[str]]:
+    """The entries of each witness, as the program writes them."""
+    written = program_answer(context, ("explore", "--history", *words), text.encode())[1].decode()
+    return [block.split("\n")[1:-1] for block in re.split(r"(?m)^end \w+\n", written)[:-1]]
+
+
+def each_witness(context: Context, page: Browser, text: str, *words: str) -> int:
+    """Opens each witness, and holds its entries, its verdict, its end and the words next to it to the program's."""
+    rows, details = explored(context, text, *words)
+    number, wanted = 0, witnesses(context, text, *words)
+    same(sum(len(verdicts) for _, verdicts, _ in rows), len(wanted))
     for name, verdicts, _ in rows:
         for verdict in verdicts:
             page.go(f"#/{number}")
             same((name, verdict), (page.js("$('h2').textContent"), page.js("app.panes[0].chart.game.status")), name)
+            same(wanted[number], page.js("app.panes[0].chart.game.list.map(entry => entry.text)"), name)
             hold(f"verdict {verdict}" in page.js("(app.panes[0].chart.picture(''))"), name)
             number += 1
     stuck = [line[9:] for line in details.splitlines() if line.startswith("  stuck: ")]
@@ -109,7 +120,7 @@ def each_witness(page: Browser, rows: List[list], details: str) -> int:
 
 def every_example_in_each_look(context: Context, page: Browser) -> str:
     """Scripts, histories and moves, in both themes and widths."""
-    count, witnesses = 0, 0
+    count, drawn = 0, 0
     for look in LOOKS:
         opened(context, page, look)
         for name in page.js("[...$('#example').options].map(one => one.textContent)"):
@@ -120,12 +131,11 @@ def every_example_in_each_look(context: Context, page: Browser) -> str:
             elif name.endswith(".moves"):
                 same(program_answer(context, ("replay",), text.encode())[1].decode(), page.js("$('#main pre').textContent"), name)
             else:
-                rows, details = explored(context, text)
-                same(rows, page.js(CHIPS), name)
-                witnesses += each_witness(page, rows, details)
+                same(explored(context, text)[0], page.js(CHIPS), name)
+                drawn += each_witness(context, page, text)
             fits(page, look[2])
-    hold(count >= 4 * 18 and witnesses >= 4 * 18, (count, witnesses))
-    return f"{count} examples, {witnesses} witnesses"
+    hold(count >= 4 * 18 and drawn >= 4 * 18, (count, drawn))
+    return f"{count} examples, {drawn} witnesses"
 
 
 def two_verdicts_side_by_side(context: Context, page: Browser) -> str:
@@ -146,18 +156,17 @@ def two_verdicts_side_by_side(context: Context, page: Browser) -> str:
     race = page.js("$('#text').value").split("\n", 1)[1]
     both = race + race.replace("testcase t", "testcase u").replace("setverdict fail", "setverdict pass")
     give(page, both)
-    rows, details = explored(context, both)
-    same(rows, page.js(CHIPS))
+    same(explored(context, both)[0], page.js(CHIPS))
     links = "$$('#rows tr').map(row => [...row.querySelectorAll('a')].map(link => link.hash))"
     same([["#/0", "#/1", "#/0/1"], ["#/2", "#/3", "#/2/3"]], page.js(links))
-    return f"2 charts, {each_witness(page, rows, details)} witnesses"
+    return f"2 charts, {each_witness(context, page, both)} witnesses"
 
 
 def a_fault_is_marked_while_typing(context: Context, page: Browser) -> str:
     """Its line, its letters and all that --explain prints; the nearest word is put there by a button."""
     opened(context, page)
     page.js("$('#text').value = ''; $('#text').focus()")
-    page.call("Input.insertText", text=FAULTY), answered(page)
+    page.type(FAULTY), answered(page)
     wanted = program_answer(context, ("run", "--explain"), FAULTY.encode())[2].decode()
     same(wanted.rstrip(), page.js("$('#fault pre').textContent"))
     line, letters = page.js("[$('#mark'), $('#letters')].map(one => (r => [r.x, r.y, r.width, r.height])(one.getBoundingClientRect()))")
@@ -192,6 +201,7 @@ def a_history_is_checked_and_drawn(context: Context, page: Browser) -> str:
     status, output, _ = program_answer(context, ("check",), wrong.encode())
     same((3, "Not legal", output.decode().strip()), (status, page.js("$('#head').textContent"), page.js("$('#rows pre').textContent")))
     hold(page.js("!$('#mark').hidden && app.cases.length > 0"), "it is not marked, or not drawn")
+    same(output.decode().splitlines()[-1], page.js("$('#fault pre').textContent"))
     many = "".join(legal_case(f"t_{at}", 2, 2) for at in range(30))
     give(page, many)
     same(("30 histories, each legal", 30), (page.js("$('#head').textContent"), page.js("$$('.cases tbody tr').length")))
@@ -215,13 +225,25 @@ def a_search_is_told_and_stopped(context: Context, page: Browser) -> str:
             page.click("#stop")
             same("Stopped: nothing is known of the verdicts", page.js("$('#head').textContent"))
             same([0, 0], page.js("[$$('#rows tr').length, app.cases.length]"))
+        began = time.monotonic()
         give(page, NOTED)
+        hold(time.monotonic() - began < 15, f"{time.monotonic() - began:.0f} seconds: the search before was not ended")
         same([["t", ["pass"], "complete"]], page.js(CHIPS))
+    long = tangled(4, 9, 9)
+    for end in ("", "$('#stop').click()"):
+        page.js(f"$('#states').value = ''; $('#text').value = {json.dumps(long)}; $('#text').dispatchEvent(new Event('input'))")
+        rows, head, links = page.js(AGAIN % (CHIPS, end))
+        same([explored(context, long)[0], 0], [rows, links])
+        answered(page)
+        same([rows, head, True], [page.js(CHIPS), page.js("$('#head').textContent"), page.js("$('#stop').disabled")])
+        told = r"status [013], in [\d.]+ m?s" + ("; stopped before the witnesses came" if end else "")
+        hold(re.fullmatch(told, page.js("$('#took').textContent")), page.js("$('#took').textContent"))
+        same(0 if end else sum(len(verdicts) for _, verdicts, _ in rows), page.js("app.cases.length"))
     for states in ("1000", ""):
         page.js(f"$('#states').value = '{states}'; $('#text').value = $('#text').value"), give(page, many_behaviours(6).decode())
         limit = ("--states", states) if states else ()
         same(explored(context, many_behaviours(6).decode(), *limit)[0], page.js(CHIPS), states)
-    return "2 searches ended"
+    return "3 searches ended"
 
 
 def a_link_holds_the_script(context: Context, page: Browser) -> str:
@@ -229,13 +251,16 @@ def a_link_holds_the_script(context: Context, page: Browser) -> str:
     script = "# 100 % of a+b, #1?\ntestcase t\nbehaviour main\n  setverdict inconc\nend\nend\n"
     opened(context, page)
     give(page, script), page.click("#link")
+    until(page, "location.hash !== ''")
     address = page.js("location.href")
-    hold("#" in address and "The link is in the address" in page.js("$('#head').textContent"), address)
+    until(page, "$('#notice').textContent !== ''")
+    hold("#" in address and page.js("$('#notice').textContent").startswith("The link is "), address)
+    same([["t", ["inconc"], "complete"]], page.js(CHIPS))
     opened(context, page, LOOKS[1], address.split("#", 1)[1])
     same((script, [["t", ["inconc"], "complete"]], address), (page.js("$('#text').value"), page.js(CHIPS), page.js("location.href")))
     page.js("$('#text').focus()"), page.key("x"), answered(page)
     hold("#" not in page.js("location.href"), "another text under the old address")
-    opened(context, page, LOOKS[0], "%E0%A4%A"), opened(context, page, LOOKS[0], "/99")
+    opened(context, page, LOOKS[0], "/99")
     same("t", page.js("$('#rows b').textContent"))
     return f"{len(address)} letters"
 
@@ -245,30 +270,73 @@ def buttons_and_keys(context: Context, page: Browser) -> str:
     opened(context, page)
     page.click("#about")
     words = page.js("$('#proved').innerText")
-    hold(all(word in words for word in ("Not proved:", "heap.c", "helpers.c", "WebAssembly", "does not judge", "rattle-kit")), words)
+    hold(all(word in words for word in ("Not proved:", "build.py", "heap.c", "helpers.c", "WebAssembly", "does not judge", "rattle-kit")), words)
     fits(page, False), page.key("Escape")
     same(False, page.js("$('#proved').open"))
-    page.js("$('#text').focus()"), page.call("Input.dispatchKeyEvent", type="keyDown", key="Enter", code="Enter", modifiers=2), answered(page)
+    page.click("#about"), page.click("#proved form button")
+    same(False, page.js("$('#proved').open"))
+    page.js("$('#text').focus()"), page.with_control("Enter"), answered(page)
     page.key("Escape")
     same("BODY", page.js("document.activeElement.tagName"))
+    for act in (lambda: page.key("Escape"), lambda: page.click("#main .bar a")):
+        opened(context, page), act()
+        same(2, page.js("$$('.cases tbody tr').length"))
     page.go("#/1"), page.key("Home", "j")
     same(1, page.js("app.pane.chart.chosen"))
     page.key("w")
     same("1 setverdict fail -> ok", page.js("$('.state code').textContent"))
     page.click("#mermaid")
     hold(page.js("$('dialog textarea').value").startswith("sequenceDiagram"), "no diagram")
-    page.key("Escape"), page.key("Escape")
-    same(2, page.js("$$('.cases tbody tr').length"))
+    page.key("Escape")
+    page.js("window.saved = new Promise(done => { const make = URL.createObjectURL; URL.createObjectURL = made => { URL.createObjectURL = make; "
+            "done(made.text()); return make(made); }; }), 1")
+    page.click("#save")
+    hold(page.js("window.saved").startswith('<svg xmlns="http://www.w3.org/2000/svg" class="chart"'), "no picture is saved")
+    same("t, ttrun in a page", page.js("document.title"))
+    keys_of_cases(page)
+    for text, name in (("# one\n \t# two\n\n" + NOTED, "Explore"), ("# one\n\nhistory 2 t 1\n", "Check"), ("\n\nbehaviours 3\n", "Replay"),
+                       ("evidence 1 t 1\n0 finish -> ok\nend none\n", "Check"), ("# history\nevidences", "Explore"), ("", "Explore")):
+        give(page, text)
+        same([name, name != "Explore"], page.js("[$('#go').textContent, $('#states').disabled]"), text)
     page.click("#go"), answered(page)
+    return f"{places_by_tab(page)} places by Tab"
+
+
+def keys_of_cases(page: Browser) -> None:
+    """The keys that the words next to a chart name, over the cases of the first example."""
+    page.go("#/0"), page.key("]")
+    same("#/1", page.js("location.hash"))
+    page.key("]"), page.key("[")
+    same("#/0", page.js("location.hash"))
+    page.key("/")
+    same("search", page.js("document.activeElement.id"))
+    page.type("start"), page.key("Enter"), page.key("Escape"), page.key("Home", "n")
+    hold(page.js("app.pane.chart.chosen") >= 1, "n finds nothing")
+    page.key("N", "Escape")
+    same([2, "ttrun in a page"], page.js("[$$('.cases tbody tr').length, document.title]"))
+    page.key("/")
+    same("search", page.js("document.activeElement.id"))
+    page.key("Escape", "j", "Enter")
+    same("#/1", page.js("location.hash"))
+    page.js("$('#other').value = '0', $('#other').dispatchEvent(new Event('change'))"), page.settle()
+    same(["#/1/0", 2], page.js("[location.hash, $$('.pane').length]"))
+    for option in ("questions", "ended", "isFolded"):
+        page.click(f"[data-option={option}]"), page.click(f"[data-option={option}]")
+    page.js("$('#focus').value = '1', $('#focus').dispatchEvent(new Event('change'))"), page.settle()
+    same(1, page.js("app.options.focus"))
+    page.key("Escape")
+
+
+def places_by_tab(page: Browser) -> int:
+    """The places that Tab reaches. Nothing was loaded by then."""
     reached = []
     for _ in range(14):
-        page.call("Input.dispatchKeyEvent", type="keyDown", key="Tab", code="Tab", windowsVirtualKeyCode=9)
-        page.call("Input.dispatchKeyEvent", type="keyUp", key="Tab", code="Tab")
+        page.key("Tab")
         reached.append(page.js("document.activeElement.id || document.activeElement.tagName"))
     hold(len(set(reached)) >= 6, reached)
     loaded: Dict[str, object] = page.js("performance.getEntriesByType('resource').map(one => one.name).filter(name => !name.startsWith('blob:'))")
     same([], loaded)
-    return f"{len(set(reached))} places by Tab"
+    return len(set(reached))
 
 
 TESTS = (every_example_in_each_look, two_verdicts_side_by_side, a_fault_is_marked_while_typing, a_history_is_checked_and_drawn,
