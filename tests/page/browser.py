@@ -4,6 +4,7 @@ from __future__ import annotations
 import base64
 import json
 import os
+import select
 import shutil
 import subprocess
 import tempfile
@@ -48,6 +49,8 @@ class Browser:
     def receive(self) -> dict:
         """The next message of the browser."""
         while b"\0" not in self.buffer:
+            if not select.select([self.back], [], [], SECONDS)[0]:
+                raise RuntimeError(f"no answer in {SECONDS} seconds")
             piece = os.read(self.back, 1 << 20)
             if not piece:
                 raise RuntimeError("the browser has ended")

@@ -68,14 +68,12 @@ LIES = (
     ("build.py", 'sorted((*EXPORTS, "memory")):', 'sorted(exports_of(sections.get(7, b"\\0"))):', "a_wrong_module_is_refused"),
     ("make.py", '("build.py", "heap.c", "helpers.c")', '("build.py", "heap.c")', "the_sums_are_those_of_the_sources"),
     ("heap.c", "< n + sizeof(Head)) k++;", "< n) k++;", "every_case_of_the_program"),
-    ("heap.c", "        __builtin_memcpy(q, p, kept);\n        give(p);\n", "        __builtin_memcpy(q, p, kept);\n", "ten_thousand_calls_without_growth"),
+    ("heap.c", "        __builtin_memcpy(q, p, kept);\n        give(p);\n", "        __builtin_memcpy(q, p, kept);\n",
+     "ten_thousand_calls_without_growth"),
     ("heap.c", "__builtin_memcpy(q, p, kept);", "__builtin_memcpy(q, p, kept - (kept > 64));", "every_case_of_the_program"),
     ("heap.c", "        give(half + 1);\n", "", "memory_is_refused"),
-    ("heap.c", "return part(k);", "return 0;", "memory_is_refused"),
+    ("heap.c", "return part(k);", "return part(63);", "memory_is_refused"),
     ("heap.c", "Tried t = { p != 0,", "Tried t = { 1,", "memory_is_refused"),
-    ("heap.c", "    given[k] = *(void **)p;\n", "    given[k] = 0;\n", "ten_thousand_calls_without_growth"),
-    ("helpers.c", "p.high = a1 * b1 + (second >> 32)", "p.high = a1 * b1", "every_case_of_the_program"),
-    ("helpers.c", "s.low = n & 64 ? a.high >> (n & 63)", "s.low = n & 64 ? a.low >> (n & 63)", "every_case_of_the_program"),
 )
 
 
@@ -103,8 +101,19 @@ class Room:
         return tree
 
     def engine(self, builder: object) -> bytes:
-        """The engine that the scripts and the C of a tree make of the program."""
-        folder, say = builder.kit(), lambda what: None
+        """The engine that the scripts and the C of a tree make of the program, whose own object is compiled once."""
+        folder, say, run = builder.kit(), lambda what: None, builder.run
+
+        def run_once(words: List[str], **how: str) -> str:
+            kept = os.path.join(self.path, os.path.basename(words[-1]))
+            if not kept.endswith(("whole.ll", "engine.o")):
+                return run(words, **how)
+            if not os.path.exists(kept):
+                run([*words[:-1], kept], **how)
+            shutil.copyfile(kept, words[-1])
+            return ""
+
+        builder.run = run_once
         if not self.code:
             self.code = builder.bitcode(folder, self.path, say)
         with tempfile.TemporaryDirectory(dir=self.path) as room:

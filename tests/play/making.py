@@ -15,8 +15,10 @@ from beside import Context, hold
 
 # The text of a bitcode that can be retargeted, by its lines.
 HEAD = ('target datalayout = "e-m:e-p270:32:32-i64:64"', 'target triple = "x86_64-unknown-linux-gnu"')
-DECLARED = ("declare { i64, ptr } @rattle_alloc(i64, i64)", "declare void @rattle_dealloc(ptr)", "declare void @llvm.memcpy.p0.p0.i64(ptr, ptr, i64, i1)")
-DEFINED = ('define i8 @tc_answer(ptr %0) #0 {', "  ret i8 0", "}", 'attributes #0 = { "probe-stack"="inline-asm" "target-cpu"="x86-64-v2" nounwind }')
+DECLARED = ("declare { i64, ptr } @rattle_alloc(i64, i64)", "declare void @rattle_dealloc(ptr)",
+            "declare void @llvm.memcpy.p0.p0.i64(ptr, ptr, i64, i1)")
+DEFINED = ('define i8 @tc_answer(ptr %0) #0 {', "  ret i8 0", "}",
+           'attributes #0 = { "probe-stack"="inline-asm" "target-cpu"="x86-64-v2" nounwind }')
 # A stand-in for the kit's rattle: it starts the clang that it is given, as rattle does, in a folder with the bitcode.
 RATTLE = """#!/bin/sh
 while [ "$1" != --toolchain ]; do shift; done
@@ -83,7 +85,8 @@ def other_bitcode_is_refused(context: Context) -> str:
         (lines + ["declare i32 @write(i32, ptr, i64)"], "write"), (lines + ['declare void @"a_name"()'], "a_name"),
         (lines + ["declare i64 @llvm.x86.rdtsc()"], "code of the processor"), (lines + ["declare void @rattle_thread(ptr)"], "rattle_thread"),
         (lines[:6] + ['  call void asm sideeffect "pause", ""()'] + lines[6:], "code of the processor"),
-        (lines + ['module asm "nop"'], "code of the processor"), (lines[1:], "datalayout"), (lines[:1] + lines[2:], "triple"), (lines + [HEAD[1]], "triple")]
+        (lines + ['module asm "nop"'], "code of the processor"), (lines[1:], "datalayout"),
+        (lines[:1] + lines[2:], "triple"), (lines + [HEAD[1]], "triple")]
     for text, word in changes:
         fails(lambda text=text: build.retarget("\n".join(text) + "\n"), word)
     return f"{len(changes)} changes"

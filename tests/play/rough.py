@@ -117,8 +117,8 @@ def texts_too_long_to_edit(context: Context, page: Browser) -> str:
     same(len(lines), page.js("app.cases.length"))
     page.click("#close"), answered(page)
     same([True, False, "a race"], page.js("[$('#large').hidden, $('#text').disabled, $('#example').value]"))
-    paste = "(text => { const held = new DataTransfer(); held.setData('text/plain', text); return $('#text').dispatchEvent(new ClipboardEvent('paste', " \
-            "{ clipboardData: held, bubbles: true, cancelable: true })); })"
+    paste = "(text => { const held = new DataTransfer(); held.setData('text/plain', text); return $('#text').dispatchEvent(new ClipboardEvent(" \
+            "'paste', { clipboardData: held, bubbles: true, cancelable: true })); })"
     page.js(f"{paste}('short')")
     same(True, page.js("$('#large').hidden"))
     page.js(f"{paste}({json.dumps(campaign(40, 2_000_000))})"), answered(page)
@@ -149,7 +149,7 @@ def a_user_in_haste(context: Context, page: Browser) -> str:
     page.js("stop(), stop()"), page.click("#stop")
     same("Stopped: nothing is known of the verdicts", page.js("$('#head').textContent"))
     begin_long_search(page)
-    page.js(f"for (let at = 0; at < 30; at += 1) judge({json.dumps(FAULTY)} + at), judge({json.dumps(NOTED)})"), answered(page)
+    page.js(f"for (let at = 0; at < 30; at += 1) judge({json.dumps(FAULTY)} + at), judge({json.dumps(NOTED)}), 1"), answered(page)
     same([["t", ["pass"], "complete"]], page.js(CHIPS))
     page.js(f"$('#text').value = {json.dumps(FAULTY)}; $('#text').dispatchEvent(new Event('input')), $('#text').focus()")
     turn = page.js("state.turn")
@@ -193,7 +193,7 @@ def links_of_any_kind(context: Context, page: Browser) -> str:
         page.open(context.page, *LOOKS[0], after=after), answered(page)
         same([text, "your text", ""], page.js("[state.text, $('#example').value, $('#notice').textContent]"), after)
     for text, word in (("", "no text"), ("x" * 100_001, "too long"), ("x\ud800", "link"), (NOTED, "link")):
-        page.js(f"judge({json.dumps(text)})"), answered(page)
+        page.js(f"judge({json.dumps(text)}), 1"), answered(page)
         page.js("$('#notice').textContent = ''"), page.click("#link")
         until(page, "$('#notice').textContent !== ''")
         hold(word in page.js("$('#notice').textContent"), text[:20])
@@ -206,17 +206,18 @@ def an_engine_that_breaks_off(context: Context, page: Browser) -> str:
     opened(context, page)
     broken = "[$('#head').textContent, $('#text').getAttribute('aria-invalid'), $('#mark').hidden, $('#stop').disabled]"
     wanted = ["The engine gave no answer", "false", True, True]
-    page.js(f"end(), compiled = Promise.reject(new Error('it is not taken')), judge({json.dumps(NOTED)})"), answered(page)
+    page.js(f"end(), compiled = Promise.reject(new Error('it is not taken')), judge({json.dumps(NOTED)}), 1"), answered(page)
     same(wanted, page.js(broken))
     hold("it is not taken" in page.js("$('#fault').textContent"), page.js("$('#fault').textContent"))
-    page.js(f"end(), compiled = null, judge({json.dumps(NOTED)})"), answered(page)
+    page.js(f"end(), compiled = null, judge({json.dumps(NOTED)}), 1"), answered(page)
     same([["t", ["pass"], "complete"]], page.js(CHIPS))
     source = page.js("$('#worker').textContent")
-    page.js(f"end(), $('#worker').textContent = 'throw new Error(\"no such worker\")', judge({json.dumps(NOTED)})"), answered(page)
+    page.js(f"end(), $('#worker').textContent = 'throw new Error(\"no such worker\")', judge({json.dumps(NOTED)}), 1"), answered(page)
     same(wanted, page.js(broken))
-    page.js(f"end(), $('#worker').textContent = {json.dumps(source)}.replace('engine.answer(words, given)', 'null.x'), judge({json.dumps(NOTED)})"), answered(page)
+    page.js(f"end(), $('#worker').textContent = {json.dumps(source.replace('engine.answer(words, given)', 'null.x'))}, judge({json.dumps(NOTED)}), 1")
+    answered(page)
     same(wanted, page.js(broken))
-    page.js(f"end(), $('#worker').textContent = {json.dumps(source)}, judge({json.dumps(NOTED)})"), answered(page)
+    page.js(f"end(), $('#worker').textContent = {json.dumps(source)}, judge({json.dumps(NOTED)}), 1"), answered(page)
     same([["t", ["pass"], "complete"]], page.js(CHIPS))
     page.errors.clear()  # (which were meant)
     return "3 times"

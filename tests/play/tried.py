@@ -216,6 +216,8 @@ def a_history_is_checked_and_drawn(context: Context, page: Browser) -> str:
 def a_search_is_told_and_stopped(context: Context, page: Browser) -> str:
     """The page says that it searches; the button or another text ends the search, and the next one is answered."""
     opened(context, page)
+    page.js("window.ended = 0; const terminate = Worker.prototype.terminate; Worker.prototype.terminate = function () "
+            "{ window.ended += 1; return terminate.call(this); }; 1")
     long = tangled(20, 10, 10)
     for end in ("button", "text"):
         page.js(f"$('#states').value = '1000000'; $('#text').value = {json.dumps(long)}; $('#text').dispatchEvent(new Event('input'))")
@@ -243,6 +245,7 @@ def a_search_is_told_and_stopped(context: Context, page: Browser) -> str:
         page.js(f"$('#states').value = '{states}'; $('#text').value = $('#text').value"), give(page, many_behaviours(6).decode())
         limit = ("--states", states) if states else ()
         same(explored(context, many_behaviours(6).decode(), *limit)[0], page.js(CHIPS), states)
+    hold(page.js("window.ended") >= 3, f"{page.js('window.ended')} workers were ended")
     return "3 searches ended"
 
 
