@@ -139,8 +139,7 @@ def a_user_in_haste(context: Context, page: Browser) -> str:
     """Two edits at once, a key while a search is under way, a stop after a stop, another text in each moment of a search."""
     opened(context, page)
     turn = page.js("state.turn")
-    for text in (FAULTY, NOTED):
-        page.js(f"$('#text').value = {json.dumps(text)}; $('#text').dispatchEvent(new Event('input'))")
+    page.js(f"for (const text of {json.dumps([FAULTY, NOTED])}) {{ $('#text').value = text; $('#text').dispatchEvent(new Event('input')); }} 1")
     answered(page)
     same([turn + 1, ""], page.js("[state.turn, $('#fault').textContent]"))
     same([["t", ["pass"], "complete"]], page.js(CHIPS))
@@ -151,9 +150,10 @@ def a_user_in_haste(context: Context, page: Browser) -> str:
     begin_long_search(page)
     page.js(f"for (let at = 0; at < 30; at += 1) judge({json.dumps(FAULTY)} + at), judge({json.dumps(NOTED)}), 1"), answered(page)
     same([["t", ["pass"], "complete"]], page.js(CHIPS))
-    page.js(f"$('#text').value = {json.dumps(FAULTY)}; $('#text').dispatchEvent(new Event('input')), $('#text').focus()")
     turn = page.js("state.turn")
-    page.with_control("Enter"), answered(page)
+    page.js(f"$('#text').value = {json.dumps(FAULTY)}; $('#text').dispatchEvent(new Event('input')); $('#text').dispatchEvent("
+            "new KeyboardEvent('keydown', { key: 'Enter', ctrlKey: true, bubbles: true })); 1")
+    answered(page)
     time.sleep(0.4), answered(page)
     same([turn + 1, "The text is refused"], page.js("[state.turn, $('#head').textContent]"))
     for wait in (0, 1, 5, 20, 60, 200):
