@@ -39,7 +39,15 @@ EXPLORE = ("looks for every overall verdict that a schedule of a test case can g
 REPORT = ("reads histories, and writes them in one of these forms\n",
           "  --csv      writes a table as CSV\n", "  --junit    writes a JUnit suite\n",
           "  --html     writes a page for a browser\n", "  --explain  " + EXPLAIN)
-CHECK = ("replays histories, and says which are legal\n", "  --explain  " + EXPLAIN)
+CHECK = ("replays histories and evidence, and says which are legal\n",
+         "  --script   reads their script before them, and compares them with it\n", "  --explain  " + EXPLAIN,
+         "With --script the input is a script with histories or evidence of its test cases after\n"
+         "it: cat FILE EVIDENCE | ttrun check --script. After the lines of check a line says\n",
+         "  unknown NAME       the script has no test case NAME\n", "  twice NAME         NAME came before\n",
+         "  out of order NAME  a later test case came before\n",
+         "  no course NAME     this is no complete course of the scripts of NAME\n",
+         "  missing NAME       there is nothing of NAME\n",
+         "Status: 0 where each history is legal, and with --script no such line is printed;\notherwise 3.\n")
 REPLAY = ("replays a list of moves, and prints each reply and the overall verdict\n", "  --explain  " + EXPLAIN)
 SERVE = ("answers moves line by line, and writes evidence of the test cases\n",
          "Standard input is lines, each answered as soon as it has come:\n",
@@ -77,6 +85,9 @@ report => one of the arguments '--csv', '--junit' and '--html' is needed
 report -- => one of the arguments '--csv', '--junit' and '--html' is needed
 report --explain => one of the arguments '--csv', '--junit' and '--html' is needed
 check --explain --explain => the argument '--explain' cannot be used multiple times
+check --explain --script => the argument '--script' cannot be used with '--explain'
+check --script --explain => the argument '--script' cannot be used with '--explain'
+check --script --script => the argument '--script' cannot be used multiple times
 explore --details --details => the argument '--details' cannot be used multiple times
 explore --details --history => the argument '--history' cannot be used with '--details'
 explore --history --history => the argument '--history' cannot be used multiple times
