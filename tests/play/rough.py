@@ -117,8 +117,9 @@ def texts_too_long_to_edit(context: Context, page: Browser) -> str:
     same(len(lines), page.js("app.cases.length"))
     page.click("#close"), answered(page)
     same([True, False, "a race"], page.js("[$('#large').hidden, $('#text').disabled, $('#example').value]"))
-    paste = "(text => { const held = new DataTransfer(); held.setData('text/plain', text); return $('#text').dispatchEvent(new ClipboardEvent(" \
-            "'paste', { clipboardData: held, bubbles: true, cancelable: true })); })"
+    # Firefox keeps the data of a made ClipboardEvent back.
+    paste = "(text => { const held = new DataTransfer(), event = new Event('paste', { bubbles: true, cancelable: true }); " \
+            "held.setData('text/plain', text); Object.defineProperty(event, 'clipboardData', { value: held }); return $('#text').dispatchEvent(event); })"
     page.js(f"{paste}('short')")
     same(True, page.js("$('#large').hidden"))
     page.js(f"{paste}({json.dumps(campaign(40, 2_000_000))})"), answered(page)
