@@ -60,8 +60,9 @@ fn without(alloc: Global, history: &[Entry], at: usize) -> Result<Vec<Entry>, Fa
 // The history with the entry at this place after the next.
 fn exchanged(alloc: Global, history: &[Entry], at: usize) -> Result<Vec<Entry>, Fail> {
     let mut entries = copied_entries(alloc, history)?;
-    if at + 1 < entries.len() {
-        entries.swap(at, at + 1);
+    let next = at.saturating_add(1);
+    if at < entries.len() && next < entries.len() {
+        entries.swap(at, next);
     }
     Ok(entries)
 }
