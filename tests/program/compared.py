@@ -72,6 +72,8 @@ REFUSED: List[Tuple[str, bytes, str]] = [
     ("no_script", text(f"{OF_A}"), "line 1: text ends too early"),
     ("no_block", text(SCRIPT), "line 1: text ends too early"),
     ("a_script_with_a_fault", text(f"testcase a;behaviour m;setverdict good;end;end;{OF_A}"), "line 3: line not understood"),
+    ("a_script_and_a_block_with_faults", text(f"testcase a;behaviour m;setverdict good;end;end;history 2 a 1;0 create"), "line 3: line not understood"),
+    ("a_script_with_a_fault_and_no_block", text("testcase a;behaviour m;setverdict good;end;end"), "line 3: line not understood"),
     ("a_script_that_is_cut", text(f"testcase a;behaviour m;{OF_A}"), "line 3: text ends too early"),
     ("a_cut_block", text(f"{SCRIPT};{OF_A};history 2 b 2;0 create -> made 1"), "line 7: text ends too early"),
     ("a_bad_entry", text(f"{SCRIPT};{OF_A};history 2 b 2;0 create"), "line 6: bad entry"),
