@@ -99,7 +99,7 @@ NUMBERS: Tuple[Tuple[str, str, str], ...] = (
     ("docs/texts.md", "TEXT has 1 to # bytes", "bytes of a sentence"),
     ("docs/texts.md", "at most # entries of each", "rows"),
     ("docs/texts.md", "The first column is at least # bytes wide", "column"),
-    ("docs/texts.md", "If it has more than # bytes, the first", "shown"),
+    ("docs/texts.md", "If a line or a word has more than # bytes, the first", "shown"),
     ("docs/guide.md", "at most # entries of both", "rows"),
     ("docs/guide.md", "1,000,000; # without `--states`", "states"),
     ("docs/guide.md", "one more for each # that the behaviours", "weight"),
