@@ -28,7 +28,7 @@ IDIOMS = (
     (r"tells?|told", "prints; says"), (r"behind", "after; under"), (r"alone", "only"), (r"so many", "that many"),
     (r"(?:goes|go|going|gone|went) on", "continues"), (r"(?:goes|go|going|went) by", "depends on"),
     (r"(?:exactly|none|nothing|only) where", "if"), (r"(?:is|are|was|were) to be", "must; will"),
-    (r"(?:says?|said) nothing of", "says nothing about"))
+    (r"(?:says?|said) nothing of", "says nothing about"), (r"also where", "also if"))
 # What begins a condition, or a question, in a sentence that is none.
 BEGINNING = re.compile(r"(?:Where|Who|Whose)\b")
 ELSE = re.compile(r"(?:^|[,;:.] |\bor )else\b", re.IGNORECASE)
