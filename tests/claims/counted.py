@@ -110,7 +110,7 @@ NUMBERS: Tuple[Tuple[str, str, str], ...] = (
     ("docs/board.md", "| n is 1 to # |", "behaviours"),
     ("docs/board.md", "if the number found is less than #, otherwise Ended", "closed"),
     ("docs/library.md", "a stack of `WORKER_STACK` bytes, # MiB", "stack in MiB"),
-    ("docs/library.md", "| # behaviours that each set a verdict |", "behaviours"),
+    ("docs/library.md", "measured, # behaviours that each set a verdict", "behaviours"),
     ("docs/architecture.md", "So # lines of definitions say", "headline"),
     ("docs/architecture.md", "executor as a library, have #.", "first crates"),
     ("docs/architecture.md", "Of the first, # are in `Inside`", "in Inside"),
