@@ -16,6 +16,7 @@ MOST_SENTENCES_OF_A_PARAGRAPH, MOST_MARKS_OF_A_SENTENCE = 6, 1
 FEWEST_COMMENTS = 5000
 # The sources whose comments are held to the words, besides the crates.
 HELD = (".py", ".mjs", ".hpp", ".cpp")
+SCRIPTS = ("ttrun", "gate", "release")
 # What a comment may name that no source defines: what the language and clap have, and a byte.
 KNOWN = ("Drop", "_", "DisplayHelp", "DisplayVersion")
 # Each idiom, and what is written instead. What is in backquotes is a name, and none of these.
@@ -157,6 +158,8 @@ def comments_of(path: str, text: str) -> Iterator[Tuple[int, str]]:
     """The paragraphs of the comments in a source, by its path; none of a file that is no source, or is not held to this."""
     if path.endswith(".py"):
         yield from python_comments(text)
+    elif path in SCRIPTS:
+        yield from comments(text, "#")
     elif path.endswith(HELD) or path.startswith("crates/") and path.endswith((".rt", ".antt")):
         yield from comments(text, marks_of(path))
 
@@ -165,7 +168,7 @@ def in_comments(top: str, paths: List[str]) -> Iterator[str]:
     """The same of the comments of the crates, of Python, of the page and of C++."""
     seen = 0
     for path in paths:
-        if path.endswith((".rt", ".antt", *HELD)):
+        if path in SCRIPTS or path.endswith((".rt", ".antt", *HELD)):
             with open(os.path.join(top, path), encoding="utf-8") as file:
                 for line, text in comments_of(path, file.read()):
                     seen += 1
