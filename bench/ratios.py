@@ -1,0 +1,186 @@
+#!/usr/bin/env python3
+"""Times `ttrun` next to a plain Rust program of the same job, run in turn, and prints one table of their ratios.
+
+usage: bench/ratios.py PROGRAM [--rounds N] [--only WORD] [--instructions] [--write]
+
+PROGRAM is the built ttrun. What both print is compared byte by byte first. A ratio is the median over the rounds of ttrun's processor
+time by its twin's, and its spread is what lies between the quarters of the rounds. `bench/ratios.txt` has the ratio and the
+spread of each row at the last release. A ratio that is above it by more than the spread fails, and then the status is 1. With --write
+the rows are written into the file, and none fails. With --instructions the ratios are of instructions, which valgrind counts in one
+round; nothing is compared with the file.
+"""
+from __future__ import annotations
+
+import argparse
+import os
+import re
+import statistics
+import subprocess
+import sys
+import tempfile
+from typing import Dict, Iterator, List, NamedTuple, Sequence, Tuple
+
+HERE = os.path.dirname(os.path.abspath(__file__))
+LANDED = os.path.join(HERE, "ratios.txt")
+
+
+class Row(NamedTuple):
+    """A job: the subcommand, what makes its input, and the source of its twin."""
+
+    command: str
+    made_by: Tuple[str, str]
+    twin: str
+
+
+SCRIPTS = ("many", "verdicts", "status", "parked_1", "parked_8", "parked_32", "stopped")
+ROWS: Dict[str, Row] = {
+    "replay": Row("replay", ("replay", "1048576"), "replay/twin.rs"),
+    "replay, a tenth": Row("replay", ("replay", "104857"), "replay/twin.rs"),
+    "check, one block": Row("check", ("check", "one"), "check/twin.rs"),
+    "check, 342 blocks": Row("check", ("check", "many"), "check/twin.rs"),
+    **{f"run, {it}": Row("run", ("campaign", it), "campaign/twin/main.rs") for it in SCRIPTS},
+}
+
+
+class Spent(NamedTuple):
+    """What a run of a program took."""
+
+    milliseconds: float
+    mebibytes: float
+
+
+class Sides(NamedTuple):
+    """The rounds of the program, and of its twin."""
+
+    ours: List[Spent]
+    theirs: List[Spent]
+
+    def ratios(self) -> List[float]:
+        return [our.milliseconds / their.milliseconds for our, their in zip(self.ours, self.theirs)]
+
+
+def built(source: str, work: str) -> str:
+    """The twin of this source, which is compiled once."""
+    program = os.path.join(work, source.replace("/", "_"))
+    if not os.path.exists(program):
+        subprocess.run(["rustc", "--edition", "2024", "-O", os.path.join(HERE, source), "-o", program], check=True)
+    return program
+
+
+def generated(row: Row, work: str) -> str:
+    """The path of the row's input."""
+    folder, word = row.made_by
+    path = os.path.join(work, f"{folder}_{word}")
+    with open(path, "wb") as file:
+        subprocess.run([sys.executable, os.path.join(HERE, folder, "generate.py"), word], stdout=file, check=True)
+    return path
+
+
+def output_of(words: Sequence[str], path: str) -> bytes:
+    with open(path, "rb") as given:
+        return subprocess.run(list(words), stdin=given, stdout=subprocess.PIPE, check=False).stdout
+
+
+def count_once(words: Sequence[str], path: str) -> Spent:
+    """Millions of instructions, without the peak memory."""
+    command = ["valgrind", "--tool=callgrind", "--callgrind-out-file=/dev/null", *words]
+    with open(path, "rb") as given:
+        ran = subprocess.run(command, stdin=given, stdout=subprocess.DEVNULL, stderr=subprocess.PIPE, check=False)
+    return Spent(float(re.search(rb"Collected : (\d+)", ran.stderr)[1]) / 1e6, 0)
+
+
+def counted(ours: Sequence[str], theirs: Sequence[str], path: str) -> Sides:
+    """Instructions, of one run of each."""
+    return Sides([count_once(ours, path)], [count_once(theirs, path)])
+
+
+def timed(measure: str, rounds: int, ours: Sequence[str], theirs: Sequence[str], path: str) -> Sides:
+    """Both programs in turn, so that other work meets both."""
+    ran = subprocess.run([measure, str(rounds), path, *ours, "--", *theirs], stdout=subprocess.PIPE, check=True, text=True)
+    lines = [[float(it) for it in line.split()] for line in ran.stdout.splitlines()]
+    return Sides([Spent(*it[:2]) for it in lines], [Spent(*it[2:]) for it in lines])
+
+
+def spread_of(ratios: List[float]) -> float:
+    """What lies between the quarters."""
+    if len(ratios) < 4:
+        return 0.0
+    first, _, third = statistics.quantiles(ratios, n=4)
+    return third - first
+
+
+def landed() -> Dict[str, Tuple[float, float]]:
+    """The ratio and the spread of each row at the last release."""
+    with open(LANDED, encoding="utf-8") as file:
+        lines = [it.split("\t") for it in file.read().splitlines() if not it.startswith("#")]
+    return {name: (float(ratio), float(spread)) for name, ratio, spread in lines}
+
+
+def write_landed(found: Dict[str, Tuple[float, float]]) -> None:
+    with open(LANDED, "w", encoding="utf-8") as file:
+        file.write("# The ratio of processor time to the twin's and its spread at the last release, by bench/ratios.py --write.\n")
+        file.writelines(f"{name}\t{ratio:.3f}\t{spread:.3f}\n" for name, (ratio, spread) in found.items())
+
+
+def is_slower(ratio: float, spread: float, before: Tuple[float, float]) -> bool:
+    """It is above that of the last release by more than the spread, which is the larger of the two."""
+    return ratio > before[0] + max(spread, before[1])
+
+
+def cells(sides: Sides, ratio: float, spread: float) -> Iterator[str]:
+    for side in sides:
+        yield f"{statistics.median(it.milliseconds for it in side):.2f}"
+    yield f"{ratio:.2f}"
+    yield f"{spread:.2f}"
+    for side in sides:
+        yield f"{max(it.mebibytes for it in side):.1f}"
+
+
+def read_words() -> argparse.Namespace:
+    parser = argparse.ArgumentParser(description="ttrun next to its twins, as ratios of processor time")
+    parser.add_argument("program")
+    parser.add_argument("--rounds", type=int, default=15)
+    parser.add_argument("--only", default="")
+    parser.add_argument("--instructions", action="store_true")
+    parser.add_argument("--write", action="store_true")
+    return parser.parse_args()
+
+
+def judged(name: str, ratio: float, spread: float, before: Dict[str, Tuple[float, float]]) -> Tuple[str, bool]:
+    """The last cell of a row, and whether the row fails."""
+    if name not in before:
+        return "", False
+    slower = is_slower(ratio, spread, before[name])
+    return f"{before[name][0]:.2f}{', SLOWER' if slower else ''}", slower
+
+
+def main() -> int:
+    asked = read_words()
+    unit = "million instructions" if asked.instructions else "ms"
+    before = {} if asked.instructions or not os.path.exists(LANDED) else landed()
+    found: Dict[str, Tuple[float, float]] = {}
+    failed = 0
+    print(f"| input | ttrun, {unit} | twin, {unit} | ratio | spread | ttrun, MiB | twin, MiB | last release |")
+    print("|---|---|---|---|---|---|---|---|")
+    with tempfile.TemporaryDirectory() as work:
+        measure = built("measure.rs", work)
+        for name, row in ROWS.items():
+            if asked.only not in name:
+                continue
+            path, ours, theirs = generated(row, work), [asked.program, row.command], [built(row.twin, work)]
+            if output_of(ours, path) != output_of(theirs, path):
+                print(f"ratios: {name}: the twin prints something else", file=sys.stderr)
+                return 1
+            sides = counted(ours, theirs, path) if asked.instructions else timed(measure, asked.rounds, ours, theirs, path)
+            ratio, spread = statistics.median(sides.ratios()), spread_of(sides.ratios())
+            found[name] = (ratio, spread)
+            told, slower = judged(name, ratio, spread, before)
+            failed += slower and not asked.write
+            print(f"| {name} | {' | '.join(cells(sides, ratio, spread))} | {told} |", flush=True)
+    if asked.write:
+        write_landed({**before, **found})
+    return 1 if failed else 0
+
+
+if __name__ == "__main__":
+    sys.exit(main())
