@@ -314,7 +314,7 @@ public:
         }
     }
 
-    // The next line, without its line feed; nothing at the end, also where the last line is cut.
+    // The next line, without its line feed; nothing at the end, also if the last line is cut.
     std::optional<std::string> read() {
         auto end = kept_.find('\n');
         while (end == std::string::npos && kept_.size() < most_of_a_line) {

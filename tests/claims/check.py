@@ -31,9 +31,9 @@ from texts import Judged
 
 # The tables whose cells name what is in the sources: document, section or none for all, and the fewest rows.
 TABLES = (("docs/proved.md", "", 60), ("docs/architecture.md", "From a question to its place", 50),
-          ("docs/guide.md", "Limits", 8), ("CONTRIBUTING.md", "Add an operation", 8))
+          ("CONTRIBUTING.md", "Add an operation", 8))
 # The columns of these tables that are in words, with quotations of texts among them.
-IN_WORDS = ("crate", "question", "rule", "at most", "beyond it", "what there is")
+IN_WORDS = ("crate", "question", "rule")
 WIDTH = 120
 MOST_WORDS_OF_THE_README = 1000
 FEWEST_LINES_OF_A_LIBRARY, MOST_LINES_OF_A_CRATE = 20, 35

@@ -16,6 +16,7 @@ sys.path += [os.path.join(TOP, it) for it in ("tests/program", "tests/lies")]
 
 import believed
 import edits
+import plain
 from documents import read
 
 WORDS = ("none", "one", "two", "three", "four", "five", "six", "seven", "eight", "nine", "ten", "eleven", "twelve")
@@ -52,6 +53,12 @@ def believed_lines(of_headline: bool = False, first: int = 0, inside: bool = Fal
     return believed.lines_of({it for it in places if not inside or ".Inside" in it[0]}, all_of)
 
 
+def found_number(path: str, pattern: str) -> int:
+    """The number that a pattern finds in a file."""
+    return int(re.search(pattern, text_of(path))[1].replace("_", ""))
+
+
+ENTRY = ("crates/tc_parts_tests/src/entries.rt", r"size_of::<Entry>\(\), (\d+)")
 LIMITS, INPUTS, WORKER = "crates/tc_entry/src/limits.rt", "crates/tc_program/src/limits.rt", "crates/tc_exec/src/worker.rt"
 COUNTS: Dict[str, Callable[[], int]] = {
     "behaviours": lambda: constant(LIMITS, "BEHAVIOURS"),
@@ -64,6 +71,7 @@ COUNTS: Dict[str, Callable[[], int]] = {
     "test cases": lambda: constant("crates/tc_script/src/limits.rt", "TEST_CASES"),
     "behaviours of format 1": lambda: constant("crates/tc_history/src/header.rt", "FORMAT_1_BEHAVIOURS"),
     "states": lambda: constant("crates/tc_command/src/word.rt", "STATES"),
+    "most states": lambda: found_number("crates/tc_command/src/word.rt", r"--states takes a number from 1 to (\d+)"),
     "kept": lambda: constant("crates/tc_explore/src/explored.rt", "KEPT"),
     "weight": lambda: constant("crates/tc_explore/src/explored.rt", "SIZE_OF_ONE_MORE"),
     "bytes of histories": lambda: constant(INPUTS, "HISTORY_LIMIT"),
@@ -85,6 +93,13 @@ COUNTS: Dict[str, Callable[[], int]] = {
     "starts": lambda: constant(LIMITS, "BEHAVIOURS") - 1,
     "parallel components": lambda: constant(LIMITS, "COMPONENTS") - 1,
     "states of Titan": lambda: constant("clients/titan/titan_logs/limits.py", "STATES"),
+    "bytes of an entry": lambda: found_number(*ENTRY),
+    "bytes of a recorded call": lambda: 2 * found_number(*ENTRY),
+    "states of a plain search": lambda: constant("tests/program/random_courses.py", "MOST"),
+    "lines in the editor": lambda: found_number("page/play/given.mjs", r"MOST_LINES = (\d+)"),
+    "words of a sentence": lambda: plain.MOST_WORDS_OF_A_SENTENCE,
+    "letters of a line": lambda: constant("tests/claims/check.py", "WIDTH"),
+    "lines of a README": lambda: found_number("tests/claims/check.py", r"MOST_LINES_OF_A_CRATE = \d+, (\d+)"),
     "remark": lambda: constant("clients/python/filskeam/words.py", "MOST_BYTES_OF_A_REMARK"),
 }
 # Document, what is said with # for the number, and what it counts. What is said is once in the document, with spaces for line ends.
@@ -99,7 +114,7 @@ NUMBERS: Tuple[Tuple[str, str, str], ...] = (
     ("docs/texts.md", "TEXT has 1 to # bytes", "bytes of a sentence"),
     ("docs/texts.md", "at most # entries of each", "rows"),
     ("docs/texts.md", "The first column is at least # bytes wide", "column"),
-    ("docs/texts.md", "If it has more than # bytes, the first", "shown"),
+    ("docs/texts.md", "If a line or a word has more than # bytes, the first", "shown"),
     ("docs/guide.md", "at most # entries of both", "rows"),
     ("docs/guide.md", "1,000,000; # without `--states`", "states"),
     ("docs/guide.md", "one more for each # that the behaviours", "weight"),
@@ -110,7 +125,7 @@ NUMBERS: Tuple[Tuple[str, str, str], ...] = (
     ("docs/board.md", "| n is 1 to # |", "behaviours"),
     ("docs/board.md", "if the number found is less than #, otherwise Ended", "closed"),
     ("docs/library.md", "a stack of `WORKER_STACK` bytes, # MiB", "stack in MiB"),
-    ("docs/library.md", "| # behaviours that each set a verdict |", "behaviours"),
+    ("docs/library.md", "measured, # behaviours that each set a verdict", "behaviours"),
     ("docs/architecture.md", "So # lines of definitions say", "headline"),
     ("docs/architecture.md", "executor as a library, have #.", "first crates"),
     ("docs/architecture.md", "Of the first, # are in `Inside`", "in Inside"),
@@ -125,6 +140,24 @@ NUMBERS: Tuple[Tuple[str, str, str], ...] = (
     ("docs/proved.md", "The limit is # bytes for a script or a list of moves", "bytes of moves"),
     ("docs/proved.md", "a list of moves, and # for histories", "bytes of histories"),
     ("docs/proved.md", "The program allows a test case # workers", "behaviours"),
+    ("docs/proved.md", "in *One test case*, 1 to # behaviours", "behaviours"),
+    ("docs/proved.md", "If 1 to # jobs need more workers", "behaviours"),
+    ("docs/proved.md", "With no jobs, over #, or too few", "behaviours"),
+    ("docs/proved.md", "cases of 64 and of # behaviours have theirs", "behaviours"),
+    ("docs/proved.md", "ends within # states", "states of a plain search"),
+    ("docs/proved.md", "An entry takes # bytes", "bytes of an entry"),
+    ("docs/DECISIONS.md", "as large as the largest, # bytes", "bytes of an entry"),
+    ("docs/guide.md", "A recorded call takes # bytes", "bytes of a recorded call"),
+    ("docs/guide.md", "million letters or # lines", "lines in the editor"),
+    ("docs/texts.md", "The limit is a number from 1 to #, by which", "most states"),
+    ("docs/guide.md", "| #; 100,000 without `--states`", "most states"),
+    ("docs/texts.md", "bytes, the first # are shown", "shown"),
+    ("crates/tc_exec/README.md", "If 1 to # jobs need more workers", "behaviours"),
+    ("crates/tc_entry/README.md", "An entry takes # bytes", "bytes of an entry"),
+    ("crates/tc_explore/README.md", "all together have room for # entries", "kept"),
+    ("CONTRIBUTING.md", "its files: at most # lines", "lines of a README"),
+    ("CONTRIBUTING.md", "short true sentences, # letters a line", "letters of a line"),
+    ("CONTRIBUTING.md", "a sentence has # words at most", "words of a sentence"),
     ("docs/titan.md", "may look at in one test case (# without it)", "states of Titan"),
     ("docs/titan.md", "A history holds # starts", "starts"),
     ("docs/titan.md", "A behaviour can be handed # components at most", "arguments"),

@@ -1,7 +1,9 @@
 """The planted bugs: the edits that the gate tries, in crates/, and those of tests/lies/, which are planted before a release."""
 from __future__ import annotations
 
+import importlib.util
 import os
+import sys
 from collections import Counter
 from dataclasses import dataclass
 from typing import Dict, Iterator, List, Tuple
@@ -14,6 +16,7 @@ RELEASE = "tests/lies/edits/{crate}"
 # Each edit that the gate tries takes 10 to 60 seconds, and a crate that has some is proved again for them.
 MOST_IN_THE_GATE = 130
 FEWEST_OF_A_CRATE = 3
+FEWEST_MISTAKES = 40
 
 
 @dataclass(frozen=True)
@@ -82,9 +85,32 @@ def faults_of_lies(top: str) -> Iterator[str]:
                 yield f"the lie {lie.name}: this text is in the code {count} times: {old.strip()}"
 
 
+def mistakes_of_documents(top: str) -> Iterator[Tuple[str, str, str]]:
+    """Each mistake that the tests of the documents are shown: its name, its file, and the text that it takes out."""
+    folder = os.path.join(top, "tests", "documents")
+    sys.path.append(folder)
+    made = importlib.util.spec_from_file_location("mistakes", os.path.join(folder, "lies.py"))
+    sys.modules["mistakes"] = importlib.util.module_from_spec(made)
+    made.loader.exec_module(sys.modules["mistakes"])
+    yield from ((it.name, it.file, it.old) for it in sys.modules["mistakes"].LIES)
+
+
+def faults_of_documents(top: str) -> Iterator[str]:
+    """Mistakes in documents that cannot be planted: each text is in its file."""
+    count = 0
+    for name, path, old in mistakes_of_documents(top):
+        count += 1
+        with open(os.path.join(top, path), encoding="utf-8") as file:
+            if old not in file.read():
+                yield f"the mistake {name}: {path} does not have this text: {old.strip()}"
+    if count < FEWEST_MISTAKES:
+        yield f"{count} mistakes in documents, where there are no fewer than {FEWEST_MISTAKES}"
+
+
 def faults(top: str) -> Iterator[str]:
     """Edits that cannot be made or share a name, and a gate that has too many, or a crate with too few."""
     yield from faults_of_lies(top)
+    yield from faults_of_documents(top)
     gate, release = edits_of(top, GATE), edits_of(top, RELEASE)
     for edit in [*gate, *release]:
         fault = fault_of(top, edit)

@@ -8,6 +8,8 @@ from documents import Document
 
 PARTS = ["Decision", "Reason", "Consequence"]
 KINDS = ("Added", "Changed", "Fixed", "Removed")
+# The heading above the versions, of what no version has yet.
+UNRELEASED = "Unreleased"
 FEWEST_DECISIONS, FEWEST_VERSIONS, FEWEST_WITH_READERS = 40, 13, 13
 BOLD = re.compile(r"- \*\*(\w+)\.\*\* \S")
 
@@ -27,8 +29,8 @@ def decisions(document: Document) -> Iterator[str]:
 def changes(document: Document) -> Iterator[str]:
     """Entries of a version that are of no kind, or not in the order of the kinds."""
     versions = [title for _, title, depth in document.headings() if depth == 2]
-    for version in versions:
-        if not re.fullmatch(r"\d+\.\d+\.\d+, \d{4}-\d\d-\d\d", version):
+    for at, version in enumerate(versions):
+        if not re.fullmatch(r"\d+\.\d+\.\d+, \d{4}-\d\d-\d\d", version) and (at, version) != (0, UNRELEASED):
             yield f"{document.path}: {version} is no version and its day"
         entries = [line for _, line in document.section(version) if line and not line.startswith("  ")]
         kinds = [it[1] if it else "" for it in map(BOLD.match, entries)]

@@ -16,6 +16,7 @@ MOST_SENTENCES_OF_A_PARAGRAPH, MOST_MARKS_OF_A_SENTENCE = 6, 1
 FEWEST_COMMENTS = 5000
 # The sources whose comments are held to the words, besides the crates.
 HELD = (".py", ".mjs", ".hpp", ".cpp")
+SCRIPTS = ("ttrun", "gate", "release")
 # What a comment may name that no source defines: what the language and clap have, and a byte.
 KNOWN = ("Drop", "_", "DisplayHelp", "DisplayVersion")
 # Each idiom, and what is written instead. What is in backquotes is a name, and none of these.
@@ -28,7 +29,7 @@ IDIOMS = (
     (r"tells?|told", "prints; says"), (r"behind", "after; under"), (r"alone", "only"), (r"so many", "that many"),
     (r"(?:goes|go|going|gone|went) on", "continues"), (r"(?:goes|go|going|went) by", "depends on"),
     (r"(?:exactly|none|nothing|only) where", "if"), (r"(?:is|are|was|were) to be", "must; will"),
-    (r"(?:says?|said) nothing of", "says nothing about"))
+    (r"(?:says?|said) nothing of", "says nothing about"), (r"also where", "also if"))
 # What begins a condition, or a question, in a sentence that is none.
 BEGINNING = re.compile(r"(?:Where|Who|Whose)\b")
 ELSE = re.compile(r"(?:^|[,;:.] |\bor )else\b", re.IGNORECASE)
@@ -157,6 +158,8 @@ def comments_of(path: str, text: str) -> Iterator[Tuple[int, str]]:
     """The paragraphs of the comments in a source, by its path; none of a file that is no source, or is not held to this."""
     if path.endswith(".py"):
         yield from python_comments(text)
+    elif path in SCRIPTS:
+        yield from comments(text, "#")
     elif path.endswith(HELD) or path.startswith("crates/") and path.endswith((".rt", ".antt")):
         yield from comments(text, marks_of(path))
 
@@ -165,7 +168,7 @@ def in_comments(top: str, paths: List[str]) -> Iterator[str]:
     """The same of the comments of the crates, of Python, of the page and of C++."""
     seen = 0
     for path in paths:
-        if path.endswith((".rt", ".antt", *HELD)):
+        if path in SCRIPTS or path.endswith((".rt", ".antt", *HELD)):
             with open(os.path.join(top, path), encoding="utf-8") as file:
                 for line, text in comments_of(path, file.read()):
                     seen += 1

@@ -50,7 +50,7 @@ class Tree:
         shutil.copy2(self.program, self.path("crates/ttrun/out/ttrun"))
         with open(self.path("CHANGELOG.md"), encoding="utf-8") as file:
             text = file.read()
-        self.write("CHANGELOG.md", re.sub(r"(?m)^## [\d.]+,", f"## {version_of(self.program)},", text, count=1))
+        self.write("CHANGELOG.md", re.sub(r"(?m)^## (?:Unreleased$|[\d.]+,)", f"## {version_of(self.program)},", text, count=1))
         self.git("init", "--quiet")
         self.commit()
         return self
@@ -341,11 +341,12 @@ def no_release_of_a_version_without_its_changes(room: str, program: str) -> str:
     tree = Tree(os.path.join(room, "tree"), program).make()
     with open(tree.path("CHANGELOG.md"), encoding="utf-8") as file:
         text = file.read()
-    tree.write("CHANGELOG.md", text.replace(f"## {version_of(program)},", "## 9.9.9,"))
-    tree.commit()
-    tree.record()
-    hold_none(tree, "CHANGELOG.md")
-    return "one"
+    for other in ("## 9.9.9,", "## Unreleased"):
+        tree.write("CHANGELOG.md", text.replace(f"## {version_of(program)},", other))
+        tree.commit()
+        tree.record()
+        hold_none(tree, "CHANGELOG.md")
+    return "two"
 
 
 def words_that_release_does_not_know(room: str, program: str) -> str:

@@ -54,7 +54,7 @@ class Program:
             pass
 
     def read(self) -> Optional[str]:
-        """The next line, without its line feed; None at the end, also where the last line is cut."""
+        """The next line, without its line feed; None at the end, also if the last line is cut."""
         line = self._output.readline(MOST_BYTES_OF_A_LINE)
         if len(line) < MOST_BYTES_OF_A_LINE and not line.endswith(b"\n"):
             return None
