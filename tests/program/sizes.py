@@ -35,6 +35,21 @@ def longest_history() -> Tuple[bytes, bytes]:
     return head + line * count + tail, b"legal %s %d none\n" % (name, count)
 
 
+def longest_evidence() -> bytes:
+    """Evidence that has as many bytes as may be, nearly all of them remarks."""
+    head, line, tail = b"evidence 1 t 1\nbehaviour 0 m", b"0 # x\n", b"\nend none\n"
+    count, rest = divmod(MOST_BYTES_OF_A_HISTORY - len(head) - len(tail), len(line))
+    return head + b"m" * rest + b"\n" + line * count + tail[1:]
+
+
+def most_blocks() -> Iterator[Case]:
+    """A history text of as many blocks as may be."""
+    block = b"history 2 t 1\n0 finish -> ok\nend none\n"
+    count = MOST_BYTES_OF_A_HISTORY // len(block)
+    yield Case("most_blocks", ("check",), block * count, b"legal t 1 none\n" * count)
+    yield Case("most_blocks_csv", ("report", "--csv"), block * count, CSV_HEADER.encode() + csv_of_verdict("t", "none").encode() * count)
+
+
 def longest() -> Iterator[Case]:
     """Inputs at their limit, and one byte past it."""
     moves, replies = longest_list()
@@ -44,6 +59,8 @@ def longest() -> Iterator[Case]:
     yield Case("a_list_one_byte_longer", ("replay",), moves + b"\n", errors=TOO_LONG, status=3)
     yield Case("longest_history", ("check",), history, legal)
     yield Case("a_history_one_byte_longer", ("check",), history + b"\n", errors=TOO_LONG, status=3)
+    yield Case("longest_evidence", ("check",), longest_evidence(), b"legal t 0 none\n")
+    yield from most_blocks()
     yield Case("longest_script", ("run", "--csv"), padded_script(MOST_BYTES_OF_A_SCRIPT), PASSED)
     yield Case("a_script_one_byte_longer", ("run", "--csv"), padded_script(MOST_BYTES_OF_A_SCRIPT + 1), errors=TOO_LONG, status=3)
     for words in ((), ("--list",)):
@@ -85,6 +102,12 @@ def single(steps: List[str]) -> bytes:
     return text(";".join(["testcase t", "behaviour main", *steps, "end", "end"]))
 
 
+def most_steps() -> bytes:
+    """A script of more steps than 16 bits count, in behaviours that are never started."""
+    others = "".join(f"behaviour w{at};{'stopcase;' * 1000}end;" for at in range(66))
+    return text(f"testcase t;behaviour main;setverdict pass;end;{others}end")
+
+
 def waiting(count: int, steps: int) -> bytes:
     """The main behaviour starts each other one, waits for it, and sets pass until it has made that many calls. A wait is a second
     entry if it is parked, so its log has more entries than that, unless no wait was."""
@@ -109,6 +132,7 @@ def counted() -> Iterator[Case]:
                     "cases 1 none 0 pass 1 inconc 0 fail 0 error 0;complete"))
     yield Case("more_entries_than_steps", ("run", "--csv"), waiting(64, 1000), (CSV_HEADER + "t,64,0,64,0,0,0,pass\n").encode())
     yield Case("one_step_more", ("run", "--csv"), single(passed * 1001), status=3, errors=b"ttrun: line 1003: too many\n")
+    yield Case("most_steps", ("run", "--csv"), most_steps(), PASSED)
     creates = [f"create p{at}" for at in range(1000)]
     yield Case("a_thousand_components_of_a_script", ("run", "--csv"), single(creates),
                (CSV_HEADER + "t,1000,999,0,0,0,1,error\n").encode(), status=2)
