@@ -48,7 +48,7 @@ GROUPS = (
     ("scripts", scripts.cases, 100),
     ("words", words.cases, 60),
     ("devices", devices.cases, 75),
-    ("sizes", sizes.cases, 33),
+    ("sizes", sizes.cases, 46),
     ("terminal", terminal.cases, 19),
     ("live", live.cases, 40),
     ("progress", progress.cases, 30),

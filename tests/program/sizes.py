@@ -3,7 +3,7 @@ from __future__ import annotations
 
 from typing import Iterator, List, Tuple
 
-from case import Case
+from case import Case, SomeText
 from rows import CSV_HEADER, csv_of_verdict, text
 from texts import MOST_BYTES_OF_A_HISTORY, MOST_BYTES_OF_A_LIST, MOST_BYTES_OF_A_SCRIPT
 
@@ -155,6 +155,41 @@ ABORTED = text("testcase t;behaviour main;setverdict pass;end;end;testcase u;beh
                + ";".join(f"behaviour w{at};end" for at in range(1, 64)) + ";end")
 
 
+def long_report() -> Iterator[Case]:
+    """The reports of a history of more entries than 16 bits count, by a test case that fails at its end."""
+    call, last = "0 getverdict -> none", ("0 setverdict fail -> ok", "0 finish -> ok")
+    given = text(";".join(["history 2 t 1", *[call] * 700_000, *last, "end fail"]))
+    calls = "".join(f"  {it[2:]}\n" for it in (*[call] * 700_000, *last))
+    cause = "run 0 on component 0: setverdict fail -> ok"
+    yield Case("junit_of_a_long_history", ("report", "--junit"), given, SomeText((cause, calls)), status=1)
+    yield Case("page_of_a_long_history", ("report", "--html"), given, SomeText((given.decode(),)), status=1)
+
+
+def crowded() -> Iterator[Case]:
+    """As many test cases as may be, all of which fail, in what else is done with them."""
+    names = [f"t{at}" for at in range(1000)]
+    script = ";".join(f"testcase {it};behaviour main;setverdict fail;end;end" for it in names)
+    blocks = ";".join(f"history 2 {it} 1;0 setverdict fail -> ok;0 finish -> ok;end fail" for it in names)
+    records = CSV_HEADER.encode() + b"".join(csv_of_verdict(it, "fail").encode() for it in names)
+    told = text(";".join([*(f"{it} fail" for it in names), *(f"failed: {it} fail" for it in names)]))
+    yield Case("a_thousand_lines_of_progress", ("run", "--csv", "--progress"), text(script), records, told, 1)
+    yield Case("a_thousand_names", ("run", "--list", *(word for it in names for word in ("--only", it))), text(script), text(";".join(names)))
+    yield Case("a_thousand_test_cases_compared", ("check", "--script"), text(f"{script};{blocks}"),
+               text(";".join(f"legal {it} 2 fail" for it in names)))
+    yield Case("a_fault_in_a_late_line", ("run", "--explain"), b"#\n" * 500_000 + b"frobnicate\n", status=3,
+               errors=SomeText(("line 500001: line not understood", "  line: `frobnicate`", "testcase")))
+
+
+def racing() -> Iterator[Case]:
+    """A test case with more states than 16 bits count: three behaviours that create components, each of which has the next number."""
+    creates = ";".join(f"create q{at}" for at in range(7))
+    others = ";".join(f"behaviour w{at};{creates};end" for at in range(3))
+    starts = ";".join(f"create p{at};start p{at} w{at}" for at in range(3))
+    most = 2_000_000 // (1 + 7 + 3 * 7)
+    yield Case("more_states_than_16_bits_count", ("explore", "--states", "1000000"), text(f"testcase t;behaviour main;{starts};wait done all;end;{others};end"),
+               text(f"t undecided after {most} states"), status=3)
+
+
 def refused() -> Iterator[Case]:
     """Memory and threads are refused by a limit on the space for addresses."""
     yield Case("no_memory_for_a_history", ("check",), longest_history()[0], errors=NO_MEMORY, status=3, limit="-v 9000")
@@ -175,4 +210,4 @@ def refused() -> Iterator[Case]:
 
 def cases() -> List[Case]:
     """All of them."""
-    return [*longest(), *counted(), *refused()]
+    return [*longest(), *counted(), *long_report(), *crowded(), *racing(), *refused()]
