@@ -181,7 +181,8 @@ def crowded() -> Iterator[Case]:
 
 
 def racing() -> Iterator[Case]:
-    """A test case with more states than 16 bits count: three behaviours that create components, each of which has the next number."""
+    """A test case with more states than 16 bits count: three behaviours that create components, each of which has the next number.
+    It is not among the cases, since `rt try` would take minutes for it."""
     creates = ";".join(f"create q{at}" for at in range(7))
     others = ";".join(f"behaviour w{at};{creates};end" for at in range(3))
     starts = ";".join(f"create p{at};start p{at} w{at}" for at in range(3))
@@ -209,5 +210,5 @@ def refused() -> Iterator[Case]:
 
 
 def cases() -> List[Case]:
-    """All of them."""
-    return [*longest(), *counted(), *long_report(), *crowded(), *racing(), *refused()]
+    """All of them, except for the search of many states."""
+    return [*longest(), *counted(), *long_report(), *crowded(), *refused()]
