@@ -150,6 +150,17 @@ def the_example_runs(place: Place) -> str:
 
 
 @test
+def without_a_compiler_nothing_passes(place: Place) -> str:
+    """These tests, run where no program is found: all fail, and they say why."""
+    ran = subprocess.run([sys.executable, os.path.abspath(__file__)], env={**os.environ, "PATH": place.room}, stdout=subprocess.PIPE,
+                         timeout=SECONDS, check=False)
+    first, last = ran.stdout.decode().splitlines()
+    same((ran.returncode, last), (1, f"0 passed, {len(TESTS)} failed"))
+    hold("no compiler of C++" in first, first)
+    return f"{len(TESTS)} tests"
+
+
+@test
 def what_a_behaviour_throws_stops_the_case(place: Place) -> str:
     """With its text as a remark; an Ended and a stop of its own are no exceptions."""
     shown, text = place.bench("raises")

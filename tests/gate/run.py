@@ -34,10 +34,12 @@ NUMBERS = {part: number for number, part in enumerate(PARTS, 1)}
 PASSING = {part: f"echo '{number} passed, 0 failed'" for part, number in NUMBERS.items()}
 # A part that a gate of one second for each ends.
 ENDLESS = "echo '3 passed, 0 failed'; sleep 60"
+# One that such a gate has to kill.
+DEAF = "trap '' TERM; echo '3 passed, 0 failed'; exec sleep 90"
 SECONDS = 60
 TESTS: Dict[str, Callable[[str], None]] = {}
 # There are no fewer tests.
-FEWEST = 22
+FEWEST = 23
 
 
 class Fault(Exception):
@@ -174,15 +176,27 @@ def a_part_that_cannot_be_run(room: str) -> None:
     run(room, status=1, last=counted(1, program=0), program="exec /no/such/program")
 
 
-@test
-def a_part_that_does_not_end(room: str) -> None:
+def shorten(room: str) -> None:
+    """Gives each part a second to end, and one more before it is killed."""
     with open(os.path.join(room, "gate"), encoding="utf-8") as file:
         text = file.read()
-    shortened = re.sub(r"(?m)^part \d+ ", "part 1 ", text)
+    shortened = re.sub(r"(?m)^part \d+ ", "part 1 ", text).replace("--kill-after=60", "--kill-after=1")
     hold(len(re.findall(r"(?m)^part 1 ", shortened)) == len(PARTS), "each part has a limit of seconds")
     write_program(os.path.join(room, "gate"), shortened)
+
+
+@test
+def a_part_that_does_not_end(room: str) -> None:
+    shorten(room)
     _, errors = run(room, status=1, last=counted(1), wrapper=ENDLESS)
     hold("was ended after 1 seconds" in errors, errors)
+
+
+@test
+def a_part_that_does_not_end_if_it_is_told(room: str) -> None:
+    shorten(room)
+    _, errors = run(room, status=1, last=counted(1), wrapper=DEAF)
+    hold("ended with status 137 and counts no failure" in errors, errors)
 
 
 @test

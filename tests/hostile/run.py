@@ -12,6 +12,8 @@ those tests are skipped, and said to be. The last line is 'N passed, M failed'; 
 from __future__ import annotations
 
 import argparse
+import contextlib
+import io
 import os
 import sys
 import time
@@ -75,6 +77,20 @@ def refused(library: Optional[Refusing], program: str, is_whole: bool, threads: 
     return [[fault]]
 
 
+def without_a_compiler(program: str) -> Sweep:
+    """Runs the tests that a library refuses something where no compiler is found: they must fail, and say why."""
+    done, told, path = Sweep("without a compiler of C", runs=1), io.StringIO(), os.environ["PATH"]
+    os.environ["PATH"] = ""
+    try:
+        with contextlib.redirect_stdout(told), refusing() as library:
+            results = refused(library, program, False, 1)
+    finally:
+        os.environ["PATH"] = path
+    if not any(results) or "no compiler of C" not in told.getvalue():
+        done.faults.append(f"nothing failed, and it was said: {told.getvalue()!r}")
+    return done
+
+
 def crowded(program: str, is_whole: bool, threads: int) -> List[List[str]]:
     """Runs the tests that the system refuses threads, or says that they are skipped."""
     with crowds.crowds(program) as users:
@@ -97,7 +113,7 @@ def main() -> int:
         if not os.access(it, os.X_OK):
             print(f"there is no program {it}: `rt run` in its crate builds it", file=sys.stderr)
             return 3
-    results = judged("judged answers", false_answers.jobs(), {}, 1)
+    results = judged("judged answers", [*false_answers.jobs(), lambda: without_a_compiler(program)], {}, 1)
     results += judged("texts", cuts.jobs(program, given.all), TEXT_FLOORS, given.jobs)
     work = turmoil.jobs(program, given.all)
     results += judged("behaviours that halt one another", work, turmoil.floors(given.all), given.jobs)

@@ -3,7 +3,7 @@ from __future__ import annotations
 
 from typing import Iterator, List, Tuple
 
-from case import Case
+from case import Case, SomeText
 from rows import CSV_HEADER, csv_of_verdict, text
 from texts import MOST_BYTES_OF_A_HISTORY, MOST_BYTES_OF_A_LIST, MOST_BYTES_OF_A_SCRIPT
 
@@ -35,6 +35,21 @@ def longest_history() -> Tuple[bytes, bytes]:
     return head + line * count + tail, b"legal %s %d none\n" % (name, count)
 
 
+def longest_evidence() -> bytes:
+    """Evidence that has as many bytes as may be, nearly all of them remarks."""
+    head, line, tail = b"evidence 1 t 1\nbehaviour 0 m", b"0 # x\n", b"\nend none\n"
+    count, rest = divmod(MOST_BYTES_OF_A_HISTORY - len(head) - len(tail), len(line))
+    return head + b"m" * rest + b"\n" + line * count + tail[1:]
+
+
+def most_blocks() -> Iterator[Case]:
+    """A history text of as many blocks as may be."""
+    block = b"history 2 t 1\n0 finish -> ok\nend none\n"
+    count = MOST_BYTES_OF_A_HISTORY // len(block)
+    yield Case("most_blocks", ("check",), block * count, b"legal t 1 none\n" * count)
+    yield Case("most_blocks_csv", ("report", "--csv"), block * count, CSV_HEADER.encode() + csv_of_verdict("t", "none").encode() * count)
+
+
 def longest() -> Iterator[Case]:
     """Inputs at their limit, and one byte past it."""
     moves, replies = longest_list()
@@ -44,6 +59,8 @@ def longest() -> Iterator[Case]:
     yield Case("a_list_one_byte_longer", ("replay",), moves + b"\n", errors=TOO_LONG, status=3)
     yield Case("longest_history", ("check",), history, legal)
     yield Case("a_history_one_byte_longer", ("check",), history + b"\n", errors=TOO_LONG, status=3)
+    yield Case("longest_evidence", ("check",), longest_evidence(), b"legal t 0 none\n")
+    yield from most_blocks()
     yield Case("longest_script", ("run", "--csv"), padded_script(MOST_BYTES_OF_A_SCRIPT), PASSED)
     yield Case("a_script_one_byte_longer", ("run", "--csv"), padded_script(MOST_BYTES_OF_A_SCRIPT + 1), errors=TOO_LONG, status=3)
     for words in ((), ("--list",)):
@@ -85,6 +102,12 @@ def single(steps: List[str]) -> bytes:
     return text(";".join(["testcase t", "behaviour main", *steps, "end", "end"]))
 
 
+def most_steps() -> bytes:
+    """A script of more steps than 16 bits count, in behaviours that are never started."""
+    others = "".join(f"behaviour w{at};{'stopcase;' * 1000}end;" for at in range(66))
+    return text(f"testcase t;behaviour main;setverdict pass;end;{others}end")
+
+
 def waiting(count: int, steps: int) -> bytes:
     """The main behaviour starts each other one, waits for it, and sets pass until it has made that many calls. A wait is a second
     entry if it is parked, so its log has more entries than that, unless no wait was."""
@@ -109,6 +132,7 @@ def counted() -> Iterator[Case]:
                     "cases 1 none 0 pass 1 inconc 0 fail 0 error 0;complete"))
     yield Case("more_entries_than_steps", ("run", "--csv"), waiting(64, 1000), (CSV_HEADER + "t,64,0,64,0,0,0,pass\n").encode())
     yield Case("one_step_more", ("run", "--csv"), single(passed * 1001), status=3, errors=b"ttrun: line 1003: too many\n")
+    yield Case("most_steps", ("run", "--csv"), most_steps(), PASSED)
     creates = [f"create p{at}" for at in range(1000)]
     yield Case("a_thousand_components_of_a_script", ("run", "--csv"), single(creates),
                (CSV_HEADER + "t,1000,999,0,0,0,1,error\n").encode(), status=2)
@@ -131,6 +155,42 @@ ABORTED = text("testcase t;behaviour main;setverdict pass;end;end;testcase u;beh
                + ";".join(f"behaviour w{at};end" for at in range(1, 64)) + ";end")
 
 
+def long_report() -> Iterator[Case]:
+    """The reports of a history of more entries than 16 bits count, by a test case that fails at its end."""
+    call, last = "0 getverdict -> none", ("0 setverdict fail -> ok", "0 finish -> ok")
+    given = text(";".join(["history 2 t 1", *[call] * 700_000, *last, "end fail"]))
+    calls = "".join(f"  {it[2:]}\n" for it in (*[call] * 700_000, *last))
+    cause = "run 0 on component 0: setverdict fail -> ok"
+    yield Case("junit_of_a_long_history", ("report", "--junit"), given, SomeText((cause, calls)), status=1)
+    yield Case("page_of_a_long_history", ("report", "--html"), given, SomeText((given.decode(),)), status=1)
+
+
+def crowded() -> Iterator[Case]:
+    """As many test cases as may be, all of which fail, in what else is done with them."""
+    names = [f"t{at}" for at in range(1000)]
+    script = ";".join(f"testcase {it};behaviour main;setverdict fail;end;end" for it in names)
+    blocks = ";".join(f"history 2 {it} 1;0 setverdict fail -> ok;0 finish -> ok;end fail" for it in names)
+    records = CSV_HEADER.encode() + b"".join(csv_of_verdict(it, "fail").encode() for it in names)
+    told = text(";".join([*(f"{it} fail" for it in names), *(f"failed: {it} fail" for it in names)]))
+    yield Case("a_thousand_lines_of_progress", ("run", "--csv", "--progress"), text(script), records, told, 1)
+    yield Case("a_thousand_names", ("run", "--list", *(word for it in names for word in ("--only", it))), text(script), text(";".join(names)))
+    yield Case("a_thousand_test_cases_compared", ("check", "--script"), text(f"{script};{blocks}"),
+               text(";".join(f"legal {it} 2 fail" for it in names)))
+    yield Case("a_fault_in_a_late_line", ("run", "--explain"), b"#\n" * 500_000 + b"frobnicate\n", status=3,
+               errors=SomeText(("line 500001: line not understood", "  line: `frobnicate`", "testcase")))
+
+
+def racing() -> Iterator[Case]:
+    """A test case with more states than 16 bits count: three behaviours that create components, each of which has the next number.
+    It is not among the cases, since `rt try` would take minutes for it."""
+    creates = ";".join(f"create q{at}" for at in range(7))
+    others = ";".join(f"behaviour w{at};{creates};end" for at in range(3))
+    starts = ";".join(f"create p{at};start p{at} w{at}" for at in range(3))
+    most = 2_000_000 // (1 + 7 + 3 * 7)
+    yield Case("more_states_than_16_bits_count", ("explore", "--states", "1000000"), text(f"testcase t;behaviour main;{starts};wait done all;end;{others};end"),
+               text(f"t undecided after {most} states"), status=3)
+
+
 def refused() -> Iterator[Case]:
     """Memory and threads are refused by a limit on the space for addresses."""
     yield Case("no_memory_for_a_history", ("check",), longest_history()[0], errors=NO_MEMORY, status=3, limit="-v 9000")
@@ -150,5 +210,5 @@ def refused() -> Iterator[Case]:
 
 
 def cases() -> List[Case]:
-    """All of them."""
-    return [*longest(), *counted(), *refused()]
+    """All of them, except for the search of many states."""
+    return [*longest(), *counted(), *long_report(), *crowded(), *refused()]

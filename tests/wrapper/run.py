@@ -26,7 +26,7 @@ from tree import LARGE, SECONDS, STARTING, Ran, Tree, hold
 Test = Callable[[Tree], None]
 TESTS: Dict[str, Test] = {}
 # There are no fewer tests.
-FEWEST = 72
+FEWEST = 73
 # A change that many seconds ago, by its file times, came before the program was built.
 OLD = 1000
 
@@ -346,6 +346,19 @@ def two_calls_at_once(tree: Tree) -> None:
     hold_runs(tree, 1)
     for it in rans[1:]:
         hold(it.lines() == ["ttrun: waiting for another ttrun, which builds the program", "told"], f"{it.lines()}")
+
+
+@test
+def a_wait_of_more_than_a_minute(tree: Tree) -> None:
+    first = tree.start(["a"], FAKE_PAUSE="0.4")
+    wait_for(lambda: bool(tree.calls()), "the first builds")
+    waited = os.path.join(tree.room, "tmp", "waited")
+    second = tree.ended(tree.start(["b"], SHORT_WAIT=waited))
+    hold(tree.ended(first).output == b"<a>" and second.output == b"<b>", f"{second}")
+    hold_runs(tree, 1)
+    hold(os.path.exists(waited), "the second does not wait")
+    wanted = ["ttrun: waiting for another ttrun, which builds the program", "ttrun: still waiting for it", "told"]
+    hold(second.lines() == wanted, f"{second.lines()}")
 
 
 @test

@@ -115,6 +115,14 @@ SORT = """#!/usr/bin/env bash
 [ "${LC_ALL:-}" = C ] || [ -z "${OTHER_TOOLS:-}" ] || exec /usr/bin/sort -r "$@"
 exec /usr/bin/sort "$@"
 """
+# If SHORT_WAIT names a file, the first wait for a lock ends at once, as one does whose time is over, and leaves it.
+FLOCK = """#!/usr/bin/env bash
+if [ "$1" = -w ] && [ -n "${SHORT_WAIT:-}" ] && [ ! -e "$SHORT_WAIT" ]; then
+    : > "$SHORT_WAIT"
+    exit 1
+fi
+exec /usr/bin/flock "$@"
+"""
 
 
 class Fault(Exception):
@@ -185,8 +193,8 @@ class Tree:
         for name in ("/proc/meminfo", "/sys/fs/cgroup/"):
             hold(name in text, f"{BUILDER} does not look at {name}")
             text = text.replace(name, f"{self.room}{name}")
-        rt, sort = os.path.join(self.bin, "rt"), os.path.join(self.bin, "sort")
-        for path, content in ((self.path(BUILDER), text), (rt, RT), (sort, SORT)):
+        rt, sort, flock = (os.path.join(self.bin, it) for it in ("rt", "sort", "flock"))
+        for path, content in ((self.path(BUILDER), text), (rt, RT), (sort, SORT), (flock, FLOCK)):
             with open(path, "w", encoding="utf-8") as it:
                 it.write(content)
             os.chmod(path, 0o755)

@@ -201,6 +201,27 @@ fn counting<R: Files + Alloc + Copy>(rt: &R) -> Counts<R> {
     }
 }
 
+/// Sets pass if the program has that many threads, otherwise fail.
+fn counts_threads<R: Files + Alloc>(rt: &R, pass: Pass, wanted: u64) -> Back {
+    let mut pass = pass;
+    let made = pass.set_verdict(if are_threads(rt, wanted) {
+        UserVerdict::Pass
+    } else {
+        UserVerdict::Fail
+    });
+    Back::after(pass, made)
+}
+
+// A thread more than the workers would be there if the first behaviour had one of its own.
+#[test]
+fn the_first_behaviour_is_called_on_the_calling_thread(rt: HostRuntime) -> Result<(), AllocError> {
+    let first: Behaviour = Box::new(rt.alloc(), move |pass: Pass| counts_threads(&rt, pass, 2))?;
+    let second = got(&rt, that_ends(rt.alloc(), Ok(())));
+    let report = report_of_two(&rt, rt.alloc(), Job::new(first), second, 1);
+    is(&rt, "overall verdict", report.verdict, Verdict::Pass);
+    Ok(())
+}
+
 // Seven questions: when a worker is asked about, the threads of all before it are there, and its own is not.
 #[test]
 fn a_thread_lives_before_the_next_question(rt: HostRuntime) {
@@ -278,26 +299,34 @@ fn another_pass<R: Abort>(rt: &R, alloc: Global) -> Pass {
     pass
 }
 
-/// Why a case of one behaviour is refused, if it is.
-fn refusal_of_one<R: Abort + Threads + Wait + Copy + Send + 'static>(
+/// Why a case of this behaviour, and of these that are never started, is refused, if it is.
+fn refusal_beside<R: Abort + Threads + Wait + Copy + Send + 'static>(
     rt: &R,
     alloc: Global,
     job: Job,
+    others: Vec<Job>,
 ) -> Option<CaseError> {
-    refusal(rt, alloc, got(rt, vec![in alloc; job]), 64)
+    let mut jobs = others;
+    got(rt, jobs.push(job));
+    jobs.reverse();
+    refusal(rt, alloc, jobs, 64)
 }
 
+// With workers and without one.
 #[test]
 fn pass_of_another_case(rt: HostRuntime) -> Result<(), AllocError> {
-    for (ending, wanted) in [
-        (Ending::Returned, CaseError::Torn),
-        (Ending::Starved, CaseError::NoMemory),
+    for (ending, others, wanted) in [
+        (Ending::Returned, 0, CaseError::Torn),
+        (Ending::Starved, 0, CaseError::NoMemory),
+        (Ending::Returned, 1, CaseError::Torn),
+        (Ending::Starved, 1, CaseError::NoMemory),
     ] {
         let other = another_pass(&rt, rt.alloc());
         let run: Behaviour = Box::new(rt.alloc(), move |pass: Pass| {
             hands_back(&rt, pass, other, ending)
         })?;
-        let refused = refusal_of_one(&rt, rt.alloc(), Job::new(run));
+        let others = that_return(&rt, rt.alloc(), others);
+        let refused = refusal_beside(&rt, rt.alloc(), Job::new(run), others);
         is(&rt, "refusal", refused, Some(wanted));
     }
     Ok(())

@@ -120,11 +120,35 @@ fn undisturbed_settings_count(rt: HostRuntime) -> Result<(), AllocError> {
     Ok(())
 }
 
-/// A log of more entries than 16 bits count is closed as others are.
+/// Asks under the lock that often whether the others are running.
+fn ask_often<R: Wait>(rt: &R, pass: &mut Pass, questions: u32) -> Result<(), Halt> {
+    for _ in 0..questions {
+        pass.running(rt, Target::All)?;
+    }
+    Ok(())
+}
+
+/// Sets that many verdicts, and asks as often.
+fn set_and_ask<R: Wait>(rt: &R, pass: &mut Pass, calls: u32) -> Result<(), Halt> {
+    set_all(pass, calls)?;
+    ask_often(rt, pass, calls)
+}
+
+/// A behaviour of that many settings and questions.
+fn sets_and_asks<R: Wait>(rt: &R, pass: Pass, calls: u32) -> Back {
+    let mut pass = pass;
+    let made = set_and_ask(rt, &mut pass, calls);
+    Back::after(pass, made)
+}
+
+/// A log of more entries than 16 bits count is closed as others are, without the lock and under it.
 #[test]
-fn a_long_log_is_closed(rt: HostRuntime) {
-    let job = got(&rt, that_sets_all(rt.alloc(), 70_000));
-    let jobs = got(&rt, vec![in rt.alloc(); job]);
+fn a_long_log_is_closed(rt: HostRuntime) -> Result<(), AllocError> {
+    let run: Behaviour = Box::new(rt.alloc(), move |pass: Pass| {
+        sets_and_asks(&rt, pass, 70_000)
+    })?;
+    let jobs = got(&rt, vec![in rt.alloc(); Job::new(run)]);
     let report = got(&rt, report_of(&rt, rt.alloc(), jobs, 0));
-    is(&rt, "entries", report.history.as_slice().len(), 70_001);
+    is(&rt, "entries", report.history.as_slice().len(), 140_001);
+    Ok(())
 }
