@@ -213,7 +213,7 @@ LIES = (
         ("""conflict_error(alloc, command, first, second)?""", """conflict_error(alloc, command, second, first)?"""),
     ), shown="refused: report"),
     Lie("the_help_counts_shards_from_0", (
-        ("""is K - 1 modulo N.""", """is K modulo N."""),
+        ("""whose index, from 0, is K - 1""", """whose index, from 0, is K"""),
     ), shown="help_"),
     Lie("the_help_of_serve_opens_smaller_test_cases", (
         ("""opens a test case of N behaviours, 1 to 256""", """opens a test case of N behaviours, 1 to 64"""),

@@ -7,13 +7,15 @@ from typing import List, Tuple
 
 from case import Case, SomeText, Word
 
-COMMANDS = ("run", "serve", "check", "replay", "explore", "report", "ttrun run < FILE", "No word at all means run",
-            "Status of run, serve, replay and report: 0 for none and pass, 1 for inconc and\nfail, 2 for error.",
-            "Status of check: 0 where each history is legal.",
-            "Status of explore: 0 where each test case has one verdict, 1 where one has several.",
-            "3 says that a test case was aborted, a history is not legal, or a search met its limit;\n"
-            "or that the command line or the input was refused, or a device or the memory failed:\nstandard error says which.\n")
-EXPLAIN = "after a fault's line, says what stands there and what would be understood\n"
+COMMANDS = ("run", "serve", "check", "replay", "explore", "report", "\n  ttrun run < FILE\nNo argument at all means run.\n",
+            "Each command reads standard input and writes standard output:\n",
+            "Status of run, serve, replay and report: 0 for none and pass, 1 for inconc and\nfail, 2 for error.\n",
+            "Status of check: 0 if each history is legal.\n",
+            "Status of explore: 0 if each test case has one verdict, 1 if one has several.\n",
+            "3 says that a test case was aborted, a history is not legal, or a search met\nits limit;"
+            " or that the arguments or the input were refused, memory ran out, or\n"
+            "standard input or output failed: standard error says which.\n")
+EXPLAIN = "says more of the fault of a refused text\n"
 # A line for each option, as it is in the help.
 ALL_OPTIONS = ("runs the campaign of a script, and writes its report\n",
                "  --csv                writes the report as CSV\n",
@@ -21,24 +23,32 @@ ALL_OPTIONS = ("runs the campaign of a script, and writes its report\n",
                "  --evidence           writes the histories with the names of behaviours\n",
                "  --junit              writes the report as a JUnit suite\n",
                "  --live               writes each test case as it finishes\n",
-               "  --progress           tells of each test case as it finishes, on standard error\n",
-               "  --stop-on <VERDICT>  stops after a test case with this verdict, or a worse one\n",
+               "  --progress           names each finished test case on standard error\n",
+               "  --stop-on <VERDICT>  stops after a test case with this verdict or worse\n",
                "  --list               prints the names of the test cases, and runs none\n",
                "  --only <NAME>        runs this test case; may be given again, for others\n",
                "  --shard <K/N>        runs the K-th of N shards of the test cases\n",
                "  --explain            " + EXPLAIN,
-               "ttrun run < FILE",
-               "VERDICT is none, pass, inconc, fail or error. Of the chosen test cases the K-th of N\n"
-               "shards, K from 1 to N, has those whose place, from 0, is K - 1 modulo N.\n"
-               "--list stands with --only and --shard alone, and --junit not with --live.\n",
-               "Status: 0 for none and pass, 1 for inconc and fail, 2 for error, 3 for an abort or a refusal.\n")
-EXPLORE = ("looks for every overall verdict that a schedule of a test case can give\n",
+               "Standard input is a script: ttrun run < FILE. Standard output is the report.\n",
+               "VERDICT is none, pass, inconc, fail or error. Of the chosen test cases the\nK-th of N shards, K from 1 to N, has those"
+               " whose index, from 0, is K - 1\nmodulo N. --list takes no other option than --only and --shard, and --junit is\n"
+               "not taken with --live.\n",
+               "Status: 0 for none and pass, 1 for inconc and fail, 2 for error, 3 for an\nabort or a refusal.\n")
+EXPLORE = ("looks for every overall verdict that a test case can have\n",
            "  --history     writes a history for each verdict that was found\n",
            "  --details     says where schedules part and who waits for whom\n",
-           "  --states <N>  looks at so many states of a test case at most\n")
+           "  --states <N>  looks at N states of a test case at most\n",
+           "Standard input is a script: ttrun explore < FILE. Standard output is a line\n"
+           "for each test case: its name, the verdicts found, and how the search ended.\n"
+           "N is from 1 to 1000000, and 100000 without --states.\n",
+           "Status: 0 if each test case has one verdict, 1 if one has several, 3 if a\nsearch met its limit, or for a refusal.\n")
 REPORT = ("reads histories, and writes them in one of these forms\n",
           "  --csv      writes a table as CSV\n", "  --junit    writes a JUnit suite\n",
-          "  --html     writes a page for a browser\n", "  --explain  " + EXPLAIN)
+          "  --html     writes a page for a browser\n", "  --explain  " + EXPLAIN,
+          "Standard input is histories or evidence: ttrun report --csv < FILE. Nothing is\n"
+          "written to standard output if one of them is not legal.\n",
+          "Status: 0 for none and pass, 1 for inconc and fail, 2 for error and for a test\n"
+          "case that is not over, 3 if a history is not legal, or for a refusal.\n")
 CHECK = ("replays histories and evidence, and says which are legal\n",
          "  --script   reads their script before them, and compares them with it\n", "  --explain  " + EXPLAIN,
          "With --script the input is a script with histories or evidence of its test cases after\n"
@@ -48,7 +58,10 @@ CHECK = ("replays histories and evidence, and says which are legal\n",
          "  no course NAME     this is no complete course of the scripts of NAME\n",
          "  missing NAME       there is nothing of NAME\n",
          "Status: 0 where each history is legal, and with --script no such line is printed;\notherwise 3.\n")
-REPLAY = ("replays a list of moves, and prints each reply and the overall verdict\n", "  --explain  " + EXPLAIN)
+REPLAY = ("replays a list of moves, and prints each reply and the verdict\n", "  --explain  " + EXPLAIN,
+          "Standard input is a list of moves: ttrun replay < FILE. Standard output is a\n"
+          "line for each reply, and then the overall verdict.\n",
+          "Status: 0 for none and pass, 1 for inconc and fail, 2 for error, 3 for a\nrefusal.\n")
 SERVE = ("answers moves line by line, and writes evidence of the test cases\n",
          "Standard input is lines, each answered as soon as it has come:\n",
          "  case NAME N       opens a test case of N behaviours, 1 to 256\n",

@@ -13,24 +13,50 @@ pub const VERSION: &str = "0.17.0";
 
 // What the help of the program says at its end.
 const PROGRAM_HELP: &str = "\
-Each command reads standard input: ttrun run < FILE. No word at all means run.
+Each command reads standard input and writes standard output:
+  ttrun run < FILE
+No argument at all means run.
 
 Status of run, serve, replay and report: 0 for none and pass, 1 for inconc and
 fail, 2 for error.
-Status of check: 0 where each history is legal.
-Status of explore: 0 where each test case has one verdict, 1 where one has several.
-3 says that a test case was aborted, a history is not legal, or a search met its limit;
-or that the command line or the input was refused, or a device or the memory failed:
-standard error says which.";
+Status of check: 0 if each history is legal.
+Status of explore: 0 if each test case has one verdict, 1 if one has several.
+3 says that a test case was aborted, a history is not legal, or a search met
+its limit; or that the arguments or the input were refused, memory ran out, or
+standard input or output failed: standard error says which.";
 
 // What the help of `run` says at its end.
 const RUN_HELP: &str = "\
-The script is read from standard input: ttrun run < FILE.
+Standard input is a script: ttrun run < FILE. Standard output is the report.
 
-VERDICT is none, pass, inconc, fail or error. Of the chosen test cases the K-th of N
-shards, K from 1 to N, has those whose place, from 0, is K - 1 modulo N.
---list stands with --only and --shard alone, and --junit not with --live.
-Status: 0 for none and pass, 1 for inconc and fail, 2 for error, 3 for an abort or a refusal.";
+VERDICT is none, pass, inconc, fail or error. Of the chosen test cases the
+K-th of N shards, K from 1 to N, has those whose index, from 0, is K - 1
+modulo N. --list takes no other option than --only and --shard, and --junit is
+not taken with --live.
+Status: 0 for none and pass, 1 for inconc and fail, 2 for error, 3 for an
+abort or a refusal.";
+
+// What the help of `explore` says at its end.
+const EXPLORE_HELP: &str = "\
+Standard input is a script: ttrun explore < FILE. Standard output is a line
+for each test case: its name, the verdicts found, and how the search ended.
+N is from 1 to 1000000, and 100000 without --states.
+Status: 0 if each test case has one verdict, 1 if one has several, 3 if a
+search met its limit, or for a refusal.";
+
+// What the help of `report` says at its end.
+const REPORT_HELP: &str = "\
+Standard input is histories or evidence: ttrun report --csv < FILE. Nothing is
+written to standard output if one of them is not legal.
+Status: 0 for none and pass, 1 for inconc and fail, 2 for error and for a test
+case that is not over, 3 if a history is not legal, or for a refusal.";
+
+// What the help of `replay` says at its end.
+const REPLAY_HELP: &str = "\
+Standard input is a list of moves: ttrun replay < FILE. Standard output is a
+line for each reply, and then the overall verdict.
+Status: 0 for none and pass, 1 for inconc and fail, 2 for error, 3 for a
+refusal.";
 
 // What the help of `check` says at its end.
 const CHECK_HELP: &str = "\
@@ -72,7 +98,7 @@ struct OptionRow(&'static str, Takes, &'static str);
 const EXPLAIN: OptionRow = OptionRow(
     "explain",
     Takes::Nothing,
-    "after a fault's line, says what stands there and what would be understood",
+    "says more of the fault of a refused text",
 );
 
 const RUN_OPTIONS: [OptionRow; 11] = [
@@ -100,12 +126,12 @@ const RUN_OPTIONS: [OptionRow; 11] = [
     OptionRow(
         "progress",
         Takes::Nothing,
-        "tells of each test case as it finishes, on standard error",
+        "names each finished test case on standard error",
     ),
     OptionRow(
         "stop-on",
         Takes::Word("VERDICT"),
-        "stops after a test case with this verdict, or a worse one",
+        "stops after a test case with this verdict or worse",
     ),
     OptionRow(
         "list",
@@ -139,7 +165,7 @@ const EXPLORE_OPTIONS: [OptionRow; 3] = [
     OptionRow(
         "states",
         Takes::Word("N"),
-        "looks at so many states of a test case at most",
+        "looks at N states of a test case at most",
     ),
 ];
 
@@ -247,9 +273,9 @@ fn explore_command<'a>(alloc: Global) -> Result<Command<'a>, AllocError>
     let command = described(
         alloc,
         "explore",
-        "looks for every overall verdict that a schedule of a test case can give",
+        "looks for every overall verdict that a test case can have",
     );
-    with_options(alloc, command, &EXPLORE_OPTIONS)
+    with_options(alloc, command.after_help(EXPLORE_HELP), &EXPLORE_OPTIONS)
 }
 
 fn report_command<'a>(alloc: Global) -> Result<Command<'a>, AllocError>
@@ -261,7 +287,7 @@ fn report_command<'a>(alloc: Global) -> Result<Command<'a>, AllocError>
         "report",
         "reads histories, and writes them in one of these forms",
     );
-    with_options(alloc, command, &REPORT_OPTIONS)
+    with_options(alloc, command.after_help(REPORT_HELP), &REPORT_OPTIONS)
 }
 
 fn check_command<'a>(alloc: Global) -> Result<Command<'a>, AllocError>
@@ -283,9 +309,9 @@ fn replay_command<'a>(alloc: Global) -> Result<Command<'a>, AllocError>
     let command = described(
         alloc,
         "replay",
-        "replays a list of moves, and prints each reply and the overall verdict",
+        "replays a list of moves, and prints each reply and the verdict",
     );
-    with_options(alloc, command, &[EXPLAIN])
+    with_options(alloc, command.after_help(REPLAY_HELP), &[EXPLAIN])
 }
 
 fn serve_command<'a>(alloc: Global) -> Command<'a>
