@@ -7,6 +7,7 @@ from collections import Counter
 from typing import List, Tuple
 
 from case import Case, Ran, run
+from choosing import ONLY, Choice, choice
 from courses import State
 from judged import Judgement
 from random_courses import drawn_cases
@@ -64,6 +65,36 @@ ROWS: List[Tuple[str, str, str, int]] = [
      f"{LEGAL_A};legal a 0 none;{LEGAL_B};{LEGAL_C};twice a", 3),
     ("a_block_that_is_late_and_no_course", f"{OF_B};history 2 a 1;end none;{OF_C}",
      f"{LEGAL_B};legal a 0 none;{LEGAL_C};out of order a", 3),
+]
+
+# Name, the words of a choice, blocks after the script of a, b and c, what is printed, status.
+CHOSEN: List[Tuple[str, str, str, str, int]] = [
+    ("the_first_shard", "--shard 1/2", f"{OF_A};{OF_C}", f"{LEGAL_A};{LEGAL_C}", 0),
+    ("the_second_shard", "--shard 2/2", OF_B, LEGAL_B, 0),
+    ("a_block_of_another_shard", "--shard 1/2", f"{OF_A};{OF_B};{OF_C}", f"{LEGAL_A};{LEGAL_B};{LEGAL_C};unknown b", 3),
+    ("the_blocks_of_another_shard", "--shard 2/2", f"{OF_A};{OF_C}", f"{LEGAL_A};{LEGAL_C};unknown a;unknown c;missing b", 3),
+    ("the_last_of_a_shard_is_missing", "--shard 1/2", OF_A, f"{LEGAL_A};missing c", 3),
+    ("a_shard_in_the_wrong_order", "--shard=1/2", f"{OF_C};{OF_A}", f"{LEGAL_C};{LEGAL_A};out of order a", 3),
+    ("a_shard_without_test_cases", "--shard 4/4", OF_A, f"{LEGAL_A};unknown a", 3),
+    ("one_of_three", "--only b", OF_B, LEGAL_B, 0),
+    ("names_in_another_order", "--only c --only a", f"{OF_A};{OF_C}", f"{LEGAL_A};{LEGAL_C}", 0),
+    ("a_block_in_the_order_of_the_names", "--only c --only a", f"{OF_C};{OF_A}", f"{LEGAL_C};{LEGAL_A};out of order a", 3),
+    ("a_name_that_is_missing", "--only c --only a", OF_A, f"{LEGAL_A};missing c", 3),
+    ("no_course_of_a_chosen_one", "--only a", "history 2 a 1;end none", "legal a 0 none;no course a", 3),
+    ("the_last_shard_of_two_names", "--only a --only c --shard 2/2", OF_C, LEGAL_C, 0),
+    ("the_first_shard_of_two_names", "--only a --only c --shard 1/2", OF_C, f"{LEGAL_C};unknown c;missing a", 3),
+]
+
+# Name, the words of a choice, text, the fault's line.
+REFUSED_CHOICES: List[Tuple[str, str, bytes, str]] = [
+    ("a_name_of_no_test_case", "--only d", text(f"{SCRIPT};{OF_A}"), "--only takes the name of a test case of the script"),
+    ("a_name_of_no_test_case_and_a_bad_block", "--only d", text(f"{SCRIPT};history 2 a 1;0 create"),
+     "--only takes the name of a test case of the script"),
+    ("a_bad_script_and_a_name", "--only d", text(f"testcase a;behaviour m;setverdict good;end;end;{OF_A}"), "line 3: line not understood"),
+    ("a_bad_block_of_another_shard", "--shard 2/2", text(f"{SCRIPT};history 2 a 1;0 create"), "line 2: bad entry"),
+    ("a_name_that_is_none", "--only 1 --shard 1/2", text(SCRIPT), "--only takes the name of a test case of the script"),
+    ("a_bad_shard", "--only 1 --shard 0/2", text(SCRIPT), "--shard takes K/N, with K from 1 to N"),
+    ("no_block_of_an_empty_shard", "--shard 4/4", text(SCRIPT), "line 1: text ends too early"),
 ]
 
 # Name, text, the fault's line.
@@ -161,6 +192,16 @@ def changed(chance: random.Random, blocks: List[List[bytes]]) -> List[List[bytes
     return found
 
 
+def drawn_choice(chance: random.Random, campaign: Campaign, blocks: List[List[bytes]]) -> Tuple[Choice, Campaign, List[List[bytes]]]:
+    """A choice, or none; the test cases that it takes; and usually only the blocks of these."""
+    names = [it.name for it in campaign]
+    asked = choice(chance, names) if chance.random() < 0.5 else Choice((), None)
+    taken = asked.of(names)
+    if chance.random() < 0.7:
+        blocks = [it for it in blocks if it[0].split()[2].decode() in taken] or blocks
+    return asked, [it for it in campaign if it.name in taken], blocks
+
+
 def runs_and_changed_runs(seed: int) -> Judgement:
     """What real runs wrote is found whole, and what was changed of it is found wrong as by the tests' own reading."""
 
@@ -177,18 +218,24 @@ def runs_and_changed_runs(seed: int) -> Judgement:
                 return [f"what a run wrote: {ran}", f"the text: {(script + history).decode()}"]
             met["entries"] += len(history.splitlines())
             for _ in range(8):
-                blocks = blocks_in(history)
-                for _ in range(chance.choice((1, 1, 2, 3))):
+                asked, taken, blocks = drawn_choice(chance, campaign, blocks_in(history))
+                for _ in range(chance.choice((0, 1, 1, 2, 3))):
                     blocks = changed(chance, blocks) or blocks
                 behind = b"".join(b"".join(it) for it in blocks)
-                ran, wanted = run(Case("", ("check", "--script"), script + behind), program), wanted_of(campaign, behind)
+                ran = run(Case("", ("check", "--script", *asked.words(chance)), script + behind), program)
+                wanted = wanted_of(taken, behind)
+                if any(it not in [case.name for case in campaign] for it in asked.only):
+                    wanted = Ran(b"", ONLY, 3)
+                    met["names of none"] += 1
                 if ran != wanted:
-                    return [f"wanted {wanted}", f"came {ran}", f"the text: {(script + behind).decode()}"]
+                    return [f"wanted {wanted}", f"came {ran}", f"the choice: {asked}", f"the text: {(script + behind).decode()}"]
                 met["texts"] += 1
+                met["choices"] += bool(asked.only or asked.shard)
+                met["right choices"] += bool(asked.only or asked.shard) and ran.status == 0
                 met["right"] += ran.status == 0
                 met.update(line.rpartition(" ")[0] for line in ran.output.decode().splitlines() if not line.startswith(("legal", "line")))
-        floors = [("texts", 400), ("right", 20), ("entries", 1500), ("missing", 60), ("twice", 40), ("out of order", 20),
-                  ("unknown", 40), ("no course", 100)]
+        floors = [("texts", 400), ("right", 20), ("choices", 100), ("right choices", 20), ("names of none", 5), ("entries", 1500),
+                  ("missing", 60), ("twice", 30), ("out of order", 15), ("unknown", 40), ("no course", 60)]
         return below(met, floors)
 
     return Judgement(f"runs_and_changed_runs_beside_their_script_{seed}", "ttrun check --script < (random scripts and runs)", judge)
@@ -225,6 +272,10 @@ def cases() -> List[Case]:
     words = ("check", "--script")
     found = [Case(f"beside_a_script_{name}", words, text(f"{SCRIPT};{given}"), text(output), status=status) for name, given, output, status in ROWS]
     found += [Case(f"beside_a_script_{name}", words, given, errors=f"ttrun: {fault}\n".encode(), status=3) for name, given, fault in REFUSED]
+    found += [Case(f"beside_a_part_of_a_script_{name}", (*words, *chosen.split()), text(f"{SCRIPT};{given}"), text(output), status=status)
+              for name, chosen, given, output, status in CHOSEN]
+    found += [Case(f"beside_a_part_of_a_script_{name}", (*words, *chosen.split()), given, errors=f"ttrun: {fault}\n".encode(), status=3)
+              for name, chosen, given, fault in REFUSED_CHOICES]
     return found + [long_input(1_000)]
 
 

@@ -56,7 +56,7 @@ GROUPS = (
     ("examples", examples.cases, 42),
     ("reports", reports.cases, 30),
     ("evidence", evidence_rows.cases, 145),
-    ("compared", compared.cases, 38),
+    ("compared", compared.cases, 59),
     ("explain", explain.cases, 100),
     ("documents", documents_run.cases, 2),
 )

@@ -50,9 +50,12 @@ REPORT = ("reads histories, and writes them in one of these forms\n",
           "Status: 0 for none and pass, 1 for inconc and fail, 2 for error and for a test\n"
           "case that is not over, 3 if a history is not legal, or for a refusal.\n")
 CHECK = ("replays histories and evidence, and says which are legal\n",
-         "  --script   reads their script before them, and compares them with it\n", "  --explain  " + EXPLAIN,
+         "  --script       reads their script before them, and compares them with it\n",
+         "  --only <NAME>  awaits this test case of the script; may be given again, for others\n",
+         "  --shard <K/N>  awaits the K-th of N shards of the test cases of the script\n", "  --explain      " + EXPLAIN,
          "With --script the input is a script with histories or evidence of its test cases after\n"
-         "it: cat FILE EVIDENCE | ttrun check --script. After the lines of check a line says\n",
+         "it: cat FILE EVIDENCE | ttrun check --script. With --only and --shard, as for run, it is\n"
+         "as if the script had only these test cases. After the lines of check a line says\n",
          "  unknown NAME       the script has no test case NAME\n", "  twice NAME         NAME came before\n",
          "  out of order NAME  a later test case came before\n",
          "  no course NAME     this is no complete course of the scripts of NAME\n",
@@ -101,6 +104,12 @@ check --explain --explain => the argument '--explain' cannot be used multiple ti
 check --explain --script => the argument '--script' cannot be used with '--explain'
 check --script --explain => the argument '--script' cannot be used with '--explain'
 check --script --script => the argument '--script' cannot be used multiple times
+check --script --shard => a value is required for '--shard <K/N>' but none was supplied
+check --script --shard 1/2 --shard 1/2 => the argument '--shard <K/N>' cannot be used multiple times
+check --script --explain --only a => the argument '--script' cannot be used with '--explain'
+check --only a => the arguments '--only' and '--shard' need '--script'
+check --shard 0/1 => the arguments '--only' and '--shard' need '--script'
+check --shard 1/2 --only a --explain => the arguments '--only' and '--shard' need '--script'
 explore --details --details => the argument '--details' cannot be used multiple times
 explore --details --history => the argument '--history' cannot be used with '--details'
 explore --history --history => the argument '--history' cannot be used multiple times
@@ -173,7 +182,6 @@ check --evidence => unexpected argument '--evidence' found
 check --html => unexpected argument '--html' found
 check --junit => unexpected argument '--junit' found
 check --live => unexpected argument '--live' found
-check --only a => unexpected argument '--only' found
 check --progress => unexpected argument '--progress' found
 check more => unexpected argument 'more' found
 explore --csv => unexpected argument '--csv' found
@@ -252,7 +260,8 @@ REFUSED: List[Tuple[str, Tuple[Word, ...]]] = [
 # A script of one test case, t.
 NAMED = b"testcase t\nbehaviour main\nend\nend\n"
 
-# Of several faults the first is printed: of the shard, of the stopping rule, of the text, and then of the names.
+# Of several faults the first is printed: of the shard, of a word that is no name, of the stopping rule, of the text, and then of
+# the names.
 ORDERED: List[Tuple[str, bytes, bytes]] = [
     ("run --only z --stop-on x --shard 0/2", b"x\n", b"ttrun: --shard takes K/N, with K from 1 to N\n"),
     ("run --only z --stop-on x", b"x\n", b"ttrun: --stop-on takes none, pass, inconc, fail or error\n"),
@@ -261,7 +270,8 @@ ORDERED: List[Tuple[str, bytes, bytes]] = [
     ("run --shard 0/2", b"x\n", b"ttrun: --shard takes K/N, with K from 1 to N\n"),
     ("run --list --only z --shard 0/2", b"x\n", b"ttrun: --shard takes K/N, with K from 1 to N\n"),
     ("run --stop-on x", b"x\n", b"ttrun: --stop-on takes none, pass, inconc, fail or error\n"),
-    ("run --only z- --stop-on x", NAMED, b"ttrun: --stop-on takes none, pass, inconc, fail or error\n"),
+    ("run --only z- --stop-on x", NAMED, b"ttrun: --only takes the name of a test case of the script\n"),
+    ("run --only z- --stop-on x --shard 0/1", NAMED, b"ttrun: --shard takes K/N, with K from 1 to N\n"),
     ("explore --states 0", b"x\n", b"ttrun: --states takes a number from 1 to 1000000\n"),
     ("explore --states 1", b"x\n", b"ttrun: line 1: line not understood\n"),
     ("run --only z --shard 1/2", b"", b"ttrun: line 1: text ends too early\n"),
@@ -277,12 +287,12 @@ NAMELESS: List[Tuple[str, bytes]] = [
     (line, b"ttrun: --" + told.encode() + b"\n") for told, lines in (
         ("stop-on takes none, pass, inconc, fail or error",
          ("run --stop-on ", "run --stop-on -", "run --stop-on=--csv", "run --stop-on=--live", "run --stop-on run", "run --stop-on help",
-          "run --stop-on no --only 1")),
+          "run --stop-on no --only a")),
         ("shard takes K/N, with K from 1 to N",
          ("run --list --shard 0/1", "run --shard 1/02", "run --shard=many", "run --only a --shard= --only 1",
           "run --stop-on fail --shard 3/2", "run --stop-on no --shard 3/2")),
         ("only takes the name of a test case of the script",
-         ("run --only=", "run --list --only all", "run --only a --only 2b")),
+         ("run --only=", "run --list --only all", "run --only a --only 2b", "run --stop-on no --only 1")),
     ) for line in lines
 ]
 

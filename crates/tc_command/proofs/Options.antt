@@ -1,6 +1,7 @@
 -- The options among the words, as the matches hold them.
-use Rattle.std.proofs.Common.{ℕ, ◌≡◌, ◌∙◌, ◌<◌, refl, All, ap, get_or, length, map, subst, sym, Option, Some, None, List, []}
-use Rattle.std.proofs.lemmas.List.{get_or-map, length-map}
+use Rattle.std.proofs.Common.{ℕ, ◌≡◌, ◌∙◌, ◌+◌, ◌<◌, ◌++◌, ◌∷◌, refl, All, ap, get_or, length, map, subst, sym, take, Option, Some, None, List, []}
+use Rattle.std.proofs.lemmas.List.{get_or-map, length-map, map-append, take_more}
+use Rattle.std.proofs.lemmas.List.Elements.{All-push}
 use Rattle.tc_entry.specs.Name.{IsName}
 use Rattle.std.specs.Prelude.{find, option_map, option_and_then, unwrap_or}
 use Rattle.std.specs.Borrow.{Bor}
@@ -34,6 +35,18 @@ no_words f id is = ap (λ o. unwrap_or o []) (sym is ∙ raw_values-rows f id)
 -- the first value of an option, by its row
 pub first_word : (f : Found) (id : Text) → first_value f id ≡ first_of id (rows_of f)
 first_word f id = first_value-rows f id
+
+-- one more word
+pub words_more : (words : List (Bor Text)) (i : ℕ) (d : Bor Text) → i < length words
+    → map (λ w. w.now) (take (i + 1) words) ≡ map (λ w. w.now) (take i words) ++ (get_or words i d).now ∷ []
+words_more words i d within =
+    ap (map (λ (w : Bor Text). w.now)) (take_more words i d within) ∙ map-append (λ (w : Bor Text). w.now) (take i words) (get_or words i d ∷ [])
+
+-- one more word that is a name
+pub names_more : (words : List (Bor Text)) (i : ℕ) (d : Bor Text) → i < length words → All IsName (map (λ w. w.now) (take i words)) → IsName (get_or words i d).now
+    → All IsName (map (λ w. w.now) (take (i + 1) words))
+names_more words i d within so one =
+    subst (All IsName) (sym (words_more words i d within)) (All-push IsName (map (λ (w : Bor Text). w.now) (take i words)) (get_or words i d).now so one)
 
 -- if all words are names, each is one
 pub name_at : (words : List (Bor Text)) (i : ℕ) (d : Bor Text) → i < length words → All IsName (map (λ w. w.now) words) → IsName (get_or words i d).now

@@ -1,5 +1,5 @@
 -- What the arguments ask for.
-use Rattle.std.specs.Prelude.{◌≡◌, Bool, true, false, ◌&&◌, List, [], ◌∷◌, Option, Some, None, Result, Ok, Err, All, codes, find}
+use Rattle.std.specs.Prelude.{◌≡◌, Bool, true, false, ◌&&◌, ◌||◌, not, List, [], ◌∷◌, Option, Some, None, Result, Ok, Err, All, codes, find}
 use Rattle.std.specs.Prelude.{if◌then◌else◌, is_none, option_and_then, unwrap_or}
 use Rattle.std.specs.List.{list_any}
 use Rattle.std.specs.Str.{bytes_eq}
@@ -85,6 +85,11 @@ report_form_of rows =
     else (if is_given rows (codes "junit") then Some report_form.Junit
     else (if is_given rows (codes "html") then Some report_form.Html else None))
 
+-- test cases are chosen, and there is no script of them
+abbrev pub lacks_script : Subcommand → List Row → Bool
+lacks_script S.Check rows = (is_given rows (codes "only") || is_given rows (codes "shard")) && not (is_given rows (codes "script"))
+lacks_script subcommand rows = false
+
 -- a form is needed, and none is given
 abbrev pub lacks_form : Subcommand → List Row → Bool
 lacks_form S.Report rows = is_none (report_form_of rows)
@@ -94,7 +99,7 @@ lacks_form subcommand rows = false
 abbrev pub option_faults : Subcommand × List Row → Kinds
 option_faults line =
     if list_any (are_both line.1) (apart line.0) then ArgumentConflict ∷ []
-    else (if lacks_form line.0 line.1 then MissingRequiredArgument ∷ [] else [])
+    else (if lacks_script line.0 line.1 || lacks_form line.0 line.1 then MissingRequiredArgument ∷ [] else [])
 
 -- why the arguments are refused, as the kinds of the first fault, or that they ask for help or the version; none if
 -- they are taken
@@ -118,7 +123,7 @@ pub record AsksRun (rows : List Row) (o : RunOptions) : Type 0 where
 -- the subcommand with its options asks for this task
 abbrev pub Asks : Subcommand × List Row → Task → Type 0
 Asks (S.Check, rows) (T.Check explains) = (is_given rows (codes "script") ≡ false) × (explains ≡ is_given rows (codes "explain"))
-Asks (S.Check, rows) T.Compare = is_given rows (codes "script") ≡ true
+Asks (S.Check, rows) (T.Compare c) = (is_given rows (codes "script") ≡ true) × Chooses rows c
 Asks (S.Replay, rows) (T.Replay explains) = explains ≡ is_given rows (codes "explain")
 Asks (S.Report, rows) (T.Report f explains) = (report_form_of rows ≡ Some f) × (explains ≡ is_given rows (codes "explain"))
 Asks (S.Explore, rows) (T.Explore histories details states) =
@@ -128,15 +133,15 @@ Asks (S.Run, rows) (T.List c) = (is_given rows (codes "list") ≡ true) × Choos
 Asks (S.Serve, rows) T.Serve = Unit {0}
 Asks line task = ⊥
 
--- a value of these options names nothing, and it is the first: that of --shard, then that of --stop-on or --states, and
--- then those of --only
+-- a value of these options names nothing, and it is the first: that of --shard, then those of --only, and then that of
+-- --stop-on or --states
 abbrev pub HasBadWord : List Row → WordFault → Type 0
 HasBadWord rows W.Shard = IsBad IsShardOf (first_of (codes "shard") rows)
-HasBadWord rows W.StopOn = IsGood IsShardOf (first_of (codes "shard") rows) × IsBad IsRuleOf (first_of (codes "stop-on") rows)
+HasBadWord rows W.Only = IsGood IsShardOf (first_of (codes "shard") rows) × (All IsName (words_of (codes "only") rows) → ⊥)
+HasBadWord rows W.StopOn =
+    IsGood IsShardOf (first_of (codes "shard") rows) × All IsName (words_of (codes "only") rows)
+    × IsBad IsRuleOf (first_of (codes "stop-on") rows)
 HasBadWord rows W.States = IsBad IsStatesOf (first_of (codes "states") rows)
-HasBadWord rows W.Only =
-    IsGood IsShardOf (first_of (codes "shard") rows) × IsGood IsRuleOf (first_of (codes "stop-on") rows)
-    × (All IsName (words_of (codes "only") rows) → ⊥)
 
 -- what the arguments are read as: the task that they ask for; or clap's error, of the kind of their first fault; or, if
 -- there is none, an option value that names nothing

@@ -37,7 +37,7 @@ report = with_rules (new_app (codes "report")) (flag_rule (codes "csv") ∷ flag
 
 -- the options of `check`
 abbrev pub check : App
-check = with_rules (new_app (codes "check")) (flag_rule (codes "script") ∷ flag_rule (codes "explain") ∷ [])
+check = with_rules (new_app (codes "check")) (flag_rule (codes "script") ∷ words_rule (codes "only") ∷ word_rule (codes "shard") ∷ flag_rule (codes "explain") ∷ [])
 
 -- the option of `replay`
 abbrev pub replay : App

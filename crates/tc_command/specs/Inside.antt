@@ -23,6 +23,7 @@ use Rattle.tc_command.specs.declared.word.WordFault.{WordFault}
 abbrev pub IsRefusedBy : Subcommand × List Row → Refusal → Type 0
 IsRefusedBy line (R.Conflict first second) = option_faults line ≡ ArgumentConflict ∷ []
 IsRefusedBy line R.NoForm = option_faults line ≡ MissingRequiredArgument ∷ []
+IsRefusedBy line R.NoScript = option_faults line ≡ MissingRequiredArgument ∷ []
 IsRefusedBy line (R.Word fault) = (option_faults line ≡ []) × HasBadWord line.1 fault
 IsRefusedBy line R.NoMemory = Unit {0}
 
@@ -51,6 +52,7 @@ IsTaken line task = (option_faults line ≡ []) × Asks line task
 abbrev pub IsToldBy : Refusal → Refused → Type 0
 IsToldBy (R.Conflict first second) (Told.Line e) = kind_of e ≡ ArgumentConflict
 IsToldBy R.NoForm (Told.Line e) = kind_of e ≡ MissingRequiredArgument
+IsToldBy R.NoScript (Told.Line e) = kind_of e ≡ MissingRequiredArgument
 IsToldBy (R.Word fault) (Told.Word f) = f ≡ fault
 IsToldBy refusal refused = ⊥
 

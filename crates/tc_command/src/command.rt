@@ -61,7 +61,8 @@ refusal.";
 // What the help of `check` says at its end.
 const CHECK_HELP: &str = "\
 With --script the input is a script with histories or evidence of its test cases after
-it: cat FILE EVIDENCE | ttrun check --script. After the lines of check a line says
+it: cat FILE EVIDENCE | ttrun check --script. With --only and --shard, as for run, it is
+as if the script had only these test cases. After the lines of check a line says
   unknown NAME       the script has no test case NAME
   twice NAME         NAME came before
   out of order NAME  a later test case came before
@@ -99,6 +100,25 @@ const EXPLAIN: OptionRow = OptionRow(
     "explain",
     Takes::Nothing,
     "says more of the fault of a refused text",
+);
+
+// The options of histories next to their script, as `run` was given them.
+const SCRIPT: OptionRow = OptionRow(
+    "script",
+    Takes::Nothing,
+    "reads their script before them, and compares them with it",
+);
+
+const SCRIPT_ONLY: OptionRow = OptionRow(
+    "only",
+    Takes::Words("NAME"),
+    "awaits this test case of the script; may be given again, for others",
+);
+
+const SCRIPT_SHARD: OptionRow = OptionRow(
+    "shard",
+    Takes::Word("K/N"),
+    "awaits the K-th of N shards of the test cases of the script",
 );
 
 const RUN_OPTIONS: [OptionRow; 11] = [
@@ -169,14 +189,7 @@ const EXPLORE_OPTIONS: [OptionRow; 3] = [
     ),
 ];
 
-const CHECK_OPTIONS: [OptionRow; 2] = [
-    OptionRow(
-        "script",
-        Takes::Nothing,
-        "reads their script before them, and compares them with it",
-    ),
-    EXPLAIN,
-];
+const CHECK_OPTIONS: [OptionRow; 4] = [SCRIPT, SCRIPT_ONLY, SCRIPT_SHARD, EXPLAIN];
 
 const REPORT_OPTIONS: [OptionRow; 4] = [
     OptionRow("csv", Takes::Nothing, "writes a table as CSV"),

@@ -4,8 +4,9 @@ ghost use Rattle.std.specs.List.{list_any};
 ghost use Rattle.clap.specs.Words.{FailsBy, Row, app_of, fault_of, first_of, found_of, is_simple, is_simple_and_free, rows_of, subcommand_of, subcommand_rows_of};
 ghost use Rattle.tc_entry.specs.Name.{IsName};
 ghost use Rattle.tc_command.specs.Command.{ttrun};
-ghost use Rattle.tc_command.specs.Asked.{Asks, AsksRun, IsReading, apart as spec_apart, are_both, form_of, is_given, line_of};
+ghost use Rattle.tc_command.specs.Asked.{Asks, AsksRun, Chooses, IsReading, apart as spec_apart, are_both, form_of, is_given, lacks_script as spec_lacks, line_of};
 ghost use Rattle.tc_command.specs.Asked.{report_form_of, subcommand_named as spec_named, words_of};
+ghost use Rattle.tc_command.specs.Words.{IsGood, IsShardOf};
 ghost use Rattle.tc_command.specs.Inside.{IsBadWord, IsClash, IsRefusedBy, IsTaken, IsWordRefused};
 ghost use Rattle.tc_command.specs.declared.command.Subcommand.TheVariants.{Check, Explore, Report, Run};
 ghost use Rattle.tc_command.specs.declared.refusal.Refusal.TheVariants.{NoForm};
@@ -138,6 +139,7 @@ fn report_form(options: &ArgMatches<'_>) -> Option<ReportForm>
 #[tactic(auto, using(crate::proofs::Options::words_are, crate::proofs::Options::no_words))]
 fn names(alloc: Global, options: &ArgMatches<'_>) -> Result<Vec<Name>, Refusal>
     ensures taken { IfOk result (λ v. v.items ≡ words_of (codes "only") (rows_of (found_of options.now))) }
+    ensures good { OnOk result (All IsName (words_of (codes "only") (rows_of (found_of options.now)))) }
     ensures refused { IfErr result (IsBadWord (All IsName (words_of (codes "only") (rows_of (found_of options.now))) → ⊥) fault.Only) }
 {
     match options.get_strs("only") {
@@ -149,20 +151,31 @@ fn names(alloc: Global, options: &ArgMatches<'_>) -> Result<Vec<Name>, Refusal>
     }
 }
 
+// Which test cases the options choose.
+fn choice(alloc: Global, options: &ArgMatches<'_>) -> Result<Choice, Refusal>
+    ensures taken { IfOk result (Chooses (rows_of (found_of options.now))) }
+    ensures shard { OnOk result (IsGood IsShardOf (first_of (codes "shard") (rows_of (found_of options.now)))) }
+    ensures only { OnOk result (All IsName (words_of (codes "only") (rows_of (found_of options.now)))) }
+    ensures refused { IfErr result (IsWordRefused (rows_of (found_of options.now))) }
+{
+    let shard = word::shard(word_of(options, "shard"))?;
+    let only = names(alloc, options)?;
+    Ok(Choice { only, shard })
+}
+
 // How the options ask for a campaign to be run.
 fn run_options(alloc: Global, options: &ArgMatches<'_>) -> Result<RunOptions, Refusal>
     ensures taken { IfOk result (AsksRun (rows_of (found_of options.now))) }
     ensures refused { IfErr result (IsWordRefused (rows_of (found_of options.now))) }
 {
-    let shard = word::shard(word_of(options, "shard"))?;
+    let choice = choice(alloc, options)?;
     let stop_on = word::stop_on(word_of(options, "stop-on"))?;
-    let only = names(alloc, options)?;
     Ok(RunOptions {
         form: form(options),
         live: has_option(options, "live"),
         progress: has_option(options, "progress"),
         stop_on,
-        choice: Choice { only, shard },
+        choice,
         explains: has_option(options, "explain"),
     })
 }
@@ -206,15 +219,29 @@ fn report_task(options: &ArgMatches<'_>) -> Result<Task, Refusal>
 }
 
 // What the options of `check` ask for.
-fn check_task(options: &ArgMatches<'_>) -> Task
-    ensures { Asks (Check, rows_of (found_of options.now)) result }
+fn check_task(alloc: Global, options: &ArgMatches<'_>) -> Result<Task, Refusal>
+    ensures taken { IfOk result (Asks (Check, rows_of (found_of options.now))) }
+    ensures refused { IfErr result (IsWordRefused (rows_of (found_of options.now))) }
 {
     if has_option(options, "script") {
-        Task::Compare
+        Ok(Task::Compare(choice(alloc, options)?))
     } else {
-        Task::Check {
+        Ok(Task::Check {
             explains: has_option(options, "explain"),
+        })
+    }
+}
+
+// Whether test cases are chosen, and there is no script of them.
+fn lacks_script(subcommand: Subcommand, options: &ArgMatches<'_>) -> bool
+    ensures { result ≡ spec_lacks subcommand (rows_of (found_of options.now)) }
+{
+    match subcommand {
+        Subcommand::Check => {
+            (has_option(options, "only") || has_option(options, "shard"))
+                && !has_option(options, "script")
         }
+        _ => false,
     }
 }
 
@@ -228,11 +255,14 @@ fn subcommand_task(
     ensures refused { IfErr result (IsRefusedBy (subcommand, rows_of (found_of options.now))) }
 {
     refuse_both(options, apart(subcommand))?;
+    if lacks_script(subcommand, options) {
+        return Err(Refusal::NoScript);
+    }
     match subcommand {
         Subcommand::Run => run_task(alloc, options),
         Subcommand::Explore => explore_task(options),
         Subcommand::Report => report_task(options),
-        Subcommand::Check => Ok(check_task(options)),
+        Subcommand::Check => check_task(alloc, options),
         Subcommand::Replay => Ok(Task::Replay {
             explains: has_option(options, "explain"),
         }),

@@ -17,6 +17,8 @@ pub(crate) enum Refusal {
     Conflict(&'static str, &'static str),
     /// `report` without a form.
     NoForm,
+    /// Test cases are chosen without their script.
+    NoScript,
     /// The value of an option names nothing.
     Word(WordFault),
     /// Memory ran out.
@@ -84,6 +86,10 @@ pub(crate) fn told_of(
         Refusal::NoForm => Ok(Refused::Line(command.error(
             ErrorKind::MissingRequiredArgument,
             "one of the arguments '--csv', '--junit' and '--html' is needed",
+        )?)),
+        Refusal::NoScript => Ok(Refused::Line(command.error(
+            ErrorKind::MissingRequiredArgument,
+            "the arguments '--only' and '--shard' need '--script'",
         )?)),
         Refusal::Word(fault) => Ok(Refused::Word(fault)),
         Refusal::NoMemory => Err(AllocError),

@@ -71,8 +71,8 @@ pub enum Task {
     Check {
         explains: bool,
     },
-    /// Check histories and evidence after their script in one text, and compare them with it.
-    Compare,
+    /// Check histories and evidence after their script in one text, and compare them with its chosen test cases.
+    Compare(Choice),
     /// Report histories in this form.
     Report {
         form: ReportForm,

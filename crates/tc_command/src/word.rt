@@ -1,5 +1,5 @@
 //! The values of options, and what they name.
-ghost use Rattle.std.specs.Prelude.{◌≡◌, ◌≤◌, All, IfOk, IfErr, IfSome, IfNone, map, option_copied, ℕ};
+ghost use Rattle.std.specs.Prelude.{◌≡◌, ◌≤◌, All, IfOk, IfErr, IfSome, IfNone, OnOk, map, option_copied, ℕ};
 ghost use Rattle.std.specs.Fmt.{decimal};
 ghost use Rattle.tc_entry.specs.Name.{IsName};
 ghost use Rattle.tc_entry.specs.Shard.{ShardView};
@@ -114,6 +114,7 @@ pub(crate) fn states(word: Option<&str>) -> Result<usize, WordFault>
 /// The names of `--only`.
 pub(crate) fn names(alloc: Global, words: &[&str]) -> Result<Vec<Name>, Refusal>
     ensures taken { IfOk result (λ v. v.items ≡ map (λ w. w.now) words.now) }
+    ensures good { OnOk result (All IsName (map (λ w. w.now) words.now)) }
     ensures refused { IfErr result (IsBadWord (All IsName (map (λ w. w.now) words.now) → ⊥) fault.Only) }
 {
     let mut names = Vec::new(alloc);

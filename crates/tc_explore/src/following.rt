@@ -58,7 +58,7 @@ fn ends_with(course: &Course, scripts: &[Script], verdict: Verdict) -> bool
 }
 
 /// Whether the entries, the oldest first, are a complete course of a test case whose behaviours are these scripts, and
-/// this is its overall verdict. A test case without behaviours has none.
+/// this is its overall verdict.
 pub fn is_course(
     alloc: Global,
     scripts: &[Script],

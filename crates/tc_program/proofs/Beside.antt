@@ -1,13 +1,13 @@
 -- Blocks next to the test cases of their script: what is kept of them while they are taken in.
-use Rattle.std.proofs.Common.{ℕ, zero, suc, ◌≡◌, ◌∙◌, ◌+◌, ◌<◌, ◌≤◌, ◌||◌, ◌==◌, cond, not, nat_lt, Bool, true, false, Option, Some, None, List, [], ◌∷◌, ◌++◌, map, length, get_or, position, replicate, reverse, take, slice_get, slice_index_or, slice_set, get_or-set_same, refl, sym, ap, subst, arith}
+use Rattle.std.proofs.Common.{ℕ, zero, suc, ◌≡◌, ◌∙◌, ◌+◌, ◌<◌, ◌≤◌, ◌||◌, ◌==◌, cond, not, nat_lt, Bool, true, false, Option, Some, None, List, [], ◌∷◌, ◌++◌, All, drop, if◌then◌else◌, map, length, get_or, position, replicate, reverse, take, slice_get, slice_index_or, slice_set, get_or-set_same, refl, sym, ap, ap₂, subst, arith}
 use Rattle.std.proofs.lemmas.Bool.Decides.{nat_tests}
 use Rattle.std.proofs.lemmas.Grind.{elements}
-use Rattle.std.proofs.lemmas.List.{append-nil, append_assoc, length-append, reverse-append, take_all, take_more}
-use Rattle.std.proofs.lemmas.List.Concat.{flat_map-append}
+use Rattle.std.proofs.lemmas.List.{append-nil, drop_more, map-append, reverse-append, take_all, take-append-drop, take_more}
+use Rattle.std.proofs.lemmas.List.Elements.{All-cons, All-head, All-nil, All-tail}
 use Rattle.std.proofs.lemmas.List.Quantifiers.{position-Some}
 use Rattle.std.specs.Cmp.Lexicographic.{bytes_decides}
 use Rattle.std.specs.Option.{option_map_or}
-use Rattle.std.specs.List.{flat_map, list_any, position_or_len}
+use Rattle.std.specs.List.{AllZip, list_any, position_or_len}
 use Rattle.tc_entry.specs.declared.limits.TheConstants.{BEHAVIOURS}
 use Rattle.tc_evidence.specs.declared.block.Block.{Block}
 use Rattle.tc_line.specs.Words.{is_text}
@@ -17,8 +17,15 @@ use Rattle.tc_script.specs.Names.{Word, among, has_twice}
 use Rattle.tc_step.specs.Steps.{ScriptView}
 use Rattle.tc_program.specs.Scripted.{CaseView, scripts_of}
 use Rattle.tc_program.specs.declared.compare.Comparing.{Comparing}
-use Rattle.tc_program.specs.Inside.{Judges, SaysNext, StandsBeside, TellsIfMissing, TellsMissing, TellsMissingTo}
-use Rattle.tc_program.specs.Compared.{AreJudged, is_late, is_met, missing_note, note, place}
+use Rattle.tc_campaign.specs.declared.case.Case.{Case}
+use Rattle.tc_command.specs.declared.task.Choice.{Choice}
+use Rattle.tc_program.specs.Check.{RefusesHistory}
+use Rattle.tc_program.specs.Choosing.{RefusesChoice}
+use Rattle.tc_program.specs.Inside.{AddsIfMissing, AreComparable, AreMissing, AreMissingTo, AreReady, IsCaseOf, Judges, SaysNext, StandsBeside}
+use Rattle.tc_program.specs.Compared.{AreJudged, RefusesAgainst, blocks_part, is_late, is_met, missing, note, place, script_part}
+use Rattle.tc_program.specs.declared.fault.RunFault.{RunFault}
+use Rattle.tc_program.specs.declared.fault.RunFault.TheVariants as F
+use Rattle.tc_program.proofs.Chosen.{or_left, or_right}
 use Rattle.tc_program.specs.declared.compare.Wrong.{Wrong}
 use Rattle.tc_program.specs.declared.compare.Wrong.TheVariants as W
 
@@ -31,14 +38,6 @@ same a b e = (bytes_decides a b).0 e
 alike : (a b : Word) → a ≡ b → is_text a b ≡ true
 unfolding is_text
 alike a b e = (bytes_decides a b).1 e
-
-or_left : (a b : Bool) → (a || b) ≡ false → a ≡ false
-or_left false b e = refl
-or_left true b e = absurd cc
-
-or_right : (a b : Bool) → (a || b) ≡ false → b ≡ false
-or_right false b e = e
-or_right true b e = absurd cc
 
 or_true : (a : Bool) → (a || true) ≡ true
 or_true true = refl
@@ -170,7 +169,7 @@ pub beside_unknown : (cases : CampaignView) (before : List Block) (b : Block) (c
     StandsBeside cases (b ∷ before) c
 beside_unknown cases before b c none s = record {
   names = s.names;
-  scripts = s.scripts;
+  ready = s.ready;
   met = λ q t at. rw (unplaced cases b.header.name q t none at) (s.met q t at);
   next = λ q. rw none (s.next q);
 }
@@ -178,7 +177,7 @@ beside_unknown cases before b c none s = record {
 -- nor does one of a test case that was met
 pub beside_twice : (cases : CampaignView) (before : List Block) (b : Block) (c : Comparing) (p : ℕ) → place cases b.header.name ≡ Some p →
     slice_index_or c.met.items p false ≡ true → StandsBeside cases before c → (is_met before b.header.name ≡ true) × StandsBeside cases (b ∷ before) c
-beside_twice cases before b c p e was s = (met, record { names = s.names; scripts = s.scripts; met = λ q t at. by_name q t at (is_text t.0 b.header.name) refl; next = λ q. by_place q (nat_lt q p) refl })
+beside_twice cases before b c p e was s = (met, record { names = s.names; ready = s.ready; met = λ q t at. by_name q t at (is_text t.0 b.header.name) refl; next = λ q. by_place q (nat_lt q p) refl })
   where
     met : is_met before b.header.name ≡ true
     met = let is = placed cases b.header.name p e in ap (is_met before) is.2 ∙ (sym (s.met p is.0 is.1) ∙ was)
@@ -193,13 +192,13 @@ beside_twice cases before b c p e was s = (met, record { names = s.names; script
 
 -- a block of a test case before the last one that was met
 pub beside_late : (cases : CampaignView) (before : List Block) (b : Block) (c after : Comparing) (p : ℕ) → has_twice (map (λ t. t.0) cases) ≡ false →
-    place cases b.header.name ≡ Some p → p < length c.met.items → after.names ≡ c.names → after.scripts ≡ c.scripts → after.met.items ≡ slice_set c.met.items p true →
+    place cases b.header.name ≡ Some p → p < length c.met.items → after.names ≡ c.names → after.ready ≡ c.ready → after.met.items ≡ slice_set c.met.items p true →
     after.next ≡ c.next → p + 1 < c.next → StandsBeside cases before c → (is_late cases before p ≡ true) × StandsBeside cases (b ∷ before) after
-beside_late cases before b c after p distinct e within names scripts met next less s = (
+beside_late cases before b c after p distinct e within names ready met next less s = (
   s.next p ∙ test,
   record {
     names = ap (λ x. x.keys) names ∙ s.names;
-    scripts = ap (λ x. map (λ y. y.items) x.items) scripts ∙ s.scripts;
+    ready = subst (λ x. AllZip IsCaseOf cases x.items) (sym ready) s.ready;
     met = λ q t at. ap (λ x. slice_index_or x q false) met ∙ met_more cases before b c.met.items p q t distinct e within at (s.met q t at);
     next = λ q. by_place q (nat_lt q p) refl;
   },
@@ -214,13 +213,13 @@ beside_late cases before b c after p distinct e within names scripts met next le
 
 -- a block of a test case after those that were met
 pub beside_next : (cases : CampaignView) (before : List Block) (b : Block) (c after : Comparing) (p : ℕ) → has_twice (map (λ t. t.0) cases) ≡ false →
-    place cases b.header.name ≡ Some p → p < length c.met.items → after.names ≡ c.names → after.scripts ≡ c.scripts → after.met.items ≡ slice_set c.met.items p true →
+    place cases b.header.name ≡ Some p → p < length c.met.items → after.names ≡ c.names → after.ready ≡ c.ready → after.met.items ≡ slice_set c.met.items p true →
     after.next ≡ p + 1 → c.next ≤ p + 1 → StandsBeside cases before c → (is_late cases before p ≡ false) × StandsBeside cases (b ∷ before) after
-beside_next cases before b c after p distinct e within names scripts met next least s = (
+beside_next cases before b c after p distinct e within names ready met next least s = (
   s.next p ∙ test,
   record {
     names = ap (λ x. x.keys) names ∙ s.names;
-    scripts = ap (λ x. map (λ y. y.items) x.items) scripts ∙ s.scripts;
+    ready = subst (λ x. AllZip IsCaseOf cases x.items) (sym ready) s.ready;
     met = λ q t at. ap (λ x. slice_index_or x q false) met ∙ met_more cases before b c.met.items p q t distinct e within at (s.met q t at);
     next = λ q. by_place q (nat_lt q p) refl;
   },
@@ -242,15 +241,14 @@ pub not_met : (cases : CampaignView) (before : List Block) (b : Block) (c : Comp
 not_met cases before b c p e was s = let is = placed cases b.header.name p e in ap (is_met before) is.2 ∙ (sym (s.met p is.0 is.1) ∙ was)
 
 -- the scripts of the test case at a place
-pub scripts_at : {V : Type 0} (items : V → List ScriptView) (cases : CampaignView) (scripts : List V) (p : ℕ) (t : CaseView) (d : V) →
-    map items scripts ≡ map (λ c. scripts_of c.1) cases → slice_get cases p ≡ Some t → items (get_or scripts p d) ≡ scripts_of t.1
-scripts_at items [] scripts p t d h at = absurd cc
-scripts_at items (c ∷ cs) [] p t d h at = absurd cc
-scripts_at items (c ∷ cs) (x ∷ xs) zero t d h at =
+pub scripts_at : (cases : CampaignView) (ready : List (Case ScriptView)) (p : ℕ) (t : CaseView) (d : Case ScriptView) → AllZip IsCaseOf cases ready → slice_get cases p ≡ Some t
+    → (get_or ready p d).jobs.items ≡ scripts_of t.1
+scripts_at [] ready p t d each at = absurd cc
+scripts_at (c ∷ cs) [] p t d each at = absurd each
+scripts_at (c ∷ cs) (k ∷ ks) zero t d each at =
     let is : c ≡ t = cc in
-    let first : items x ≡ scripts_of c.1 = cc in
-    first ∙ ap (λ (y : CaseView). scripts_of y.1) is
-scripts_at items (c ∷ cs) (x ∷ xs) (suc p) t d h at = let rest : map items xs ≡ map (λ c. scripts_of c.1) cs = cc in scripts_at items cs xs p t d rest at
+    each.0.jobs ∙ ap (λ (y : CaseView). scripts_of y.1) is
+scripts_at (c ∷ cs) (k ∷ ks) (suc p) t d each at = scripts_at cs ks p t d each.1 at
 
 -- ---- before any block
 
@@ -272,45 +270,63 @@ apart (x ∷ xs) n ys h = by (apart xs n ys (or_right (among x (xs ++ n ∷ ys))
     by rest false k = rest
     by rest true k = let known = among_last x n xs ys (same n x k) in absurd cc
 
--- one more is taken
-pub join_more : {A B : Type 0} (f : A → B) (xs : List B) (a : A) (old rest all : List A) (x : B) → old ≡ a ∷ rest → x ≡ f a →
-    xs ++ map f old ≡ map f all → (xs ++ x ∷ []) ++ map f rest ≡ map f all
-join_more f xs a old rest all x was is h =
-    let next : x ∷ map f rest ≡ map f old = ap (λ y. y ∷ map f rest) is ∙ ap (map f) (sym was) in
-    append_assoc xs (x ∷ []) (map f rest) ∙ (ap (λ l. xs ++ l) next ∙ h)
-
 -- none of the names so far is the next one
-pub new_name : (keys : List Word) (a : CaseView) (old rest all : CampaignView) → old ≡ a ∷ rest → has_twice (map (λ t. t.0) all) ≡ false →
-    keys ++ map (λ t. t.0) old ≡ map (λ t. t.0) all → among a.0 keys ≡ false
-new_name keys a old rest all was distinct h =
-    let names : keys ++ a.0 ∷ map (λ t. t.0) rest ≡ map (λ t. t.0) all = ap (λ l. keys ++ map (λ t. t.0) l) (sym was) ∙ h in
-    apart keys a.0 (map (λ t. t.0) rest) (ap has_twice names ∙ distinct)
-
-few_scripts : (bs : List (Word × ScriptView)) → length (scripts_of bs) ≡ length bs
-few_scripts [] = refl
-few_scripts (b ∷ bs) = ap suc (few_scripts bs)
-
--- the scripts of a test case are few
-pub are_few : (t : CaseView) (scripts : List ScriptView) → IsCase t.1 → scripts ≡ scripts_of t.1 → length scripts ≤ BEHAVIOURS
-are_few t scripts is same = let n : length scripts ≡ length t.1 = ap length same ∙ few_scripts t.1 in let few = is.few in omega (arith, n, few)
+pub new_name : (ready : List (Case ScriptView)) (i : ℕ) (k : Case ScriptView) (keys : List Word) → AreComparable ready → i < length ready → get_or ready i k ≡ k
+    → keys ≡ map (λ r. r.name) (take i ready) → among k.name keys ≡ false
+new_name ready i k keys are within item is =
+    let name : Case ScriptView → Word = λ r. r.name in
+    let here : drop i ready ≡ k ∷ drop (i + 1) ready = drop_more ready i k within ∙ ap (λ x. x ∷ drop (i + 1) ready) item in
+    let parts : ready ≡ take i ready ++ k ∷ drop (i + 1) ready = sym (take-append-drop i ready) ∙ ap (λ l. take i ready ++ l) here in
+    let names : map name ready ≡ map name (take i ready) ++ name k ∷ map name (drop (i + 1) ready) =
+    ap (map name) parts ∙ map-append name (take i ready) (k ∷ drop (i + 1) ready) in
+    ap (among k.name) is ∙ apart (map name (take i ready)) k.name (map name (drop (i + 1) ready)) (ap has_twice (sym names) ∙ are.distinct)
 
 all_false : (n q : ℕ) → slice_index_or (replicate n false) q false ≡ false
 all_false zero q = refl
 all_false (suc n) zero = refl
 all_false (suc n) (suc q) = all_false n q
 
+same_names : (cases : CampaignView) (ready : List (Case ScriptView)) → AllZip IsCaseOf cases ready → map (λ k. k.name) ready ≡ map (λ t. t.0) cases
+same_names [] [] each = refl
+same_names [] (k ∷ ks) each = absurd each
+same_names (c ∷ cs) [] each = absurd each
+same_names (c ∷ cs) (k ∷ ks) each = ap₂ (λ (x : Word) (xs : List Word). x ∷ xs) each.0.name (same_names cs ks each.1)
+
+-- test cases that can be compared have different names
+pub names_differ : (cases : CampaignView) (ready : List (Case ScriptView)) → AllZip IsCaseOf cases ready → AreComparable ready → has_twice (map (λ t. t.0) cases) ≡ false
+names_differ cases ready each are = ap has_twice (sym (same_names cases ready each)) ∙ are.distinct
+
 -- before any block nothing is met
-pub beside_none : (cases : CampaignView) (c : Comparing) (n : ℕ) → c.names.keys ≡ map (λ t. t.0) cases → map (λ s. s.items) c.scripts.items ≡ map (λ t. scripts_of t.1) cases →
-    c.met.items ≡ replicate n false → c.next ≡ 0 → StandsBeside cases [] c
-beside_none cases c n names scripts met next = record {
-  names = names;
-  scripts = scripts;
+pub beside_none : (c : Comparing) (n : ℕ) (cases : CampaignView) → c.names.keys ≡ map (λ k. k.name) c.ready.items → AllZip IsCaseOf cases c.ready.items
+    → c.met.items ≡ replicate n false → c.next ≡ 0 → StandsBeside cases [] c
+beside_none c n cases names each met next = record {
+  names = names ∙ same_names cases c.ready.items each;
+  ready = each;
   met = λ p t at. ap (λ l. slice_index_or l p false) met ∙ all_false n p;
   next = λ p. let test : nat_lt (p + 1) c.next ≡ false = grind (arith, nat_tests) in sym test;
 }
 
-pub as_long : {A B : Type 0} (xs : List A) (ys : List B) (x : A) (y : B) → length xs ≡ length ys → length (xs ++ x ∷ []) ≡ length (ys ++ y ∷ [])
-as_long xs ys x y h = length-append xs (x ∷ []) ∙ (ap (λ n. n + 1) h ∙ sym (length-append ys (y ∷ [])))
+few_scripts : (bs : List (Word × ScriptView)) → length (scripts_of bs) ≡ length bs
+few_scripts [] = refl
+few_scripts (b ∷ bs) = ap suc (few_scripts bs)
+
+few_jobs : (cases : CampaignView) (ready : List (Case ScriptView)) → AllZip IsCaseOf cases ready → All (λ c. IsCase c.1) cases → All (λ k. length k.jobs.items ≤ BEHAVIOURS) ready
+few_jobs [] [] each all = All-nil (λ (k : Case ScriptView). length k.jobs.items ≤ BEHAVIOURS)
+few_jobs [] (k ∷ ks) each all = absurd each
+few_jobs (c ∷ cs) [] each all = absurd each
+few_jobs (c ∷ cs) (k ∷ ks) each all =
+    let one : IsCase c.1 = All-head (λ (t : CaseView). IsCase t.1) c cs all in
+    let same : length k.jobs.items ≡ length c.1 = ap length each.0.jobs ∙ few_scripts c.1 in
+    let few = one.few in
+    All-cons (λ (r : Case ScriptView). length r.jobs.items ≤ BEHAVIOURS) k ks (omega (arith, few, same))
+    (few_jobs cs ks each.1 (All-tail (λ (t : CaseView). IsCase t.1) c cs all))
+
+-- the chosen test cases of a script can be compared
+pub comparable : (choice : Choice) (text : List ℕ) (ready : List (Case ScriptView)) → AreReady choice text ready → AreComparable ready
+comparable choice text ready are = record {
+  distinct = ap has_twice (same_names are.cases ready are.each) ∙ are.distinct;
+  few = few_jobs are.cases ready are.each are.lawful;
+}
 
 -- ---- test cases that no block has the name of
 
@@ -322,48 +338,74 @@ case_at (c ∷ cs) (suc p) less =
     let on : suc p + 1 ≡ suc (p + 1) = omega arith in
     (rest.0, rest.1, ap (λ n. take n (c ∷ cs)) on ∙ ap (λ l. c ∷ l) rest.2)
 
--- what is said of the test cases at the places before this one, and of this one
-pub tells_more : (c : Comparing) (p : ℕ) (old mid new : List ℕ) → p < length c.names.keys → TellsMissingTo p c old mid → TellsIfMissing p c mid new → TellsMissingTo (p + 1) c old new
-tells_more c p old mid new less before one cases blocks s =
+names_long : (cs : CampaignView) → length (map (λ t. t.0) cs) ≡ length cs
+names_long [] = refl
+names_long (t ∷ ts) = ap suc (names_long ts)
+
+missing_both : (before : List Block) (cs ds : CampaignView) → missing before (cs ++ ds) ≡ missing before cs ++ missing before ds
+missing_both before [] ds = refl
+missing_both before (c ∷ cs) ds = by (is_met before c.0) (missing_both before cs ds)
+  where
+    by : (b : Bool) → missing before (cs ++ ds) ≡ missing before cs ++ missing before ds
+        → (if not b then c.0 ∷ missing before (cs ++ ds) else missing before (cs ++ ds)) ≡ (if not b then c.0 ∷ missing before cs else missing before cs) ++ missing before ds
+    by true rest = rest
+    by false rest = ap (λ l. c.0 ∷ l) rest
+
+-- those missing at the places before this one, and the one at this place
+pub missing_more : (c : Comparing) (p : ℕ) (mid new : List Word) → p < length c.names.keys → AreMissingTo p c mid → AddsIfMissing p c mid new → AreMissingTo (p + 1) c new
+missing_more c p mid new less before one cases blocks s =
     let long : p < length cases = let n : length c.names.keys ≡ length cases = ap length s.names ∙ names_long cases in omega (arith, less, n) in
     let at = case_at cases p long in
-    let all : flat_map (missing_note blocks) (take (p + 1) cases) ≡ flat_map (missing_note blocks) (take p cases) ++ missing_note blocks at.0 =
-    ap (flat_map (missing_note blocks)) at.2 ∙ (flat_map-append (missing_note blocks) (take p cases) (at.0 ∷ []) ∙ ap (λ l. flat_map (missing_note blocks) (take p cases) ++ l) (append-nil (missing_note blocks at.0))) in
-    one cases blocks s at.0 at.1 ∙ (ap (λ l. l ++ missing_note blocks at.0) (before cases blocks s) ∙ (append_assoc old (flat_map (missing_note blocks) (take p cases)) (missing_note blocks at.0) ∙ ap (λ l. old ++ l) (sym all)))
-  where
-    names_long : (cs : CampaignView) → length (map (λ t. t.0) cs) ≡ length cs
-    names_long [] = refl
-    names_long (t ∷ ts) = ap suc (names_long ts)
+    one cases blocks s at.0 at.1 ∙ (ap (λ l. l ++ missing blocks (at.0 ∷ [])) (before cases blocks s)
+    ∙ (sym (missing_both blocks (take p cases) (at.0 ∷ [])) ∙ ap (missing blocks) (sym at.2)))
 
-pub tells_all : (c : Comparing) (p : ℕ) (old new : List ℕ) → length c.names.keys ≤ p → TellsMissingTo p c old new → TellsMissing c old new
-tells_all c p old new whole tells cases blocks s =
+pub missing_all : (c : Comparing) (p : ℕ) (names : List Word) → length c.names.keys ≤ p → AreMissingTo p c names → AreMissing c names
+missing_all c p names whole are cases blocks s =
     let n : length c.names.keys ≡ length cases = ap length s.names ∙ names_long cases in
     let all : take p cases ≡ cases = take_all p cases (omega (arith, whole, n)) in
-    tells cases blocks s ∙ ap (λ l. old ++ flat_map (missing_note blocks) l) all
-  where
-    names_long : (cs : CampaignView) → length (map (λ t. t.0) cs) ≡ length cs
-    names_long [] = refl
-    names_long (t ∷ ts) = ap suc (names_long ts)
+    are cases blocks s ∙ ap (missing blocks) all
 
--- what is said of the test case at a place, by whether it is met
-pub tells_met : (c : Comparing) (p : ℕ) (old : List ℕ) → slice_index_or c.met.items p false ≡ true → TellsIfMissing p c old old
-tells_met c p old was cases before s t at =
+-- the test case at a place, by whether it is met
+pub adds_met : (c : Comparing) (p : ℕ) (old : List Word) → slice_index_or c.met.items p false ≡ true → AddsIfMissing p c old old
+adds_met c p old was cases before s t at =
     let met : is_met before t.0 ≡ true = sym (s.met p t at) ∙ was in
-    rw met (sym (append-nil old))
+    sym (append-nil old) ∙ ap (λ l. old ++ l) (sym (ap (λ (b : Bool). if not b then t.0 ∷ [] else []) met))
 
-pub tells_unmet : (c : Comparing) (p : ℕ) (old new : List ℕ) (name : Word) → slice_index_or c.met.items p false ≡ false → slice_get c.names.keys p ≡ Some name →
-    new ≡ old ++ note name W.Missing → TellsIfMissing p c old new
-tells_unmet c p old new name was named said cases before s t at =
-    let not : is_met before t.0 ≡ false = sym (s.met p t at) ∙ was in
+pub adds_unmet : (c : Comparing) (p : ℕ) (old new : List Word) (name : Word) → slice_index_or c.met.items p false ≡ false → slice_get c.names.keys p ≡ Some name →
+    new ≡ old ++ name ∷ [] → AddsIfMissing p c old new
+adds_unmet c p old new name was named added cases before s t at =
+    let unmet : is_met before t.0 ≡ false = sym (s.met p t at) ∙ was in
     let is : name ≡ t.0 = name_at cases p t name at (ap (λ l. slice_get l p) (sym s.names) ∙ named) in
-    rw not (said ∙ ap (λ n. old ++ note n W.Missing) is)
+    added ∙ (ap (λ n. old ++ n ∷ []) is ∙ ap (λ l. old ++ l) (sym (ap (λ (b : Bool). if not b then t.0 ∷ [] else []) unmet)))
   where
     name_at : (cs : CampaignView) (p : ℕ) (t : CaseView) (name : Word) → slice_get cs p ≡ Some t → slice_get (map (λ c. c.0) cs) p ≡ Some name → name ≡ t.0
     name_at [] p t name at named = absurd cc
     name_at (c ∷ cs) zero t name at named = let is : c ≡ t = cc in let first : c.0 ≡ name = cc in sym first ∙ ap (λ x. x.0) is
     name_at (c ∷ cs) (suc p) t name at named = name_at cs p t name at named
 
-pub ruleset missing_rules = (tells_met, tells_unmet, tells_all)
+pub ruleset missing_rules = (adds_met, adds_unmet, missing_all)
+
+-- ---- a text that is refused
+
+-- a script that is refused
+pub script_refused : (choice : Choice) (text : List ℕ) (fault : RunFault) → RefusesChoice choice (script_part text) fault → RefusesAgainst choice text fault
+script_refused choice text (F.Text fault) refused = absurd refused
+script_refused choice text F.TooLong refused = refused
+script_refused choice text F.Read refused = refused
+script_refused choice text F.Write refused = refused
+script_refused choice text F.NoMemory refused = refused
+script_refused choice text (F.Script fault) refused = refused
+script_refused choice text F.StopOn refused = refused
+script_refused choice text F.Only refused = refused
+
+-- the blocks are refused, after a script that is not
+pub blocks_refused : (choice : Choice) (text : List ℕ) (ready : List (Case ScriptView)) (fault : RunFault) → AreReady choice (script_part text) ready
+    → RefusesHistory (blocks_part text) fault → RefusesAgainst choice text fault
+blocks_refused choice text ready (F.Text fault) are refused = ((are.cases, are.chosen), refused)
+blocks_refused choice text ready F.NoMemory are refused = tt
+blocks_refused choice text ready fault are refused = absurd refused
+
+pub ruleset refusing_rules = (script_refused, blocks_refused, comparable)
 
 -- ---- what is said of blocks
 

@@ -14,6 +14,8 @@ use Rattle.tc_program.specs.declared.fault.RunFault.TheVariants as F
 use Rattle.tc_command.specs.declared.task.Choice.{Choice}
 use Rattle.tc_script.specs.Campaign.{CampaignView, campaign}
 use Rattle.tc_script.specs.Law.{IsCase}
+use Rattle.tc_script.specs.Names.{Word, among, has_twice}
+use Rattle.tc_line.specs.Words.{is_text}
 use Rattle.tc_program.specs.Inside.{AreReady, IsCaseOf, RefusesNames, case_line, case_parts}
 use Rattle.tc_program.specs.Scripted.{CaseView}
 
@@ -34,6 +36,71 @@ module _ {C : Type 0} (P : C → Type 0) where
   pub all_chosen : (name_of : C → List ℕ) (only : List (List ℕ)) (shard : Option ShardView) (cs : List C) → All P cs → All P (chosen name_of only shard cs)
   all_chosen name_of only None cs each = all_filtered (λ c. is_asked only (name_of c)) cs each
   all_chosen name_of only (Some s) cs each = all_placed s 0 (named name_of only cs) (all_filtered (λ c. is_asked only (name_of c)) cs each)
+
+-- ---- names that are there once
+
+pub or_left : (a b : Bool) → (a || b) ≡ false → a ≡ false
+or_left false b e = refl
+or_left true b e = absurd cc
+
+pub or_right : (a b : Bool) → (a || b) ≡ false → b ≡ false
+or_right false b e = e
+or_right true b e = absurd cc
+
+no_both : (a b : Bool) → a ≡ false → b ≡ false → (a || b) ≡ false
+no_both false b one other = other
+no_both true b one other = absurd cc
+
+abbrev has_name : Word → List CaseView → Bool
+has_name n cs = among n (map (λ c. c.0) cs)
+
+abbrev IsDistinct : List CaseView → Type 0
+IsDistinct cs = has_twice (map (λ c. c.0) cs) ≡ false
+
+-- a name that is none of those of test cases is none of those of a part of them
+unnamed_with : (n : Word) (b : Bool) (c : CaseView) (cs : List CaseView) → is_text n c.0 ≡ false → has_name n cs ≡ false → has_name n (if b then c ∷ cs else cs) ≡ false
+unfolding among
+unnamed_with n true c cs one rest = no_both (is_text n c.0) (list_any (is_text n) (map (λ c. c.0) cs)) one rest
+unnamed_with n false c cs one rest = rest
+
+distinct_with : (b : Bool) (c : CaseView) (cs : List CaseView) → has_name c.0 cs ≡ false → IsDistinct cs → IsDistinct (if b then c ∷ cs else cs)
+distinct_with true c cs new rest = no_both (has_name c.0 cs) (has_twice (map (λ c. c.0) cs)) new rest
+distinct_with false c cs new rest = rest
+
+module _ (test : CaseView → Bool) where
+  unnamed_filtered : (n : Word) (cs : List CaseView) → has_name n cs ≡ false → has_name n (filter test cs) ≡ false
+  unfolding among
+  unnamed_filtered n [] other = other
+  unnamed_filtered n (c ∷ cs) other =
+      let rest = list_any (is_text n) (map (λ c. c.0) cs) in
+      unnamed_with n (test c) c (filter test cs) (or_left (is_text n c.0) rest other) (unnamed_filtered n cs (or_right (is_text n c.0) rest other))
+
+  distinct_filtered : (cs : List CaseView) → IsDistinct cs → IsDistinct (filter test cs)
+  distinct_filtered [] each = each
+  distinct_filtered (c ∷ cs) each =
+      let new = or_left (has_name c.0 cs) (has_twice (map (λ c. c.0) cs)) each in
+      let rest = or_right (has_name c.0 cs) (has_twice (map (λ c. c.0) cs)) each in
+      distinct_with (test c) c (filter test cs) (unnamed_filtered c.0 cs new) (distinct_filtered cs rest)
+
+module _ (s : ShardView) where
+  unnamed_placed : (n : Word) (place : ℕ) (cs : List CaseView) → has_name n cs ≡ false → has_name n (placed s place cs) ≡ false
+  unfolding among
+  unnamed_placed n place [] other = other
+  unnamed_placed n place (c ∷ cs) other =
+      let rest = list_any (is_text n) (map (λ c. c.0) cs) in
+      unnamed_with n (has_place s place) c (placed s (place + 1) cs) (or_left (is_text n c.0) rest other) (unnamed_placed n (place + 1) cs (or_right (is_text n c.0) rest other))
+
+  distinct_placed : (place : ℕ) (cs : List CaseView) → IsDistinct cs → IsDistinct (placed s place cs)
+  distinct_placed place [] each = each
+  distinct_placed place (c ∷ cs) each =
+      let new = or_left (has_name c.0 cs) (has_twice (map (λ c. c.0) cs)) each in
+      let rest = or_right (has_name c.0 cs) (has_twice (map (λ c. c.0) cs)) each in
+      distinct_with (has_place s place) c (placed s (place + 1) cs) (unnamed_placed c.0 (place + 1) cs new) (distinct_placed (place + 1) cs rest)
+
+-- the chosen ones of test cases with different names have different names
+distinct_chosen : (only : List Word) (shard : Option ShardView) (cs : List CaseView) → IsDistinct cs → IsDistinct (chosen script_name only shard cs)
+distinct_chosen only None cs each = distinct_filtered (λ c. is_asked only c.0) cs each
+distinct_chosen only (Some s) cs each = distinct_placed s 0 (named script_name only cs) (distinct_filtered (λ c. is_asked only c.0) cs each)
 
 -- of two lists, each test case with the one at its place
 abbrev AreCases : List CaseView → List (Case ScriptView) → Type 0
@@ -89,13 +156,14 @@ pub listed : (cs : List CaseView) (ks : List (Case ScriptView)) (text : List ℕ
 listed cs ks text each is = is ∙ same_lines cs ks each
 
 -- the chosen ones of test cases that were made of a script are ready to be run
-pub ready : (choice : Choice) (text : List ℕ) (all : CampaignView) (made ks : List (Case ScriptView)) → campaign text ≡ Ok all → All (λ c. IsCase c.1) all → AreCases all made
-    → have_names case_name choice.only.items made ≡ true → ks ≡ chosen case_name choice.only.items choice.shard made → AreReady choice text ks
-ready choice text all made ks spelled lawful each have are =
+pub ready : (choice : Choice) (text : List ℕ) (all : CampaignView) (made ks : List (Case ScriptView)) → campaign text ≡ Ok all → IsDistinct all → All (λ c. IsCase c.1) all
+    → AreCases all made → have_names case_name choice.only.items made ≡ true → ks ≡ chosen case_name choice.only.items choice.shard made → AreReady choice text ks
+ready choice text all made ks spelled distinct lawful each have are =
     let only = choice.only.items in
     let shard = choice.shard in record {
       cases = chosen script_name only shard all;
       chosen = record { all = all; spelled = spelled; named = same_names only all made each ∙ have; are = refl };
+      distinct = distinct_chosen only shard all distinct;
       lawful = all_chosen (λ c. IsCase c.1) script_name only shard all lawful;
       each = subst (λ rs. AreCases (chosen script_name only shard all) rs) (sym are) (zip_chosen only shard all made each);
     }
@@ -128,7 +196,7 @@ same_cases (c ∷ cs) (k ∷ ks) (r ∷ rs) each same =
 -- test cases with the same parts as ready ones are ready
 pub still_ready : (choice : Choice) (text : List ℕ) (ks rs : List (Case ScriptView)) → AreReady choice text ks → map case_parts rs ≡ map case_parts ks → AreReady choice text rs
 still_ready choice text ks rs are same =
-    record { cases = are.cases; chosen = are.chosen; lawful = are.lawful; each = same_cases are.cases ks rs are.each same }
+    record { cases = are.cases; chosen = are.chosen; distinct = are.distinct; lawful = are.lawful; each = same_cases are.cases ks rs are.each same }
 
 -- a name that they do not have is one that the script does not have
 pub unready : (choice : Choice) (text : List ℕ) (all : CampaignView) (made : List (Case ScriptView)) (fault : RunFault) → campaign text ≡ Ok all → AreCases all made

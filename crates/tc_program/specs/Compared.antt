@@ -1,17 +1,18 @@
 -- Histories and evidence after their script in one text, and what of them is no course of its test cases.
-use Rattle.std.specs.Prelude.{ℕ, suc, ◌≡◌, ◌==◌, ◌≤◌, ◌&&◌, ◌||◌, nat_lt, Bool, true, false, if◌then◌else◌, Option, Some, None, Ok, List, [], ◌∷◌, ◌++◌, codes, drop, length, map, position, reverse, slice_get, take, nat_eq}
+use Rattle.std.specs.Prelude.{ℕ, suc, ◌≡◌, ◌==◌, ◌≤◌, ◌&&◌, ◌||◌, nat_lt, Bool, true, false, if◌then◌else◌, Option, Some, None, not, List, [], ◌∷◌, ◌++◌, codes, drop, filter, length, map, position, reverse, slice_get, take, nat_eq}
 use Rattle.std.specs.List.{flat_map, list_any, starts_with}
 use Rattle.std.specs.Option.{option_map_or}
+use Rattle.tc_command.specs.declared.task.Choice.{Choice}
 use Rattle.tc_evidence.specs.declared.block.Block.{Block}
 use Rattle.tc_evidence.specs.Line.{entries_of}
 use Rattle.tc_evidence.specs.Text.{AreEvidence}
 use Rattle.tc_explore.specs.Found.{IsWitness}
 use Rattle.tc_step.specs.Steps.{ScriptView}
 use Rattle.tc_line.specs.Words.{is_text}
-use Rattle.tc_script.specs.Campaign.{CampaignView, campaign}
+use Rattle.tc_script.specs.Campaign.{CampaignView}
 use Rattle.tc_script.specs.Names.{Word}
 use Rattle.tc_program.specs.Check.{IsChecked, RefusesHistory}
-use Rattle.tc_program.specs.Choosing.{RefusesScript}
+use Rattle.tc_program.specs.Choosing.{AreChosen, RefusesChoice}
 use Rattle.tc_program.specs.declared.fault.RunFault.{RunFault}
 use Rattle.tc_program.specs.declared.fault.RunFault.TheVariants as F
 use Rattle.tc_program.specs.Scripted.{CaseView, scripts_of}
@@ -87,23 +88,23 @@ pub data AreJudged (cases : CampaignView) : List Block → List ℕ → Type 0 w
   more : (before : List Block) (notes : List ℕ) (b : Block) (wrong : Option Wrong) → AreJudged cases before notes → IsJudged cases before b wrong
       → AreJudged cases (b ∷ before) (notes ++ option_map_or (note b.header.name) wrong [])
 
--- what is said of a test case: nothing if one of the blocks has its name
-abbrev pub missing_note : List Block → CaseView → List ℕ
-missing_note blocks c = if is_met blocks c.0 then [] else note c.0 W.Missing
+-- the names of test cases, in their order, that none of these blocks has
+abbrev pub missing : List Block → CampaignView → List Word
+missing blocks cases = filter (λ n. not (is_met blocks n)) (map (λ c. c.0) cases)
 
--- what is said of the blocks of a script, one after the other, and then of the test cases that have none
+-- what is said of the blocks of test cases, one after the other, and then of the test cases that have none
 pub record IsCompared (cases : CampaignView) (blocks : List Block) (out : List ℕ) : Type 0 where
   pub notes : List ℕ
   pub judged : AreJudged cases (reverse blocks) notes
-  pub out_is : out ≡ notes ++ flat_map (missing_note (reverse blocks)) cases
+  pub out_is : out ≡ notes ++ flat_map (λ n. note n W.Missing) (missing (reverse blocks) cases)
 
 -- ---- a whole text
 
 -- The text is a script, and histories and evidence after it. What `check` prints for the blocks is printed, and then what is
--- wrong with them as courses of the test cases. The status is that of `check` if nothing is wrong, otherwise 3.
-pub record IsCheckedAgainst (text out : List ℕ) (status : ℕ) : Type 0 where
+-- wrong with them as courses of the chosen test cases. The status is that of `check` if nothing is wrong, otherwise 3.
+pub record IsCheckedAgainst (choice : Choice) (text out : List ℕ) (status : ℕ) : Type 0 where
   pub cases : CampaignView
-  pub spelled : campaign (script_part text) ≡ Ok cases
+  pub chosen : AreChosen choice (script_part text) cases
   pub lines : List ℕ
   pub checked : ℕ
   pub are_checked : IsChecked (blocks_part text) lines checked
@@ -112,7 +113,9 @@ pub record IsCheckedAgainst (text out : List ℕ) (status : ℕ) : Type 0 where
   pub out_is : out ≡ lines ++ notes
   pub status_is : status ≡ (if length notes == 0 then checked else 3)
 
--- the script is refused, or the text after it as one of histories and evidence, its lines counted from its own first
-abbrev pub RefusesAgainst : List ℕ → RunFault → Type 0
-RefusesAgainst text (F.Text fault) = RefusesHistory (blocks_part text) (F.Text fault)
-RefusesAgainst text fault = RefusesScript (script_part text) fault
+-- The script is refused, or a name that is asked for. If neither is, the text after it may be refused as one of histories
+-- and evidence, its lines counted from its own first.
+abbrev pub RefusesAgainst : Choice → List ℕ → RunFault → Type 0
+RefusesAgainst choice text (F.Text fault) =
+    ((cases : CampaignView) × AreChosen choice (script_part text) cases) × RefusesHistory (blocks_part text) (F.Text fault)
+RefusesAgainst choice text fault = RefusesChoice choice (script_part text) fault

@@ -3,7 +3,7 @@ use Rattle.std.specs.Prelude.{ℕ, ◌≡◌, ◌≢◌, ◌≤◌, ◌+◌, nat
 use Rattle.std.specs.List.{AllZip, flat_map}
 use Rattle.tc_entry.specs.declared.limits.TheConstants.{BEHAVIOURS}
 use Rattle.tc_script.specs.Names.{has_twice}
-use Rattle.tc_program.specs.Compared.{AreJudged, IsJudged, is_late, is_met, missing_note}
+use Rattle.tc_program.specs.Compared.{AreJudged, IsCompared, IsJudged, is_late, is_met, missing}
 use Rattle.tc_program.specs.declared.compare.Comparing.{Comparing}
 use Rattle.tc_program.specs.declared.compare.Wrong.{Wrong}
 use Rattle.tc_verdict.specs.declared.verdict.Verdict.{Verdict}
@@ -32,7 +32,7 @@ use Rattle.tc_evidence.specs.declared.line.Line.{Line as BlockLine}
 use Rattle.tc_evidence.specs.declared.line.Line.TheVariants as L
 use Rattle.tc_evidence.specs.Line.{entries_of}
 use Rattle.tc_evidence.specs.Laws.{AreLegal, history_of, overall_of}
-use Rattle.tc_evidence.specs.Text.{AreLines, IsHeader}
+use Rattle.tc_evidence.specs.Text.{AreEvidence, AreLines, IsHeader}
 use Rattle.tc_case.specs.Report.{IsOneHistory}
 use Rattle.tc_report.specs.declared.fault.OutFault.{OutFault}
 use Rattle.tc_report.specs.declared.results.Results.{Results}
@@ -257,6 +257,7 @@ RefusesNames have fault = ⊥
 pub record AreReady (choice : Choice) (text : List ℕ) (ready : List (Case ScriptView)) : Type 0 where
   pub cases : CampaignView
   pub chosen : AreChosen choice text cases
+  pub distinct : has_twice (map (λ c. c.0) cases) ≡ false
   pub lawful : All (λ c. IsCase c.1) cases
   pub each : AllZip IsCaseOf cases ready
 
@@ -306,16 +307,26 @@ module _ {B O : Type 0} (outcome : B → PassState → Back → Type 0) (takes :
 
 -- ---- blocks beside their script
 
--- as much is kept of each test case, and its scripts are few
+-- these test cases have different names, and each has few behaviours
+pub record AreComparable (ready : List (Case ScriptView)) : Type 0 where
+  pub distinct : has_twice (map (λ k. k.name) ready) ≡ false
+  pub few : All (λ k. length k.jobs.items ≤ BEHAVIOURS) ready
+
+-- this is said of the blocks that the text spells, next to the test cases of which these are made
+abbrev pub Compares : List (Case ScriptView) → List ℕ → List ℕ → Type 0
+Compares ready text notes =
+    (cases : CampaignView) (blocks : List Block) → AllZip IsCaseOf cases ready → AreEvidence text blocks → IsCompared cases blocks notes
+
+-- as much is kept of each test case, and its behaviours are few
 pub record IsWhole (c : Comparing) : Type 0 where
   pub met : length c.met.items ≡ length c.names.keys
-  pub scripts : length c.scripts.items ≡ length c.names.keys
-  pub few : All (λ s. length s.items ≤ BEHAVIOURS) c.scripts.items
+  pub ready : length c.ready.items ≡ length c.names.keys
+  pub few : All (λ k. length k.jobs.items ≤ BEHAVIOURS) c.ready.items
 
 -- what is kept of these test cases after these blocks, the newest first
 pub record StandsBeside (cases : CampaignView) (before : List Block) (c : Comparing) : Type 0 where
   pub names : c.names.keys ≡ map (λ t. t.0) cases
-  pub scripts : map (λ s. s.items) c.scripts.items ≡ map (λ t. scripts_of t.1) cases
+  pub ready : AllZip IsCaseOf cases c.ready.items
   pub met : (p : ℕ) (t : CaseView) → slice_get cases p ≡ Some t → slice_index_or c.met.items p false ≡ is_met before t.0
   pub next : (p : ℕ) → is_late cases before p ≡ nat_lt (p + 1) c.next
 
@@ -331,17 +342,16 @@ SaysNext c b out after new =
     (cases : CampaignView) (before : List Block) → has_twice (map (λ t. t.0) cases) ≡ false → StandsBeside cases before c → AreJudged cases before out
     → StandsBeside cases (b ∷ before) after × AreJudged cases (b ∷ before) new
 
--- what is said of the test case at this place, if no block has its name
-abbrev pub TellsIfMissing : ℕ → Comparing → List ℕ → List ℕ → Type 0
-TellsIfMissing p c old new =
-    (cases : CampaignView) (before : List Block) → StandsBeside cases before c → (t : CaseView) → slice_get cases p ≡ Some t → new ≡ old ++ missing_note before t
+-- the test case at this place was added, if no block has its name
+abbrev pub AddsIfMissing : ℕ → Comparing → List Word → List Word → Type 0
+AddsIfMissing p c old new =
+    (cases : CampaignView) (before : List Block) → StandsBeside cases before c → (t : CaseView) → slice_get cases p ≡ Some t
+    → new ≡ old ++ missing before (t ∷ [])
 
--- what is said of the first of these test cases, that many, which no block has the name of
-abbrev pub TellsMissingTo : ℕ → Comparing → List ℕ → List ℕ → Type 0
-TellsMissingTo n c old new =
-    (cases : CampaignView) (before : List Block) → StandsBeside cases before c → new ≡ old ++ flat_map (missing_note before) (take n cases)
+-- of the first of the test cases, that many, these are missing
+abbrev pub AreMissingTo : ℕ → Comparing → List Word → Type 0
+AreMissingTo n c names = (cases : CampaignView) (before : List Block) → StandsBeside cases before c → names ≡ missing before (take n cases)
 
--- the same of all of them
-abbrev pub TellsMissing : Comparing → List ℕ → List ℕ → Type 0
-TellsMissing c old new =
-    (cases : CampaignView) (before : List Block) → StandsBeside cases before c → new ≡ old ++ flat_map (missing_note before) cases
+-- these are missing
+abbrev pub AreMissing : Comparing → List Word → Type 0
+AreMissing c names = (cases : CampaignView) (before : List Block) → StandsBeside cases before c → names ≡ missing before cases

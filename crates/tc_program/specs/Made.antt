@@ -31,7 +31,7 @@ IsSilent Is a = Is a.out a.status × (a.told ≡ [])
 abbrev pub IsMade : Task → List ℕ → Result Answer RunFault → Type 0
 IsMade (T.Replay e) text made = MatchResult made (IsSilent (Replays text)) (RefusesMoves text)
 IsMade (T.Check e) text made = MatchResult made (IsSilent (IsChecked text)) (RefusesHistory text)
-IsMade T.Compare text made = MatchResult made (IsSilent (IsCheckedAgainst text)) (RefusesAgainst text)
+IsMade (T.Compare choice) text made = MatchResult made (IsSilent (IsCheckedAgainst choice text)) (RefusesAgainst choice text)
 IsMade (T.Report form e) text made = MatchResult made (IsReported form text) (RefusesHistory text)
 IsMade (T.Explore h d n) text made = MatchResult made (IsSilent (Explores h d n text)) (RefusesScript text)
 IsMade (T.List choice) text made = MatchResult made (IsListed choice text) (RefusesChoice choice text)

@@ -63,7 +63,7 @@ pub(crate) fn made_text(alloc: Global, task: &Task, text: &[u8]) -> Result<Answe
     match task {
         Task::Replay { .. } => replay_text(alloc, text),
         Task::Check { .. } => check_text(alloc, text),
-        Task::Compare => compare_text(alloc, text),
+        Task::Compare(choice) => compare_text(alloc, choice, text),
         Task::Report { form, .. } => report_text(alloc, *form, text),
         Task::Explore {
             histories,

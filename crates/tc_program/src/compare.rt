@@ -1,28 +1,29 @@
 //! The blocks of evidence next to the test cases of their script.
-ghost use Rattle.std.specs.Prelude.{◌≡◌, ◌↔◌, ◌≤◌, ◌<◌, ◌++◌, ◌∷◌, [], All, List, false, true, IfErr, IfOk, IfSome, OnOk, length, map};
+ghost use Rattle.std.specs.Prelude.{◌≡◌, ◌↔◌, ◌≤◌, ◌<◌, ◌++◌, ◌∷◌, [], List, false, true, IfErr, IfOk, IfSome, OnOk, length, map};
+ghost use Rattle.std.specs.List.{AllZip, flat_map};
 ghost use Rattle.tc_entry.specs.declared.limits.TheConstants.{BEHAVIOURS};
 ghost use Rattle.tc_evidence.specs.declared.block.Block.{Block as AnyBlock};
 ghost use Rattle.tc_evidence.specs.Text.{AreEvidence};
 ghost use Rattle.tc_script.specs.Campaign.{CampaignView};
-ghost use Rattle.tc_script.specs.Law.{IsCase};
-ghost use Rattle.tc_script.specs.Names.{among, has_twice};
+ghost use Rattle.tc_script.specs.Names.{among};
 ghost use Rattle.tc_program.specs.Check.{RefusesHistory};
-ghost use Rattle.tc_program.specs.Compared.{IsCheckedAgainst, IsCompared, IsCourseOf, RefusesAgainst, note, place, wrong_text};
-ghost use Rattle.tc_program.specs.Inside.{IsWhole, Judges, SaysNext, StandsBeside, TellsIfMissing, TellsMissing};
+ghost use Rattle.tc_program.specs.Compared.{IsCheckedAgainst, IsCompared, IsCourseOf, RefusesAgainst, note, place, script_part, wrong_text};
+ghost use Rattle.tc_program.specs.Inside.{AddsIfMissing, AreComparable, AreMissing, AreReady, Compares, IsCaseOf, IsWhole, Judges, SaysNext, StandsBeside};
+ghost use Rattle.tc_program.specs.declared.compare.Wrong.TheVariants.{Missing};
 
+use crate::cases::chosen_cases;
 use crate::check::check_lines;
-use crate::explore::scripts_of;
 use crate::fault::RunFault;
 use crate::outcome::REFUSED;
 use crate::reply::Answer;
-use crate::script::read_script;
 use crate::split::split;
 use indexmap::IndexSet;
 use std::alloc::Global;
+use tc_campaign::Case;
+use tc_command::Choice;
 use tc_entry::{Name, Sequence};
 use tc_evidence::{Block, read_evidence};
 use tc_explore::is_course;
-use tc_script::Campaign;
 use tc_step::Script;
 use tc_text::append_text;
 use tc_verdict::NoMemory;
@@ -89,13 +90,25 @@ fn add_name(names: &mut IndexSet<Name>, name: Name) -> Result<(), NoMemory>
     Ok(())
 }
 
-/// The test cases of a script, and of which of them there were blocks so far.
+// The names of test cases, which are different.
+fn names_of(alloc: Global, cases: &[Case<Script>]) -> Result<IndexSet<Name>, NoMemory>
+    requires { AreComparable cases.now }
+    ensures { IfOk result (λ names. names.keys ≡ map (λ k. k.name) cases.now) }
+{
+    let mut names = IndexSet::new(alloc);
+    for case in cases {
+        add_name(&mut names, case.name.copy())?;
+    }
+    Ok(names)
+}
+
+/// Test cases of a script, and of which of them there were blocks so far.
 #[derive(Drop)]
 pub(crate) struct Comparing {
-    /// The names of the test cases, in their order.
+    /// The test cases, in their order.
+    ready: Vec<Case<Script>>,
+    /// The name of each.
     names: IndexSet<Name>,
-    /// The scripts of each.
-    scripts: Vec<Vec<Script>>,
     /// Whether a block had the name of each.
     met: Vec<bool>,
     /// One more than the place of the last test case that a block had the name of; 0 if there was none.
@@ -103,24 +116,17 @@ pub(crate) struct Comparing {
 }
 
 impl Comparing {
-    // The test cases of the campaign, before any block.
-    fn new(alloc: Global, campaign: Campaign) -> Result<Comparing, NoMemory>
-        requires lawful { All (λ t. IsCase t.1) campaign }
-        requires distinct { has_twice (map (λ t. t.0) campaign) ≡ false }
+    // The test cases, before any block.
+    fn new(alloc: Global, ready: Vec<Case<Script>>) -> Result<Comparing, NoMemory>
+        requires { AreComparable ready.items }
         ensures whole { IfOk result IsWhole }
-        ensures beside { IfOk result (StandsBeside campaign []) }
+        ensures beside { IfOk result (λ c. (cases : CampaignView) → AllZip IsCaseOf cases ready.items → StandsBeside cases [] c) }
     {
-        let mut campaign = campaign;
-        let mut names = IndexSet::new(alloc);
-        let mut scripts = Vec::new(alloc);
-        while let Some((name, case)) = campaign.take_first() {
-            add_name(&mut names, name)?;
-            scripts.push(scripts_of(alloc, case)?)?;
-        }
-        let met = vec![in alloc; false; scripts.len()]?;
+        let names = names_of(alloc, ready.as_slice())?;
+        let met = vec![in alloc; false; ready.len()]?;
         Ok(Comparing {
+            ready,
             names,
-            scripts,
             met,
             next: 0,
         })
@@ -152,7 +158,7 @@ impl Comparing {
             return Ok(Some(Wrong::OutOfOrder));
         }
         self.next = place + 1;
-        if is_course_of(alloc, self.scripts[place].as_slice(), block)? {
+        if is_course_of(alloc, self.ready[place].jobs.as_slice(), block)? {
             Ok(None)
         } else {
             Ok(Some(Wrong::NoCourse))
@@ -178,49 +184,61 @@ impl Comparing {
         Ok(())
     }
 
-    // Appends the line for the test case at this place, if no block had its name; if memory runs out, a part of it.
+    // Adds the name of the test case at this place, if no block had it.
     #[tactic(auto, using(crate::proofs::Beside::missing_rules))]
-    fn append_if_missing(&self, out: &mut Vec<u8>, place: usize) -> Result<(), NoMemory>
+    fn add_if_missing(&self, missing: &mut Vec<Name>, place: usize) -> Result<(), NoMemory>
         requires whole { IsWhole self.now }
         requires within { place < length self.now.names.keys }
-        ensures { OnOk result (TellsIfMissing place self.now out.old.items out.new.items) }
+        ensures { OnOk result (AddsIfMissing place self.now missing.old.items missing.new.items) }
     {
         if self.met[place] {
             return Ok(());
         }
-        append_note(out, &self.names.as_slice()[place], Wrong::Missing)
+        missing.push(self.names.as_slice()[place].copy())?;
+        Ok(())
     }
 
-    // Appends a line for each test case that no block had the name of; if memory runs out, a part of them.
+    // The names of the test cases that no block had, in their order.
     #[tactic(auto, using(crate::proofs::Beside::missing_rules))]
-    fn append_missing(&self, out: &mut Vec<u8>) -> Result<(), NoMemory>
+    fn missing(&self, alloc: Global) -> Result<Vec<Name>, NoMemory>
         requires { IsWhole self.now }
-        ensures { OnOk result (TellsMissing self.now out.old.items out.new.items) }
+        ensures { IfOk result (λ v. AreMissing self.now v.items) }
     {
+        let mut missing = Vec::new(alloc);
         for place in 0..self.names.len() {
-            self.append_if_missing(out, place)?;
+            self.add_if_missing(&mut missing, place)?;
         }
-        Ok(())
+        Ok(missing)
     }
 }
 
-/// What is wrong with the blocks as courses of the test cases of the campaign. A line names each block that is wrong, in
-/// their order, and then one each test case that has no block.
+// Appends a line for each test case that is missing; if memory runs out, a part of them.
+fn append_missing(out: &mut Vec<u8>, missing: &[Name]) -> Result<(), NoMemory>
+    ensures { OnOk result (out.new.items ≡ out.old.items ++ flat_map (λ n. note n Missing) missing.now) }
+{
+    for name in missing {
+        append_note(out, name, Wrong::Missing)?;
+    }
+    Ok(())
+}
+
+/// What is wrong with the blocks as courses of the test cases. A line names each block that is wrong, in their order, and
+/// then one each test case that has no block.
 pub(crate) fn compare(
     alloc: Global,
-    campaign: Campaign,
+    ready: Vec<Case<Script>>,
     blocks: &[Block],
 ) -> Result<Vec<u8>, NoMemory>
-    requires lawful { All (λ t. IsCase t.1) campaign }
-    requires distinct { has_twice (map (λ t. t.0) campaign) ≡ false }
-    ensures { IfOk result (λ v. IsCompared campaign blocks.now v.items) }
+    requires { AreComparable ready.items }
+    ensures { IfOk result (λ v. (cases : CampaignView) → AllZip IsCaseOf cases ready.items → IsCompared cases blocks.now v.items) }
 {
-    let mut comparing = Comparing::new(alloc, campaign)?;
+    let mut comparing = Comparing::new(alloc, ready)?;
     let mut notes = Vec::new(alloc);
     for block in blocks {
         comparing.append_judged(alloc, &mut notes, block)?;
     }
-    comparing.append_missing(&mut notes)?;
+    let missing = comparing.missing(alloc)?;
+    append_missing(&mut notes, missing.as_slice())?;
     Ok(notes)
 }
 
@@ -233,17 +251,37 @@ fn read_blocks(alloc: Global, text: &[u8]) -> Result<Sequence<Block>, RunFault>
     Ok(blocks)
 }
 
-/// What `check --script` makes of a script with histories and evidence after it: what `check` makes of these, and then what
-/// is wrong with them as courses of the test cases of the script. The status is 3 if something is.
-pub(crate) fn compare_text(alloc: Global, text: &[u8]) -> Result<Answer, RunFault>
-    ensures done { IfOk result (λ a. IsCheckedAgainst text.now a.out a.status × (a.told ≡ [])) }
-    ensures refused { IfErr result (RefusesAgainst text.now) }
+// What is wrong with the blocks that the text spells as courses of the test cases.
+fn compare_blocks(alloc: Global, ready: Vec<Case<Script>>, text: &[u8]) -> Result<Vec<u8>, RunFault>
+    requires { AreComparable ready.items }
+    ensures done { IfOk result (λ v. Compares ready.items text.now v.items) }
+    ensures refused { IfErr result (RefusesHistory text.now) }
 {
-    let (script, rest) = split(text);
-    let campaign = read_script(alloc, script)?;
+    let blocks = read_blocks(alloc, text)?;
+    Ok(compare(alloc, ready, blocks.as_slice())?)
+}
+
+// The chosen test cases of the script that is before the blocks.
+#[tactic(auto, using(crate::proofs::Beside::script_refused))]
+fn chosen_before(alloc: Global, choice: &Choice, text: &[u8]) -> Result<Vec<Case<Script>>, RunFault>
+    ensures ready { IfOk result (λ v. AreReady choice.now (script_part text.now) v.items) }
+    ensures refused { IfErr result (RefusesAgainst choice.now text.now) }
+{
+    let (script, _) = split(text);
+    chosen_cases(alloc, script, choice)
+}
+
+/// What `check --script` makes of a script with histories and evidence after it: what `check` makes of these, and then what
+/// is wrong with them as courses of the chosen test cases of the script. The status is 3 if something is.
+#[tactic(auto, using(crate::proofs::Beside::refusing_rules))]
+pub(crate) fn compare_text(alloc: Global, choice: &Choice, text: &[u8]) -> Result<Answer, RunFault>
+    ensures done { IfOk result (λ a. IsCheckedAgainst choice.now text.now a.out a.status × (a.told ≡ [])) }
+    ensures refused { IfErr result (RefusesAgainst choice.now text.now) }
+{
+    let ready = chosen_before(alloc, choice, text)?;
+    let (_, rest) = split(text);
     let (mut out, checked) = check_lines(alloc, rest)?;
-    let blocks = read_blocks(alloc, rest)?;
-    let notes = compare(alloc, campaign, blocks.as_slice())?;
+    let notes = compare_blocks(alloc, ready, rest)?;
     out.extend_from_slice(notes.as_slice())?;
     Ok(Answer {
         out: Sequence::new(out),

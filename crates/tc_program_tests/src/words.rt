@@ -48,6 +48,8 @@ ttrun run --shard 4294967295/4294967295 --list => run --list --shard=4294967295/
 ttrun run --explain => run --explain
 ttrun run --csv --explain --live --stop-on fail => run --csv --live --stop-on=fail --explain
 ttrun check --explain => check --explain
+ttrun check --script => check --script
+ttrun check --shard 2/3 --script --only b --only a => check --script --only=b --only=a --shard=2/3
 ttrun replay --explain => replay --explain
 ttrun report --explain --junit => report --junit --explain
 ttrun report --csv => report --csv
@@ -117,6 +119,11 @@ fn append_list(out: &mut String, choice: &Choice) -> Result<(), Fail> {
     append_choice(out, choice)
 }
 
+fn append_script(out: &mut String, choice: &Choice) -> Result<(), Fail> {
+    out.push_str("check --script")?;
+    append_choice(out, choice)
+}
+
 fn word_of_report(form: ReportForm) -> &'static str {
     match form {
         ReportForm::Csv => "report --csv",
@@ -147,7 +154,7 @@ fn append_task(out: &mut String, task: &Task) -> Result<(), Fail> {
     match task {
         Task::Replay { explains } => append_explaining(out, "replay", *explains),
         Task::Check { explains } => append_explaining(out, "check", *explains),
-        Task::Compare => Ok(out.push_str("check --script")?),
+        Task::Compare(choice) => append_script(out, choice),
         Task::Run(options) => append_run(out, options),
         Task::Serve => Ok(out.push_str("serve")?),
         Task::List(choice) => append_list(out, choice),

@@ -1,4 +1,4 @@
-use Rattle.std.proofs.Common.{◌≡◌, All, IfErr, codes, map, rules, subst}
+use Rattle.std.proofs.Common.{◌≡◌, All, IfErr, OnOk, codes, map, rules, subst}
 use Rattle.clap.specs.Words.{found_of, rows_of}
 use Rattle.tc_entry.specs.Name.{IsName}
 use Rattle.tc_command.specs.Asked.{words_of}
@@ -11,3 +11,8 @@ pub returns-in_ok-words-in-Some-clause-refused : goal.returns-in_ok-words-in-Som
 returns-in_ok-words-in-Some-clause-refused c =
     let same : map (λ w. w.now) c.as_slice.result.now ≡ words_of (codes "only") (rows_of (found_of c.args.options.now)) = search (rules, words_are) in
     subst (λ ws. IfErr c.names.result (IsBadWord (All IsName ws → ⊥) fault.Only)) same c.names.ensures.refused
+
+pub returns-in_ok-words-in-Some-clause-good : goal.returns-in_ok-words-in-Some-clause-good
+returns-in_ok-words-in-Some-clause-good c =
+    let same : map (λ w. w.now) c.as_slice.result.now ≡ words_of (codes "only") (rows_of (found_of c.args.options.now)) = search (rules, words_are) in
+    subst (λ ws. OnOk c.names.result (All IsName ws)) same c.names.ensures.good

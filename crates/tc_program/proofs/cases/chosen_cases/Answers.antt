@@ -7,7 +7,7 @@ pub returns-clause-chosen : goal.returns-clause-chosen
 returns-clause-chosen c =
     both_ok _ _ _ c.choose_cases.result
     (λ v have are. ready c.args.choice.now c.args.text.now c.in_ok-campaign.campaign c.in_ok-cases.cases.items v.items
-    c.in_ok-campaign.ensures.spelled c.in_ok-campaign.ensures.lawful c.in_ok-cases.ensures have are)
+    c.in_ok-campaign.ensures.spelled c.in_ok-campaign.ensures.distinct c.in_ok-campaign.ensures.lawful c.in_ok-cases.ensures have are)
     c.choose_cases.ensures.named c.choose_cases.ensures.chosen
 
 pub returns-clause-refused : goal.returns-clause-refused

@@ -49,8 +49,8 @@ returns-then-branch-clause-judged c cases before distinct s =
     let least : c.args.self.now.next ≤ p + 1 = search rules in
     let next = beside_next cases before b c.args.self.now _ p distinct at in_list refl refl refl refl least s in
     let is = placed cases b.header.name p at in
-    let given : c.as_slice.result.now ≡ (get_or c.args.self.now.scripts.items p c.index-2.result.now).items = search rules in
-    let scripts : c.as_slice.result.now ≡ scripts_of is.0.1 = given ∙ scripts_at (λ x. x.items) cases c.args.self.now.scripts.items p is.0 c.index-2.result.now s.scripts is.1 in
+    let given : c.as_slice.result.now ≡ (get_or c.args.self.now.ready.items p c.index-2.result.now).jobs.items = search rules in
+    let scripts : c.as_slice.result.now ≡ scripts_of is.0.1 = given ∙ scripts_at cases c.args.self.now.ready.items p is.0 c.index-2.result.now s.ready is.1 in
     let yes : c.in_ok-is_course_of.field-0 ≡ true = search rules in
     let course : IsCourseOf (scripts_of is.0.1) b = subst (λ x. IsCourseOf x b) scripts (c.in_ok-is_course_of.ensures.0 yes) in
     (next.1, IsJudged.right p is.0 at (not_met cases before b c.args.self.now p at was s) next.0 is.1 course)
@@ -67,8 +67,8 @@ returns-else-branch-clause-judged c cases before distinct s =
     let least : c.args.self.now.next ≤ p + 1 = search rules in
     let next = beside_next cases before b c.args.self.now _ p distinct at in_list refl refl refl refl least s in
     let is = placed cases b.header.name p at in
-    let given : c.as_slice.result.now ≡ (get_or c.args.self.now.scripts.items p c.index-2.result.now).items = search rules in
-    let scripts : c.as_slice.result.now ≡ scripts_of is.0.1 = given ∙ scripts_at (λ x. x.items) cases c.args.self.now.scripts.items p is.0 c.index-2.result.now s.scripts is.1 in
+    let given : c.as_slice.result.now ≡ (get_or c.args.self.now.ready.items p c.index-2.result.now).jobs.items = search rules in
+    let scripts : c.as_slice.result.now ≡ scripts_of is.0.1 = given ∙ scripts_at cases c.args.self.now.ready.items p is.0 c.index-2.result.now s.ready is.1 in
     let not : c.in_ok-is_course_of.field-0 ≡ false = search rules in (
       next.1,
       IsJudged.no_course p is.0 at (not_met cases before b c.args.self.now p at was s) next.0 is.1 (λ course.
