@@ -27,7 +27,7 @@ UNREFUSED: Tuple[Exempt, ...] = (
     (("Look::close", "Book::close", "locals_of"), "close_case makes them"),
     (("Kept::with_room", "without_room"), "run_campaign makes them"),
     (("Sentence::of_bytes",), "read_evidence_into makes it"),
-    (("append_said",), "serve makes it"),
+    (("append_said", "append_refusal"), "serve makes them"),
     (("append_entry", "append_end"), "write_block makes them"),
     (("read_evidence_into",), "check and report make it"),
     (("read_evidence", "append_whole_block", "Block::history"), "no program keeps or writes whole blocks of evidence yet"),
@@ -40,7 +40,7 @@ WITHOUT_ALLOCATOR = (
     "WordFault::text", "Step::operation", "Step::is_bound", "Place::is_bound", "Place::map", "GroupPlace::map", "TargetPlace::map",
     "Places::new", "Places::push", "Places::as_slice", "Script::is_script", "ScriptKind::text", "read_reference", "is_comment", "is_word",
     "Keyword::text", "read_keyword", "read_verdict", "tc_line::read_name", "Lines::new", "Lines::next", "awaited_line",
-    "deciding_entry", "component_of", "name_of",
+    "deciding_entry", "component_of", "name_of", "Refusal::text",
 )
 # These take no memory, and are not made with every growth refused by themselves.
 UNTRIED: Tuple[Exempt, ...] = (

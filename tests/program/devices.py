@@ -29,7 +29,7 @@ REFUSED = (
     ("replay", ("replay",), b"", b"ttrun: line 1: text ends too early\n"),
     ("check", ("check",), b"\n", b"ttrun: line 1: bad first line\n"),
     ("run", ("run", "--csv"), b"end\n", b"ttrun: line 1: not allowed here\n"),
-    ("serve", ("serve",), b"end\n", b"ttrun: line 1: bad move\n"),
+    ("serve", ("serve",), b"end\n", b"ttrun: line 1: no test case is open\n"),
 )
 
 

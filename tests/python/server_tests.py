@@ -119,7 +119,7 @@ NONSENSE = (
     "0 setverdict fail -> ok\\n", "0 getverdict -> none\\n", "1 finish -> ok\\n", "9 # who\\n", "end pass\\n", "end none\\n", "0 wake done 1 -> matched\\n",
     "evidence 1 t_nonsense 256\\n", "0 setverdict pass -> ok\\n0 setverdict pass -> ok\\n", "x" * 5000, "0 # " + "x" * 5000 + "\\n",
     "0 setverdict pass\\n", "0 setverdict pass -> ok \\n", " 0 setverdict pass -> ok\\n", "0 setverdict pass -> ok\\r\\n",
-    "0 setverdict pass -> ok\\n0 ! bad move\\n0 ! bad move\\n",
+    "0 setverdict pass -> ok\\n0 ! bad line\\n0 ! bad line\\n",
 )
 
 
@@ -191,7 +191,8 @@ def a_refused_line_changes_nothing(place: Place) -> None:
 
     with place.server() as server:
         result = server.run("t_refused", main)
-        same((result.verdict, set(found)), ("pass", {"the server refused a line of run 0 main: bad move"}))
+        told = [f"the server refused a line of run 0 main: {why}" for why in ("bad line", "bad line", "a wake comes of itself", "bad line")]
+        same((result.verdict, found), ("pass", told))
         block = evidence.blocks_of(result.evidence)[0]
         same((len(block.refused), server.run("t_next", main_that_calls).verdict), (4, "pass"))
         same(server.close(), 3, "the status:")

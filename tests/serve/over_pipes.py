@@ -44,7 +44,7 @@ def each_line_is_answered_before_the_next(command: Sequence[str]) -> List[str]:
         (b"0 wait done 1\n", b"0 wait done 1 -> parked\n"),
         (b"1 # x\n", b"1 # x\n"),
         (b"1 finish\n", b"1 finish -> ok\n0 wake done 1 -> matched\n"),
-        (b"0 fly\n", b"0 ! bad move\n"),
+        (b"0 fly\n", b"0 ! bad line\n"),
         (b"0 finish\n", b"0 finish -> ok\n"),
         (b"end\n", b"end none\n"),
     ]
@@ -95,7 +95,7 @@ def a_refused_line_without_a_run_is_told_at_once(command: Sequence[str]) -> List
         faults = exchanged(pipe, b"case t 1\n", b"evidence 1 t 1\n")
         pipe.write(b"fly\n")
         told = pipe.process.stderr.readline()
-        faults += [] if told == b"ttrun: line 2: bad move\n" else [f"standard error has {told!r}"]
+        faults += [] if told == b"ttrun: line 2: bad line\n" else [f"standard error has {told!r}"]
         return faults + exchanged(pipe, b"0 finish\n", b"0 finish -> ok\n")
 
 
@@ -105,7 +105,7 @@ def a_server_ends_at_a_fault_though_the_input_goes_on(command: Sequence[str]) ->
     with Pipe(command) as pipe:
         pipe.write(b"0 finish\n")
         pipe.process.wait(SECONDS)
-        return difference(Ran(b"", b"ttrun: line 1: bad move\n", 3), pipe.ended())
+        return difference(Ran(b"", b"ttrun: line 1: no test case is open\n", 3), pipe.ended())
 
 
 @test
@@ -118,7 +118,7 @@ def a_client_that_dies_leaves_whole_evidence(command: Sequence[str]) -> List[str
         "os.kill(os.getpid(), 9)\n"
     )
     ran = subprocess.run([sys.executable, "-c", client, *command], stdout=subprocess.PIPE, stderr=subprocess.PIPE, timeout=SECONDS, check=False)
-    wanted = Ran(b"evidence 1 t 2\n0 create -> made 1\n0 ! bad move\nend none\n", b"ttrun: the input ended inside a test case\n", -9)
+    wanted = Ran(b"evidence 1 t 2\n0 create -> made 1\n0 ! no line feed\nend none\n", b"ttrun: the input ended inside a test case\n", -9)
     return difference(wanted, Ran(ran.stdout, ran.stderr, ran.returncode))
 
 

@@ -9,14 +9,13 @@ tests/program/table.py, the reader of moves tests/program/texts.py. If the proto
 - A line is of run B if it begins with the number of a run of the case, as numbers are spelled. The next byte, if there
   is one, is below 48: it is neither a digit nor a letter. So lines as `1`, `1,5` and `0 nonsense` are answered in the
   evidence. Lines as `1x`, `01 finish` and, in a case of two, `9 # text` are printed on standard error.
-- Each refused line is a `bad move`, also one whose fault is a name: the texts have no such fault, and a client checks
-  its names.
+- A line is refused for the first reason that holds: its end, its length, its form, and then whether it may come here.
 - A run that waits may still say a remark. Only its moves are refused.
-- A naming that comes too late, or twice, or for no run of the case, is a refused line without a run.
+- A naming that is refused is a line without a run.
 - A move of a run that the case does not have is answered `ended` and recorded, as everywhere.
 - The input's end inside a case is no refused line: the status is that of the worst verdict, and a case that is not over
   counts as error.
-- No line of the protocol has more than 206 bytes, so of a longer one only the beginning is kept. It is refused at its end.
+- No line of these forms has more than 208 bytes, so of a longer one only the beginning is kept. It is refused at its end.
 """
 from __future__ import annotations
 
@@ -29,13 +28,17 @@ sys.dont_write_bytecode = True
 sys.path.insert(0, os.path.join(os.path.dirname(os.path.dirname(os.path.abspath(__file__))), "program"))
 
 from table import Op, Table, worst
-from texts import NUMBER, behaviours_of, is_name, read_move, status_of
+from texts import MOST_RUN, NUMBER, behaviours_of, is_name, read_move, status_of
 
-MOST_BYTES_OF_A_LINE = 206
-REMARK = re.compile(rf"({NUMBER}) # [ -~]{{1,200}}")
+MOST_BYTES_OF_A_LINE = 208
+REMARK = re.compile(rf"({NUMBER}) # (.*)", re.DOTALL)
+REMARKED = re.compile("[ -~]{1,200}")
 NAMING = re.compile(rf"behaviour ({NUMBER}) ([^ ]+)")
 HEADER = re.compile(r"case ([^ ]+) ([^ ]+)")
-REFUSED = "bad move"
+
+
+class Refused(Exception):
+    """A line is refused, for this reason, and has changed nothing."""
 
 
 class WriteFault(Exception):
@@ -44,6 +47,26 @@ class WriteFault(Exception):
 
 class Fatal(Exception):
     """A refused line that ends the server."""
+
+
+class Asked:
+    """What a line asks for: a case with a name and behaviours, the end, a move, or a line for a run."""
+
+    def __init__(self, line: str) -> None:
+        self.line = line
+        remark, naming, header, self.move = REMARK.fullmatch(line), NAMING.fullmatch(line), HEADER.fullmatch(line), read_move(line)
+        self.is_end = line == "end"
+        self.is_header = bool(header) and is_name(header[1]) and behaviours_of(header[2]) is not None
+        self.name, self.behaviours = header.groups() if self.is_header else ("", "0")
+        self.is_remark = bool(remark) and int(remark[1]) <= MOST_RUN
+        self.is_naming = bool(naming) and int(naming[1]) <= MOST_RUN and is_name(naming[2])
+        self.run = int(remark[1]) if self.is_remark else int(naming[1]) if self.is_naming else 0
+        if len(line) > MOST_BYTES_OF_A_LINE:
+            raise Refused("line too long")
+        if self.is_remark and not REMARKED.fullmatch(remark[2]):
+            raise Refused("bad remark")
+        if not (self.move or self.is_end or self.is_header or self.is_remark or self.is_naming):
+            raise Refused("bad line")
 
 
 class OpenCase:
@@ -60,23 +83,29 @@ class OpenCase:
         found = re.match(f"{NUMBER}(?![0-\xff])", line)
         return int(found[0]) if found and int(found[0]) < self.behaviours else None
 
-    def take(self, line: str) -> Optional[List[str]]:
-        """What is written for the line, or None if it is refused, and changes nothing."""
-        remark, naming, move = REMARK.fullmatch(line), NAMING.fullmatch(line), read_move(line)
-        if remark and int(remark[1]) < self.behaviours:
-            self.met.add(int(remark[1]))
-            return [line]
-        if naming and is_name(naming[2]) and int(naming[1]) < self.behaviours and int(naming[1]) not in self.met:
-            self.met.add(int(naming[1]))
-            return [line]
-        if move and move[1].verb != "wake" and move[0] not in self.waits:
-            return [self.play(*move), *self.wakes()]
-        return None
+    def take(self, asked: Asked) -> List[str]:
+        """What is written for what a line asks of the case, or why it is refused."""
+        if asked.move:
+            return self.moved(*asked.move)
+        if asked.run >= self.behaviours:
+            raise Refused("no such run")
+        if asked.is_naming and asked.run in self.met:
+            raise Refused("late name")
+        self.met.add(asked.run)
+        return [asked.line]
 
-    def refuse(self, run: int) -> str:
+    def moved(self, caller: int, op: Op) -> List[str]:
+        """What is written for a move."""
+        if op.verb == "wake":
+            raise Refused("a wake comes of itself")
+        if caller in self.waits:
+            raise Refused("the run waits")
+        return [self.play(caller, op), *self.wakes()]
+
+    def refuse(self, run: int, why: str) -> str:
         """The line that a refused line of this run leaves."""
         self.met.add(run)
-        return f"{run} ! {REFUSED}"
+        return f"{run} ! {why}"
 
     def play(self, caller: int, op: Op) -> str:
         """Makes the call; the entry's line."""
@@ -115,29 +144,37 @@ class Server:
     def take(self, line: str, is_whole: bool = True) -> Tuple[List[str], List[str]]:
         """What a line adds to standard output, and to standard error."""
         self.lines += 1
-        written = self.accepted(line) if is_whole else None
-        if written is not None:
-            return written, []
+        try:
+            return self.accepted(line, is_whole), []
+        except Refused as refused:
+            return self.refuse(line, str(refused))
+
+    def refuse(self, line: str, why: str) -> Tuple[List[str], List[str]]:
+        """What a refused line adds."""
         self.is_refused = True
-        told = f"line {self.lines}: {REFUSED}"
+        told = f"line {self.lines}: {why}"
         if self.case is None:
             raise Fatal(told)
         run = self.case.run_of(line)
-        return ([], [told]) if run is None else ([self.case.refuse(run)], [])
+        return ([], [told]) if run is None else ([self.case.refuse(run, why)], [])
 
-    def accepted(self, line: str) -> Optional[List[str]]:
-        """What is written for the line, or None if it is refused."""
+    def accepted(self, line: str, is_whole: bool) -> List[str]:
+        """What is written for the line, or why it is refused."""
+        if not is_whole:
+            raise Refused("no line feed")
+        asked = Asked(line)
+        if asked.is_header:
+            return self.begin(asked)
         if self.case is None:
-            return self.begin(line)
-        return self.close() if line == "end" else self.case.take(line)
+            raise Refused("no test case is open")
+        return self.close() if asked.is_end else self.case.take(asked)
 
-    def begin(self, line: str) -> Optional[List[str]]:
+    def begin(self, asked: Asked) -> List[str]:
         """Opens a test case."""
-        found = HEADER.fullmatch(line)
-        if not found or not is_name(found[1]) or behaviours_of(found[2]) is None:
-            return None
-        self.case = OpenCase(found[1], int(found[2]))
-        return [f"evidence 1 {found[1]} {found[2]}"]
+        if self.case:
+            raise Refused("a test case is open")
+        self.case = OpenCase(asked.name, int(asked.behaviours))
+        return [f"evidence 1 {asked.name} {asked.behaviours}"]
 
     def close(self) -> List[str]:
         """Closes the test case."""

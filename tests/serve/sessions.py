@@ -8,7 +8,7 @@ from typing import Dict, List, Optional, Sequence, Tuple
 
 import evidence
 from random_moves import below, drawn_op, ends_case
-from reference import Fatal, OpenCase, Server
+from reference import Asked, Fatal, OpenCase, Refused, Server
 from serving import Ran, difference, served
 from table import Op, Table
 
@@ -27,6 +27,20 @@ BAD_LINES = (
 def remark_of(chance: random.Random) -> str:
     """A text of any letters that a remark may have."""
     return "".join(chr(chance.randrange(32, 127)) for _ in range(chance.choice((1, 3, 30, 200))))
+
+
+def answered(model: OpenCase, line: str) -> Optional[List[str]]:
+    """What the case writes for the line, or None if it is refused."""
+    try:
+        asked = Asked(line)
+        if asked.is_header:
+            raise Refused("a test case is open")
+        return model.take(asked)
+    except Refused as refused:
+        run = model.run_of(line)
+        if run is not None:
+            model.refuse(run, str(refused))
+    return None
 
 
 class Session:
@@ -68,12 +82,9 @@ class Session:
 
     def add(self, model: OpenCase, line: str, what: str) -> None:
         """Adds a line that is no move that may be made."""
-        is_taken = model.take(line) is not None
+        is_taken = answered(model, line) is not None
         self.lines.append(line)
         self.met[f"{what}, {'taken' if is_taken else 'refused'}"] += 1
-        run = model.run_of(line)
-        if not is_taken and run is not None:
-            model.refuse(run)
 
     def draw_move(self, model: OpenCase, daring: float) -> None:
         """Adds a move, seldom one of a run that waits."""
@@ -90,12 +101,10 @@ class Session:
     def move(self, model: OpenCase, caller: int, op: Op) -> None:
         """Adds this move."""
         text = f"{caller} {op.text()}"
-        written = model.take(text)
+        written = answered(model, text)
         self.lines.append(text)
         if written is None:
             self.met["move, refused"] += 1
-            if model.run_of(text) is not None:
-                model.refuse(caller)
             return
         self.moves[-1].append(text)
         self.met["move, taken"] += 1

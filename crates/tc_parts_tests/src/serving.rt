@@ -6,7 +6,7 @@ use std::alloc::Global;
 use std::io;
 use std::io::{Read, Write};
 use std::process::Abort;
-use tc_serve::{Ending, ServeFault, serve};
+use tc_serve::{Ending, Refusal, ServeFault, serve};
 use tc_stream::devices::{NarrowWriter, SlowReader, WriteFailure};
 use tc_text::{append_number, append_text};
 use tc_verdict::{NoMemory, name};
@@ -21,24 +21,24 @@ case t 2~behaviour 1 p~0 create~0 start 1 1~0 wait done 1~1 finish~0 finish~end~
 case a 1~0 setverdict fail~0 finish~end~case b 1~0 finish~end~ => evidence 1 a 1~0 setverdict fail -> ok~0 finish -> ok~end fail~evidence 1 b 1~0 finish -> ok~end none~ =>  => fail
 case t 1~0 setverdict pass~end~ => evidence 1 t 1~0 setverdict pass -> ok~end pass~ =>  => error
 case t 1~0 finish~ => evidence 1 t 1~0 finish -> ok~end none~ => ttrun: the input ended inside a test case~ => none
-case t 2~behaviour 1 a~behaviour 1 a~end~ => evidence 1 t 2~behaviour 1 a~end none~ => ttrun: line 3: bad move~ => error, refused
-case t 2~0 create~0 start 1 1~0 wait done 1~0 getverdict~1 finish~0 finish~end~ => evidence 1 t 2~0 create -> made 1~0 start 1 1 -> ok~0 wait done 1 -> parked~0 ! bad move~1 finish -> ok~0 wake done 1 -> matched~0 finish -> ok~end none~ =>  => none, refused
-case t 1~0 wake done all~0 finish~end~ => evidence 1 t 1~0 ! bad move~0 finish -> ok~end none~ =>  => none, refused
-case t 1~case u 1~0 finish~end~ => evidence 1 t 1~0 finish -> ok~end none~ => ttrun: line 2: bad move~ => none, refused
-case t 1~0 fin\u{1}sh~0 # \u{e9}~\u{e9}~0 finish~end~ => evidence 1 t 1~0 ! bad move~0 ! bad move~0 finish -> ok~end none~ => ttrun: line 4: bad move~ => none, refused
-case t 2~0 finish~1 getver => evidence 1 t 2~0 finish -> ok~1 ! bad move~end none~ => ttrun: the input ended inside a test case~ => none, refused
-case t 2~0 finish~end => evidence 1 t 2~0 finish -> ok~end none~ => ttrun: line 3: bad move~ttrun: the input ended inside a test case~ => none, refused
-case t 1 =>  =>  => line 1
-end~case t 1~ =>  =>  => line 1
-case t 257~ =>  =>  => line 1
-case t 1~~0 finish~end~0 finish~ => evidence 1 t 1~0 finish -> ok~end none~ => ttrun: line 2: bad move~ => line 5
-case t 256~behaviour 255 z~255 # a~255 ! a~256 # a~0 finish~end~ => evidence 1 t 256~behaviour 255 z~255 # a~255 ! bad move~0 finish -> ok~end none~ => ttrun: line 5: bad move~ => none, refused
-case t 2~case t 2~end~end~ => evidence 1 t 2~end none~ => ttrun: line 2: bad move~ => line 4
-case t 2~1 x~behaviour 1 a~1x~01 x~2 x~0 # x~end~ => evidence 1 t 2~1 ! bad move~0 # x~end none~ => ttrun: line 3: bad move~ttrun: line 4: bad move~ttrun: line 5: bad move~ttrun: line 6: bad move~ => error, refused
+case t 2~behaviour 1 a~behaviour 1 a~end~ => evidence 1 t 2~behaviour 1 a~end none~ => ttrun: line 3: late name~ => error, refused
+case t 2~0 create~0 start 1 1~0 wait done 1~0 getverdict~1 finish~0 finish~end~ => evidence 1 t 2~0 create -> made 1~0 start 1 1 -> ok~0 wait done 1 -> parked~0 ! the run waits~1 finish -> ok~0 wake done 1 -> matched~0 finish -> ok~end none~ =>  => none, refused
+case t 1~0 wake done all~0 finish~end~ => evidence 1 t 1~0 ! a wake comes of itself~0 finish -> ok~end none~ =>  => none, refused
+case t 1~case u 1~0 finish~end~ => evidence 1 t 1~0 finish -> ok~end none~ => ttrun: line 2: a test case is open~ => none, refused
+case t 1~0 fin\u{1}sh~0 # \u{e9}~\u{e9}~0 finish~end~ => evidence 1 t 1~0 ! bad line~0 ! bad remark~0 finish -> ok~end none~ => ttrun: line 4: bad line~ => none, refused
+case t 2~0 finish~1 getver => evidence 1 t 2~0 finish -> ok~1 ! no line feed~end none~ => ttrun: the input ended inside a test case~ => none, refused
+case t 2~0 finish~end => evidence 1 t 2~0 finish -> ok~end none~ => ttrun: line 3: no line feed~ttrun: the input ended inside a test case~ => none, refused
+case t 1 =>  =>  => line 1, no line feed
+end~case t 1~ =>  =>  => line 1, no test case is open
+case t 257~ =>  =>  => line 1, bad line
+case t 1~~0 finish~end~0 finish~ => evidence 1 t 1~0 finish -> ok~end none~ => ttrun: line 2: bad line~ => line 5, no test case is open
+case t 256~behaviour 255 z~255 # a~255 ! a~256 # a~0 finish~end~ => evidence 1 t 256~behaviour 255 z~255 # a~255 ! bad line~0 finish -> ok~end none~ => ttrun: line 5: no such run~ => none, refused
+case t 2~case t 2~end~end~ => evidence 1 t 2~end none~ => ttrun: line 2: a test case is open~ => line 4, no test case is open
+case t 2~1 x~behaviour 1 a~1x~01 x~2 x~0 # x~end~ => evidence 1 t 2~1 ! bad line~0 # x~end none~ => ttrun: line 3: late name~ttrun: line 4: bad line~ttrun: line 5: bad line~ttrun: line 6: bad line~ => error, refused
 case t 2~0 wait done 1~0 create~0 wait done 1~end~ => evidence 1 t 2~0 wait done 1 -> error no-component~0 create -> ended~0 wait done 1 -> ended~end error~ =>  => error
-case t 1~0 finish -> ok~0 finish\r~0 finish~end~ => evidence 1 t 1~0 ! bad move~0 ! bad move~0 finish -> ok~end none~ =>  => none, refused
+case t 1~0 finish -> ok~0 finish\r~0 finish~end~ => evidence 1 t 1~0 ! bad line~0 ! bad line~0 finish -> ok~end none~ =>  => none, refused
 case t 3~0 create~0 create~0 start 1 1~0 start 2 2~2 wait done 1~0 wait done 1~1 finish~2 finish~0 finish~end~ => evidence 1 t 3~0 create -> made 1~0 create -> made 2~0 start 1 1 -> ok~0 start 2 2 -> ok~2 wait done 1 -> parked~0 wait done 1 -> parked~1 finish -> ok~0 wake done 1 -> matched~2 wake done 1 -> matched~2 finish -> ok~0 finish -> ok~end none~ =>  => none
-case t 4~0 create~0 create~0 create~0 start 1 1~0 start 2 2~0 start 3 3~3 wait done 1~2 wait done 3~0 wait done 1~1 finish~2 getverdict~3 finish~2 finish~0 finish~end~ => evidence 1 t 4~0 create -> made 1~0 create -> made 2~0 create -> made 3~0 start 1 1 -> ok~0 start 2 2 -> ok~0 start 3 3 -> ok~3 wait done 1 -> parked~2 wait done 3 -> parked~0 wait done 1 -> parked~1 finish -> ok~0 wake done 1 -> matched~3 wake done 1 -> matched~2 ! bad move~3 finish -> ok~2 wake done 3 -> matched~2 finish -> ok~0 finish -> ok~end none~ =>  => none, refused";
+case t 4~0 create~0 create~0 create~0 start 1 1~0 start 2 2~0 start 3 3~3 wait done 1~2 wait done 3~0 wait done 1~1 finish~2 getverdict~3 finish~2 finish~0 finish~end~ => evidence 1 t 4~0 create -> made 1~0 create -> made 2~0 create -> made 3~0 start 1 1 -> ok~0 start 2 2 -> ok~0 start 3 3 -> ok~3 wait done 1 -> parked~2 wait done 3 -> parked~0 wait done 1 -> parked~1 finish -> ok~0 wake done 1 -> matched~3 wake done 1 -> matched~2 ! the run waits~3 finish -> ok~2 wake done 3 -> matched~2 finish -> ok~0 finish -> ok~end none~ =>  => none, refused";
 
 /// Appends the text, with LF for each `~`.
 fn append_lines(out: &mut Vec<u8>, text: &str) -> Result<(), NoMemory> {
@@ -54,9 +54,11 @@ fn append_ending(out: &mut Vec<u8>, ending: &Ending) -> Result<(), NoMemory> {
             append_text(out, name(served.worst))?;
             append_text(out, if served.refused { ", refused" } else { "" })
         }
-        Err(ServeFault::Line(line)) => {
+        Err(ServeFault::Line(line, why)) => {
             append_text(out, "line ")?;
-            append_number(out, line as u64)
+            append_number(out, line as u64)?;
+            append_text(out, ", ")?;
+            append_text(out, why.text())
         }
         Err(ServeFault::TooLong) => append_text(out, "too long"),
         Err(ServeFault::Read) => append_text(out, "read"),
@@ -161,7 +163,7 @@ fn devices_that_fail(rt: HostRuntime) {
     ends_at(&rt, rt.alloc(), 9, NEVER, (ServeFault::Read, 15));
     ends_at(&rt, rt.alloc(), NEVER, 0, (ServeFault::Write, 0));
     ends_at(&rt, rt.alloc(), NEVER, 7, (ServeFault::Write, 7));
-    ends_at(&rt, rt.alloc(), NEVER, NEVER, (ServeFault::Line(4), 39));
+    ends_at(&rt, rt.alloc(), NEVER, NEVER, (ServeFault::Line(4, Refusal::BadLine), 39));
 }
 
 /// Takes all that is written, and notes how much it has at each flush.

@@ -1,28 +1,38 @@
 //! The subcommand `serve`.
-ghost use Rattle.std.specs.Prelude.{◌≡◌};
-ghost use Rattle.tc_program.specs.Serve.{IsSettled, Serves, of_service as spec_of_service, service_status as spec_status};
+ghost use Rattle.std.specs.Prelude.{◌≡◌, IfOk};
+ghost use Rattle.tc_program.specs.Serve.{IsSettled, Serves, service_line as spec_line, service_status as spec_status};
+ghost use Rattle.tc_program.specs.Stderr.{IsRefusal};
 ghost use Rattle.tc_program.specs.Streams.{held};
 
-use crate::fault::RunFault;
+use crate::fault::{RunFault, fault_line};
 use crate::outcome::{Outcome, REFUSED};
-use crate::stderr::refuse;
+use crate::stderr::refuse_with;
 use std::alloc::Global;
 use std::io::{Read, Write};
 use tc_report::verdict_status;
-use tc_serve::{Ending, ServeFault, Served, serve};
-use tc_text::{TextFault, TextKind};
+use tc_serve::{Ending, ServeFault, Served, append_refusal, serve};
+use tc_verdict::NoMemory;
 
-// The fault of the program for one that ended a service.
-fn of_service(fault: ServeFault) -> RunFault
-    ensures { result ≡ spec_of_service fault }
+// The line of a fault that ended a service.
+fn service_line(alloc: Global, fault: ServeFault) -> Result<Vec<u8>, NoMemory>
+    ensures { IfOk result (λ v. v.items ≡ spec_line fault) }
 {
+    let mut line = Vec::new(alloc);
     match fault {
-        ServeFault::Line(line) => RunFault::Text(TextFault::at(line, TextKind::Move)),
-        ServeFault::TooLong => RunFault::TooLong,
-        ServeFault::Read => RunFault::Read,
-        ServeFault::Write => RunFault::Write,
-        ServeFault::NoMemory => RunFault::NoMemory,
+        ServeFault::Line(number, why) => append_refusal(&mut line, number, why)?,
+        ServeFault::TooLong => fault_line(&RunFault::TooLong, &mut line)?,
+        ServeFault::Read => fault_line(&RunFault::Read, &mut line)?,
+        ServeFault::Write => fault_line(&RunFault::Write, &mut line)?,
+        ServeFault::NoMemory => fault_line(&RunFault::NoMemory, &mut line)?,
     }
+    Ok(line)
+}
+
+// The outcome of a service that ended by this fault: its line is printed.
+fn refuse<E: Write>(alloc: Global, errors: &mut E, fault: ServeFault) -> Outcome
+    ensures { IsRefusal (E.contents errors.old) (E.contents errors.new) (spec_line fault) result }
+{
+    refuse_with(errors, service_line(alloc, fault))
 }
 
 // The status of a service.
@@ -45,7 +55,7 @@ fn settle<E: Write>(alloc: Global, ending: Ending, errors: &mut E) -> Outcome
             status,
             told: Ok(()),
         },
-        (true, Err(fault)) => refuse(alloc, errors, of_service(fault)),
+        (true, Err(fault)) => refuse(alloc, errors, fault),
         (false, _) => Outcome {
             status,
             told: Err(RunFault::Write),

@@ -1,5 +1,6 @@
 -- What one more line does to what is kept of a test case.
-use Rattle.std.proofs.Common.{ℕ, ◌≡◌, ◌∙◌, ◌&&◌, ◌<◌, not, nat_lt, if◌then◌else◌, is_some, Bool, true, false, Option, Some, None, MatchOption, List, [], ◌∷◌, ◌++◌, refl, ap, sym, subst, arith}
+use Rattle.std.proofs.Common.{ℕ, ◌≡◌, ◌∙◌, ◌<◌, nat_lt, if◌then◌else◌, is_some, Bool, true, false, Option, Some, None, Result, Ok, Err, MatchResult, List, [], ◌∷◌, ◌++◌, refl, ap, sym, subst, arith}
+use Rattle.std.specs.Result.{result_err}
 use Rattle.std.proofs.lemmas.Bool.Decides.{nat_tests}
 use Rattle.tc_verdict.specs.declared.run.Run.{Run}
 use Rattle.tc_entry.specs.declared.entry.Entry.{Entry}
@@ -16,18 +17,14 @@ use Rattle.tc_evidence.specs.Block.{ended}
 use Rattle.tc_evidence.specs.Line.{entry_of, line_text}
 use Rattle.tc_evidence.specs.Met.{AreMet}
 use Rattle.tc_serve.specs.declared.open_case.OpenCase.{OpenCase}
-use Rattle.tc_serve.specs.Protocol.{Played, called, is_parked, is_wake, may_add, may_ask, past_of, sleep_of, with_line}
+use Rattle.tc_serve.specs.declared.refusal.Refusal.{Refusal}
+use Rattle.tc_serve.specs.declared.refusal.Refusal.TheVariants as W
+use Rattle.tc_serve.specs.Protocol.{Played, called, is_parked, is_wake, made, moved, past_of, sleep_of, with_line}
 use Rattle.tc_serve.specs.Inside.{AreAsleep, BecomesAwake, Holds, IsAdded, IsCalled, IsKept, IsOpen, IsText, after_call}
 use Rattle.tc_serve.proofs.Going.{appended, grows, line_more}
 use Rattle.tc_serve.proofs.Sleeping.{asleep_more, asleep_on}
 
 -- ---- a line that is no entry
-
-pub no_entry : (p : Played) (l : Line) → may_add p l ≡ true → entry_of l ≡ []
-no_entry p (L.Named run name) may = refl
-no_entry p (L.Entry e) may = absurd cc
-no_entry p (L.Remark run sentence) may = refl
-no_entry p (L.Refused run sentence) may = refl
 
 pub noted : (v w : OpenCase) (p : Played) (l : Line) (closed : List Played) (before out written : List ℕ) → Holds v p closed before out → entry_of l ≡ [] → w.state ≡ v.state → w.sleepers ≡ v.sleepers → ((ls : List Line) → AreMet v.met ls → AreMet w.met (l ∷ ls)) →
     written ≡ out ++ ended (line_text l) → Holds w (with_line p l) closed before written
@@ -47,12 +44,20 @@ noted v w p l closed before out written holds none state sleepers met appends =
       text = appended before out written _ _ _ holds.text appends (grows closed p (l ∷ p.lines) (ended (line_text l)) (line_more l p.lines));
     }
 
--- a change that may be made, and one that may not
-pub may_change : (t : Bool) (q : Played) (P : Type 0) (Q : Played → Type 0) → t ≡ true → Q q → MatchOption (if t then Some q else None) P Q
-may_change t q P Q may holds = subst (λ (x : Bool). MatchOption (if x then Some q else None) P Q) (sym may) holds
+-- ---- a change that may be made, and one that may not
 
-pub may_not : (t : Bool) (q : Played) (P : Type 0) (Q : Played → Type 0) → t ≡ false → P → MatchOption (if t then Some q else None) P Q
-may_not t q P Q not_may holds = subst (λ (x : Bool). MatchOption (if x then Some q else None) P Q) (sym not_may) holds
+module _ (t : Bool) (r : Result Played Refusal) (e : Refusal) (P : Played → Type 0) (Q : Refusal → Type 0) where
+  pub may_change : t ≡ true → MatchResult r P Q → MatchResult (if t then r else Err e) P Q
+  may_change may holds = subst (λ (x : Bool). MatchResult (if x then r else Err e) P Q) (sym may) holds
+
+  pub may_not : t ≡ false → Q e → MatchResult (if t then r else Err e) P Q
+  may_not not_may holds = subst (λ (x : Bool). MatchResult (if x then r else Err e) P Q) (sym not_may) holds
+
+  pub is_barred : t ≡ true → Q e → MatchResult (if t then Err e else r) P Q
+  is_barred barred holds = subst (λ (x : Bool). MatchResult (if x then Err e else r) P Q) (sym barred) holds
+
+  pub is_free : t ≡ false → MatchResult r P Q → MatchResult (if t then Err e else r) P Q
+  is_free free holds = subst (λ (x : Bool). MatchResult (if x then Err e else r) P Q) (sym free) holds
 
 -- ---- a call
 
@@ -94,13 +99,37 @@ below a b less = grind (arith, nat_tests)
 awake : (p : Played) (b : ℕ) → sleep_of p b ≡ None → b < p.behaviours → waiting (past_of p) b ≡ None
 awake p b none less = sym (ap (λ (t : Bool). if t then waiting (past_of p) b else None) (below b p.behaviours less)) ∙ none
 
-pub may_be_awake : (p : Played) (caller : Run) (op : Op) → may_ask p caller op ≡ true → sleep_of p caller.0 ≡ None
-may_be_awake p caller op may = by_sleep (sleep_of p caller.0) (is_wake op) may
+-- ---- a call that is barred, and one that is not
+
+pub made_not : (why : Refusal) (p : Played) (caller : Run) (op : Op) (P : Played → Type 0) (Q : Refusal → Type 0) → Some why ≡ result_err (made caller op p) → Q why → MatchResult (made caller op p) P Q
+made_not why p caller op P Q barred holds = by_tests (is_wake op) (is_some (sleep_of p caller.0)) barred
   where
-    by_sleep : (o : Option Awaited) (w : Bool) → (not w && not (is_some o)) ≡ true → o ≡ None
-    by_sleep None w may = refl
-    by_sleep (Some a) true may = absurd cc
-    by_sleep (Some a) false may = absurd cc
+    by_why : (e : Refusal) → ◌≡◌ {A = Option Refusal} (Some why) (Some e) → Q e
+    by_why e is = let same : why ≡ e = cc in subst Q same holds
+
+    by_tests : (a b : Bool) → ◌≡◌ {A = Option Refusal} (Some why) (result_err (if a then Err W.Wake else if b then Err W.Waiting else Ok (moved p caller op))) →
+        MatchResult (if a then Err W.Wake else if b then Err W.Waiting else Ok (moved p caller op)) P Q
+    by_tests true b is = by_why W.Wake is
+    by_tests false true is = by_why W.Waiting is
+    by_tests false false is = absurd cc
+
+module _ (p : Played) (caller : Run) (op : Op) (free : ◌≡◌ {A = Option Refusal} None (result_err (made caller op p))) where
+  pub may_be_awake : sleep_of p caller.0 ≡ None
+  may_be_awake = by_sleep (is_wake op) (sleep_of p caller.0) free
+    where
+      by_sleep : (a : Bool) (o : Option Awaited) → ◌≡◌ {A = Option Refusal} None (result_err {T = Played} (if a then Err W.Wake else if is_some o then Err W.Waiting else Ok (moved p caller op))) → o ≡ None
+      by_sleep true o is = absurd cc
+      by_sleep false (Some x) is = absurd cc
+      by_sleep false None is = refl
+
+  pub made_so : (P : Played → Type 0) (Q : Refusal → Type 0) → P (moved p caller op) → MatchResult (made caller op p) P Q
+  made_so P Q holds = by_tests (is_wake op) (is_some (sleep_of p caller.0)) free
+    where
+      by_tests : (a b : Bool) → ◌≡◌ {A = Option Refusal} None (result_err (if a then Err W.Wake else if b then Err W.Waiting else Ok (moved p caller op))) →
+          MatchResult (if a then Err W.Wake else if b then Err W.Waiting else Ok (moved p caller op)) P Q
+      by_tests true b is = absurd cc
+      by_tests false true is = absurd cc
+      by_tests false false is = holds
 
 module _ (v w : OpenCase) (caller : Run) (op : Op) (reply : Reply) (out written : List ℕ) (call : IsCalled caller op reply v w out written) where
   -- it does not wait now

@@ -1,6 +1,7 @@
 -- How a line changes the server's state, and what holds of all that is served.
-use Rattle.std.proofs.Common.{ℕ, ◌≡◌, ◌∙◌, ◌⊎◌, ◌<◌, ◌^◌, inl, inr, if◌then◌else◌, Bool, true, false, is_some, unwrap_or, Option, Some, None, MatchOption, List, [], ◌∷◌, refl, ap, sym, subst}
-use Rattle.std.specs.Option.{option_and_then, option_map}
+use Rattle.std.proofs.Common.{ℕ, ◌≡◌, ◌∙◌, ◌⊎◌, ◌<◌, ◌^◌, ◌&&◌, not, nat_lt, inl, inr, if◌then◌else◌, Bool, true, false, is_some, Option, Some, None, MatchOption, Result, Ok, Err, List, [], ◌∷◌, refl, ap, sym, subst}
+use Rattle.std.specs.Option.{option_map_or}
+use Rattle.std.specs.Result.{result_map_both, result_unwrap_or}
 use Rattle.tc_verdict.specs.declared.run.Run.{Run}
 use Rattle.tc_entry.specs.declared.op.Op.{Op}
 use Rattle.tc_entry.specs.Limits.{IsBehaviours}
@@ -8,11 +9,15 @@ use Rattle.tc_entry.specs.Name.{IsName}
 use Rattle.tc_text.specs.Spelling.{IsOp}
 use Rattle.tc_evidence.specs.declared.line.Line.{Line}
 use Rattle.tc_evidence.specs.declared.line.Line.TheVariants as L
+use Rattle.tc_evidence.specs.Line.{is_met}
 use Rattle.tc_evidence.specs.Sentence.{IsSentence}
 use Rattle.tc_serve.specs.declared.order.Order.{Order}
 use Rattle.tc_serve.specs.declared.order.Order.TheVariants as O
+use Rattle.tc_serve.specs.declared.refusal.Refusal.{Refusal}
+use Rattle.tc_serve.specs.declared.refusal.Refusal.TheVariants as W
 use Rattle.tc_serve.specs.Order.{IsOrder}
-use Rattle.tc_serve.specs.Protocol.{AreServed, Came, Comes, Played, Sent, Stand, added, finished, made, may_add, may_ask, moved, refused, start, taken, was_done, was_lost, was_refused, why_refused, with_current, with_line, with_open}
+use Rattle.tc_serve.specs.Refusal.{why_text}
+use Rattle.tc_serve.specs.Protocol.{AreServed, Came, Comes, Played, Sent, Stand, added, finished, is_wake, made, moved, named, refused, sleep_of, start, taken, was_done, was_lost, was_refused, with_current, with_line, with_open}
 use Rattle.tc_serve.specs.Laws.{AllServed, EachOf, asked_by, done_by}
 
 abbrev pub new : List ℕ → ℕ → Played
@@ -21,12 +26,23 @@ new name n = record { name = name; behaviours = n; lines = [] }
 abbrev pub without : Stand → Played → Stand
 without s p = record { closed = p ∷ s.closed; current = None }
 
+-- a client may make the call
+abbrev pub may_ask : Played → Run → Op → Bool
+may_ask p caller op = not (is_wake op) && not (is_some (sleep_of p caller.0))
+
+-- the line, which is no entry, may be added
+abbrev pub may_add : Played → Line → Bool
+may_add p (L.Named run name) = nat_lt run.0 p.behaviours && not (is_met run.0 p.lines)
+may_add p (L.Entry e) = false
+may_add p (L.Remark run sentence) = nat_lt run.0 p.behaviours
+may_add p (L.Refused run sentence) = nat_lt run.0 p.behaviours
+
 -- what is in a line that is no entry
 abbrev pub IsNote : Line → Type 0
 IsNote (L.Named run name) = IsName name
 IsNote (L.Entry e) = ⊥
 IsNote (L.Remark run sentence) = IsSentence sentence
-IsNote (L.Refused run sentence) = sentence ≡ why_refused
+IsNote (L.Refused run sentence) = (why : Refusal) × (sentence ≡ why_text why)
 
 -- a test case is opened
 pub record Opens (asks : List Order) (s t : Stand) : Type 0 where
@@ -70,58 +86,86 @@ pub record Closes (asks : List Order) (s t : Stand) : Type 0 where
 abbrev pub Changed : List Order → Stand → Stand → Type 0
 Changed asks s t = Opens asks s t ⊎ (AddsNote asks s t ⊎ (Moves asks s t ⊎ (Closes asks s t ⊎ ((asks ≡ []) × (s ≡ t)))))
 
-same_some : (x t : Stand) → ◌≡◌ {A = Option Stand} (Some x) (Some t) → x ≡ t
-same_some x t e = cc
+same_ok : (x t : Stand) → ◌≡◌ {A = Result Stand Refusal} (Ok x) (Ok t) → x ≡ t
+same_ok x t e = cc
 
-if_some : (b : Bool) (x q : Played) → (if b then Some x else None) ≡ Some q → (b ≡ true) × (x ≡ q)
-if_some true x q e = (refl, let same : x ≡ q = cc in same)
-if_some false x q e = absurd cc
+-- ---- what may be done of the test case that is open
+
+added_is : (run : Run) (l : Line) (p q : Played) → added run l p ≡ Ok q → (nat_lt run.0 p.behaviours ≡ true) × (with_line p l ≡ q)
+added_is run l p q e = by_test (nat_lt run.0 p.behaviours) e
+  where
+    by_test : (b : Bool) → ◌≡◌ {A = Result Played Refusal} (if b then Ok (with_line p l) else Err W.NoRun) (Ok q) → (b ≡ true) × (with_line p l ≡ q)
+    by_test true e = (refl, let same : with_line p l ≡ q = cc in same)
+    by_test false e = absurd cc
+
+named_is : (run : Run) (name : List ℕ) (p q : Played) → named run name p ≡ Ok q → (may_add p (L.Named run name) ≡ true) × (with_line p (L.Named run name) ≡ q)
+named_is run name p q e = by_tests (nat_lt run.0 p.behaviours) (is_met run.0 p.lines) e
+  where
+    by_tests : (a b : Bool) → ◌≡◌ {A = Result Played Refusal} (if a && b then Err W.LateName else if a then Ok (with_line p (L.Named run name)) else Err W.NoRun) (Ok q) →
+        ((a && not b) ≡ true) × (with_line p (L.Named run name) ≡ q)
+    by_tests true true e = absurd cc
+    by_tests true false e = (refl, let same : with_line p (L.Named run name) ≡ q = cc in same)
+    by_tests false b e = absurd cc
+
+made_is : (caller : Run) (op : Op) (p q : Played) → made caller op p ≡ Ok q → (may_ask p caller op ≡ true) × (moved p caller op ≡ q)
+made_is caller op p q e = by_tests (is_wake op) (is_some (sleep_of p caller.0)) e
+  where
+    by_tests : (a b : Bool) → ◌≡◌ {A = Result Played Refusal} (if a then Err W.Wake else if b then Err W.Waiting else Ok (moved p caller op)) (Ok q) → ((not a && not b) ≡ true) × (moved p caller op ≡ q)
+    by_tests true b e = absurd cc
+    by_tests false true e = absurd cc
+    by_tests false false e = (refl, let same : moved p caller op ≡ q = cc in same)
 
 -- the test case that is open became another
-record Became (s t : Stand) (change : Played → Option Played) : Type 0 where
+record Became (s t : Stand) (change : Played → Result Played Refusal) : Type 0 where
   case : Played
   after : Played
   some : s.current ≡ Some case
-  changed : change case ≡ Some after
+  changed : change case ≡ Ok after
   is : with_current s after ≡ t
 
-became : (s t : Stand) (change : Played → Option Played) (c : Option Played) → s.current ≡ c → option_map (with_current s) (option_and_then change c) ≡ Some t → Became s t change
+became : (s t : Stand) (change : Played → Result Played Refusal) (c : Option Played) → s.current ≡ c → result_map_both (with_current s) (λ why. why) (option_map_or change c (Err W.NoCase)) ≡ Ok t → Became s t change
 became s t change None is e = absurd cc
 became s t change (Some p) is e = by_change (change p) refl e
   where
-    by_change : (o : Option Played) → change p ≡ o → option_map (with_current s) o ≡ Some t → Became s t change
-    by_change None changed e = absurd cc
-    by_change (Some q) changed e = record { case = p; after = q; some = is; changed = changed; is = same_some (with_current s q) t e }
+    by_change : (r : Result Played Refusal) → change p ≡ r → result_map_both (with_current s) (λ (why : Refusal). why) r ≡ Ok t → Became s t change
+    by_change (Err why) changed e = absurd cc
+    by_change (Ok q) changed e = record { case = p; after = q; some = is; changed = changed; is = same_ok (with_current s q) t e }
 
-noted : (asks : List Order) (s t : Stand) (l : Line) → IsNote l → asks ≡ asked_by l → with_open s (added l) ≡ Some t → Changed asks s t
-noted asks s t l note asked e =
-    let so = became s t (added l) s.current refl e in
-    let two = if_some (may_add so.case l) (with_line so.case l) so.after so.changed in
+-- ---- what is done
+
+noted : (asks : List Order) (s t : Stand) (l : Line) (change : Played → Result Played Refusal) → ((p q : Played) → change p ≡ Ok q → (may_add p l ≡ true) × (with_line p l ≡ q)) → IsNote l → asks ≡ asked_by l → with_open s change ≡ Ok t → Changed asks s t
+noted asks s t l change adds note asked e =
+    let so = became s t change s.current refl e in
+    let two = adds so.case so.after so.changed in
     inr (inl (record { case = so.case; line = l; some = so.some; may = two.0; note = note; asked = asked; is = ap (with_current s) two.1 ∙ so.is }))
 
 opened : (asks : List Order) (s t : Stand) (name : List ℕ) (n : ℕ) (c : Option Played) → IsName name → IsBehaviours n → asks ≡ O.Case name n ∷ [] → s.current ≡ c →
-    (if is_some c then None else Some (with_current s (new name n))) ≡ Some t → Changed asks s t
-opened asks s t name n None name_is few asked is e = inl (record { name = name; behaviours = n; name_is = name_is; few = few; none = is; asked = asked; is = same_some (with_current s (new name n)) t e })
+    ◌≡◌ {A = Result Stand Refusal} (if is_some c then Err W.CaseOpen else Ok (with_current s (new name n))) (Ok t) → Changed asks s t
+opened asks s t name n None name_is few asked is e = inl (record { name = name; behaviours = n; name_is = name_is; few = few; none = is; asked = asked; is = same_ok (with_current s (new name n)) t e })
 opened asks s t name n (Some p) name_is few asked is e = absurd cc
 
-closed : (asks : List Order) (s t : Stand) (c : Option Played) → asks ≡ O.End ∷ [] → s.current ≡ c → option_map (without s) c ≡ Some t → Changed asks s t
-closed asks s t None asked is e = absurd cc
-closed asks s t (Some p) asked is e = inr (inr (inr (inl (record { case = p; some = is; asked = asked; is = same_some (without s p) t e }))))
+-- the test case that is open is closed, if one is
+abbrev pub closing : Stand → Option Played → Result Stand Refusal
+closing s c = option_map_or (λ p. Ok (without s p)) c (Err W.NoCase)
 
-done : (s t : Stand) (o : Order) → IsOrder o → taken s o ≡ Some t → Changed (o ∷ []) s t
+closed : (asks : List Order) (s t : Stand) (c : Option Played) → asks ≡ O.End ∷ [] → s.current ≡ c → closing s c ≡ Ok t → Changed asks s t
+closed asks s t None asked is e = absurd cc
+closed asks s t (Some p) asked is e = inr (inr (inr (inl (record { case = p; some = is; asked = asked; is = same_ok (without s p) t e }))))
+
+done : (s t : Stand) (o : Order) → IsOrder o → taken s o ≡ Ok t → Changed (o ∷ []) s t
 done s t (O.Case name n) fits e = opened _ s t name n s.current fits.0 fits.1 refl refl e
-done s t (O.Named run name) fits e = noted _ s t (L.Named run name) fits.1 refl e
+done s t (O.Named run name) fits e = noted _ s t (L.Named run name) (named run name) (named_is run name) fits.1 refl e
 done s t (O.Move caller op) fits e =
     let so = became s t (made caller op) s.current refl e in
-    let two = if_some (may_ask so.case caller op) (moved so.case caller op) so.after so.changed in
+    let two = made_is caller op so.case so.after so.changed in
     inr (inr (inl (record { case = so.case; caller = caller; op = op; some = so.some; may = two.0; low = fits.0; fits = fits.1; asked = refl; is = ap (with_current s) two.1 ∙ so.is })))
-done s t (O.Remark run sentence) fits e = noted _ s t (L.Remark run sentence) fits.1 refl e
+done s t (O.Remark run sentence) fits e = noted _ s t (L.Remark run sentence) (added run (L.Remark run sentence)) (added_is run (L.Remark run sentence)) fits.1 refl e
 done s t O.End fits e = closed _ s t s.current refl refl e
 
 pub changes : (c : Came) (ended : Bool) (line : List ℕ) (s t : Stand) → Comes c ended line s t → Changed (done_by c) s t
 changes (was_done o) ended line s t came = done s t o came.0.1 came.1
-changes (was_refused run) ended line s t came = noted [] s t (L.Refused run why_refused) refl refl came.2
-changes was_lost ended line s t came = inr (inr (inr (inr (refl, sym came.3))))
+changes (was_refused run why) ended line s t came = noted [] s t (L.Refused run (why_text why)) (added run (L.Refused run (why_text why))) (added_is run (L.Refused run (why_text why))) (why, refl) refl came.2
+changes (was_lost why) ended line s t came = inr (inr (inr (inr (refl, sym came.3))))
 
 -- ---- what holds of each test case
 
@@ -147,7 +191,7 @@ module _ (P : Played → Type 0) (at_first : (name : List ℕ) (n : ℕ) → IsN
   all [] s served = subst (AllOf P) (sym served) (tt, tt)
   all (l ∷ before) t served = next _ served.0 t (all before served.0 served.1) (changes l.came l.ended _ served.0 t served.4)
 
-  at_end : (s : Stand) (c : Option Played) → EachOf P s.closed → MatchOption c (Unit {0}) P → EachOf P (unwrap_or (option_map (without s) c) s).closed
+  at_end : (s : Stand) (c : Option Played) → EachOf P s.closed → MatchOption c (Unit {0}) P → EachOf P (result_unwrap_or (closing s c) s).closed
   at_end s None closed current = closed
   at_end s (Some p) closed current = (current, closed)
 

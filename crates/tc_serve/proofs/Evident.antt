@@ -1,7 +1,7 @@
 -- What is written is evidence.
-use Rattle.std.proofs.Common.{ℕ, ◌≡◌, ◌≢◌, ◌∙◌, ◌==◌, ◌||◌, ◌&&◌, ◌+◌, ◌<◌, ◌≤◌, ◌^◌, inr, not, nat_lt, if◌then◌else◌, zero, suc, Bool, true, false, unwrap_or, Option, Some, None, List, [], ◌∷◌, ◌++◌, length, reverse, refl, ap, sym, subst, append_assoc, arith, rules}
-use Rattle.std.specs.Option.{option_map}
-use Rattle.std.specs.List.{flat_map}
+use Rattle.std.proofs.Common.{ℕ, ◌≡◌, ◌≢◌, ◌∙◌, ◌==◌, ◌||◌, ◌&&◌, ◌+◌, ◌<◌, ◌≤◌, ◌^◌, inr, not, nat_lt, if◌then◌else◌, zero, suc, Bool, true, false, IsTrue, Option, Some, None, List, [], ◌∷◌, ◌++◌, length, reverse, refl, ap, sym, subst, append_assoc, arith}
+use Rattle.std.specs.Result.{result_unwrap_or}
+use Rattle.std.specs.List.{All, flat_map, list_all}
 use Rattle.std.proofs.lemmas.Bool.Decides.{nat_tests}
 use Rattle.std.proofs.lemmas.List.{append-nil, reverse-append, reverse-reverse}
 use Rattle.tc_verdict.specs.declared.run.Run.{Run}
@@ -14,6 +14,7 @@ use Rattle.tc_entry.specs.declared.op.Op.TheVariants as Ops
 use Rattle.tc_entry.specs.declared.reply.Reply.{Reply}
 use Rattle.tc_entry.specs.declared.reply.Reply.TheVariants as R
 use Rattle.tc_entry.specs.declared.reply.Fault.TheVariants as F
+use Rattle.tc_text.specs.Shown.{is_plain}
 use Rattle.tc_text.specs.Spelling.{IsOp, IsReply, IsTarget}
 use Rattle.tc_table.specs.declared.awaited.Awaited.{Awaited}
 use Rattle.tc_table.specs.Answers.{answer, local_reply, plain_answer}
@@ -32,11 +33,14 @@ use Rattle.tc_evidence.specs.Sentence.{IsSentence}
 use Rattle.tc_evidence.specs.Text.{AreBlocks, AreLines, IsLine, block_lines}
 use Rattle.tc_evidence.specs.Written.{text_of_block, text_of_blocks}
 use Rattle.tc_evidence.proofs.Lemmas.WrittenEvidence.{written_evidence}
-use Rattle.tc_serve.specs.Protocol.{Played, Stand, called, finished, is_parked, may_add, may_ask, moved, past_of, wake_op, why_refused, with_line, woken, woken_from}
+use Rattle.tc_serve.specs.declared.refusal.Refusal.{Refusal}
+use Rattle.tc_serve.specs.declared.refusal.Refusal.TheVariants as W
+use Rattle.tc_serve.specs.Protocol.{Played, Stand, called, finished, is_parked, moved, past_of, wake_op, with_line, woken, woken_from}
 use Rattle.tc_serve.specs.Text.{block, header_of, stand_text}
 use Rattle.tc_serve.specs.Inside.{after_call}
 use Rattle.tc_serve.specs.Laws.{EachOf, ServedIsEvidence, block_of, blocks_of}
-use Rattle.tc_serve.proofs.Changes.{IsNote, all_served, without}
+use Rattle.tc_serve.specs.Refusal.{why_text}
+use Rattle.tc_serve.proofs.Changes.{IsNote, all_served, closing, may_add, without}
 use Rattle.tc_serve.proofs.Going.{lines_text}
 
 -- ---- the numbers of entries are those of their types
@@ -175,8 +179,30 @@ both true true e = absurd cc
 both true false e = (refl, refl)
 both false b e = absurd cc
 
-refusal_plain : IsSentence why_refused
-refusal_plain = record { some = omega arith; short = omega arith; plain = search rules }
+first_of : (a b : Bool) → (a && b) ≡ true → a ≡ true
+first_of true b e = refl
+first_of false b e = absurd cc
+
+second_of : (a b : Bool) → (a && b) ≡ true → b ≡ true
+second_of true b e = e
+second_of false b e = absurd cc
+
+all_plain : (bs : List ℕ) → list_all is_plain bs ≡ true → All (λ b. IsTrue (is_plain b)) bs
+all_plain [] all k d within = absurd (omega (arith, within))
+all_plain (b ∷ bs) all zero d within = first_of (is_plain b) (list_all is_plain bs) all
+all_plain (b ∷ bs) all (suc k) d within = all_plain bs (second_of (is_plain b) (list_all is_plain bs) all) k d (omega (arith, within))
+
+refusal_plain : (why : Refusal) → IsSentence (why_text why)
+refusal_plain W.Unended = record { some = omega arith; short = omega arith; plain = all_plain (why_text W.Unended) refl }
+refusal_plain W.TooLong = record { some = omega arith; short = omega arith; plain = all_plain (why_text W.TooLong) refl }
+refusal_plain W.BadRemark = record { some = omega arith; short = omega arith; plain = all_plain (why_text W.BadRemark) refl }
+refusal_plain W.BadLine = record { some = omega arith; short = omega arith; plain = all_plain (why_text W.BadLine) refl }
+refusal_plain W.CaseOpen = record { some = omega arith; short = omega arith; plain = all_plain (why_text W.CaseOpen) refl }
+refusal_plain W.NoCase = record { some = omega arith; short = omega arith; plain = all_plain (why_text W.NoCase) refl }
+refusal_plain W.NoRun = record { some = omega arith; short = omega arith; plain = all_plain (why_text W.NoRun) refl }
+refusal_plain W.LateName = record { some = omega arith; short = omega arith; plain = all_plain (why_text W.LateName) refl }
+refusal_plain W.Wake = record { some = omega arith; short = omega arith; plain = all_plain (why_text W.Wake) refl }
+refusal_plain W.Waiting = record { some = omega arith; short = omega arith; plain = all_plain (why_text W.Waiting) refl }
 
 note_fits : (p : Played) (l : Line) → may_add p l ≡ true → IsNote l → IsEvident p → IsEvident (with_line p l)
 note_fits p (L.Named run name) may fits is =
@@ -191,7 +217,7 @@ note_fits p (L.Remark run sentence) may fits is =
 note_fits p (L.Refused run sentence) may fits is =
     evident p (L.Refused run sentence ∷ p.lines) is
     (fit_more p.behaviours p.lines (L.Refused run sentence) (fit_of p is) is.entries
-    (record { evidence = refl; few = below run.0 p.behaviours may; sentence_is = subst IsSentence (sym fits) refusal_plain }))
+    (record { evidence = refl; few = below run.0 p.behaviours may; sentence_is = subst IsSentence (sym fits.1) (refusal_plain fits.0) }))
 
 move_fits : (p : Played) (caller : Run) (op : Op) → caller.0 < 2 ^ 16 → IsOp op → IsEvident p → IsEvident (moved p caller op)
 move_fits p caller op low fits is =
@@ -232,7 +258,7 @@ some_reversed : (ps : List Played) → ps ≢ [] → reverse ps ≢ []
 some_reversed ps some = λ e. some (sym (reverse-reverse ps) ∙ ap reverse e)
 
 -- nothing is open at the end
-none_left : (s : Stand) (c : Option Played) → s.current ≡ c → (unwrap_or (option_map (without s) c) s).current ≡ None
+none_left : (s : Stand) (c : Option Played) → s.current ≡ c → (result_unwrap_or (closing s c) s).current ≡ None
 none_left s None is = is
 none_left s (Some p) is = refl
 

@@ -1,6 +1,6 @@
 -- Bytes that are fed, and the lines that they are.
-use Rattle.std.proofs.Common.{ℕ, ◌≡◌, ◌≢◌, ◌∙◌, ◌==◌, ◌&&◌, ◌||◌, ◌+◌, ◌-◌, ◌<◌, ◌≤◌, ◌^◌, ◌⊎◌, inl, inr, if◌then◌else◌, Bool, true, false, is_some, unwrap_or, MatchOption, Option, Some, None, List, [], ◌∷◌, ◌++◌, codes, zero, suc, length, take, get_or, refl, ap, sym, subst, append_assoc, arith}
-use Rattle.std.specs.Option.{option_map}
+use Rattle.std.proofs.Common.{ℕ, ◌≡◌, ◌≢◌, ◌∙◌, ◌==◌, ◌&&◌, ◌||◌, ◌+◌, ◌-◌, ◌<◌, ◌≤◌, ◌^◌, ◌⊎◌, inl, inr, if◌then◌else◌, Bool, true, false, is_some, Option, Some, None, Result, Ok, Err, MatchResult, List, [], ◌∷◌, ◌++◌, codes, zero, suc, length, take, get_or, refl, ap, sym, subst, append_assoc, arith}
+use Rattle.std.specs.Result.{result_unwrap_or}
 use Rattle.std.specs.List.{list_all, list_any}
 use Rattle.std.specs.Io.KnownBytes.{IsAtEnd}
 use Rattle.std.proofs.lemmas.List.{append-nil, length-append, take_more}
@@ -10,12 +10,14 @@ use Rattle.tc_serve.specs.declared.fault.ServeFault.{ServeFault}
 use Rattle.tc_serve.specs.declared.fault.ServeFault.TheVariants as F
 use Rattle.tc_serve.specs.declared.order.Order.{Order}
 use Rattle.tc_serve.specs.declared.order.Order.TheVariants as O
+use Rattle.tc_serve.specs.declared.refusal.Refusal.{Refusal}
 use Rattle.tc_serve.specs.declared.server.Server.{Server}
 use Rattle.tc_serve.specs.declared.service.Served.{Served}
 use Rattle.tc_serve.specs.declared.serving.Serving.{Serving}
-use Rattle.tc_serve.specs.declared.serving.TheConstants.{LINE_BYTES}
-use Rattle.tc_serve.specs.Protocol.{AllEnded, AreServed, Asks, Came, Comes, IsNobodys, IsOf, NoLf, Refuses, Sent, Stand, finished, refused, seen, taken, was_done, was_lost, was_refused, why_refused}
-use Rattle.tc_serve.specs.Text.{bytes_of, end_told, is_refused, lost_text, stand_text, told_at_end, told_of, worst_of}
+use Rattle.tc_serve.specs.declared.order.TheConstants.{LINE_BYTES}
+use Rattle.tc_serve.specs.Protocol.{AllEnded, AreServed, Asks, Came, Comes, IsNobodys, IsOf, NoLf, Refuses, Sent, Stand, finished, refused, seen, taken, was_done, was_lost, was_refused}
+use Rattle.tc_serve.specs.Refusal.{why_text}
+use Rattle.tc_serve.specs.Text.{bytes_of, end_told, is_refused, lost_text, refusal_text, stand_text, told_at_end, told_of, worst_of}
 use Rattle.tc_serve.specs.Serve.{IsWhy}
 use Rattle.tc_serve.specs.Inside.{Closes, Counts, Fails, Feeds, Finishes, IsAtLine, IsBadLine, IsEnd, IsFed, Serves, StandsAs, Stops, StopsIn, TakesPiece, TellsRun, Tries, TriesLine}
 use Rattle.tc_serve.proofs.Going.{appended, nothing}
@@ -60,10 +62,10 @@ all_parts t x d c w l =
     append_assoc (((t ++ x) ++ d) ++ c) w l
     ∙ (append_assoc ((t ++ x) ++ d) c (w ++ l) ∙ (append_assoc (t ++ x) d (c ++ (w ++ l)) ∙ append_assoc t x (d ++ (c ++ (w ++ l)))))
 
-pub lost_is : (told a b d e f : List ℕ) (n : ℕ) → a ≡ told ++ codes "ttrun: line " → b ≡ a ++ decimal n → d ≡ b ++ codes ": " → e ≡ d ++ why_refused → f ≡ e ++ 10 ∷ [] → f ≡ told ++ lost_text n was_lost
-lost_is told a b d e f n one two three four five =
-    five ∙ (ap (λ (l : List ℕ). l ++ 10 ∷ []) (four ∙ ap (λ (l : List ℕ). l ++ why_refused) (three ∙ ap (λ (l : List ℕ). l ++ codes ": ") (two ∙ ap (λ (l : List ℕ). l ++ decimal n) one)))
-    ∙ all_parts told (codes "ttrun: line ") (decimal n) (codes ": ") why_refused (10 ∷ []))
+pub refusal_is : (told a b d e f : List ℕ) (n : ℕ) (why : Refusal) → a ≡ told ++ codes "ttrun: line " → b ≡ a ++ decimal n → d ≡ b ++ codes ": " → e ≡ d ++ why_text why → f ≡ e ++ 10 ∷ [] → f ≡ told ++ refusal_text n why
+refusal_is told a b d e f n why one two three four five =
+    five ∙ (ap (λ (l : List ℕ). l ++ 10 ∷ []) (four ∙ ap (λ (l : List ℕ). l ++ why_text why) (three ∙ ap (λ (l : List ℕ). l ++ codes ": ") (two ∙ ap (λ (l : List ℕ). l ++ decimal n) one)))
+    ∙ all_parts told (codes "ttrun: line ") (decimal n) (codes ": ") (why_text why) (10 ∷ []))
 
 -- ---- one line
 
@@ -85,7 +87,7 @@ more ended line lines s t v w came before out written before' told told' at_ com
     one_longer : (lines : List Sent) → length lines + 1 ≡ length (sent line ended came ∷ lines)
     one_longer lines = omega arith
 
-pub done_more : (ended : Bool) (v w : Serving) (server : Server) (looked out written told : List ℕ) → TriesLine ended looked true v.server server out written → looked ≡ v.line.items → w.server ≡ server → w.lines ≡ v.lines + 1 → w.refused ≡ v.refused →
+pub done_more : (ended : Bool) (v w : Serving) (server : Server) (looked out written told : List ℕ) → TriesLine ended looked None v.server server out written → looked ≡ v.line.items → w.server ≡ server → w.lines ≡ v.lines + 1 → w.refused ≡ v.refused →
     Serves ended v w out written told told
 done_more ended v w server looked out written told tries same is many refuses line lines s before before' at_ =
     let so = tries s before at_.counts.stands in
@@ -97,38 +99,38 @@ done_more ended v w server looked out written told tries same is many refuses li
           (subst (λ (x : Server). StandsAs x so.1 before written) (sym is) so.4) many refuses (sym (append-nil told)),
     )
 
-module _ (ended : Bool) (v : Serving) (server server' : Server) (looked out mid : List ℕ) (tries : TriesLine ended looked false v.server server out mid) (same : looked ≡ v.line.items) where
-  pub refused_more : (w : Serving) (written told : List ℕ) → TellsRun looked true server server' mid written → w.server ≡ server' → w.lines ≡ v.lines + 1 → w.refused ≡ true → Serves ended v w out written told told
+module _ (ended : Bool) (v : Serving) (server server' : Server) (looked out mid : List ℕ) (why : Refusal) (tries : TriesLine ended looked (Some why) v.server server out mid) (same : looked ≡ v.line.items) where
+  pub refused_more : (w : Serving) (written told : List ℕ) → TellsRun looked why true server server' mid written → w.server ≡ server' → w.lines ≡ v.lines + 1 → w.refused ≡ true → Serves ended v w out written told told
   refused_more w written told tells is many refuses line lines s before before' at_ =
       let none = tries s before at_.counts.stands in
       let so = tells s before none.1 in
       let kept : looked ≡ seen line = same ∙ at_.kept in
       let of_run : IsOf (seen line) so.0.0 = subst (λ (l : List ℕ). IsOf l so.0.0) kept so.2 in
-      let nothing_asked : Refuses ended (seen line) s = subst (λ (l : List ℕ). Refuses ended l s) kept none.0 in (
-        was_refused so.0,
+      let nothing_asked : Refuses why ended (seen line) s = subst (λ (l : List ℕ). Refuses why ended l s) kept none.0 in (
+        was_refused so.0 why,
         so.1,
-        more ended line lines s so.1 v w (was_refused so.0) before out written before' told told at_ (nothing_asked, of_run, so.3)
+        more ended line lines s so.1 v w (was_refused so.0 why) before out written before' told told at_ (nothing_asked, of_run, so.3)
             (subst (λ (x : Server). StandsAs x so.1 before written) (sym is) so.4) many refuses (sym (append-nil told)),
       )
 
-  pub lost_more : (w : Serving) (written told told' : List ℕ) (number : ℕ) → TellsRun looked false server server' mid written → ((s : Stand) (before out : List ℕ) → StandsAs server s before out → true ≡ is_some s.current) →
-      w.server ≡ server' → number ≡ v.lines + 1 → w.lines ≡ number → w.refused ≡ true → told' ≡ told ++ lost_text number was_lost → Serves ended v w out written told told'
+  pub lost_more : (w : Serving) (written told told' : List ℕ) (number : ℕ) → TellsRun looked why false server server' mid written → ((s : Stand) (before out : List ℕ) → StandsAs server s before out → true ≡ is_some s.current) →
+      w.server ≡ server' → number ≡ v.lines + 1 → w.lines ≡ number → w.refused ≡ true → told' ≡ told ++ refusal_text number why → Serves ended v w out written told told'
   lost_more w written told told' number tells some_open is next many refuses reports line lines s before before' at_ =
       let none = tries s before at_.counts.stands in
       let so = tells s before none.1 in
       let kept : looked ≡ seen line = same ∙ at_.kept in
       let nobodys : IsNobodys (seen line) s = subst (λ (l : List ℕ). IsNobodys l s) kept so.0 in
-      let nothing_asked : Refuses ended (seen line) s = subst (λ (l : List ℕ). Refuses ended l s) kept none.0 in (
-        was_lost,
+      let nothing_asked : Refuses why ended (seen line) s = subst (λ (l : List ℕ). Refuses why ended l s) kept none.0 in (
+        was_lost why,
         s,
-        more ended line lines s s v w was_lost before out written before' told told' at_ (nothing_asked, nobodys, sym (some_open s before mid none.1), refl)
-            (subst (λ (x : Server). StandsAs x s before written) (sym is) so.1) (many ∙ next) refuses (reports ∙ ap (λ (n : ℕ). told ++ lost_text n was_lost) (next ∙ ap (λ (n : ℕ). n + 1) at_.counts.many)),
+        more ended line lines s s v w (was_lost why) before out written before' told told' at_ (nothing_asked, nobodys, sym (some_open s before mid none.1), refl)
+            (subst (λ (x : Server). StandsAs x s before written) (sym is) so.1) (many ∙ next) refuses (reports ∙ ap (λ (n : ℕ). told ++ refusal_text n why) (next ∙ ap (λ (n : ℕ). n + 1) at_.counts.many)),
       )
 
-  pub bad_line : (number : ℕ) (told : List ℕ) → ((s : Stand) (before out : List ℕ) → StandsAs server s before out → false ≡ is_some s.current) → number ≡ v.lines + 1 → Fails ended v out told (F.Line number)
+  pub bad_line : (number : ℕ) (told : List ℕ) → ((s : Stand) (before out : List ℕ) → StandsAs server s before out → false ≡ is_some s.current) → number ≡ v.lines + 1 → Fails ended v out told (F.Line number why)
   bad_line number told closed next line lines s before before' at_ =
       let none = tries s before at_.counts.stands in
-      (next ∙ ap (λ (n : ℕ). n + 1) at_.counts.many, sym (closed s before mid none.1), subst (λ (l : List ℕ). Refuses ended l s) (same ∙ at_.kept) none.0)
+      (next ∙ ap (λ (n : ℕ). n + 1) at_.counts.many, sym (closed s before mid none.1), subst (λ (l : List ℕ). Refuses why ended l s) (same ∙ at_.kept) none.0)
 
 pub too_long : (ended : Bool) (v : Serving) (out told : List ℕ) → 2 ^ 64 - 1 ≤ v.lines → Fails ended v out told F.TooLong
 too_long ended v out told long line lines s before before' at_ = subst (λ (n : ℕ). 2 ^ 64 - 1 ≤ n) at_.counts.many long
@@ -208,7 +210,7 @@ long_lines (l ∷ before) all = by_end l.ended refl (long_lines before (second l
         (omega (arith, so, length-append (bytes_of before) (l.bytes ++ 10 ∷ []), length-append l.bytes (10 ∷ [])))
 
 pub why_line : (f : ServeFault) (line behind : List ℕ) (lines : List Sent) (s : Stand) (input : Option (List ℕ)) → AllEnded lines → NoLf line → IsBadLine f true line lines s → IsWhy f lines s (line ++ 10 ∷ behind) input
-why_line (F.Line n) line behind lines s input all plain bad = (bad.0, bad.1, (line, behind, plain, inl (refl, bad.2)))
+why_line (F.Line n why) line behind lines s input all plain bad = (bad.0, bad.1, (line, behind, plain, inl (refl, bad.2)))
 why_line F.TooLong line behind lines s input all plain bad = omega (arith, bad, long_lines lines all, length-append (bytes_of lines) (line ++ 10 ∷ behind))
 why_line F.Read line behind lines s input all plain bad = absurd bad
 why_line F.Write line behind lines s input all plain bad = absurd bad
@@ -292,16 +294,16 @@ taken_bad bytes rest v w out mid written told said told' f so stops read before 
 -- ---- the end
 
 -- what comes of a server whose input has ended
-pub closes : (v w : Serving) (server : Server) (done some_open : Bool) (out written told told' : List ℕ) → Tries (λ s. taken s O.End) done v.server server out written → w.server ≡ server →
+pub closes : (v w : Serving) (server : Server) (why : Option Refusal) (some_open : Bool) (out written told told' : List ℕ) → Tries (λ s. taken s O.End) why v.server server out written → w.server ≡ server →
     ((s : Stand) (before out : List ℕ) → StandsAs v.server s before out → some_open ≡ is_some s.current) → told' ≡ told ++ end_told some_open → Closes v w out written told told'
-closes v w server done some_open out written told told' tries is opens reports lines s before before' counts = (
+closes v w server why some_open out written told told' tries is opens reports lines s before before' counts = (
   subst (λ (x : Server). StandsAs x (finished s) before written) (sym is) (by_taken (taken s O.End) (tries s before counts.stands)),
   appended before' told told' (told_of lines) _ _ counts.tells (reports ∙ ap (λ (t : Bool). told ++ end_told t) (opens s before out counts.stands)) refl,
 )
   where
-    by_taken : (x : Option Stand) → MatchOption x ((done ≡ false) × StandsAs server s before written) (λ t. (done ≡ true) × StandsAs server t before written) → StandsAs server (unwrap_or x s) before written
-    by_taken None so = so.1
-    by_taken (Some t) so = so.1
+    by_taken : (r : Result Stand Refusal) → MatchResult r (λ t. (why ≡ None) × StandsAs server t before written) (λ e. (why ≡ Some e) × StandsAs server s before written) → StandsAs server (result_unwrap_or r s) before written
+    by_taken (Ok t) so = so.1
+    by_taken (Err e) so = so.1
 
 -- no last line
 pub ends_none : (bytes before before' : List ℕ) (v : Serving) (out told : List ℕ) → IsFed bytes v before out before' told → v.line.items ≡ [] → IsEnd bytes v before out before' told
@@ -327,7 +329,7 @@ some_seen : (line looked : List ℕ) → looked ≡ seen line → looked ≢ [] 
 some_seen line looked same some = λ none. some (same ∙ (ap seen none ∙ take_none LINE_BYTES))
 
 why_last : (f : ServeFault) (line : List ℕ) (lines : List Sent) (s : Stand) (input : Option (List ℕ)) → IsAtEnd input → AllEnded lines → NoLf line → line ≢ [] → IsBadLine f false line lines s → IsWhy f lines s line input
-why_last (F.Line n) line lines s input end all plain some bad = (bad.0, bad.1, (line, [], plain, inr (refl, some, end)))
+why_last (F.Line n why) line lines s input end all plain some bad = (bad.0, bad.1, (line, [], plain, inr (refl, some, end, bad.2)))
 why_last F.TooLong line lines s input end all plain some bad = omega (arith, bad, long_lines lines all, length-append (bytes_of lines) line)
 why_last F.Read line lines s input end all plain some bad = absurd bad
 why_last F.Write line lines s input end all plain some bad = absurd bad

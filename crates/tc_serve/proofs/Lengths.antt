@@ -1,5 +1,5 @@
 -- No line that asks for something is as long as what is looked at of one.
-use Rattle.std.proofs.Common.{ℕ, ◌*◌, ◌<◌, ◌≤◌, ◌^◌, true, false, None, Some, List, [], ◌∷◌, ◌++◌, codes, length, ap, arith}
+use Rattle.std.proofs.Common.{ℕ, ◌*◌, ◌<◌, ◌≤◌, ◌^◌, inr, true, false, None, Some, List, [], ◌∷◌, ◌++◌, codes, length, refl, ap, arith}
 use Rattle.std.specs.Fmt.{decimal}
 use Rattle.std.proofs.lemmas.Fmt.{length-decimal-le}
 use Rattle.std.proofs.lemmas.List.{length-append, length-take-le}
@@ -17,7 +17,7 @@ use Rattle.tc_entry.specs.declared.op.Op.TheVariants as Ops
 use Rattle.tc_text.specs.Spelling.{AreComps, IsGroup, IsOp, IsTarget, args_text, group_text, op_text, target_text}
 use Rattle.tc_serve.specs.declared.order.Order.{Order}
 use Rattle.tc_serve.specs.declared.order.Order.TheVariants as O
-use Rattle.tc_serve.specs.declared.serving.TheConstants.{LINE_BYTES}
+use Rattle.tc_serve.specs.declared.order.TheConstants.{LINE_BYTES}
 use Rattle.tc_serve.specs.Laws.{LongLinesAreRefused}
 use Rattle.tc_serve.specs.Order.{IsOrder, order_text}
 
@@ -69,7 +69,7 @@ op_short (Ops.SetVerdict v) fits = omega (arith, given_short v)
 op_short Ops.GetVerdict fits = omega arith
 op_short Ops.Finish fits = omega arith
 
-order_short : (o : Order) → IsOrder o → length (order_text o) < 209
+pub order_short : (o : Order) → IsOrder o → length (order_text o) < LINE_BYTES
 order_short (O.Case name n) fits =
     let short = fits.0.is_short in
     let few = fits.1.1 in
@@ -84,4 +84,7 @@ order_short (O.Remark run sentence) fits =
 order_short O.End fits = omega arith
 
 pub long_lines_are_refused : LongLinesAreRefused
-long_lines_are_refused line s long o asks = absurd (omega (arith, order_short o asks.1, ap length asks.2, length-take-le LINE_BYTES line long))
+long_lines_are_refused line s long = inr (
+  λ o asks. absurd (omega (arith, order_short o asks.1, ap length asks.2, length-take-le LINE_BYTES line long)),
+  (refl, omega (arith, length-take-le LINE_BYTES line long)),
+)

@@ -1,5 +1,5 @@
 -- A line spells one order at most.
-use Rattle.std.proofs.Common.{◌≡◌, ◌∙◌, ◌<◌, ◌^◌, ◌∷◌, ◌++◌, ℕ, false, List, codes, Option, Some, None, ap, sym, append_assoc, subst, arith}
+use Rattle.std.proofs.Common.{◌≡◌, ◌∙◌, ◌<◌, ◌^◌, ◌∷◌, ◌++◌, ℕ, false, List, codes, Option, Some, None, Result, Ok, ap, sym, append_assoc, subst, arith}
 use Rattle.std.specs.Fmt.{decimal}
 use Rattle.tc_verdict.specs.declared.run.Run.{Run}
 use Rattle.tc_entry.specs.declared.entry.Entry.{Entry}
@@ -10,6 +10,7 @@ use Rattle.tc_text.specs.Spelling.{move_text, op_text, IsOp}
 use Rattle.tc_evidence.specs.Line.{said_text}
 use Rattle.tc_evidence.specs.Sentence.{IsSentence}
 use Rattle.tc_evidence.proofs.Notes.{entry_not_said, said_not_naming}
+use Rattle.tc_serve.specs.declared.refusal.Refusal.{Refusal}
 use Rattle.tc_serve.specs.Order.{IsOrder, order_text}
 use Rattle.tc_serve.specs.Inside.{IsNoRemark}
 use Rattle.tc_serve.specs.declared.order.Order.{Order}
@@ -65,9 +66,9 @@ abbrev make : ℕ → List ℕ → Order
 make k sentence = O.Remark (record { 0 = k }) sentence
 
 pub remark_only : (text : List ℕ) (run : Run) (bytes sentence : List ℕ) → run.0 < 2 ^ 16 → text ≡ said_text false run.0 bytes → IsThatRemark text run bytes → sentence ≡ bytes →
-    (o : Order) → IsOrder o → text ≡ order_text o → ◌≡◌ {A = Option Order} (Some (O.Remark run sentence)) (Some o)
+    (o : Order) → IsOrder o → text ≡ order_text o → ◌≡◌ {A = Result Order Refusal} (Ok (O.Remark run sentence)) (Ok o)
 remark_only text run bytes sentence low spelled only same (O.Remark r that) fits e =
-    let two = only r.0 that fits.0 e in ap (λ k. Some (make k sentence)) two.0 ∙ ap (λ s. Some (make r.0 s)) (same ∙ two.1)
+    let two = only r.0 that fits.0 e in ap (λ k. Ok (make k sentence)) two.0 ∙ ap (λ s. Ok (make r.0 s)) (same ∙ two.1)
 remark_only text run bytes sentence low spelled only same (O.Case name n) fits e = absurd (not_remark text run.0 bytes low spelled (O.Case name n) fits tt e)
 remark_only text run bytes sentence low spelled only same (O.Named r name) fits e = absurd (not_remark text run.0 bytes low spelled (O.Named r name) fits tt e)
 remark_only text run bytes sentence low spelled only same (O.Move r p) fits e = absurd (not_remark text run.0 bytes low spelled (O.Move r p) fits tt e)

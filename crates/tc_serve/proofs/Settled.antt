@@ -29,12 +29,11 @@ use Rattle.tc_table.proofs.Lemmas.Quiet.{quiet_wakes_nobody}
 use Rattle.tc_table.proofs.Lemmas.Sound.{plain_if}
 use Rattle.tc_evidence.specs.declared.line.Line.{Line}
 use Rattle.tc_evidence.specs.Line.{entries_of, entry_of}
-use Rattle.tc_serve.specs.Protocol.{Played, may_ask, moved, past_of, wake_op, with_line, woken, woken_from}
+use Rattle.tc_serve.specs.Protocol.{Played, moved, past_of, wake_op, with_line, woken, woken_from}
 use Rattle.tc_serve.specs.Inside.{after_call}
 use Rattle.tc_serve.specs.Laws.{AllServed, EachOf, IsSettled, IsSound}
-use Rattle.tc_serve.proofs.Calling.{no_entry}
-use Rattle.tc_serve.proofs.Changes.{all_served}
-use Rattle.tc_serve.proofs.Sound.{Sound, all_woken, called_sound, move_sound, note_sound}
+use Rattle.tc_serve.proofs.Changes.{all_served, may_ask}
+use Rattle.tc_serve.proofs.Sound.{Sound, all_woken, called_sound, move_sound, no_entry, note_sound}
 
 -- ---- a wake that is replied Ended changes nothing for the others
 

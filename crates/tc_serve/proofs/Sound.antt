@@ -9,11 +9,10 @@ use Rattle.tc_table.specs.Waiting.{waiting}
 use Rattle.tc_evidence.specs.declared.line.Line.{Line}
 use Rattle.tc_evidence.specs.declared.line.Line.TheVariants as L
 use Rattle.tc_evidence.specs.Line.{entries_of, entry_of}
-use Rattle.tc_serve.specs.Protocol.{Played, called, is_parked, is_wake, may_add, may_ask, moved, wake_op, with_line, woken, woken_from}
+use Rattle.tc_serve.specs.Protocol.{Played, called, is_parked, is_wake, moved, wake_op, with_line, woken, woken_from}
 use Rattle.tc_serve.specs.Inside.{after_call}
 use Rattle.tc_serve.specs.Laws.{AllServed, IsSound, NoIdleWake}
-use Rattle.tc_serve.proofs.Calling.{no_entry}
-use Rattle.tc_serve.proofs.Changes.{all_served}
+use Rattle.tc_serve.proofs.Changes.{all_served, may_add, may_ask}
 
 -- the entries among the lines are legal, and no wake is replied parked
 pub record Sound (n : ℕ) (lines : List Line) : Type 0 where
@@ -49,6 +48,12 @@ noted n lines l none so =
 
 sound : (p : Played) → IsSound p → Sound p.behaviours p.lines
 sound p so = record { legal = so.legal; wakes = so.wakes }
+
+pub no_entry : (p : Played) (l : Line) → may_add p l ≡ true → entry_of l ≡ []
+no_entry p (L.Named run name) may = refl
+no_entry p (L.Entry e) may = absurd cc
+no_entry p (L.Remark run sentence) may = refl
+no_entry p (L.Refused run sentence) may = refl
 
 pub note_sound : (p : Played) (l : Line) → may_add p l ≡ true → IsSound p → IsSound (with_line p l)
 note_sound p l may so = let one = noted p.behaviours p.lines l (no_entry p l may) (sound p so) in record { legal = one.legal; wakes = one.wakes }

@@ -1,5 +1,5 @@
 -- What the functions inside say.
-use Rattle.std.specs.Prelude.{ℕ, ◌≡◌, ◌≢◌, ◌+◌, ◌-◌, ◌<◌, ◌≤◌, ◌^◌, ◌⊎◌, ◌==◌, suc, if◌then◌else◌, Bool, true, false, is_some, Option, Some, None, List, [], ◌∷◌, ◌++◌, length, take, drop, insert, MatchOption}
+use Rattle.std.specs.Prelude.{ℕ, ◌≡◌, ◌≢◌, ◌+◌, ◌-◌, ◌<◌, ◌≤◌, ◌^◌, ◌⊎◌, ◌==◌, suc, if◌then◌else◌, Bool, true, false, is_some, Option, Some, None, Result, Ok, List, [], ◌∷◌, ◌++◌, length, take, drop, insert, MatchResult}
 use Rattle.std.specs.List.{list_any}
 use Rattle.std.specs.Io.KnownBytes.{Appends, Consumes, IsAtEnd}
 use Rattle.tc_verdict.specs.declared.run.Run.{Run}
@@ -20,6 +20,7 @@ use Rattle.tc_serve.specs.declared.fault.ServeFault.TheVariants as F
 use Rattle.tc_serve.specs.declared.open_case.OpenCase.{OpenCase}
 use Rattle.tc_serve.specs.declared.order.Order.{Order}
 use Rattle.tc_serve.specs.declared.order.Order.TheVariants as O
+use Rattle.tc_serve.specs.declared.refusal.Refusal.{Refusal}
 use Rattle.tc_serve.specs.declared.server.Server.{Server}
 use Rattle.tc_serve.specs.declared.service.Served.{Served}
 use Rattle.tc_serve.specs.declared.serving.Serving.{Serving}
@@ -114,10 +115,10 @@ Becomes change o o' out written = (p : Played) (closed : List Played) (before : 
 abbrev pub BecomesAwake : ℕ → (Played → Played) → OpenCase → OpenCase → List ℕ → List ℕ → Type 0
 BecomesAwake b change o o' out written = (p : Played) (closed : List Played) (before : List ℕ) → sleep_of p b ≡ None → Holds o p closed before out → Holds o' (change p) closed before written
 
--- it becomes another, if it may, and else nothing changes
-abbrev pub Changes : (Played → Option Played) → Bool → OpenCase → OpenCase → List ℕ → List ℕ → Type 0
-Changes change done o o' out written = (p : Played) (closed : List Played) (before : List ℕ) → Holds o p closed before out
-    → MatchOption (change p) ((done ≡ false) × Holds o' p closed before written) (λ q. (done ≡ true) × Holds o' q closed before written)
+-- it becomes another, or is refused that, and nothing changes
+abbrev pub Changes : (Played → Result Played Refusal) → Option Refusal → OpenCase → OpenCase → List ℕ → List ℕ → Type 0
+Changes change why o o' out written = (p : Played) (closed : List Played) (before : List ℕ) → Holds o p closed before out
+    → MatchResult (change p) (λ q. (why ≡ None) × Holds o' q closed before written) (λ e. (why ≡ Some e) × Holds o' p closed before written)
 
 -- ---- the server
 
@@ -134,22 +135,22 @@ pub record StandsAs (v : Server) (s : Stand) (before out : List ℕ) : Type 0 wh
   pub worst : v.worst ≡ worst_of s
   pub text : before ++ out ≡ stand_text s
 
--- what is asked is done, if it may be, and else nothing changes
-abbrev pub Tries : (Stand → Option Stand) → Bool → Server → Server → List ℕ → List ℕ → Type 0
-Tries ask done v w out written = (s : Stand) (before : List ℕ) → StandsAs v s before out
-    → MatchOption (ask s) ((done ≡ false) × StandsAs w s before written) (λ t. (done ≡ true) × StandsAs w t before written)
+-- what is asked is done, or refused, and nothing changes
+abbrev pub Tries : (Stand → Result Stand Refusal) → Option Refusal → Server → Server → List ℕ → List ℕ → Type 0
+Tries ask why v w out written = (s : Stand) (before : List ℕ) → StandsAs v s before out
+    → MatchResult (ask s) (λ t. (why ≡ None) × StandsAs w t before written) (λ e. (why ≡ Some e) × StandsAs w s before written)
 
--- what the line asks for is done, or it asks for nothing that may be asked
-abbrev pub TriesLine : Bool → List ℕ → Bool → Server → Server → List ℕ → List ℕ → Type 0
-TriesLine ended line true v w out written = (s : Stand) (before : List ℕ) → StandsAs v s before out
-    → (o : Order) × (t : Stand) × Asks ended line o × (taken s o ≡ Some t) × StandsAs w t before written
-TriesLine ended line false v w out written = (s : Stand) (before : List ℕ) → StandsAs v s before out → Refuses ended line s × StandsAs w s before written
+-- what the line asks for is done, or it is refused, and nothing changes
+abbrev pub TriesLine : Bool → List ℕ → Option Refusal → Server → Server → List ℕ → List ℕ → Type 0
+TriesLine ended line None v w out written = (s : Stand) (before : List ℕ) → StandsAs v s before out
+    → (o : Order) × (t : Stand) × Asks ended line o × (taken s o ≡ Ok t) × StandsAs w t before written
+TriesLine ended line (Some why) v w out written = (s : Stand) (before : List ℕ) → StandsAs v s before out → Refuses why ended line s × StandsAs w s before written
 
--- the run that the line begins with gets the refusal, or no run does
-abbrev pub TellsRun : List ℕ → Bool → Server → Server → List ℕ → List ℕ → Type 0
-TellsRun line true v w out written = (s : Stand) (before : List ℕ) → StandsAs v s before out
-    → (run : Run) × (t : Stand) × IsOf line run.0 × (refused s run ≡ Some t) × StandsAs w t before written
-TellsRun line false v w out written = (s : Stand) (before : List ℕ) → StandsAs v s before out → IsNobodys line s × StandsAs w s before written
+-- the run that the line begins with gets this refusal, or no run gets one
+abbrev pub TellsRun : List ℕ → Refusal → Bool → Server → Server → List ℕ → List ℕ → Type 0
+TellsRun line why true v w out written = (s : Stand) (before : List ℕ) → StandsAs v s before out
+    → (run : Run) × (t : Stand) × IsOf line run.0 × (refused s run why ≡ Ok t) × StandsAs w t before written
+TellsRun line why false v w out written = (s : Stand) (before : List ℕ) → StandsAs v s before out → IsNobodys line s × StandsAs w s before written
 
 -- ---- lines that come in pieces
 
@@ -174,7 +175,7 @@ pub record IsFed (bytes : List ℕ) (v : Serving) (before out before' told : Lis
 
 -- why a line ends the service
 abbrev pub IsBadLine : ServeFault → Bool → List ℕ → List Sent → Stand → Type 0
-IsBadLine (F.Line n) ended line lines s = (n ≡ length lines + 1) × (is_some s.current ≡ false) × Refuses ended (seen line) s
+IsBadLine (F.Line n why) ended line lines s = (n ≡ length lines + 1) × (is_some s.current ≡ false) × Refuses why ended (seen line) s
 IsBadLine F.TooLong ended line lines s = 2 ^ 64 - 1 ≤ length lines
 IsBadLine F.Read ended line lines s = ⊥
 IsBadLine F.Write ended line lines s = ⊥

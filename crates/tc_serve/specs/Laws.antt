@@ -15,7 +15,8 @@ use Rattle.tc_evidence.specs.declared.line.Line.TheVariants as L
 use Rattle.tc_evidence.specs.Text.{AreEvidence, block_lines}
 use Rattle.tc_serve.specs.declared.order.Order.{Order}
 use Rattle.tc_serve.specs.declared.order.Order.TheVariants as O
-use Rattle.tc_serve.specs.declared.serving.TheConstants.{LINE_BYTES}
+use Rattle.tc_serve.specs.declared.order.TheConstants.{LINE_BYTES}
+use Rattle.tc_serve.specs.declared.refusal.Refusal.TheVariants as W
 use Rattle.tc_serve.specs.Protocol.{AreServed, Came, Comes, Played, Refuses, Sent, Stand, finished, is_parked, is_wake, past_of, seen, wake_op, was_done}
 use Rattle.tc_serve.specs.Text.{header_of, stand_text}
 
@@ -82,7 +83,7 @@ ServedIsEvidence = (lines : List Sent) (s : Stand) → AreServed lines s → (fi
 
 -- a line is refused that is as long as what is looked at of one, or longer
 abbrev pub LongLinesAreRefused : Type 0
-LongLinesAreRefused = (line : List ℕ) (s : Stand) → LINE_BYTES ≤ length line → Refuses true (seen line) s
+LongLinesAreRefused = (line : List ℕ) (s : Stand) → LINE_BYTES ≤ length line → Refuses W.TooLong true (seen line) s
 
 -- a line adds to the text, and changes none of it
 abbrev pub TextGrows : Type 0

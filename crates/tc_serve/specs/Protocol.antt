@@ -1,7 +1,8 @@
 -- The protocol: what a line asks for, when it may, what it adds to the evidence, who is woken by it, what a refused line
 -- does, and how the service ends. How a line is spelled is in Order, and what is written in Text.
-use Rattle.std.specs.Prelude.{ℕ, ◌≡◌, ◌==◌, ◌<◌, ◌^◌, ◌&&◌, not, nat_lt, if◌then◌else◌, zero, suc, Bool, true, false, Option, Some, None, is_some, unwrap_or, List, [], ◌∷◌, ◌++◌, codes, take}
-use Rattle.std.specs.Option.{option_and_then, option_map}
+use Rattle.std.specs.Prelude.{ℕ, ◌≡◌, ◌==◌, ◌<◌, ◌^◌, ◌≤◌, ◌⊎◌, ◌&&◌, nat_lt, if◌then◌else◌, zero, suc, Bool, true, false, Option, Some, None, is_some, Result, Ok, Err, is_err, List, [], ◌∷◌, ◌++◌, length, take}
+use Rattle.std.specs.Option.{option_map_or}
+use Rattle.std.specs.Result.{result_map_both, result_unwrap_or}
 use Rattle.std.specs.List.{list_all}
 use Rattle.std.specs.Fmt.{decimal}
 use Rattle.tc_verdict.specs.declared.run.Run.{Run}
@@ -16,11 +17,14 @@ use Rattle.tc_table.specs.Answers.{answer}
 use Rattle.tc_table.specs.Waiting.{waiting}
 use Rattle.tc_evidence.specs.declared.line.Line.{Line}
 use Rattle.tc_evidence.specs.declared.line.Line.TheVariants as L
-use Rattle.tc_evidence.specs.Line.{entries_of, is_met}
+use Rattle.tc_evidence.specs.Line.{entries_of, is_met, said_text}
 use Rattle.tc_serve.specs.declared.order.Order.{Order}
 use Rattle.tc_serve.specs.declared.order.Order.TheVariants as O
-use Rattle.tc_serve.specs.declared.serving.TheConstants.{LINE_BYTES}
+use Rattle.tc_serve.specs.declared.order.TheConstants.{LINE_BYTES}
+use Rattle.tc_serve.specs.declared.refusal.Refusal.{Refusal}
+use Rattle.tc_serve.specs.declared.refusal.Refusal.TheVariants as W
 use Rattle.tc_serve.specs.Order.{IsOrder, order_text}
+use Rattle.tc_serve.specs.Refusal.{why_text}
 
 -- a test case: its name, how many behaviours it has, and the lines of its evidence, the newest first
 pub record Played : Type 0 where
@@ -70,7 +74,7 @@ abbrev pub woken : ℕ → List Line → ℕ → List Line
 woken n lines zero = lines
 woken n lines (suc k) = woken_from n (woken n lines k) k (waiting (entries_of (woken n lines k)) k)
 
--- ---- what may be asked of the test case that is open, and what that adds
+-- ---- what may be asked of the test case that is open, and what that adds, or why it is refused
 
 -- the call is a wake
 abbrev pub is_wake : Op → Bool
@@ -81,32 +85,25 @@ is_wake _ = false
 abbrev pub sleep_of : Played → ℕ → Option Awaited
 sleep_of p b = if nat_lt b p.behaviours then waiting (past_of p) b else None
 
--- a client may make the call for the run: it is no wake, and the run does not sleep
-abbrev pub may_ask : Played → Run → Op → Bool
-may_ask p caller op = not (is_wake op) && not (is_some (sleep_of p caller.0))
-
 -- the test case after the call: its entry is added, and the wakes of all runs that can continue
 abbrev pub moved : Played → Run → Op → Played
 moved p caller op = record p { lines = woken p.behaviours (L.Entry (called p.behaviours p.lines caller op) ∷ p.lines) p.behaviours }
 
--- the call is made, if it may be
-abbrev pub made : Run → Op → Played → Option Played
-made caller op p = if may_ask p caller op then Some (moved p caller op) else None
-
--- a line that is no entry may be added if it is about a run of the test case; a name also needs that no line is about it
-abbrev pub may_add : Played → Line → Bool
-may_add p (L.Named run name) = nat_lt run.0 p.behaviours && not (is_met run.0 p.lines)
-may_add p (L.Entry e) = false
-may_add p (L.Remark run sentence) = nat_lt run.0 p.behaviours
-may_add p (L.Refused run sentence) = nat_lt run.0 p.behaviours
+-- the call is made, unless it is a wake or its run sleeps
+abbrev pub made : Run → Op → Played → Result Played Refusal
+made caller op p = if is_wake op then Err W.Wake else if is_some (sleep_of p caller.0) then Err W.Waiting else Ok (moved p caller op)
 
 -- the test case with one more line
 abbrev pub with_line : Played → Line → Played
 with_line p l = record p { lines = l ∷ p.lines }
 
--- the line is added, if it may be
-abbrev pub added : Line → Played → Option Played
-added l p = if may_add p l then Some (with_line p l) else None
+-- the line of this run is added, if the run is one of the test case
+abbrev pub added : Run → Line → Played → Result Played Refusal
+added run l p = if nat_lt run.0 p.behaviours then Ok (with_line p l) else Err W.NoRun
+
+-- so is the name of its behaviour, if no line is about the run
+abbrev pub named : Run → List ℕ → Played → Result Played Refusal
+named run name p = if nat_lt run.0 p.behaviours && is_met run.0 p.lines then Err W.LateName else added run (L.Named run name) p
 
 -- ---- what a line does
 
@@ -115,24 +112,20 @@ abbrev pub with_current : Stand → Played → Stand
 with_current s p = record { closed = s.closed; current = Some p }
 
 -- the test case that is open becomes another, if one is open and this may be
-abbrev pub with_open : Stand → (Played → Option Played) → Option Stand
-with_open s change = option_map (with_current s) (option_and_then change s.current)
+abbrev pub with_open : Stand → (Played → Result Played Refusal) → Result Stand Refusal
+with_open s change = result_map_both (with_current s) (λ why. why) (option_map_or change s.current (Err W.NoCase))
 
--- what is asked is done, if it may be
-abbrev pub taken : Stand → Order → Option Stand
-taken s (O.Case name n) = if is_some s.current then None else Some (with_current s (record { name = name; behaviours = n; lines = [] }))
-taken s (O.Named run name) = with_open s (added (L.Named run name))
+-- what is asked is done, or refused
+abbrev pub taken : Stand → Order → Result Stand Refusal
+taken s (O.Case name n) = if is_some s.current then Err W.CaseOpen else Ok (with_current s (record { name = name; behaviours = n; lines = [] }))
+taken s (O.Named run name) = with_open s (named run name)
 taken s (O.Move caller op) = with_open s (made caller op)
-taken s (O.Remark run sentence) = with_open s (added (L.Remark run sentence))
-taken s O.End = option_map (λ p. record { closed = p ∷ s.closed; current = None }) s.current
-
--- what is said of a line that is refused
-abbrev pub why_refused : List ℕ
-why_refused = codes "bad move"
+taken s (O.Remark run sentence) = with_open s (added run (L.Remark run sentence))
+taken s O.End = option_map_or (λ p. Ok (record { closed = p ∷ s.closed; current = None })) s.current (Err W.NoCase)
 
 -- a refused line changes nothing else: the run that sent it gets that, if it is one of a test case that is open
-abbrev pub refused : Stand → Run → Option Stand
-refused s run = with_open s (added (L.Refused run why_refused))
+abbrev pub refused : Stand → Run → Refusal → Result Stand Refusal
+refused s run why = with_open s (added run (L.Refused run (why_text why)))
 
 -- the line is of this run: it begins with its number
 abbrev pub IsOf : List ℕ → ℕ → Type 0
@@ -142,25 +135,37 @@ IsOf line run = (rest : List ℕ) × EndsNumber rest × (line ≡ decimal run ++
 abbrev pub Asks : Bool → List ℕ → Order → Type 0
 Asks ended line o = (ended ≡ true) × IsOrder o × (line ≡ order_text o)
 
--- it asks for nothing that may be asked here
-abbrev pub Refuses : Bool → List ℕ → Stand → Type 0
-Refuses ended line s = (o : Order) → Asks ended line o → taken s o ≡ None
+-- the line begins as a remark of some run does
+abbrev pub BeginsRemark : List ℕ → Type 0
+BeginsRemark line = (run : ℕ) × (text : List ℕ) × (run < 2 ^ 16) × (line ≡ said_text false run text)
+
+-- this is why a line asks for nothing, if it asks for nothing
+abbrev pub IsWhyNothing : Refusal → Bool → List ℕ → Type 0
+IsWhyNothing W.Unended ended line = ended ≡ false
+IsWhyNothing W.TooLong ended line = (ended ≡ true) × (LINE_BYTES ≤ length line)
+IsWhyNothing W.BadRemark ended line = (ended ≡ true) × (length line < LINE_BYTES) × BeginsRemark line
+IsWhyNothing W.BadLine ended line = (ended ≡ true) × (length line < LINE_BYTES) × (BeginsRemark line → ⊥)
+IsWhyNothing _ ended line = ⊥
+
+-- the line is refused for this: it asks for what may not be asked here, or for nothing
+abbrev pub Refuses : Refusal → Bool → List ℕ → Stand → Type 0
+Refuses why ended line s = ((o : Order) × Asks ended line o × (taken s o ≡ Err why)) ⊎ (((o : Order) → Asks ended line o → ⊥) × IsWhyNothing why ended line)
 
 -- no run gets the refusal of the line
 abbrev pub IsNobodys : List ℕ → Stand → Type 0
-IsNobodys line s = (run : Run) → run.0 < 2 ^ 16 → IsOf line run.0 → refused s run ≡ None
+IsNobodys line s = (run : Run) (why : Refusal) → run.0 < 2 ^ 16 → IsOf line run.0 → is_err (refused s run why) ≡ true
 
 -- what comes of a line: what it asks for is done; or it is refused, and its run gets that; or no run does
 pub data Came : Type 0 where
   was_done : Order → Came
-  was_refused : Run → Came
-  was_lost : Came
+  was_refused : Run → Refusal → Came
+  was_lost : Refusal → Came
 
 -- this comes of a line in a state, and that is the state after it; outside a test case no line may be lost
 abbrev pub Comes : Came → Bool → List ℕ → Stand → Stand → Type 0
-Comes (was_done o) ended line s t = Asks ended line o × (taken s o ≡ Some t)
-Comes (was_refused run) ended line s t = Refuses ended line s × IsOf line run.0 × (refused s run ≡ Some t)
-Comes was_lost ended line s t = Refuses ended line s × IsNobodys line s × (is_some s.current ≡ true) × (t ≡ s)
+Comes (was_done o) ended line s t = Asks ended line o × (taken s o ≡ Ok t)
+Comes (was_refused run why) ended line s t = Refuses why ended line s × IsOf line run.0 × (refused s run why ≡ Ok t)
+Comes (was_lost why) ended line s t = Refuses why ended line s × IsNobodys line s × (is_some s.current ≡ true) × (t ≡ s)
 
 -- ---- lines, one after the other
 
@@ -190,4 +195,4 @@ AreServed (l ∷ before) t = (s : Stand) × AreServed before s × AllEnded befor
 
 -- the state after the end of the input: the test case that is open is closed, if one is
 abbrev pub finished : Stand → Stand
-finished s = unwrap_or (taken s O.End) s
+finished s = result_unwrap_or (taken s O.End) s

@@ -5,6 +5,7 @@ use Rattle.std.specs.Io.KnownBytes.{Appends, Consumes, IsAtEnd}
 use Rattle.tc_stream.specs.Output.{AppendsPrefix}
 use Rattle.tc_serve.specs.declared.fault.ServeFault.{ServeFault}
 use Rattle.tc_serve.specs.declared.fault.ServeFault.TheVariants as F
+use Rattle.tc_serve.specs.declared.refusal.Refusal.{Refusal}
 use Rattle.tc_serve.specs.declared.service.Ending.{Ending}
 use Rattle.tc_serve.specs.declared.service.Served.{Served}
 use Rattle.tc_serve.specs.Protocol.{AllEnded, AreServed, NoLf, Refuses, Sent, Stand, finished, seen}
@@ -37,15 +38,15 @@ pub record IsServed (from to : Devices) (told : Bool) (r : Served) : Type 0 wher
   pub worst_is : r.worst ≡ worst_of (finished stand)
   pub refused_is : r.refused ≡ list_any (λ l. is_refused l.came) lines
 
--- the next line asks for nothing that may be asked here; if no LF ends it, the input ends with it
-abbrev pub IsBadNext : Stand → List ℕ → Option (List ℕ) → Type 0
-IsBadNext s rest input = (line more : List ℕ) × NoLf line
-    × (((rest ≡ line ++ 10 ∷ more) × Refuses true (seen line) s) ⊎ ((rest ≡ line) × (line ≢ []) × IsAtEnd input))
+-- the next line is refused for this; if no LF ends it, the input ends with it
+abbrev pub IsBadNext : Refusal → Stand → List ℕ → Option (List ℕ) → Type 0
+IsBadNext why s rest input = (line more : List ℕ) × NoLf line
+    × (((rest ≡ line ++ 10 ∷ more) × Refuses why true (seen line) s) ⊎ ((rest ≡ line) × (line ≢ []) × IsAtEnd input × Refuses why false (seen line) s))
 
 -- why no further line was served: the next is refused outside a test case, or 2^64 - 1 bytes came, or a read failed,
 -- before which each line that had ended was served
 abbrev pub IsWhy : ServeFault → List Sent → Stand → List ℕ → Option (List ℕ) → Type 0
-IsWhy (F.Line n) lines s rest input = (n ≡ length lines + 1) × (is_some s.current ≡ false) × IsBadNext s rest input
+IsWhy (F.Line n why) lines s rest input = (n ≡ length lines + 1) × (is_some s.current ≡ false) × IsBadNext why s rest input
 IsWhy F.TooLong lines s rest input = 2 ^ 64 - 1 ≤ length (bytes_of lines ++ rest)
 IsWhy F.Read lines s rest input = NoLf rest
 IsWhy _ lines s rest input = Unit {0}

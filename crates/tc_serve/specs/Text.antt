@@ -13,7 +13,9 @@ use Rattle.tc_evidence.specs.declared.header.Header.{Header}
 use Rattle.tc_evidence.specs.declared.header.Kind.TheVariants as K
 use Rattle.tc_evidence.specs.Line.{line_text}
 use Rattle.tc_evidence.specs.Block.{ended, header_text}
-use Rattle.tc_serve.specs.Protocol.{Came, Played, Sent, Stand, past_of, was_done, was_lost, was_refused, why_refused}
+use Rattle.tc_serve.specs.Protocol.{Came, Played, Sent, Stand, past_of, was_done, was_lost, was_refused}
+use Rattle.tc_serve.specs.declared.refusal.Refusal.{Refusal}
+use Rattle.tc_serve.specs.Refusal.{why_text}
 
 -- what the first line of its evidence says
 abbrev pub header_of : Played → Header
@@ -49,9 +51,13 @@ abbrev pub is_refused : Came → Bool
 is_refused (was_done o) = false
 is_refused _ = true
 
--- what goes to standard error about the line of this number
+-- what is said on standard error of the line of this number, which is refused for this
+abbrev pub refusal_text : ℕ → Refusal → List ℕ
+refusal_text n why = codes "ttrun: line " ++ (decimal n ++ (codes ": " ++ (why_text why ++ (10 ∷ []))))
+
+-- what goes there about the line of this number
 abbrev pub lost_text : ℕ → Came → List ℕ
-lost_text n was_lost = codes "ttrun: line " ++ (decimal n ++ (codes ": " ++ (why_refused ++ (10 ∷ []))))
+lost_text n (was_lost why) = refusal_text n why
 lost_text n _ = []
 
 -- and about these lines, the newest first

@@ -1,11 +1,12 @@
 //! Why no further line is served.
+use crate::refusal::Refusal;
 use tc_entry::NoMemory;
 
 /// Why a service ended before the end of its input.
 #[derive(Clone, Copy, PartialEq, Eq, Debug)]
 pub enum ServeFault {
-    /// The line of this number, counted from 1, was refused outside a test case.
-    Line(usize),
+    /// The line of this number, counted from 1, was refused outside a test case, for this reason.
+    Line(usize, Refusal),
     /// There are more lines, or reads, than can be counted.
     TooLong,
     /// The input could not be read; an interrupted read counts as a failure.

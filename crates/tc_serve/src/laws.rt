@@ -26,7 +26,6 @@ pub fn served_is_evidence()
 {}
 
 /// A line of which not all bytes are looked at asks for nothing.
-#[tactic(auto, using(crate::proofs::Lengths::long_lines_are_refused))]
 pub fn long_lines_are_refused()
     ensures { laws.LongLinesAreRefused }
 {}

@@ -5,10 +5,13 @@ mod fault;
 pub mod laws;
 mod open_case;
 mod order;
+mod refusal;
 mod server;
 mod service;
 mod serving;
 mod sleepers;
 
 pub use fault::ServeFault;
+pub use refusal::Refusal;
 pub use service::{Ending, Served, serve};
+pub use serving::append_refusal;

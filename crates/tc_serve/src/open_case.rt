@@ -1,5 +1,6 @@
 //! A test case that is open.
-ghost use Rattle.std.specs.Prelude.{◌≡◌, ◌<◌, ◌++◌, ◌∷◌, [], nat_lt, true, ℕ, List, length, drop, IfOk, OnOk, None, if◌then◌else◌};
+ghost use Rattle.std.specs.Prelude.{◌≡◌, ◌<◌, ◌++◌, ◌∷◌, [], nat_lt, true, ℕ, List, length, drop, IfOk, OnOk, None, ◌&&◌, if◌then◌else◌};
+ghost use Rattle.std.specs.Result.{result_err};
 ghost use Rattle.std.specs.Io.{StartsWith};
 ghost use Rattle.tc_entry.specs.Limits.{IsBehaviours};
 ghost use Rattle.tc_table.specs.Local as verdicts;
@@ -7,16 +8,18 @@ ghost use Rattle.tc_table.specs.Waiting as waits;
 ghost use Rattle.tc_evidence.specs.declared.line.Line.{Line as AnyLine};
 ghost use Rattle.tc_evidence.specs.declared.line.Line.TheVariants as lines;
 ghost use Rattle.tc_evidence.specs.Block.{ended};
-ghost use Rattle.tc_evidence.specs.Line.{line_text};
+ghost use Rattle.tc_evidence.specs.Line.{entry_of, is_met, line_text};
 ghost use Rattle.tc_evidence.specs.Met.{AreMet};
 ghost use Rattle.tc_serve.specs.declared.sleepers.Sleeper.{Sleeper as AnySleeper};
 ghost use Rattle.tc_serve.specs.Inside.{Becomes, BecomesAwake, Changes, IsCalled, IsOpen, IsPassed, after_call, woken_once};
-ghost use Rattle.tc_serve.specs.Protocol.{Played as AnyPlayed, added, is_parked, is_wake as spec_wake, made, may_add as spec_may_add, may_ask, moved, past_of, sleep_of as spec_sleep, why_refused, woken};
+ghost use Rattle.tc_serve.specs.Protocol.{Played as AnyPlayed, added, is_parked, is_wake as spec_wake, made, moved, named, past_of, sleep_of as spec_sleep, woken};
+ghost use Rattle.tc_serve.specs.Refusal.{why_text};
 ghost use Rattle.tc_serve.specs.Text.{counted as spec_counted};
 
+use crate::refusal::Refusal;
 use crate::sleepers::{Sleeper, add, awaited_by};
 use std::alloc::Global;
-use tc_entry::{Entry, NoMemory, Op, Reply, Run, Verdict};
+use tc_entry::{Entry, Name, NoMemory, Op, Reply, Run, Verdict};
 use tc_evidence::{Line, MetRuns, append_line, append_said};
 use tc_table::{Awaited, CaseState};
 
@@ -29,13 +32,6 @@ pub(crate) struct OpenCase {
     sleepers: Vec<Sleeper>,
     /// The runs that some line is about.
     met: MetRuns,
-}
-
-/// What is said of a line that is refused.
-pub(crate) fn refused_words() -> &'static str
-    ensures { result.now ≡ why_refused }
-{
-    "bad move"
 }
 
 // What a wait or a wake is for.
@@ -96,11 +92,17 @@ impl OpenCase {
         awaited_by(self.sleepers.as_slice(), run.0)
     }
 
-    // Whether a client may make the call for the run: it is no wake, and the run does not sleep.
-    fn may_ask(&self, caller: Run, op: &Op) -> bool
-        ensures { (p : AnyPlayed) → IsOpen self.now p → result ≡ may_ask p caller op.now }
+    // Why a client may not make the call for the run, if it may not.
+    fn bar(&self, caller: Run, op: &Op) -> Option<Refusal>
+        ensures { (p : AnyPlayed) → IsOpen self.now p → result ≡ result_err (made caller op.now p) }
     {
-        !is_wake(op) && self.sleep_of(caller).is_none()
+        if is_wake(op) {
+            Some(Refusal::Wake)
+        } else if self.sleep_of(caller).is_some() {
+            Some(Refusal::Waiting)
+        } else {
+            None
+        }
     }
 
     // Whether the run is one of the test case.
@@ -111,16 +113,11 @@ impl OpenCase {
         run.0 < self.state.behaviours()
     }
 
-    // Whether the line, which is no entry, may be added.
-    fn may_add(&self, line: &Line) -> bool
-        ensures { (p : AnyPlayed) → IsOpen self.now p → result ≡ spec_may_add p line.now }
+    // Whether the run is one of the test case, and some line is about it.
+    fn has_met(&self, run: Run) -> bool
+        ensures { (p : AnyPlayed) → IsOpen self.now p → result ≡ (nat_lt run.0 p.behaviours && is_met run.0 p.lines) }
     {
-        match line {
-            Line::Named { run, .. } => self.has(*run) && !self.met.contains(*run),
-            Line::Entry(_) => false,
-            Line::Remark { run, .. } => self.has(*run),
-            Line::Refused { run, .. } => self.has(*run),
-        }
+        self.has(run) && self.met.contains(run)
     }
 
     // Appends the line, and adds it to what is kept of the lines; if memory runs out, a part of it is appended.
@@ -135,29 +132,57 @@ impl OpenCase {
         append_line(out, line)
     }
 
-    /// Adds a line that is no entry, if it may be; if memory runs out, a part of it is appended.
-    pub fn add(&mut self, line: &Line, out: &mut Vec<u8>) -> Result<bool, NoMemory>
-        ensures ok { IfOk result (λ done. Changes (added line.now) done self.old self.new out.old.items out.new.items) }
-        ensures any { StartsWith out.new.items out.old.items }
-    {
-        if !self.may_add(line) {
-            return Ok(false);
-        }
-        self.append(line, out)?;
-        Ok(true)
-    }
-
-    /// Adds that a line of the run was refused, if it is one of the test case; if memory runs out, a part is appended.
-    pub fn refuse(&mut self, run: Run, out: &mut Vec<u8>) -> Result<bool, NoMemory>
-        ensures ok { IfOk result (λ done. Changes (added (lines.Refused run why_refused)) done self.old self.new out.old.items out.new.items) }
+    /// Adds the line of this run, which is no entry; why it is refused, if it is. If memory runs out, a part of it is
+    /// appended.
+    pub fn add(
+        &mut self,
+        run: Run,
+        line: &Line,
+        out: &mut Vec<u8>,
+    ) -> Result<Option<Refusal>, NoMemory>
+        requires { entry_of line.now ≡ [] }
+        ensures ok { IfOk result (λ why. Changes (added run line.now) why self.old self.new out.old.items out.new.items) }
         ensures any { StartsWith out.new.items out.old.items }
     {
         if !self.has(run) {
-            return Ok(false);
+            return Ok(Some(Refusal::NoRun));
         }
-        append_said(out, run, true, refused_words().as_bytes())?;
+        self.append(line, out)?;
+        Ok(None)
+    }
+
+    /// Names the behaviour of the run; why that is refused, if it is. If memory runs out, a part of its line is appended.
+    pub fn name(
+        &mut self,
+        run: Run,
+        name: Name,
+        out: &mut Vec<u8>,
+    ) -> Result<Option<Refusal>, NoMemory>
+        ensures ok { IfOk result (λ why. Changes (named run name) why self.old self.new out.old.items out.new.items) }
+        ensures any { StartsWith out.new.items out.old.items }
+    {
+        if self.has_met(run) {
+            return Ok(Some(Refusal::LateName));
+        }
+        self.add(run, &Line::Named { run, name }, out)
+    }
+
+    /// Adds that a line of the run was refused; why even that is refused, if it is. If memory runs out, a part is appended.
+    pub fn refuse(
+        &mut self,
+        run: Run,
+        why: Refusal,
+        out: &mut Vec<u8>,
+    ) -> Result<Option<Refusal>, NoMemory>
+        ensures ok { IfOk result (λ other. Changes (added run (lines.Refused run (why_text why))) other self.old self.new out.old.items out.new.items) }
+        ensures any { StartsWith out.new.items out.old.items }
+    {
+        if !self.has(run) {
+            return Ok(Some(Refusal::NoRun));
+        }
+        append_said(out, run, true, why.text().as_bytes())?;
         self.met.add_refused(run);
-        Ok(true)
+        Ok(None)
     }
 
     // Makes the call, and appends its line; if memory runs out, a part of it.
@@ -229,16 +254,22 @@ impl OpenCase {
         self.wake_all(out)
     }
 
-    /// Makes the call, if it may be made, and appends its line, and those of the wakes. If memory runs out, a part of these.
-    pub fn make(&mut self, caller: Run, op: Op, out: &mut Vec<u8>) -> Result<bool, NoMemory>
-        ensures ok { IfOk result (λ done. Changes (made caller op) done self.old self.new out.old.items out.new.items) }
+    /// Makes the call, and appends its line, and those of the wakes; why it is refused, if it is. If memory runs out, a part
+    /// of these lines is appended.
+    pub fn make(
+        &mut self,
+        caller: Run,
+        op: Op,
+        out: &mut Vec<u8>,
+    ) -> Result<Option<Refusal>, NoMemory>
+        ensures ok { IfOk result (λ why. Changes (made caller op) why self.old self.new out.old.items out.new.items) }
         ensures any { StartsWith out.new.items out.old.items }
     {
-        if !self.may_ask(caller, &op) {
-            return Ok(false);
+        if let Some(why) = self.bar(caller, &op) {
+            return Ok(Some(why));
         }
         self.play(caller, op, out)?;
-        Ok(true)
+        Ok(None)
     }
 
     /// The overall verdict.

@@ -1,5 +1,5 @@
 //! What a line asks for.
-ghost use Rattle.std.specs.Prelude.{◌≡◌, ◌<◌, ◌^◌, ◌++◌, ℕ, List, codes, false, Some, None, IfSome, IfOk, MatchOption};
+ghost use Rattle.std.specs.Prelude.{◌≡◌, ◌<◌, ◌^◌, ◌++◌, ℕ, List, codes, length, false, true, Ok, Some, None, IfSome, IfOk, IfErr, MatchOption};
 ghost use Rattle.std.specs.Fmt.{decimal};
 ghost use Rattle.tc_entry.specs.Limits.{IsBehaviours};
 ghost use Rattle.tc_entry.specs.Name.{IsName};
@@ -7,13 +7,18 @@ ghost use Rattle.tc_evidence.specs.Line.{naming_text, said_text};
 ghost use Rattle.tc_evidence.specs.Sentence.{IsSentence};
 ghost use Rattle.tc_serve.specs.Order.{case_text, order_text, IsOrder};
 ghost use Rattle.tc_serve.specs.Inside.{IsNoRemark};
+ghost use Rattle.tc_serve.specs.Protocol.{IsWhyNothing};
 ghost use Rattle.tc_serve.specs.declared.order.Order.{Order as AnyOrder};
 ghost use Rattle.tc_serve.specs.declared.order.Order.TheVariants as orders;
 
+use crate::refusal::Refusal;
 use std::alloc::Global;
 use tc_entry::{Name, NoMemory, Op, Run};
 use tc_evidence::Sentence;
 use tc_text::{after, as_behaviours, read_move, read_number, take_name, take_number};
+
+/// How many bytes of a line are looked at: one more than any line has that asks for something.
+pub(crate) const LINE_BYTES: usize = 209;
 
 /// What a line asks for.
 #[derive(Drop)]
@@ -93,17 +98,33 @@ fn read_other(text: &[u8]) -> Option<Order>
     }
 }
 
-/// What the line asks for. None if it asks for nothing.
-pub(crate) fn read_order(alloc: Global, text: &[u8]) -> Result<Option<Order>, NoMemory>
-    ensures spelled { IfOk result (λ found. IfSome found (λ o. text.now ≡ order_text o)) }
-    ensures fits { IfOk result (λ found. IfSome found IsOrder) }
-    ensures only { (o : AnyOrder) → IsOrder o → text.now ≡ order_text o → IfOk result (λ found. found ≡ Some o) }
+// What the line asks for, or why it asks for nothing, if it is not too long.
+fn read_short(alloc: Global, text: &[u8]) -> Result<Result<Order, Refusal>, NoMemory>
+    requires { length text.now < LINE_BYTES }
+    ensures spelled { IfOk result (λ found. IfOk found (λ o. text.now ≡ order_text o)) }
+    ensures fits { IfOk result (λ found. IfOk found IsOrder) }
+    ensures only { (o : AnyOrder) → IsOrder o → text.now ≡ order_text o → IfOk result (λ found. found ≡ Ok o) }
+    ensures why { IfOk result (λ found. IfErr found (λ why. IsWhyNothing why true text.now)) }
 {
     let Some((run, bytes)) = read_remark(text) else {
-        return Ok(read_other(text));
+        return Ok(read_other(text).ok_or(Refusal::BadLine));
     };
     match Sentence::of_bytes(alloc, bytes)? {
-        Some(sentence) => Ok(Some(Order::Remark { run, sentence })),
-        None => Ok(None),
+        Some(sentence) => Ok(Ok(Order::Remark { run, sentence })),
+        None => Ok(Err(Refusal::BadRemark)),
+    }
+}
+
+/// What the line asks for, or why it asks for nothing.
+pub(crate) fn read_order(alloc: Global, text: &[u8]) -> Result<Result<Order, Refusal>, NoMemory>
+    ensures spelled { IfOk result (λ found. IfOk found (λ o. text.now ≡ order_text o)) }
+    ensures fits { IfOk result (λ found. IfOk found IsOrder) }
+    ensures only { (o : AnyOrder) → IsOrder o → text.now ≡ order_text o → IfOk result (λ found. found ≡ Ok o) }
+    ensures why { IfOk result (λ found. IfErr found (λ why. IsWhyNothing why true text.now)) }
+{
+    if text.len() < LINE_BYTES {
+        read_short(alloc, text)
+    } else {
+        Ok(Err(Refusal::TooLong))
     }
 }

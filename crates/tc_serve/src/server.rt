@@ -1,19 +1,20 @@
 //! What is done with a line.
-ghost use Rattle.std.specs.Prelude.{◌≡◌, ◌<◌, ◌^◌, [], ℕ, List, is_some, IfOk, MatchOption};
+ghost use Rattle.std.specs.Prelude.{◌≡◌, ◌<◌, ◌^◌, [], ℕ, List, is_some, Some, IfOk, MatchOption};
 ghost use Rattle.std.specs.Io.{StartsWith};
 ghost use Rattle.tc_entry.specs.Limits.{IsBehaviours};
 ghost use Rattle.tc_evidence.specs.declared.line.Line.TheVariants as lines;
 ghost use Rattle.tc_serve.specs.declared.order.Order.TheVariants as orders;
 ghost use Rattle.tc_serve.specs.Inside.{StandsAs, TellsRun, Tries, TriesLine};
 ghost use Rattle.tc_serve.specs.Order.{IsOrder};
-ghost use Rattle.tc_serve.specs.Protocol.{IsOf, Stand as AnyStand, added, made, start as spec_start, taken, with_open};
+ghost use Rattle.tc_serve.specs.Protocol.{IsOf, Stand as AnyStand, added, made, named, start as spec_start, taken, with_open};
 ghost use Rattle.tc_serve.specs.Text.{worst_of};
 
 use crate::open_case::OpenCase;
 use crate::order::{Order, read_order};
+use crate::refusal::Refusal;
 use std::alloc::Global;
 use tc_entry::{Name, NoMemory, Op, Run, Verdict};
-use tc_evidence::{Header, Kind, Line, append_first_line};
+use tc_evidence::{Header, Kind, Line, Sentence, append_first_line};
 use tc_history::append_end;
 use tc_text::take_number;
 use tc_verdict::worse_of;
@@ -65,20 +66,20 @@ impl Server {
         self.worst
     }
 
-    // Opens a test case, if none is open.
+    // Opens a test case, if none is open; why it is refused, if it is.
     fn begin(
         &mut self,
         alloc: Global,
         name: Name,
         behaviours: u16,
         out: &mut Vec<u8>,
-    ) -> Result<bool, NoMemory>
+    ) -> Result<Option<Refusal>, NoMemory>
         requires { IsBehaviours behaviours }
-        ensures ok { IfOk result (λ done. Tries (λ s. taken s (orders.Case name behaviours)) done self.old self.new out.old.items out.new.items) }
+        ensures ok { IfOk result (λ why. Tries (λ s. taken s (orders.Case name behaviours)) why self.old self.new out.old.items out.new.items) }
         ensures any { StartsWith out.new.items out.old.items }
     {
         if self.current.is_some() {
-            return Ok(false);
+            return Ok(Some(Refusal::CaseOpen));
         }
         let header = Header {
             kind: Kind::Evidence,
@@ -87,91 +88,112 @@ impl Server {
         };
         append_first_line(out, &header)?;
         self.current = Some(OpenCase::new(alloc, behaviours)?);
-        Ok(true)
+        Ok(None)
     }
 
-    // Adds a line that is no entry to the test case that is open, if it may be added.
-    fn add(&mut self, line: &Line, out: &mut Vec<u8>) -> Result<bool, NoMemory>
-        ensures ok { IfOk result (λ done. Tries (λ s. with_open s (added line.now)) done self.old self.new out.old.items out.new.items) }
+    // Names the behaviour of the run in the test case that is open; why that is refused, if it is.
+    fn name(&mut self, run: Run, name: Name, out: &mut Vec<u8>) -> Result<Option<Refusal>, NoMemory>
+        ensures ok { IfOk result (λ why. Tries (λ s. with_open s (named run name)) why self.old self.new out.old.items out.new.items) }
         ensures any { StartsWith out.new.items out.old.items }
     {
         match &mut self.current {
-            Some(held) => held.add(line, out),
-            None => Ok(false),
+            Some(held) => held.name(run, name, out),
+            None => Ok(Some(Refusal::NoCase)),
         }
     }
 
-    // Makes a call in the test case that is open, if it may be made.
-    fn make(&mut self, caller: Run, op: Op, out: &mut Vec<u8>) -> Result<bool, NoMemory>
-        ensures ok { IfOk result (λ done. Tries (λ s. with_open s (made caller op)) done self.old self.new out.old.items out.new.items) }
+    // Makes a call in the test case that is open; why it is refused, if it is.
+    fn make(&mut self, caller: Run, op: Op, out: &mut Vec<u8>) -> Result<Option<Refusal>, NoMemory>
+        ensures ok { IfOk result (λ why. Tries (λ s. with_open s (made caller op)) why self.old self.new out.old.items out.new.items) }
         ensures any { StartsWith out.new.items out.old.items }
     {
         match &mut self.current {
             Some(held) => held.make(caller, op, out),
-            None => Ok(false),
+            None => Ok(Some(Refusal::NoCase)),
         }
     }
 
-    /// Closes the test case that is open, if one is.
-    pub fn close(&mut self, out: &mut Vec<u8>) -> Result<bool, NoMemory>
-        ensures ok { IfOk result (λ done. Tries (λ s. taken s orders.End) done self.old self.new out.old.items out.new.items) }
+    // Adds a remark to the test case that is open; why it is refused, if it is.
+    fn remark(
+        &mut self,
+        run: Run,
+        sentence: Sentence,
+        out: &mut Vec<u8>,
+    ) -> Result<Option<Refusal>, NoMemory>
+        ensures ok { IfOk result (λ why. Tries (λ s. with_open s (added run (lines.Remark run sentence))) why self.old self.new out.old.items out.new.items) }
+        ensures any { StartsWith out.new.items out.old.items }
+    {
+        match &mut self.current {
+            Some(held) => held.add(run, &Line::Remark { run, sentence }, out),
+            None => Ok(Some(Refusal::NoCase)),
+        }
+    }
+
+    /// Closes the test case that is open; why that is refused, if it is.
+    pub fn close(&mut self, out: &mut Vec<u8>) -> Result<Option<Refusal>, NoMemory>
+        ensures ok { IfOk result (λ why. Tries (λ s. taken s orders.End) why self.old self.new out.old.items out.new.items) }
         ensures any { StartsWith out.new.items out.old.items }
     {
         let Some(held) = self.current.take() else {
-            return Ok(false);
+            return Ok(Some(Refusal::NoCase));
         };
         append_end(out, held.overall())?;
         self.worst = worse_of(self.worst, held.counted());
-        Ok(true)
+        Ok(None)
     }
 
-    // Does what is asked, if it may be asked; if memory runs out, a part of its text may have been appended.
-    fn take(&mut self, alloc: Global, order: Order, out: &mut Vec<u8>) -> Result<bool, NoMemory>
+    // Does what is asked; why it is refused, if it is. If memory runs out, a part of its text may have been appended.
+    fn take(
+        &mut self,
+        alloc: Global,
+        order: Order,
+        out: &mut Vec<u8>,
+    ) -> Result<Option<Refusal>, NoMemory>
         requires { IsOrder order }
-        ensures ok { IfOk result (λ done. Tries (λ s. taken s order) done self.old self.new out.old.items out.new.items) }
+        ensures ok { IfOk result (λ why. Tries (λ s. taken s order) why self.old self.new out.old.items out.new.items) }
         ensures any { StartsWith out.new.items out.old.items }
     {
         match order {
             Order::Case { name, behaviours } => self.begin(alloc, name, behaviours, out),
-            Order::Named { run, name } => self.add(&Line::Named { run, name }, out),
+            Order::Named { run, name } => self.name(run, name, out),
             Order::Move { caller, op } => self.make(caller, op, out),
-            Order::Remark { run, sentence } => self.add(&Line::Remark { run, sentence }, out),
+            Order::Remark { run, sentence } => self.remark(run, sentence, out),
             Order::End => self.close(out),
         }
     }
 
-    /// Does what the line asks for, if it may be asked, and appends its text. A line that LF did not end asks for nothing.
-    /// If memory runs out, a part of the text may have been appended.
+    /// Does what the line asks for, and appends its text; why it is refused, if it is. A line that LF did not end asks
+    /// for nothing. If memory runs out, a part of the text may have been appended.
     pub fn try_line(
         &mut self,
         alloc: Global,
         ended: bool,
         line: &[u8],
         out: &mut Vec<u8>,
-    ) -> Result<bool, NoMemory>
-        ensures ok { IfOk result (λ done. TriesLine ended line.now done self.old self.new out.old.items out.new.items) }
+    ) -> Result<Option<Refusal>, NoMemory>
+        ensures ok { IfOk result (λ why. TriesLine ended line.now why self.old self.new out.old.items out.new.items) }
         ensures any { StartsWith out.new.items out.old.items }
     {
         if !ended {
-            return Ok(false);
+            return Ok(Some(Refusal::Unended));
         }
         match read_order(alloc, line)? {
-            Some(order) => self.take(alloc, order, out),
-            None => Ok(false),
+            Ok(order) => self.take(alloc, order, out),
+            Err(why) => Ok(Some(why)),
         }
     }
 
     /// The run that the refused line begins with gets the refusal, if it is one of a test case that is open. If memory
     /// runs out, a part of that may have been appended.
-    pub fn refuse(&mut self, line: &[u8], out: &mut Vec<u8>) -> Result<bool, NoMemory>
-        ensures ok { IfOk result (λ told. TellsRun line.now told self.old self.new out.old.items out.new.items) }
+    pub fn refuse(&mut self, line: &[u8], why: Refusal, out: &mut Vec<u8>) -> Result<bool, NoMemory>
+        ensures ok { IfOk result (λ told. TellsRun line.now why told self.old self.new out.old.items out.new.items) }
         ensures any { StartsWith out.new.items out.old.items }
     {
         let Some(run) = run_of(line) else {
             return Ok(false);
         };
         match &mut self.current {
-            Some(held) => held.refuse(run, out),
+            Some(held) => Ok(held.refuse(run, why, out)?.is_none()),
             None => Ok(false),
         }
     }

@@ -3,19 +3,17 @@ ghost use Rattle.std.specs.Prelude.{◌≡◌, ◌≢◌, ◌<◌, ◌-◌, ◌+
 ghost use Rattle.std.specs.Io.{StartsWith};
 ghost use Rattle.std.specs.Io.KnownBytes.{IsAtEnd};
 ghost use Rattle.tc_serve.specs.Inside.{Closes, Fails, Feeds, Finishes, IsEnd, IsFed, Serves, Stops, StopsIn, TakesPiece};
-ghost use Rattle.tc_serve.specs.Protocol.{NoLf, was_lost};
-ghost use Rattle.tc_serve.specs.Text.{end_told, lost_text};
+ghost use Rattle.tc_serve.specs.Protocol.{NoLf};
+ghost use Rattle.tc_serve.specs.Text.{end_told, refusal_text};
 
 use crate::fault::ServeFault;
-use crate::open_case::refused_words;
+use crate::order::LINE_BYTES;
+use crate::refusal::Refusal;
 use crate::server::Server;
 use crate::service::Served;
 use std::alloc::Global;
 use tc_entry::NoMemory;
 use tc_text::{append_number, append_text};
-
-/// How many bytes of a line are looked at: one more than any line has that asks for something.
-pub(crate) const LINE_BYTES: usize = 209;
 
 /// A server whose lines come in pieces.
 #[derive(Drop)]
@@ -29,15 +27,16 @@ pub(crate) struct Serving {
     refused: bool,
 }
 
-// Appends the report of the line of this number, whose refusal no run gets; if memory runs out, a part of it.
-fn append_lost(told: &mut Vec<u8>, line: usize) -> Result<(), NoMemory>
-    ensures ok { OnOk result (told.new.items ≡ told.old.items ++ lost_text line was_lost) }
+/// Appends the line on standard error for the line of this number, which is refused for this; if memory runs out, a part
+/// of it.
+pub fn append_refusal(told: &mut Vec<u8>, line: usize, why: Refusal) -> Result<(), NoMemory>
+    ensures ok { OnOk result (told.new.items ≡ told.old.items ++ refusal_text line why) }
     ensures any { StartsWith told.new.items told.old.items }
 {
     append_text(told, "ttrun: line ")?;
     append_number(told, line as u64)?;
     append_text(told, ": ")?;
-    append_text(told, refused_words())?;
+    append_text(told, why.text())?;
     told.push(b'\n')?;
     Ok(())
 }
@@ -97,20 +96,18 @@ impl Serving {
             return Err(ServeFault::TooLong);
         }
         self.lines += 1;
-        if self
-            .server
-            .try_line(alloc, ended, self.line.as_slice(), out)?
-        {
+        let line = self.line.as_slice();
+        let Some(why) = self.server.try_line(alloc, ended, line, out)? else {
             return Ok(());
-        }
+        };
         if !self.server.is_open() {
-            return Err(ServeFault::Line(self.lines));
+            return Err(ServeFault::Line(self.lines, why));
         }
         self.refused = true;
-        if self.server.refuse(self.line.as_slice(), out)? {
+        if self.server.refuse(self.line.as_slice(), why, out)? {
             return Ok(());
         }
-        append_lost(told, self.lines)?;
+        append_refusal(told, self.lines, why)?;
         Ok(())
     }
 

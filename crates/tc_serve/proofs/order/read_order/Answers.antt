@@ -1,12 +1,10 @@
-use Rattle.tc_serve.proofs.Orders.{remark_none, remark_only}
+use Rattle.std.proofs.Common.{◌<◌, ap, arith, length}
+use Rattle.std.proofs.lemmas.Grind.{common_steps}
+use Rattle.tc_serve.specs.declared.order.TheConstants.{LINE_BYTES}
+use Rattle.tc_serve.proofs.Lengths.{order_short}
 use Rattle.tc_serve.proofs.order.read_order.Goals as goal
 
-pub returns-in-Some-2-clause-only : goal.returns-in-Some-2-clause-only
-returns-in-Some-2-clause-only c o fits e =
-    let spelled = rw c.in-Some-2.is at c.in_ok-sentence.ensures.spelled in
-    remark_only c.args.text.now c.in-Some.run' c.in-Some.bytes.now c.in-Some-2.sentence c.in-Some.ensures.fits c.in-Some.ensures.spelled c.in-Some.ensures.only spelled o fits e
-
-pub returns-in-None-clause-only : goal.returns-in-None-clause-only
-returns-in-None-clause-only c o fits e =
-    let valid = rw c.in-None.is at c.in_ok-sentence.ensures.valid in
-    absurd (remark_none c.args.text.now c.in-Some.run' c.in-Some.bytes.now c.in-Some.ensures.fits c.in-Some.ensures.spelled c.in-Some.ensures.only (λ is. let found = valid.1 is in cc) o fits e)
+pub returns-else-text-lt-LINE_BYTES-clause-only : goal.returns-else-text-lt-LINE_BYTES-clause-only
+returns-else-text-lt-LINE_BYTES-clause-only c o fits e =
+    let short : length c.args.text.now < LINE_BYTES = omega (arith, order_short o fits, ap length e) in
+    absurd (grind (arith, common_steps, short))

@@ -1,9 +1,7 @@
 use Rattle.std.proofs.Common.{◌≡◌, ◌∙◌, suc, List, drop, take, ◌++◌, ap, sym, subst, refl}
-use Rattle.tc_verdict.specs.declared.run.Run.{Run}
-use Rattle.tc_evidence.specs.declared.line.Line.{Line}
 use Rattle.tc_serve.specs.declared.sleepers.Sleeper.{Sleeper}
-use Rattle.tc_serve.specs.Inside.{Holds, IsPassed}
-use Rattle.tc_serve.proofs.Sleeping.{passed, removed, that_one}
+use Rattle.tc_serve.specs.Inside.{IsPassed}
+use Rattle.tc_serve.proofs.Sleeping.{removed, that_one}
 use Rattle.tc_serve.proofs.Waking.{sleeps_on, wakes_up}
 use Rattle.tc_serve.proofs.open_case.OpenCase.wake.Goals as goal
 

@@ -1,12 +1,19 @@
-use Rattle.std.proofs.Common.{Bool, sym, subst, true}
-use Rattle.tc_serve.specs.Inside.{TriesLine}
+use Rattle.std.proofs.Common.{Bool, Some, subst, sym, true}
 use Rattle.std.proofs.lemmas.Result.{IfOk-weaker}
-use Rattle.tc_serve.proofs.Trying.{asked_by, not_ended}
+use Rattle.tc_serve.specs.Inside.{TriesLine}
+use Rattle.tc_serve.proofs.Trying.{asked_by, nothing_asked}
 use Rattle.tc_serve.proofs.server.Server.try_line.Goals as goal
 
-pub returns-in-Some-clause-ok : goal.returns-in-Some-clause-ok
-returns-in-Some-clause-ok c =
-    let found = rw c.in-Some.is at c.in_ok-order.ensures.spelled in
-    let fits = rw c.in-Some.is at c.in_ok-order.ensures.fits in
+pub returns-in-Ok-clause-ok : goal.returns-in-Ok-clause-ok
+returns-in-Ok-clause-ok c =
+    let found = rw c.in-Ok.is at c.in_ok-order.ensures.spelled in
+    let fits = rw c.in-Ok.is at c.in_ok-order.ensures.fits in
     IfOk-weaker c.take.result _ _
-    (λ done tries. subst (λ (t : Bool). TriesLine t c.args.line.now done c.args.self.now c.take.new.self c.args.out.now.items c.take.new.out.items) (sym c.if-not-ended.false) (asked_by c.args.line.now c.in-Some.order done c.args.self.now c.take.new.self c.args.out.now.items c.take.new.out.items fits found (λ p is same. rw c.in-Some.is at (c.in_ok-order.ensures.only p is same)) tries)) c.take.ensures.ok
+    (λ why tries. subst (λ (t : Bool). TriesLine t c.args.line.now why c.args.self.now c.take.new.self c.args.out.now.items c.take.new.out.items) (sym c.if-not-ended.false)
+    (asked_by c.args.line.now c.in-Ok.order why c.args.self.now c.take.new.self c.args.out.now.items c.take.new.out.items fits found tries)) c.take.ensures.ok
+
+pub returns-in-Err-clause-ok : goal.returns-in-Err-clause-ok
+returns-in-Err-clause-ok c =
+    let is = rw c.in-Err.is at c.in_ok-order.ensures.why in
+    subst (λ (t : Bool). TriesLine t c.args.line.now (Some c.in-Err.why) c.args.self.now c.args.self.now c.args.out.now.items c.args.out.now.items) (sym c.if-not-ended.false)
+    (nothing_asked true c.args.line.now c.in-Err.why c.args.self.now c.args.out.now.items (λ o asks. let same = rw c.in-Err.is at (c.in_ok-order.ensures.only o asks.1 asks.2) in cc) is)

@@ -1,6 +1,0 @@
-use Rattle.tc_serve.proofs.Feeding.{lost_is}
-use Rattle.tc_serve.proofs.serving.append_lost.Goals as goal
-
-pub returns-clause-ok : goal.returns-clause-ok
-returns-clause-ok c =
-    lost_is c.args.told.now.items _ _ _ _ _ c.args.line c.in_ok-append_text.ensures.ok c.in_ok-append_number.ensures.ok c.in_ok-append_text-2.ensures.ok (rw c.refused_words.ensures at c.in_ok-append_text-3.ensures.ok) c.in_ok-push.ensures.items
