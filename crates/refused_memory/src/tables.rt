@@ -4,7 +4,7 @@ ghost use Rattle.tc_entry.specs.Limits.{IsBehaviours};
 
 use crate::outcome::{Outcome, told};
 use crate::stock::Stock;
-use crate::tells::{tell_entries, tell_verdicts};
+use crate::tells::{tell_entries, tell_verdicts, told_entries};
 use crate::trial::Trial;
 use std::alloc::Global;
 use tc_entry::{BEHAVIOURS, Comp, Entry, NoMemory, Op, Reply, Run, Sequence};
@@ -148,6 +148,19 @@ fn tell<T: Plays>(out: &mut Vec<u8>, on: &T, moves: &[(Run, Op)]) -> Result<(), 
     }
 }
 
+/// Appends the replies to these moves, and the entries that are kept.
+fn tell_all<T: Plays>(trial: &mut Trial, on: &T, moves: &[(Run, Op)]) {
+    let is_told = tell(&mut trial.out, on, moves);
+    trial.note(is_told);
+}
+
+/// Appends the reply to a move, and then the replies to these, and the entries that are kept.
+fn tell_played<T: Plays>(trial: &mut Trial, on: &T, moves: &[(Run, Op)], reply: Reply) {
+    let is_told = write_reply(&mut trial.out, &reply);
+    trial.note(is_told);
+    tell_all(trial, on, moves);
+}
+
 /// What came of a call that makes what moves are played on.
 fn told_of<T: Plays>(trial: &mut Trial, stock: &Stock, answer: &Result<T, NoMemory>) -> Outcome {
     match answer {
@@ -184,23 +197,24 @@ fn play_on<T: Plays>(
     moves: &[(Run, Op)],
     run: Run,
     op: &Op,
-) -> Result<Outcome, NoMemory> {
-    tell(&mut trial.out, on, moves)?;
+) -> Outcome {
+    tell_all(trial, on, moves);
     trial.begin("Table::play CaseState::play");
     let first = on.play(run, op);
     trial.end();
     if let Ok(reply) = first {
-        write_reply(&mut trial.out, &reply)?;
-        tell(&mut trial.out, on, moves)?;
-        return Ok(Outcome::Told);
+        tell_played(trial, on, moves, reply);
+        return Outcome::Told;
     }
-    tell(&mut trial.out, on, moves)?;
+    tell_all(trial, on, moves);
     if !trial.is_told_twice() {
-        return Ok(Outcome::Wrong("a refused move leaves something"));
+        return Outcome::Wrong("a refused move leaves something");
     }
-    write_reply(&mut trial.out, &on.play(run, op)?)?;
-    tell(&mut trial.out, on, moves)?;
-    Ok(Outcome::Repeated)
+    let Ok(reply) = on.play(run, op) else {
+        return Outcome::Wrong("a move is refused again");
+    };
+    tell_played(trial, on, moves, reply);
+    Outcome::Repeated
 }
 
 /// Each of the moves, after those before it.
@@ -208,7 +222,7 @@ pub(crate) fn play<T: Plays>(trial: &mut Trial, stock: &Stock, place: usize) -> 
     let moves = stock.moves.moves.as_slice();
     let (run, op) = moves.get(place)?;
     let mut on: T = played(trial.alloc, moves.get(..place)?)?;
-    play_on(trial, &mut on, moves, *run, op).ok()
+    Some(play_on(trial, &mut on, moves, *run, op))
 }
 
 /// A copy, after all moves.
@@ -221,28 +235,23 @@ pub(crate) fn copy<T: Plays>(trial: &mut Trial, stock: &Stock) -> Option<Outcome
 }
 
 /// Makes room for this many moves on a table.
-fn make_room_on(
-    trial: &mut Trial,
-    table: &mut Table,
-    moves: &[(Run, Op)],
-    more: usize,
-) -> Result<Outcome, NoMemory> {
-    tell(&mut trial.out, table, moves)?;
+fn make_room_on(trial: &mut Trial, table: &mut Table, moves: &[(Run, Op)], more: usize) -> Outcome {
+    tell_all(trial, table, moves);
     trial.begin("Table::make_room");
     let made = table.make_room(more);
     trial.end();
-    tell(&mut trial.out, table, moves)?;
+    tell_all(trial, table, moves);
     if !trial.is_told_twice() {
-        return Ok(Outcome::Wrong("room changes a table"));
+        return Outcome::Wrong("room changes a table");
     }
     if made.is_err() {
-        table.make_room(more)?;
+        let _ = table.make_room(more);
     }
-    Ok(match made {
+    match made {
         _ if table.room() < more => Outcome::Wrong("the room was not made"),
         Ok(()) => Outcome::Told,
         Err(NoMemory) => Outcome::Repeated,
-    })
+    }
 }
 
 /// Room for one, some and many moves, on a table with moves.
@@ -250,7 +259,9 @@ pub(crate) fn make_room(trial: &mut Trial, stock: &Stock, place: usize) -> Optio
     let more = [1usize, 40, 5000].get(place).copied()?;
     let moves = stock.moves.moves.as_slice();
     let mut table: Table = played(trial.alloc, moves)?;
-    make_room_on(trial, &mut table, moves, more).ok()
+    let outcome = make_room_on(trial, &mut table, moves, more);
+    drop(table);
+    Some(outcome)
 }
 
 /// The history of the moves, and one that lacks its first entry, which is not legal.
@@ -278,20 +289,32 @@ pub(crate) fn check(trial: &mut Trial, stock: &Stock, place: usize) -> Option<Ou
     })
 }
 
+/// What came of the replay of a history, which is legal or not.
+fn told_replay(
+    trial: &mut Trial,
+    stock: &Stock,
+    answer: &Result<CaseState, CheckFault>,
+    is_legal: bool,
+) -> Outcome {
+    match answer {
+        Err(CheckFault::NoMemory) => Outcome::Refused,
+        Ok(state) if is_legal => told(tell(&mut trial.out, state, stock.moves.moves.as_slice())),
+        Err(CheckFault::Differs { at: 0, reply }) if !is_legal => {
+            told(write_reply(&mut trial.out, reply))
+        }
+        _ => Outcome::Wrong("a history leaves another state"),
+    }
+}
+
 /// The replay of each of these histories.
 fn play_again(trial: &mut Trial, stock: &Stock, place: usize) -> Option<Outcome> {
     let checked = history_in(stock, place)?;
     trial.begin("tc_table::replay");
     let answer = replay(trial.alloc, BEHAVIOURS as u16, checked);
     trial.end();
-    Some(match &answer {
-        Err(CheckFault::NoMemory) => Outcome::Refused,
-        Ok(state) if place == 0 => told(tell(&mut trial.out, state, stock.moves.moves.as_slice())),
-        Err(CheckFault::Differs { at: 0, reply }) if place == 1 => {
-            told(write_reply(&mut trial.out, reply))
-        }
-        _ => Outcome::Wrong("a history leaves another state"),
-    })
+    let outcome = told_replay(trial, stock, &answer, place == 0);
+    drop(answer);
+    Some(outcome)
 }
 
 /// A copy of the history.
@@ -299,40 +322,43 @@ fn copy_history(trial: &mut Trial, stock: &Stock) -> Outcome {
     trial.begin("copied_entries");
     let answer = copied_entries(trial.alloc, stock.history.as_slice());
     trial.end();
-    match &answer {
-        Ok(copy) => told(tell_entries(&mut trial.out, 0, copy)),
-        Err(NoMemory) => Outcome::Refused,
-    }
+    let outcome = told_entries(trial, &answer);
+    drop(answer);
+    outcome
+}
+
+/// Appends the text of these entries.
+fn tell_list(trial: &mut Trial, entries: &[Entry]) {
+    let is_told = tell_entries(&mut trial.out, 0, entries);
+    trial.note(is_told);
 }
 
 /// Pushes an entry after these.
-fn push_on(
-    trial: &mut Trial,
-    entries: &mut Sequence<Entry>,
-    last: &Entry,
-) -> Result<Outcome, NoMemory> {
-    tell_entries(&mut trial.out, 0, entries.as_slice())?;
+fn push_on(trial: &mut Trial, entries: &mut Sequence<Entry>, last: &Entry) -> Outcome {
+    tell_list(trial, entries.as_slice());
     trial.begin("Sequence::push");
     let pushed = entries.push(last.copy());
     trial.end();
+    tell_list(trial, entries.as_slice());
     if pushed.is_ok() {
-        tell_entries(&mut trial.out, 0, entries.as_slice())?;
-        return Ok(Outcome::Told);
+        return Outcome::Told;
     }
-    tell_entries(&mut trial.out, 0, entries.as_slice())?;
     if !trial.is_told_twice() {
-        return Ok(Outcome::Wrong("a refused push changes its list"));
+        return Outcome::Wrong("a refused push changes its list");
     }
-    entries.push(last.copy())?;
-    tell_entries(&mut trial.out, 0, entries.as_slice())?;
-    Ok(Outcome::Repeated)
+    let is_pushed = entries.push(last.copy());
+    trial.note(is_pushed);
+    tell_list(trial, entries.as_slice());
+    Outcome::Repeated
 }
 
 /// Pushes the last entry of the history after a list of those before it.
 fn push(trial: &mut Trial, stock: &Stock) -> Option<Outcome> {
     let (last, before) = stock.history.as_slice().split_last()?;
     let mut entries: Sequence<Entry> = Sequence::new(copied_entries(trial.alloc, before).ok()?);
-    push_on(trial, &mut entries, last).ok()
+    let outcome = push_on(trial, &mut entries, last);
+    drop(entries);
+    Some(outcome)
 }
 
 /// The state of a new case, a copy of one, and the replay of a history.
@@ -450,13 +476,19 @@ CaseState::components CaseState::overall CaseState::is_over CaseState::behaviour
     trial.end();
 }
 
+/// What is asked of a table after these moves, and of a state after them.
+fn ask_both(trial: &mut Trial, table: &Table, moves: &[(Run, Op)]) -> Option<Outcome> {
+    let state: CaseState = played(trial.alloc, moves)?;
+    hold_all(trial, table, &state, moves);
+    drop(state);
+    Some(Outcome::Told)
+}
+
 /// What is asked of a table and of a state after the first moves.
 pub(crate) fn ask(trial: &mut Trial, stock: &Stock) -> Option<Outcome> {
     let moves = stock.moves.moves.as_slice().get(..12)?;
-    let (table, state): (Table, CaseState) = played(trial.alloc, moves).zip(played(
-        trial.alloc,
-        moves,
-    ))?;
-    hold_all(trial, &table, &state, moves);
-    Some(Outcome::Told)
+    let table: Table = played(trial.alloc, moves)?;
+    let outcome = ask_both(trial, &table, moves);
+    drop(table);
+    outcome
 }
