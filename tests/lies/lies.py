@@ -131,6 +131,58 @@ LIES = (
         self.look(rt).close(alloc, lefts)
 """),
     ), "tc_exec_tests"),
+    Lie("calls_behind_a_long_log_are_starved", (
+        ("""\
+        let (reply, tells) = self.book.call(log.run(), op.copy())?;
+""", """\
+        if 4_096 <= log.entries().len() {
+            return Err(NoMemory);
+        }
+        let (reply, tells) = self.book.call(log.run(), op.copy())?;
+"""),
+    ), "tc_exec_tests"),
+    Lie("a_torn_case_of_several_is_told_as_without_threads", (
+        ("""\
+    run_made(rt, alloc, shared, pass, first, workers, gathered)
+""", """\
+    match run_made(rt, alloc, shared, pass, first, workers, gathered) {
+        Err(CaseError::Torn) if behaviours > 1 => Err(CaseError::NoThread),
+        answer => answer,
+    }
+"""),
+    ), "tc_exec_tests"),
+    Lie("getverdict_gives_up_where_the_book_is_locked", (
+        ("""\
+        match heard(self.log.get_verdict())? {
+""", """\
+        if self.shared.is_locked() {
+            return Err(Halt::NoMemory);
+        }
+        match heard(self.log.get_verdict())? {
+"""),
+        ("""\
+    /// Another owner of the same book.
+""", """\
+    pub(crate) fn is_locked(&self) -> bool {
+        self.held.book.try_lock().is_none()
+    }
+
+    /// Another owner of the same book.
+"""),
+    ), "tc_exec_tests"),
+    Lie("the_first_behaviour_has_a_thread_of_its_own", (
+        ("""\
+    gathered.take(act(rt, first, pass));
+""", """\
+    let own = *rt;
+    if let Ok(worker) = thread::spawn(rt, move || act(&own, first, pass)) {
+        gathered.take(worker.join(rt));
+    }
+"""),
+        ("use std::thread::{PromisedHandle, Threads};", "use std::thread;\nuse std::thread::{PromisedHandle, Threads};"),
+        ("fn gather<R: Threads + Wait, B: Callable>(", "fn gather<R: Threads + Wait + Copy + Send + 'static, B: Callable>("),
+        ("fn run_made<R: Threads + Wait, B: Callable>(", "fn run_made<R: Threads + Wait + Copy + Send + 'static, B: Callable>("),
+    ), "tc_exec_tests"),
     Lie("a_reply_that_differs_is_told_as_no_memory", (
         ("""        Err(CheckFault::Differs { .. }) => Err(CloseFault::Torn),""",
          """        Err(CheckFault::Differs { .. }) => Err(CloseFault::NoMemory),"""),
